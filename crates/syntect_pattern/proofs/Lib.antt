@@ -1,0 +1,14 @@
+pub mod ReadingRows
+pub mod SearchRows
+pub mod SimpleRows
+pub mod Each
+pub mod MatchLaws
+pub mod TextLemmas
+pub mod NestingLaws
+pub mod FoundLaws
+pub mod TurnLaws
+pub mod AlikeLaws
+pub mod LeftLaws
+pub mod ClassLaws
+pub mod BodyLaws
+pub mod NumberLaws

@@ -1,0 +1,304 @@
+-- The tree of a text that is a pattern: groups, alternatives, items and quantifiers.
+use Rattle.std.specs.Prelude.{◌≡◌, ◌<◌, ℕ, zero, suc, ◌+◌, Bool, true, false, not, ◌&&◌, ◌||◌, nat_eq, nat_le, nat_lt, List, [], ◌∷◌, ◌++◌, length, drop, Option, Some, None, option_map, if◌then◌else◌, is_some}
+use Rattle.std.specs.Char.{is_ascii_digit}
+use Rattle.std.specs.List.{list_any}
+use lib.Pointwise.{pointwise}
+use Rattle.syntect_pattern.specs.Sets.{numbers_from, Set, none, range, negated, from_to}
+use Rattle.syntect_pattern.specs.Trees.{numbers, group_count, line_start, line_end, Tree, nothing, one_of, anchor, same, repeat, group, atomic, ahead, behind, seq_all, alt_all}
+use Rattle.syntect_pattern.specs.Matches.{Groups, found}
+use Rattle.syntect_pattern.specs.Reading.{Text, ◌>>=◌, ◌>>◌, ◌∈◌, begins, is_empty, run, value, name_in, between, pass}
+use Rattle.syntect_pattern.specs.Escapes.{Escape, char, set, edge, number, name, escape}
+use Rattle.syntect_pattern.specs.Classes.{deepest, class}
+
+-- the flags i, m and x
+pub record Flags : Type 0 where
+  pub fold : Bool
+  pub any : Bool
+  pub spaced : Bool
+
+-- the name, if any, of each group, in the order of their opening
+abbrev pub Names : Type 0
+Names = List (Option Text)
+
+-- a place in the pattern: the flags that hold there, the groups opened before it, and the text from there on
+pub record Place : Type 0 where
+  pub flags : Flags
+  pub names : Names
+  pub text : Text
+
+-- the place n characters later
+abbrev pub forward : ℕ → Place → Place
+forward n p = record p { text = drop n p.text }
+
+-- behind white space and comments, as the flag x wants it, and behind notes
+unfoldable pub passed : Place → Option Place
+passed p = option_map (λ t. record p { text = t }) (pass p.flags.spaced between p.text)
+
+-- -- Quantifiers
+
+-- The flag says that it's `*`, `+` or `?`, and not a count.
+pub record Quantifier : Type 0 where
+  pub least : ℕ
+  pub most : Option ℕ
+  pub short : Bool
+
+abbrev pub limit : Text → Option ℕ
+limit digits = if is_empty digits then None else Some (value 10 digits)
+
+-- `{n}`, `{n,}`, `{,m}` or `{n,m}`; a `{` that begins none of them is itself
+unfoldable pub count : Text → Option (Quantifier × Text)
+count t = do
+  begins "{" t
+  let (low, after) = run is_ascii_digit (drop 1 t)
+  let comma = begins "," after
+  let (high, end) = run is_ascii_digit (drop 1 after)
+  let close = if comma then end else after
+  begins "}" close
+  not (is_empty low) || (comma && not (is_empty high))
+  Some (record { least = value 10 low; most = if comma then limit high else limit low; short = false }, drop 1 close)
+
+abbrev pub sign : ℕ → Option ℕ → Text → Option (Quantifier × Text)
+sign least most t = Some (record { least = least; most = most; short = true }, drop 1 t)
+
+-- the quantifier at the front, if there is one
+unfoldable pub quantifier : Text → Option (Quantifier × Text)
+quantifier t =
+    if begins "*" t then sign 0 None t
+    else if begins "+" t then sign 1 None t
+    else if begins "?" t then sign 0 (Some 1) t
+    else count t
+
+-- a count above 1000, or n above m, is no pattern
+abbrev pub is_allowed : ℕ → Option ℕ → Bool
+is_allowed least None = nat_le least 1000
+is_allowed least (Some most) = nat_le least most && nat_le most 1000
+
+-- A `?` directly after makes it lazy. A `+` directly after `*`, `+` or `?` makes an atomic group of the greedy one.
+unfoldable pub loop : Quantifier → Tree → Text → Tree × Text
+loop q a t =
+    if begins "?" t then (repeat false q.least q.most a, drop 1 t)
+    else if q.short && begins "+" t then (atomic (repeat true q.least q.most a), drop 1 t)
+    else (repeat true q.least q.most a, t)
+
+abbrev pub looped : Tree → Place → Option (Quantifier × Text) → Option (Tree × Place)
+looped a p None = Some (a, p)
+looped a p (Some (q, rest)) = do
+  is_allowed q.least q.most
+  let (tree, after) = loop q a rest
+  Some (tree, record p { text = after })
+
+-- the item with the quantifier behind it, if there is one
+unfoldable pub quantified : Tree → Place → Option (Tree × Place)
+quantified a p = passed p >>= λ here. looped a here (quantifier here.text)
+
+-- -- Openings of groups
+
+-- the flags with these letters turned on or off
+abbrev pub turned : Bool → Text → Flags → Flags
+turned on letters flags = record {
+  fold = if list_any (λ c. c ∈ "i") letters then on else flags.fold;
+  any = if list_any (λ c. c ∈ "m") letters then on else flags.any;
+  spaced = if list_any (λ c. c ∈ "x") letters then on else flags.spaced;
+}
+
+-- the letters that are turned off, after `-`
+unfoldable pub off_letters : Text → Option (Text × Text)
+off_letters t = if not (begins "-" t) then Some ([], t) else (do
+  let (letters, after) = run (λ c. c ∈ "imx") (drop 1 t)
+  not (is_empty letters)
+  Some (letters, after))
+
+-- the letters up to `:` or `)`: some that are turned on, then perhaps `-` and some that are turned off
+unfoldable pub flags_at : Flags → Text → Option (Flags × Text)
+flags_at flags t = do
+  let (on, middle) = run (λ c. c ∈ "imx") t
+  (off, after) ← off_letters middle
+  not (is_empty on && is_empty off)
+  Some (turned false off (turned true on flags), after)
+
+pub data Opening : Type 0 where
+  -- `(?i)`, which holds for the rest of the enclosing group
+  setting : Opening
+  -- a group, and what it makes of what stands in it
+  opens : (Tree → Tree) → Opening
+
+-- a group with a number, and perhaps a name
+abbrev pub numbered : Option Text → Place → Opening × Place
+numbered found p = (opens (group (suc (length p.names))), record p { names = p.names ++ found ∷ [] })
+
+abbrev pub has_name : Text → Option Text → Bool
+has_name wanted None = false
+has_name wanted (Some other) = pointwise nat_eq other wanted
+
+-- names are distinct
+unfoldable pub named_group : Place → Option (Opening × Place)
+named_group p = do
+  (found, after) ← name_in p.text
+  not (list_any (has_name found) p.names)
+  Some (numbered (Some found) (record p { text = after }))
+
+unfoldable pub flag_group : Place → Option (Opening × Place)
+flag_group p = do
+  (flags, after) ← flags_at p.flags p.text
+  begins ":" after || begins ")" after
+  Some (if begins ")" after then setting else opens (λ a. a), record p { flags = flags; text = drop 1 after })
+
+-- from behind the parenthesis up to what stands in the group
+unfoldable pub opening : Place → Option (Opening × Place)
+opening p =
+    let t = p.text in
+    if not (begins "?" t) then Some (numbered None p)
+    else if begins "?:" t then Some (opens (λ a. a), forward 2 p)
+    else if begins "?>" t then Some (opens atomic, forward 2 p)
+    else if begins "?=" t then Some (opens (ahead false), forward 2 p)
+    else if begins "?!" t then Some (opens (ahead true), forward 2 p)
+    else if begins "?<=" t then Some (opens (behind false), forward 3 p)
+    else if begins "?<!" t then Some (opens (behind true), forward 3 p)
+    else if begins "?P<" t then named_group (forward 3 p)
+    else if begins "?<" t then named_group (forward 2 p)
+    else flag_group (forward 1 p)
+
+-- -- Alternatives and items
+
+-- What is read of a group: the alternatives before this one, and the items of this one, in order.
+pub record Body : Type 0 where
+  pub before : List Tree
+  pub items : List Tree
+
+abbrev pub empty_body : Body
+empty_body = record { before = []; items = [] }
+
+abbrev pub with_item : Body → Tree → Body
+with_item b a = record b { items = b.items ++ a ∷ [] }
+
+abbrev pub next_alternative : Body → Body
+next_alternative b = record { before = b.before ++ seq_all b.items ∷ []; items = [] }
+
+-- the tree of alternatives
+abbrev pub tree_of_body : Body → Tree
+tree_of_body b = alt_all ((next_alternative b).before)
+
+-- what stands next
+pub data Next : Type 0 where
+  end bar closer opener bracket backslash dot caret dollar loops : Next
+  plain : ℕ → Next
+
+unfoldable pub next_char : Text → ℕ → Next
+next_char t c =
+    if c ∈ "|" then bar
+    else if c ∈ ")" then closer
+    else if c ∈ "(" then opener
+    else if c ∈ "[" then bracket
+    else if c ∈ "\\" then backslash
+    else if c ∈ "." then dot
+    else if c ∈ "^" then caret
+    else if c ∈ "$" then dollar
+    else if is_some (quantifier t) then loops
+    else plain c
+
+abbrev pub next_of : Text → Next
+next_of [] = end
+next_of (c ∷ t) = next_char (c ∷ t) c
+
+-- what one step of reading makes: the group is over, and its end stands at the place, or it goes on
+pub data Step : Type 0 where
+  over : Place → Step
+  on : Body → Place → Step
+
+-- the number of the group of this name
+abbrev pub number_of : Text → Names → Option ℕ
+number_of wanted [] = None
+number_of wanted (found ∷ rest) = if has_name wanted found then Some 1 else option_map suc (number_of wanted rest)
+
+-- Back references: one that names no group is no pattern. `known` has the groups of the whole text, and is None where
+-- they are still to be found.
+abbrev pub by_number : Option Names → Bool → ℕ → Option Tree
+by_number None fold n = Some nothing
+by_number (Some known) fold n = nat_le n (length known) >> Some (same fold n)
+
+abbrev pub by_name : Option Names → Bool → Text → Option Tree
+by_name None fold wanted = Some nothing
+by_name (Some known) fold wanted = option_map (same fold) (number_of wanted known)
+
+-- `.`, with the flag m and without it
+abbrev pub dot_set : Bool → Set
+dot_set true = negated none
+dot_set false = negated (range 0x0A 0x0A)
+
+module _ (known : Option Names) where
+  -- an item that a quantifier may follow
+  abbrev pub item : Body → Tree → Place → Option Step
+  item b a p = quantified a p >>= λ (whole, rest). Some (on (with_item b whole) rest)
+
+  -- an item that none may follow
+  abbrev pub firm : Body → Tree → Place → Option Step
+  firm b a p = Some (on (with_item b a) p)
+
+  abbrev pub escaped : Body → Place → Escape → Option Step
+  escaped b p (char c) = item b (one_of (from_to p.flags.fold c c)) p
+  escaped b p (set a) = item b (one_of a) p
+  escaped b p (edge a) = firm b (anchor a) p
+  escaped b p (number n) = by_number known p.flags.fold n >>= λ a. item b a p
+  escaped b p (name found) = by_name known p.flags.fold found >>= λ a. item b a p
+
+  -- The group behind its opening; `inner` reads what stands in it up to its end. The flags of the outside come back there.
+  abbrev pub grouped : (Place → Option (Tree × Place)) → ℕ → Body → Flags → Opening × Place → Option Step
+  grouped inner depth b flags (setting, p) = Some (on b p)
+  grouped inner depth b flags (opens make, p) = do
+    nat_lt depth deepest
+    (a, last) ← inner p
+    begins ")" last.text
+    item b (make a) (record last { flags = flags; text = drop 1 last.text })
+
+  -- one step from a place where nothing is to be passed over
+  abbrev pub step : (Place → Option (Tree × Place)) → ℕ → Body → Place → Next → Option Step
+  step inner depth b p end = Some (over p)
+  step inner depth b p closer = Some (over p)
+  step inner depth b p bar = Some (on (next_alternative b) (forward 1 p))
+  -- on nothing, on an anchor or on a quantifier
+  step inner depth b p loops = None
+  step inner depth b p opener = opening (forward 1 p) >>= grouped inner depth b p.flags
+  step inner depth b p bracket = class p.flags.fold depth (drop 1 p.text) >>= λ (a, rest). item b (one_of a) (record p { text = rest })
+  step inner depth b p backslash = escape (drop 1 p.text) >>= λ (e, rest). escaped b (record p { text = rest }) e
+  step inner depth b p dot = item b (one_of (dot_set p.flags.any)) (forward 1 p)
+  step inner depth b p caret = firm b (anchor line_start) (forward 1 p)
+  step inner depth b p dollar = firm b (anchor line_end) (forward 1 p)
+  step inner depth b p (plain c) = item b (one_of (from_to p.flags.fold c c)) (forward 1 p)
+
+  abbrev pub after_step : (Body → Place → Option (Tree × Place)) → Body → Step → Option (Tree × Place)
+  after_step more b (over p) = Some (tree_of_body b, p)
+  after_step more b (on b' p) = more b' p
+
+  -- What stands in a group, `depth` groups deep, up to its parenthesis or the text's end; `b` is read already. The number
+  -- bounds the calls, each of which reads a character.
+  unfoldable pub body : ℕ → ℕ → Body → Place → Option (Tree × Place)
+  body zero depth b p = None
+  body (suc n) depth b p =
+      passed p >>= λ here. step (body n (depth + 1) empty_body) depth b here (next_of here.text) >>= after_step (body n depth) b
+
+  -- the tree of a whole text and its groups
+  unfoldable pub whole : Text → Option (Tree × Names)
+  whole text = do
+    (tree, last) ← body (suc (length text)) 0 empty_body (record { flags = record { fold = false; any = false; spaced = false }; names = []; text = text })
+    is_empty last.text
+    Some (tree, last.names)
+
+-- The tree of the text; none for a text that is no pattern. It is read once for its groups, and then with them.
+unfoldable pub tree_of : Text → Option Tree
+tree_of text = do
+  (_, names) ← whole None text
+  (tree, _) ← whole (Some names) text
+  Some tree
+
+-- the groups of the first match of the pattern in the text at the least place not below this one
+abbrev pub found_in : List ℕ → List ℕ → ℕ → Option Groups
+found_in pattern s from = tree_of pattern >>= λ tree. found s tree from
+
+-- each number above the length of the text reads the same, and `whole` takes one
+abbrev pub ReadsEnough : Type 0
+ReadsEnough = (known : Option Names) (n m depth : ℕ) (b : Body) (p : Place)
+    → length p.text < n → length p.text < m → body known n depth b p ≡ body known m depth b p
+
+-- the groups of a pattern are numbered from 1, by their opening
+abbrev pub NumbersGroups : Type 0
+NumbersGroups = (text : Text) (tree : Tree) → tree_of text ≡ Some tree → numbers tree ≡ numbers_from 1 (group_count tree)

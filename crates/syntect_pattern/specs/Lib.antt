@@ -1,0 +1,10 @@
+pub mod Text
+pub mod Sets
+pub mod Trees
+pub mod Matches
+pub mod Reading
+pub mod Escapes
+pub mod Classes
+pub mod Grammar
+pub mod Nesting
+pub mod Simple

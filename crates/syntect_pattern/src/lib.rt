@@ -1,0 +1,26 @@
+//! Patterns: what a text reads as, and what that matches.
+#![tactic(auto)]
+
+ghost use Rattle.syntect_pattern.specs.Grammar.{ReadsEnough, NumbersGroups};
+ghost use Rattle.syntect_pattern.specs.Nesting.{FindsMatches, TurnsEnough};
+
+/// The law of every search: the groups that stand outside lookarounds are nested or disjoint, lie in the match and end on
+/// boundaries of characters.
+pub fn matches_are_laid_out()
+    ensures { FindsMatches }
+{}
+
+/// The law of the reading: the number that bounds its calls has no effect where it is above the length of the text.
+pub fn reading_has_room()
+    ensures { ReadsEnough }
+{}
+
+/// The groups of a pattern are numbered from 1, by their opening.
+pub fn groups_are_numbered()
+    ensures { NumbersGroups }
+{}
+
+/// The law of loops: the number that bounds the turns has no effect where it is above what is left of the text.
+pub fn loops_have_room()
+    ensures { TurnsEnough }
+{}
