@@ -1,0 +1,3 @@
+pub mod AtomLaws
+pub mod DotLaws
+pub mod RepositoryLaws

@@ -1,0 +1,223 @@
+-- The repository grows at its end, and numbers stay.
+use Rattle.std.proofs.Common.{◌≡◌, ◌==◌, ℕ, zero, suc, ◌+◌, ◌≤◌, ◌<◌, Bool, true, false, List, [], ◌∷◌, ◌++◌, length, take, refl, ap, sym, ◌∙◌, ◌||◌, arith, Option, Some, None, is_some, if◌then◌else◌, length-append, append_assoc, map, drop, get_or, Bor}
+use Rattle.std.specs.Option.{option_map_or, option_map}
+use Rattle.std.specs.List.{position_from, list_any, join_with_byte}
+use Rattle.std.proofs.lemmas.List.Folds.{list_any-append}
+use Rattle.std.proofs.lemmas.Slice.Eq.{bytes_eq-Decides}
+use Rattle.std.specs.Cmp.Lexicographic.{pointwise}
+use Rattle.std.proofs.lemmas.Bool.Decides.{nat_tests, same_from_decides, Decides-like}
+use Rattle.std.proofs.lemmas.List.{append-nil, length-take, take-append-le}
+use Rattle.std.specs.Str.{bytes_eq}
+use Rattle.syntect_scope.specs.Repository.{with_atom, with_atoms, number_in, place_in, atom_text, scope_text, IsDistinct, IsRepository}
+
+same : (n : ℕ) → (n == n) ≡ true
+same n = grind (arith, nat_tests)
+
+pub bytes_eq_same : (t : List ℕ) → bytes_eq t t ≡ true
+bytes_eq_same [] = refl
+bytes_eq_same (x ∷ t) = rw (same x) (bytes_eq_same t)
+
+module _ {X : Type 0} (p : X → Bool) where
+  stays_if : (b : Bool) (i : ℕ) (o o' : Option ℕ) → (is_some o ≡ true → o' ≡ o) → is_some (if b then Some i else o) ≡ true → (if b then Some i else o') ≡ (if b then Some i else o)
+  stays_if true i o o' h e = refl
+  stays_if false i o o' h e = h e
+
+  -- what was found is found
+  pub found_stays : (xs ys : List X) (i : ℕ) → is_some (position_from p i xs) ≡ true → position_from p i (xs ++ ys) ≡ position_from p i xs
+  found_stays [] ys i e = cc
+  found_stays (x ∷ xs) ys i e = stays_if (p x) i (position_from p (i + 1) xs) (position_from p (i + 1) (xs ++ ys)) (found_stays xs ys (i + 1)) e
+
+  last_if : (b : Bool) (i n : ℕ) (o o' : Option ℕ) → (is_some o ≡ false → o' ≡ Some n) → is_some (if b then Some i else o) ≡ false → (if b then Some i else o') ≡ Some n
+  last_if true i n o o' h e = cc
+  last_if false i n o o' h e = h e
+
+  -- what wasn't, is found last
+  pub found_last : (xs : List X) (y : X) (i : ℕ) → p y ≡ true → is_some (position_from p i xs) ≡ false → position_from p i (xs ++ y ∷ []) ≡ Some (length xs + i)
+  found_last [] y i t e = let z : 0 + i ≡ i = omega arith in rw (t, z) refl
+  found_last (x ∷ xs) y i t e =
+      let z : suc (length xs) + i ≡ length xs + (i + 1) = omega arith in
+      rw z (last_if (p x) i (length xs + (i + 1)) (position_from p (i + 1) xs) (position_from p (i + 1) (xs ++ y ∷ [])) (found_last xs y (i + 1) t) e)
+
+has_if : (r : List (List ℕ)) (t : List ℕ) (b : Bool) → is_some (position_from (bytes_eq t) 0 r) ≡ b → is_some (position_from (bytes_eq t) 0 (if b then r else r ++ t ∷ [])) ≡ true
+has_if r t true e = e
+has_if r t false e = ap is_some (found_last (bytes_eq t) r t 0 (bytes_eq_same t) e)
+
+pub has_atom : (r : List (List ℕ)) (t : List ℕ) → is_some (position_from (bytes_eq t) 0 (with_atom r t)) ≡ true
+has_atom r t = has_if r t (is_some (position_from (bytes_eq t) 0 r)) refl
+
+more_if : (r : List (List ℕ)) (t : List ℕ) (b : Bool) → (rest : List (List ℕ)) × ((if b then r else r ++ t ∷ []) ≡ r ++ rest)
+more_if r t true = ([], sym (append-nil r))
+more_if r t false = (t ∷ [], refl)
+
+-- texts are added at the end
+pub grows : (r ts : List (List ℕ)) → (rest : List (List ℕ)) × (with_atoms r ts ≡ r ++ rest)
+grows r [] = ([], sym (append-nil r))
+grows r (t ∷ ts) =
+    let one : (rest : List (List ℕ)) × (with_atom r t ≡ r ++ rest) = more_if r t (is_some (position_from (bytes_eq t) 0 r)) in
+    let all : (rest : List (List ℕ)) × (with_atoms (with_atom r t) ts ≡ with_atom r t ++ rest) = grows (with_atom r t) ts in
+    (one.0 ++ all.0, all.1 ∙ ap (λ (l : List (List ℕ)). l ++ all.0) one.1 ∙ append_assoc r one.0 all.0)
+
+pub number_stays : (r ts : List (List ℕ)) (t : List ℕ) → number_in (with_atoms (with_atom r t) ts) t ≡ number_in (with_atom r t) t
+number_stays r ts t =
+    let g : (rest : List (List ℕ)) × (with_atoms (with_atom r t) ts ≡ with_atom r t ++ rest) = grows (with_atom r t) ts in
+    ap (λ (l : List (List ℕ)). number_in l t) g.1 ∙ ap (λ o. option_map_or (λ i. i + 1) o 0) (found_stays (bytes_eq t) (with_atom r t) g.0 0 (has_atom r t))
+
+pub length_grows : (r ts : List (List ℕ)) → length r ≤ length (with_atoms r ts)
+length_grows r ts = omega (arith, ap length (grows r ts).1, length-append r (grows r ts).0)
+
+pub number_last : (r : List (List ℕ)) (t : List ℕ) → None ≡ position_from (bytes_eq t) 0 r → (with_atom r t ≡ r ++ t ∷ []) × (length r + 1 ≡ number_in (r ++ t ∷ []) t)
+number_last r t e =
+    let n : is_some (position_from (bytes_eq t) 0 r) ≡ false = ap is_some (sym e) in
+    let z : length r + 0 ≡ length r = omega arith in
+    (rw n refl, rw (found_last (bytes_eq t) r t 0 (bytes_eq_same t) n, z) refl)
+
+-- what the rest of the texts adds, when one of them was added
+pub texts_step : (self : List (List ℕ)) (parts : List (Bor (List ℕ))) (i : ℕ) (d : Bor (List ℕ)) → i < length parts
+    → with_atoms self (map (λ x. x.now) (drop i parts)) ≡ with_atoms (with_atom self (get_or parts i d).now) (map (λ x. x.now) (drop (i + 1) parts))
+texts_step self [] i d l = absurd (omega arith)
+texts_step self (p ∷ parts) zero d l = refl
+texts_step self (p ∷ parts) (suc i) d l = let z : suc i + 1 ≡ suc (i + 1) = omega arith in rw z (texts_step self parts i d (omega arith))
+
+pub numbers_step : (all : List (List ℕ)) (scope : List ℕ) (parts : List (Bor (List ℕ))) (i : ℕ) (d : Bor (List ℕ)) → i < length parts
+    → scope ++ map (number_in all) (map (λ x. x.now) (drop i parts)) ≡ (scope ++ number_in all (get_or parts i d).now ∷ []) ++ map (number_in all) (map (λ x. x.now) (drop (i + 1) parts))
+numbers_step all scope [] i d l = absurd (omega arith)
+numbers_step all scope (p ∷ parts) zero d l = sym (append_assoc scope _ _)
+numbers_step all scope (p ∷ parts) (suc i) d l = let z : suc i + 1 ≡ suc (i + 1) = omega arith in rw z (numbers_step all scope parts i d (omega arith))
+
+pub front_stays : (old self ts : List (List ℕ)) → take (length old) self ≡ old → take (length old) (with_atoms self ts) ≡ old
+front_stays old self ts e =
+    let g : (rest : List (List ℕ)) × (with_atoms self ts ≡ self ++ rest) = grows self ts in
+    let n : length old ≤ length self = omega (arith, ap length (sym e), length-take {A = List ℕ} (length old) self) in
+    rw (g.1, take-append-le (length old) self g.0 n) e
+
+-- one more number is given
+pub given_more : (d : Bor (List ℕ)) {new : List (List ℕ)} {n : ℕ} (old self : List (List ℕ)) (scope : List ℕ) (parts : List (Bor (List ℕ))) (i : ℕ) → i < length parts
+    → new ≡ with_atom self (get_or parts i d).now → n ≡ number_in new (get_or parts i d).now
+    → with_atoms self (map (λ x. x.now) (drop i parts)) ≡ with_atoms old (map (λ x. x.now) parts)
+    → scope ++ map (number_in (with_atoms old (map (λ x. x.now) parts))) (map (λ x. x.now) (drop i parts)) ≡ map (number_in (with_atoms old (map (λ x. x.now) parts))) (map (λ x. x.now) parts)
+    → (scope ++ n ∷ []) ++ map (number_in (with_atoms old (map (λ x. x.now) parts))) (map (λ x. x.now) (drop (i + 1) parts)) ≡ map (number_in (with_atoms old (map (λ x. x.now) parts))) (map (λ x. x.now) parts)
+given_more d {new} {n} old self scope parts i l e f a g =
+    let nn : n ≡ number_in (with_atoms old (map (λ x. x.now) parts)) (get_or parts i d).now =
+      f ∙ ap (λ (k : List (List ℕ)). number_in k (get_or parts i d).now) e ∙ sym (number_stays self (map (λ x. x.now) (drop (i + 1) parts)) (get_or parts i d).now)
+        ∙ ap (λ (k : List (List ℕ)). number_in k (get_or parts i d).now) (sym (texts_step self parts i d l) ∙ a) in
+    rw nn (sym (numbers_step (with_atoms old (map (λ x. x.now) parts)) scope parts i d l) ∙ g)
+
+pub too_many_grows : (d : Bor (List ℕ)) (old self : List (List ℕ)) (parts : List (Bor (List ℕ))) (i : ℕ) → i < length parts
+    → with_atoms self (map (λ x. x.now) (drop i parts)) ≡ with_atoms old (map (λ x. x.now) parts)
+    → 65534 < length (with_atom self (get_or parts i d).now) → 65534 < length (with_atoms old (map (λ x. x.now) parts))
+too_many_grows d old self parts i l a m =
+    omega (arith, ap length (sym (texts_step self parts i d l) ∙ a), length_grows (with_atom self (get_or parts i d).now) (map (λ x. x.now) (drop (i + 1) parts)))
+
+-- ---- each text stands once ----
+
+bytes_eq_sym : (a b : List ℕ) → bytes_eq a b ≡ bytes_eq b a
+bytes_eq_sym a b = same_from_decides (bytes_eq a b) (bytes_eq b a) (bytes_eq-Decides a b) (Decides-like (bytes_eq b a) (λ (e : b ≡ a). sym e) (λ (e : a ≡ b). sym e) (bytes_eq-Decides b a))
+
+or_both : (a b : Bool) → (a || b) ≡ false → (a ≡ false) × (b ≡ false)
+or_both false b h = (refl, h)
+or_both true b h = cc
+
+or_neither : (a b : Bool) → a ≡ false → b ≡ false → (a || b) ≡ false
+or_neither a b e f = rw (e, f) refl
+
+unless : (b : Bool) (i : ℕ) (o : Option ℕ) → (b ≡ false) × (o ≡ None) → (if b then Some i else o) ≡ None
+unless b i o h = rw (h.0, h.1) refl
+
+pub absent_place : (t : List ℕ) (xs : List (List ℕ)) (i : ℕ) → list_any (bytes_eq t) xs ≡ false → position_from (bytes_eq t) i xs ≡ None
+absent_place t [] i h = refl
+absent_place t (x ∷ xs) i h =
+    let both : (bytes_eq t x ≡ false) × (list_any (bytes_eq t) xs ≡ false) = or_both _ _ h in
+    unless (bytes_eq t x) i (position_from (bytes_eq t) (i + 1) xs) (both.0, absent_place t xs (i + 1) both.1)
+
+neither : (b : Bool) (i : ℕ) (o : Option ℕ) → (if b then Some i else o) ≡ None → (b ≡ false) × (o ≡ None)
+neither true i o h = cc
+neither false i o h = (refl, h)
+
+pub place_absent : (t : List ℕ) (xs : List (List ℕ)) (i : ℕ) → position_from (bytes_eq t) i xs ≡ None → list_any (bytes_eq t) xs ≡ false
+place_absent t [] i h = refl
+place_absent t (x ∷ xs) i h =
+    let both : (bytes_eq t x ≡ false) × (position_from (bytes_eq t) (i + 1) xs ≡ None) = neither (bytes_eq t x) i (position_from (bytes_eq t) (i + 1) xs) h in
+    or_neither _ _ both.0 (place_absent t xs (i + 1) both.1)
+
+any_last : (x t : List ℕ) (xs : List (List ℕ)) → list_any (bytes_eq x) (xs ++ t ∷ []) ≡ (list_any (bytes_eq x) xs || (bytes_eq x t || false))
+any_last x t xs = list_any-append (bytes_eq x) xs (t ∷ [])
+
+-- a new text at the end
+pub distinct_more : (xs : List (List ℕ)) (t : List ℕ) → IsDistinct xs → list_any (bytes_eq t) xs ≡ false → IsDistinct (xs ++ t ∷ [])
+distinct_more [] t d h = (refl, tt)
+distinct_more (x ∷ xs) t d h =
+    let both : (bytes_eq t x ≡ false) × (list_any (bytes_eq t) xs ≡ false) = or_both _ _ h in
+    (any_last x t xs ∙ or_neither _ _ d.0 (or_neither _ _ (bytes_eq_sym x t ∙ both.0) refl), distinct_more xs t d.1 both.1)
+
+pub distinct_front : (xs ys : List (List ℕ)) → IsDistinct (xs ++ ys) → IsDistinct xs
+distinct_front [] ys d = tt
+distinct_front (x ∷ xs) ys d = ((or_both _ _ (sym (list_any-append (bytes_eq x) xs ys) ∙ d.0)).0, distinct_front xs ys d.1)
+
+pub distinct_last : (xs : List (List ℕ)) (t : List ℕ) → IsDistinct (xs ++ t ∷ []) → list_any (bytes_eq t) xs ≡ false
+distinct_last [] t d = refl
+distinct_last (x ∷ xs) t d =
+    let e : (bytes_eq x t || false) ≡ false = (or_both _ _ (sym (any_last x t xs) ∙ d.0)).1 in
+    or_neither _ _ (bytes_eq_sym t x ∙ (or_both _ _ e).0) (distinct_last xs t d.1)
+
+-- ---- numbers by text ----
+
+place_other : (q t : List ℕ) (xs : List (List ℕ)) (i : ℕ) → bytes_eq q t ≡ false → position_from (bytes_eq q) i (xs ++ t ∷ []) ≡ position_from (bytes_eq q) i xs
+place_other q t [] i h = rw h refl
+place_other q t (x ∷ xs) i h = ap (λ (o : Option ℕ). if bytes_eq q x then Some i else o) (place_other q t xs (i + 1) h)
+
+-- the numbers of all texts, once a new one has been put last
+pub numbers_more : (xs : List (List ℕ)) (t : List ℕ) (n : ℕ) → n ≡ length xs + 1 → place_in xs t ≡ None → (q : List ℕ) → (if bytes_eq t q then Some n else option_map (λ i. i + 1) (place_in xs q)) ≡ option_map (λ i. i + 1) (place_in (xs ++ t ∷ []) q)
+numbers_more xs t n e h q = by_case (bytes_eq t q) refl
+  where
+    by_case : (b : Bool) → bytes_eq t q ≡ b → (if b then Some n else option_map (λ i. i + 1) (place_in xs q)) ≡ option_map (λ i. i + 1) (place_in (xs ++ t ∷ []) q)
+    by_case true s =
+        let same_text : t ≡ q = (bytes_eq-Decides t q).0 s in
+        let none : is_some (position_from (bytes_eq t) 0 xs) ≡ false = ap is_some h in
+        let last : place_in (xs ++ t ∷ []) t ≡ Some (length xs + 0) = found_last (bytes_eq t) xs t 0 (bytes_eq_same t) none in
+        let z : n ≡ length xs + 0 + 1 = omega (arith, e) in
+        ap Some z ∙ ap (λ (o : Option ℕ). option_map (λ i. i + 1) o) (sym last) ∙ ap (λ (u : List ℕ). option_map (λ i. i + 1) (place_in (xs ++ t ∷ []) u)) same_text
+    by_case false s = ap (λ (o : Option ℕ). option_map (λ i. i + 1) o) (sym (place_other q t xs 0 (bytes_eq_sym q t ∙ s)))
+
+-- the numbers of all texts, once the last one has been taken back
+pub numbers_less : (xs : List (List ℕ)) (t : List ℕ) → IsDistinct (xs ++ t ∷ []) → (q : List ℕ) → (if bytes_eq t q then None else option_map (λ i. i + 1) (place_in (xs ++ t ∷ []) q)) ≡ option_map (λ i. i + 1) (place_in xs q)
+numbers_less xs t d q = by_case (bytes_eq t q) refl
+  where
+    by_case : (b : Bool) → bytes_eq t q ≡ b → (if b then None else option_map (λ i. i + 1) (place_in (xs ++ t ∷ []) q)) ≡ option_map (λ i. i + 1) (place_in xs q)
+    by_case true s =
+        let same_text : t ≡ q = (bytes_eq-Decides t q).0 s in
+        ap (λ (o : Option ℕ). option_map (λ i. i + 1) o) (sym (absent_place t xs 0 (distinct_last xs t d)))
+        ∙ ap (λ (u : List ℕ). option_map (λ i. i + 1) (place_in xs u)) same_text
+    by_case false s = ap (λ (o : Option ℕ). option_map (λ i. i + 1) o) (place_other q t xs 0 (bytes_eq_sym q t ∙ s))
+
+-- ---- the text of a scope ----
+
+-- one more part
+pub join_last : (x : List ℕ) (xs : List (List ℕ)) (y : List ℕ) → join_with_byte 46 (x ∷ xs ++ y ∷ []) ≡ join_with_byte 46 (x ∷ xs) ++ (46 ∷ y)
+join_last x [] y = refl
+join_last x (z ∷ xs) y = ap (λ (l : List ℕ). x ++ (46 ∷ l)) (join_last z xs y) ∙ sym (append_assoc x (46 ∷ join_with_byte 46 (z ∷ xs)) (46 ∷ y))
+
+pub whole_more : (r : List (List ℕ)) (t : List ℕ) → IsRepository r → place_in r t ≡ None → length r < 65534 → IsRepository (r ++ t ∷ [])
+whole_more r t whole absent room = record {
+  limit = omega (arith, length-append r (t ∷ []), room);
+  distinct = distinct_more r t whole.distinct (place_absent t r 0 absent)
+}
+
+-- one more atom
+pub text_last : (repo : List (List ℕ)) (atoms : List ℕ) (i : ℕ) (d : ℕ) → i < length atoms → 0 < i
+    → scope_text repo (take (i + 1) atoms) ≡ scope_text repo (take i atoms) ++ (46 ∷ atom_text repo (get_or atoms i d))
+text_last repo [] i d l p = absurd (omega arith)
+text_last repo (a ∷ atoms) zero d l p = absurd (omega arith)
+text_last repo (a ∷ atoms) (suc i) d l p =
+    let z : suc i + 1 ≡ suc (i + 1) = omega arith in
+    rw z (ap (λ (xs : List (List ℕ)). join_with_byte 46 (atom_text repo a ∷ xs)) (map_last i atoms (omega arith)) ∙ join_last (atom_text repo a) (map (atom_text repo) (take i atoms)) (atom_text repo (get_or atoms i d)))
+  where
+    map_last : (i : ℕ) (xs : List ℕ) → i < length xs → map (atom_text repo) (take (i + 1) xs) ≡ map (atom_text repo) (take i xs) ++ atom_text repo (get_or xs i d) ∷ []
+    map_last i [] l = absurd (omega arith)
+    map_last zero (x ∷ xs) l = refl
+    map_last (suc i) (x ∷ xs) l = let z : suc i + 1 ≡ suc (i + 1) = omega arith in rw z (ap (λ (ys : List (List ℕ)). atom_text repo x ∷ ys) (map_last i xs (omega arith)))
+
+pub text_first : (repo : List (List ℕ)) (atoms : List ℕ) (i d : ℕ) → i < length atoms → i ≤ 0
+    → scope_text repo (take (i + 1) atoms) ≡ scope_text repo (take i atoms) ++ atom_text repo (get_or atoms i d)
+text_first repo [] i d l z = absurd (omega arith)
+text_first repo (a ∷ atoms) zero d l z = refl
+text_first repo (a ∷ atoms) (suc i) d l z = absurd (omega arith)

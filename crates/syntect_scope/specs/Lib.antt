@@ -1,0 +1,5 @@
+pub mod Atoms
+pub mod Stack
+pub mod Replay
+pub mod Choice
+pub mod Repository

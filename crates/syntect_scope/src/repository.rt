@@ -1,0 +1,279 @@
+//! The repository of atoms: their texts, each with its number.
+ghost use Rattle.std.specs.Prelude.{◌≡◌, ◌≢◌, ◌==◌, ◌<◌, ◌≤◌, ◌+◌, ◌-◌, ◌↔◌, [], ◌∷◌, ◌++◌, length, map, take, List, ℕ, IsTrue, IsErr, IfOk, OnOk, OnErr, IfErr, IsErrOf, IfSome, IfNone, string_bytes, None};
+ghost use Rattle.std.specs.Option.{option_copied, option_map};
+ghost use Rattle.std.specs.List.{slice_split};
+ghost use Rattle.std.specs.Str.{trim};
+ghost use Rattle.syntect_scope.specs.Repository.{atom_in, atom_text, atom_texts, place_in, scope_in, scope_text, with_atom, with_atoms, number_in, without_dots, IsRepository};
+ghost use Rattle.syntect_scope.specs.declared.repository.ParseScopeError.TheVariants.{Memory};
+
+use std::alloc::{AllocError, AllocFailed, Global};
+use std::collections::HashMap;
+use std::marker::Model;
+use syntect_values::text::Text;
+use thiserror::Error;
+
+use crate::scope::Scope;
+
+/// Why a text is no scope. The repository is then as it was.
+#[derive(Debug, Drop, PartialEq, Eq, Error)]
+pub enum ParseScopeError {
+    /// It has more than eight atoms. This is tested before anything else.
+    #[error("Too long scope. Scopes can be at most 8 atoms long.")]
+    TooLong,
+    /// A new atom would be the 65535th.
+    #[error("Too many atoms. Max 2^16-2 atoms allowed.")]
+    TooManyAtoms,
+    /// There was no memory.
+    #[error("out of memory")]
+    Memory,
+}
+
+impl From<AllocError> for ParseScopeError {
+    ghost from_gives = { λ _ e. e ≡ Memory };
+
+    fn from(_e: AllocError) -> ParseScopeError {
+        ParseScopeError::Memory
+    }
+}
+
+impl<T: Drop> From<AllocFailed<T>> for ParseScopeError {
+    ghost from_gives = { λ _ e. e ≡ Memory };
+
+    fn from(_e: AllocFailed<T>) -> ParseScopeError {
+        ParseScopeError::Memory
+    }
+}
+
+/// How many atoms a repository can hold: their numbers are those of `u16` but 0 and the last.
+const MAX_ATOMS: usize = 65534;
+
+/// The texts of the atoms, numbered from 1 in the order in which they came. Contracts see the list of the texts.
+#[derive(Debug, Drop)]
+pub struct ScopeRepository {
+    atoms: Vec<Text>,
+    numbers: HashMap<String, u16>,
+}
+
+impl Model for ScopeRepository {
+    ghost use Rattle.std.specs.Prelude.{List, ℕ, length, ◌≤◌, ◌≡◌, ◌+◌};
+    ghost use Rattle.std.specs.Option.{option_map};
+    ghost use Rattle.std.specs.HashMap.{get_by_text};
+    ghost use Rattle.syntect_scope.specs.Repository.{IsRepository, place_in};
+
+    ghost Value = { List (List ℕ) };
+
+    ghost view = { λ a. a.atoms.items };
+
+    ghost invariant = { λ a. IsRepository a.atoms.items × ((t : List ℕ) → get_by_text a.numbers t ≡ option_map (λ i. i + 1) (place_in a.atoms.items t)) };
+}
+
+/// The parts of a text between its dots.
+fn parts_of(alloc: Global, s: &str) -> Result<Vec<&str>, AllocError>
+    ensures { IfOk result (λ v. map (λ x. x.now) v.items ≡ slice_split (λ b. b == 46) s.now) }
+{
+    s.split('.').collect(alloc)
+}
+
+/// How many parts a text has between its dots.
+fn count_parts(s: &str) -> usize
+    ensures { result ≡ length (slice_split (λ b. b == 46) s.now) }
+{
+    s.split('.').count()
+}
+
+/// The text without the dots at its end.
+fn trimmed(s: &str) -> &str
+    ensures { result.now ≡ without_dots s.now }
+{
+    s.trim_end_matches('.')
+}
+
+impl ScopeRepository {
+    /// No atoms. Takes no memory.
+    pub fn new(alloc: Global) -> ScopeRepository
+        ensures atoms { result ≡ [] }
+        ensures whole { IsRepository result }
+    {
+        ScopeRepository {
+            atoms: Vec::new(alloc),
+            numbers: HashMap::new(alloc),
+        }
+    }
+
+    /// The text of an atom number, if the repository has it. Numbers begin at 1.
+    pub fn atom_str(&self, number: u16) -> Option<&str>
+        ensures { option_copied result ≡ atom_in self.now number }
+    {
+        if number == 0 {
+            return None;
+        }
+        let text = self.atoms.get(usize::from(number) - 1)?;
+        Some(text.as_str())
+    }
+
+    /// The number of an atom that it has.
+    fn known(&self, part: &str) -> Option<u16>
+        ensures number { result ≡ option_map (λ i. i + 1) (place_in self.now part.now) }
+        ensures whole { IsRepository self.now }
+    {
+        self.numbers.get(part).copied()
+    }
+
+    /// Takes up an atom that it does not have, and answers its number.
+    fn add(&mut self, part: &str) -> Result<u16, ParseScopeError>
+        requires { place_in self.old part.now ≡ None }
+        ensures ok { IfOk result (λ n. (self.new ≡ self.old ++ part.now ∷ []) × (n ≡ length self.old + 1)) }
+        ensures room { OnOk result (length self.old < 65534) }
+        ensures too_many { IfErr result (λ e. e ≡ ParseScopeError.TooManyAtoms → 65534 ≤ length self.old) }
+        ensures too_long { IfErr result (λ e. e ≢ ParseScopeError.TooLong) }
+        ensures err { OnErr result (self.new ≡ self.old) }
+    {
+        if self.atoms.len() >= MAX_ATOMS {
+            return Err(ParseScopeError::TooManyAtoms);
+        }
+        let n = self.atoms.len() as u16 + 1;
+        let alloc = *self.atoms.allocator();
+        let key = String::from_str(alloc, part)?;
+        self.atoms.push(Text::from_str(alloc, part)?)?;
+        match self.numbers.insert(key, n) {
+            Ok(_) => Ok(n),
+            Err(_) => {
+                let _ = self.atoms.pop();
+                Err(ParseScopeError::Memory)
+            }
+        }
+    }
+
+    /// The number of an atom, which it takes up unless it has it.
+    #[tactic(auto, using(crate::proofs::RepositoryLaws::number_last, crate::proofs::RepositoryLaws::whole_more))]
+    fn number(&mut self, part: &str) -> Result<u16, ParseScopeError>
+        ensures ok { IfOk result (λ n. (self.new ≡ with_atom self.old part.now) × (n ≡ number_in self.new part.now)) }
+        ensures positive { IfOk result (λ n. 0 < n) }
+        ensures whole { OnOk result (IsRepository self.new) }
+        ensures too_many { IfErr result (λ e. e ≡ ParseScopeError.TooManyAtoms → 65534 < length (with_atom self.old part.now)) }
+        ensures too_long { IfErr result (λ e. e ≢ ParseScopeError.TooLong) }
+        ensures err { OnErr result (self.new ≡ self.old) }
+    {
+        match self.known(part) {
+            Some(n) => Ok(n),
+            None => self.add(part),
+        }
+    }
+
+    /// Takes the last atom back.
+    fn forget_last(&mut self)
+        ensures { self.new ≡ take (length self.old - 1) self.old }
+    {
+        if let Some(text) = self.atoms.pop() {
+            let _ = self.numbers.remove(text.as_str());
+        }
+    }
+
+    /// Takes the atoms past the first `held` back.
+    fn forget(&mut self, held: usize)
+        requires { held ≤ length self.old }
+        ensures { self.new ≡ take held self.old }
+    {
+        while self.atoms.len() > held {
+            self.forget_last();
+        }
+    }
+
+    /// The numbers of the parts, which it takes up. After an `Err` it may have more atoms at its end.
+    fn numbers(&mut self, parts: &[&str]) -> Result<Scope, ParseScopeError>
+        requires { length parts.now ≤ 8 }
+        ensures ok { IfOk result (λ s. (self.new ≡ with_atoms self.old (map (λ x. x.now) parts.now)) × (s ≡ map (number_in self.new) (map (λ x. x.now) parts.now))) }
+        ensures whole { OnOk result (IsRepository self.new) }
+        ensures too_many { IfErr result (λ e. e ≡ ParseScopeError.TooManyAtoms → 65534 < length (with_atoms self.old (map (λ x. x.now) parts.now))) }
+        ensures too_long { IfErr result (λ e. e ≢ ParseScopeError.TooLong) }
+        ensures err { OnErr result (take (length self.old) self.new ≡ self.old) }
+    {
+        let _ = &self.atoms;
+        let mut scope = Scope::empty();
+        for part in parts {
+            match self.number(part) {
+                Ok(n) => scope.push(n),
+                Err(e) => return Err(e),
+            }
+        }
+        Ok(scope)
+    }
+
+    /// The scope of a text: its parts between dots are the atoms. Dots at the end are cut, empty parts before them
+    /// are atoms, and the empty text names the scope of no atoms. Atoms that the repository lacks are taken up. A
+    /// text of more than eight atoms is `TooLong`, whatever else there is to say of it.
+    pub fn build(&mut self, s: &str) -> Result<Scope, ParseScopeError>
+        ensures atoms { OnOk result (self.new ≡ with_atoms self.old (atom_texts s.now)) }
+        ensures scope { IfOk result (λ scope. scope ≡ scope_in self.new s.now) }
+        ensures too_long { IsErrOf result ParseScopeError.TooLong ↔ (8 < length (atom_texts s.now)) }
+        ensures too_many { IsErrOf result ParseScopeError.TooManyAtoms → 65534 < length (with_atoms self.old (atom_texts s.now)) }
+        ensures full { 65534 < length (with_atoms self.old (atom_texts s.now)) → IsErr result }
+        ensures whole { IsRepository self.new }
+        ensures err { OnErr result (self.new ≡ self.old) }
+    {
+        let _ = &self.atoms;
+        if s.is_empty() {
+            return Ok(Scope::empty());
+        }
+        let text = trimmed(s);
+        if count_parts(text) > 8 {
+            return Err(ParseScopeError::TooLong);
+        }
+        let parts = parts_of(*self.atoms.allocator(), text)?;
+        let held = self.atoms.len();
+        match self.numbers(parts.as_slice()) {
+            Ok(scope) => Ok(scope),
+            Err(e) => {
+                self.forget(held);
+                Err(e)
+            }
+        }
+    }
+
+    /// The text of an atom number, and `?` for one that the repository does not have.
+    fn atom_or_mark(&self, number: u16) -> &str
+        ensures { result.now ≡ atom_text self.now number }
+    {
+        match self.atom_str(number) {
+            Some(text) => text,
+            None => "?",
+        }
+    }
+
+    /// The text of a scope: the texts of its atoms, joined by dots. An atom number that the repository does not
+    /// have is written as `?`.
+    pub fn to_string(&self, scope: Scope) -> Result<String, AllocError>
+        ensures { IfOk result (λ text. string_bytes text ≡ scope_text self.now scope) }
+    {
+        let mut text = String::new(*self.atoms.allocator());
+        for (i, atom) in scope.as_slice().iter().enumerate() {
+            if i > 0 {
+                text.push('.')?;
+            }
+            text.push_str(self.atom_or_mark(*atom))?;
+        }
+        Ok(text)
+    }
+}
+
+impl Scope {
+    /// The scope of a text, without the white space around it. Refusals are those of `ScopeRepository::build`.
+    pub fn new(s: &str, repository: &mut ScopeRepository) -> Result<Scope, ParseScopeError>
+        ensures atoms { OnOk result (repository.new ≡ with_atoms repository.old (atom_texts (trim s.now))) }
+        ensures scope { IfOk result (λ scope. scope ≡ scope_in repository.new (trim s.now)) }
+        ensures too_long { IsErrOf result ParseScopeError.TooLong ↔ (8 < length (atom_texts (trim s.now))) }
+        ensures too_many { IsErrOf result ParseScopeError.TooManyAtoms → 65534 < length (with_atoms repository.old (atom_texts (trim s.now))) }
+        ensures full { 65534 < length (with_atoms repository.old (atom_texts (trim s.now))) → IsErr result }
+        ensures whole { IsRepository repository.new }
+        ensures err { OnErr result (repository.new ≡ repository.old) }
+    {
+        repository.build(s.trim())
+    }
+
+    /// The text of the scope in a repository, as `ScopeRepository::to_string` writes it.
+    pub fn build_string(self, repository: &ScopeRepository) -> Result<String, AllocError>
+        ensures { IfOk result (λ text. string_bytes text ≡ scope_text repository.now self) }
+    {
+        repository.to_string(self)
+    }
+}
