@@ -1,3 +1,4 @@
 pub mod AtomLaws
+pub mod DigitLaws
 pub mod DotLaws
 pub mod RepositoryLaws

@@ -1,5 +1,6 @@
 pub mod Atoms
 pub mod Stack
 pub mod Replay
+pub mod Digits
 pub mod Choice
 pub mod Repository
