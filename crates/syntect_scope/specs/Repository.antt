@@ -68,3 +68,8 @@ atom_text repo n = unwrap_or (atom_in repo n) (63 ∷ [])
 -- the texts of the atoms, joined by dots
 abbrev pub scope_text : List (List ℕ) → List ℕ → List ℕ
 scope_text repo scope = join_with_byte 46 (map (atom_text repo) scope)
+
+-- the texts of scopes, each followed by one space
+abbrev pub scopes_text : List (List ℕ) → List (List ℕ) → List ℕ
+scopes_text repo [] = []
+scopes_text repo (scope ∷ scopes) = scope_text repo scope ++ 32 ∷ scopes_text repo scopes

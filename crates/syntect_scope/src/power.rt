@@ -191,3 +191,11 @@ impl PartialOrd for MatchPower {
         Some(self.cmp(other))
     }
 }
+
+impl Clone for MatchPower {
+    ghost is_clone = { λ x y. y ≡ x };
+
+    fn clone(&self) -> Result<MatchPower, AllocError> {
+        MatchPower::clone(self)
+    }
+}

@@ -240,18 +240,26 @@ impl ScopeRepository {
         }
     }
 
-    /// The text of a scope: the texts of its atoms, joined by dots. An atom number that the repository does not
-    /// have is written as `?`.
-    pub fn to_string(&self, scope: Scope) -> Result<String, AllocError>
-        ensures { IfOk result (λ text. string_bytes text ≡ scope_text self.now scope) }
+    /// Adds the text of a scope to a text. After an `Err` a part of it may have been added.
+    pub(crate) fn append_scope(&self, text: &mut String, scope: Scope) -> Result<(), AllocError>
+        ensures { OnOk result (string_bytes text.new ≡ string_bytes text.old ++ scope_text self.now scope) }
     {
-        let mut text = String::new(*self.atoms.allocator());
         for (i, atom) in scope.as_slice().iter().enumerate() {
             if i > 0 {
                 text.push('.')?;
             }
             text.push_str(self.atom_or_mark(*atom))?;
         }
+        Ok(())
+    }
+
+    /// The text of a scope: the texts of its atoms, joined by dots. An atom number that the repository does not
+    /// have is written as `?`.
+    pub fn to_string(&self, scope: Scope) -> Result<String, AllocError>
+        ensures { IfOk result (λ text. string_bytes text ≡ scope_text self.now scope) }
+    {
+        let mut text = String::new(*self.atoms.allocator());
+        self.append_scope(&mut text, scope)?;
         Ok(text)
     }
 }

@@ -4,7 +4,7 @@ use syntect_values::seq::Seq;
 use crate::stack::ScopeStack;
 
 /// A path of scopes that has to be found in a stack, and paths that must not be found there.
-#[derive(Debug, Drop)]
+#[derive(Debug, Drop, PartialEq, Eq)]
 pub struct ScopeSelector {
     /// The scopes of the path, the outermost first.
     pub path: ScopeStack,
@@ -13,7 +13,7 @@ pub struct ScopeSelector {
 }
 
 /// Selectors of which any one has to fit.
-#[derive(Debug, Drop)]
+#[derive(Debug, Drop, PartialEq, Eq)]
 pub struct ScopeSelectors {
     /// The selectors, in the order of the text.
     pub selectors: Seq<ScopeSelector>,

@@ -1,12 +1,14 @@
 //! Stacks of scopes and the operations on them.
-ghost use Rattle.std.specs.Prelude.{◌≡◌, ◌==◌, ◌<◌, ◌≤◌, ◌+◌, ◌-◌, ◌↔◌, [], ◌∷◌, ◌++◌, length, take, drop, List, ℕ, IsTrue, IsOk, IfOk, OnOk, OnErr, IsErrOf};
+ghost use Rattle.std.specs.Prelude.{◌≡◌, ◌==◌, ◌<◌, ◌≤◌, ◌+◌, ◌-◌, ◌↔◌, [], ◌∷◌, ◌++◌, length, take, drop, List, ℕ, IsTrue, IsOk, IfOk, OnOk, OnErr, IsErrOf, string_bytes};
 ghost use Rattle.syntect_scope.specs.Stack.{applied, IsRefused, TakesNoMemory, plain};
+ghost use Rattle.syntect_scope.specs.Repository.{scopes_text};
 ghost use Rattle.syntect_scope.specs.declared.stack.ScopeError.TheVariants.{Memory};
 
 use std::alloc::{AllocError, AllocFailed, Global};
 use syntect_values::seq::Seq;
 use thiserror::Error;
 
+use crate::repository::ScopeRepository;
 use crate::scope::Scope;
 
 /// Why an operation on a stack was refused. The stack is then as it was.
@@ -70,7 +72,7 @@ pub enum BasicScopeStackOp {
 }
 
 /// A stack of scopes, the outermost at the bottom.
-#[derive(Debug, Drop)]
+#[derive(Debug, Drop, PartialEq, Eq)]
 pub struct ScopeStack {
     clear_stack: Seq<Seq<Scope>>,
     /// The scopes, the bottom one first.
@@ -96,6 +98,13 @@ impl ScopeStack {
             clear_stack: Seq::new(*scopes.allocator()),
             scopes: Seq::from_vec(scopes),
         }
+    }
+
+    /// No scopes, and none remembered: `new`.
+    pub fn default(alloc: Global) -> ScopeStack
+        ensures { result ≡ plain [] }
+    {
+        ScopeStack::new(alloc)
     }
 
     /// The same stack once more, with the scopes that it remembers.
@@ -160,6 +169,18 @@ impl ScopeStack {
         let _ = self.scopes.pop();
     }
 
+    /// The texts of the scopes in a repository, the bottom one first, each followed by one space.
+    pub fn build_string(&self, repository: &ScopeRepository) -> Result<String, AllocError>
+        ensures { IfOk result (λ text. string_bytes text ≡ scopes_text repository.now self.now.scopes) }
+    {
+        let mut text = String::new(self.scopes.allocator());
+        for scope in self.scopes.as_slice() {
+            repository.append_scope(&mut text, *scope)?;
+            text.push(' ')?;
+        }
+        Ok(text)
+    }
+
     /// Applies an operation. A refusal changes nothing. `Pop` and `Noop` take no memory.
     pub fn apply(&mut self, op: &ScopeStackOp) -> Result<(), ScopeError>
         ensures ok { OnOk result (self.new ≡ applied op.now self.old) }
@@ -199,5 +220,13 @@ impl ScopeStack {
         self.clear_stack.push(remembered)?;
         self.scopes.truncate(keep);
         Ok(())
+    }
+}
+
+impl Clone for ScopeStack {
+    ghost is_clone = { λ x y. y ≡ x };
+
+    fn clone(&self) -> Result<ScopeStack, AllocError> {
+        ScopeStack::clone(self)
     }
 }
