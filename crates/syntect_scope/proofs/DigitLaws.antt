@@ -65,10 +65,10 @@ times_ge (suc r) p h = omega arith
 pub digit_left : (bs : List Bool) (i rest total n : ℕ) → number_of bs + rest * 2 ^ i ≡ total → total < 2 ^ n → n ≡ length bs → 0 < rest → i < length bs
 digit_left bs i rest total n h t e r =
     elim (cases_lt i (length bs)) [
-      inl l ↦ l
-    | inr g ↦
-        let m : 2 ^ n ≤ 2 ^ i = pow-le-pow_right (lit< tt) (omega (arith, g, e)) in
-        absurd (omega (arith, h, t, m, times_ge rest (2 ^ i) r))
+      | inl l ↦ l
+      | inr g ↦
+          let m : 2 ^ n ≤ 2 ^ i = pow-le-pow_right (lit< tt) (omega (arith, g, e)) in
+          absurd (omega (arith, h, t, m, times_ge rest (2 ^ i) r))
     ]
 
 -- ---- the highest digit ----
@@ -109,10 +109,10 @@ same_digits (false ∷ a) (true ∷ b) l e = absurd (omega (arith, e))
 pub same_number : (a b : List Bool) → IsNormal a → IsNormal b → number_of a ≡ number_of b → a ≡ b
 same_number a b n m e =
     elim (cases_lt (length a) (length b)) [
-      inl l ↦ absurd (omega (arith, e, shorter_less a b m l))
-    | inr g ↦ elim (cases_lt (length b) (length a)) [
-        inl l ↦ absurd (omega (arith, e, shorter_less b a n l))
-      | inr k ↦ same_digits a b (omega (arith, g, k)) e
+      | inl l ↦ absurd (omega (arith, e, shorter_less a b m l))
+      | inr g ↦ elim (cases_lt (length b) (length a)) [
+        | inl l ↦ absurd (omega (arith, e, shorter_less b a n l))
+        | inr k ↦ same_digits a b (omega (arith, g, k)) e
       ]
     ]
 
@@ -147,10 +147,10 @@ higher_cmp a b i l k e h = go (get_or a i false) (get_or b i false) refl refl h
 pub length_cmp : (a b : List Bool) → IsNormal a → IsNormal b → (nat_cmp (length a) (length b) ≡ Equal → ⊥) → nat_cmp (length a) (length b) ≡ nat_cmp (number_of a) (number_of b)
 length_cmp a b n m d =
     elim (cases_lt (length a) (length b)) [
-      inl l ↦ sym (nat_cmp_is (length a) (length b) Less l) ∙ nat_cmp_is (number_of a) (number_of b) Less (shorter_less a b m l)
-    | inr g ↦ elim (cases_lt (length b) (length a)) [
-        inl l ↦ sym (nat_cmp_is (length a) (length b) Greater l) ∙ nat_cmp_is (number_of a) (number_of b) Greater (shorter_less b a n l)
-      | inr k ↦ let e : length a ≡ length b = omega (arith, g, k) in absurd (d (sym (nat_cmp_is (length a) (length b) Equal e)))
+      | inl l ↦ sym (nat_cmp_is (length a) (length b) Less l) ∙ nat_cmp_is (number_of a) (number_of b) Less (shorter_less a b m l)
+      | inr g ↦ elim (cases_lt (length b) (length a)) [
+        | inl l ↦ sym (nat_cmp_is (length a) (length b) Greater l) ∙ nat_cmp_is (number_of a) (number_of b) Greater (shorter_less b a n l)
+        | inr k ↦ let e : length a ≡ length b = omega (arith, g, k) in absurd (d (sym (nat_cmp_is (length a) (length b) Equal e)))
       ]
     ]
 
@@ -158,8 +158,8 @@ length_cmp a b n m d =
 pub digit_of : (n : ℕ) → digit (nat_eq (n % 2) 1) ≡ n % 2
 digit_of n =
     elim (cases_lt (n % 2) 1) [
-      inl l ↦ let z : n % 2 ≡ 0 = omega (arith, l) in rw z refl
-    | inr g ↦ let z : n % 2 ≡ 1 = omega (arith, g) in rw z refl
+      | inl l ↦ let z : n % 2 ≡ 0 = omega (arith, l) in rw z refl
+      | inr g ↦ let z : n % 2 ≡ 1 = omega (arith, g) in rw z refl
     ]
 
 pub bool_digit : (b : Bool) → bool_byte b ≡ digit b

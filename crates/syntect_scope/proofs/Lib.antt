@@ -2,3 +2,4 @@ pub mod AtomLaws
 pub mod DigitLaws
 pub mod DotLaws
 pub mod RepositoryLaws
+pub mod WordLaws

@@ -1,6 +1,7 @@
 -- The repository grows at its end, and numbers stay.
 use Rattle.std.proofs.Common.{◌≡◌, ◌==◌, ℕ, zero, suc, ◌+◌, ◌≤◌, ◌<◌, Bool, true, false, List, [], ◌∷◌, ◌++◌, length, take, refl, ap, sym, ◌∙◌, ◌||◌, arith, Option, Some, None, is_some, if◌then◌else◌, length-append, append_assoc, map, drop, get_or, Bor}
 use Rattle.std.specs.Option.{option_map_or, option_map}
+use Rattle.std.specs.Prelude.{Result, Ok, Err, IsErrOf}
 use Rattle.std.specs.List.{position_from, list_any, join_with_byte}
 use Rattle.std.proofs.lemmas.List.Folds.{list_any-append}
 use Rattle.std.proofs.lemmas.Slice.Eq.{bytes_eq-Decides}
@@ -8,7 +9,7 @@ use Rattle.std.specs.Cmp.Lexicographic.{pointwise}
 use Rattle.std.proofs.lemmas.Bool.Decides.{nat_tests, same_from_decides, Decides-like}
 use Rattle.std.proofs.lemmas.List.{append-nil, length-take, take-append-le}
 use Rattle.std.specs.Str.{bytes_eq}
-use Rattle.syntect_scope.specs.Repository.{with_atom, with_atoms, number_in, place_in, atom_text, scope_text, IsDistinct, IsRepository}
+use Rattle.syntect_scope.specs.Repository.{with_atom, with_atoms, number_in, place_in, scope_in, with_scopes, atom_texts, is_too_long, atom_text, scope_text, IsDistinct, IsRepository}
 
 same : (n : ℕ) → (n == n) ≡ true
 same n = grind (arith, nat_tests)
@@ -98,8 +99,8 @@ pub given_more : (d : Bor (List ℕ)) {new : List (List ℕ)} {n : ℕ} (old sel
     → (scope ++ n ∷ []) ++ map (number_in (with_atoms old (map (λ x. x.now) parts))) (map (λ x. x.now) (drop (i + 1) parts)) ≡ map (number_in (with_atoms old (map (λ x. x.now) parts))) (map (λ x. x.now) parts)
 given_more d {new} {n} old self scope parts i l e f a g =
     let nn : n ≡ number_in (with_atoms old (map (λ x. x.now) parts)) (get_or parts i d).now =
-      f ∙ ap (λ (k : List (List ℕ)). number_in k (get_or parts i d).now) e ∙ sym (number_stays self (map (λ x. x.now) (drop (i + 1) parts)) (get_or parts i d).now)
-        ∙ ap (λ (k : List (List ℕ)). number_in k (get_or parts i d).now) (sym (texts_step self parts i d l) ∙ a) in
+    f ∙ ap (λ (k : List (List ℕ)). number_in k (get_or parts i d).now) e ∙ sym (number_stays self (map (λ x. x.now) (drop (i + 1) parts)) (get_or parts i d).now)
+    ∙ ap (λ (k : List (List ℕ)). number_in k (get_or parts i d).now) (sym (texts_step self parts i d l) ∙ a) in
     rw nn (sym (numbers_step (with_atoms old (map (λ x. x.now) parts)) scope parts i d l) ∙ g)
 
 pub too_many_grows : (d : Bor (List ℕ)) (old self : List (List ℕ)) (parts : List (Bor (List ℕ))) (i : ℕ) → i < length parts
@@ -199,7 +200,7 @@ join_last x (z ∷ xs) y = ap (λ (l : List ℕ). x ++ (46 ∷ l)) (join_last z 
 pub whole_more : (r : List (List ℕ)) (t : List ℕ) → IsRepository r → place_in r t ≡ None → length r < 65534 → IsRepository (r ++ t ∷ [])
 whole_more r t whole absent room = record {
   limit = omega (arith, length-append r (t ∷ []), room);
-  distinct = distinct_more r t whole.distinct (place_absent t r 0 absent)
+  distinct = distinct_more r t whole.distinct (place_absent t r 0 absent);
 }
 
 -- one more atom
@@ -221,3 +222,126 @@ pub text_first : (repo : List (List ℕ)) (atoms : List ℕ) (i d : ℕ) → i <
 text_first repo [] i d l z = absurd (omega arith)
 text_first repo (a ∷ atoms) zero d l z = refl
 text_first repo (a ∷ atoms) (suc i) d l z = absurd (omega arith)
+
+-- ---- several scopes ----
+
+holds_if : (b : Bool) (i : ℕ) (o o' : Option ℕ) → (is_some o ≡ true → is_some o' ≡ true) → is_some (if b then Some i else o) ≡ true → is_some (if b then Some i else o') ≡ true
+holds_if true i o o' h e = refl
+holds_if false i o o' h e = h e
+
+-- a text that is there is there among more
+place_more : (t : List ℕ) (xs ys : List (List ℕ)) → is_some (place_in xs t) ≡ true → place_in (xs ++ ys) t ≡ place_in xs t
+place_more t xs ys h = found_stays (bytes_eq t) xs ys 0 h
+
+-- each text that was taken up is there
+number_more : (r ts rest : List (List ℕ)) (t : List ℕ) → number_in (with_atoms (with_atom r t) ts ++ rest) t ≡ number_in (with_atoms (with_atom r t) ts) t
+number_more r ts rest t =
+    let g : (more : List (List ℕ)) × (with_atoms (with_atom r t) ts ≡ with_atom r t ++ more) = grows (with_atom r t) ts in
+    let here : place_in (with_atom r t ++ g.0) t ≡ place_in (with_atom r t) t = place_more t (with_atom r t) g.0 (has_atom r t) in
+    let some : is_some (place_in (with_atoms (with_atom r t) ts) t) ≡ true = ap (λ (l : List (List ℕ)). is_some (place_in l t)) g.1 ∙ ap is_some here ∙ has_atom r t in
+    ap (λ (o : Option ℕ). option_map_or (λ i. i + 1) o 0) (place_more t (with_atoms (with_atom r t) ts) rest some)
+
+pub numbers_stay : (r ts rest : List (List ℕ)) → map (number_in (with_atoms r ts ++ rest)) ts ≡ map (number_in (with_atoms r ts)) ts
+numbers_stay r [] rest = refl
+numbers_stay r (t ∷ ts) rest = go (number_more r ts rest t) (numbers_stay (with_atom r t) ts rest)
+  where
+    go : {x y : ℕ} {xs ys : List ℕ} → x ≡ y → xs ≡ ys → x ∷ xs ≡ y ∷ ys
+    go e f = rw (e, f) refl
+
+pub scopes_grow : (r texts : List (List ℕ)) → (rest : List (List ℕ)) × (with_scopes r texts ≡ r ++ rest)
+scopes_grow r [] = ([], sym (append-nil r))
+scopes_grow r (t ∷ texts) =
+    let one : (rest : List (List ℕ)) × (with_atoms r (atom_texts t) ≡ r ++ rest) = grows r (atom_texts t) in
+    let all : (rest : List (List ℕ)) × (with_scopes (with_atoms r (atom_texts t)) texts ≡ with_atoms r (atom_texts t) ++ rest) = scopes_grow (with_atoms r (atom_texts t)) texts in
+    (one.0 ++ all.0, all.1 ∙ ap (λ (l : List (List ℕ)). l ++ all.0) one.1 ∙ append_assoc r one.0 all.0)
+
+-- a scope keeps its numbers while others are read
+pub scope_stays : (r texts : List (List ℕ)) (t : List ℕ) → scope_in (with_scopes (with_atoms r (atom_texts t)) texts) t ≡ scope_in (with_atoms r (atom_texts t)) t
+scope_stays r texts t =
+    let g : (rest : List (List ℕ)) × (with_scopes (with_atoms r (atom_texts t)) texts ≡ with_atoms r (atom_texts t) ++ rest) = scopes_grow (with_atoms r (atom_texts t)) texts in
+    ap (λ (l : List (List ℕ)). scope_in l t) g.1 ∙ numbers_stay r (atom_texts t) g.0
+
+-- ---- reading scopes one after another ----
+
+pub scopes_step : (self : List (List ℕ)) (parts : List (Bor (List ℕ))) (i : ℕ) (d : Bor (List ℕ)) → i < length parts
+    → with_scopes self (map (λ x. x.now) (drop i parts)) ≡ with_scopes (with_atoms self (atom_texts (get_or parts i d).now)) (map (λ x. x.now) (drop (i + 1) parts))
+scopes_step self [] i d l = absurd (omega arith)
+scopes_step self (p ∷ parts) zero d l = refl
+scopes_step self (p ∷ parts) (suc i) d l = let z : suc i + 1 ≡ suc (i + 1) = omega arith in rw z (scopes_step self parts i d (omega arith))
+
+scopes_given_step : (all : List (List ℕ)) (scopes : List (List ℕ)) (parts : List (Bor (List ℕ))) (i : ℕ) (d : Bor (List ℕ)) → i < length parts
+    → scopes ++ map (scope_in all) (map (λ x. x.now) (drop i parts)) ≡ (scopes ++ scope_in all (get_or parts i d).now ∷ []) ++ map (scope_in all) (map (λ x. x.now) (drop (i + 1) parts))
+scopes_given_step all scopes [] i d l = absurd (omega arith)
+scopes_given_step all scopes (p ∷ parts) zero d l = sym (append_assoc scopes _ _)
+scopes_given_step all scopes (p ∷ parts) (suc i) d l = let z : suc i + 1 ≡ suc (i + 1) = omega arith in rw z (scopes_given_step all scopes parts i d (omega arith))
+
+-- one more scope is given
+pub scope_more : (d : Bor (List ℕ)) {new : List (List ℕ)} {s : List ℕ} (old self : List (List ℕ)) (scopes : List (List ℕ)) (parts : List (Bor (List ℕ))) (i : ℕ) → i < length parts
+    → new ≡ with_atoms self (atom_texts (get_or parts i d).now) → s ≡ scope_in new (get_or parts i d).now
+    → with_scopes self (map (λ x. x.now) (drop i parts)) ≡ with_scopes old (map (λ x. x.now) parts)
+    → scopes ++ map (scope_in (with_scopes old (map (λ x. x.now) parts))) (map (λ x. x.now) (drop i parts)) ≡ map (scope_in (with_scopes old (map (λ x. x.now) parts))) (map (λ x. x.now) parts)
+    → (scopes ++ s ∷ []) ++ map (scope_in (with_scopes old (map (λ x. x.now) parts))) (map (λ x. x.now) (drop (i + 1) parts)) ≡ map (scope_in (with_scopes old (map (λ x. x.now) parts))) (map (λ x. x.now) parts)
+scope_more d {new} {s} old self scopes parts i l e f a g =
+    let ss : s ≡ scope_in (with_scopes old (map (λ x. x.now) parts)) (get_or parts i d).now =
+      f ∙ ap (λ (k : List (List ℕ)). scope_in k (get_or parts i d).now) e ∙ sym (scope_stays self (map (λ x. x.now) (drop (i + 1) parts)) (get_or parts i d).now)
+        ∙ ap (λ (k : List (List ℕ)). scope_in k (get_or parts i d).now) (sym (scopes_step self parts i d l) ∙ a) in
+    rw ss (sym (scopes_given_step (with_scopes old (map (λ x. x.now) parts)) scopes parts i d l) ∙ g)
+
+pub scopes_too_many : (d : Bor (List ℕ)) (old self : List (List ℕ)) (parts : List (Bor (List ℕ))) (i : ℕ) → i < length parts
+    → with_scopes self (map (λ x. x.now) (drop i parts)) ≡ with_scopes old (map (λ x. x.now) parts)
+    → 65534 < length (with_atoms self (atom_texts (get_or parts i d).now)) → 65534 < length (with_scopes old (map (λ x. x.now) parts))
+scopes_too_many d old self parts i l a m =
+    let next = with_atoms self (atom_texts (get_or parts i d).now) in
+    let g : (rest : List (List ℕ)) × (with_scopes next (map (λ x. x.now) (drop (i + 1) parts)) ≡ next ++ rest) = scopes_grow next (map (λ x. x.now) (drop (i + 1) parts)) in
+    omega (arith, m, ap length (sym (scopes_step self parts i d l) ∙ a), ap length g.1, length-append next g.0)
+
+-- a text that passes a test is among those that do
+pub any_at : (p : List ℕ → Bool) (parts : List (Bor (List ℕ))) (i : ℕ) (d : Bor (List ℕ)) → i < length parts → p (get_or parts i d).now ≡ true → list_any p (map (λ x. x.now) parts) ≡ true
+any_at p [] i d l h = absurd (omega arith)
+any_at p (x ∷ parts) zero d l h = rw h refl
+any_at p (x ∷ parts) (suc i) d l h = or_right (p x.now) (any_at p parts i d (omega arith) h)
+  where
+    or_right : (b : Bool) {o : Bool} → o ≡ true → (b || o) ≡ true
+    or_right true e = refl
+    or_right false e = e
+
+pub none_more : (p : List ℕ → Bool) (parts : List (Bor (List ℕ))) (i : ℕ) (d : Bor (List ℕ)) → i < length parts → p (get_or parts i d).now ≡ false
+    → list_any p (map (λ x. x.now) (take i parts)) ≡ false → list_any p (map (λ x. x.now) (take (i + 1) parts)) ≡ false
+none_more p [] i d l h n = absurd (omega arith)
+none_more p (x ∷ parts) zero d l h n = or_neither _ _ h refl
+none_more p (x ∷ parts) (suc i) d l h n =
+    let z : suc i + 1 ≡ suc (i + 1) = omega arith in
+    let both : (p x.now ≡ false) × (list_any p (map (λ x. x.now) (take i parts)) ≡ false) = or_both _ _ n in
+    rw z (or_neither _ _ both.0 (none_more p parts i d (omega arith) h both.1))
+
+pub long_test : (text : List ℕ) → 8 < length (atom_texts text) → is_too_long text ≡ true
+long_test text h = grind (arith, nat_tests)
+
+pub short_test : (text : List ℕ) → (8 < length (atom_texts text) → ⊥) → is_too_long text ≡ false
+short_test text h = grind (arith, nat_tests)
+
+pub kept_more : (d : Bor (List ℕ)) {new : List (List ℕ)} (old self : List (List ℕ)) (parts : List (Bor (List ℕ))) (i : ℕ) → new ≡ with_atoms self (atom_texts (get_or parts i d).now)
+    → take (length old) self ≡ old → take (length old) new ≡ old
+kept_more d {new} old self parts i e h = rw e (front_stays old self (atom_texts (get_or parts i d).now) h)
+
+pub long_at : (d : Bor (List ℕ)) (parts : List (Bor (List ℕ))) (i : ℕ) → i < length parts → 8 < length (atom_texts (get_or parts i d).now) → list_any is_too_long (map (λ x. x.now) parts) ≡ true
+long_at d parts i l h = any_at is_too_long parts i d l (long_test (get_or parts i d).now h)
+
+pub short_more : (d : Bor (List ℕ)) (parts : List (Bor (List ℕ))) (i : ℕ) → i < length parts → (8 < length (atom_texts (get_or parts i d).now) → ⊥)
+    → list_any is_too_long (map (λ x. x.now) (take i parts)) ≡ false → list_any is_too_long (map (λ x. x.now) (take (i + 1) parts)) ≡ false
+short_more d parts i l h n = none_more is_too_long parts i d l (short_test (get_or parts i d).now h) n
+
+-- ---- refusals of calls that answer different things ----
+
+abbrev error_or : {T E : Type 0} → E → Result T E → E
+error_or d (Ok x) = d
+error_or d (Err e) = e
+
+abbrev err_in : {E : Type 0} (U : Type 0) → E → Result U E
+err_in U e = Err e
+
+pub carried : {T E : Type 0} (U : Type 0) {a b : E} → IsErrOf {T = T} {E = E} (Err a) b → IsErrOf {T = U} {E = E} (Err a) b
+carried U {a} e = ap (err_in U) (ap (error_or a) e)
+
+pub no_error : {T E : Type 0} {x : T} {e : E} → Ok x ≡ Err e → ⊥
+no_error h = cc

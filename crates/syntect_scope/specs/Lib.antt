@@ -4,3 +4,4 @@ pub mod Replay
 pub mod Digits
 pub mod Choice
 pub mod Repository
+pub mod Words

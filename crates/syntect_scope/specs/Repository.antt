@@ -1,5 +1,5 @@
 -- Texts of scopes and the repository of atoms: the list of the atoms' texts, where atom k is the k-th text, from 1.
-use Rattle.std.specs.Prelude.{◌≡◌, ℕ, zero, suc, ◌==◌, ◌+◌, ◌≤◌, Bool, true, false, List, [], ◌∷◌, ◌++◌, length, map, is_some, if◌then◌else◌, Option, Some, None, unwrap_or, slice_get}
+use Rattle.std.specs.Prelude.{◌≡◌, ℕ, zero, suc, ◌==◌, nat_lt, ◌+◌, ◌≤◌, Bool, true, false, List, [], ◌∷◌, ◌++◌, length, map, is_some, if◌then◌else◌, Option, Some, None, unwrap_or, slice_get}
 use Rattle.std.specs.Option.{option_map_or}
 use Rattle.std.specs.List.{slice_split, position_from, list_any, join_with_byte}
 use Rattle.std.specs.Str.{bytes_eq}
@@ -53,6 +53,15 @@ with_atoms repo (t ∷ ts) = with_atoms (with_atom repo t) ts
 -- the scope that a text names in a repository
 abbrev pub scope_in : List (List ℕ) → List ℕ → List ℕ
 scope_in repo text = map (number_in repo) (atom_texts text)
+
+-- the repository with the atoms of each of the scopes
+abbrev pub with_scopes : List (List ℕ) → List (List ℕ) → List (List ℕ)
+with_scopes repo [] = repo
+with_scopes repo (text ∷ texts) = with_scopes (with_atoms repo (atom_texts text)) texts
+
+-- a text names more than eight atoms
+abbrev pub is_too_long : List ℕ → Bool
+is_too_long text = nat_lt 8 (length (atom_texts text))
 
 -- ---- the text of a scope ----
 

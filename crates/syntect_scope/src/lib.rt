@@ -9,3 +9,5 @@ pub mod repository;
 pub mod scope;
 pub mod selector;
 pub mod stack;
+#[cfg(test)]
+mod tests;

@@ -1,18 +1,20 @@
 //! The repository of atoms: their texts, each with its number.
-ghost use Rattle.std.specs.Prelude.{◌≡◌, ◌≢◌, ◌==◌, ◌<◌, ◌≤◌, ◌+◌, ◌-◌, ◌↔◌, [], ◌∷◌, ◌++◌, length, map, take, List, ℕ, IsTrue, IsErr, IfOk, OnOk, OnErr, IfErr, IsErrOf, IfSome, IfNone, string_bytes, None};
+ghost use Rattle.std.specs.Prelude.{◌≡◌, ◌≢◌, ◌==◌, ◌<◌, ◌≤◌, ◌+◌, ◌-◌, ◌↔◌, [], ◌∷◌, ◌++◌, length, map, take, List, ℕ, IsTrue, IsErr, IfOk, OnOk, OnErr, IfErr, IsErrOf, IfSome, IfNone, string_bytes, None, true};
 ghost use Rattle.std.specs.Option.{option_copied, option_map};
-ghost use Rattle.std.specs.List.{slice_split};
+ghost use Rattle.std.specs.List.{slice_split, list_any};
 ghost use Rattle.std.specs.Str.{trim};
-ghost use Rattle.syntect_scope.specs.Repository.{atom_in, atom_text, atom_texts, place_in, scope_in, scope_text, with_atom, with_atoms, number_in, without_dots, IsRepository};
+ghost use Rattle.syntect_scope.specs.Repository.{atom_in, atom_text, atom_texts, place_in, scope_in, scope_text, with_atom, with_atoms, with_scopes, is_too_long, number_in, without_dots, IsRepository};
+ghost use Rattle.syntect_scope.specs.Stack.{plain};
+ghost use Rattle.syntect_scope.specs.Words.{words};
 ghost use Rattle.syntect_scope.specs.declared.repository.ParseScopeError.TheVariants.{Memory};
 
+use crate::scope::Scope;
+use crate::stack::ScopeStack;
 use std::alloc::{AllocError, AllocFailed, Global};
 use std::collections::HashMap;
 use std::marker::Model;
 use syntect_values::text::Text;
 use thiserror::Error;
-
-use crate::scope::Scope;
 
 /// Why a text is no scope. The repository is then as it was.
 #[derive(Debug, Drop, PartialEq, Eq, Error)]
@@ -86,6 +88,13 @@ fn trimmed(s: &str) -> &str
     ensures { result.now ≡ without_dots s.now }
 {
     s.trim_end_matches('.')
+}
+
+/// The words of a text.
+fn words_of(alloc: Global, s: &str) -> Result<Vec<&str>, AllocError>
+    ensures { IfOk result (λ v. map (λ x. x.now) v.items ≡ words s.now) }
+{
+    s.split_whitespace().collect(alloc)
 }
 
 impl ScopeRepository {
@@ -283,5 +292,36 @@ impl Scope {
         ensures { IfOk result (λ text. string_bytes text ≡ scope_text repository.now self) }
     {
         repository.to_string(self)
+    }
+}
+
+impl ScopeStack {
+    /// The scopes that a text names, separated by white space, the bottom one first. A refusal is that of the first
+    /// scope that is refused, or want of memory; the repository may then have more atoms, and the old ones keep
+    /// their numbers.
+    pub fn from_text(
+        alloc: Global,
+        s: &str,
+        repository: &mut ScopeRepository,
+    ) -> Result<ScopeStack, ParseScopeError>
+        ensures atoms { OnOk result (repository.new ≡ with_scopes repository.old (words s.now)) }
+        ensures scopes { IfOk result (λ stack. stack ≡ plain (map (scope_in repository.new) (words s.now))) }
+        ensures too_long { IsErrOf result ParseScopeError.TooLong → list_any is_too_long (words s.now) ≡ true }
+        ensures long { list_any is_too_long (words s.now) ≡ true → IsErr result }
+        ensures too_many { IsErrOf result ParseScopeError.TooManyAtoms → 65534 < length (with_scopes repository.old (words s.now)) }
+        ensures full { 65534 < length (with_scopes repository.old (words s.now)) → IsErr result }
+        ensures whole { IsRepository repository.new }
+        ensures kept { take (length repository.old) repository.new ≡ repository.old }
+    {
+        let _ = &repository.atoms;
+        let words = words_of(alloc, s)?;
+        let mut scopes = Vec::new(alloc);
+        for word in &words {
+            match repository.build(word) {
+                Ok(scope) => scopes.push(scope)?,
+                Err(e) => return Err(e),
+            }
+        }
+        Ok(ScopeStack::from_vec(scopes))
     }
 }

@@ -1,7 +1,6 @@
 //! Selectors: which stacks of scopes a rule speaks of.
-use syntect_values::seq::Seq;
-
 use crate::stack::ScopeStack;
+use syntect_values::seq::Seq;
 
 /// A path of scopes that has to be found in a stack, and paths that must not be found there.
 #[derive(Debug, Drop, PartialEq, Eq)]

@@ -4,12 +4,11 @@ ghost use Rattle.syntect_scope.specs.Stack.{applied, IsRefused, TakesNoMemory, p
 ghost use Rattle.syntect_scope.specs.Repository.{scopes_text};
 ghost use Rattle.syntect_scope.specs.declared.stack.ScopeError.TheVariants.{Memory};
 
+use crate::repository::ScopeRepository;
+use crate::scope::Scope;
 use std::alloc::{AllocError, AllocFailed, Global};
 use syntect_values::seq::Seq;
 use thiserror::Error;
-
-use crate::repository::ScopeRepository;
-use crate::scope::Scope;
 
 /// Why an operation on a stack was refused. The stack is then as it was.
 #[derive(Debug, Drop, PartialEq, Eq, Error)]
@@ -113,10 +112,7 @@ impl ScopeStack {
     {
         let mut clear_stack = Seq::new(self.scopes.allocator());
         for cleared in self.clear_stack.as_slice() {
-            clear_stack.push(Seq::from_slice(
-                self.scopes.allocator(),
-                cleared.as_slice(),
-            )?)?;
+            clear_stack.push(Seq::from_slice(self.scopes.allocator(), cleared.as_slice())?)?;
         }
         Ok(ScopeStack {
             clear_stack,

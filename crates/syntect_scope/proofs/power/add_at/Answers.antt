@@ -31,5 +31,5 @@ loop-rest-preserved c =
     record {
       sum = rw d (add_step _ c.args.count c.args.low c.loop-rest.bits.items c.loop-rest.i c.loop-rest.rest c.index.result.now _ l (digit_of (c.loop-rest.rest + digit (get_or c.loop-rest.bits.items c.loop-rest.i c.index.result.now))) c.loop-rest.invariant.sum);
       small = omega (arith, one, c.loop-rest.invariant.small);
-      len = rw length-set c.loop-rest.invariant.len
+      len = rw length-set c.loop-rest.invariant.len;
     }

@@ -8,11 +8,11 @@ add_at-requires c =
     let items : length c.reserve-2.new.self.items ≡ length c.self.inside.bits.items = ap length c.in_ok-reserve-2.ensures.items in
     let len : c.len.result ≡ length c.self.inside.bits.items = c.len.ensures ∙ c.self.inside.bits.ok.0 in
     sum_below (number_of c.pad.new.bits.items) (number_of c.self.inside.bits.items) (length c.self.inside.bits.items) c.args.count (c.in-Some.top - 32) (length c.pad.new.bits.items)
-      (c.pad.ensures.value ∙ ap number_of c.in_ok-reserve-2.ensures.items)
-      (number_below c.self.inside.bits.items)
-      c.ranges.count.fits
-      (omega (arith, c.pad.ensures.len, items, len, c.max-digits.ensures))
-      (omega (arith, c.pad.ensures.len, items, len, c.max-digits.ensures, c.in-Some.ensures.0))
+    (c.pad.ensures.value ∙ ap number_of c.in_ok-reserve-2.ensures.items)
+    (number_below c.self.inside.bits.items)
+    c.ranges.count.fits
+    (omega (arith, c.pad.ensures.len, items, len, c.max-digits.ensures))
+    (omega (arith, c.pad.ensures.len, items, len, c.max-digits.ensures, c.in-Some.ensures.0))
 
 pub returns-clause-ok : goal.returns-clause-ok
 returns-clause-ok c =

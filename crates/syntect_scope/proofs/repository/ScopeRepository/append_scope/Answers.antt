@@ -15,12 +15,12 @@ loop-i-preserved c =
     let written : string_bytes c.push_str.new.self ≡ string_bytes c.if-i-gt0.text ++ word = c.in_ok-push_str.ensures.bytes ∙ ap (λ (l : List ℕ). string_bytes c.if-i-gt0.text ++ l) c.atom_or_mark.ensures in
     let within : c.loop-i.i < length atoms = c.loop-i-test.true in
     elim c.if-i-gt0.branch [
-      then-i-gt0+in_ok-push w ↦
-        let dotted : string_bytes c.if-i-gt0.text ≡ before ++ front ++ 46 ∷ [] =
+      | then-i-gt0+in_ok-push w ↦
+          let dotted : string_bytes c.if-i-gt0.text ≡ before ++ front ++ 46 ∷ [] =
           ap string_bytes w.text-is ∙ w.in_ok-push.ensures.bytes ∙ ap (λ (l : List ℕ). string_bytes c.loop-i.text ++ l) (encode_ascii 46 (lit< tt)) ∙ ap (λ (l : List ℕ). l ++ 46 ∷ []) c.loop-i.invariant in
-        written ∙ ap (λ (l : List ℕ). l ++ word) dotted ∙ append_assoc (before ++ front) (46 ∷ []) word ∙ append_assoc before front (46 ∷ word)
-        ∙ ap (λ (l : List ℕ). before ++ l) (sym (text_last c.args.self.now atoms c.loop-i.i 0 within w.if-i-gt0.true))
-    | else-i-gt0 w ↦
-        written ∙ ap (λ (l : List ℕ). l ++ word) (ap string_bytes w.text-is ∙ c.loop-i.invariant) ∙ append_assoc before front word
-        ∙ ap (λ (l : List ℕ). before ++ l) (sym (text_first c.args.self.now atoms c.loop-i.i 0 within w.if-i-gt0.false))
+          written ∙ ap (λ (l : List ℕ). l ++ word) dotted ∙ append_assoc (before ++ front) (46 ∷ []) word ∙ append_assoc before front (46 ∷ word)
+          ∙ ap (λ (l : List ℕ). before ++ l) (sym (text_last c.args.self.now atoms c.loop-i.i 0 within w.if-i-gt0.true))
+      | else-i-gt0 w ↦
+          written ∙ ap (λ (l : List ℕ). l ++ word) (ap string_bytes w.text-is ∙ c.loop-i.invariant) ∙ append_assoc before front word
+          ∙ ap (λ (l : List ℕ). before ++ l) (sym (text_first c.args.self.now atoms c.loop-i.i 0 within w.if-i-gt0.false))
     ]

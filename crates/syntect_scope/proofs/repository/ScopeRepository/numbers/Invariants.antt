@@ -11,5 +11,5 @@ invariant-loop-part l =
       given : l.scope ++ map (number_in (with_atoms l.fn.self texts)) rest ≡ map (number_in (with_atoms l.fn.self texts)) texts;
       grown : take (length l.fn.self) l.self ≡ l.fn.self;
       count : length l.scope ≡ l.part-index;
-      whole : IsRepository l.self
+      whole : IsRepository l.self;
     }

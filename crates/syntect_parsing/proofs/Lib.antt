@@ -1,0 +1,12 @@
+pub mod Once
+pub mod Finds
+pub mod Cover
+pub mod Run
+pub mod Room
+pub mod Falls
+pub mod Rows
+pub mod LongRows
+pub mod Places
+pub mod Open
+pub mod LinkLaws
+pub mod DialectLaws

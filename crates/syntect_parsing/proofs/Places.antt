@@ -1,0 +1,153 @@
+-- Each turn of a text begins on a character boundary.
+use Rattle.std.proofs.Common.{◌≡◌, ℕ, ◌+◌, ◌<◌, ◌≤◌, nat_lt, Bool, true, false, not, ◌&&◌, List, [], ◌∷◌, length, find, drop, Option, Some, None, refl, ap, sym, ◌∙◌, arith, length-drop, if◌then◌else◌}
+use Rattle.std.specs.List.{filter_map, cons_option, slice_get}
+use Rattle.std.specs.Option.{option_map_or}
+use Rattle.std.specs.Str.{IsUtf8, IsCharBoundary, chars}
+use Rattle.std.specs.Char.{len_utf8}
+use Rattle.std.proofs.Math.Utf8.{encodes}
+use Rattle.std.proofs.lemmas.Bool.Decides.{nat_tests}
+use Rattle.std.proofs.lemmas.Str.{IsUtf8-drop, encodes-chars, IsCharBoundary-past_char, IsCharBoundary-start}
+use Rattle.syntect_pattern.specs.Text.{char_at}
+use Rattle.syntect_parsing.specs.Contexts.{context_at}
+use Rattle.syntect_parsing.specs.Chain.{Member, last, chain, prototypes_in}
+use Rattle.syntect_parsing.specs.Engine.{Engine, Groups}
+use Rattle.syntect_parsing.specs.Position.{Position}
+use Rattle.syntect_parsing.specs.Turn.{Live, Choice, Take, Skip, End, counts, counted, matched, live, live_match, searched_text, group_at, choice_of, winner, is_least, loops, char_len, missing, refusal, position_after, trimmed}
+use Rattle.syntect_parsing.specs.Scopes.{scopes_passed}
+use Rattle.syntect_parsing.specs.Line.{Step, Goes, Ends, Refused, turn, turn_on, turn_in, step, unless_refused, at_start, Reaches, here, further}
+use Rattle.syntect_parsing.specs.Laws.{FindsInText, StandsIn, PlacesAreBoundaries}
+use Rattle.syntect_parsing.specs.declared.syntax_definition.Context.{Context}
+use Rattle.syntect_parsing.specs.declared.syntax_set.SyntaxSet.{SyntaxSet}
+use Rattle.syntect_parsing.specs.declared.parser.Level.{Level}
+use Rattle.syntect_parsing.specs.declared.parser.ParsingError.{ParsingError}
+
+-- ---- the place behind a character ----
+
+first_of : (cs : List ℕ) (c : ℕ) → slice_get cs 0 ≡ Some c → (rest : List ℕ) × (cs ≡ c ∷ rest)
+first_of [] c e = cc
+first_of (d ∷ cs) c e = let k : d ≡ c = cc in (cs, ap (λ x. x ∷ cs) k)
+
+past_char : (s : List ℕ) (i c : ℕ) → IsUtf8 s → IsCharBoundary s i → char_at s i ≡ Some c → IsCharBoundary s (i + len_utf8 c)
+unfolding char_at
+past_char s i c u b e =
+    let v = IsUtf8-drop s i u b in
+    let f = first_of (chars (drop i s)) c e in
+    IsCharBoundary-past_char s (encodes f.0) i c b.0 v (sym (encodes-chars (drop i s) v) ∙ ap encodes f.1)
+
+none_first : (cs : List ℕ) → slice_get cs 0 ≡ None → cs ≡ []
+none_first [] e = refl
+none_first (c ∷ cs) e = cc
+
+none_at_end : (s : List ℕ) (i : ℕ) → IsUtf8 s → IsCharBoundary s i → char_at s i ≡ None → length s ≤ i
+unfolding char_at
+none_at_end s i u b e =
+    let v = IsUtf8-drop s i u b in
+    let n : chars (drop i s) ≡ [] = none_first (chars (drop i s)) e in
+    let k : drop i s ≡ [] = sym (encodes-chars (drop i s) v) ∙ ap encodes n in
+    omega (arith, length-drop i s, ap length k)
+
+pub past_here : (line : List ℕ) (place : ℕ) → IsUtf8 line → IsCharBoundary line place → place + char_len line place < length line → IsCharBoundary line (place + char_len line place)
+past_here line place u b l = by (char_at line place) refl l
+  where
+    by : (o : Option ℕ) → char_at line place ≡ o → place + option_map_or len_utf8 o 1 < length line → IsCharBoundary line (place + option_map_or len_utf8 o 1)
+    by (Some c) e l = past_char line place c u b e
+    by None e l = let k : length line ≤ place = none_at_end line place u b e in absurd (omega arith)
+
+-- ---- matches end on boundaries ----
+
+abbrev IfEnds : List ℕ → Option Live → Type 0
+IfEnds line None = Unit {0}
+IfEnds line (Some m) = IsCharBoundary line m.start × IsCharBoundary line m.end
+
+data AllEnd (line : List ℕ) : List Live → Type 0 where
+  no_more : AllEnd line []
+  and_more : {m : Live} {ms : List Live} → IsCharBoundary line m.start × IsCharBoundary line m.end → AllEnd line ms → AllEnd line (m ∷ ms)
+
+module _ (engine : Engine) (finds : FindsInText engine) (line : List ℕ) (u : IsUtf8 line) where
+  counted_ends : (height place : ℕ) (member : Member) (text : List ℕ) (groups : Groups) (at : Option (ℕ × ℕ))
+      → ((s e : ℕ) → at ≡ Some (s, e) → StandsIn line place s e) → IfEnds line (counted height member text groups at)
+  counted_ends height place member text groups None h = tt
+  counted_ends height place member text groups (Some at) h = by (counts height member.pattern.operation at.0 at.1) (h at.0 at.1 refl)
+    where
+      by : (b : Bool) → StandsIn line place at.0 at.1 → IfEnds line (if b then Some (record { member = member; searched = text; groups = groups; start = at.0; end = at.1 }) else None)
+      by true k = (k.starts, k.ends)
+      by false k = tt
+
+  matched_ends : (height place : ℕ) (member : Member) (text : List ℕ) (o : Option Groups)
+      → ((groups : Groups) (s e : ℕ) → o ≡ Some groups → group_at groups 0 ≡ Some (s, e) → StandsIn line place s e) → IfEnds line (matched height member text o)
+  matched_ends height place member text None h = tt
+  matched_ends height place member text (Some groups) h = counted_ends height place member text groups (group_at groups 0) (λ s e k. h groups s e refl k)
+
+  live_match_ends : (height place : ℕ) (member : Member) → IfEnds line (live_match engine height line place member)
+  live_match_ends height place member =
+      let text : List ℕ = searched_text member.pattern member.opening in
+      matched_ends height place member text (engine.found text line place) (λ groups s e f g. finds text line place s e groups u f g)
+
+  cons_ends : (o : Option Live) (ms : List Live) → IfEnds line o → AllEnd line ms → AllEnd line (cons_option o ms)
+  cons_ends None ms h r = r
+  cons_ends (Some m) ms h r = and_more h r
+
+  live_ends : (height place : ℕ) (ms : List Member) → AllEnd line (filter_map (live_match engine height line place) ms)
+  live_ends height place [] = no_more
+  live_ends height place (m ∷ ms) = cons_ends (live_match engine height line place m) (filter_map (live_match engine height line place) ms) (live_match_ends height place m) (live_ends height place ms)
+
+  find_ends : (test : Live → Bool) (ms : List Live) → AllEnd line ms → IfEnds line (find test ms)
+  find_ends test [] no_more = tt
+  find_ends test (m ∷ ms) (and_more h r) = by (test m) (find_ends test ms r)
+    where
+      by : (b : Bool) → IfEnds line (find test ms) → IfEnds line (if b then Some m else find test ms)
+      by true k = h
+      by false k = k
+
+  -- ---- turns ----
+
+  abbrev GoesToBoundary : Step → Type 0
+  GoesToBoundary (Goes bytes q) = IsCharBoundary line q.place
+  GoesToBoundary (Ends bytes s) = Unit {0}
+  GoesToBoundary (Refused e) = Unit {0}
+
+  abbrev IsChoiceOnBoundary : ℕ → Choice → Type 0
+  IsChoiceOnBoundary place (Take m) = IsCharBoundary line m.end
+  IsChoiceOnBoundary place Skip = place + char_len line place < length line
+  IsChoiceOnBoundary place End = Unit {0}
+
+  skip_inside : (place : ℕ) (b : Bool) → b ≡ nat_lt (place + char_len line place) (length line) → IsChoiceOnBoundary place (if b then Skip else End)
+  skip_inside place true e = grind (arith, nat_tests)
+  skip_inside place false e = tt
+
+  choice_ends : (place : ℕ) (ms : List Live) (o : Option Live) → IfEnds line o → IsChoiceOnBoundary place (choice_of line place ms o)
+  choice_ends place ms (Some m) h = h.1
+  choice_ends place [] None h = tt
+  choice_ends place (m ∷ ms) None h = skip_inside place (nat_lt (place + char_len line place) (length line)) refl
+
+  unless_ends : (o : Option ParsingError) (s : Step) → GoesToBoundary s → GoesToBoundary (unless_refused o s)
+  unless_ends None s h = h
+  unless_ends (Some e) s h = tt
+
+  step_ends : (set : SyntaxSet) (p : Position) (choice : Choice) → IsCharBoundary line p.place → IsChoiceOnBoundary p.place choice → GoesToBoundary (step engine set line p choice)
+  step_ends set p (Take m) b h = unless_ends (refusal set m.member.pattern) (Goes (scopes_passed engine set p.levels p.place m) (position_after set line p m)) h
+  step_ends set p Skip b h = past_here line p.place u b h
+  step_ends set p End b h = tt
+
+  turn_in_ends : (set : SyntaxSet) (p : Position) (top : Level) (c : Option Context) → IsCharBoundary line p.place → GoesToBoundary (turn_in engine set line p top c)
+  turn_in_ends set p top None b = tt
+  turn_in_ends set p top (Some c) b =
+      let ms : List Live = live engine line p (chain set p top c) in
+      unless_ends (missing set (prototypes_in p c)) (step engine set line p (winner line p ms))
+      (step_ends set p (winner line p ms) b (choice_ends p.place ms (find (λ m. is_least ms m && not (loops p m)) ms) (find_ends _ ms (live_ends (length p.levels) p.place (chain set p top c)))))
+
+  turn_on_ends : (set : SyntaxSet) (p : Position) (top : Option Level) → IsCharBoundary line p.place → GoesToBoundary (turn_on engine set line p top)
+  turn_on_ends set p None b = tt
+  turn_on_ends set p (Some top) b = turn_in_ends set p top (context_at set top.context) b
+
+  turn_ends : (set : SyntaxSet) (p : Position) → IsCharBoundary line p.place → GoesToBoundary (turn engine set line p)
+  unfolding turn
+  turn_ends set p b = turn_on_ends set (trimmed p) (last p.levels) b
+
+  reaches_boundary : (set : SyntaxSet) (p q : Position) → IsCharBoundary line p.place → Reaches engine set line p q → IsCharBoundary line q.place
+  reaches_boundary set p q b here = b
+  reaches_boundary set p q b (further {q = r} {bytes = bytes} e h) =
+      let k : GoesToBoundary (Goes bytes r) = rw e at (turn_ends set p b) in reaches_boundary set r q k h
+
+pub places_are_boundaries : PlacesAreBoundaries
+places_are_boundaries engine finds set line state p u h = reaches_boundary engine finds line u set (at_start state) p (IsCharBoundary-start line u) h

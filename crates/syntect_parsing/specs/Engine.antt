@@ -1,0 +1,31 @@
+-- What reading a line asks of the pattern engine, and the one that is meant.
+use Rattle.std.specs.Prelude.{ℕ, Bool, false, List, Option, unwrap_or, chars}
+use Rattle.std.specs.Option.{option_map_or}
+use Rattle.syntect_pattern.specs.Trees.{group_in_look}
+use Rattle.syntect_pattern.specs.Grammar.{tree_of, found_in}
+use Rattle.syntect_pattern.specs.Simple.{pattern_tree, pattern_found}
+
+-- where each group of a match stands, the whole match as group 0
+abbrev pub Groups : Type 0
+Groups = List (Option (ℕ × ℕ))
+
+-- Patterns are given by their texts.
+pub record Engine : Type 0 where
+  -- the match of a pattern in a line: the first one at the least place not below this one
+  pub found : List ℕ → List ℕ → ℕ → Option Groups
+  -- whether the group of this number stands in a lookaround of the pattern
+  pub in_lookaround : List ℕ → ℕ → Bool
+
+-- the dialect as far as it is read for now
+abbrev pub dialect : Engine
+dialect = record {
+  found = pattern_found;
+  in_lookaround = λ pattern group. option_map_or (λ tree. unwrap_or (group_in_look tree group) false) (pattern_tree pattern) false;
+}
+
+-- the whole dialect
+abbrev pub whole_dialect : Engine
+whole_dialect = record {
+  found = λ pattern line place. found_in (chars pattern) line place;
+  in_lookaround = λ pattern group. option_map_or (λ tree. unwrap_or (group_in_look tree group) false) (tree_of (chars pattern)) false;
+}

@@ -1,0 +1,101 @@
+-- Laws of reading.
+use Rattle.std.specs.Prelude.{◌≡◌, ◌⊎◌, ℕ, ◌+◌, ◌*◌, ◌≤◌, max, List, [], ◌∷◌, ◌++◌, length, Some}
+use Rattle.std.specs.Option.{option_map_or}
+use Rattle.std.specs.Str.{IsUtf8, IsCharBoundary}
+use Rattle.syntect_parsing.specs.Engine.{Engine, Groups}
+use Rattle.syntect_parsing.specs.Contexts.{contexts_of}
+use Rattle.syntect_parsing.specs.Chain.{Walks, patterns_in}
+use Rattle.syntect_parsing.specs.Position.{Position}
+use Rattle.syntect_parsing.specs.Turn.{group_at, list_of}
+use Rattle.syntect_parsing.specs.Scopes.{Scopes}
+use Rattle.syntect_parsing.specs.Line.{Answer, Answers, AnswersAll, ReadsLine, RefusesLine, Reaches, at_start, HasPlainStart}
+use Rattle.syntect_parsing.specs.declared.syntax_definition.MatchPattern.{MatchPattern}
+use Rattle.syntect_parsing.specs.declared.syntax_definition.Pattern.{Pattern}
+use Rattle.syntect_parsing.specs.declared.syntax_definition.Pattern.TheVariants.{Match, Include}
+use Rattle.syntect_parsing.specs.declared.syntax_definition.Context.{Context}
+use Rattle.syntect_parsing.specs.declared.syntax_set.SyntaxSet.{SyntaxSet}
+use Rattle.syntect_parsing.specs.declared.parser.ParseState.{ParseState}
+use Rattle.syntect_parsing.specs.declared.parser.ParsingError.{ParsingError}
+
+-- A line that is accepted has one reading.
+abbrev pub ReadsOnce : Type 0
+ReadsOnce = (engine : Engine) (set : SyntaxSet) (line : List ℕ) (state : ParseState) (a b : List Scopes) (x y : ParseState) (m n : ℕ)
+    → ReadsLine engine set line state a x m → ReadsLine engine set line state b y n → (a ≡ b) × (x ≡ y) × (m ≡ n)
+
+-- A line that is refused has one refusal.
+abbrev pub RefusesOnce : Type 0
+RefusesOnce = (engine : Engine) (set : SyntaxSet) (line : List ℕ) (state : ParseState) (d e : ParsingError) (m n : ℕ)
+    → RefusesLine engine set line state d m → RefusesLine engine set line state e n → (d ≡ e) × (m ≡ n)
+
+-- No line is both accepted and refused.
+abbrev pub NeverBoth : Type 0
+NeverBoth = (engine : Engine) (set : SyntaxSet) (line : List ℕ) (state : ParseState) (bytes : List Scopes) (after : ParseState) (e : ParsingError) (m n : ℕ)
+    → ReadsLine engine set line state bytes after m → RefusesLine engine set line state e n → ⊥
+
+-- Lines have one list of answers.
+abbrev pub AnswersOnce : Type 0
+AnswersOnce = (engine : Engine) (set : SyntaxSet) (lines : List (List ℕ)) (state : ParseState) (a b : List Answer) (x y : ParseState)
+    → AnswersAll engine set lines state a x → AnswersAll engine set lines state b y → (a ≡ b) × (x ≡ y)
+
+-- One more line is answered at the state that the lines before it lead to.
+abbrev pub AnswersMore : Type 0
+AnswersMore = (engine : Engine) (set : SyntaxSet) (lines : List (List ℕ)) (line : List ℕ) (state next after : ParseState) (answers : List Answer) (answer : Answer)
+    → AnswersAll engine set lines state answers next → Answers engine set line next answer after → AnswersAll engine set (lines ++ line ∷ []) state (answers ++ answer ∷ []) after
+
+-- a match at these ends stands in the text, not before the place, and on character boundaries
+pub record StandsIn (text : List ℕ) (place start end : ℕ) : Type 0 where
+  pub from : place ≤ start
+  pub ordered : start ≤ end
+  pub within : end ≤ length text
+  pub starts : IsCharBoundary text start
+  pub ends : IsCharBoundary text end
+
+-- every match that is found stands so
+abbrev pub FindsInText : Engine → Type 0
+FindsInText engine = (pattern text : List ℕ) (place start end : ℕ) (groups : Groups)
+    → IsUtf8 text → engine.found pattern text place ≡ Some groups → group_at groups 0 ≡ Some (start, end) → StandsIn text place start end
+
+-- Each byte of an accepted line has its scopes.
+abbrev pub CoversLine : Type 0
+CoversLine = (engine : Engine) → FindsInText engine → (set : SyntaxSet) (line : List ℕ) (state : ParseState) (bytes : List Scopes) (after : ParseState) (n : ℕ)
+    → IsUtf8 line → ReadsLine engine set line state bytes after n → length bytes ≡ length line
+
+-- Each turn of a text begins on a character boundary.
+abbrev pub PlacesAreBoundaries : Type 0
+PlacesAreBoundaries = (engine : Engine) → FindsInText engine → (set : SyntaxSet) (line : List ℕ) (state : ParseState) (p : Position)
+    → IsUtf8 line → Reaches engine set line (at_start state) p → IsCharBoundary line p.place
+
+-- If what the first accepted line pushes makes the stack the open scopes, the stack before each line is the open scopes.
+abbrev pub StackIsOpen : Type 0
+StackIsOpen = (engine : Engine) (set : SyntaxSet) (lines : List (List ℕ)) (state after : ParseState) (answers : List Answer)
+    → HasPlainStart set state → AnswersAll engine set lines state answers after → HasPlainStart set after
+
+-- The walk with its room gives what the rule gives, and nothing else does.
+abbrev pub RoomIsNotFelt : Type 0
+RoomIsNotFelt = (set : SyntaxSet) (entries : List Pattern)
+    → Walks set [] entries (patterns_in set entries) × ((patterns : List MatchPattern) → Walks set [] entries patterns → patterns ≡ patterns_in set entries)
+
+-- ---- how many turns a line takes ----
+
+-- the longest push or set list of these patterns, and at least 1
+abbrev pub longest_in : List Pattern → ℕ
+longest_in [] = 1
+longest_in (Match m ∷ ps) = max (option_map_or length (list_of m.operation) 0) (longest_in ps)
+longest_in (Include r ∷ ps) = longest_in ps
+
+abbrev pub longest_of : List Context → ℕ
+longest_of [] = 1
+longest_of (c ∷ cs) = max (longest_in c.patterns) (longest_of cs)
+
+abbrev pub longest : List (List Context) → ℕ
+longest [] = 1
+longest (cs ∷ css) = max (longest_of cs) (longest css)
+
+abbrev pub turn_bound : SyntaxSet → List ℕ → ParseState → ℕ
+turn_bound set line state = length state.levels + (longest (contexts_of set) + 1) * (1001 * (length line + 1))
+
+-- Every line is accepted or refused, within so many turns.
+abbrev pub EachLineEnds : Type 0
+EachLineEnds = (engine : Engine) → FindsInText engine → (set : SyntaxSet) (line : List ℕ) (state : ParseState) → IsUtf8 line
+    → ((bytes : List Scopes) × (after : ParseState) × (n : ℕ) × ReadsLine engine set line state bytes after n × (n ≤ turn_bound set line state))
+    ⊎ ((e : ParsingError) × (n : ℕ) × RefusesLine engine set line state e n × (n ≤ turn_bound set line state))

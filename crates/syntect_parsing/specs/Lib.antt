@@ -1,0 +1,13 @@
+pub mod Contexts
+pub mod Errors
+pub mod Link
+pub mod Engine
+pub mod Substitution
+pub mod Position
+pub mod Chain
+pub mod Turn
+pub mod Scopes
+pub mod Visible
+pub mod Line
+pub mod Meaning
+pub mod Laws

@@ -1,0 +1,74 @@
+-- Which scopes the bytes of a turn have.
+use Rattle.std.specs.Prelude.{ℕ, nat_le, nat_lt, ◌-◌, Bool, ◌&&◌, not, List, [], ◌∷◌, ◌++◌, map, filter, Option, Some, None, unwrap_or, replicate, if◌then◌else◌}
+use Rattle.std.specs.Option.{option_map_or}
+use Rattle.std.specs.List.{filter_map, flat_map, range_with_len}
+use Rattle.syntect_parsing.specs.Engine.{Engine}
+use Rattle.syntect_parsing.specs.Contexts.{part_of, target}
+use Rattle.syntect_parsing.specs.Chain.{last}
+use Rattle.syntect_parsing.specs.Turn.{Live, group_at, without_last}
+use Rattle.syntect_parsing.specs.declared.syntax_definition.MatchOperation.{MatchOperation}
+use Rattle.syntect_parsing.specs.declared.syntax_definition.MatchOperation.TheVariants as op
+use Rattle.syntect_parsing.specs.declared.syntax_set.SyntaxSet.{SyntaxSet}
+use Rattle.syntect_parsing.specs.declared.parser.Level.{Level}
+
+-- scopes, the outermost first
+abbrev pub Scopes : Type 0
+Scopes = List (List ℕ)
+
+-- the scopes that are open at rest: of each level its `meta_scope`, then its `meta_content_scope`
+abbrev pub open_scopes : SyntaxSet → List Level → Scopes
+open_scopes set levels = flat_map (λ l. part_of (λ c. c.meta_scope ++ c.meta_content_scope) set l.context) levels
+
+-- what stands below a match's own scopes
+abbrev pub base : SyntaxSet → List Level → MatchOperation → Scopes
+base set levels (op.Push refs) = open_scopes set levels ++ flat_map (part_of (λ c. c.meta_scope) set) (filter_map target refs)
+base set levels (op.Set refs) = open_scopes set levels ++ flat_map (part_of (λ c. c.meta_scope) set) (filter_map target refs)
+base set levels op.Pop = open_scopes set (without_last levels) ++ option_map_or (λ l. part_of (λ c. c.meta_scope) set l.context) (last levels) []
+base set levels op.None = open_scopes set levels
+
+-- a capture that has effect: where it stands, and its scopes
+pub record Capture : Type 0 where
+  pub start : ℕ
+  pub end : ℕ
+  pub scopes : Scopes
+
+abbrev pub covers : ℕ → Capture → Bool
+covers place c = nat_le c.start place && nat_lt place c.end
+
+abbrev pub is_longer : Capture → Capture → Bool
+is_longer c d = nat_lt (d.end - d.start) (c.end - c.start)
+
+-- a capture put before the first that is not longer
+abbrev pub put : Capture → List Capture → List Capture
+put c [] = c ∷ []
+put c (d ∷ ds) = if is_longer d c then d ∷ put c ds else c ∷ d ∷ ds
+
+-- longer ones first, equally long ones in the order of the list
+abbrev pub longer_first : List Capture → List Capture
+longer_first [] = []
+longer_first (c ∷ cs) = put c (longer_first cs)
+
+module _ (engine : Engine) where
+  open engine use {in_lookaround}
+
+  -- a capture of the group of this number, which stands here if it was set: it has effect if it isn't empty,
+  -- lies inside the match and its group stands in no lookaround
+  abbrev pub effect : Live → ℕ → Scopes → Option (ℕ × ℕ) → Option Capture
+  effect m group scopes None = None
+  effect m group scopes (Some at) =
+      if nat_lt at.0 at.1 && nat_le m.start at.0 && nat_le at.1 m.end && not (in_lookaround m.searched group)
+      then Some (record { start = at.0; end = at.1; scopes = scopes })
+      else None
+
+  abbrev pub captures : Live → List Capture
+  captures m = filter_map (λ entry. effect m entry.0 entry.1 (group_at m.groups entry.0)) (unwrap_or m.member.pattern.captures [])
+
+  -- the scopes of a byte inside a match: this base, the match's scopes, those of the captures over the byte
+  abbrev pub scopes_at : Scopes → Live → ℕ → Scopes
+  scopes_at below m place = below ++ m.member.pattern.scope ++ flat_map (λ c. c.scopes) (longer_first (filter (covers place) (captures m)))
+
+  -- the scopes of each byte that a turn with this match passes: those before the match have the open ones
+  abbrev pub scopes_passed : SyntaxSet → List Level → ℕ → Live → List Scopes
+  scopes_passed set levels place m =
+      replicate (m.start - place) (open_scopes set levels)
+      ++ map (scopes_at (base set levels m.member.pattern.operation) m) (range_with_len m.start (m.end - m.start))

@@ -1,0 +1,197 @@
+-- Which match a turn takes, and what it leaves.
+use Rattle.std.specs.Prelude.{ℕ, ◌==◌, nat_le, nat_lt, ◌+◌, ◌-◌, Bool, true, false, ◌&&◌, not, List, [], ◌∷◌, ◌++◌, length, take, filter, find, Option, Some, None, is_none, if◌then◌else◌}
+use Rattle.std.specs.Option.{option_map, option_map_or, option_and_then, option_flatten, option_or, option_to_list}
+use Rattle.std.specs.List.{filter_map, list_any, list_all}
+use Rattle.std.specs.Char.{len_utf8}
+use Rattle.syntect_pattern.specs.Text.{char_at}
+use Rattle.std.specs.List.{slice_get}
+use Rattle.syntect_parsing.specs.Engine.{Engine, Groups}
+use Rattle.syntect_parsing.specs.Substitution.{substituted}
+use Rattle.syntect_parsing.specs.Contexts.{context_at, target}
+use Rattle.syntect_parsing.specs.Chain.{Member, last}
+use Rattle.syntect_parsing.specs.declared.syntax_definition.ContextId.{ContextId}
+use Rattle.syntect_parsing.specs.declared.syntax_definition.ContextReference.{ContextReference}
+use Rattle.syntect_parsing.specs.declared.syntax_definition.MatchOperation.{MatchOperation}
+use Rattle.syntect_parsing.specs.declared.syntax_definition.MatchOperation.TheVariants as op
+use Rattle.syntect_parsing.specs.declared.syntax_definition.MatchPattern.{MatchPattern}
+use Rattle.syntect_parsing.specs.declared.syntax_set.SyntaxSet.{SyntaxSet}
+use Rattle.syntect_parsing.specs.declared.parser.Opening.{Opening}
+use Rattle.syntect_parsing.specs.declared.parser.Level.{Level}
+use Rattle.syntect_parsing.specs.Position.{Record}
+use Rattle.syntect_parsing.specs.Position.{Position}
+use Rattle.syntect_parsing.specs.declared.parser.ParsingError.{ParsingError}
+use Rattle.syntect_parsing.specs.declared.parser.ParsingError.TheVariants as error
+
+-- ---- the live matches ----
+
+-- a member of the chain that matches: the text that was searched, the groups of the match and its ends
+pub record Live : Type 0 where
+  pub member : Member
+  pub searched : List ℕ
+  pub groups : Groups
+  pub start : ℕ
+  pub end : ℕ
+
+-- where a group stands, if it was set
+abbrev pub group_at : Groups → ℕ → Option (ℕ × ℕ)
+group_at groups n = option_flatten (slice_get groups n)
+
+-- whether a match counts: an empty one without operation doesn't, nor does a push at 100 levels or more
+abbrev pub counts : ℕ → MatchOperation → ℕ → ℕ → Bool
+counts height (op.Push refs) start end = nat_lt height 100
+counts height (op.Set refs) start end = true
+counts height op.Pop start end = true
+counts height op.None start end = not (start == end)
+
+-- a match of a member in this text with these groups, the whole match at these ends
+abbrev pub counted : ℕ → Member → List ℕ → Groups → Option (ℕ × ℕ) → Option Live
+counted height member text groups None = None
+counted height member text groups (Some at) =
+    if counts height member.pattern.operation at.0 at.1
+    then Some (record { member = member; searched = text; groups = groups; start = at.0; end = at.1 })
+    else None
+
+abbrev pub matched : ℕ → Member → List ℕ → Option Groups → Option Live
+matched height member text None = None
+matched height member text (Some groups) = counted height member text groups (group_at groups 0)
+
+-- the text that is searched: substituted where the pattern uses back references and there is an opening match
+abbrev pub searched_text : MatchPattern → Option Opening → List ℕ
+searched_text m None = m.regex
+searched_text m (Some o) = if m.has_captures then substituted m.regex o.region o.line else m.regex
+
+module _ (engine : Engine) where
+  -- the match of a member of the chain from the place on, if it has one that counts
+  abbrev pub live_match : ℕ → List ℕ → ℕ → Member → Option Live
+  live_match height line place member =
+      let text = searched_text member.pattern member.opening in matched height member text (engine.found text line place)
+
+  -- the members of a chain that match from the place on, in order
+  abbrev pub live : List ℕ → Position → List Member → List Live
+  live line p members = filter_map (live_match (length p.levels) line p.place) members
+
+-- ---- the winner ----
+
+abbrev pub is_at_record : Position → Option Record → Bool
+is_at_record p None = false
+is_at_record p (Some r) = (r.place == p.place) && (r.height == length p.levels)
+
+-- a match with this operation would go round in circles at the place itself
+abbrev pub turns_back : Position → MatchOperation → Bool
+turns_back p (op.Push refs) = p.idle == 1000
+turns_back p (op.Set refs) = p.idle == 1000
+turns_back p op.Pop = is_at_record p p.last
+turns_back p op.None = false
+
+abbrev pub loops : Position → Live → Bool
+loops p m = (m.end == p.place) && turns_back p m.member.pattern.operation
+
+-- no match of the list starts before it
+abbrev pub is_least : List Live → Live → Bool
+is_least ms m = list_all (λ k. nat_le m.start k.start) ms
+
+-- what a turn does: take a match, pass over a character, or end the line
+pub data Choice : Type 0 where
+  Take : Live → Choice
+  Skip : Choice
+  End : Choice
+
+-- how many bytes the character at a place has
+abbrev pub char_len : List ℕ → ℕ → ℕ
+char_len line place = option_map_or len_utf8 (char_at line place) 1
+
+-- If all matches of least start loop, one character is passed over, or the line ends where at most one is left. Without matches it ends.
+abbrev pub choice_of : List ℕ → ℕ → List Live → Option Live → Choice
+choice_of line place ms (Some m) = Take m
+choice_of line place [] None = End
+choice_of line place (m ∷ ms) None = if nat_lt (place + char_len line place) (length line) then Skip else End
+
+-- among the matches of least start the first that doesn't loop
+abbrev pub winner : List ℕ → Position → List Live → Choice
+winner line p ms = choice_of line p.place ms (find (λ m. is_least ms m && not (loops p m)) ms)
+
+-- ---- what the winner names ----
+
+-- the list of a push or a set
+abbrev pub list_of : MatchOperation → Option (List ContextReference)
+list_of (op.Push refs) = Some refs
+list_of (op.Set refs) = Some refs
+list_of op.Pop = None
+list_of op.None = None
+
+-- the references that a match names: those of a push or set, then its `with_prototype`
+abbrev pub named : MatchPattern → List ContextReference
+named m = option_map_or (λ refs. refs ++ option_to_list m.with_prototype) (list_of m.operation) []
+
+-- the refusal of the first reference that has no target
+abbrev pub unresolved : List ContextReference → Option ParsingError
+unresolved refs = option_map error.UnresolvedContextReference (find (λ r. is_none (target r)) refs)
+
+-- the refusal of the first context that the set lacks
+abbrev pub missing : SyntaxSet → List ContextId → Option ParsingError
+missing set ids = option_map error.MissingContext (find (λ id. is_none (context_at set id)) ids)
+
+-- what refuses a match: all references are looked at first, and the contexts then
+abbrev pub refusal : SyntaxSet → MatchPattern → Option ParsingError
+refusal set m = option_or (unresolved (named m)) (missing set (filter_map target (named m)))
+
+-- ---- the levels after the winner ----
+
+-- a new level keeps its opening match where its context or one of its prototypes uses back references
+abbrev pub new_level : SyntaxSet → Opening → ContextId → List ContextId → Level
+new_level set opening id prototypes =
+    record { context = id; prototypes = prototypes; opening = if list_any uses_backrefs (id ∷ prototypes) then Some opening else None }
+  where
+    uses_backrefs : ContextId → Bool
+    uses_backrefs id = option_map_or (λ c. c.uses_backrefs) (context_at set id) false
+
+-- new levels: the first keeps these prototypes, the last has the `with_prototype` after them
+abbrev pub new_levels : SyntaxSet → Opening → List ContextId → Option ContextId → List ContextId → List Level
+new_levels set opening kept with_prototype [] = []
+new_levels set opening kept with_prototype (id ∷ []) = new_level set opening id (kept ++ option_to_list with_prototype) ∷ []
+new_levels set opening kept with_prototype (id ∷ next ∷ ids) = new_level set opening id kept ∷ new_levels set opening [] with_prototype (next ∷ ids)
+
+abbrev pub without_last : {X : Type 0} → List X → List X
+without_last xs = take (length xs - 1) xs
+
+-- the levels that a match opens by this list, the first of which keeps these prototypes
+abbrev pub opened : SyntaxSet → List ℕ → Live → List ContextId → List ContextReference → List Level
+opened set line m kept refs =
+    new_levels set (record { region = m.groups; line = line }) kept (option_and_then target m.member.pattern.with_prototype) (filter_map target refs)
+
+-- a push adds levels, a set first takes the top level off and keeps its prototypes, a pop takes it off
+abbrev pub levels_by : SyntaxSet → List ℕ → List Level → Live → MatchOperation → List Level
+levels_by set line levels m (op.Push refs) = levels ++ opened set line m [] refs
+levels_by set line levels m (op.Set refs) = without_last levels ++ opened set line m (option_map_or (λ l. l.prototypes) (last levels) []) refs
+levels_by set line levels m op.Pop = without_last levels
+levels_by set line levels m op.None = levels
+
+abbrev pub levels_after : SyntaxSet → List ℕ → List Level → Live → List Level
+levels_after set line levels m = levels_by set line levels m m.member.pattern.operation
+
+-- a match from a `with_prototype` records the height before its operation
+abbrev pub cuts_after : Position → Live → List ℕ
+cuts_after p m = if m.member.from_with_prototype then p.cuts ++ length p.levels ∷ [] else p.cuts
+
+-- an empty push is recorded, with the old height plus one
+abbrev pub record_by : Position → ℕ → MatchOperation → Option Record
+record_by p end (op.Push refs) = if end == p.place then Some (record { place = p.place; height = length p.levels + 1 }) else p.last
+record_by p end (op.Set refs) = p.last
+record_by p end op.Pop = p.last
+record_by p end op.None = p.last
+
+-- empty pushes and sets are counted, a move begins anew
+abbrev pub idle_by : Position → ℕ → MatchOperation → ℕ
+idle_by p end operation = if end == p.place then p.idle + option_map_or (λ refs. 1) (list_of operation) 0 else 0
+
+abbrev pub position_after : SyntaxSet → List ℕ → Position → Live → Position
+position_after set line p m =
+    record { levels = levels_after set line p.levels m; cuts = cuts_after p m; place = m.end; last = record_by p m.end m.member.pattern.operation; idle = idle_by p m.end m.member.pattern.operation }
+
+-- a move without a match
+abbrev pub skipped : List ℕ → Position → Position
+skipped line p = record p { place = p.place + char_len line p.place; idle = 0 }
+
+-- cuts at or above the height are dropped
+abbrev pub trimmed : Position → Position
+trimmed p = record p { cuts = filter (λ c. nat_lt c (length p.levels)) p.cuts }

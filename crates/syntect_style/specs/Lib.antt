@@ -1,0 +1,7 @@
+pub mod Candidates
+pub mod Items
+pub mod Modifying
+pub mod Pieces
+pub mod Rules
+pub mod Styling
+pub mod Themes

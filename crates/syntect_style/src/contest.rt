@@ -1,0 +1,76 @@
+//! The contest of a theme's rules for the attributes of a stack's style.
+ghost use Rattle.std.specs.Prelude.{◌≡◌, ◌<◌, Some, None, IfSome, length};
+ghost use Rattle.std.specs.Option.{option_map};
+ghost use Rattle.syntect_style.specs.Candidates.{candidate, deepest};
+ghost use Rattle.syntect_style.specs.Rules.{score_from, candidate_from, against, after_rules};
+
+use crate::scores::{Rule, SingleScore};
+use crate::style::{Color, FontStyle, StyleModifier};
+use syntect_scope::scope::Scope;
+
+/// The deepest place of a stack whose scope the given one begins.
+pub(crate) fn deepest(scope: Scope, stack: &[Scope]) -> Option<usize>
+    ensures place { result ≡ deepest scope stack.now }
+    ensures within { IfSome result (λ p. p < length stack.now) }
+{
+    let mut at = stack.len();
+    while at > 0 {
+        at -= 1;
+        if scope.is_prefix_of(stack[at]) {
+            return Some(at);
+        }
+    }
+    None
+}
+
+/// Puts a value in the place of the best one so far, if its score beats that one's.
+fn offer<V: Copy>(best: &mut Option<(SingleScore, V)>, score: SingleScore, value: Option<V>)
+    ensures { candidate_from best.new ≡ against (candidate_from best.old) (candidate value (Some (score_from score))) }
+{
+    if let Some(value) = value {
+        let wins = match best {
+            Some((before, _)) => score.beats(before),
+            None => true,
+        };
+        if wins {
+            *best = Some((score, value));
+        }
+    }
+}
+
+/// The values that stand so far, each with the score of its rule.
+#[derive(Clone, Copy, Debug)]
+struct Standings {
+    foreground: Option<(SingleScore, Color)>,
+    background: Option<(SingleScore, Color)>,
+    font_style: Option<(SingleScore, FontStyle)>,
+}
+
+/// For each attribute the value of the rule that prevails, and `None` where no rule sets it.
+pub(crate) fn winners_of(rules: &[Rule], stack: &[Scope]) -> StyleModifier
+    ensures foreground { result.foreground ≡ option_map (λ c. c.value) (after_rules (λ m. m.foreground) stack.now None rules.now) }
+    ensures background { result.background ≡ option_map (λ c. c.value) (after_rules (λ m. m.background) stack.now None rules.now) }
+    ensures font_style { result.font_style ≡ option_map (λ c. c.value) (after_rules (λ m. m.font_style) stack.now None rules.now) }
+{
+    let mut best = Standings {
+        foreground: None,
+        background: None,
+        font_style: None,
+    };
+    for rule in rules {
+        if let Some(place) = deepest(rule.scope, stack) {
+            let score = SingleScore {
+                atoms: rule.scope.len(),
+                place,
+            };
+            offer(&mut best.foreground, score, rule.style.foreground);
+            offer(&mut best.background, score, rule.style.background);
+            offer(&mut best.font_style, score, rule.style.font_style);
+        }
+    }
+    StyleModifier {
+        foreground: best.foreground.map(|c| c.1),
+        background: best.background.map(|c| c.1),
+        font_style: best.font_style.map(|c| c.1),
+    }
+}

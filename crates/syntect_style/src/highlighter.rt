@@ -1,0 +1,147 @@
+//! The style of a stack of scopes.
+ghost use Rattle.std.specs.Prelude.{◌≡◌, ◌++◌, IfOk, OnOk};
+ghost use Rattle.syntect_style.specs.Candidates.{single_scope, OnlySingleRules};
+ghost use Rattle.syntect_style.specs.Styling.{style_of, shown, default_style, winners};
+ghost use Rattle.syntect_style.specs.Rules.{item_rules};
+
+use crate::contest::winners_of;
+use crate::scores::Rule;
+use crate::style::{Color, FontStyle, Style, StyleModifier};
+use crate::theme::{Theme, ThemeItem};
+use std::alloc::{AllocError, Global};
+use std::marker::Model;
+use syntect_scope::power::MatchPower;
+use syntect_scope::scope::Scope;
+use syntect_scope::selector::ScopeSelector;
+
+/// A theme, made ready to style stacks of scopes. Contracts see its theme.
+#[derive(Drop)]
+pub struct Highlighter<'a> {
+    theme: &'a Theme,
+    rules: Vec<Rule>,
+}
+
+impl<'a> Model for Highlighter<'a> {
+    ghost use Rattle.std.specs.Prelude.{◌≡◌};
+    ghost use Rattle.syntect_style.specs.declared.theme.Theme.{Theme};
+    ghost use Rattle.syntect_style.specs.Rules.{single_rules};
+
+    ghost Value = { Theme };
+
+    ghost view = { λ a. a.theme.now };
+
+    ghost invariant = { λ a. a.rules.items ≡ single_rules a.theme.now };
+}
+
+impl<'a> Highlighter<'a> {
+    /// Makes a theme ready.
+    pub fn new(alloc: Global, theme: &'a Theme) -> Result<Highlighter<'a>, AllocError>
+        ensures { IfOk result (λ h. h ≡ theme.now) }
+    {
+        let mut rules = Vec::new(alloc);
+        for item in theme.scopes.as_slice() {
+            push_rules(&mut rules, item)?;
+        }
+        Ok(Highlighter { theme, rules })
+    }
+
+    /// The style of text that no rule styles: the theme's own colours, black where it has no foreground and white
+    /// where it has no background, without flags. Takes no memory.
+    pub fn get_default(&self) -> Style
+        ensures { result ≡ default_style self.now }
+    {
+        Style {
+            foreground: self.theme.settings.foreground.unwrap_or(Color::BLACK),
+            background: self.theme.settings.background.unwrap_or(Color::WHITE),
+            font_style: FontStyle::empty(),
+        }
+    }
+
+    /// The style of a stack of scopes, the bottom one first: for each attribute the value of the rule that
+    /// prevails, and the default where no rule sets it. Of no scopes this is the default too, but for rules with an
+    /// empty path, which act everywhere.
+    pub fn style_for_stack(&self, stack: &[Scope]) -> Result<Style, AllocError>
+        ensures { OnlySingleRules self.now → IfOk result (λ s. s ≡ style_of self.now stack.now) }
+    {
+        let modifier = self.style_mod_for_stack(stack)?;
+        Ok(self.get_default().apply(modifier))
+    }
+
+    /// For each attribute the value of the rule that prevails, and `None` where no rule sets it.
+    pub fn style_mod_for_stack(&self, stack: &[Scope]) -> Result<StyleModifier, AllocError>
+        ensures { OnlySingleRules self.now → IfOk result (λ m. m ≡ winners self.now stack.now) }
+    {
+        Ok(winners_of(self.rules.as_slice(), stack))
+    }
+
+    /// The style of text with these scopes: the default for text that has none.
+    pub(crate) fn shown(&self, stack: &[Scope]) -> Result<Style, AllocError>
+        ensures { OnlySingleRules self.now → IfOk result (λ s. s ≡ shown self.now stack.now) }
+    {
+        if stack.is_empty() {
+            Ok(self.get_default())
+        } else {
+            self.style_for_stack(stack)
+        }
+    }
+}
+
+/// A style in the making: for each attribute the score that was reached, `None` where no rule has set it yet, and the
+/// value.
+#[derive(Debug, Drop, PartialEq, Eq)]
+pub struct ScoredStyle {
+    /// The colour of the text.
+    pub foreground: (Option<MatchPower>, Color),
+    /// The colour behind the text.
+    pub background: (Option<MatchPower>, Color),
+    /// The flags of its font.
+    pub font_style: (Option<MatchPower>, FontStyle),
+}
+
+impl ScoredStyle {
+    /// The same once more.
+    pub fn clone(&self) -> Result<ScoredStyle, AllocError>
+        ensures { IfOk result (λ s. s ≡ self.now) }
+    {
+        Ok(ScoredStyle {
+            foreground: (clone_power(&self.foreground.0)?, self.foreground.1),
+            background: (clone_power(&self.background.0)?, self.background.1),
+            font_style: (clone_power(&self.font_style.0)?, self.font_style.1),
+        })
+    }
+}
+
+/// The same score once more, if there is one.
+fn clone_power(power: &Option<MatchPower>) -> Result<Option<MatchPower>, AllocError>
+    ensures { IfOk result (λ p. p ≡ power.now) }
+{
+    match power {
+        None => Ok(None),
+        Some(power) => Ok(Some(power.clone()?)),
+    }
+}
+
+/// Adds the single rules of an item.
+fn push_rules(rules: &mut Vec<Rule>, item: &ThemeItem) -> Result<(), AllocError>
+    ensures { OnOk result (rules.new.items ≡ rules.old.items ++ item_rules item.now) }
+{
+    for selector in item.scope.selectors.as_slice() {
+        if let Some(scope) = single_scope(selector) {
+            rules.push(Rule {
+                scope,
+                style: item.style,
+            })?;
+        }
+    }
+    Ok(())
+}
+
+/// The scope of a selector with one path scope and no exclusion.
+fn single_scope(selector: &ScopeSelector) -> Option<Scope>
+    ensures { result ≡ single_scope selector.now }
+{
+    match selector.path.as_slice() {
+        [scope] if selector.excludes.is_empty() => Some(*scope),
+        _ => None,
+    }
+}

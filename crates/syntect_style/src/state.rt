@@ -1,0 +1,95 @@
+//! The state of a highlighter between two texts.
+ghost use Rattle.std.specs.Prelude.{◌≡◌, ◌↔◌, IsTrue, IfOk, OnOk, OnErr, IfErr, true, false};
+ghost use Rattle.syntect_scope.specs.Stack.{applied, is_refused};
+ghost use Rattle.syntect_style.specs.Candidates.{OnlySingleRules};
+ghost use Rattle.syntect_style.specs.Styling.{shown};
+ghost use Rattle.syntect_style.specs.Pieces.{path_of, Keeps};
+
+use crate::highlighter::Highlighter;
+use crate::style::Style;
+use std::alloc::AllocError;
+use syntect_scope::stack::{ScopeError, ScopeStack, ScopeStackOp};
+
+/// The stack of scopes after the texts so far. What is known of its style is kept with it, so a state belongs to
+/// one highlighter: the iterators take the same one for all texts. States are equal where their stacks are.
+#[derive(Debug, Drop)]
+#[derive_where(PartialEq, Eq)]
+pub struct HighlightState {
+    path: ScopeStack,
+    #[derive_where(skip(EqHashOrd))]
+    kept: Option<Style>,
+}
+
+impl HighlightState {
+    /// The state of a stack, before a text. Takes no memory.
+    pub fn new(highlighter: &Highlighter<'_>, path: ScopeStack) -> HighlightState
+        ensures path { path_of result ≡ path }
+        ensures keeps { Keeps highlighter.now result }
+    {
+        let _ = highlighter;
+        HighlightState { path, kept: None }
+    }
+
+    /// The stack. Takes no memory.
+    pub fn path(&self) -> &ScopeStack
+        ensures { result.now ≡ path_of self.now }
+    {
+        &self.path
+    }
+
+    /// The stack, taken out. Takes no memory.
+    pub fn into_path(self) -> ScopeStack
+        ensures { result ≡ path_of self }
+    {
+        self.path
+    }
+
+    /// The same state once more.
+    pub fn clone(&self) -> Result<HighlightState, AllocError>
+        ensures { IfOk result (λ s. s ≡ self.now) }
+    {
+        Ok(HighlightState {
+            path: self.path.clone()?,
+            kept: self.kept,
+        })
+    }
+
+    /// The style of text at this stack.
+    pub(crate) fn style(&mut self, highlighter: &Highlighter<'_>) -> Result<Style, AllocError>
+        ensures path { path_of self.new ≡ path_of self.old }
+        ensures keeps { Keeps highlighter.now self.old → Keeps highlighter.now self.new }
+        ensures style { IfOk result (λ s. OnlySingleRules highlighter.now → Keeps highlighter.now self.old → s ≡ shown highlighter.now (path_of self.old).scopes) }
+    {
+        if let Some(style) = self.kept {
+            return Ok(style);
+        }
+        let style = highlighter.shown(self.path.as_slice())?;
+        self.kept = Some(style);
+        Ok(style)
+    }
+
+    /// Applies an operation. A refusal changes nothing.
+    pub(crate) fn apply(
+        &mut self,
+        highlighter: &Highlighter<'_>,
+        op: &ScopeStackOp,
+    ) -> Result<(), ScopeError>
+        ensures ok { OnOk result (path_of self.new ≡ applied op.now (path_of self.old)) }
+        ensures applied { OnOk result (is_refused op.now (path_of self.old) ≡ false) }
+        ensures none { IfErr result (λ e. e ≡ ScopeError.NoClearedScopesToRestore → is_refused op.now (path_of self.old) ≡ true) }
+        ensures err { OnErr result (self.new ≡ self.old) }
+        ensures keeps { Keeps highlighter.now self.old → Keeps highlighter.now self.new }
+    {
+        let _ = highlighter;
+        self.path.apply(op)?;
+        self.kept = None;
+        Ok(())
+    }
+}
+
+/// States are equal exactly where their stacks are.
+fn same(a: &HighlightState, b: &HighlightState) -> bool
+    ensures { IsTrue result ↔ (path_of a.now ≡ path_of b.now) }
+{
+    a == b
+}
