@@ -3,3 +3,4 @@ pub mod DigitLaws
 pub mod DotLaws
 pub mod RepositoryLaws
 pub mod WordLaws
+pub mod TextLaws

@@ -230,7 +230,7 @@ holds_if true i o o' h e = refl
 holds_if false i o o' h e = h e
 
 -- a text that is there is there among more
-place_more : (t : List ℕ) (xs ys : List (List ℕ)) → is_some (place_in xs t) ≡ true → place_in (xs ++ ys) t ≡ place_in xs t
+pub place_more : (t : List ℕ) (xs ys : List (List ℕ)) → is_some (place_in xs t) ≡ true → place_in (xs ++ ys) t ≡ place_in xs t
 place_more t xs ys h = found_stays (bytes_eq t) xs ys 0 h
 
 -- each text that was taken up is there

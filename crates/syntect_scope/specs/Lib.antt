@@ -5,3 +5,4 @@ pub mod Digits
 pub mod Choice
 pub mod Repository
 pub mod Words
+pub mod Laws

@@ -4,6 +4,7 @@
 //! particular. A repository numbers the atoms, so that a scope is a short list of numbers.
 #![tactic(auto)]
 
+pub mod laws;
 pub mod power;
 pub mod repository;
 pub mod scope;

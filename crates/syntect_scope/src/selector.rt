@@ -1,5 +1,8 @@
 //! Selectors: which stacks of scopes a rule speaks of.
 use crate::stack::ScopeStack;
+ghost use Rattle.std.specs.Prelude.{◌≡◌, IfOk};
+
+use std::alloc::AllocError;
 use syntect_values::seq::Seq;
 
 /// A path of scopes that has to be found in a stack, and paths that must not be found there.
@@ -16,4 +19,43 @@ pub struct ScopeSelector {
 pub struct ScopeSelectors {
     /// The selectors, in the order of the text.
     pub selectors: Seq<ScopeSelector>,
+}
+
+impl ScopeSelector {
+    /// The same selector once more.
+    pub fn clone(&self) -> Result<ScopeSelector, AllocError>
+        ensures { IfOk result (λ selector. selector ≡ self.now) }
+    {
+        Ok(ScopeSelector {
+            path: self.path.clone()?,
+            excludes: self.excludes.clone()?,
+        })
+    }
+}
+
+impl Clone for ScopeSelector {
+    ghost is_clone = { λ x y. y ≡ x };
+
+    fn clone(&self) -> Result<ScopeSelector, AllocError> {
+        ScopeSelector::clone(self)
+    }
+}
+
+impl ScopeSelectors {
+    /// The same selectors once more.
+    pub fn clone(&self) -> Result<ScopeSelectors, AllocError>
+        ensures { IfOk result (λ selectors. selectors ≡ self.now) }
+    {
+        Ok(ScopeSelectors {
+            selectors: self.selectors.clone()?,
+        })
+    }
+}
+
+impl Clone for ScopeSelectors {
+    ghost is_clone = { λ x y. y ≡ x };
+
+    fn clone(&self) -> Result<ScopeSelectors, AllocError> {
+        ScopeSelectors::clone(self)
+    }
 }

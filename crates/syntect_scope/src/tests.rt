@@ -1,9 +1,11 @@
 use crate::power::MatchPower;
 use crate::repository::{ParseScopeError, ScopeRepository};
 use crate::scope::Scope;
+use crate::selector::ScopeSelector;
 use crate::stack::{ClearAmount, ScopeError, ScopeStack, ScopeStackOp};
 use std::cmp::Ordering;
 use std::io;
+use syntect_values::seq::Seq;
 
 #[test]
 fn scopes_of_texts(rt: HostRuntime) -> io::Result<()> {
@@ -99,6 +101,30 @@ fn stacks(rt: HostRuntime) -> io::Result<()> {
     assert!(rt; stack.apply(&ScopeStackOp::Clear(ClearAmount::All)).is_ok());
     assert!(rt; stack.apply(&ScopeStackOp::Restore).is_ok());
     assert!(rt; stack.as_slice().is_empty());
+    Ok(())
+}
+
+#[test]
+fn stacks_of_texts(rt: HostRuntime) -> io::Result<()> {
+    let alloc = rt.alloc();
+    let mut repository = ScopeRepository::new(alloc);
+    let text = " source.rust\tstring.quoted.\u{2003}a\n";
+    match ScopeStack::from_text(alloc, text, &mut repository) {
+        Ok(stack) => {
+            assert_eq!(rt; stack.build_string(&repository)?.as_str(), "source.rust string.quoted a ");
+            let selector = ScopeSelector {
+                path: stack,
+                excludes: Seq::new(alloc),
+            };
+            assert!(rt; selector.clone()? == selector);
+        }
+        Err(_) => assert!(rt; false),
+    }
+    let long = ScopeStack::from_text(alloc, "new 1.2.3.4.5.6.7.8.9", &mut repository);
+    assert!(rt; long == Err(ParseScopeError::TooLong));
+    assert_eq!(rt; repository.atom_str(6), Some("new"));
+    let none = ScopeStack::from_text(alloc, " ", &mut repository);
+    assert!(rt; none == Ok(ScopeStack::default(alloc)));
     Ok(())
 }
 
