@@ -12,3 +12,6 @@ pub mod LeftLaws
 pub mod ClassLaws
 pub mod BodyLaws
 pub mod NumberLaws
+pub mod TableLaws
+pub mod ReaderLaws
+pub mod BuilderLaws

@@ -8,3 +8,8 @@ pub mod Classes
 pub mod Grammar
 pub mod Nesting
 pub mod Simple
+pub mod Table
+pub mod Program
+pub mod Compiled
+pub mod Reader
+pub mod Builder

@@ -4,6 +4,13 @@
 ghost use Rattle.syntect_pattern.specs.Grammar.{ReadsEnough, NumbersGroups};
 ghost use Rattle.syntect_pattern.specs.Nesting.{FindsMatches, TurnsEnough};
 
+pub mod builder;
+pub mod compiler;
+pub mod node;
+pub mod program;
+pub mod reader;
+
+
 /// The law of every search: the groups that stand outside lookarounds are nested or disjoint, lie in the match and end on
 /// boundaries of characters.
 pub fn matches_are_laid_out()

@@ -1,0 +1,17 @@
+-- A program that stands for a text.
+use Rattle.std.specs.Prelude.{◌≡◌, ℕ, List, Option, Some, None}
+use Rattle.syntect_pattern.specs.Trees.{Tree}
+use Rattle.syntect_pattern.specs.Simple.{pattern_tree}
+use Rattle.syntect_pattern.specs.Program.{IsProgramOf}
+use Rattle.syntect_pattern.specs.declared.program.Program.{Program}
+
+-- the text is a pattern, and the program is that of its tree
+pub record IsCompiled (pattern : List ℕ) (p : Program) : Type 0 where
+  pub tree : Tree
+  pub reads : pattern_tree pattern ≡ Some tree
+  pub program : IsProgramOf p tree
+
+-- the program is that of the text, or there is none and the text is no pattern
+abbrev pub Compiles : List ℕ → Option Program → Type 0
+Compiles pattern None = pattern_tree pattern ≡ None
+Compiles pattern (Some p) = IsCompiled pattern p
