@@ -1,19 +1,16 @@
 -- A table grows.
-use Rattle.std.proofs.Common.{◌≡◌, ℕ, zero, suc, ◌+◌, ◌<◌, ◌≤◌, ◌&&◌, nat_lt, Bool, true, false, List, [], ◌∷◌, ◌++◌, map, length, get_or, refl, sym, ◌∙◌, ap, subst, arith, length-append, append_assoc, Option, Some, None}
-use Rattle.std.specs.Prelude.{Result, Ok, Err, IfOk, OnOk, IfSome}
+use Rattle.std.proofs.Common.{◌≡◌, ℕ, suc, ◌<◌, ◌&&◌, nat_lt, Bool, true, false, List, [], ◌∷◌, ◌++◌, map, length, get_or, refl, sym, ◌∙◌, ap, arith, length-append, Option, Some, None}
 use Rattle.std.proofs.Math.ListN.{get_or-append}
 use Rattle.std.proofs.Math.Seq.{get_or-append_seam}
 use Rattle.std.proofs.lemmas.Bool.{lt-ltb}
-use Rattle.syntect_pattern.specs.Trees.{Tree, nothing, seq, repeat, seq_all, group, group_count}
-use Rattle.syntect_pattern.specs.Table.{node_tree, trees_from, trees}
+use Rattle.syntect_pattern.specs.Trees.{Tree, nothing, seq, seq_all, group, group_count}
+use Rattle.syntect_pattern.specs.Table.{node_tree, trees}
 use Rattle.syntect_pattern.specs.Reader.{item_tree, leaf_tree, with_plus}
 use Rattle.syntect_pattern.specs.Program.{IsProgramOf}
 use Rattle.syntect_pattern.specs.declared.program.Program.{Program}
 use Rattle.syntect_pattern.specs.declared.reader.Leaf.{Leaf}
-use Rattle.syntect_pattern.specs.declared.reader.Leaf.TheVariants as Leaf
 use Rattle.syntect_pattern.specs.Builder.{tree_in, Grows, Holds, IsSequence, Built}
 use Rattle.syntect_pattern.specs.declared.node.Node.{Node}
-use Rattle.syntect_pattern.specs.declared.node.Node.TheVariants as Node
 use Rattle.syntect_pattern.specs.declared.reader.Item.{Item}
 use Rattle.syntect_pattern.proofs.TableLaws.{trees-append, length-trees_from}
 

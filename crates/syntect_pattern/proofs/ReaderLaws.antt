@@ -1,9 +1,9 @@
 -- The reader's steps.
-use Rattle.std.proofs.Common.{◌≡◌, ℕ, zero, suc, ◌+◌, ◌<◌, Bool, true, false, List, [], ◌∷◌, ◌++◌, map, length, refl, sym, ◌∙◌, ap, Option, Some, None}
+use Rattle.std.proofs.Common.{◌≡◌, ℕ, List, [], ◌∷◌, ◌++◌, refl, sym, ◌∙◌, ap, Option, Some, None}
 use Rattle.std.specs.Prelude.{chars, option_and_then}
 use Rattle.syntect_pattern.specs.Trees.{Tree, seq_all}
 use Rattle.syntect_pattern.specs.Simple.{pattern_tree, simple_tree_of, items_from, fresh}
-use Rattle.syntect_pattern.specs.Sets.{Set, none, range, either}
+use Rattle.syntect_pattern.specs.Sets.{Set, range, either}
 use Rattle.syntect_pattern.specs.Table.{with_ranges}
 use Rattle.syntect_pattern.specs.declared.node.Range.{Range}
 

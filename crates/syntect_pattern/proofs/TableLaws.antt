@@ -1,5 +1,5 @@
 -- Classes and tables of nodes.
-use Rattle.std.proofs.Common.{◌≡◌, ℕ, zero, suc, ◌+◌, ◌-◌, ◌<◌, ◌≤◌, ◌&&◌, ◌||◌, nat_lt, Bool, true, false, not, List, [], ◌∷◌, ◌++◌, length, get_or, refl, sym, ◌∙◌, ap, arith, length-append, zero-add, add-zero, Option, Some, None, Bor}
+use Rattle.std.proofs.Common.{◌≡◌, ℕ, zero, suc, ◌+◌, ◌<◌, ◌||◌, Bool, true, false, List, [], ◌∷◌, ◌++◌, length, get_or, refl, sym, ◌∙◌, ap, arith, length-append, zero-add, add-zero, Option, Some, None, Bor}
 use Rattle.std.specs.Prelude.{slice_get, MatchOption}
 use Rattle.std.specs.Option.{option_copied}
 use Rattle.std.specs.List.{list_any}
@@ -7,13 +7,11 @@ use Rattle.std.proofs.Math.ListN.{get_or-append}
 use Rattle.std.proofs.Math.Seq.{get_or-append_seam}
 use Rattle.std.proofs.lemmas.List.{get_or_past}
 use Rattle.std.proofs.lemmas.Bool.Decides.{nat_tests}
-use Rattle.syntect_pattern.specs.Sets.{Set, none, range, either, holds, is_within, negate_if}
-use Rattle.syntect_pattern.specs.Trees.{Tree, nothing, one_of, seq, alt, repeat, group}
-use Rattle.syntect_pattern.specs.Table.{with_ranges, set_of, node_tree, trees_from, trees, parts_before, IsOrdered}
+use Rattle.syntect_pattern.specs.Sets.{Set, range, either, holds, is_within}
+use Rattle.syntect_pattern.specs.Trees.{Tree, nothing, seq, alt, repeat, group}
+use Rattle.syntect_pattern.specs.Table.{with_ranges, node_tree, trees_from, trees, parts_before, IsOrdered}
 use Rattle.syntect_pattern.specs.declared.node.Range.{Range}
-use Rattle.syntect_pattern.specs.declared.node.Class as declared
 use Rattle.syntect_pattern.specs.declared.node.Node.{Node}
-use Rattle.syntect_pattern.specs.declared.node.Node.TheVariants as Node
 
 -- -- Classes
 
@@ -73,7 +71,6 @@ unfolding trees
 get_or-trees nodes h k =
     ap (λ n. get_or (trees_from [] nodes) n nothing) (sym (zero-add k))
     ∙ trees-from [] nodes (λ j p. ap (λ n. parts_before n (get_or nodes j Node.Nothing)) (zero-add j) ∙ h j p) k
-
 
 -- past the end there is no tree
 pub length-trees_from : (ts : List Tree) (ns : List Node) → length (trees_from ts ns) ≡ length ts + length ns

@@ -1,15 +1,13 @@
 -- What the reader keeps stands for.
-use Rattle.std.specs.Prelude.{ℕ, Bool, true, false, List, Option, Some, None, option_map, map}
+use Rattle.std.specs.Prelude.{Bool, true, false, List, Option, None, option_map}
 use Rattle.syntect_pattern.specs.Sets.{range, none}
 use Rattle.syntect_pattern.specs.Trees.{Tree, one_of, repeat}
 use Rattle.syntect_pattern.specs.Table.{with_ranges, set_of}
 use Rattle.syntect_pattern.specs.Simple.{Place}
 use Rattle.syntect_pattern.specs.Simple as simple
 use Rattle.syntect_pattern.specs.declared.reader.Leaf.{Leaf}
-use Rattle.syntect_pattern.specs.declared.reader.Leaf.TheVariants as Leaf
 use Rattle.syntect_pattern.specs.declared.reader.Item.{Item}
 use Rattle.syntect_pattern.specs.declared.reader.Stage.{Stage}
-use Rattle.syntect_pattern.specs.declared.reader.Stage.TheVariants as Stage
 
 abbrev pub leaf_tree : Leaf → Tree
 leaf_tree (Leaf.Char c) = one_of (range c c)

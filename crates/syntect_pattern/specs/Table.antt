@@ -1,11 +1,10 @@
 -- The trees of a table of nodes, each of which stands behind its parts.
-use Rattle.std.specs.Prelude.{◌≡◌, ℕ, ◌<◌, Bool, true, ◌&&◌, nat_lt, List, [], ◌∷◌, ◌++◌, length, map, slice_index_or}
+use Rattle.std.specs.Prelude.{◌≡◌, ℕ, ◌<◌, Bool, true, ◌&&◌, nat_lt, List, [], ◌∷◌, ◌++◌, length, slice_index_or}
 use Rattle.syntect_pattern.specs.Sets.{Set, none, range, either, negate_if}
 use Rattle.syntect_pattern.specs.Trees.{Tree, nothing, one_of, seq, alt, repeat, group}
 use Rattle.syntect_pattern.specs.declared.node.Range.{Range}
 use Rattle.syntect_pattern.specs.declared.node.Class as declared
 use Rattle.syntect_pattern.specs.declared.node.Node.{Node}
-use Rattle.syntect_pattern.specs.declared.node.Node.TheVariants as Node
 
 -- the set with these ranges
 abbrev pub with_ranges : Set → List Range → Set

@@ -10,7 +10,6 @@ pub mod node;
 pub mod program;
 pub mod reader;
 
-
 /// The law of every search: the groups that stand outside lookarounds are nested or disjoint, lie in the match and end on
 /// boundaries of characters.
 pub fn matches_are_laid_out()

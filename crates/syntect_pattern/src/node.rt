@@ -60,5 +60,8 @@ pub enum Node {
         body: usize,
     },
     /// The group with the number.
-    Group { number: usize, body: usize },
+    Group {
+        number: usize,
+        body: usize,
+    },
 }

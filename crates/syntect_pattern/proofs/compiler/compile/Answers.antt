@@ -1,4 +1,4 @@
-use Rattle.std.proofs.Common.{◌≡◌, ap, ◌∙◌, Option, List, map}
+use Rattle.std.proofs.Common.{ap, ◌∙◌, map}
 use Rattle.std.specs.Prelude.{option_map}
 use Rattle.syntect_pattern.specs.Trees.{seq_all}
 use Rattle.syntect_pattern.specs.Reader.{item_tree}

@@ -1,4 +1,4 @@
-use Rattle.std.proofs.Common.{◌≡◌, refl, sym, ◌∙◌}
+use Rattle.std.proofs.Common.{refl, sym, ◌∙◌}
 use Rattle.syntect_pattern.proofs.BuilderLaws.{IsProgramOf-items, empty_of}
 use Rattle.syntect_pattern.proofs.compiler.program_of.Goals as goal
 

@@ -1,4 +1,4 @@
-use Rattle.std.proofs.Common.{◌≡◌, ◌<◌, length, map, vec_len}
+use Rattle.std.proofs.Common.{◌<◌, length, map, vec_len}
 use Rattle.std.specs.Prelude.{IfSome}
 use Rattle.syntect_pattern.specs.Reader.{item_tree}
 use Rattle.syntect_pattern.specs.Builder.{Built}

@@ -1,4 +1,4 @@
-use Rattle.std.proofs.Common.{◌≡◌, ◌∙◌, ap}
+use Rattle.std.proofs.Common.{◌∙◌, ap}
 use Rattle.syntect_pattern.specs.Sets.{none}
 use Rattle.syntect_pattern.specs.Table.{with_ranges}
 use Rattle.syntect_pattern.proofs.ReaderLaws.{with_ranges-push}

@@ -1,4 +1,3 @@
-use Rattle.std.proofs.Common.{◌≡◌}
 use Rattle.syntect_pattern.proofs.TableLaws.{node-lookup}
 use Rattle.syntect_pattern.proofs.program.Program.node.Goals as goal
 

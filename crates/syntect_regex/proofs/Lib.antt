@@ -1,0 +1,11 @@
+pub mod TextLaws
+pub mod WorkLaws
+pub mod MachineLaws
+pub mod StepLaws
+pub mod TurnLaws
+pub mod BackLaws
+pub mod EnterLaws
+pub mod FirstLaws
+pub mod RunLaws
+pub mod FindLaws
+pub mod RegionLaws

@@ -1,0 +1,8 @@
+//! Patterns and their searches.
+#![tactic(auto)]
+
+mod engine;
+pub mod error;
+pub mod regex;
+pub mod region;
+mod text;

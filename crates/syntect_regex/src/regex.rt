@@ -1,0 +1,140 @@
+//! Patterns.
+ghost use Rattle.std.specs.Prelude.{◌≡◌, ◌≤◌, ◌==◌, take, drop, string_bytes, IfOk, OnErr, IfSome, IfNone, IsCharBoundary, is_some, is_ok, unwrap_or, if◌then◌else◌, None, true};
+ghost use Rattle.std.specs.Cmp.Lexicographic.{pointwise};
+ghost use Rattle.std.proofs.Common.{rules};
+ghost use Rattle.std.specs.Cmp.Rules.{comparing};
+ghost use Rattle.syntect_pattern.specs.Simple.{pattern_tree, pattern_found};
+ghost use Rattle.syntect_regex.specs.declared.error.PatternError.{PatternError};
+ghost use Rattle.syntect_regex.specs.Region.{TakesMatch, Leaves, pattern_begins};
+
+use crate::engine::Search;
+use crate::error::PatternError;
+use crate::region::Region;
+use std::alloc::{AllocError, Global};
+use std::marker::Model;
+use syntect_pattern::compiler::compile;
+use syntect_pattern::program::Program;
+
+/// A pattern, ready to be searched. It is its text: equal texts are equal patterns.
+#[derive(Drop)]
+pub struct Regex {
+    text: String,
+    /// None if the text is no pattern.
+    program: Option<Program>,
+}
+
+impl Model for Regex {
+    ghost use Rattle.std.specs.Prelude.{List, ℕ, string_bytes};
+    ghost use Rattle.syntect_pattern.specs.Compiled.{Compiles};
+
+    ghost Value = { List ℕ };
+
+    ghost view = { λ a. string_bytes a.text };
+
+    ghost invariant = { λ a. Compiles (string_bytes a.text) a.program };
+}
+
+impl Regex {
+    /// The pattern of the text. A text that is no pattern matches nothing.
+    pub fn new(alloc: Global, text: String) -> Result<Regex, AllocError>
+        ensures { IfOk result (λ r. r ≡ string_bytes text) }
+    {
+        let program = compile(alloc, text.as_str())?;
+        Ok(Regex { text, program })
+    }
+
+    /// Why the text is no pattern, if it is none: `NotAPattern`, or `Memory` where that was wanting.
+    pub fn try_compile(alloc: Global, text: &str) -> Option<PatternError>
+        ensures some { IfSome result (λ e. e ≡ PatternError.NotAPattern → pattern_tree text.now ≡ None) }
+        ensures none { IfNone result (is_some (pattern_tree text.now) ≡ true) }
+    {
+        match compile(alloc, text) {
+            Ok(Some(_)) => None,
+            Ok(None) => Some(PatternError::NotAPattern),
+            Err(_) => Some(PatternError::Memory),
+        }
+    }
+
+    /// The text of the pattern.
+    pub fn regex_str(&self) -> &str
+        ensures { result.now ≡ self.now }
+    {
+        self.text.as_str()
+    }
+
+    /// An equal pattern.
+    pub fn clone(&self, alloc: Global) -> Result<Regex, AllocError>
+        ensures { IfOk result (λ r. r ≡ self.now) }
+    {
+        let text = String::from_str(alloc, self.text.as_str())?;
+        Regex::new(alloc, text)
+    }
+
+    /// Searches `text[..end]` from `begin` on, both being byte positions: whether the pattern matches at some place there.
+    /// The least place counts, and the first match at it. Where there is one, the region has its groups; else, and where
+    /// memory is wanting, the region stays.
+    pub fn search_into(
+        &self,
+        text: &str,
+        begin: usize,
+        end: usize,
+        region: &mut Region,
+    ) -> Result<bool, AllocError>
+        requires order { begin ≤ end }
+        requires begin_boundary { IsCharBoundary text.now begin }
+        requires end_boundary { IsCharBoundary text.now end }
+        ensures ok { IfOk result (λ found. TakesMatch (pattern_found self.now (take end text.now) begin) region.old found region.new) }
+        ensures err { OnErr result (region.new ≡ region.old) }
+    {
+        let Some(program) = &self.program else {
+            return Ok(false);
+        };
+        region.find(program, text.split_at(end).0, begin)
+    }
+
+    /// Searches as `search_into` does, where a region is perhaps lent. Without one the memory of the search is let go.
+    pub fn search(
+        &self,
+        alloc: Global,
+        text: &str,
+        begin: usize,
+        end: usize,
+        region: Option<&mut Region>,
+    ) -> Result<bool, AllocError>
+        requires order { begin ≤ end }
+        requires begin_boundary { IsCharBoundary text.now begin }
+        requires end_boundary { IsCharBoundary text.now end }
+        ensures found { IfOk result (λ found. found ≡ is_some (pattern_found self.now (take end text.now) begin)) }
+        ensures region { Leaves (λ old new. new ≡ (if is_ok result then unwrap_or (pattern_found self.now (take end text.now) begin) old else old)) region.entry region.exit }
+    {
+        match region {
+            Some(region) => self.search_into(text, begin, end, region),
+            None => self.search_into(text, begin, end, &mut Region::new(alloc)),
+        }
+    }
+
+    /// Whether a match begins at place 0, wherever it ends.
+    pub fn is_match(&self, alloc: Global, text: &str) -> Result<bool, AllocError>
+        ensures { IfOk result (λ found. found ≡ pattern_begins self.now text.now 0) }
+    {
+        let Some(program) = &self.program else {
+            return Ok(false);
+        };
+        let mut search = Search::new(alloc);
+        search.begins_at(program, text, 0)
+    }
+}
+
+impl PartialEq for Regex {
+    ghost eq = { pointwise ◌==◌ };
+
+    ghost laws = { Prim.search (comparing, rules) };
+
+    fn eq(&self, other: &Self) -> bool {
+        self.text == other.text
+    }
+}
+
+impl Eq for Regex {
+    ghost laws = { Prim.search (comparing, rules) };
+}

@@ -1,0 +1,95 @@
+//! Where the groups of a match stand.
+ghost use Rattle.std.specs.Prelude.{◌≡◌, [], IfOk, OnErr, None, slice_index_or};
+ghost use Rattle.syntect_regex.specs.Region.{Takes, same_groups, same_groups-equiv};
+ghost use Rattle.std.specs.Cmp.{partial_equiv_from_equiv};
+
+use crate::engine::{Search, Span};
+use std::alloc::{AllocError, Global};
+use std::marker::Model;
+use std::mem;
+use syntect_pattern::program::Program;
+
+/// Where each group of a match stands, from 0, which is the whole match. A region also keeps the memory of the last search
+/// for the next one: to search many times, hand in the same one.
+#[derive(Drop)]
+pub struct Region {
+    positions: Vec<Option<Span>>,
+    search: Search,
+}
+
+impl Model for Region {
+    ghost use Rattle.std.specs.Prelude.{List, ℕ, Option};
+
+    ghost Value = { List (Option (ℕ × ℕ)) };
+
+    ghost view = { λ a. a.positions.items };
+}
+
+impl Region {
+    /// A region without groups. Takes no memory.
+    pub fn new(alloc: Global) -> Region
+        ensures { result ≡ [] }
+    {
+        Region {
+            positions: Vec::new(alloc),
+            search: Search::new(alloc),
+        }
+    }
+
+    /// A region without groups. Takes no memory.
+    pub fn default(alloc: Global) -> Region
+        ensures { result ≡ [] }
+    {
+        Region::new(alloc)
+    }
+
+    /// The place where the group of that number begins and the place behind it, both in bytes. None for a group that is
+    /// unset and for a number that is no group's.
+    pub fn pos(&self, group: usize) -> Option<(usize, usize)>
+        ensures { result ≡ slice_index_or self.now group None }
+    {
+        self.positions.get(group).copied().unwrap_or(None)
+    }
+
+    /// An equal region.
+    pub fn clone(&self, alloc: Global) -> Result<Region, AllocError>
+        ensures { IfOk result (λ r. r ≡ self.now) }
+    {
+        Ok(Region {
+            positions: Vec::from_slice(alloc, self.positions.as_slice())?,
+            search: Search::new(alloc),
+        })
+    }
+
+    /// Searches the text from `begin` on: whether the program matches at some place there, of which the least counts. Where
+    /// it does, the region has the groups of that match.
+    pub(crate) fn find(
+        &mut self,
+        program: &Program,
+        text: &str,
+        begin: usize,
+    ) -> Result<bool, AllocError>
+        ensures found { IfOk result (λ b. Takes text.now program.now begin self.old b self.new) }
+        ensures err { OnErr result (self.new ≡ self.old) }
+    {
+        let found = self.search.find(program, text, begin)?;
+        if found {
+            mem::swap(&mut self.positions, &mut self.search.groups);
+        }
+        Ok(found)
+    }
+}
+
+impl PartialEq for Region {
+    ghost eq = { same_groups };
+
+    ghost laws = { partial_equiv_from_equiv same_groups-equiv };
+
+    fn eq(&self, other: &Self) -> bool {
+        self.positions == other.positions
+    }
+}
+
+impl Eq for Region {
+    ghost laws = { same_groups-equiv };
+}
