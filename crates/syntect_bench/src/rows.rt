@@ -1,10 +1,9 @@
 //! The worked examples.
+use crate::make::{foreground, grey, scope, scopes, theme};
 use std::alloc::Global;
 use syntect_scope::repository::{ParseScopeError, ScopeRepository};
 use syntect_scope::stack::{ClearAmount, ScopeError, ScopeStack, ScopeStackOp};
 use syntect_style::highlighter::Highlighter;
-
-use crate::make::{foreground, grey, scope, scopes, theme};
 
 /// An example.
 #[derive(Clone, Copy)]
