@@ -9,7 +9,10 @@ use Rattle.std.specs.Cmp.Lexicographic.{pointwise}
 use Rattle.std.proofs.lemmas.Bool.Decides.{nat_tests, same_from_decides, Decides-like}
 use Rattle.std.proofs.lemmas.List.{append-nil, length-take, take-append-le}
 use Rattle.std.specs.Str.{bytes_eq}
-use Rattle.syntect_scope.specs.Repository.{with_atom, with_atoms, number_in, place_in, scope_in, with_scopes, atom_texts, is_too_long, atom_text, scope_text, IsDistinct, IsRepository}
+use Rattle.syntect_scope.specs.declared.repository.ParseScopeError.{ParseScopeError}
+use Rattle.syntect_scope.specs.declared.repository.ParseScopeError.TheVariants.{TooLong, TooManyAtoms, Memory}
+use Rattle.std.specs.Prelude.{nat_lt}
+use Rattle.syntect_scope.specs.Repository.{with_atom, with_atoms, number_in, place_in, scope_in, with_scopes, atom_texts, is_too_long, first_refusal, MayRefuse, atom_text, scope_text, IsDistinct, IsRepository}
 
 same : (n : ℕ) → (n == n) ≡ true
 same n = grind (arith, nat_tests)
@@ -283,36 +286,9 @@ pub scope_more : (d : Bor (List ℕ)) {new : List (List ℕ)} {s : List ℕ} (ol
     → (scopes ++ s ∷ []) ++ map (scope_in (with_scopes old (map (λ x. x.now) parts))) (map (λ x. x.now) (drop (i + 1) parts)) ≡ map (scope_in (with_scopes old (map (λ x. x.now) parts))) (map (λ x. x.now) parts)
 scope_more d {new} {s} old self scopes parts i l e f a g =
     let ss : s ≡ scope_in (with_scopes old (map (λ x. x.now) parts)) (get_or parts i d).now =
-      f ∙ ap (λ (k : List (List ℕ)). scope_in k (get_or parts i d).now) e ∙ sym (scope_stays self (map (λ x. x.now) (drop (i + 1) parts)) (get_or parts i d).now)
-        ∙ ap (λ (k : List (List ℕ)). scope_in k (get_or parts i d).now) (sym (scopes_step self parts i d l) ∙ a) in
+    f ∙ ap (λ (k : List (List ℕ)). scope_in k (get_or parts i d).now) e ∙ sym (scope_stays self (map (λ x. x.now) (drop (i + 1) parts)) (get_or parts i d).now)
+    ∙ ap (λ (k : List (List ℕ)). scope_in k (get_or parts i d).now) (sym (scopes_step self parts i d l) ∙ a) in
     rw ss (sym (scopes_given_step (with_scopes old (map (λ x. x.now) parts)) scopes parts i d l) ∙ g)
-
-pub scopes_too_many : (d : Bor (List ℕ)) (old self : List (List ℕ)) (parts : List (Bor (List ℕ))) (i : ℕ) → i < length parts
-    → with_scopes self (map (λ x. x.now) (drop i parts)) ≡ with_scopes old (map (λ x. x.now) parts)
-    → 65534 < length (with_atoms self (atom_texts (get_or parts i d).now)) → 65534 < length (with_scopes old (map (λ x. x.now) parts))
-scopes_too_many d old self parts i l a m =
-    let next = with_atoms self (atom_texts (get_or parts i d).now) in
-    let g : (rest : List (List ℕ)) × (with_scopes next (map (λ x. x.now) (drop (i + 1) parts)) ≡ next ++ rest) = scopes_grow next (map (λ x. x.now) (drop (i + 1) parts)) in
-    omega (arith, m, ap length (sym (scopes_step self parts i d l) ∙ a), ap length g.1, length-append next g.0)
-
--- a text that passes a test is among those that do
-pub any_at : (p : List ℕ → Bool) (parts : List (Bor (List ℕ))) (i : ℕ) (d : Bor (List ℕ)) → i < length parts → p (get_or parts i d).now ≡ true → list_any p (map (λ x. x.now) parts) ≡ true
-any_at p [] i d l h = absurd (omega arith)
-any_at p (x ∷ parts) zero d l h = rw h refl
-any_at p (x ∷ parts) (suc i) d l h = or_right (p x.now) (any_at p parts i d (omega arith) h)
-  where
-    or_right : (b : Bool) {o : Bool} → o ≡ true → (b || o) ≡ true
-    or_right true e = refl
-    or_right false e = e
-
-pub none_more : (p : List ℕ → Bool) (parts : List (Bor (List ℕ))) (i : ℕ) (d : Bor (List ℕ)) → i < length parts → p (get_or parts i d).now ≡ false
-    → list_any p (map (λ x. x.now) (take i parts)) ≡ false → list_any p (map (λ x. x.now) (take (i + 1) parts)) ≡ false
-none_more p [] i d l h n = absurd (omega arith)
-none_more p (x ∷ parts) zero d l h n = or_neither _ _ h refl
-none_more p (x ∷ parts) (suc i) d l h n =
-    let z : suc i + 1 ≡ suc (i + 1) = omega arith in
-    let both : (p x.now ≡ false) × (list_any p (map (λ x. x.now) (take i parts)) ≡ false) = or_both _ _ n in
-    rw z (or_neither _ _ both.0 (none_more p parts i d (omega arith) h both.1))
 
 pub long_test : (text : List ℕ) → 8 < length (atom_texts text) → is_too_long text ≡ true
 long_test text h = grind (arith, nat_tests)
@@ -323,13 +299,6 @@ short_test text h = grind (arith, nat_tests)
 pub kept_more : (d : Bor (List ℕ)) {new : List (List ℕ)} (old self : List (List ℕ)) (parts : List (Bor (List ℕ))) (i : ℕ) → new ≡ with_atoms self (atom_texts (get_or parts i d).now)
     → take (length old) self ≡ old → take (length old) new ≡ old
 kept_more d {new} old self parts i e h = rw e (front_stays old self (atom_texts (get_or parts i d).now) h)
-
-pub long_at : (d : Bor (List ℕ)) (parts : List (Bor (List ℕ))) (i : ℕ) → i < length parts → 8 < length (atom_texts (get_or parts i d).now) → list_any is_too_long (map (λ x. x.now) parts) ≡ true
-long_at d parts i l h = any_at is_too_long parts i d l (long_test (get_or parts i d).now h)
-
-pub short_more : (d : Bor (List ℕ)) (parts : List (Bor (List ℕ))) (i : ℕ) → i < length parts → (8 < length (atom_texts (get_or parts i d).now) → ⊥)
-    → list_any is_too_long (map (λ x. x.now) (take i parts)) ≡ false → list_any is_too_long (map (λ x. x.now) (take (i + 1) parts)) ≡ false
-short_more d parts i l h n = none_more is_too_long parts i d l (short_test (get_or parts i d).now h) n
 
 -- ---- refusals of calls that answer different things ----
 
@@ -345,3 +314,31 @@ carried U {a} e = ap (err_in U) (ap (error_or a) e)
 
 pub no_error : {T E : Type 0} {x : T} {e : E} → Ok x ≡ Err e → ⊥
 no_error h = cc
+
+-- ---- the first refusal ----
+
+-- one of the texts is taken up
+refusal_step : (d : Bor (List ℕ)) (self : List (List ℕ)) (parts : List (Bor (List ℕ))) (i : ℕ) → i < length parts → is_too_long (get_or parts i d).now ≡ false → length (with_atoms self (atom_texts (get_or parts i d).now)) ≤ 65534
+    → first_refusal self (map (λ x. x.now) (drop i parts)) ≡ first_refusal (with_atoms self (atom_texts (get_or parts i d).now)) (map (λ x. x.now) (drop (i + 1) parts))
+refusal_step d self [] i l s r = absurd (omega arith)
+refusal_step d self (p ∷ parts) zero l s r = let k : nat_lt 65534 (length (with_atoms self (atom_texts p.now))) ≡ false = grind (arith, nat_tests) in rw (s, k) refl
+refusal_step d self (p ∷ parts) (suc i) l s r = let z : suc i + 1 ≡ suc (i + 1) = omega arith in rw z (refusal_step d self parts i (omega arith) s r)
+
+pub refusal_more : (d : Bor (List ℕ)) {new : List (List ℕ)} (self old : List (List ℕ)) (parts : List (Bor (List ℕ))) (i : ℕ) → i < length parts → new ≡ with_atoms self (atom_texts (get_or parts i d).now) → IsRepository new
+    → (8 < length (atom_texts (get_or parts i d).now) → ⊥) → first_refusal self (map (λ x. x.now) (drop i parts)) ≡ first_refusal old (map (λ x. x.now) parts)
+    → first_refusal new (map (λ x. x.now) (drop (i + 1) parts)) ≡ first_refusal old (map (λ x. x.now) parts)
+refusal_more d {new} self old parts i l e whole short h =
+    let limit : length (with_atoms self (atom_texts (get_or parts i d).now)) ≤ 65534 = omega (arith, ap length e, whole.limit) in
+    ap (λ (r : List (List ℕ)). first_refusal r (map (λ x. x.now) (drop (i + 1) parts))) e ∙ sym (refusal_step d self parts i l (short_test (get_or parts i d).now short) limit) ∙ h
+
+pub refused_long : (d : Bor (List ℕ)) (self : List (List ℕ)) (parts : List (Bor (List ℕ))) (i : ℕ) → i < length parts → 8 < length (atom_texts (get_or parts i d).now)
+    → first_refusal self (map (λ x. x.now) (drop i parts)) ≡ Some TooLong
+refused_long d self [] i l h = absurd (omega arith)
+refused_long d self (p ∷ parts) zero l h = rw (long_test p.now h) refl
+refused_long d self (p ∷ parts) (suc i) l h = refused_long d self parts i (omega arith) h
+
+pub refused_full : (d : Bor (List ℕ)) (self : List (List ℕ)) (parts : List (Bor (List ℕ))) (i : ℕ) → i < length parts → (8 < length (atom_texts (get_or parts i d).now) → ⊥) → 65534 < length (with_atoms self (atom_texts (get_or parts i d).now))
+    → first_refusal self (map (λ x. x.now) (drop i parts)) ≡ Some TooManyAtoms
+refused_full d self [] i l s h = absurd (omega arith)
+refused_full d self (p ∷ parts) zero l s h = let k : nat_lt 65534 (length (with_atoms self (atom_texts p.now))) ≡ true = grind (arith, nat_tests) in rw (short_test p.now s, k) refl
+refused_full d self (p ∷ parts) (suc i) l s h = refused_full d self parts i (omega arith) s h

@@ -47,6 +47,7 @@ found_text t (x ∷ xs) i k h = go (found_text t xs (i + 1) k) (bytes_eq t x) re
   where
     some_is : {a b : ℕ} → Some a ≡ Some b → a ≡ b
     some_is {a} e = ap (λ o. unwrap_or o a) e
+
     go : (position_from (bytes_eq t) (i + 1) xs ≡ Some k → (i + 1 ≤ k) × (slice_get xs (k - (i + 1)) ≡ Some t)) → (d : Bool) → bytes_eq t x ≡ d → (if d then Some i else position_from (bytes_eq t) (i + 1) xs) ≡ Some k → (i ≤ k) × (slice_get (x ∷ xs) (k - i) ≡ Some t)
     go later true e h =
         let same : i ≡ k = some_is h in

@@ -22,6 +22,7 @@ char_words_past (c ∷ gap) rest h = rw (white c h.0) (char_words_past gap rest 
     flip : (b : Bool) → not b ≡ false → b ≡ true
     flip true e = refl
     flip false e = cc
+
     white : (c : ℕ) → is_not_whitespace c ≡ false → is_whitespace c ≡ true
     white c e = flip (is_whitespace c) e
 
@@ -49,15 +50,27 @@ and_false false = refl
 
 far_white : (c : ℕ) → 55296 ≤ c → is_whitespace c ≡ false
 far_white c g =
-    rw (not_below c 14 (omega arith), not_below c 8203 (omega arith), and_false (nat_lt 8 c), and_false (nat_lt 8191 c),
-      not_equal c 32 (omega arith), not_equal c 133 (omega arith), not_equal c 160 (omega arith), not_equal c 5760 (omega arith), not_equal c 8232 (omega arith),
-      not_equal c 8233 (omega arith), not_equal c 8239 (omega arith), not_equal c 8287 (omega arith), not_equal c 12288 (omega arith)) refl
+    rw (
+      not_below c 14 (omega arith),
+      not_below c 8203 (omega arith),
+      and_false (nat_lt 8 c),
+      and_false (nat_lt 8191 c),
+      not_equal c 32 (omega arith),
+      not_equal c 133 (omega arith),
+      not_equal c 160 (omega arith),
+      not_equal c 5760 (omega arith),
+      not_equal c 8232 (omega arith),
+      not_equal c 8233 (omega arith),
+      not_equal c 8239 (omega arith),
+      not_equal c 8287 (omega arith),
+      not_equal c 12288 (omega arith),
+    ) refl
 
 white_scalar : (c : ℕ) → is_not_whitespace c ≡ false → scalar c ≡ true
 white_scalar c e = elim (cases_lt c 55296) [
-    inl l ↦ low_scalar c l
+  | inl l ↦ low_scalar c l
   | inr g ↦ let w : is_not_whitespace c ≡ true = ap not (far_white c g) in cc
-  ]
+]
 
 white_scalars : (cs : List ℕ) → NonePass is_not_whitespace cs → scalars cs ≡ true
 white_scalars [] h = refl
@@ -112,11 +125,11 @@ word_step bs gap x r more u e l g n h =
     let cg : chars gap ≡ g.0 = sym (chars_from_encodes g.0 gap ug g.1) in
     let cx : chars x ≡ n.0 = sym (chars_from_encodes n.0 x ux n.1) in
     let all : chars bs ≡ g.0 ++ (n.0 ++ chars r) =
-      ap chars e ∙ chars-append gap (x ++ r) ug ∙ ap (λ (l : List ℕ). l ++ chars (x ++ r)) cg ∙ ap (λ (l : List ℕ). g.0 ++ l) (chars-append x r ux ∙ ap (λ (l : List ℕ). l ++ chars r) cx) in
+    ap chars e ∙ chars-append gap (x ++ r) ug ∙ ap (λ (l : List ℕ). l ++ chars (x ++ r)) cg ∙ ap (λ (l : List ℕ). g.0 ++ l) (chars-append x r ux ∙ ap (λ (l : List ℕ). l ++ chars r) cx) in
     let some : 0 < length n.0 = some_chars n.0 (subst (λ (l : List ℕ). 0 < length l) (sym n.1) l) in
     let after : (parts : List (List ℕ)) × (slice_split is_whitespace (chars r) ≡ [] ∷ parts) = parts_after r more ur h in
     let found : char_words (chars bs) ≡ n.0 ∷ char_words (chars r) =
-      ap char_words all ∙ char_words_past g.0 (n.0 ++ chars r) g.2 ∙ first_word n.0 (chars r) after.0 n.2 some after.1 in
+    ap char_words all ∙ char_words_past g.0 (n.0 ++ chars r) g.2 ∙ first_word n.0 (chars r) after.0 n.2 some after.1 in
     (ur, ap (map encode_utf8_all) found ∙ ap (λ (t : List ℕ). t ∷ words r) n.1)
 
 -- no word is left

@@ -3,6 +3,8 @@ use Rattle.std.specs.Prelude.{◌≡◌, ℕ, zero, suc, ◌==◌, nat_lt, ◌+�
 use Rattle.std.specs.Option.{option_map_or}
 use Rattle.std.specs.List.{slice_split, position_from, list_any, join_with_byte}
 use Rattle.std.specs.Str.{bytes_eq}
+use Rattle.syntect_scope.specs.declared.repository.ParseScopeError.{ParseScopeError}
+use Rattle.syntect_scope.specs.declared.repository.ParseScopeError.TheVariants.{TooLong, TooManyAtoms, Memory}
 
 -- ---- the atoms of a text ----
 
@@ -62,6 +64,21 @@ with_scopes repo (text ∷ texts) = with_scopes (with_atoms repo (atom_texts tex
 -- a text names more than eight atoms
 abbrev pub is_too_long : List ℕ → Bool
 is_too_long text = nat_lt 8 (length (atom_texts text))
+
+-- the refusal of the first of the scopes that a repository can't take, if there is one: too many atoms in the text, or
+-- more in the repository than it can hold
+abbrev pub first_refusal : List (List ℕ) → List (List ℕ) → Option ParseScopeError
+first_refusal repo [] = None
+first_refusal repo (text ∷ texts) =
+    if is_too_long text then Some TooLong
+    else if nat_lt 65534 (length (with_atoms repo (atom_texts text))) then Some TooManyAtoms
+    else first_refusal (with_atoms repo (atom_texts text)) texts
+
+-- want of memory, or this refusal
+abbrev pub MayRefuse : Option ParseScopeError → ParseScopeError → Type 0
+MayRefuse o Memory = Unit {0}
+MayRefuse o TooLong = o ≡ Some TooLong
+MayRefuse o TooManyAtoms = o ≡ Some TooManyAtoms
 
 -- ---- the text of a scope ----
 

@@ -27,14 +27,6 @@ applied Restore s = record {
 applied Noop s = s
 
 -- the operation restores, and nothing is remembered
-abbrev pub IsRefused : ScopeStackOp → ScopeStack → Type 0
-IsRefused Restore s = s.clear_stack ≡ []
-IsRefused (Push scope) s = ⊥
-IsRefused (Pop count) s = ⊥
-IsRefused (Clear amount) s = ⊥
-IsRefused Noop s = ⊥
-
--- the same as a test
 abbrev pub is_refused : ScopeStackOp → ScopeStack → Bool
 is_refused Restore s = none_cleared s.clear_stack
   where

@@ -1,9 +1,9 @@
 //! The repository of atoms: their texts, each with its number.
-ghost use Rattle.std.specs.Prelude.{◌≡◌, ◌≢◌, ◌==◌, ◌<◌, ◌≤◌, ◌+◌, ◌-◌, ◌↔◌, [], ◌∷◌, ◌++◌, length, map, take, List, ℕ, IsTrue, IsErr, IfOk, OnOk, OnErr, IfErr, IsErrOf, IfSome, IfNone, string_bytes, None, true};
+ghost use Rattle.std.specs.Prelude.{◌≡◌, ◌≢◌, ◌==◌, ◌<◌, ◌≤◌, ◌+◌, ◌-◌, ◌↔◌, [], ◌∷◌, ◌++◌, length, map, take, List, ℕ, IsTrue, IsErr, IfOk, OnOk, OnErr, IfErr, IsErrOf, IfSome, IfNone, string_bytes, None};
 ghost use Rattle.std.specs.Option.{option_copied, option_map};
-ghost use Rattle.std.specs.List.{slice_split, list_any};
+ghost use Rattle.std.specs.List.{slice_split};
 ghost use Rattle.std.specs.Str.{trim};
-ghost use Rattle.syntect_scope.specs.Repository.{atom_in, atom_text, atom_texts, place_in, scope_in, scope_text, with_atom, with_atoms, with_scopes, is_too_long, number_in, without_dots, IsRepository};
+ghost use Rattle.syntect_scope.specs.Repository.{atom_in, atom_text, atom_texts, place_in, scope_in, scope_text, with_atom, with_atoms, with_scopes, first_refusal, MayRefuse, number_in, without_dots, IsRepository};
 ghost use Rattle.syntect_scope.specs.Stack.{plain};
 ghost use Rattle.syntect_scope.specs.Words.{words};
 ghost use Rattle.syntect_scope.specs.declared.repository.ParseScopeError.TheVariants.{Memory};
@@ -22,11 +22,11 @@ pub enum ParseScopeError {
     /// It has more than eight atoms. This is tested before anything else.
     #[error("Too long scope. Scopes can be at most 8 atoms long.")]
     TooLong,
-    /// A new atom would be the 65535th.
+    /// The repository is full, and the text has an atom that it lacks.
     #[error("Too many atoms. Max 2^16-2 atoms allowed.")]
     TooManyAtoms,
     /// There was no memory.
-    #[error("out of memory")]
+    #[error("Memory")]
     Memory,
 }
 
@@ -306,10 +306,8 @@ impl ScopeStack {
     ) -> Result<ScopeStack, ParseScopeError>
         ensures atoms { OnOk result (repository.new ≡ with_scopes repository.old (words s.now)) }
         ensures scopes { IfOk result (λ stack. stack ≡ plain (map (scope_in repository.new) (words s.now))) }
-        ensures too_long { IsErrOf result ParseScopeError.TooLong → list_any is_too_long (words s.now) ≡ true }
-        ensures long { list_any is_too_long (words s.now) ≡ true → IsErr result }
-        ensures too_many { IsErrOf result ParseScopeError.TooManyAtoms → 65534 < length (with_scopes repository.old (words s.now)) }
-        ensures full { 65534 < length (with_scopes repository.old (words s.now)) → IsErr result }
+        ensures accepted { OnOk result (first_refusal repository.old (words s.now) ≡ None) }
+        ensures refused { IfErr result (MayRefuse (first_refusal repository.old (words s.now))) }
         ensures whole { IsRepository repository.new }
         ensures kept { take (length repository.old) repository.new ≡ repository.old }
     {

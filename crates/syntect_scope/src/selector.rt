@@ -1,7 +1,7 @@
 //! Selectors: which stacks of scopes a rule speaks of.
-use crate::stack::ScopeStack;
 ghost use Rattle.std.specs.Prelude.{◌≡◌, IfOk};
 
+use crate::stack::ScopeStack;
 use std::alloc::AllocError;
 use syntect_values::seq::Seq;
 

@@ -1,6 +1,6 @@
 //! Stacks of scopes and the operations on them.
 ghost use Rattle.std.specs.Prelude.{◌≡◌, ◌==◌, ◌<◌, ◌≤◌, ◌+◌, ◌-◌, ◌↔◌, [], ◌∷◌, ◌++◌, length, take, drop, List, ℕ, IsTrue, IsOk, IfOk, OnOk, OnErr, IsErrOf, string_bytes};
-ghost use Rattle.syntect_scope.specs.Stack.{applied, IsRefused, TakesNoMemory, plain};
+ghost use Rattle.syntect_scope.specs.Stack.{applied, is_refused, TakesNoMemory, plain};
 ghost use Rattle.syntect_scope.specs.Repository.{scopes_text};
 ghost use Rattle.syntect_scope.specs.declared.stack.ScopeError.TheVariants.{Memory};
 
@@ -17,7 +17,7 @@ pub enum ScopeError {
     #[error("Tried to restore cleared scopes, but none were cleared")]
     NoClearedScopesToRestore,
     /// There was no memory.
-    #[error("out of memory")]
+    #[error("Memory")]
     Memory,
 }
 
@@ -180,7 +180,7 @@ impl ScopeStack {
     /// Applies an operation. A refusal changes nothing. `Pop` and `Noop` take no memory.
     pub fn apply(&mut self, op: &ScopeStackOp) -> Result<(), ScopeError>
         ensures ok { OnOk result (self.new ≡ applied op.now self.old) }
-        ensures nothing_cleared { IsErrOf result ScopeError.NoClearedScopesToRestore ↔ IsRefused op.now self.old }
+        ensures nothing_cleared { IsErrOf result ScopeError.NoClearedScopesToRestore ↔ IsTrue (is_refused op.now self.old) }
         ensures free { TakesNoMemory op.now → IsOk result }
         ensures err { OnErr result (self.new ≡ self.old) }
     {

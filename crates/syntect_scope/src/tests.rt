@@ -1,7 +1,7 @@
 use crate::power::MatchPower;
 use crate::repository::{ParseScopeError, ScopeRepository};
 use crate::scope::Scope;
-use crate::selector::ScopeSelector;
+use crate::selector::{ScopeSelector, ScopeSelectors};
 use crate::stack::{ClearAmount, ScopeError, ScopeStack, ScopeStackOp};
 use std::cmp::Ordering;
 use std::io;
@@ -111,12 +111,19 @@ fn stacks_of_texts(rt: HostRuntime) -> io::Result<()> {
     let text = " source.rust\tstring.quoted.\u{2003}a\n";
     match ScopeStack::from_text(alloc, text, &mut repository) {
         Ok(stack) => {
-            assert_eq!(rt; stack.build_string(&repository)?.as_str(), "source.rust string.quoted a ");
+            assert_eq!(rt;
+                stack.build_string(&repository)?.as_str(),
+                "source.rust string.quoted a "
+            );
             let selector = ScopeSelector {
                 path: stack,
                 excludes: Seq::new(alloc),
             };
             assert!(rt; selector.clone()? == selector);
+            let mut selectors = Seq::new(alloc);
+            selectors.push(selector)?;
+            let selectors = ScopeSelectors { selectors };
+            assert!(rt; selectors.clone()? == selectors);
         }
         Err(_) => assert!(rt; false),
     }

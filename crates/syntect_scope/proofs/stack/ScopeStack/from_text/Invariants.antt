@@ -1,6 +1,5 @@
-use Rattle.std.proofs.Common.{◌≡◌, ◌++◌, length, take, drop, map, false}
-use Rattle.std.specs.List.{list_any}
-use Rattle.syntect_scope.specs.Repository.{with_scopes, scope_in, is_too_long, IsRepository}
+use Rattle.std.proofs.Common.{◌≡◌, ◌++◌, length, take, drop, map}
+use Rattle.syntect_scope.specs.Repository.{with_scopes, scope_in, first_refusal, IsRepository}
 use Rattle.syntect_scope.proofs.stack.ScopeStack.from_text.Given as goal
 
 abbrev pub invariant-loop-word : goal.invariant-loop-word
@@ -11,6 +10,6 @@ invariant-loop-word l =
       added : with_scopes l.repository rest ≡ with_scopes l.fn.repository texts;
       given : l.scopes.items ++ map (scope_in (with_scopes l.fn.repository texts)) rest ≡ map (scope_in (with_scopes l.fn.repository texts)) texts;
       grown : take (length l.fn.repository) l.repository ≡ l.fn.repository;
-      short : list_any is_too_long (map (λ x. x.now) (take l.word-index l.word-items)) ≡ false;
-      whole : IsRepository l.repository
+      refused : first_refusal l.repository rest ≡ first_refusal l.fn.repository texts;
+      whole : IsRepository l.repository;
     }
