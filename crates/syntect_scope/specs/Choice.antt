@@ -38,6 +38,11 @@ score_at (s ∷ path) [] = 0
 abbrev pub path_score : List (List ℕ) → List (List ℕ) → Option ℕ
 path_score path stack = option_map (score_at path) (least_choice path stack)
 
+-- the score of a stack that serves as a path: none where it has no scopes
+abbrev pub stack_score : List (List ℕ) → List (List ℕ) → Option ℕ
+stack_score [] stack = None
+stack_score (s ∷ path) stack = path_score (s ∷ path) stack
+
 -- an exclusion that is empty or has a choice
 abbrev pub excludes : List (List ℕ) → ScopeStack → Bool
 excludes stack exclusion = is_some (least_choice exclusion.scopes stack)

@@ -3,6 +3,7 @@ pub mod Stack
 pub mod Replay
 pub mod Digits
 pub mod Choice
+pub mod Greedy
 pub mod Repository
 pub mod Words
 pub mod Laws

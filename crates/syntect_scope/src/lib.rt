@@ -5,6 +5,7 @@
 #![tactic(auto)]
 
 pub mod laws;
+mod matching;
 pub mod power;
 pub mod repository;
 pub mod scope;
