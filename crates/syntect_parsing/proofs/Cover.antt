@@ -3,7 +3,8 @@ use Rattle.std.proofs.Common.{◌≡◌, ℕ, zero, suc, ◌+◌, ◌-◌, ◌�
 use Rattle.std.proofs.lemmas.List.{length-replicate, length-map}
 use Rattle.std.specs.List.{range_with_len, filter_map, cons_option}
 use Rattle.std.proofs.lemmas.Bool.Decides.{nat_tests}
-use Rattle.syntect_parsing.specs.Engine.{Engine, Groups}
+use Rattle.syntect_parsing.specs.Engine.{Engine}
+use Rattle.syntect_parsing.specs.Substitution.{Groups}
 use Rattle.syntect_parsing.specs.Contexts.{context_at}
 use Rattle.syntect_parsing.specs.Chain.{Member, last, chain, prototypes_in}
 use Rattle.syntect_parsing.specs.Turn.{Live, Choice, Take, Skip, End, counts, counted, matched, live, live_match, searched_text, group_at, choice_of, winner, is_least, loops, char_len, missing, refusal, position_after, trimmed}
@@ -14,7 +15,7 @@ use Rattle.syntect_parsing.proofs.Finds.{FindsInOrder, finds_in_order}
 use Rattle.syntect_parsing.specs.declared.syntax_definition.Context.{Context}
 use Rattle.syntect_parsing.specs.declared.syntax_set.SyntaxSet.{SyntaxSet}
 use Rattle.syntect_parsing.specs.declared.parser.Level.{Level}
-use Rattle.syntect_parsing.specs.Position.{Position}
+use Rattle.syntect_parsing.specs.declared.position.Position.{Position}
 use Rattle.syntect_parsing.specs.declared.parser.ParseState.{ParseState}
 use Rattle.syntect_parsing.specs.declared.parser.ParsingError.{ParsingError}
 
@@ -42,7 +43,7 @@ counted_in : (height : ℕ) (member : Member) (text : List ℕ) (groups : Groups
 counted_in height member text groups line place None h = tt
 counted_in height member text groups line place (Some at) h = by (counts height member.pattern.operation at.0 at.1) (h at.0 at.1 refl)
   where
-    by : (b : Bool) → (place ≤ at.0) × (at.0 ≤ at.1) × (at.1 ≤ length line) → IfIn line place (if b then Some (record { member = member; searched = text; groups = groups; start = at.0; end = at.1 }) else None)
+    by : (b : Bool) → (place ≤ at.0) × (at.0 ≤ at.1) × (at.1 ≤ length line) → IfIn line place (if b then Some (record { pattern = member.pattern; from_with_prototype = member.from_with_prototype; searched = text; groups = groups; start = at.0; end = at.1 }) else None)
     by true k = record { from = k.0; ordered = k.1; within = k.2 }
     by false k = tt
 
@@ -53,7 +54,7 @@ matched_in height member text line place (Some groups) h = counted_in height mem
 
 live_match_in : (engine : Engine) (line : List ℕ) → FindsInOrder engine line → (height : ℕ) (place : ℕ) (member : Member) → IfIn line place (live_match engine height line place member)
 live_match_in engine line finds height place member =
-    let text : List ℕ = searched_text member.pattern member.opening in
+    let text : List ℕ = searched_text engine member.pattern member.opening in
     matched_in height member text line place (engine.found text line place) (λ groups s e f g. finds text place s e groups f g)
 
 cons_in : (line : List ℕ) (place : ℕ) (o : Option Live) (ms : List Live) → IfIn line place o → AllIn line place ms → AllIn line place (cons_option o ms)
@@ -106,15 +107,15 @@ passed engine set levels line place m h =
       arith,
       h.from,
       h.ordered,
-      length-append (replicate (m.start - place) (open_scopes set levels)) (map (scopes_at engine (base set levels m.member.pattern.operation) m) (range_with_len m.start (m.end - m.start))),
+      length-append (replicate (m.start - place) (open_scopes set levels)) (map (scopes_at engine (base set levels m.pattern.operation) m) (range_with_len m.start (m.end - m.start))),
       length-replicate (m.start - place) (open_scopes set levels),
-      length-map (range_with_len m.start (m.end - m.start)) (scopes_at engine (base set levels m.member.pattern.operation) m),
+      length-map (range_with_len m.start (m.end - m.start)) (scopes_at engine (base set levels m.pattern.operation) m),
       length_range (m.end - m.start) m.start,
     )
 
 step_in_order : (engine : Engine) (set : SyntaxSet) (line : List ℕ) (p : Position) (choice : Choice) → p.place ≤ length line → IsChoiceIn line p.place choice → InOrder line p.place (step engine set line p choice)
 step_in_order engine set line p (Take m) l h =
-    unless_in_order line p.place (refusal set m.member.pattern) (Goes (scopes_passed engine set p.levels p.place m) (position_after set line p m)) (passed engine set p.levels line p.place m h, h.within)
+    unless_in_order line p.place (refusal set m.pattern) (Goes (scopes_passed engine set p.levels p.place m) (position_after set line p m)) (passed engine set p.levels line p.place m h, h.within)
 step_in_order engine set line p Skip l h = (omega (arith, length-replicate (char_len line p.place) (open_scopes set p.levels)), omega arith)
 step_in_order engine set line p End l h = ended_in_order set line p l
 

@@ -9,7 +9,8 @@ use Rattle.syntect_pattern.specs.Grammar.{tree_of}
 use Rattle.syntect_pattern.specs.Simple.{pattern_tree}
 use Rattle.syntect_pattern.specs.Reading.{◌>>=◌}
 use Rattle.syntect_pattern.specs.Nesting.{FindsMatches, IsMatch, LiesIn}
-use Rattle.syntect_parsing.specs.Engine.{Groups, dialect, whole_dialect}
+use Rattle.syntect_parsing.specs.Engine.{dialect, whole_dialect}
+use Rattle.syntect_parsing.specs.Substitution.{Groups}
 use Rattle.syntect_parsing.specs.Turn.{group_at}
 use Rattle.syntect_parsing.specs.Laws.{FindsInText, StandsIn}
 

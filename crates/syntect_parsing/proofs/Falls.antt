@@ -8,7 +8,8 @@ use Rattle.std.proofs.lemmas.Bool.Decides.{nat_tests}
 use Rattle.std.proofs.Math.Nat.{mul-le-mul_left}
 use Rattle.std.specs.List.{filter_map, cons_option, flat_map, list_any}
 use Rattle.std.specs.Option.{option_map_or, option_and_then, option_to_list}
-use Rattle.syntect_parsing.specs.Engine.{Engine, Groups}
+use Rattle.syntect_parsing.specs.Engine.{Engine}
+use Rattle.syntect_parsing.specs.Substitution.{Groups}
 use Rattle.syntect_parsing.specs.Contexts.{is_same, context_at, target, contexts_of}
 use Rattle.syntect_parsing.specs.Chain.{Member, last, entries, included, walk_patterns, walk, room_in, patterns_in, members, chain, in_sight, prototypes_in}
 use Rattle.syntect_parsing.specs.Turn.{Live, Choice, Take, Skip, End, counts, counted, matched, live, live_match, searched_text, group_at, choice_of, winner, is_least, loops, turns_back, char_len, list_of, missing, refusal, new_levels, without_last, opened, levels_by, levels_after, idle_by, position_after, trimmed}
@@ -28,7 +29,7 @@ use Rattle.syntect_parsing.specs.declared.syntax_definition.Context.{Context}
 use Rattle.syntect_parsing.specs.declared.syntax_set.SyntaxSet.{SyntaxSet}
 use Rattle.syntect_parsing.specs.declared.parser.Opening.{Opening}
 use Rattle.syntect_parsing.specs.declared.parser.Level.{Level}
-use Rattle.syntect_parsing.specs.Position.{Position}
+use Rattle.syntect_parsing.specs.declared.position.Position.{Position}
 use Rattle.syntect_parsing.specs.declared.parser.ParseState.{ParseState}
 use Rattle.syntect_parsing.specs.declared.parser.ParsingError.{ParsingError}
 use Rattle.syntect_parsing.specs.declared.parser.ParsingError.TheVariants as error
@@ -128,8 +129,8 @@ record IsFine (r height : ℕ) (line : List ℕ) (place : ℕ) (m : Live) : Type
   from : place ≤ m.start
   ordered : m.start ≤ m.end
   within : m.end ≤ length line
-  up_to : length_of_list m.member.pattern ≤ r
-  counted : counts height m.member.pattern.operation m.start m.end ≡ true
+  up_to : length_of_list m.pattern ≤ r
+  counted : counts height m.pattern.operation m.start m.end ≡ true
 
 abbrev IfFine : ℕ → ℕ → List ℕ → ℕ → Option Live → Type 0
 IfFine r height line place None = Unit {0}
@@ -141,7 +142,7 @@ counted_fine r height member text groups line place None u h = tt
 counted_fine r height member text groups line place (Some at) u h = by (counts height member.pattern.operation at.0 at.1) refl (h at.0 at.1 refl)
   where
     by : (b : Bool) → counts height member.pattern.operation at.0 at.1 ≡ b → (place ≤ at.0) × (at.0 ≤ at.1) × (at.1 ≤ length line)
-        → IfFine r height line place (if b then Some (record { member = member; searched = text; groups = groups; start = at.0; end = at.1 }) else None)
+        → IfFine r height line place (if b then Some (record { pattern = member.pattern; from_with_prototype = member.from_with_prototype; searched = text; groups = groups; start = at.0; end = at.1 }) else None)
     by true e k = record { from = k.0; ordered = k.1; within = k.2; up_to = u; counted = e }
     by false e k = tt
 
@@ -152,7 +153,7 @@ matched_fine r height member text line place (Some groups) u h = counted_fine r 
 
 live_match_fine : (engine : Engine) (line : List ℕ) → FindsInOrder engine line → (r height : ℕ) (place : ℕ) (member : Member) → IsMemberUpTo r member → IfFine r height line place (live_match engine height line place member)
 live_match_fine engine line finds r height place member u =
-    let text : List ℕ = searched_text member.pattern member.opening in
+    let text : List ℕ = searched_text engine member.pattern member.opening in
     matched_fine r height member text line place (engine.found text line place) u (λ groups s e f g. finds text place s e groups f g)
 
 cons_fine : (r height : ℕ) (line : List ℕ) (place : ℕ) (o : Option Live) (ms : List Live) → IfFine r height line place o → Each (IsFine r height line place) ms → Each (IsFine r height line place) (cons_option o ms)
@@ -220,7 +221,7 @@ targets_few (r ∷ refs) = by (target r) (targets_few refs)
 
 opened_few : (set : SyntaxSet) (line : List ℕ) (m : Live) (kept : List ContextId) (refs : List ContextReference) → length (opened set line m kept refs) ≤ length refs
 opened_few set line m kept refs =
-    omega (arith, new_levels_many set (record { region = m.groups; line = line }) kept (option_and_then target m.member.pattern.with_prototype) (filter_map target refs), targets_few refs)
+    omega (arith, new_levels_many set (record { region = m.groups; line = line }) kept (option_and_then target m.pattern.with_prototype) (filter_map target refs), targets_few refs)
 
 fewer : (levels : List Level) → length (without_last levels) ≡ length levels - 1
 fewer levels = omega (arith, length-take (length levels - 1) levels)
@@ -320,9 +321,9 @@ step_falls : (engine : Engine) (set : SyntaxSet) (line : List ℕ) (p : Position
     → Falls (longest (contexts_of set)) line p (step engine set line p choice)
 step_falls engine set line p (Take m) ready high h =
     let r : ℕ = longest (contexts_of set) in
-    let k : FallsTo r line p (length (levels_after set line p.levels m)) m.end (idle_by p m.end m.member.pattern.operation) =
-    taken_falls r set line p m m.member.pattern.operation ready high h.0.from h.0.ordered h.0.within h.0.up_to h.0.counted h.1 in
-    unless_falls r line p (refusal set m.member.pattern) (Goes (scopes_passed engine set p.levels p.place m) (position_after set line p m)) (k.0, record { within = h.0.within; idle = k.1 })
+    let k : FallsTo r line p (length (levels_after set line p.levels m)) m.end (idle_by p m.end m.pattern.operation) =
+    taken_falls r set line p m m.pattern.operation ready high h.0.from h.0.ordered h.0.within h.0.up_to h.0.counted h.1 in
+    unless_falls r line p (refusal set m.pattern) (Goes (scopes_passed engine set p.levels p.place m) (position_after set line p m)) (k.0, record { within = h.0.within; idle = k.1 })
 step_falls engine set line p Skip ready high h =
     let one : 1 ≤ char_len line p.place = char_len_least line p.place in
     (falls_move (longest (contexts_of set)) (length p.levels) (length p.levels) p.idle (length line - p.place) (length line - (p.place + char_len line p.place)) (omega arith) (omega arith), record { within = omega arith; idle = omega arith })
@@ -350,6 +351,12 @@ turn_falls engine line finds set p ready = by (last p.levels) refl
     by : (o : Option Level) → last p.levels ≡ o → Falls (longest (contexts_of set)) line p (turn_on engine set line (trimmed p) o)
     by None e = tt
     by (Some top) e = turn_in_falls engine line finds set (trimmed p) top (context_at set top.context) (record { within = ready.within; idle = ready.idle }) (on_top p.levels top e)
+
+-- each turn that goes on makes fewer to come
+pub goes_falls : (engine : Engine) (line : List ℕ) → FindsInOrder engine line → (set : SyntaxSet) (p q : Position) (bytes : List Scopes) → p.place ≤ length line → p.idle ≤ 1000
+    → turn engine set line p ≡ Goes bytes q → (left (longest (contexts_of set)) line q < left (longest (contexts_of set)) line p) × (q.idle ≤ 1000)
+goes_falls engine line finds set p q bytes l i e =
+    let k : Falls (longest (contexts_of set)) line p (Goes bytes q) = rw e at (turn_falls engine line finds set p (record { within = l; idle = i })) in (k.0, k.1.idle)
 
 -- ---- a line ----
 

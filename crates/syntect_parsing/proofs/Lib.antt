@@ -10,3 +10,15 @@ pub mod Places
 pub mod Open
 pub mod LinkLaws
 pub mod DialectLaws
+pub mod ListLaws
+pub mod SearchLaws
+pub mod TextLaws
+pub mod LevelLaws
+pub mod EmitLaws
+pub mod ReplayLaws
+pub mod OrderLaws
+pub mod ShowLaws
+pub mod ChoiceLaws
+pub mod TakeLaws
+pub mod WholeTurnLaws
+pub mod Runs

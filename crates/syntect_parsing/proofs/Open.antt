@@ -4,7 +4,7 @@ use Rattle.std.proofs.lemmas.List.{append-nil}
 use Rattle.syntect_parsing.specs.Contexts.{context_at}
 use Rattle.syntect_parsing.specs.Chain.{last, chain, prototypes_in}
 use Rattle.syntect_parsing.specs.Engine.{Engine}
-use Rattle.syntect_parsing.specs.Position.{Position}
+use Rattle.syntect_parsing.specs.declared.position.Position.{Position}
 use Rattle.syntect_parsing.specs.Turn.{Choice, Take, Skip, End, live, winner, missing, refusal, position_after, trimmed}
 use Rattle.syntect_parsing.specs.Scopes.{Scopes, open_scopes, scopes_passed}
 use Rattle.syntect_parsing.specs.Line.{Step, Goes, Ends, Refused, turn, turn_on, turn_in, step, unless_refused, Reads, ends, goes, at_start, Answer, Answers, accepts, refuses, none, one_more, HasPlainStart}
@@ -26,7 +26,7 @@ unless_later (Some e) s h = tt
 
 module _ (engine : Engine) (set : SyntaxSet) (line : List ℕ) where
   step_later : (p : Position) (choice : Choice) → LeavesLater (step engine set line p choice)
-  step_later p (Take m) = unless_later (refusal set m.member.pattern) (Goes (scopes_passed engine set p.levels p.place m) (position_after set line p m)) tt
+  step_later p (Take m) = unless_later (refusal set m.pattern) (Goes (scopes_passed engine set p.levels p.place m) (position_after set line p m)) tt
   step_later p Skip = tt
   step_later p End = refl
 

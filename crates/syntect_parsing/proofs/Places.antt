@@ -10,8 +10,9 @@ use Rattle.std.proofs.lemmas.Str.{IsUtf8-drop, encodes-chars, IsCharBoundary-pas
 use Rattle.syntect_pattern.specs.Text.{char_at}
 use Rattle.syntect_parsing.specs.Contexts.{context_at}
 use Rattle.syntect_parsing.specs.Chain.{Member, last, chain, prototypes_in}
-use Rattle.syntect_parsing.specs.Engine.{Engine, Groups}
-use Rattle.syntect_parsing.specs.Position.{Position}
+use Rattle.syntect_parsing.specs.Engine.{Engine}
+use Rattle.syntect_parsing.specs.Substitution.{Groups}
+use Rattle.syntect_parsing.specs.declared.position.Position.{Position}
 use Rattle.syntect_parsing.specs.Turn.{Live, Choice, Take, Skip, End, counts, counted, matched, live, live_match, searched_text, group_at, choice_of, winner, is_least, loops, char_len, missing, refusal, position_after, trimmed}
 use Rattle.syntect_parsing.specs.Scopes.{scopes_passed}
 use Rattle.syntect_parsing.specs.Line.{Step, Goes, Ends, Refused, turn, turn_on, turn_in, step, unless_refused, at_start, Reaches, here, further}
@@ -55,47 +56,47 @@ past_here line place u b l = by (char_at line place) refl l
 
 -- ---- matches end on boundaries ----
 
-abbrev IfEnds : List ℕ → Option Live → Type 0
-IfEnds line None = Unit {0}
-IfEnds line (Some m) = IsCharBoundary line m.start × IsCharBoundary line m.end
+abbrev IfEnds : List ℕ → ℕ → Option Live → Type 0
+IfEnds line place None = Unit {0}
+IfEnds line place (Some m) = StandsIn line place m.start m.end
 
-data AllEnd (line : List ℕ) : List Live → Type 0 where
-  no_more : AllEnd line []
-  and_more : {m : Live} {ms : List Live} → IsCharBoundary line m.start × IsCharBoundary line m.end → AllEnd line ms → AllEnd line (m ∷ ms)
+data AllEnd (line : List ℕ) (place : ℕ) : List Live → Type 0 where
+  no_more : AllEnd line place []
+  and_more : {m : Live} {ms : List Live} → StandsIn line place m.start m.end → AllEnd line place ms → AllEnd line place (m ∷ ms)
 
 module _ (engine : Engine) (finds : FindsInText engine) (line : List ℕ) (u : IsUtf8 line) where
   counted_ends : (height place : ℕ) (member : Member) (text : List ℕ) (groups : Groups) (at : Option (ℕ × ℕ))
-      → ((s e : ℕ) → at ≡ Some (s, e) → StandsIn line place s e) → IfEnds line (counted height member text groups at)
+      → ((s e : ℕ) → at ≡ Some (s, e) → StandsIn line place s e) → IfEnds line place (counted height member text groups at)
   counted_ends height place member text groups None h = tt
   counted_ends height place member text groups (Some at) h = by (counts height member.pattern.operation at.0 at.1) (h at.0 at.1 refl)
     where
-      by : (b : Bool) → StandsIn line place at.0 at.1 → IfEnds line (if b then Some (record { member = member; searched = text; groups = groups; start = at.0; end = at.1 }) else None)
-      by true k = (k.starts, k.ends)
+      by : (b : Bool) → StandsIn line place at.0 at.1 → IfEnds line place (if b then Some (record { pattern = member.pattern; from_with_prototype = member.from_with_prototype; searched = text; groups = groups; start = at.0; end = at.1 }) else None)
+      by true k = k
       by false k = tt
 
   matched_ends : (height place : ℕ) (member : Member) (text : List ℕ) (o : Option Groups)
-      → ((groups : Groups) (s e : ℕ) → o ≡ Some groups → group_at groups 0 ≡ Some (s, e) → StandsIn line place s e) → IfEnds line (matched height member text o)
+      → ((groups : Groups) (s e : ℕ) → o ≡ Some groups → group_at groups 0 ≡ Some (s, e) → StandsIn line place s e) → IfEnds line place (matched height member text o)
   matched_ends height place member text None h = tt
   matched_ends height place member text (Some groups) h = counted_ends height place member text groups (group_at groups 0) (λ s e k. h groups s e refl k)
 
-  live_match_ends : (height place : ℕ) (member : Member) → IfEnds line (live_match engine height line place member)
+  live_match_ends : (height place : ℕ) (member : Member) → IfEnds line place (live_match engine height line place member)
   live_match_ends height place member =
-      let text : List ℕ = searched_text member.pattern member.opening in
+      let text : List ℕ = searched_text engine member.pattern member.opening in
       matched_ends height place member text (engine.found text line place) (λ groups s e f g. finds text line place s e groups u f g)
 
-  cons_ends : (o : Option Live) (ms : List Live) → IfEnds line o → AllEnd line ms → AllEnd line (cons_option o ms)
-  cons_ends None ms h r = r
-  cons_ends (Some m) ms h r = and_more h r
+  cons_ends : (place : ℕ) (o : Option Live) (ms : List Live) → IfEnds line place o → AllEnd line place ms → AllEnd line place (cons_option o ms)
+  cons_ends place None ms h r = r
+  cons_ends place (Some m) ms h r = and_more h r
 
-  live_ends : (height place : ℕ) (ms : List Member) → AllEnd line (filter_map (live_match engine height line place) ms)
+  live_ends : (height place : ℕ) (ms : List Member) → AllEnd line place (filter_map (live_match engine height line place) ms)
   live_ends height place [] = no_more
-  live_ends height place (m ∷ ms) = cons_ends (live_match engine height line place m) (filter_map (live_match engine height line place) ms) (live_match_ends height place m) (live_ends height place ms)
+  live_ends height place (m ∷ ms) = cons_ends place (live_match engine height line place m) (filter_map (live_match engine height line place) ms) (live_match_ends height place m) (live_ends height place ms)
 
-  find_ends : (test : Live → Bool) (ms : List Live) → AllEnd line ms → IfEnds line (find test ms)
-  find_ends test [] no_more = tt
-  find_ends test (m ∷ ms) (and_more h r) = by (test m) (find_ends test ms r)
+  find_ends : (place : ℕ) (test : Live → Bool) (ms : List Live) → AllEnd line place ms → IfEnds line place (find test ms)
+  find_ends place test [] no_more = tt
+  find_ends place test (m ∷ ms) (and_more h r) = by (test m) (find_ends place test ms r)
     where
-      by : (b : Bool) → IfEnds line (find test ms) → IfEnds line (if b then Some m else find test ms)
+      by : (b : Bool) → IfEnds line place (find test ms) → IfEnds line place (if b then Some m else find test ms)
       by true k = h
       by false k = k
 
@@ -106,8 +107,8 @@ module _ (engine : Engine) (finds : FindsInText engine) (line : List ℕ) (u : I
   GoesToBoundary (Ends bytes s) = Unit {0}
   GoesToBoundary (Refused e) = Unit {0}
 
-  abbrev IsChoiceOnBoundary : ℕ → Choice → Type 0
-  IsChoiceOnBoundary place (Take m) = IsCharBoundary line m.end
+  abbrev pub IsChoiceOnBoundary : ℕ → Choice → Type 0
+  IsChoiceOnBoundary place (Take m) = StandsIn line place m.start m.end
   IsChoiceOnBoundary place Skip = place + char_len line place < length line
   IsChoiceOnBoundary place End = Unit {0}
 
@@ -115,17 +116,22 @@ module _ (engine : Engine) (finds : FindsInText engine) (line : List ℕ) (u : I
   skip_inside place true e = grind (arith, nat_tests)
   skip_inside place false e = tt
 
-  choice_ends : (place : ℕ) (ms : List Live) (o : Option Live) → IfEnds line o → IsChoiceOnBoundary place (choice_of line place ms o)
-  choice_ends place ms (Some m) h = h.1
+  choice_ends : (place : ℕ) (ms : List Live) (o : Option Live) → IfEnds line place o → IsChoiceOnBoundary place (choice_of line place ms o)
+  choice_ends place ms (Some m) h = h
   choice_ends place [] None h = tt
   choice_ends place (m ∷ ms) None h = skip_inside place (nat_lt (place + char_len line place) (length line)) refl
+
+  pub winner_ends : (p : Position) (members : List Member) → IsChoiceOnBoundary p.place (winner line p (live engine line p members))
+  winner_ends p members =
+      let ms : List Live = live engine line p members in
+      choice_ends p.place ms (find (λ m. is_least ms m && not (loops p m)) ms) (find_ends p.place _ ms (live_ends (length p.levels) p.place members))
 
   unless_ends : (o : Option ParsingError) (s : Step) → GoesToBoundary s → GoesToBoundary (unless_refused o s)
   unless_ends None s h = h
   unless_ends (Some e) s h = tt
 
   step_ends : (set : SyntaxSet) (p : Position) (choice : Choice) → IsCharBoundary line p.place → IsChoiceOnBoundary p.place choice → GoesToBoundary (step engine set line p choice)
-  step_ends set p (Take m) b h = unless_ends (refusal set m.member.pattern) (Goes (scopes_passed engine set p.levels p.place m) (position_after set line p m)) h
+  step_ends set p (Take m) b h = unless_ends (refusal set m.pattern) (Goes (scopes_passed engine set p.levels p.place m) (position_after set line p m)) h.ends
   step_ends set p Skip b h = past_here line p.place u b h
   step_ends set p End b h = tt
 
@@ -134,7 +140,7 @@ module _ (engine : Engine) (finds : FindsInText engine) (line : List ℕ) (u : I
   turn_in_ends set p top (Some c) b =
       let ms : List Live = live engine line p (chain set p top c) in
       unless_ends (missing set (prototypes_in p c)) (step engine set line p (winner line p ms))
-      (step_ends set p (winner line p ms) b (choice_ends p.place ms (find (λ m. is_least ms m && not (loops p m)) ms) (find_ends _ ms (live_ends (length p.levels) p.place (chain set p top c)))))
+      (step_ends set p (winner line p ms) b (choice_ends p.place ms (find (λ m. is_least ms m && not (loops p m)) ms) (find_ends p.place _ ms (live_ends (length p.levels) p.place (chain set p top c)))))
 
   turn_on_ends : (set : SyntaxSet) (p : Position) (top : Option Level) → IsCharBoundary line p.place → GoesToBoundary (turn_on engine set line p top)
   turn_on_ends set p None b = tt

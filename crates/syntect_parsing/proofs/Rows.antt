@@ -18,6 +18,11 @@ use Rattle.syntect_parsing.specs.Contexts.{context_at}
 use Rattle.syntect_parsing.specs.Chain.{patterns_in}
 use Rattle.syntect_parsing.specs.Scopes.{Scopes, open_scopes}
 use Rattle.syntect_parsing.specs.Line.{turn, Reads, Refuses, at_start, start, Accepted, RefusedBy, accepts, refuses, no_level, in_turn, AnswersAll, none, one_more, stack_before, first_push, HasPlainStart}
+use Rattle.syntect_parsing.specs.Visible.{visible, visible_base}
+use Rattle.syntect_scope.specs.declared.stack.ClearAmount.TheVariants.{TopN}
+use Rattle.syntect_scope.specs.declared.stack.ScopeStackOp.TheVariants.{Push, Pop}
+use Rattle.syntect_scope.specs.Stack.{plain as plain_stack}
+use Rattle.syntect_scope.specs.Replay.{replay, before_text, bytes_to}
 use Rattle.syntect_parsing.proofs.Run.{sound}
 use Rattle.syntect_parsing.specs.Engine.{whole_dialect}
 use Rattle.syntect_parsing.specs.declared.syntax_definition.ContextId.{ContextId}
@@ -425,3 +430,24 @@ refuses_empty_list = sound whole_dialect (empty_list (op.Push [])) (codes "x") 2
 reads_popped : Reads whole_dialect (empty_list op.Pop) (codes "x") (at_start at_first) (tops ([] ∷ [])) (on (level 0 ∷ level 1 ∷ [])) 4
 unfolding turn tree_of whole body passed pass quantified quantifier count loop off_letters flags_at named_group flag_group opening next_char escape one_letter hex_escape hex_fixed category_escape named_set name_in run first char_of class class_rest next_in posix_form class_escape member range_end start_of plain_item posix_item found found_at char_at char_before is_boundary is_word_edge is_word is_alike same_fold chars general_category general_category_rows value_in simple_folding simple_folding_rows
 reads_popped = sound whole_dialect (empty_list op.Pop) (codes "x") 20 (at_start at_first)
+
+-- ---- contexts that clear ----
+
+-- 3 clears the scope below it
+abbrev pub clears : SyntaxSet
+clears = grammar [] (record (context (s 2 ∷ []) (s 3 ∷ []) []) { clear_scopes = Some (TopN 1) } ∷ [])
+
+visible_inside : visible clears (level 0 ∷ level 1 ∷ level 3 ∷ []) ≡ s 2 ∷ s 3 ∷ []
+visible_inside = refl
+
+-- on the text of a push it has cleared, on that of a set it hasn't, on that of a pop it still has
+visible_on_matches : (visible_base clears (level 0 ∷ level 1 ∷ []) (op.Push (to 3)) ≡ s 2 ∷ [])
+    × (visible_base clears (level 0 ∷ level 1 ∷ []) (op.Set (to 3)) ≡ t ∷ s 2 ∷ [])
+    × (visible_base clears (level 0 ∷ level 1 ∷ level 3 ∷ []) op.Pop ≡ s 2 ∷ [])
+visible_on_matches = (refl, refl, refl)
+
+-- ---- operations on a text ----
+
+-- two scopes, one of which covers nothing
+shown_by_operations : bytes_to (replay ((0, Push (s 2)) ∷ (1, Push (s 3)) ∷ (1, Pop 1) ∷ (2, Pop 1) ∷ []) (before_text (plain_stack []))) 2 ≡ (s 2 ∷ []) ∷ (s 2 ∷ []) ∷ []
+shown_by_operations = refl

@@ -3,7 +3,7 @@ use Rattle.std.specs.Prelude.{◌≡◌, ℕ, zero, suc, ◌+◌, ◌-◌, Bool,
 use Rattle.std.specs.Option.{option_to_list}
 use Rattle.std.specs.List.{flat_map, list_any}
 use Rattle.syntect_parsing.specs.Contexts.{is_same, contexts_of, context_at, part_of, target}
-use Rattle.syntect_parsing.specs.Position.{Position}
+use Rattle.syntect_parsing.specs.declared.position.Position.{Position}
 use Rattle.syntect_parsing.specs.declared.syntax_definition.ContextId.{ContextId}
 use Rattle.syntect_parsing.specs.declared.syntax_definition.ContextReference.{ContextReference}
 use Rattle.syntect_parsing.specs.declared.syntax_definition.MatchPattern.{MatchPattern}
@@ -74,9 +74,13 @@ pub record Member : Type 0 where
   pub opening : Option Opening
   pub from_with_prototype : Bool
 
--- the patterns of a context as members of a chain
+-- patterns as members of a chain
+abbrev pub as_members : Bool → Option Opening → List MatchPattern → List Member
+as_members from opening ms = map (λ m. record { pattern = m; opening = opening; from_with_prototype = from }) ms
+
+-- those of a context
 abbrev pub members : SyntaxSet → Bool → Option Opening → ContextId → List Member
-members set from opening id = map (λ m. record { pattern = m; opening = opening; from_with_prototype = from }) (patterns_in set (entries set id))
+members set from opening id = as_members from opening (patterns_in set (entries set id))
 
 abbrev pub last : {X : Type 0} → List X → Option X
 last xs = slice_get xs (length xs - 1)

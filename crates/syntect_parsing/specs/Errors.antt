@@ -1,5 +1,5 @@
 -- What the refusals of the small calls on contexts say.
-use Rattle.std.specs.Prelude.{◌≡◌, ℕ, Some, None}
+use Rattle.std.specs.Prelude.{◌≡◌, ℕ, Option, Some, None}
 use Rattle.syntect_parsing.specs.Contexts.{context_at, target, match_of}
 use Rattle.syntect_parsing.specs.declared.syntax_definition.ContextReference.{ContextReference}
 use Rattle.syntect_parsing.specs.declared.syntax_definition.Context.{Context}
@@ -21,3 +21,8 @@ IsUnresolved r _ = ⊥
 abbrev pub IsMissing : SyntaxSet → ContextReference → ParsingError → Type 0
 IsMissing set r (MissingContext id) = (target r ≡ Some id) × (context_at set id ≡ None)
 IsMissing set r e = IsUnresolved r e
+
+-- want of memory, or this refusal
+abbrev pub MayBe : Option ParsingError → ParsingError → Type 0
+MayBe o Memory = Unit {0}
+MayBe o e = o ≡ Some e

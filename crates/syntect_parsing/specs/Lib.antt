@@ -1,9 +1,8 @@
 pub mod Contexts
 pub mod Errors
 pub mod Link
-pub mod Engine
 pub mod Substitution
-pub mod Position
+pub mod Engine
 pub mod Chain
 pub mod Turn
 pub mod Scopes
@@ -11,3 +10,6 @@ pub mod Visible
 pub mod Line
 pub mod Meaning
 pub mod Laws
+pub mod Candidates
+pub mod Operations
+pub mod Step

@@ -12,7 +12,7 @@ use Rattle.syntect_parsing.specs.declared.syntax_definition.Context.{Context}
 use Rattle.syntect_parsing.specs.declared.syntax_set.SyntaxReference.{SyntaxReference}
 use Rattle.syntect_parsing.specs.declared.syntax_set.SyntaxSet.{SyntaxSet}
 use Rattle.syntect_parsing.specs.declared.parser.Level.{Level}
-use Rattle.syntect_parsing.specs.Position.{Position}
+use Rattle.syntect_parsing.specs.declared.position.Position.{Position}
 use Rattle.syntect_parsing.specs.declared.parser.ParseState.{ParseState}
 use Rattle.syntect_parsing.specs.declared.parser.ParsingError.{ParsingError}
 use Rattle.syntect_parsing.specs.declared.parser.ParsingError.TheVariants as error
@@ -49,7 +49,7 @@ module _ (engine : Engine) where
   -- what a turn with this choice makes
   abbrev pub step : SyntaxSet → List ℕ → Position → Choice → Step
   step set line p (Take m) =
-      unless_refused (refusal set m.member.pattern) (Goes (scopes_passed engine set p.levels p.place m) (position_after set line p m))
+      unless_refused (refusal set m.pattern) (Goes (scopes_passed engine set p.levels p.place m) (position_after set line p m))
   step set line p Skip = Goes (replicate (char_len line p.place) (open_scopes set p.levels)) (skipped line p)
   step set line p End = ended set line p
 

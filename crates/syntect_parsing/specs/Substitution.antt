@@ -1,9 +1,12 @@
 -- Patterns that refer to the groups of the match that opened their context.
-use Rattle.std.specs.Prelude.{ℕ, ◌-◌, Bool, true, false, List, [], ◌∷◌, ◌++◌, take, drop, codes, if◌then◌else◌, ◌==◌}
+use Rattle.std.specs.Prelude.{ℕ, ◌-◌, Bool, true, false, List, [], ◌∷◌, ◌++◌, take, drop, codes, Option, if◌then◌else◌, ◌==◌}
 use Rattle.std.specs.Option.{option_map_or, option_flatten}
 use Rattle.std.specs.List.{slice_get, flat_map, list_any}
 use Rattle.std.specs.Char.{is_ascii_digit}
-use Rattle.syntect_parsing.specs.Engine.{Groups}
+
+-- where each group of a match stands, the whole match as group 0
+abbrev pub Groups : Type 0
+Groups = List (Option (ℕ × ℕ))
 
 -- the bytes that a pattern reads as more than themselves
 abbrev pub special : List ℕ

@@ -5,8 +5,8 @@ use Rattle.std.specs.List.{filter_map, list_any, list_all}
 use Rattle.std.specs.Char.{len_utf8}
 use Rattle.syntect_pattern.specs.Text.{char_at}
 use Rattle.std.specs.List.{slice_get}
-use Rattle.syntect_parsing.specs.Engine.{Engine, Groups}
-use Rattle.syntect_parsing.specs.Substitution.{substituted}
+use Rattle.syntect_parsing.specs.Engine.{Engine}
+use Rattle.syntect_parsing.specs.Substitution.{Groups}
 use Rattle.syntect_parsing.specs.Contexts.{context_at, target}
 use Rattle.syntect_parsing.specs.Chain.{Member, last}
 use Rattle.syntect_parsing.specs.declared.syntax_definition.ContextId.{ContextId}
@@ -17,16 +17,18 @@ use Rattle.syntect_parsing.specs.declared.syntax_definition.MatchPattern.{MatchP
 use Rattle.syntect_parsing.specs.declared.syntax_set.SyntaxSet.{SyntaxSet}
 use Rattle.syntect_parsing.specs.declared.parser.Opening.{Opening}
 use Rattle.syntect_parsing.specs.declared.parser.Level.{Level}
-use Rattle.syntect_parsing.specs.Position.{Record}
-use Rattle.syntect_parsing.specs.Position.{Position}
+use Rattle.syntect_parsing.specs.declared.position.Record.{Record}
+use Rattle.syntect_parsing.specs.declared.position.Position.{Position}
 use Rattle.syntect_parsing.specs.declared.parser.ParsingError.{ParsingError}
 use Rattle.syntect_parsing.specs.declared.parser.ParsingError.TheVariants as error
 
 -- ---- the live matches ----
 
--- a member of the chain that matches: the text that was searched, the groups of the match and its ends
+-- a match of a member of the chain: its pattern, whether that is from a `with_prototype`, the text that was searched, and
+-- the groups of the match and its ends
 pub record Live : Type 0 where
-  pub member : Member
+  pub pattern : MatchPattern
+  pub from_with_prototype : Bool
   pub searched : List ℕ
   pub groups : Groups
   pub start : ℕ
@@ -48,19 +50,19 @@ abbrev pub counted : ℕ → Member → List ℕ → Groups → Option (ℕ × �
 counted height member text groups None = None
 counted height member text groups (Some at) =
     if counts height member.pattern.operation at.0 at.1
-    then Some (record { member = member; searched = text; groups = groups; start = at.0; end = at.1 })
+    then Some (record { pattern = member.pattern; from_with_prototype = member.from_with_prototype; searched = text; groups = groups; start = at.0; end = at.1 })
     else None
 
 abbrev pub matched : ℕ → Member → List ℕ → Option Groups → Option Live
 matched height member text None = None
 matched height member text (Some groups) = counted height member text groups (group_at groups 0)
 
--- the text that is searched: substituted where the pattern uses back references and there is an opening match
-abbrev pub searched_text : MatchPattern → Option Opening → List ℕ
-searched_text m None = m.regex
-searched_text m (Some o) = if m.has_captures then substituted m.regex o.region o.line else m.regex
-
 module _ (engine : Engine) where
+  -- the text that is searched: substituted where the pattern uses back references and there is an opening match
+  abbrev pub searched_text : MatchPattern → Option Opening → List ℕ
+  searched_text m None = m.regex
+  searched_text m (Some o) = if m.has_captures then engine.substituted m.regex o.region o.line else m.regex
+
   -- the match of a member of the chain from the place on, if it has one that counts
   abbrev pub live_match : ℕ → List ℕ → ℕ → Member → Option Live
   live_match height line place member =
@@ -84,7 +86,7 @@ turns_back p op.Pop = is_at_record p p.last
 turns_back p op.None = false
 
 abbrev pub loops : Position → Live → Bool
-loops p m = (m.end == p.place) && turns_back p m.member.pattern.operation
+loops p m = (m.end == p.place) && turns_back p m.pattern.operation
 
 -- no match of the list starts before it
 abbrev pub is_least : List Live → Live → Bool
@@ -137,13 +139,14 @@ refusal set m = option_or (unresolved (named m)) (missing set (filter_map target
 
 -- ---- the levels after the winner ----
 
+-- a context is marked as using back references
+abbrev pub uses_backrefs : SyntaxSet → ContextId → Bool
+uses_backrefs set id = option_map_or (λ c. c.uses_backrefs) (context_at set id) false
+
 -- a new level keeps its opening match where its context or one of its prototypes uses back references
 abbrev pub new_level : SyntaxSet → Opening → ContextId → List ContextId → Level
 new_level set opening id prototypes =
-    record { context = id; prototypes = prototypes; opening = if list_any uses_backrefs (id ∷ prototypes) then Some opening else None }
-  where
-    uses_backrefs : ContextId → Bool
-    uses_backrefs id = option_map_or (λ c. c.uses_backrefs) (context_at set id) false
+    record { context = id; prototypes = prototypes; opening = if list_any (uses_backrefs set) (id ∷ prototypes) then Some opening else None }
 
 -- new levels: the first keeps these prototypes, the last has the `with_prototype` after them
 abbrev pub new_levels : SyntaxSet → Opening → List ContextId → Option ContextId → List ContextId → List Level
@@ -157,7 +160,7 @@ without_last xs = take (length xs - 1) xs
 -- the levels that a match opens by this list, the first of which keeps these prototypes
 abbrev pub opened : SyntaxSet → List ℕ → Live → List ContextId → List ContextReference → List Level
 opened set line m kept refs =
-    new_levels set (record { region = m.groups; line = line }) kept (option_and_then target m.member.pattern.with_prototype) (filter_map target refs)
+    new_levels set (record { region = m.groups; line = line }) kept (option_and_then target m.pattern.with_prototype) (filter_map target refs)
 
 -- a push adds levels, a set first takes the top level off and keeps its prototypes, a pop takes it off
 abbrev pub levels_by : SyntaxSet → List ℕ → List Level → Live → MatchOperation → List Level
@@ -167,11 +170,11 @@ levels_by set line levels m op.Pop = without_last levels
 levels_by set line levels m op.None = levels
 
 abbrev pub levels_after : SyntaxSet → List ℕ → List Level → Live → List Level
-levels_after set line levels m = levels_by set line levels m m.member.pattern.operation
+levels_after set line levels m = levels_by set line levels m m.pattern.operation
 
 -- a match from a `with_prototype` records the height before its operation
 abbrev pub cuts_after : Position → Live → List ℕ
-cuts_after p m = if m.member.from_with_prototype then p.cuts ++ length p.levels ∷ [] else p.cuts
+cuts_after p m = if m.from_with_prototype then p.cuts ++ length p.levels ∷ [] else p.cuts
 
 -- an empty push is recorded, with the old height plus one
 abbrev pub record_by : Position → ℕ → MatchOperation → Option Record
@@ -186,7 +189,7 @@ idle_by p end operation = if end == p.place then p.idle + option_map_or (λ refs
 
 abbrev pub position_after : SyntaxSet → List ℕ → Position → Live → Position
 position_after set line p m =
-    record { levels = levels_after set line p.levels m; cuts = cuts_after p m; place = m.end; last = record_by p m.end m.member.pattern.operation; idle = idle_by p m.end m.member.pattern.operation }
+    record { levels = levels_after set line p.levels m; cuts = cuts_after p m; place = m.end; last = record_by p m.end m.pattern.operation; idle = idle_by p m.end m.pattern.operation }
 
 -- a move without a match
 abbrev pub skipped : List ℕ → Position → Position

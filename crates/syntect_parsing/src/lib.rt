@@ -5,9 +5,16 @@
 //! reads text with it line by line.
 #![tactic(auto)]
 
+mod chain;
+mod emit;
 pub mod laws;
+mod levels;
 mod link;
+mod names;
 pub mod parser;
-pub mod regex;
+mod position;
+mod search;
 pub mod syntax_definition;
 pub mod syntax_set;
+mod text;
+mod turn;

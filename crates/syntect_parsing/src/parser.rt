@@ -1,14 +1,25 @@
 //! Reading a line.
-ghost use Rattle.std.specs.Prelude.{◌≡◌, Some, codes, IfOk, IfErr};
-ghost use Rattle.syntect_parsing.specs.Line.{start_id, start_of};
-ghost use Rattle.syntect_parsing.specs.Meaning.{MayLackStart};
+ghost use Rattle.std.specs.Prelude.{◌≡◌, ◌≢◌, [], take, Some, codes, IfOk, IfErr, OnErr};
+ghost use Rattle.std.specs.Option.{option_to_list, option_map_or};
+ghost use Rattle.syntect_scope.specs.Replay.{pushes};
+ghost use Rattle.syntect_parsing.specs.Contexts.{part_of};
+ghost use Rattle.syntect_parsing.specs.Chain.{last};
+ghost use Rattle.syntect_parsing.specs.Engine.{dialect};
+ghost use Rattle.syntect_parsing.specs.Line.{start_id, start_of, at_start, first_push};
+ghost use Rattle.syntect_parsing.specs.Meaning.{MayLackStart, Accepts, MayRefuse};
 ghost use Rattle.syntect_parsing.specs.declared.parser.ParsingError.TheVariants.{Memory as NoMemory};
 
+use crate::chain::room_in;
+use crate::laws::dialect_finds_in_text;
 use crate::link::context_named;
-use crate::regex::Region;
+use crate::position::Position;
 use crate::syntax_definition::{ContextId, ContextReference};
-use crate::syntax_set::SyntaxReference;
+use crate::syntax_set::{SyntaxReference, SyntaxSet};
+use crate::turn::turn;
 use std::alloc::{AllocError, AllocFailed, Global};
+use syntect_regex::region::Region;
+use syntect_scope::scope::Scope;
+use syntect_scope::stack::ScopeStackOp;
 use syntect_values::seq::Seq;
 use syntect_values::text::Text;
 use thiserror::Error;
@@ -45,25 +56,51 @@ impl<T: Drop> From<AllocFailed<T>> for ParsingError {
 }
 
 /// The match that opened a level: where its groups stand, and its line.
-#[derive(Clone, Debug, Drop, PartialEq, Eq)]
+#[derive(Drop, PartialEq, Eq)]
 pub struct Opening {
     pub region: Region,
     pub line: Text,
 }
 
 /// An open context, its prototypes, and the match that opened it where that is kept.
-#[derive(Clone, Debug, Drop, PartialEq, Eq)]
+#[derive(Drop, PartialEq, Eq)]
 pub struct Level {
     pub context: ContextId,
     pub prototypes: Seq<ContextId>,
     pub opening: Option<Opening>,
 }
 
+/// The same match once more.
+fn copied_opening(alloc: Global, opening: &Opening) -> Result<Opening, AllocError>
+    ensures { IfOk result (λ o. o ≡ opening.now) }
+{
+    Ok(Opening {
+        region: opening.region.clone(alloc)?,
+        line: opening.line.clone()?,
+    })
+}
+
+impl Clone for Level {
+    ghost is_clone = { λ x y. y ≡ x };
+
+    fn clone(&self) -> Result<Level, AllocError> {
+        let opening = match &self.opening {
+            Some(opening) => Some(copied_opening(self.prototypes.allocator(), opening)?),
+            None => None,
+        };
+        Ok(Level {
+            context: self.context,
+            prototypes: self.prototypes.clone()?,
+            opening,
+        })
+    }
+}
+
 /// What is kept between two lines: the levels from the bottom, the cuts, and whether the first line is to come.
 ///
 /// A cut is the height at which a match from a `with_prototype` found the levels; prototypes of the levels below the
 /// last cut are out of sight.
-#[derive(Clone, Debug, Drop, PartialEq, Eq)]
+#[derive(Clone, Drop, PartialEq, Eq)]
 pub struct ParseState {
     pub(crate) levels: Seq<Level>,
     pub(crate) cuts: Seq<usize>,
@@ -98,4 +135,125 @@ impl ParseState {
             first_line: true,
         })
     }
+
+    /// Reads the next line, with its line feed if it has one. The operations, at byte positions in order, give the scopes
+    /// of the line when they are applied to the stack that the lines before it left; the first accepted line begins on an
+    /// empty stack. A refusal leaves the state as it was: `MissingMainContext` where no context is open any more,
+    /// `UnresolvedContextReference` and `MissingContext` where a match that was picked names what isn't linked or what the
+    /// set lacks.
+    pub fn parse_line(
+        &mut self,
+        alloc: Global,
+        line: &str,
+        syntax_set: &SyntaxSet,
+    ) -> Result<Vec<(usize, ScopeStackOp)>, ParsingError>
+        ensures accepted { IfOk result (λ ops. Accepts dialect syntax_set.now line.now self.old self.new ops.items) }
+        ensures refused { IfErr result (MayRefuse dialect syntax_set.now line.now self.old) }
+        ensures err { OnErr result (self.new ≡ self.old) }
+    {
+        if self.levels.is_empty() {
+            return Err(ParsingError::MissingMainContext);
+        }
+        let (state, ops) = match read_line(alloc, syntax_set, line, self) {
+            Ok(read) => read,
+            Err(e) => return Err(e),
+        };
+        *self = state;
+        Ok(ops)
+    }
+}
+
+/// The first scope of the content of the top level.
+fn first_content(set: &SyntaxSet, levels: &[Level]) -> Option<Scope>
+    ensures { option_to_list result ≡ take 1 (option_map_or (λ l. part_of (λ c. c.meta_content_scope) set.now l.context) (last levels.now) []) }
+{
+    let top = levels.last()?;
+    let context = set.context_at(top.context)?;
+    context.meta_content_scope.as_slice().first().copied()
+}
+
+/// What the first accepted line pushes at its start.
+fn first_operations(
+    alloc: Global,
+    set: &SyntaxSet,
+    state: &ParseState,
+) -> Result<Vec<(usize, ScopeStackOp)>, AllocError>
+    ensures { IfOk result (λ ops. ops.items ≡ pushes 0 (first_push set.now state.now)) }
+{
+    let mut ops = Vec::new(alloc);
+    if state.first_line {
+        if let Some(scope) = first_content(set, state.levels.as_slice()) {
+            ops.push((0, ScopeStackOp::Push(scope)))?;
+        }
+    }
+    Ok(ops)
+}
+
+/// Where the reader stands at the start of a line.
+fn at_start(state: &ParseState) -> Result<Position, AllocError>
+    ensures { IfOk result (λ p. p ≡ at_start state.now) }
+{
+    let ParseState {
+        levels,
+        cuts,
+        first_line: _,
+    } = copied_state(state)?;
+    Ok(Position {
+        levels,
+        cuts,
+        place: 0,
+        last: None,
+        idle: 0,
+    })
+}
+
+/// The state after a line that begins on some level, and its operations.
+fn read_line(
+    alloc: Global,
+    set: &SyntaxSet,
+    line: &str,
+    state: &ParseState,
+) -> Result<(ParseState, Vec<(usize, ScopeStackOp)>), ParsingError>
+    requires { state.now.levels ≢ [] }
+    ensures accepted { IfOk result (λ r. Accepts dialect set.now line.now state.now r.0 r.1.items) }
+    ensures refused { IfErr result (MayRefuse dialect set.now line.now state.now) }
+{
+    dialect_finds_in_text();
+    let room = room_in(set);
+    let mut region = Region::new(alloc);
+    let mut ops = match first_operations(alloc, set, state) {
+        Ok(ops) => ops,
+        Err(_) => return Err(ParsingError::Memory),
+    };
+    let mut p = match at_start(state) {
+        Ok(p) => p,
+        Err(_) => return Err(ParsingError::Memory),
+    };
+    loop {
+        match turn(alloc, set, room, line, &mut p, &mut region, &mut ops) {
+            Err(e) => return Err(e),
+            Ok(true) => {}
+            Ok(false) => break,
+        }
+    }
+    let Position {
+        levels,
+        cuts,
+        place: _,
+        last: _,
+        idle: _,
+    } = p;
+    let state = ParseState {
+        levels,
+        cuts,
+        first_line: false,
+    };
+    Ok((state, ops))
+}
+
+/// The same state once more.
+fn copied_state(state: &ParseState) -> Result<ParseState, AllocError>
+    ensures { IfOk result (λ s. s ≡ state.now) }
+{
+    state.clone()
 }

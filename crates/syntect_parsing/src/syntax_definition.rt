@@ -8,9 +8,9 @@ ghost use Rattle.syntect_parsing.specs.Contexts.{context_at, target, match_of};
 ghost use Rattle.syntect_parsing.specs.Errors.{IsUnresolved, IsMissing, IsBadIndex};
 
 use crate::parser::ParsingError;
-use crate::regex::Regex;
 use crate::syntax_set::SyntaxSet;
 use std::alloc::{AllocError, Global};
+use syntect_regex::regex::Regex;
 use syntect_scope::scope::Scope;
 use syntect_scope::stack::ClearAmount;
 use syntect_values::seq::Seq;
@@ -67,7 +67,7 @@ pub enum MatchOperation {
 }
 
 /// A pattern and what its match does.
-#[derive(Clone, Debug, Drop, PartialEq, Eq)]
+#[derive(Drop, PartialEq, Eq)]
 pub struct MatchPattern {
     /// Whether the pattern has back references into the match that opened its context.
     pub has_captures: bool,
@@ -82,7 +82,7 @@ pub struct MatchPattern {
 }
 
 /// An entry of a context.
-#[derive(Clone, Debug, Drop, PartialEq, Eq)]
+#[derive(Clone, Drop, PartialEq, Eq)]
 pub enum Pattern {
     Match(MatchPattern),
     /// The patterns of another context in this one's place.
@@ -90,7 +90,7 @@ pub enum Pattern {
 }
 
 /// A context: the scopes that it gives to text, and its patterns in order.
-#[derive(Clone, Debug, Drop, PartialEq, Eq)]
+#[derive(Clone, Drop, PartialEq, Eq)]
 pub struct Context {
     /// The scopes of its text, the matches that open and leave it included.
     pub meta_scope: Seq<Scope>,
@@ -108,7 +108,7 @@ pub struct Context {
 }
 
 /// A grammar as it was written.
-#[derive(Drop)]
+#[derive(Clone, Drop, PartialEq, Eq)]
 pub struct SyntaxDefinition {
     pub name: Text,
     pub file_extensions: Seq<Text>,
@@ -192,6 +192,49 @@ impl ContextReference {
             None => Err(ParsingError::MissingContext(id)),
         }
     }
+}
+
+impl Clone for MatchPattern {
+    ghost is_clone = { λ x y. y ≡ x };
+
+    fn clone(&self) -> Result<MatchPattern, AllocError> {
+        Ok(MatchPattern {
+            has_captures: self.has_captures,
+            regex: self.regex.clone(self.scope.allocator())?,
+            scope: copied_scopes(&self.scope)?,
+            captures: copied_captures(&self.captures)?,
+            operation: copied_operation(&self.operation)?,
+            with_prototype: copied_reference(&self.with_prototype)?,
+        })
+    }
+}
+
+// What stands in a pattern, once more.
+
+fn copied_scopes(scopes: &Seq<Scope>) -> Result<Seq<Scope>, AllocError>
+    ensures { IfOk result (λ s. s ≡ scopes.now) }
+{
+    scopes.clone()
+}
+
+fn copied_captures(captures: &Option<CaptureMapping>) -> Result<Option<CaptureMapping>, AllocError>
+    ensures { IfOk result (λ c. c ≡ captures.now) }
+{
+    captures.clone()
+}
+
+fn copied_operation(operation: &MatchOperation) -> Result<MatchOperation, AllocError>
+    ensures { IfOk result (λ o. o ≡ operation.now) }
+{
+    operation.clone()
+}
+
+fn copied_reference(
+    reference: &Option<ContextReference>,
+) -> Result<Option<ContextReference>, AllocError>
+    ensures { IfOk result (λ r. r ≡ reference.now) }
+{
+    reference.clone()
 }
 
 impl MatchPattern {

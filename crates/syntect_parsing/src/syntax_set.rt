@@ -14,7 +14,7 @@ use syntect_values::table::Table;
 use syntect_values::text::Text;
 
 /// A syntax of a set, of use with that set alone.
-#[derive(Drop)]
+#[derive(Clone, Drop)]
 pub struct SyntaxReference {
     pub name: Text,
     pub file_extensions: Seq<Text>,
@@ -30,13 +30,13 @@ pub struct SyntaxReference {
 }
 
 /// Syntaxes whose contexts are linked.
-#[derive(Drop)]
+#[derive(Clone, Drop)]
 pub struct SyntaxSet {
     syntaxes: Seq<SyntaxReference>,
 }
 
 /// Definitions that are to be linked.
-#[derive(Drop)]
+#[derive(Clone, Drop)]
 pub struct SyntaxSetBuilder {
     syntaxes: Seq<SyntaxDefinition>,
 }
@@ -49,6 +49,13 @@ impl SyntaxSet {
         SyntaxSet {
             syntaxes: Seq::new(alloc),
         }
+    }
+
+    /// The same. Takes no memory.
+    pub fn default(alloc: Global) -> SyntaxSet
+        ensures { result ≡ set_of [] }
+    {
+        SyntaxSet::new(alloc)
     }
 
     /// Its syntaxes, in the order in which their definitions were added.
@@ -75,6 +82,13 @@ impl SyntaxSetBuilder {
         SyntaxSetBuilder {
             syntaxes: Seq::new(alloc),
         }
+    }
+
+    /// The same. Takes no memory.
+    pub fn default(alloc: Global) -> SyntaxSetBuilder
+        ensures { definitions_in result ≡ [] }
+    {
+        SyntaxSetBuilder::new(alloc)
     }
 
     /// Puts a definition last. Without memory for it the builder stays as it is, and the definition is dropped.

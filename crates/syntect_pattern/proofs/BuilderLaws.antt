@@ -1,11 +1,12 @@
 -- A table grows.
-use Rattle.std.proofs.Common.{◌≡◌, ℕ, suc, ◌<◌, ◌&&◌, nat_lt, Bool, true, false, List, [], ◌∷◌, ◌++◌, map, length, get_or, refl, sym, ◌∙◌, ap, arith, length-append, Option, Some, None}
+use Rattle.std.proofs.Common.{◌≡◌, ℕ, suc, ◌<◌, ◌&&◌, nat_lt, Bool, true, false, List, [], ◌∷◌, ◌++◌, map, length, get_or, refl, sym, ◌∙◌, ap, subst, arith, length-append, Option, Some, None}
 use Rattle.std.proofs.Math.ListN.{get_or-append}
 use Rattle.std.proofs.Math.Seq.{get_or-append_seam}
 use Rattle.std.proofs.lemmas.Bool.{lt-ltb}
 use Rattle.syntect_pattern.specs.Trees.{Tree, nothing, seq, seq_all, group, group_count}
 use Rattle.syntect_pattern.specs.Table.{node_tree, trees}
 use Rattle.syntect_pattern.specs.Reader.{item_tree, leaf_tree, with_plus}
+use Rattle.syntect_pattern.specs.Starts.{Starts}
 use Rattle.syntect_pattern.specs.Program.{IsProgramOf}
 use Rattle.syntect_pattern.specs.declared.program.Program.{Program}
 use Rattle.syntect_pattern.specs.declared.reader.Leaf.{Leaf}
@@ -90,9 +91,12 @@ no_groups (i ∷ j ∷ rest) =
 -- the program is that of the items
 pub IsProgramOf-items : (p : Program) (mid : List Node) (body : ℕ) (rest : Option ℕ) (old : List Node) (left items : List Item)
     → Holds p.nodes p.root (node_tree (trees mid) (Node.Group 0 body)) → p.groups ≡ 1
-    → (built : Built old rest left (map item_tree items)) → left ≡ [] → tree_in mid body ≡ seq_all built.behind
+    → (built : Built old rest left (map item_tree items)) → left ≡ [] → tree_in mid body ≡ seq_all built.behind → Starts p.starts (tree_in mid body)
     → IsProgramOf p (seq_all (map item_tree items))
-IsProgramOf-items p mid body rest old left items h g built none e = record {
-  root = h.is ∙ ap (group 0) (e ∙ ap seq_all (ap (λ (xs : List Item). map item_tree xs ++ built.behind) (sym none) ∙ built.whole));
-  groups = g ∙ sym (ap suc (no_groups items));
-}
+IsProgramOf-items p mid body rest old left items h g built none e starts =
+    let is : tree_in mid body ≡ seq_all (map item_tree items) = e ∙ ap seq_all (ap (λ (xs : List Item). map item_tree xs ++ built.behind) (sym none) ∙ built.whole) in
+    record {
+      root = h.is ∙ ap (group 0) is;
+      groups = g ∙ sym (ap suc (no_groups items));
+      starts = subst (Starts p.starts) is starts;
+    }

@@ -15,3 +15,7 @@ pub mod NumberLaws
 pub mod TableLaws
 pub mod ReaderLaws
 pub mod BuilderLaws
+pub mod StartLaws
+pub mod FirstLaws
+pub mod BeginLaws
+pub mod PatternLaws

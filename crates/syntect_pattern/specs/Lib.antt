@@ -13,3 +13,5 @@ pub mod Program
 pub mod Compiled
 pub mod Reader
 pub mod Builder
+pub mod Starts
+pub mod Found

@@ -3,7 +3,8 @@ ghost use Rattle.syntect_pattern.specs.Table.{IsOrdered};
 
 use crate::node::Node;
 use crate::reader::{Item, Leaf};
-use std::alloc::AllocError;
+use crate::starts::starts;
+use std::alloc::{AllocError, Global};
 use syntect_values::seq::Seq;
 
 /// The nodes so far, each behind its parts.
@@ -18,6 +19,7 @@ impl Builder {
     ghost use Rattle.syntect_pattern.specs.Trees.{Tree, repeat, seq_all};
     ghost use Rattle.syntect_pattern.specs.Table.{node_tree, parts_before, trees};
     ghost use Rattle.syntect_pattern.specs.Reader.{item_tree, leaf_tree};
+    ghost use Rattle.syntect_pattern.specs.Starts.{Starts};
     ghost use Rattle.syntect_pattern.specs.Builder.{Grows, Holds, IsSequence, tree_in};
 
     /// Puts a node last.
@@ -75,5 +77,13 @@ impl Builder {
             Some(body) => Ok(body),
             None => self.push(Node::Nothing),
         }
+    }
+
+    /// The ASCII characters that a match of the node can begin with, if it always reads one.
+    pub fn starts(&self, alloc: Global, root: usize) -> Result<Option<Seq<bool>>, AllocError>
+        requires { root < length self.now.nodes }
+        ensures { IfOk result (λ flags. Starts flags (tree_in self.now.nodes root)) }
+    {
+        starts(alloc, self.nodes.as_slice(), root)
     }
 }

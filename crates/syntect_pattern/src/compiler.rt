@@ -43,10 +43,12 @@ fn program_of(alloc: Global, mut items: Vec<Item>) -> Result<Program, AllocError
         rest = Some(builder.push_before(item, rest)?);
     }
     let body = builder.sequence(rest)?;
+    let starts = builder.starts(alloc, body)?;
     let root = builder.push(Node::Group { number: 0, body })?;
     Ok(Program {
         nodes: builder.nodes,
         root,
         groups: 1,
+        starts,
     })
 }

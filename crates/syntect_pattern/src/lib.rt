@@ -1,19 +1,26 @@
 //! Patterns: what a text reads as, and what that matches.
 #![tactic(auto)]
 
+ghost use Rattle.syntect_pattern.specs.Found.{FindsPatternMatches};
 ghost use Rattle.syntect_pattern.specs.Grammar.{ReadsEnough, NumbersGroups};
 ghost use Rattle.syntect_pattern.specs.Nesting.{FindsMatches, TurnsEnough};
 
-pub mod builder;
+mod builder;
 pub mod compiler;
 pub mod node;
 pub mod program;
-pub mod reader;
+mod reader;
+mod starts;
 
 /// The law of every search: the groups that stand outside lookarounds are nested or disjoint, lie in the match and end on
 /// boundaries of characters.
 pub fn matches_are_laid_out()
     ensures { FindsMatches }
+{}
+
+/// The same law for a pattern that is given as its text: what `pattern_found` finds is a match of the pattern's tree.
+pub fn pattern_matches_are_laid_out()
+    ensures { FindsPatternMatches }
 {}
 
 /// The law of the reading: the number that bounds its calls has no effect where it is above the length of the text.

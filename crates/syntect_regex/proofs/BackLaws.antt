@@ -1,5 +1,7 @@
 -- Lists that go on, groups that end, and frames that are taken off.
-use Rattle.std.proofs.Common.{◌≡◌, ◌≢◌, ℕ, suc, ◌-◌, ◌<◌, ◌≤◌, List, [], ◌∷◌, ◌++◌, length, take, get_or, set, refl, sym, ◌∙◌, ap, subst, arith, Option, Some, None, reverse, set-set, inl, inr}
+use Rattle.std.proofs.Common.{◌≡◌, ◌≢◌, ℕ, zero, suc, ◌-◌, ◌<◌, ◌≤◌, List, [], ◌∷◌, ◌++◌, length, take, get_or, set, refl, sym, ◌∙◌, ap, subst, arith, Option, Some, None, reverse, set-set, inl, inr}
+use Rattle.std.specs.Prelude.{IsCharBoundary}
+use Rattle.std.proofs.Math.Seq.{take-length}
 use Rattle.std.proofs.lemmas.List.{set-get_or, length-take-le, set_past, reverse-append}
 use Rattle.std.proofs.lemmas.Bool.{cases_lt}
 use Rattle.syntect_pattern.specs.Trees.{Tree}
@@ -9,8 +11,8 @@ use Rattle.syntect_regex.specs.declared.engine.Cell.{Cell}
 use Rattle.syntect_regex.specs.declared.engine.Next.{Next}
 use Rattle.syntect_regex.specs.declared.engine.Search.{Search}
 use Rattle.syntect_regex.specs.declared.engine.Frame.{Frame}
-use Rattle.syntect_regex.specs.Machine.{Work, none, tick, On, on_item, list_at, search, tree_at, pending, now, ListFits, FramesFit, CellsFit, Fits, Goes}
-use Rattle.syntect_regex.proofs.WorkLaws.{both-none, ticks}
+use Rattle.syntect_regex.specs.Machine.{Work, none, tick, both, On, on_item, list_at, at_places, search, tree_at, pending, now, ListFits, FramesFit, CellsFit, Fits, Goes, ReturnsTo, Retreats, RestoresGroup}
+use Rattle.syntect_regex.proofs.WorkLaws.{both-none, both-tick, both-tick_right, ticks}
 use Rattle.syntect_regex.proofs.MachineLaws.{list-cell, pending-tick, CellsFit-take}
 use Rattle.syntect_regex.proofs.StepLaws.{goes_by, goes_to, goes_on}
 
@@ -84,59 +86,113 @@ module _ (s : List ℕ) (ts : List Tree) where
             (next-fits x.cells.items c list ne hf.cells hf.list e) hf.place)
       ]
 
-  resume-enter : (old new : Search) (n k j len : ℕ)
-      → Fits s Next.Fail old → reverse old.frames.items ≡ Frame.Enter n k j len ∷ reverse new.frames.items
-      → new.place ≡ j → new.cells.items ≡ take len old.cells.items → new.groups.items ≡ old.groups.items
+  resume-enter : (old new : Search) (rest : List Frame) (n k j len : ℕ)
+      → Fits s Next.Fail old → reverse old.frames.items ≡ Frame.Enter n k j len ∷ reverse rest
+      → new.frames.items ≡ rest → new.place ≡ j → new.cells.items ≡ take len old.cells.items → new.groups.items ≡ old.groups.items
       → Goes s ts Next.Fail old (Next.Enter n k) new
-  resume-enter old new n k j len hf hr hi hx hg =
+  resume-enter old new rest n k j len hf hr hn hi hx hg =
       let xs : List Cell = old.cells.items in
       let g : Groups = old.groups.items in
-      let fs : List Frame = reverse new.frames.items in
+      let fs : List Frame = reverse rest in
       let ff : FramesFit s (length xs) (Frame.Enter n k j len ∷ fs) = subst (FramesFit s (length xs)) hr hf.frames in
       let ln : length (take len xs) ≡ len = length-take-le len xs ff.1 in
-      goes_by s ts Next.Fail (Next.Enter n k) old new 0 (take len xs) j g fs hx hi hg refl
+      goes_by s ts Next.Fail (Next.Enter n k) old new 0 (take len xs) j g fs hx hi hg (ap reverse hn)
       (ap (λ rs. pending s ts xs g rs none) hr
       ∙ ap (pending s ts (take len xs) g fs) (both-none (tick (search s (tree_at s ts n) (list_at s ts (take len xs) k) j g)))
       ∙ pending-tick s ts (take len xs) g fs (search s (tree_at s ts n) (list_at s ts (take len xs) k) j g))
       (CellsFit-take xs len hf.cells) (rw ln ff.3) (rw ln ff.0) ff.2
 
-  resume-leave : (old new : Search) (k j len : ℕ)
-      → Fits s Next.Fail old → reverse old.frames.items ≡ Frame.Leave k j len ∷ reverse new.frames.items
-      → new.place ≡ j → new.cells.items ≡ take len old.cells.items → new.groups.items ≡ old.groups.items
+  resume-leave : (old new : Search) (rest : List Frame) (k j len : ℕ)
+      → Fits s Next.Fail old → reverse old.frames.items ≡ Frame.Leave k j len ∷ reverse rest
+      → new.frames.items ≡ rest → new.place ≡ j → new.cells.items ≡ take len old.cells.items → new.groups.items ≡ old.groups.items
       → Goes s ts Next.Fail old (Next.Leave k) new
-  resume-leave old new k j len hf hr hi hx hg =
+  resume-leave old new rest k j len hf hr hn hi hx hg =
       let xs : List Cell = old.cells.items in
       let g : Groups = old.groups.items in
-      let fs : List Frame = reverse new.frames.items in
+      let fs : List Frame = reverse rest in
       let ff : FramesFit s (length xs) (Frame.Leave k j len ∷ fs) = subst (FramesFit s (length xs)) hr hf.frames in
       let ln : length (take len xs) ≡ len = length-take-le len xs ff.1 in
-      goes_by s ts Next.Fail (Next.Leave k) old new 0 (take len xs) j g fs hx hi hg refl
+      goes_by s ts Next.Fail (Next.Leave k) old new 0 (take len xs) j g fs hx hi hg (ap reverse hn)
       (ap (λ rs. pending s ts xs g rs none) hr
       ∙ ap (pending s ts (take len xs) g fs) (both-none (tick (list_at s ts (take len xs) k j g)))
       ∙ pending-tick s ts (take len xs) g fs (list_at s ts (take len xs) k j g))
       (CellsFit-take xs len hf.cells) (rw ln ff.3) (rw ln ff.0) ff.2
 
-  resume-restore : (old new : Search) (n : ℕ) (was : Option Span)
-      → Fits s Next.Fail old → reverse old.frames.items ≡ Frame.Restore n was ∷ reverse new.frames.items
-      → new.place ≡ old.place → new.cells.items ≡ old.cells.items → new.groups.items ≡ set old.groups.items n was
+  resume-restore : (old new : Search) (rest : List Frame) (n : ℕ) (was : Option Span)
+      → Fits s Next.Fail old → reverse old.frames.items ≡ Frame.Restore n was ∷ reverse rest
+      → new.frames.items ≡ rest → new.place ≡ old.place → new.cells.items ≡ old.cells.items → new.groups.items ≡ set old.groups.items n was
       → Goes s ts Next.Fail old Next.Fail new
-  resume-restore old new n was hf hr hi hx hg =
+  resume-restore old new rest n was hf hr hn hi hx hg =
       let xs : List Cell = old.cells.items in
-      let fs : List Frame = reverse new.frames.items in
-      goes_by s ts Next.Fail Next.Fail old new 0 xs old.place (set old.groups.items n was) fs hx hi hg refl
+      let fs : List Frame = reverse rest in
+      goes_by s ts Next.Fail Next.Fail old new 0 xs old.place (set old.groups.items n was) fs hx hi hg (ap reverse hn)
       (ap (λ rs. pending s ts xs old.groups.items rs none) hr ∙ pending-tick s ts xs (set old.groups.items n was) fs none)
       hf.cells (let P : List Frame → Type 0 = FramesFit s (length xs) in subst P hr hf.frames) tt hf.place
 
+  -- a stretch without places is over
+  resume-no_place : (old new : Search) (rest : List Frame) (k j len : ℕ)
+      → Fits s Next.Fail old → reverse old.frames.items ≡ Frame.Stretch k 0 j len ∷ reverse rest
+      → new.frames.items ≡ rest → new.place ≡ old.place → new.cells.items ≡ take len old.cells.items → new.groups.items ≡ old.groups.items
+      → Goes s ts Next.Fail old Next.Fail new
+  resume-no_place old new rest k j len hf hr hn hi hx hg =
+      let xs : List Cell = old.cells.items in
+      let g : Groups = old.groups.items in
+      let fs : List Frame = reverse rest in
+      let ff : FramesFit s (length xs) (Frame.Stretch k 0 j len ∷ fs) = subst (FramesFit s (length xs)) hr hf.frames in
+      let ln : length (take len xs) ≡ len = length-take-le len xs ff.1 in
+      goes_by s ts Next.Fail Next.Fail old new 0 (take len xs) old.place g fs hx hi hg (ap reverse hn)
+      (ap (λ rs. pending s ts xs g rs none) hr
+      ∙ ap (pending s ts (take len xs) g fs) (both-none (tick none))
+      ∙ pending-tick s ts (take len xs) g fs none)
+      (CellsFit-take xs len hf.cells) (rw ln ff.3) tt hf.place
+
+  -- the last place of a stretch is tried
+  resume-last : (old new : Search) (rest : List Frame) (k n j len : ℕ)
+      → Fits s Next.Fail old → reverse old.frames.items ≡ Frame.Stretch k (suc n) j len ∷ reverse rest
+      → new.frames.items ≡ rest ++ Frame.Stretch k n (j - 1) len ∷ [] → new.place ≡ j → new.cells.items ≡ take len old.cells.items → new.groups.items ≡ old.groups.items
+      → Goes s ts Next.Fail old (Next.Leave k) new
+  resume-last old new rest k n j len hf hr hn hi hx hg =
+      let xs : List Cell = old.cells.items in
+      let g : Groups = old.groups.items in
+      let fs : List Frame = reverse rest in
+      let ff : FramesFit s (length xs) (Frame.Stretch k (suc n) j len ∷ fs) = subst (FramesFit s (length xs)) hr hf.frames in
+      let ln : length (take len xs) ≡ len = length-take-le len xs ff.1 in
+      let twice : take len (take len xs) ≡ take len xs = ap (λ (m : ℕ). take m (take len xs)) (sym ln) ∙ take-length (take len xs) in
+      let K : Work = list_at s ts (take len xs) k j g in
+      let P : Work = at_places s ts (list_at s ts (take len xs) k) n (j - 1) g in
+      goes_by s ts Next.Fail (Next.Leave k) old new 0 (take len xs) j g (Frame.Stretch k n (j - 1) len ∷ fs) hx hi hg
+      (ap reverse hn ∙ reverse-append rest (Frame.Stretch k n (j - 1) len ∷ []))
+      (ap (λ rs. pending s ts xs g rs none) hr
+      ∙ ap (pending s ts (take len xs) g fs) (both-none (tick (both (tick K) P)))
+      ∙ pending-tick s ts (take len xs) g fs (both (tick K) P)
+      ∙ ap (λ (w : Work). tick (pending s ts (take len xs) g fs w)) (both-tick K P ∙ sym (both-tick_right K P))
+      ∙ ap (λ (zs : List Cell). tick (pending s ts zs g fs (both K (tick (at_places s ts (list_at s ts zs k) n (j - 1) g))))) (sym twice))
+      (CellsFit-take xs len hf.cells)
+      (rw ln (ff.0, omega arith, (λ m p. subst (IsCharBoundary s) (let e : j - suc m ≡ j - 1 - m = omega arith in e) (ff.2 (suc m) (omega arith))), ff.3))
+      (rw ln ff.0)
+      (subst (IsCharBoundary s) (let e : j - 0 ≡ j = omega arith in e) (ff.2 0 (omega arith)))
+
   -- the last frame is taken off
-  pub goes_resume : (old new : Search) (next : Next) (f : Frame)
-      → Fits s Next.Fail old → reverse old.frames.items ≡ f ∷ reverse new.frames.items
-      → ((node list place cells : ℕ) → f ≡ Frame.Enter node list place cells → (next ≡ Next.Enter node list) × (new.place ≡ place) × (new.cells.items ≡ take cells old.cells.items) × (new.groups.items ≡ old.groups.items))
-      → ((list place cells : ℕ) → f ≡ Frame.Leave list place cells → (next ≡ Next.Leave list) × (new.place ≡ place) × (new.cells.items ≡ take cells old.cells.items) × (new.groups.items ≡ old.groups.items))
-      → ((group : ℕ) (was : Option Span) → f ≡ Frame.Restore group was → (next ≡ Next.Fail) × (new.place ≡ old.place) × (new.cells.items ≡ old.cells.items) × (new.groups.items ≡ set old.groups.items group was))
+  pub goes_resume : (old new : Search) (rest : List Frame) (mid : Search) (next : Next) (f : Frame)
+      → Fits s Next.Fail old → reverse old.frames.items ≡ f ∷ reverse rest
+      → mid.cells.items ≡ old.cells.items → mid.groups.items ≡ old.groups.items → mid.place ≡ old.place → mid.frames.items ≡ rest
+      → ((node list place cells : ℕ) → f ≡ Frame.Enter node list place cells → (next ≡ Next.Enter node list) × ReturnsTo place cells mid new)
+      → ((list place cells : ℕ) → f ≡ Frame.Leave list place cells → (next ≡ Next.Leave list) × ReturnsTo place cells mid new)
+      → ((list count place cells : ℕ) → f ≡ Frame.Stretch list count place cells → Retreats list count place cells mid next new)
+      → ((group : ℕ) (was : Option Span) → f ≡ Frame.Restore group was → (next ≡ Next.Fail) × RestoresGroup group was mid new)
       → Goes s ts Next.Fail old next new
-  goes_resume old new next (Frame.Enter n k j len) hf hr he hl hs =
-      let h = he n k j len refl in rw h.0 (resume-enter old new n k j len hf hr h.1 h.2 h.3)
-  goes_resume old new next (Frame.Leave k j len) hf hr he hl hs =
-      let h = hl k j len refl in rw h.0 (resume-leave old new k j len hf hr h.1 h.2 h.3)
-  goes_resume old new next (Frame.Restore n was) hf hr he hl hs =
-      let h = hs n was refl in rw h.0 (resume-restore old new n was hf hr h.1 h.2 h.3)
+  goes_resume old new rest mid next (Frame.Enter n k j len) hf hr mc mg mi mr he hl ht hs =
+      let h = he n k j len refl in
+      rw h.0 (resume-enter old new rest n k j len hf hr (h.1.frames ∙ mr) h.1.place (h.1.cells ∙ ap (take len) mc) (h.1.groups ∙ mg))
+  goes_resume old new rest mid next (Frame.Leave k j len) hf hr mc mg mi mr he hl ht hs =
+      let h = hl k j len refl in
+      rw h.0 (resume-leave old new rest k j len hf hr (h.1.frames ∙ mr) h.1.place (h.1.cells ∙ ap (take len) mc) (h.1.groups ∙ mg))
+  goes_resume old new rest mid next (Frame.Stretch k zero j len) hf hr mc mg mi mr he hl ht hs =
+      let h = ht k 0 j len refl in
+      rw h.0 (resume-no_place old new rest k j len hf hr (h.1.frames ∙ mr) (h.1.place ∙ mi) (h.1.cells ∙ ap (take len) mc) (h.1.groups ∙ mg))
+  goes_resume old new rest mid next (Frame.Stretch k (suc n) j len) hf hr mc mg mi mr he hl ht hs =
+      let h = ht k (suc n) j len refl in
+      rw h.next_is (resume-last old new rest k n j len hf hr (h.frames ∙ ap (λ (fs : List Frame). fs ++ Frame.Stretch k n (j - 1) len ∷ []) mr) h.place (h.cells ∙ ap (take len) mc) (h.groups ∙ mg))
+  goes_resume old new rest mid next (Frame.Restore n was) hf hr mc mg mi mr he hl ht hs =
+      let h = hs n was refl in
+      rw h.0 (resume-restore old new rest n was hf hr (h.1.frames ∙ mr) (h.1.place ∙ mi) (h.1.cells ∙ mc) (h.1.groups ∙ ap (λ (g : Groups). set g n was) mg))

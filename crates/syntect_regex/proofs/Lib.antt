@@ -9,3 +9,4 @@ pub mod FirstLaws
 pub mod RunLaws
 pub mod FindLaws
 pub mod RegionLaws
+pub mod StretchLaws

@@ -1,5 +1,6 @@
 -- How the lists of items and the frames change.
 use Rattle.std.proofs.Common.{◌≡◌, ℕ, zero, suc, ◌+◌, ◌<◌, ◌≤◌, List, [], ◌∷◌, ◌++◌, length, take, drop, set, get_or, refl, sym, ◌∙◌, ap, subst, arith, length-append, below_more, Some}
+use Rattle.std.specs.Option.{option_or}
 use Rattle.std.proofs.Math.ListN.{get_or-append}
 use Rattle.std.proofs.Math.Seq.{get_or-append_seam, drop-cons}
 use Rattle.std.proofs.lemmas.List.{take-append-le, take-append-drop, length-take-le, length-take, get_or-take}
@@ -7,8 +8,8 @@ use Rattle.syntect_pattern.specs.Trees.{Tree}
 use Rattle.syntect_pattern.specs.Matches.{Groups}
 use Rattle.syntect_regex.specs.declared.engine.Cell.{Cell}
 use Rattle.syntect_regex.specs.declared.engine.Frame.{Frame}
-use Rattle.syntect_regex.specs.declared.engine.Frame.TheVariants.{Enter, Leave, Restore}
-use Rattle.syntect_regex.specs.Machine.{Work, tick, both, On, end, list_in, on_item, on_cell, lists_from, list_at, search, tree_at, pending, FramesFit, CellsFit}
+use Rattle.syntect_regex.specs.declared.engine.Frame.TheVariants.{Enter, Leave, Stretch, Restore}
+use Rattle.syntect_regex.specs.Machine.{Work, tick, both, On, end, list_in, on_item, on_cell, lists_from, list_at, search, tree_at, at_places, pending, FramesFit, CellsFit}
 use Rattle.syntect_regex.proofs.WorkLaws.{both-tick}
 
 module _ (s : List ℕ) (ts : List Tree) where
@@ -74,6 +75,8 @@ module _ (s : List ℕ) (ts : List Tree) where
       ap (λ zs. pending s ts zs g fs (both w (tick (search s (tree_at s ts n) (list_at s ts zs k) i g)))) (take-append-le len xs ys h.1)
   pending-append xs ys g (Leave k i len ∷ fs) w h =
       ap (λ zs. pending s ts zs g fs (both w (tick (list_at s ts zs k i g)))) (take-append-le len xs ys h.1)
+  pending-append xs ys g (Stretch k n i len ∷ fs) w h =
+      ap (λ zs. pending s ts zs g fs (both w (tick (at_places s ts (list_at s ts zs k) n i g)))) (take-append-le len xs ys h.1)
   pending-append xs ys g (Restore n old ∷ fs) w h = pending-append xs ys _ fs (tick w) h
 
   pub pending-tick : (xs : List Cell) (g : Groups) (fs : List Frame) (w : Work) → pending s ts xs g fs (tick w) ≡ tick (pending s ts xs g fs w)
@@ -84,6 +87,9 @@ module _ (s : List ℕ) (ts : List Tree) where
   pending-tick xs g (Leave k i len ∷ fs) w =
       ap (pending s ts (take len xs) g fs) (both-tick w (tick (list_at s ts (take len xs) k i g)))
       ∙ pending-tick (take len xs) g fs (both w (tick (list_at s ts (take len xs) k i g)))
+  pending-tick xs g (Stretch k n i len ∷ fs) w =
+      ap (pending s ts (take len xs) g fs) (both-tick w (tick (at_places s ts (list_at s ts (take len xs) k) n i g)))
+      ∙ pending-tick (take len xs) g fs (both w (tick (at_places s ts (list_at s ts (take len xs) k) n i g)))
   pending-tick xs g (Restore n old ∷ fs) w = pending-tick xs (set g n old) fs (tick w)
 
   -- what the frames find is what is found already
@@ -94,7 +100,25 @@ module _ (s : List ℕ) (ts : List Tree) where
       pending-found (take len xs) g fs (both w (tick (search s (tree_at s ts n) (list_at s ts (take len xs) k) j g))) i h (rw e refl)
   pending-found xs g (Leave k j len ∷ fs) w i h e =
       pending-found (take len xs) g fs (both w (tick (list_at s ts (take len xs) k j g))) i h (rw e refl)
+  pending-found xs g (Stretch k n j len ∷ fs) w i h e =
+      pending-found (take len xs) g fs (both w (tick (at_places s ts (list_at s ts (take len xs) k) n j g))) i h (rw e refl)
   pending-found xs g (Restore n old ∷ fs) w i h e = pending-found xs (set g n old) fs (tick w) i h e
+
+  -- what is found stays, and fewer steps are left, whatever the frames are
+  pub pending-less : (xs : List Cell) (g : Groups) (fs : List Frame) (w x : Work) → w.found ≡ x.found → w.count < x.count
+      → ((pending s ts xs g fs w).found ≡ (pending s ts xs g fs x).found) × ((pending s ts xs g fs w).count < (pending s ts xs g fs x).count)
+  unfolding both tick
+  pending-less xs g [] w x e h = (e, h)
+  pending-less xs g (Enter n k i len ∷ fs) w x e h =
+      pending-less (take len xs) g fs (both w (tick (search s (tree_at s ts n) (list_at s ts (take len xs) k) i g))) (both x (tick (search s (tree_at s ts n) (list_at s ts (take len xs) k) i g)))
+      (ap (λ f. option_or f (search s (tree_at s ts n) (list_at s ts (take len xs) k) i g).found) e) (omega arith)
+  pending-less xs g (Leave k i len ∷ fs) w x e h =
+      pending-less (take len xs) g fs (both w (tick (list_at s ts (take len xs) k i g))) (both x (tick (list_at s ts (take len xs) k i g)))
+      (ap (λ f. option_or f (list_at s ts (take len xs) k i g).found) e) (omega arith)
+  pending-less xs g (Stretch k n i len ∷ fs) w x e h =
+      pending-less (take len xs) g fs (both w (tick (at_places s ts (list_at s ts (take len xs) k) n i g))) (both x (tick (at_places s ts (list_at s ts (take len xs) k) n i g)))
+      (ap (λ f. option_or f (at_places s ts (list_at s ts (take len xs) k) n i g).found) e) (omega arith)
+  pending-less xs g (Restore n old ∷ fs) w x e h = pending-less xs (set g n old) fs (tick w) (tick x) e (omega arith)
 
 -- a cell whose list is there fits
 pub CellsFit-push : (xs : List Cell) (c : Cell) → CellsFit xs → c.next ≤ length xs → CellsFit (xs ++ c ∷ [])
@@ -110,4 +134,5 @@ pub FramesFit-more : (s : List ℕ) (n m : ℕ) (fs : List Frame) → n ≤ m �
 FramesFit-more s n m [] h f = tt
 FramesFit-more s n m (Enter node k i len ∷ fs) h f = (f.0, omega arith, f.2, f.3)
 FramesFit-more s n m (Leave k i len ∷ fs) h f = (f.0, omega arith, f.2, f.3)
+FramesFit-more s n m (Stretch k count i len ∷ fs) h f = (f.0, omega arith, f.2, f.3)
 FramesFit-more s n m (Restore i old ∷ fs) h f = FramesFit-more s n m fs h f

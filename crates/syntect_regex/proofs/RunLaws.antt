@@ -1,6 +1,6 @@
 -- How a search begins and ends.
 use Rattle.std.proofs.Common.{◌≡◌, ℕ, List, [], refl, ◌∙◌, ap, Some, None, reverse}
-use Rattle.std.specs.Prelude.{Result, Ok, Err, IfOk, slice_get}
+use Rattle.std.specs.Prelude.{Option, Result, Ok, Err, IfOk, IfNone, slice_get}
 use Rattle.syntect_pattern.specs.Trees.{Tree}
 use Rattle.syntect_pattern.specs.Matches.{Groups, matches}
 use Rattle.syntect_regex.specs.declared.engine.Frame.{Frame}
@@ -42,3 +42,7 @@ if_ok_along (Err x) f a b e h = tt
 pub if_ok_map : {A E : Type 0} (r : Result A E) (P Q : A → Type 0) → ((x : A) → P x → Q x) → IfOk r P → IfOk r Q
 if_ok_map (Ok x) P Q f h = f x h
 if_ok_map (Err x) P Q f h = tt
+
+pub none_holds : {A : Type 0} (o : Option A) (P : Type 0) → o ≡ None → IfNone o P → P
+none_holds None P e h = h
+none_holds (Some x) P e h = cc

@@ -15,7 +15,7 @@ use Rattle.syntect_regex.specs.declared.engine.Cell.{Cell}
 use Rattle.syntect_regex.specs.declared.engine.Next.{Next}
 use Rattle.syntect_regex.specs.declared.engine.Search.{Search}
 use Rattle.syntect_regex.specs.declared.engine.Frame.{Frame}
-use Rattle.syntect_regex.specs.declared.engine.Frame.TheVariants.{Enter, Leave, Restore}
+use Rattle.syntect_regex.specs.declared.engine.Frame.TheVariants.{Enter, Leave, Stretch, Restore}
 
 pub record Work : Type 0 where
   pub found : Option Member
@@ -139,12 +139,18 @@ module _ (s : List ℕ) where
     unfoldable pub list_at : List Cell → ℕ → On
     list_at cells k = list_in (lists_from [] cells) k
 
+    -- k at so many places, the last one first
+    abbrev pub at_places : On → ℕ → ℕ → Groups → Work
+    at_places k zero place g = none
+    at_places k (suc n) place g = both (tick (k place g)) (at_places k n (place - 1) g)
+
     -- what a search does that first does w, and then what the frames say, the last one first
     abbrev pub pending : List Cell → Groups → List Frame → Work → Work
     pending cells g [] w = w
     pending cells g (Enter n k i len ∷ fs) w =
         pending (take len cells) g fs (both w (tick (search (tree_at n) (list_at (take len cells) k) i g)))
     pending cells g (Leave k i len ∷ fs) w = pending (take len cells) g fs (both w (tick (list_at (take len cells) k i g)))
+    pending cells g (Stretch k n i len ∷ fs) w = pending (take len cells) g fs (both w (tick (at_places (list_at (take len cells) k) n i g)))
     pending cells g (Restore n old ∷ fs) w = pending cells (slice_set g n old) fs (tick w)
 
     abbrev pub now : Next → List Cell → ℕ → Groups → Work
@@ -162,6 +168,7 @@ abbrev pub FramesFit : List ℕ → ℕ → List Frame → Type 0
 FramesFit s n [] = Unit {0}
 FramesFit s n (Enter node k i len ∷ fs) = (k ≤ len) × (len ≤ n) × IsCharBoundary s i × FramesFit s len fs
 FramesFit s n (Leave k i len ∷ fs) = (k ≤ len) × (len ≤ n) × IsCharBoundary s i × FramesFit s len fs
+FramesFit s n (Stretch k count i len ∷ fs) = (k ≤ len) × (len ≤ n) × ((m : ℕ) → m < count → IsCharBoundary s (i - m)) × FramesFit s len fs
 FramesFit s n (Restore i old ∷ fs) = FramesFit s n fs
 
 abbrev pub ListFits : Next → ℕ → Type 0
@@ -195,6 +202,38 @@ module _ (s : List ℕ) (ts : List Tree) where
     pub found : found_by next' new ≡ found_by next old
     pub fewer : steps_of next' new < steps_of next old
     pub fits : Fits s next' new
+
+-- the place and the cells are those that a frame kept
+pub record ReturnsTo (i len : ℕ) (old new : Search) : Type 0 where
+  pub place : new.place ≡ i
+  pub cells : new.cells.items ≡ take len old.cells.items
+  pub groups : new.groups.items ≡ old.groups.items
+  pub frames : new.frames.items ≡ old.frames.items
+
+-- the group has its old span
+pub record RestoresGroup (n : ℕ) (was : Option (ℕ × ℕ)) (old new : Search) : Type 0 where
+  pub place : new.place ≡ old.place
+  pub cells : new.cells.items ≡ old.cells.items
+  pub groups : new.groups.items ≡ slice_set old.groups.items n was
+  pub frames : new.frames.items ≡ old.frames.items
+
+-- the last place of a stretch is tried, and the others are kept
+pub record TriesLast (k n i len : ℕ) (old : Search) (next : Next) (new : Search) : Type 0 where
+  pub next_is : next ≡ Next.Leave k
+  pub place : new.place ≡ i
+  pub cells : new.cells.items ≡ take len old.cells.items
+  pub groups : new.groups.items ≡ old.groups.items
+  pub frames : new.frames.items ≡ old.frames.items ++ Stretch k n (i - 1) len ∷ []
+
+-- a frame of a stretch is taken off
+abbrev pub Retreats : ℕ → ℕ → ℕ → ℕ → Search → Next → Search → Type 0
+Retreats k zero i len old next new = (next ≡ Next.Fail) × ReturnsTo old.place len old new
+Retreats k (suc n) i len old next new = TriesLast k n i len old next new
+
+-- a loop over one character is entered
+abbrev pub EntersStretch : List ℕ → List Tree → ℕ → ℕ → ℕ → Search → Search → Type 0
+EntersStretch s ts least body k old new =
+    (node : ℕ) → slice_index_or ts node nothing ≡ repeat true least None (slice_index_or ts body nothing) → Goes s ts (Next.Enter node k) old Next.Fail new
 
 -- the match that a search holds, if it found one: its end and its groups
 abbrev pub match_of : Bool → Search → Option Member

@@ -5,6 +5,7 @@ ghost use Rattle.syntect_pattern.specs.Text.{char_at};
 ghost use Rattle.syntect_pattern.specs.Table.{set_of};
 ghost use Rattle.syntect_regex.specs.Machine.{after_char, is_used_up, one_turn_less};
 
+use crate::stretch::stretch;
 use crate::text::{char_at, is_boundary};
 use std::alloc::{AllocError, Global};
 use syntect_pattern::node::{Class, Node};
@@ -56,6 +57,13 @@ pub enum Frame {
     /// Go on with the list at the place.
     Leave {
         list: usize,
+        place: usize,
+        cells: usize,
+    },
+    /// Go on with the list at so many places: this one and those right before it, the last one first.
+    Stretch {
+        list: usize,
+        count: usize,
         place: usize,
         cells: usize,
     },
@@ -147,7 +155,7 @@ impl Search {
     ghost use Rattle.std.specs.Prelude.{replicate, slice_get};
     ghost use Rattle.syntect_pattern.specs.Trees.{nothing};
     ghost use Rattle.syntect_pattern.specs.Matches.{matches};
-    ghost use Rattle.syntect_regex.specs.Machine.{Fits, Goes, found_by, match_of, groups_of, FindsAt, FindsGroups};
+    ghost use Rattle.syntect_regex.specs.Machine.{Fits, Goes, ReturnsTo, Retreats, RestoresGroup, EntersStretch, found_by, match_of, groups_of, FindsAt, FindsGroups};
 
     /// Puts the item before the list.
     fn cons(&mut self, item: Item, next: usize) -> Result<usize, AllocError>
@@ -235,7 +243,18 @@ impl Search {
                 self.save(frame)?;
                 Ok(Next::Enter { node: *first, list })
             }
-            Node::Repeat { least, most, .. } => {
+            Node::Repeat {
+                greedy,
+                least,
+                most,
+                body,
+            } => {
+                if *greedy
+                    && most.is_none()
+                    && self.enter_stretch(program, text, *least, *body, list)?
+                {
+                    return Ok(Next::Fail);
+                }
                 let turns = Turns {
                     node,
                     left: text.len().saturating_sub(self.place) + 1,
@@ -253,6 +272,33 @@ impl Search {
                 Ok(Next::Enter { node: *body, list })
             }
         }
+    }
+
+    /// Reads what a greedy loop over one character can, if it is a stretch of ASCII characters, and keeps its ends for
+    /// later, the last one first.
+    fn enter_stretch(
+        &mut self,
+        program: &Program,
+        text: &str,
+        least: u32,
+        body: usize,
+        list: usize,
+    ) -> Result<bool, AllocError>
+        requires { Fits text.now (Next.Enter body list) self.old }
+        ensures goes { IfOk result (λ yes. yes ≡ true → EntersStretch text.now (trees_of program.now) least body list self.old self.new) }
+        ensures stays { IfOk result (λ yes. yes ≡ false → self.new ≡ self.old) }
+    {
+        let Some(end) = stretch(program, text, self.place, body) else {
+            return Ok(false);
+        };
+        let frame = Frame::Stretch {
+            list,
+            count: (end.saturating_sub(self.place) + 1).saturating_sub(least as usize),
+            place: end,
+            cells: self.cells.len(),
+        };
+        self.save(frame)?;
+        Ok(true)
     }
 
     /// Takes a turn of the loop, if one is left.
@@ -368,11 +414,11 @@ impl Search {
     }
 
     /// Goes back to the frame, which was taken off the stack.
-    fn resume(&mut self, frame: Frame) -> Next
-        ensures enter { (node list place cells : ℕ) → frame ≡ Frame.Enter node list place cells → (result ≡ Next.Enter node list) × (self.new.place ≡ place) × (self.new.cells.items ≡ take cells self.old.cells.items) × (self.new.groups.items ≡ self.old.groups.items) }
-        ensures leave { (list place cells : ℕ) → frame ≡ Frame.Leave list place cells → (result ≡ Next.Leave list) × (self.new.place ≡ place) × (self.new.cells.items ≡ take cells self.old.cells.items) × (self.new.groups.items ≡ self.old.groups.items) }
-        ensures restore { (group : ℕ) (old : Option (ℕ × ℕ)) → frame ≡ Frame.Restore group old → (result ≡ Next.Fail) × (self.new.place ≡ self.old.place) × (self.new.cells.items ≡ self.old.cells.items) × (self.new.groups.items ≡ slice_set self.old.groups.items group old) }
-        ensures frames { self.new.frames ≡ self.old.frames }
+    fn resume(&mut self, frame: Frame) -> Result<Next, AllocError>
+        ensures enter { (node list place cells : ℕ) → frame ≡ Frame.Enter node list place cells → IfOk result (λ next. (next ≡ Next.Enter node list) × ReturnsTo place cells self.old self.new) }
+        ensures leave { (list place cells : ℕ) → frame ≡ Frame.Leave list place cells → IfOk result (λ next. (next ≡ Next.Leave list) × ReturnsTo place cells self.old self.new) }
+        ensures stretch { (list count place cells : ℕ) → frame ≡ Frame.Stretch list count place cells → IfOk result (λ next. Retreats list count place cells self.old next self.new) }
+        ensures restore { (group : ℕ) (old : Option (ℕ × ℕ)) → frame ≡ Frame.Restore group old → IfOk result (λ next. (next ≡ Next.Fail) × RestoresGroup group old self.old self.new) }
     {
         match frame {
             Frame::Enter {
@@ -383,30 +429,63 @@ impl Search {
             } => {
                 self.place = place;
                 self.cells.truncate(cells);
-                Next::Enter { node, list }
+                Ok(Next::Enter { node, list })
             }
             Frame::Leave { list, place, cells } => {
                 self.place = place;
                 self.cells.truncate(cells);
-                Next::Leave { list }
+                Ok(Next::Leave { list })
             }
+            Frame::Stretch {
+                list,
+                count,
+                place,
+                cells,
+            } => self.retreat(list, count, place, cells),
             Frame::Restore { group, old } => {
                 if group < self.groups.len() {
                     self.groups[group] = old;
                 }
-                Next::Fail
+                Ok(Next::Fail)
             }
         }
     }
 
-    /// Goes back to the last frame, if there is one.
-    fn back(&mut self, program: &Program, text: &str) -> Option<Next>
-        requires { Fits text.now Next.Fail self.old }
-        ensures goes { IfSome result (λ next. Goes text.now (trees_of program.now) Next.Fail self.old next self.new) }
-        ensures over { IfNone result (self.old.frames.items ≡ []) }
+    /// Goes on with the list at the place, if one of so many is left, and keeps those before it for later.
+    fn retreat(
+        &mut self,
+        list: usize,
+        count: usize,
+        place: usize,
+        cells: usize,
+    ) -> Result<Next, AllocError>
+        ensures { IfOk result (λ next. Retreats list count place cells self.old next self.new) }
     {
-        let frame = self.frames.pop()?;
-        Some(self.resume(frame))
+        self.cells.truncate(cells);
+        if count == 0 {
+            return Ok(Next::Fail);
+        }
+        self.save(Frame::Stretch {
+            list,
+            count: count - 1,
+            place: place.saturating_sub(1),
+            cells,
+        })?;
+        self.place = place;
+        Ok(Next::Leave { list })
+    }
+
+    /// Goes back to the last frame, if there is one.
+    fn back(&mut self, program: &Program, text: &str) -> Result<Option<Next>, AllocError>
+        requires { Fits text.now Next.Fail self.old }
+        ensures goes { IfOk result (λ found. IfSome found (λ next. Goes text.now (trees_of program.now) Next.Fail self.old next self.new)) }
+        ensures over { IfOk result (λ found. IfNone found (self.old.frames.items ≡ [])) }
+    {
+        let Some(frame) = self.frames.pop() else {
+            return Ok(None);
+        };
+        let next = self.resume(frame)?;
+        Ok(Some(next))
     }
 
     /// Takes steps until a match is found or nothing is left to try.
@@ -421,7 +500,7 @@ impl Search {
                 Next::Turn { turns, list } => self.turn(program, text, turns, list)?,
                 Next::Leave { list } => self.leave(program, text, list)?,
                 Next::Fail => {
-                    let Some(next) = self.back(program, text) else {
+                    let Some(next) = self.back(program, text)? else {
                         return Ok(false);
                     };
                     next
@@ -480,6 +559,9 @@ impl Search {
     ) -> Result<bool, AllocError>
         ensures { IfOk result (λ found. FindsAt text.now program.now place (groups_of found self.new)) }
     {
+        if !program.can_begin(text, place) {
+            return Ok(false);
+        }
         if !is_boundary(text, place) {
             return Ok(false);
         }

@@ -5,4 +5,7 @@ mod engine;
 pub mod error;
 pub mod regex;
 pub mod region;
+mod stretch;
+#[cfg(test)]
+mod tests;
 mod text;

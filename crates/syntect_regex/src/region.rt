@@ -1,5 +1,6 @@
 //! Where the groups of a match stand.
-ghost use Rattle.std.specs.Prelude.{◌≡◌, [], IfOk, OnErr, None, slice_index_or};
+ghost use Rattle.std.specs.Prelude.{◌≡◌, ◌↔◌, true, [], IfOk, OnErr, None, slice_index_or};
+ghost use Rattle.syntect_pattern.specs.Matches.{Groups};
 ghost use Rattle.syntect_regex.specs.Region.{Takes, same_groups, same_groups-equiv};
 ghost use Rattle.std.specs.Cmp.{partial_equiv_from_equiv};
 
@@ -93,3 +94,8 @@ impl PartialEq for Region {
 impl Eq for Region {
     ghost laws = { same_groups-equiv };
 }
+
+/// Two regions are equal exactly where their groups are.
+pub fn equal_regions_have_equal_groups()
+    ensures { (x y : Groups) → (same_groups x y ≡ true) ↔ (x ≡ y) }
+{}

@@ -1,14 +1,16 @@
 -- The one that stands after all rules is the first that none beats.
-use Rattle.std.proofs.Common.{◌≡◌, ℕ, zero, suc, ◌+◌, ◌<◌, ◌≤◌, Bool, true, false, not, List, [], ◌∷◌, ◌++◌, length, get_or, Option, Some, None, refl, sym, ap, ◌∙◌, arith, if◌then◌else◌, cond}
-use Rattle.std.specs.Prelude.{find, is_some, IsTrue}
+use Rattle.std.proofs.Common.{◌≡◌, ℕ, zero, suc, ◌<◌, Bool, true, false, not, List, [], ◌∷◌, length, get_or, Option, Some, None, refl, sym, ap, ◌∙◌, arith}
+use Rattle.std.specs.Prelude.{◌≢◌, map, filter, find, is_some, IsSomeAnd}
 use Rattle.std.specs.Option.{option_map}
 use Rattle.std.specs.List.{cons_option, filter_map, flat_map, list_all, best_of, IsFirstBest}
 use Rattle.std.proofs.lemmas.List.MinMax.{IsFirstBest-from_best_of}
 use Rattle.std.proofs.lemmas.List.Folds.{list_all_at}
-use Rattle.std.proofs.lemmas.List.Elements.{filter_map-append}
+use Rattle.std.proofs.lemmas.List.{get_or_default}
+use Rattle.std.proofs.lemmas.List.Elements.{filter_map-append, Contains-get_or}
 use Rattle.std.proofs.lemmas.Bool.{and_parts}
 use Rattle.syntect_scope.specs.declared.selector.ScopeSelector.{ScopeSelector}
-use Rattle.syntect_style.specs.Candidates.{single_scope, single_score, score_of, Candidate, candidate, candidates, beats, prevailing, winner, OnlySingleRules}
+use Rattle.syntect_style.specs.Candidates.{single_scope, single_score, score_of, Candidate, candidate, candidates, beats, prevailing, winner, OnlySingleRules, single_item, single_part}
+use Rattle.syntect_style.specs.Laws.{IsGreatest}
 use Rattle.syntect_style.specs.Rules.{rule_of, item_rules, single_rules, against, after_rules}
 use Rattle.syntect_style.specs.Styling.{winners}
 use Rattle.syntect_style.specs.declared.style.Color.{Color}
@@ -61,6 +63,16 @@ in_turn_prevails [] = refl
 in_turn_prevails {V} (c ∷ cs) =
     let i : (b : ℕ) × IsFirstBest (better {V = V}) (c ∷ cs) (length (c ∷ cs)) b × (get_or (c ∷ cs) b c ≡ best_of better c cs) = IsFirstBest-from_best_of beats_order c cs in
     in_turn_best c cs ∙ ap (λ (x : Candidate V). Some x) (sym i.2) ∙ sym (first_prevails (c ∷ cs) i.0 c i.1)
+
+-- where there is a candidate the one that prevails is the greatest
+pub one_prevails : {V : Type 0} (cs : List (Candidate V)) → cs ≢ [] → IsSomeAnd (prevailing cs) (IsGreatest V cs)
+one_prevails [] n = absurd (n refl)
+one_prevails {V} (c ∷ cs) n =
+    let i : (b : ℕ) × IsFirstBest (better {V = V}) (c ∷ cs) (length (c ∷ cs)) b × (get_or (c ∷ cs) b c ≡ best_of better c cs) = IsFirstBest-from_best_of beats_order c cs in
+    rw (first_prevails (c ∷ cs) i.0 c i.1) (record {
+      among = Contains-get_or (c ∷ cs) i.0 c i.1.0;
+      unbeaten = λ k d l. rw (get_or_default (c ∷ cs) k d c l) (i.1.1 k c l);
+    })
 
 -- ---- the candidates of the rules ----
 
@@ -138,3 +150,47 @@ winners_stand theme stack rules m e f b s h =
     let b' : m.background ≡ winner (λ m. m.background) theme stack = b ∙ ap (λ rs. option_map (λ (c : Candidate Color). c.value) (after_rules (λ m. m.background) stack None rs)) e ∙ ap (option_map (λ (c : Candidate Color). c.value)) (stands_prevailing (λ m. m.background) theme stack h) in
     let s' : m.font_style ≡ winner (λ m. m.font_style) theme stack = s ∙ ap (λ rs. option_map (λ (c : Candidate FontStyle). c.value) (after_rules (λ m. m.font_style) stack None rs)) e ∙ ap (option_map (λ (c : Candidate FontStyle). c.value)) (stands_prevailing (λ m. m.font_style) theme stack h) in
     same_modifier m _ _ _ f' b' s'
+
+-- ---- the single part of a theme ----
+
+part_kept : (selectors : List ScopeSelector) (style : StyleModifier)
+    → filter_map (λ s. rule_of (single_scope s) style) (filter (λ s. is_some (single_scope s)) selectors) ≡ filter_map (λ s. rule_of (single_scope s) style) selectors
+part_kept [] style = refl
+part_kept (s ∷ selectors) style = kept_one s selectors style (part_kept selectors style)
+  where
+    kept_one : (s : ScopeSelector) (selectors : List ScopeSelector) (style : StyleModifier)
+        → filter_map (λ s. rule_of (single_scope s) style) (filter (λ s. is_some (single_scope s)) selectors) ≡ filter_map (λ s. rule_of (single_scope s) style) selectors
+        → filter_map (λ s. rule_of (single_scope s) style) (filter (λ s. is_some (single_scope s)) (s ∷ selectors)) ≡ filter_map (λ s. rule_of (single_scope s) style) (s ∷ selectors)
+    kept_one s selectors style i = split (single_scope s) refl
+      where
+        split : (o : Option (List ℕ)) → single_scope s ≡ o
+            → filter_map (λ s. rule_of (single_scope s) style) (filter (λ s. is_some (single_scope s)) (s ∷ selectors)) ≡ filter_map (λ s. rule_of (single_scope s) style) (s ∷ selectors)
+        split None n = rw n i
+        split (Some scope) n = rw (n, n, i) refl
+
+part_rules : (items : List ThemeItem) → flat_map item_rules (map single_item items) ≡ flat_map item_rules items
+part_rules [] = refl
+part_rules (item ∷ items) = rw (part_kept item.scope.selectors item.style, part_rules items) refl
+
+-- the single part has the same single rules
+pub single_part-rules : (theme : Theme) → single_rules (single_part theme) ≡ single_rules theme
+single_part-rules theme = part_rules theme.scopes
+
+only_filtered : (selectors : List ScopeSelector) → list_all (λ s. is_some (single_scope s)) (filter (λ s. is_some (single_scope s)) selectors) ≡ true
+only_filtered [] = refl
+only_filtered (s ∷ selectors) = one s selectors (only_filtered selectors)
+  where
+    one : (s : ScopeSelector) (selectors : List ScopeSelector) → list_all (λ s. is_some (single_scope s)) (filter (λ s. is_some (single_scope s)) selectors) ≡ true
+        → list_all (λ s. is_some (single_scope s)) (filter (λ s. is_some (single_scope s)) (s ∷ selectors)) ≡ true
+    one s selectors i = split (is_some (single_scope s)) refl
+      where
+        split : (b : Bool) → is_some (single_scope s) ≡ b → list_all (λ s. is_some (single_scope s)) (filter (λ s. is_some (single_scope s)) (s ∷ selectors)) ≡ true
+        split true e = rw (e, e, i) refl
+        split false e = rw e i
+
+only_items : (items : List ThemeItem) → list_all (λ item. list_all (λ s. is_some (single_scope s)) item.scope.selectors) (map single_item items) ≡ true
+only_items [] = refl
+only_items (item ∷ items) = rw (only_filtered item.scope.selectors, only_items items) refl
+
+pub single_part-only : (theme : Theme) → OnlySingleRules (single_part theme)
+single_part-only theme = only_items theme.scopes

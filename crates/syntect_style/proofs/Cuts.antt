@@ -1,22 +1,20 @@
 -- The stretches of a text and the scopes of its bytes.
-use Rattle.std.proofs.Common.{◌≡◌, ℕ, zero, suc, ◌≤◌, ◌<◌, ◌+◌, ◌-◌, Bool, true, false, List, [], ◌∷◌, ◌++◌, length, take, drop, refl, sym, ap, ◌∙◌, arith, append_assoc, Result, Ok, Err, if◌then◌else◌, Bor, map, replicate, length-append}
-use Rattle.std.specs.Prelude.{nat_lt, All, slice_range}
-use Rattle.std.specs.Str.{IsCharBoundary}
+use Rattle.std.proofs.Common.{◌≡◌, ℕ, zero, suc, ◌≤◌, ◌<◌, ◌-◌, Bool, true, false, List, [], ◌∷◌, ◌++◌, length, drop, refl, sym, ap, ◌∙◌, arith, append_assoc, Result, Ok, Err, Bor, map, replicate, length-append}
+use Rattle.std.specs.Prelude.{nat_lt, slice_range}
 use Rattle.std.specs.List.{flat_map}
-use Rattle.std.proofs.lemmas.Bool.{lt-ltb}
 use Rattle.std.proofs.lemmas.Bool.Decides.{nat_tests}
 use Rattle.std.proofs.lemmas.List.{append-nil, length-replicate, take_rest, length-take-le, length-drop, map-append}
 use Rattle.std.proofs.lemmas.List.Folds.{drop_split}
 use Rattle.std.proofs.lemmas.List.Elements.{All-cons}
 use Rattle.std.proofs.lemmas.List.Concat.{flat_map-append}
 use Rattle.syntect_scope.specs.Stack.{applied, is_refused}
-use Rattle.syntect_scope.specs.Replay.{InOrder, AllApply, Replay, replay, replayed, bytes_to}
+use Rattle.syntect_scope.specs.Replay.{InOrder, AllApply, replay, bytes_to}
 use Rattle.syntect_scope.specs.declared.stack.ScopeStack.{ScopeStack}
 use Rattle.syntect_scope.specs.declared.stack.ScopeStackOp.{ScopeStackOp}
 use Rattle.syntect_scope.specs.declared.stack.ScopeError.{ScopeError}
-use Rattle.syntect_scope.specs.declared.stack.ScopeError.TheVariants.{NoClearedScopesToRestore, Memory}
+use Rattle.syntect_scope.specs.declared.stack.ScopeError.TheVariants.{NoClearedScopesToRestore}
 use Rattle.syntect_style.specs.Styling.{shown}
-use Rattle.syntect_style.specs.Pieces.{Stretch, stretch, oks, stretches, last_stack, IsStyled}
+use Rattle.syntect_style.specs.Pieces.{Stretch, stretch, oks, stretches, last_stack, Joins, IsStyled}
 use Rattle.syntect_style.specs.declared.style.Style.{Style}
 use Rattle.syntect_style.specs.declared.theme.Theme.{Theme}
 
@@ -183,18 +181,26 @@ replicate_map : (theme : Theme) (n : ℕ) (ss : List (List ℕ)) → map (shown 
 replicate_map theme zero ss = refl
 replicate_map theme (suc n) ss = ap (λ (l : List Style). shown theme ss ∷ l) (replicate_map theme n ss)
 
-pub styled_of : (theme : Theme) (text : List ℕ) (tells : Type 0) (xs : List Stretch) (ps : List (Style × Bor (List ℕ))) → tells → Within (length text) xs → ShowEach theme text tells xs ps
-    → IsStyled theme (text_of_cuts text xs) (bytes_of_cuts xs) ps
-styled_of theme text tells [] [] k w h = record { joined = refl; filled = λ i d l. absurd (omega arith); styled = refl }
-styled_of theme text tells [] (p ∷ ps) k w h = absurd h
-styled_of theme text tells (x ∷ xs) [] k w h = absurd h
-styled_of theme text tells (x ∷ xs) (p ∷ ps) k w h =
-    let i : IsStyled theme (text_of_cuts text xs) (bytes_of_cuts xs) ps = styled_of theme text tells xs ps k w.2 h.1 in
+pub joins_of : (theme : Theme) (text : List ℕ) (tells : Type 0) (xs : List Stretch) (ps : List (Style × Bor (List ℕ))) → Within (length text) xs → ShowEach theme text tells xs ps → Joins (text_of_cuts text xs) ps
+joins_of theme text tells [] [] w h = record { joined = refl; filled = λ i d l. absurd (omega arith) }
+joins_of theme text tells [] (p ∷ ps) w h = absurd h
+joins_of theme text tells (x ∷ xs) [] w h = absurd h
+joins_of theme text tells (x ∷ xs) (p ∷ ps) w h =
+    let i : Joins (text_of_cuts text xs) ps = joins_of theme text tells xs ps w.2 h.1 in
     let n : length p.1.now ≡ x.to - x.from = ap length h.0.text_of ∙ slice_len text x.from x.to w.0 w.1 in
     let b : x.from < x.to = w.0 in
     record {
       joined = rw h.0.text_of (ap (λ l. slice_range text x.from x.to ++ l) i.joined);
       filled = All-cons (λ (q : Style × Bor (List ℕ)). 0 < length q.1.now) p ps (omega arith) i.filled;
-      styled = rw (map-append (shown theme) (replicate (x.to - x.from) x.scopes) (bytes_of_cuts xs), replicate_map theme (x.to - x.from) x.scopes, n, h.0.style k)
-          (ap (λ (l : List Style). replicate (x.to - x.from) (shown theme x.scopes) ++ l) i.styled);
     }
+
+pub styled_of : (theme : Theme) (text : List ℕ) (tells : Type 0) (xs : List Stretch) (ps : List (Style × Bor (List ℕ))) → tells → Within (length text) xs → ShowEach theme text tells xs ps
+    → IsStyled theme (bytes_of_cuts xs) ps
+styled_of theme text tells [] [] k w h = refl
+styled_of theme text tells [] (p ∷ ps) k w h = absurd h
+styled_of theme text tells (x ∷ xs) [] k w h = absurd h
+styled_of theme text tells (x ∷ xs) (p ∷ ps) k w h =
+    let i : IsStyled theme (bytes_of_cuts xs) ps = styled_of theme text tells xs ps k w.2 h.1 in
+    let n : length p.1.now ≡ x.to - x.from = ap length h.0.text_of ∙ slice_len text x.from x.to w.0 w.1 in
+    rw (map-append (shown theme) (replicate (x.to - x.from) x.scopes) (bytes_of_cuts xs), replicate_map theme (x.to - x.from) x.scopes, n, h.0.style k)
+    (ap (λ (l : List Style). replicate (x.to - x.from) (shown theme x.scopes) ++ l) i)

@@ -1,23 +1,20 @@
 -- What an iterator over pieces has come to.
-use Rattle.std.proofs.Common.{◌≡◌, ℕ, ◌≤◌, ◌<◌, ◌+◌, ◌-◌, Bool, true, false, List, [], ◌∷◌, ◌++◌, length, refl, sym, ap, ◌∙◌, arith, append_assoc, Option, Some, None, Result, Ok, Err, if◌then◌else◌, Bor, map}
+use Rattle.std.proofs.Common.{◌≡◌, ℕ, ◌≤◌, ◌<◌, true, false, List, [], ◌∷◌, ◌++◌, length, refl, sym, ap, ◌∙◌, arith, append_assoc, Option, Some, None, Ok, Err, Bor}
 use Rattle.std.specs.Prelude.{nat_lt, MatchOption}
 use Rattle.std.specs.List.{IsFirstAndRest}
 use Rattle.std.specs.declared.ops.Range.{Range}
 use Rattle.std.specs.Str.{IsCharBoundary}
 use Rattle.std.proofs.lemmas.Bool.{lt-ltb}
 use Rattle.std.proofs.lemmas.Bool.Decides.{nat_tests}
-use Rattle.std.proofs.lemmas.List.{append-nil}
 use Rattle.syntect_scope.specs.Stack.{applied, is_refused}
 use Rattle.syntect_scope.specs.Replay.{InOrder, AllApply}
 use Rattle.syntect_scope.specs.declared.stack.ScopeStack.{ScopeStack}
 use Rattle.syntect_scope.specs.declared.stack.ScopeStackOp.{ScopeStackOp}
 use Rattle.syntect_scope.specs.declared.stack.ScopeError.{ScopeError}
 use Rattle.syntect_scope.specs.declared.stack.ScopeError.TheVariants.{NoClearedScopesToRestore, Memory}
-use Rattle.syntect_style.specs.Candidates.{OnlySingleRules}
-use Rattle.syntect_style.specs.Pieces.{Stretch, stretch, stretches, last_stack, path_of, Keeps}
-use Rattle.syntect_style.specs.Items.{theme_of, stack_of, IsReady, left, final, IsOver, Tells, Shows, Carries, Passes, GivesPiece, Stops, Gives}
+use Rattle.syntect_style.specs.Pieces.{Stretch, stretch, stretches, last_stack, Keeps}
+use Rattle.syntect_style.specs.Items.{theme_of, stack_of, IsReady, left, final, Tells, Shows, Carries, Passes, Gives}
 use Rattle.syntect_style.specs.declared.style.Style.{Style}
-use Rattle.syntect_style.specs.declared.theme.Theme.{Theme}
 use Rattle.syntect_style.specs.declared.pieces.RangedHighlightIterator.{RangedHighlightIterator}
 
 -- ---- one operation more ----

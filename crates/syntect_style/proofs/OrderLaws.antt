@@ -1,10 +1,9 @@
 -- The order of scores.
-use Rattle.std.proofs.Common.{◌≡◌, ◌==◌, ℕ, ◌<◌, ◌≤◌, Bool, true, false, ◌&&◌, ◌||◌, Option, Some, None, refl, sym, arith, ◌∙◌}
+use Rattle.std.proofs.Common.{◌≡◌, ◌==◌, ℕ, Bool, true, false, ◌&&◌, ◌||◌, Option, Some, None, refl, arith}
 use Rattle.std.specs.Prelude.{nat_lt}
 use Rattle.std.specs.Cmp.{IsStrictWeakOrder}
-use Rattle.std.proofs.lemmas.Bool.{lt-ltb}
 use Rattle.std.proofs.lemmas.Bool.Decides.{nat_tests}
-use Rattle.syntect_style.specs.Candidates.{Score, Candidate, goes_before, beats}
+use Rattle.syntect_style.specs.Candidates.{Candidate, goes_before, beats}
 
 places_one_way : (p q : Option ℕ) → goes_before p q ≡ true → goes_before q p ≡ false
 places_one_way (Some p) (Some q) h = grind (arith, nat_tests)

@@ -1,5 +1,6 @@
 pub mod Candidates
 pub mod Items
+pub mod Laws
 pub mod Modifying
 pub mod Pieces
 pub mod Rules

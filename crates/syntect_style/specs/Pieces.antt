@@ -1,5 +1,5 @@
 -- The pieces of a text that operations cut.
-use Rattle.std.specs.Prelude.{◌≡◌, ℕ, nat_lt, ◌≤◌, ◌<◌, Bool, true, false, List, [], ◌∷◌, ◌++◌, length, map, replicate, All, if◌then◌else◌, Option, Some, None, Result, Ok, Err, IfSome}
+use Rattle.std.specs.Prelude.{◌≡◌, ℕ, nat_lt, ◌<◌, List, [], ◌∷◌, ◌++◌, length, map, replicate, All, if◌then◌else◌, Result, Ok, Err, IfSome}
 use Rattle.std.specs.List.{flat_map}
 use Rattle.std.specs.Borrow.{Bor}
 use Rattle.syntect_scope.specs.Stack.{applied, is_refused}
@@ -52,8 +52,11 @@ last_stack s (o ∷ os) = if is_refused o.1 s then s else last_stack (applied o.
 
 -- ---- pieces ----
 
--- The pieces join to the text, none is empty, and each byte has the theme's style for its scopes.
-pub record IsStyled (theme : Theme) (text : List ℕ) (bytes : List (List (List ℕ))) (pieces : List (Style × Bor (List ℕ))) : Type 0 where
+-- the pieces join to the text, and none is empty
+pub record Joins (text : List ℕ) (pieces : List (Style × Bor (List ℕ))) : Type 0 where
   pub joined : flat_map (λ p. p.1.now) pieces ≡ text
   pub filled : All (λ p. 0 < length p.1.now) pieces
-  pub styled : flat_map (λ p. replicate (length p.1.now) p.0) pieces ≡ map (shown theme) bytes
+
+-- each byte of the pieces has the theme's style for its scopes
+abbrev pub IsStyled : Theme → List (List (List ℕ)) → List (Style × Bor (List ℕ)) → Type 0
+IsStyled theme bytes pieces = flat_map (λ p. replicate (length p.1.now) p.0) pieces ≡ map (shown theme) bytes

@@ -1,6 +1,5 @@
 -- The single rules of a theme as one list, and the candidates among them in turn.
-use Rattle.std.specs.Prelude.{ℕ, Bool, true, false, ◌*◌, ◌^◌, List, [], ◌∷◌, if◌then◌else◌, Option, Some, None}
-use Rattle.std.specs.Option.{option_map}
+use Rattle.std.specs.Prelude.{ℕ, ◌*◌, ◌^◌, List, [], ◌∷◌, if◌then◌else◌, Option, Some, None}
 use Rattle.std.specs.List.{filter_map, flat_map}
 use Rattle.syntect_style.specs.Candidates.{single_scope, single_score, Score, Candidate, candidate, beats}
 use Rattle.syntect_style.specs.declared.style.StyleModifier.{StyleModifier}

@@ -1,6 +1,7 @@
 //! The contest of a theme's rules for the attributes of a stack's style.
 ghost use Rattle.std.specs.Prelude.{◌≡◌, ◌<◌, Some, None, IfSome, length};
 ghost use Rattle.std.specs.Option.{option_map};
+ghost use Rattle.syntect_scope.specs.Atoms.{is_prefix};
 ghost use Rattle.syntect_style.specs.Candidates.{candidate, deepest};
 ghost use Rattle.syntect_style.specs.Rules.{score_from, candidate_from, against, after_rules};
 
@@ -16,11 +17,23 @@ pub(crate) fn deepest(scope: Scope, stack: &[Scope]) -> Option<usize>
     let mut at = stack.len();
     while at > 0 {
         at -= 1;
-        if scope.is_prefix_of(stack[at]) {
+        if begins(scope, stack[at]) {
             return Some(at);
         }
     }
     None
+}
+
+/// Whether the first scope begins the second one. Most scopes differ in their first atom, which is quick to see.
+#[tactic(auto, using(crate::proofs::DeepestLaws::first_atoms_differ))]
+fn begins(scope: Scope, other: Scope) -> bool
+    ensures { result ≡ is_prefix scope other }
+{
+    let first = scope.atom_at(0);
+    if first != 0 && first != other.atom_at(0) {
+        return false;
+    }
+    scope.is_prefix_of(other)
 }
 
 /// Puts a value in the place of the best one so far, if its score beats that one's.

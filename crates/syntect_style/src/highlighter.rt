@@ -1,6 +1,6 @@
 //! The style of a stack of scopes.
 ghost use Rattle.std.specs.Prelude.{◌≡◌, ◌++◌, IfOk, OnOk};
-ghost use Rattle.syntect_style.specs.Candidates.{single_scope, OnlySingleRules};
+ghost use Rattle.syntect_style.specs.Candidates.{single_scope, single_part, OnlySingleRules};
 ghost use Rattle.syntect_style.specs.Styling.{style_of, shown, default_style, winners};
 ghost use Rattle.syntect_style.specs.Rules.{item_rules};
 
@@ -15,7 +15,7 @@ use syntect_scope::scope::Scope;
 use syntect_scope::selector::ScopeSelector;
 
 /// A theme, made ready to style stacks of scopes. Contracts see its theme.
-#[derive(Drop)]
+#[derive(Debug, Drop)]
 pub struct Highlighter<'a> {
     theme: &'a Theme,
     rules: Vec<Rule>,
@@ -60,16 +60,22 @@ impl<'a> Highlighter<'a> {
     /// The style of a stack of scopes, the bottom one first: for each attribute the value of the rule that
     /// prevails, and the default where no rule sets it. Of no scopes this is the default too, but for rules with an
     /// empty path, which act everywhere.
+    ///
+    /// Selectors of several scopes and those with exclusions are not scored yet.
     pub fn style_for_stack(&self, stack: &[Scope]) -> Result<Style, AllocError>
-        ensures { OnlySingleRules self.now → IfOk result (λ s. s ≡ style_of self.now stack.now) }
+        ensures styled { OnlySingleRules self.now → IfOk result (λ s. s ≡ style_of self.now stack.now) }
+        ensures single { IfOk result (λ s. s ≡ style_of (single_part self.now) stack.now) }
     {
         let modifier = self.style_mod_for_stack(stack)?;
         Ok(self.get_default().apply(modifier))
     }
 
     /// For each attribute the value of the rule that prevails, and `None` where no rule sets it.
+    ///
+    /// Selectors of several scopes and those with exclusions are not scored yet.
     pub fn style_mod_for_stack(&self, stack: &[Scope]) -> Result<StyleModifier, AllocError>
-        ensures { OnlySingleRules self.now → IfOk result (λ m. m ≡ winners self.now stack.now) }
+        ensures won { OnlySingleRules self.now → IfOk result (λ m. m ≡ winners self.now stack.now) }
+        ensures single { IfOk result (λ m. m ≡ winners (single_part self.now) stack.now) }
     {
         Ok(winners_of(self.rules.as_slice(), stack))
     }
@@ -104,20 +110,18 @@ impl ScoredStyle {
         ensures { IfOk result (λ s. s ≡ self.now) }
     {
         Ok(ScoredStyle {
-            foreground: (clone_power(&self.foreground.0)?, self.foreground.1),
-            background: (clone_power(&self.background.0)?, self.background.1),
-            font_style: (clone_power(&self.font_style.0)?, self.font_style.1),
+            foreground: (self.foreground.0.clone()?, self.foreground.1),
+            background: (self.background.0.clone()?, self.background.1),
+            font_style: (self.font_style.0.clone()?, self.font_style.1),
         })
     }
 }
 
-/// The same score once more, if there is one.
-fn clone_power(power: &Option<MatchPower>) -> Result<Option<MatchPower>, AllocError>
-    ensures { IfOk result (λ p. p ≡ power.now) }
-{
-    match power {
-        None => Ok(None),
-        Some(power) => Ok(Some(power.clone()?)),
+impl Clone for ScoredStyle {
+    ghost is_clone = { λ x y. y ≡ x };
+
+    fn clone(&self) -> Result<ScoredStyle, AllocError> {
+        ScoredStyle::clone(self)
     }
 }
 

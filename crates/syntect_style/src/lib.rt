@@ -7,6 +7,7 @@
 
 mod contest;
 pub mod highlighter;
+pub mod laws;
 pub mod pieces;
 mod scores;
 pub mod state;

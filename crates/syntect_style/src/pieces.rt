@@ -5,7 +5,7 @@ ghost use Rattle.std.specs.Str.{IsCharBoundary};
 ghost use Rattle.syntect_scope.specs.Stack.{applied, is_refused};
 ghost use Rattle.syntect_scope.specs.Replay.{InOrder, AllApply, replay, before_text, bytes_to};
 ghost use Rattle.syntect_style.specs.Candidates.{OnlySingleRules};
-ghost use Rattle.syntect_style.specs.Pieces.{path_of, Keeps, IsStyled};
+ghost use Rattle.syntect_style.specs.Pieces.{path_of, Keeps, Joins, IsStyled};
 ghost use Rattle.syntect_style.specs.Items.{Begins, Gives, GivesUnranged, IsReady, Shows, calls_left};
 
 use crate::highlighter::Highlighter;
@@ -20,7 +20,7 @@ use syntect_scope::stack::{ScopeError, ScopeStackOp};
 /// A piece is a stretch that isn't empty between the places of the operations, from the text's start to its end,
 /// in the style of the stack at it. A refused operation gives an `Err` in place of the piece that ends at it, and
 /// nothing comes after; the state is then that of the operations before it.
-#[derive(Drop)]
+#[derive(Debug, Drop)]
 pub struct RangedHighlightIterator<'a, 'b> {
     pos: usize,
     changes: &'a [(usize, ScopeStackOp)],
@@ -130,8 +130,9 @@ pub fn collect_pieces<'b>(
     text: &'b str,
 ) -> Result<Vec<(Style, &'b str)>, ScopeError>
     requires { InOrder text.now 0 changes.now (length text.now) }
-    ensures styled { IfOk result (λ ps. OnlySingleRules highlighter.now → Keeps highlighter.now state.old
-        → IsStyled highlighter.now text.now (bytes_to (replay changes.now (before_text (path_of state.old))) (length text.now)) ps.items) }
+    ensures joins { IfOk result (λ pieces. Joins text.now pieces.items) }
+    ensures styled { IfOk result (λ pieces. OnlySingleRules highlighter.now → Keeps highlighter.now state.old
+        → IsStyled highlighter.now (bytes_to (replay changes.now (before_text (path_of state.old))) (length text.now)) pieces.items) }
     ensures path { OnOk result (path_of state.new ≡ (replay changes.now (before_text (path_of state.old))).stack) }
     ensures applied { OnOk result (AllApply (path_of state.old) changes.now) }
     ensures none { IfErr result (λ e. e ≡ ScopeError.NoClearedScopesToRestore → ¬ AllApply (path_of state.old) changes.now) }
@@ -149,7 +150,7 @@ pub fn collect_pieces<'b>(
 }
 
 /// The pieces of a text, each with its style, as a `RangedHighlightIterator` gives them.
-#[derive(Drop)]
+#[derive(Debug, Drop)]
 pub struct HighlightIterator<'a, 'b> {
     ranged: RangedHighlightIterator<'a, 'b>,
 }

@@ -87,6 +87,14 @@ impl HighlightState {
     }
 }
 
+impl Clone for HighlightState {
+    ghost is_clone = { λ x y. y ≡ x };
+
+    fn clone(&self) -> Result<HighlightState, AllocError> {
+        HighlightState::clone(self)
+    }
+}
+
 /// States are equal exactly where their stacks are.
 fn same(a: &HighlightState, b: &HighlightState) -> bool
     ensures { IsTrue result ↔ (path_of a.now ≡ path_of b.now) }

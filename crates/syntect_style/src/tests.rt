@@ -1,15 +1,18 @@
-use crate::highlighter::Highlighter;
+use crate::highlighter::{Highlighter, ScoredStyle};
+use crate::laws::one_prevails;
 use crate::pieces::{HighlightIterator, RangedHighlightIterator, collect_pieces};
 use crate::state::HighlightState;
 use crate::style::{Color, FontStyle, Style, StyleModifier};
-use crate::theme::{Theme, ThemeItem};
+use crate::theme::{Theme, ThemeItem, ThemeSettings};
 use std::alloc::Global;
 use std::io;
+use syntect_scope::power::MatchPower;
 use syntect_scope::repository::ScopeRepository;
 use syntect_scope::scope::Scope;
 use syntect_scope::selector::{ScopeSelector, ScopeSelectors};
 use syntect_scope::stack::{ClearAmount, ScopeError, ScopeStack, ScopeStackOp};
 use syntect_values::seq::Seq;
+use syntect_values::text::Text;
 
 const FIRST: Color = Color {
     r: 1,
@@ -79,6 +82,16 @@ fn the_deepest_place_counts(rt: HostRuntime) -> io::Result<()> {
     assert_eq!(rt; highlighter.get_default().apply(modifier), style);
     assert_eq!(rt; highlighter.style_for_stack(&[a, b])?.foreground, SECOND);
     assert_eq!(rt; highlighter.style_for_stack(&[])?, Style::default());
+    let mut state = HighlightState::new(&highlighter, ScopeStack::new(alloc));
+    let changes = [
+        (0, ScopeStackOp::Push(a)),
+        (0, ScopeStackOp::Push(b)),
+        (0, ScopeStackOp::Push(a)),
+    ];
+    let mut items = HighlightIterator::new(&mut state, &changes, "x", &highlighter);
+    let piece = items.next();
+    assert!(rt; piece == Some(Ok((style, "x"))));
+    assert!(rt; items.next().is_none());
     Ok(())
 }
 
@@ -189,4 +202,49 @@ fn a_refused_operation_ends_the_pieces(rt: HostRuntime) -> io::Result<()> {
     assert!(rt; items.next().is_none());
     assert_eq!(rt; state.path().as_slice(), [a].as_slice());
     Ok(())
+}
+
+#[test]
+fn copies_and_defaults(rt: HostRuntime) -> io::Result<()> {
+    let alloc = rt.alloc();
+    one_prevails::<Color>();
+    let mut item = ThemeItem::default(alloc);
+    assert!(rt; item.scope.selectors.is_empty());
+    assert_eq!(rt; item.style, StyleModifier::default());
+    item.style = ON_TEXT;
+    assert!(rt; item.clone()? == item);
+    let mut settings = ThemeSettings::default();
+    settings.caret = Some(SECOND);
+    settings.popup_css = Some(Text::from_str(alloc, "p {}")?);
+    assert!(rt; settings.clone()? == settings);
+    let mut score = MatchPower::new(alloc);
+    score.add(3, 2)?;
+    let style = ScoredStyle {
+        foreground: (Some(score), FIRST),
+        background: (None, Color::WHITE),
+        font_style: (None, FontStyle::empty()),
+    };
+    assert!(rt; style.clone()? == style);
+    Ok(())
+}
+
+#[test]
+fn flags_and_modifiers(rt: HostRuntime) {
+    let mut flags = FontStyle::BOLD;
+    flags.insert(FontStyle::ITALIC);
+    assert_eq!(rt; flags.bits(), 5);
+    assert!(rt; flags.contains(FontStyle::ITALIC));
+    assert!(rt; flags.contains(FontStyle::empty()));
+    assert!(rt; !flags.contains(FontStyle::UNDERLINE));
+    let on_back = StyleModifier {
+        foreground: None,
+        background: Some(FIRST),
+        font_style: Some(flags),
+    };
+    let both = OTHER_ON_TEXT.apply(on_back).apply(ON_TEXT);
+    assert_eq!(rt; both.foreground, Some(FIRST));
+    assert_eq!(rt; both.background, Some(FIRST));
+    let style = Style::default().apply(both);
+    assert_eq!(rt; style.font_style, flags);
+    assert_eq!(rt; style.background, FIRST);
 }

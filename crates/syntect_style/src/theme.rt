@@ -4,7 +4,7 @@ ghost use Rattle.syntect_style.specs.Themes.{no_settings, no_change};
 
 use crate::style::{Color, StyleModifier};
 use std::alloc::{AllocError, Global};
-use syntect_scope::selector::{ScopeSelector, ScopeSelectors};
+use syntect_scope::selector::ScopeSelectors;
 use syntect_values::seq::Seq;
 use syntect_values::text::Text;
 
@@ -126,16 +126,20 @@ impl Theme {
     pub fn clone(&self) -> Result<Theme, AllocError>
         ensures { IfOk result (λ t. t ≡ self.now) }
     {
-        let mut scopes = Seq::new(self.scopes.allocator());
-        for item in self.scopes.as_slice() {
-            scopes.push(item.clone()?)?;
-        }
         Ok(Theme {
-            name: clone_text(&self.name)?,
-            author: clone_text(&self.author)?,
+            name: self.name.clone()?,
+            author: self.author.clone()?,
             settings: self.settings.clone()?,
-            scopes,
+            scopes: self.scopes.clone()?,
         })
+    }
+}
+
+impl Clone for Theme {
+    ghost is_clone = { λ x y. y ≡ x };
+
+    fn clone(&self) -> Result<Theme, AllocError> {
+        Theme::clone(self)
     }
 }
 
@@ -183,10 +187,18 @@ impl ThemeSettings {
         ensures { IfOk result (λ s. s ≡ self.now) }
     {
         Ok(ThemeSettings {
-            popup_css: clone_text(&self.popup_css)?,
-            phantom_css: clone_text(&self.phantom_css)?,
+            popup_css: self.popup_css.clone()?,
+            phantom_css: self.phantom_css.clone()?,
             ..*self
         })
+    }
+}
+
+impl Clone for ThemeSettings {
+    ghost is_clone = { λ x y. y ≡ x };
+
+    fn clone(&self) -> Result<ThemeSettings, AllocError> {
+        ThemeSettings::clone(self)
     }
 }
 
@@ -207,37 +219,17 @@ impl ThemeItem {
     pub fn clone(&self) -> Result<ThemeItem, AllocError>
         ensures { IfOk result (λ i. i ≡ self.now) }
     {
-        let mut selectors = Seq::new(self.scope.selectors.allocator());
-        for selector in self.scope.selectors.as_slice() {
-            selectors.push(clone_selector(selector)?)?;
-        }
         Ok(ThemeItem {
-            scope: ScopeSelectors { selectors },
+            scope: self.scope.clone()?,
             style: self.style,
         })
     }
 }
 
-/// The same selector once more.
-fn clone_selector(selector: &ScopeSelector) -> Result<ScopeSelector, AllocError>
-    ensures { IfOk result (λ s. s ≡ selector.now) }
-{
-    let mut excludes = Seq::new(selector.excludes.allocator());
-    for exclude in selector.excludes.as_slice() {
-        excludes.push(exclude.clone()?)?;
-    }
-    Ok(ScopeSelector {
-        path: selector.path.clone()?,
-        excludes,
-    })
-}
+impl Clone for ThemeItem {
+    ghost is_clone = { λ x y. y ≡ x };
 
-/// The same text once more, if there is one.
-fn clone_text(text: &Option<Text>) -> Result<Option<Text>, AllocError>
-    ensures { IfOk result (λ t. t ≡ text.now) }
-{
-    match text {
-        None => Ok(None),
-        Some(text) => Ok(Some(text.clone()?)),
+    fn clone(&self) -> Result<ThemeItem, AllocError> {
+        ThemeItem::clone(self)
     }
 }

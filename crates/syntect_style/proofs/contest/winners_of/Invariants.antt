@@ -1,4 +1,4 @@
-use Rattle.std.proofs.Common.{◌≡◌, drop, Some, None}
+use Rattle.std.proofs.Common.{◌≡◌, drop, None}
 use Rattle.syntect_style.specs.Rules.{after_rules, candidate_from}
 use Rattle.syntect_style.proofs.contest.winners_of.Given as goal
 

@@ -8,6 +8,9 @@ returns-in-Err-clause-none c = collected-refused c.new-items.ensures.begins c.lo
 pub loop-item-preserved : goal.loop-item-preserved
 loop-item-preserved c = rw c.in_ok-push-in-Ok.ensures.items (collected-more c.loop-item.invariant c.in-Some.ensures.goes.keeps _ (rw c.in-Ok.is at c.in-Some.ensures.steps))
 
+pub returns-clause-joins : goal.returns-clause-joins
+returns-clause-joins c = (collected-end c.new-items.ensures.begins c.requires c.loop-item.invariant c.in_default.ensures.steps).joins
+
 pub returns-clause-styled : goal.returns-clause-styled
 returns-clause-styled c = (collected-end c.new-items.ensures.begins c.requires c.loop-item.invariant c.in_default.ensures.steps).styled
 

@@ -1,4 +1,4 @@
-use Rattle.std.proofs.Common.{◌≡◌, ◌∷◌, [], reverse, ap, sym, ◌∙◌}
+use Rattle.std.proofs.Common.{◌≡◌, ◌∷◌, [], reverse, ap, ◌∙◌, refl}
 use Rattle.std.proofs.lemmas.List.{reverse-append}
 use Rattle.syntect_pattern.specs.Program.{trees_of}
 use Rattle.syntect_regex.specs.declared.engine.Search.{Search}
@@ -8,9 +8,9 @@ use Rattle.syntect_regex.proofs.engine.Search.back.Goals as goal
 pub returns-clause-goes : goal.returns-clause-goes
 returns-clause-goes c =
     let old : Search = c.args.self.now in
-    let new : Search = c.resume.new.self in
-    let top : reverse old.frames.items ≡ c.in_ok-frame.frame ∷ reverse new.frames.items =
-    ap reverse c.in_ok-frame.ensures.items ∙ reverse-append c.pop.new.self.items (c.in_ok-frame.frame ∷ [])
-    ∙ ap (λ fs. c.in_ok-frame.frame ∷ reverse fs) (sym (ap (λ v. v.items) c.resume.ensures.frames)) in
-    goes_resume c.args.text.now (trees_of c.args.program.now) old new c.resume.result c.in_ok-frame.frame c.requires top
-    c.resume.ensures.enter c.resume.ensures.leave c.resume.ensures.restore
+    let mid : Search = record old { frames = c.pop.new.self } in
+    let top : reverse old.frames.items ≡ c.in-Some.frame ∷ reverse c.pop.new.self.items =
+    ap reverse c.in-Some.ensures.items ∙ reverse-append c.pop.new.self.items (c.in-Some.frame ∷ []) in
+    goes_resume c.args.text.now (trees_of c.args.program.now) old c.resume.new.self c.pop.new.self.items mid c.in_ok-next.next c.in-Some.frame c.requires top
+    refl refl refl refl
+    c.in_ok-next.ensures.enter c.in_ok-next.ensures.leave c.in_ok-next.ensures.stretch c.in_ok-next.ensures.restore

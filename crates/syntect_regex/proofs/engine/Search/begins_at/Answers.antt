@@ -18,3 +18,6 @@ returns c =
     (λ (b : Bool). FindsAt c.args.text.now c.args.program.now c.args.place (groups_of b c.is_at.new.self))
     (λ b e tree is. found_at-boundary c.args.text.now c.args.program.now tree is c.args.place b c.is_at.new.self (sym c.is_boundary.ensures.value ∙ c.if-not-is_boundary.false) e)
     c.is_at.ensures
+
+pub returns-then-not-can_begin : goal.returns-then-not-can_begin
+returns-then-not-can_begin c = λ tree is. sym (c.can_begin.ensures c.if-not-can_begin.true tree is)

@@ -1,5 +1,4 @@
-use Rattle.std.proofs.Common.{rules, refl, arith, ◌≡◌, [], length}
-use Rattle.std.proofs.lemmas.Grind.{common_steps}
+use Rattle.std.proofs.Common.{refl, ◌≡◌, []}
 use Rattle.syntect_style.proofs.ItemLaws.{passed-more, gives-last, gives-piece, gives-error, none_first}
 use Rattle.syntect_style.proofs.pieces.RangedHighlightIteratorIterator.next.Goals as goal
 

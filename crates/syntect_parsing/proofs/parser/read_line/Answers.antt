@@ -1,0 +1,27 @@
+use Rattle.syntect_parsing.specs.Engine.{dialect}
+use Rattle.syntect_parsing.proofs.Finds.{finds_in_order}
+use Rattle.syntect_parsing.proofs.Falls.{goes_falls}
+use Rattle.syntect_parsing.proofs.Runs.{so_far-start, so_far-more, so_far-end, so_far-refused}
+use Rattle.syntect_parsing.proofs.parser.read_line.Goals as goal
+
+pub loop-e-init : goal.loop-e-init
+loop-e-init c = rw (c.in-Ok-at_start.ensures, c.in-Ok.ensures) (so_far-start c.args.set.now c.args.line.now c.args.state.now c.utf8.line)
+
+pub returns-in-Err-turn-clause-refused : goal.returns-in-Err-turn-clause-refused
+returns-in-Err-turn-clause-refused c = so_far-refused c.loop-e.invariant c.in-Err-turn.e c.in-Err-turn.ensures.refused c.requires
+
+pub loop-e-smaller : goal.loop-e-smaller
+loop-e-smaller c =
+    let t = rw c.in-Ok-true.field-0-test at c.in-Ok-true.ensures.turns in
+    (goes_falls dialect c.args.line.now (finds_in_order dialect c.dialect_finds_in_text.ensures.now c.args.line.now c.utf8.line) c.args.set.now c.loop-e.p c.turn.new.p t.bytes
+    c.loop-e.invariant.within c.loop-e.invariant.few t.goes).0
+
+pub loop-e-preserved : goal.loop-e-preserved
+loop-e-preserved c =
+    let t = rw c.in-Ok-true.field-0-test at c.in-Ok-true.ensures.turns in
+    so_far-more c.loop-e.invariant t
+    (goes_falls dialect c.args.line.now (finds_in_order dialect c.dialect_finds_in_text.ensures.now c.args.line.now c.utf8.line) c.args.set.now c.loop-e.p c.turn.new.p t.bytes
+    c.loop-e.invariant.within c.loop-e.invariant.few t.goes).1
+
+pub returns-clause-accepted : goal.returns-clause-accepted
+returns-clause-accepted c = so_far-end c.loop-e.invariant (rw c.in-Ok-false.field-0-test at c.in-Ok-false.ensures.turns) c.requires

@@ -1,0 +1,53 @@
+-- What a call that makes one turn does.
+use Rattle.std.specs.Prelude.{◌≡◌, ℕ, ◌-◌, ◌+◌, ◌*◌, ◌≤◌, Bool, true, false, List, ◌++◌, length}
+use Rattle.syntect_scope.specs.declared.stack.ScopeStackOp.{ScopeStackOp}
+use Rattle.std.specs.Str.{IsCharBoundary}
+use Rattle.syntect_scope.specs.Stack.{plain}
+use Rattle.syntect_scope.specs.Replay.{Replay, IsAt, InOrder, AllApply, replay}
+use Rattle.syntect_parsing.specs.Contexts.{contexts_of}
+use Rattle.syntect_parsing.specs.Engine.{Engine}
+use Rattle.syntect_parsing.specs.Scopes.{Scopes, open_scopes}
+use Rattle.syntect_parsing.specs.Line.{Step, Goes, Ends, Refused, turn}
+use Rattle.syntect_parsing.specs.Laws.{longest}
+use Rattle.syntect_parsing.specs.declared.syntax_set.SyntaxSet.{SyntaxSet}
+use Rattle.syntect_parsing.specs.declared.position.Position.{Position}
+use Rattle.syntect_parsing.specs.declared.parser.ParsingError.{ParsingError}
+use Rattle.syntect_parsing.specs.declared.parser.ParsingError.TheVariants as error
+
+-- The step goes on to q, and the operations that were added show the scopes that it gives.
+pub record MakesStep (set : SyntaxSet) (line : List ℕ) (step : Step) (p q : Position) (old new : List (ℕ × ScopeStackOp)) : Type 0 where
+  pub bytes : List Scopes
+  pub made : List (ℕ × ScopeStackOp)
+  pub goes : step ≡ Goes bytes q
+  pub added : new ≡ old ++ made
+  pub shows : (r : Replay) (before : List Scopes) → IsAt r p.place before (open_scopes set p.levels)
+      → IsAt (replay made r) q.place (before ++ bytes) (open_scopes set q.levels)
+  pub order : InOrder line p.place made q.place
+  pub apply : AllApply (plain (open_scopes set p.levels)) made
+  pub within : q.place ≤ length line
+  pub boundary : IsCharBoundary line q.place
+
+-- The turn ends the line, with these levels and cuts, and no operation was added.
+pub record EndsLine (engine : Engine) (set : SyntaxSet) (line : List ℕ) (p q : Position) (old new : List (ℕ × ScopeStackOp)) : Type 0 where
+  pub bytes : List Scopes
+  pub ends : turn engine set line p ≡ Ends bytes (record { levels = q.levels; cuts = q.cuts; first_line = false })
+  pub same : q.levels ≡ p.levels
+  pub unchanged : new ≡ old
+  pub shows : (r : Replay) (before : List Scopes) → IsAt r p.place before (open_scopes set p.levels)
+      → IsAt r (length line) (before ++ bytes) (open_scopes set p.levels)
+
+abbrev pub Turns : Engine → SyntaxSet → List ℕ → Position → Position → List (ℕ × ScopeStackOp) → List (ℕ × ScopeStackOp) → Bool → Type 0
+Turns engine set line p q old new true = MakesStep set line (turn engine set line p) p q old new
+Turns engine set line p q old new false = EndsLine engine set line p q old new
+
+-- want of memory, or the step's refusal
+abbrev pub RefusesStep : Step → ParsingError → Type 0
+RefusesStep step error.Memory = Unit {0}
+RefusesStep step e = step ≡ Refused e
+
+abbrev pub RefusesTurn : Engine → SyntaxSet → List ℕ → Position → ParsingError → Type 0
+RefusesTurn engine set line p e = RefusesStep (turn engine set line p) e
+
+-- how many turns may still come
+abbrev pub turns_left : SyntaxSet → List ℕ → Position → ℕ
+turns_left set line p = length p.levels + (longest (contexts_of set) + 1) * ((1000 - p.idle) + 1001 * (length line - p.place))

@@ -1,0 +1,141 @@
+//! One turn of reading a line.
+ghost use Rattle.std.specs.Prelude.{◌≡◌, ◌≤◌, ◌<◌, nat_lt, filter, length, IfOk, IfErr, IsCharBoundary, Some, None, ◌+◌};
+ghost use Rattle.syntect_parsing.specs.Engine.{dialect};
+ghost use Rattle.syntect_parsing.specs.Chain.{last, room_in};
+ghost use Rattle.syntect_parsing.specs.Turn.{trimmed, skipped, char_len, Take};
+ghost use Rattle.syntect_parsing.specs.Line.{step, turn_on};
+ghost use Rattle.syntect_parsing.specs.Laws.{StandsIn};
+ghost use Rattle.syntect_parsing.specs.Candidates.{seen, chosen, StandsChosen};
+ghost use Rattle.syntect_parsing.specs.Step.{MakesStep, RefusesStep, Turns, RefusesTurn};
+
+use crate::chain::{chain, missing_prototype};
+use crate::emit::emit;
+use crate::laws::dialect_finds_in_text;
+use crate::levels::apply;
+use crate::names::check_names;
+use crate::parser::ParsingError;
+use crate::position::Position;
+use crate::search::{Candidate, Choice, char_len, live, winner};
+use crate::syntax_set::SyntaxSet;
+use std::alloc::Global;
+use std::mem;
+use syntect_regex::region::Region;
+use syntect_scope::stack::ScopeStackOp;
+use syntect_values::seq::Seq;
+
+fn drop_from(cuts: &mut Vec<usize>, height: usize)
+    ensures { cuts.new.items ≡ filter (λ c. nat_lt c height) cuts.old.items }
+{
+    cuts.retain(|cut| *cut < height);
+}
+
+/// Drops the cuts at or above the height.
+fn trim(alloc: Global, p: &mut Position)
+    ensures { p.new ≡ trimmed p.old }
+{
+    let height = p.levels.len();
+    let mut cuts = mem::replace(&mut p.cuts, Seq::new(alloc)).into_vec();
+    drop_from(&mut cuts, height);
+    p.cuts = Seq::from_vec(cuts);
+}
+
+/// What a turn does, once cuts are dropped.
+fn choose<'s>(
+    alloc: Global,
+    set: &'s SyntaxSet,
+    room: u128,
+    line: &str,
+    p: &Position,
+    region: &mut Region,
+) -> Result<Choice<'s>, ParsingError>
+    requires room { room ≡ room_in set.now }
+    requires within { p.now.place ≤ length line.now }
+    requires boundary { IsCharBoundary line.now p.now.place }
+    ensures chosen { IfOk result (λ c. turn_on dialect set.now line.now p.now (last p.now.levels)
+        ≡ step dialect set.now line.now p.now (chosen line.now p.now.place c)) }
+    ensures stands { IfOk result (StandsChosen line.now p.now.place) }
+    ensures refused { IfErr result (RefusesStep (turn_on dialect set.now line.now p.now (last p.now.levels))) }
+{
+    dialect_finds_in_text();
+    let Some(top) = p.levels.as_slice().last() else {
+        return Ok(Choice::End);
+    };
+    let Some(context) = set.context_at(top.context) else {
+        return Err(ParsingError::MissingContext(top.context));
+    };
+    if let Some(id) = missing_prototype(set, p, context) {
+        return Err(ParsingError::MissingContext(id));
+    }
+    let entries = chain(alloc, set, room, p, top, context)?;
+    let ms = live(alloc, entries.as_slice(), line, p, region)?;
+    Ok(winner(line, p, ms.as_slice()))
+}
+
+/// Takes a match: its operations, and where the reader then stands.
+fn take(
+    alloc: Global,
+    set: &SyntaxSet,
+    line: &str,
+    p: &mut Position,
+    m: &Candidate<'_>,
+    ops: &mut Vec<(usize, ScopeStackOp)>,
+) -> Result<(), ParsingError>
+    requires within { p.old.place ≤ length line.now }
+    requires boundary { IsCharBoundary line.now p.old.place }
+    requires few { p.old.idle ≤ 1000 }
+    requires stands { StandsIn line.now p.old.place m.now.start m.now.end }
+    ensures makes { IfOk result (λ _. MakesStep set.now line.now
+        (step dialect set.now line.now p.old (Take (seen line.now p.old.place m.now))) p.old p.new ops.old.items ops.new.items) }
+    ensures refused { IfErr result (RefusesStep (step dialect set.now line.now p.old (Take (seen line.now p.old.place m.now)))) }
+{
+    check_names(set, m.pattern)?;
+    emit(ops, set, p.levels.as_slice(), m)?;
+    apply(alloc, set, line, p, m)?;
+    Ok(())
+}
+
+/// Passes over a character.
+fn skip(line: &str, p: &mut Position)
+    requires within { p.old.place ≤ length line.now }
+    requires boundary { IsCharBoundary line.now p.old.place }
+    requires inside { p.old.place + char_len line.now p.old.place < length line.now }
+    ensures { p.new ≡ skipped line.now p.old }
+{
+    p.place += char_len(line, p.place);
+    p.idle = 0;
+}
+
+/// Makes one turn, and says whether the line goes on.
+pub fn turn(
+    alloc: Global,
+    set: &SyntaxSet,
+    room: u128,
+    line: &str,
+    p: &mut Position,
+    region: &mut Region,
+    ops: &mut Vec<(usize, ScopeStackOp)>,
+) -> Result<bool, ParsingError>
+    requires room { room ≡ room_in set.now }
+    requires within { p.old.place ≤ length line.now }
+    requires boundary { IsCharBoundary line.now p.old.place }
+    requires few { p.old.idle ≤ 1000 }
+    ensures turns { IfOk result (Turns dialect set.now line.now p.old p.new ops.old.items ops.new.items) }
+    ensures refused { IfErr result (RefusesTurn dialect set.now line.now p.old) }
+{
+    trim(alloc, p);
+    let choice = match choose(alloc, set, room, line, p, region) {
+        Ok(choice) => choice,
+        Err(e) => return Err(e),
+    };
+    match choice {
+        Choice::Take(m) => match take(alloc, set, line, p, &m, ops) {
+            Ok(()) => Ok(true),
+            Err(e) => Err(e),
+        },
+        Choice::Skip => {
+            skip(line, p);
+            Ok(true)
+        }
+        Choice::End => Ok(false),
+    }
+}
