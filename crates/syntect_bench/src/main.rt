@@ -1,13 +1,21 @@
 //! Runs the worked examples of docs/EXAMPLES.md, and prints of each whether it comes out as it is written there.
-//! With the words `time atoms` it prints how long a repository takes for 60000 new atoms.
+//!
+//! With a word FILE it prints the pieces of that text file's lines by the contexts and the theme of example 17, and with
+//! `time FILE N` how fast that goes over N runs. With `time atoms` it prints how long a repository takes for 60000 new
+//! atoms.
 #![tactic(auto)]
 
+mod files;
+mod grammars;
+mod lines;
 mod make;
 mod rows;
+mod third;
 
+use crate::files::{show, time};
 use crate::rows::{ROWS, holds};
 use std::process::ExitCode;
-use std::rt::Clock;
+use std::rt::{Clock, Files};
 use std::time::Instant;
 use std::{env, io};
 use syntect_scope::repository::ScopeRepository;
@@ -17,21 +25,49 @@ const TIMED_ATOMS: u32 = 60000;
 
 fn main(rt: HostRuntime) -> io::Result<ExitCode> {
     let words: Vec<String> = env::args(&rt)?.skip(1).collect(rt.alloc())?;
-    if words.is_empty() {
-        return run_rows(&rt);
+    match words.as_slice() {
+        [] => run_rows(&rt),
+        [path] => show(&rt, path.as_str()),
+        [time, what] => timed(&rt, time.as_str(), what.as_str()),
+        [time_word, path, rounds] => timed_file(
+            &rt,
+            time_word.as_str(),
+            path.as_str(),
+            rounds.as_str(),
+        ),
+        _ => usage(&rt),
     }
-    if is_call(words.as_slice(), "time", "atoms") {
-        return time_atoms(&rt);
-    }
-    eprintln!(rt; "usage: syntect_bench [time atoms]")?;
+}
+
+/// What the words can be.
+fn usage(rt: &impl Eprint) -> io::Result<ExitCode> {
+    eprintln!(rt; "usage: syntect_bench [FILE | time FILE N | time atoms]")?;
     Ok(ExitCode::from(2))
 }
 
-/// Whether these are the two words of a call.
-fn is_call(words: &[String], first: &str, second: &str) -> bool {
-    match words {
-        [a, b] => a.as_str() == first && b.as_str() == second,
-        _ => false,
+/// Two words.
+fn timed(
+    rt: &(impl Print + Eprint + AllocGlobal + Clock),
+    word: &str,
+    what: &str,
+) -> io::Result<ExitCode> {
+    if word == "time" && what == "atoms" {
+        time_atoms(rt)
+    } else {
+        usage(rt)
+    }
+}
+
+/// Three words.
+fn timed_file(
+    rt: &(impl Print + Eprint + AllocGlobal + Files + Clock),
+    word: &str,
+    path: &str,
+    rounds: &str,
+) -> io::Result<ExitCode> {
+    match rounds.parse::<u32>() {
+        Ok(rounds) if word == "time" => time(rt, path, rounds),
+        _ => usage(rt),
     }
 }
 

@@ -1,4 +1,5 @@
 //! The worked examples.
+use crate::lines::{first_line, no_start, unresolved_line};
 use crate::make::{foreground, grey, scope, scopes, theme};
 use std::alloc::Global;
 use syntect_scope::repository::{ParseScopeError, ScopeRepository};
@@ -14,16 +15,25 @@ pub enum Row {
     LowerPlace,
     /// Texts of scopes.
     TextsOfScopes,
+    /// A line by contexts that were made by calls.
+    FirstLine,
     /// What was cleared is restored.
     ClearedScopes,
+    /// A line that names a context which is not there.
+    UnresolvedLine,
+    /// A syntax without a first context.
+    NoStart,
 }
 
 /// The examples in order, by their labels.
-pub const ROWS: [(&str, Row); 4] = [
+pub const ROWS: [(&str, Row); 7] = [
     ("4", Row::DeepestPlace),
     ("5", Row::LowerPlace),
     ("13", Row::TextsOfScopes),
+    ("17", Row::FirstLine),
     ("19", Row::ClearedScopes),
+    ("R1.1", Row::UnresolvedLine),
+    ("R1.2", Row::NoStart),
 ];
 
 /// Whether an example comes out as it is written. Want of memory counts as no.
@@ -32,7 +42,10 @@ pub fn holds(alloc: Global, row: Row) -> bool {
         Row::DeepestPlace => deepest_place(alloc),
         Row::LowerPlace => lower_place(alloc),
         Row::TextsOfScopes => texts_of_scopes(alloc),
+        Row::FirstLine => first_line(alloc),
         Row::ClearedScopes => cleared_scopes(alloc),
+        Row::UnresolvedLine => unresolved_line(alloc),
+        Row::NoStart => no_start(alloc),
     };
     outcome.unwrap_or(false)
 }

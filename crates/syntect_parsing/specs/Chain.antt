@@ -89,8 +89,8 @@ last xs = slice_get xs (length xs - 1)
 abbrev pub in_sight : Position → List Level
 in_sight p = drop (unwrap_or (last p.cuts) 0) p.levels
 
--- The prototypes of these levels from the bottom, each with its level's opening match,
--- then the top context's own prototype without one, then the top context with its level's.
+-- Three parts after one another: what the levels in sight brought as prototypes, lowest level first and tied to its
+-- opening match; the prototype of the top context, tied to none; and that context itself, tied to the top level's.
 abbrev pub chain : SyntaxSet → Position → Level → Context → List Member
 chain set p top context =
     flat_map (λ l. flat_map (members set true l.opening) l.prototypes) (in_sight p)

@@ -78,7 +78,7 @@ RoomIsNotFelt = (set : SyntaxSet) (entries : List Pattern)
 
 -- ---- how many turns a line takes ----
 
--- the longest push or set list of these patterns, and at least 1
+-- how many contexts one match of these patterns can open at most, where 1 is the least that counts
 abbrev pub longest_in : List Pattern → ℕ
 longest_in [] = 1
 longest_in (Match m ∷ ps) = max (option_map_or length (list_of m.operation) 0) (longest_in ps)

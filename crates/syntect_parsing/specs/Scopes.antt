@@ -51,8 +51,8 @@ longer_first (c ∷ cs) = put c (longer_first cs)
 module _ (engine : Engine) where
   open engine use {in_lookaround}
 
-  -- a capture of the group of this number, which stands here if it was set: it has effect if it isn't empty,
-  -- lies inside the match and its group stands in no lookaround
+  -- a capture of the group of this number, which stands here if it was set: empty stretches, stretches that reach out
+  -- of the match, and groups of lookarounds give no scopes
   abbrev pub effect : Live → ℕ → Scopes → Option (ℕ × ℕ) → Option Capture
   effect m group scopes None = None
   effect m group scopes (Some at) =

@@ -38,7 +38,7 @@ pub record Live : Type 0 where
 abbrev pub group_at : Groups → ℕ → Option (ℕ × ℕ)
 group_at groups n = option_flatten (slice_get groups n)
 
--- whether a match counts: an empty one without operation doesn't, nor does a push at 100 levels or more
+-- whether a match counts: one that reads nothing and does nothing is passed over, and so is a push once 100 levels are open
 abbrev pub counts : ℕ → MatchOperation → ℕ → ℕ → Bool
 counts height (op.Push refs) start end = nat_lt height 100
 counts height (op.Set refs) start end = true
@@ -108,7 +108,7 @@ choice_of line place ms (Some m) = Take m
 choice_of line place [] None = End
 choice_of line place (m ∷ ms) None = if nat_lt (place + char_len line place) (length line) then Skip else End
 
--- among the matches of least start the first that doesn't loop
+-- of the matches that begin first, the foremost in the chain that goes on
 abbrev pub winner : List ℕ → Position → List Live → Choice
 winner line p ms = choice_of line p.place ms (find (λ m. is_least ms m && not (loops p m)) ms)
 
@@ -169,10 +169,11 @@ levels_by set line levels m (op.Set refs) = without_last levels ++ opened set li
 levels_by set line levels m op.Pop = without_last levels
 levels_by set line levels m op.None = levels
 
+-- the levels once the match has done what it does
 abbrev pub levels_after : SyntaxSet → List ℕ → List Level → Live → List Level
 levels_after set line levels m = levels_by set line levels m m.pattern.operation
 
--- a match from a `with_prototype` records the height before its operation
+-- where the pattern came from a `with_prototype`, the height that it found is kept as a cut
 abbrev pub cuts_after : Position → Live → List ℕ
 cuts_after p m = if m.from_with_prototype then p.cuts ++ length p.levels ∷ [] else p.cuts
 
@@ -195,6 +196,6 @@ position_after set line p m =
 abbrev pub skipped : List ℕ → Position → Position
 skipped line p = record p { place = p.place + char_len line p.place; idle = 0 }
 
--- cuts at or above the height are dropped
+-- only cuts below the present height stay
 abbrev pub trimmed : Position → Position
 trimmed p = record p { cuts = filter (λ c. nat_lt c (length p.levels)) p.cuts }

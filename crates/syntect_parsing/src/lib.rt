@@ -16,5 +16,7 @@ mod position;
 mod search;
 pub mod syntax_definition;
 pub mod syntax_set;
+#[cfg(test)]
+mod tests;
 mod text;
 mod turn;

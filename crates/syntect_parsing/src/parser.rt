@@ -35,7 +35,7 @@ pub enum ParsingError {
     BadMatchIndex(usize),
     #[error("Tried to use a ContextReference that has not been resolved yet")]
     UnresolvedContextReference(ContextReference),
-    #[error("out of memory")]
+    #[error("Memory")]
     Memory,
 }
 
@@ -96,7 +96,7 @@ impl Clone for Level {
     }
 }
 
-/// What is kept between two lines: the levels from the bottom, the cuts, and whether the first line is to come.
+/// What is kept between two lines: the open levels, lowest first, the cuts, and a mark that no line was read yet.
 ///
 /// A cut is the height at which a match from a `with_prototype` found the levels; prototypes of the levels below the
 /// last cut are out of sight.

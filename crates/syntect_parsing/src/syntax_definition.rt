@@ -23,7 +23,7 @@ pub type CaptureMapping = Seq<(usize, Seq<Scope>)>;
 
 /// Which context of a set: the place of its syntax among the syntaxes of the set, and its place in the byte order of
 /// the names of that syntax's contexts.
-#[derive(Clone, Copy, Debug, PartialEq, Eq)]
+#[derive(Clone, Copy, Debug, PartialEq, Eq, Hash)]
 pub struct ContextId {
     pub syntax_index: usize,
     pub context_index: usize,

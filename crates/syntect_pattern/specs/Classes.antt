@@ -127,7 +127,7 @@ pub data Step : Type 0 where
 
 -- `fold` is the flag i
 module _ (fold : Bool) where
-  -- a character, or a range where an end follows; a range that falls is no pattern
+  -- a character, or a range where an end follows; the end may not lie below the start
   abbrev pub up_to : ℕ → Text → Option (ℕ × Text) → Option (Set × Text)
   up_to low rest None = Some (from_to fold low low, rest)
   up_to low rest (Some (high, after)) = nat_le low high >> Some (from_to fold low high, after)
@@ -140,7 +140,7 @@ module _ (fold : Bool) where
   unfoldable pub plain_item : Text → Option (Set × Text)
   plain_item t = member t >>= ranged
 
-  -- a POSIX bracket; another name in that form is no pattern
+  -- a POSIX bracket; only the known names are read
   unfoldable pub posix_item : Text → Option (Set × Text)
   posix_item t = do
     (caret, inside, rest) ← posix_form t

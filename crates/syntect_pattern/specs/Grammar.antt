@@ -68,12 +68,12 @@ quantifier t =
     else if begins "?" t then sign 0 (Some 1) t
     else count t
 
--- a count above 1000, or n above m, is no pattern
+-- counts go up to 1000, and the least is not above the most
 abbrev pub is_allowed : ℕ → Option ℕ → Bool
 is_allowed least None = nat_le least 1000
 is_allowed least (Some most) = nat_le least most && nat_le most 1000
 
--- A `?` directly after makes it lazy. A `+` directly after `*`, `+` or `?` makes an atomic group of the greedy one.
+-- With a `?` right behind it a quantifier is lazy; with a `+` behind `*`, `+` or `?` it gives nothing back.
 unfoldable pub loop : Quantifier → Tree → Text → Tree × Text
 loop q a t =
     if begins "?" t then (repeat false q.least q.most a, drop 1 t)
@@ -210,7 +210,7 @@ abbrev pub number_of : Text → Names → Option ℕ
 number_of wanted [] = None
 number_of wanted (found ∷ rest) = if has_name wanted found then Some 1 else option_map suc (number_of wanted rest)
 
--- Back references: one that names no group is no pattern. `known` has the groups of the whole text, and is None where
+-- Back references, which have to name a group of the pattern. `known` has the groups of the whole text, and is None where
 -- they are still to be found.
 abbrev pub by_number : Option Names → Bool → ℕ → Option Tree
 by_number None fold n = Some nothing
@@ -255,7 +255,7 @@ module _ (known : Option Names) where
   step inner depth b p end = Some (over p)
   step inner depth b p closer = Some (over p)
   step inner depth b p bar = Some (on (next_alternative b) (forward 1 p))
-  -- on nothing, on an anchor or on a quantifier
+  -- a quantifier with nothing before it that it could repeat
   step inner depth b p loops = None
   step inner depth b p opener = opening (forward 1 p) >>= grouped inner depth b p.flags
   step inner depth b p bracket = class p.flags.fold depth (drop 1 p.text) >>= λ (a, rest). item b (one_of a) (record p { text = rest })

@@ -1,4 +1,4 @@
--- The groups of a match that stand outside lookarounds are nested or disjoint, lie in the match and end on boundaries.
+-- How the groups of a match lie, but for those in lookarounds: inside the match, each two of them apart or one in the other.
 use Rattle.std.specs.Prelude.{◌-◌, ◌<◌, Option, ◌≡◌, ℕ, suc, ◌≤◌, Bool, true, false, not, ◌&&◌, Some, List, length, slice_get, IsCharBoundary, IsUtf8}
 use Rattle.syntect_pattern.specs.Trees.{Tree, seq, alt, repeat, group, atomic, ahead, behind, in_look, group_in_look, group_count}
 use Rattle.syntect_pattern.specs.Matches.{Groups, matches, turns, found}

@@ -12,8 +12,8 @@ pub mod program;
 mod reader;
 mod starts;
 
-/// The law of every search: the groups that stand outside lookarounds are nested or disjoint, lie in the match and end on
-/// boundaries of characters.
+/// The law of every search: but for groups in lookarounds, each group lies in the match and between characters, and two
+/// groups lie apart or one in the other.
 pub fn matches_are_laid_out()
     ensures { FindsMatches }
 {}

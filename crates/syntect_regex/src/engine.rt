@@ -153,7 +153,7 @@ fn one_turn_less(turns: Turns) -> Turns
 impl Search {
     ghost use Rattle.syntect_pattern.specs.Program.{trees_of};
     ghost use Rattle.std.specs.Prelude.{replicate, slice_get};
-    ghost use Rattle.syntect_pattern.specs.Trees.{nothing};
+    ghost use Rattle.syntect_pattern.specs.Trees.{nothing, repeat};
     ghost use Rattle.syntect_pattern.specs.Matches.{matches};
     ghost use Rattle.syntect_regex.specs.Machine.{Fits, Goes, ReturnsTo, Retreats, RestoresGroup, EntersStretch, found_by, match_of, groups_of, FindsAt, FindsGroups};
 
@@ -249,19 +249,13 @@ impl Search {
                 most,
                 body,
             } => {
-                if *greedy
-                    && most.is_none()
-                    && self.enter_stretch(program, text, *least, *body, list)?
-                {
-                    return Ok(Next::Fail);
-                }
                 let turns = Turns {
                     node,
                     left: text.len().saturating_sub(self.place) + 1,
                     least: *least,
                     most: *most,
                 };
-                Ok(Next::Turn { turns, list })
+                self.enter_loop(program, text, turns, *greedy, *body, list)
             }
             Node::Group { number, body } => {
                 let item = Item::Close {
@@ -272,6 +266,30 @@ impl Search {
                 Ok(Next::Enter { node: *body, list })
             }
         }
+    }
+
+    /// Begins the turns of a loop.
+    fn enter_loop(
+        &mut self,
+        program: &Program,
+        text: &str,
+        turns: Turns,
+        greedy: bool,
+        body: usize,
+        list: usize,
+    ) -> Result<Next, AllocError>
+        requires fits { Fits text.now (Next.Enter turns.node list) self.old }
+        requires is_loop { slice_index_or (trees_of program.now) turns.node nothing ≡ repeat greedy turns.least turns.most (slice_index_or (trees_of program.now) body nothing) }
+        requires left { turns.left ≡ suc (length text.now - self.old.place) }
+        ensures { IfOk result (λ next. Goes text.now (trees_of program.now) (Next.Enter turns.node list) self.old next self.new) }
+    {
+        if greedy
+            && turns.most.is_none()
+            && self.enter_stretch(program, text, turns.least, body, list)?
+        {
+            return Ok(Next::Fail);
+        }
+        Ok(Next::Turn { turns, list })
     }
 
     /// Reads what a greedy loop over one character can, if it is a stretch of ASCII characters, and keeps its ends for

@@ -26,7 +26,7 @@ winners theme stack = record {
 abbrev pub style_of : Theme → List (List ℕ) → Style
 style_of theme stack = restyled (winners theme stack) (default_style theme)
 
--- the style of text with these scopes, none of which is plain text
+-- the style of text with these scopes; text without any has the default
 abbrev pub shown : Theme → List (List ℕ) → Style
 shown theme [] = default_style theme
 shown theme (s ∷ stack) = style_of theme (s ∷ stack)

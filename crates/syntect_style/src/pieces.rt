@@ -18,8 +18,8 @@ use syntect_scope::stack::{ScopeError, ScopeStackOp};
 /// The pieces of a text, each with its style and its range of bytes in the text.
 ///
 /// A piece is a stretch that isn't empty between the places of the operations, from the text's start to its end,
-/// in the style of the stack at it. A refused operation gives an `Err` in place of the piece that ends at it, and
-/// nothing comes after; the state is then that of the operations before it.
+/// in the style of the stack at it. Where an operation is refused an `Err` is given for the piece up to it, as the last
+/// item, and the state keeps what the earlier operations made.
 #[derive(Debug, Drop)]
 pub struct RangedHighlightIterator<'a, 'b> {
     pos: usize,
@@ -60,8 +60,8 @@ fn piece_to<'b>(
 }
 
 impl<'a, 'b> RangedHighlightIterator<'a, 'b> {
-    /// The pieces of a text under operations that are in order: their places never decrease, are at most the text's
-    /// length and stand on character boundaries. Takes no memory.
+    /// The pieces of a text under operations whose places rise or stay, lie in the text and between its characters.
+    /// Takes no memory.
     pub fn new(
         state: &'a mut HighlightState,
         changes: &'a [(usize, ScopeStackOp)],
@@ -156,8 +156,8 @@ pub struct HighlightIterator<'a, 'b> {
 }
 
 impl<'a, 'b> HighlightIterator<'a, 'b> {
-    /// The pieces of a text under operations that are in order: their places never decrease, are at most the text's
-    /// length and stand on character boundaries. Takes no memory.
+    /// The pieces of a text under operations whose places rise or stay, lie in the text and between its characters.
+    /// Takes no memory.
     pub fn new(
         state: &'a mut HighlightState,
         changes: &'a [(usize, ScopeStackOp)],

@@ -7,7 +7,6 @@
 
 pub mod seq;
 pub mod table;
-pub mod text;
-
 #[cfg(test)]
 mod tests;
+pub mod text;

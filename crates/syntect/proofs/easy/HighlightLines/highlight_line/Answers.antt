@@ -1,0 +1,28 @@
+use Rattle.std.proofs.lemmas.Result.{err_from_is_err_and}
+use Rattle.syntect.proofs.BuiltLaws.{built_begins_plain}
+use Rattle.syntect.proofs.LeadLaws.{lead_refused, lead_unshown, lead_accepted}
+use Rattle.syntect.proofs.easy.HighlightLines.highlight_line.Goals as goal
+
+pub returns-in_err-ops-clause-answered : goal.returns-in_err-ops-clause-answered
+returns-in_err-ops-clause-answered c = λ theme definitions syntax lines answers b l.
+    let p = err_from_is_err_and c.from_residual-in_err-ops.result c.from_residual-in_err-ops.ensures.1 in
+    rw (p.1, p.2) (lead_refused c.args.syntax_set.now theme syntax lines answers c.args.line c.args.self.now c.in_err-ops.field-0.0 c.answers_more.ensures l
+    (rw c.in_ok-parse_state.ensures at c.in_err-ops.ensures.refused))
+
+pub returns-in_err-pieces-clause-answered : goal.returns-in_err-pieces-clause-answered
+returns-in_err-pieces-clause-answered c = λ theme definitions syntax lines answers b l.
+    let p = err_from_is_err_and c.from_residual-in_err-pieces.result c.from_residual-in_err-pieces.ensures.1 in
+    rw (p.1, p.2) (lead_unshown c.args.syntax_set.now theme syntax lines answers c.args.line c.args.self.now c.parse_line.new.self c.in_ok-ops.ops.items c.in_err-pieces.field-0.0 c.stack_is_open.ensures (built_begins_plain c.args.syntax_set.now syntax definitions b) l
+    (rw c.in_ok-parse_state.ensures at c.in_ok-ops.ensures.accepted)
+    (rw (c.as_slice.ensures.value, c.in_ok-highlight_state.ensures) at c.in_err-pieces.ensures.none))
+
+pub returns-clause-answered : goal.returns-clause-answered
+returns-clause-answered c = λ theme definitions syntax lines answers b l.
+    lead_accepted c.args.syntax_set.now theme syntax lines answers c.args.line c.args.self.now c.parse_line.new.self c.collect_pieces.new.state c.in_ok-ops.ops.items c.in_ok-pieces.pieces c.answers_more.ensures c.stack_is_open.ensures (built_begins_plain c.args.syntax_set.now syntax definitions b) l
+    (rw c.in_ok-parse_state.ensures at c.in_ok-ops.ensures.accepted)
+    (record {
+      joins = c.in_ok-pieces.ensures.joins;
+      styled = rw (c.as_slice.ensures.value, c.in_ok-highlight_state.ensures) at c.in_ok-pieces.ensures.styled;
+      path = rw (c.as_slice.ensures.value, c.in_ok-highlight_state.ensures) at c.in_ok-pieces.ensures.path;
+      keeps = rw c.in_ok-highlight_state.ensures at c.in_ok-pieces.ensures.keeps;
+    })

@@ -1,0 +1,24 @@
+-- Sets that were built of definitions, and what the definitions have to be.
+use Rattle.std.specs.Prelude.{◌≡◌, ℕ, ◌==◌, ◌≤◌, List, [], length, map, position, codes, Option, Some, IfSome, All, slice_get}
+use Rattle.std.specs.Option.{option_and_then}
+use Rattle.std.specs.Cmp.Lexicographic.{pointwise}
+use Rattle.syntect_parsing.specs.Link.{linked, names_of, syntaxes_in}
+use Rattle.syntect_parsing.specs.declared.syntax_definition.Context.{Context}
+use Rattle.syntect_parsing.specs.declared.syntax_definition.SyntaxDefinition.{SyntaxDefinition}
+use Rattle.syntect_parsing.specs.declared.syntax_set.SyntaxReference.{SyntaxReference}
+use Rattle.syntect_parsing.specs.declared.syntax_set.SyntaxSet.{SyntaxSet}
+
+-- the context `__start` of a definition, in which reading begins, if it has one
+abbrev pub start_context : SyntaxDefinition → Option Context
+start_context d = option_and_then (slice_get (map (λ entry. entry.1) d.contexts)) (position (pointwise ◌==◌ (codes "__start")) (names_of d.contexts))
+
+-- `__start` has no `meta_scope` and at most one content scope, as in every grammar that is loaded
+abbrev pub IsPlain : SyntaxDefinition → Type 0
+IsPlain d = IfSome (start_context d) (λ c. (c.meta_scope ≡ []) × (length c.meta_content_scope ≤ 1))
+
+-- the set was built once, of these definitions, which are plain, and the syntax is one of it
+pub record IsBuiltOf (set : SyntaxSet) (syntax : SyntaxReference) (definitions : List SyntaxDefinition) : Type 0 where
+  pub set_is : set ≡ linked definitions
+  pub place : ℕ
+  pub among : slice_get (syntaxes_in set) place ≡ Some syntax
+  pub plain : All IsPlain definitions

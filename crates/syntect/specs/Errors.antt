@@ -1,0 +1,18 @@
+-- How refusals of the layers below are passed on.
+use Rattle.syntect_parsing.specs.declared.parser.ParsingError.{ParsingError}
+use Rattle.syntect_parsing.specs.declared.parser.ParsingError.TheVariants as parsing
+use Rattle.syntect_scope.specs.declared.stack.ScopeError.{ScopeError}
+use Rattle.syntect_scope.specs.declared.stack.ScopeError.TheVariants as scope
+use Rattle.syntect.specs.declared.error.Error.{Error}
+use Rattle.syntect.specs.declared.error.Error.TheVariants as error
+
+abbrev pub from_parsing : ParsingError → Error
+from_parsing parsing.Memory = error.Memory
+from_parsing parsing.MissingMainContext = error.ParsingError parsing.MissingMainContext
+from_parsing (parsing.MissingContext id) = error.ParsingError (parsing.MissingContext id)
+from_parsing (parsing.BadMatchIndex i) = error.ParsingError (parsing.BadMatchIndex i)
+from_parsing (parsing.UnresolvedContextReference r) = error.ParsingError (parsing.UnresolvedContextReference r)
+
+abbrev pub from_scope : ScopeError → Error
+from_scope scope.Memory = error.Memory
+from_scope scope.NoClearedScopesToRestore = error.ScopeError scope.NoClearedScopesToRestore

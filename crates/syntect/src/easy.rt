@@ -1,0 +1,90 @@
+//! Lines to styled pieces.
+ghost use Rattle.std.specs.Prelude.{◌≡◌, ◌++◌, ◌∷◌, [], List, ℕ, IfOk, IfErr, OnErr};
+ghost use Rattle.syntect_parsing.specs.Line.{Answer};
+ghost use Rattle.syntect_parsing.specs.declared.syntax_definition.SyntaxDefinition.{SyntaxDefinition as ADefinition};
+ghost use Rattle.syntect_parsing.specs.declared.syntax_set.SyntaxReference.{SyntaxReference as ASyntax};
+ghost use Rattle.syntect_parsing.specs.declared.syntax_set.SyntaxSet.{SyntaxSet as ASet};
+ghost use Rattle.syntect_style.specs.declared.theme.Theme.{Theme as ATheme};
+
+use crate::error::Error;
+use std::alloc::{AllocError, Global};
+use syntect_parsing::laws::{answers_more, stack_is_open};
+use syntect_parsing::parser::ParseState;
+use syntect_parsing::syntax_set::{SyntaxReference, SyntaxSet};
+use syntect_scope::stack::ScopeStack;
+use syntect_style::highlighter::Highlighter;
+use syntect_style::pieces::collect_pieces;
+use syntect_style::state::HighlightState;
+use syntect_style::style::Style;
+use syntect_style::theme::Theme;
+
+/// Highlights lines that are given one after another.
+#[derive(Drop)]
+pub struct HighlightLines<'a> {
+    highlighter: Highlighter<'a>,
+    parse_state: ParseState,
+    highlight_state: HighlightState,
+}
+
+impl<'a> HighlightLines<'a> {
+    ghost use Rattle.syntect.specs.Leads.{Leads, LeadsOn, LacksStart};
+    ghost use Rattle.syntect.specs.Built.{IsBuiltOf};
+
+    /// The state before the first line of a text in this syntax, under this theme. `MissingMainContext` where the
+    /// syntax has no context `__start`.
+    pub fn new(
+        alloc: Global,
+        syntax: &SyntaxReference,
+        theme: &'a Theme,
+    ) -> Result<HighlightLines<'a>, Error>
+        ensures leads { (set : ASet) → IfOk result (Leads set theme.now syntax.now [] []) }
+        ensures refused { IfErr result (LacksStart syntax.now) }
+    {
+        let highlighter = Highlighter::new(alloc, theme)?;
+        let parse_state = ParseState::new(alloc, syntax)?;
+        let highlight_state = HighlightState::new(&highlighter, ScopeStack::new(alloc));
+        Ok(HighlightLines {
+            highlighter,
+            parse_state,
+            highlight_state,
+        })
+    }
+
+    /// The styled pieces of the next line, which join to it. The set has to be that of the syntax. A refusal changes
+    /// nothing.
+    pub fn highlight_line<'b>(
+        &mut self,
+        alloc: Global,
+        line: &'b str,
+        syntax_set: &SyntaxSet,
+    ) -> Result<Vec<(Style, &'b str)>, Error>
+        // the set was built of plain definitions, and the state is what these lines lead to
+        ensures answered { (theme : ATheme) (definitions : List ADefinition) (syntax : ASyntax) (lines : List (List ℕ)) (answers : List Answer)
+            → IsBuiltOf syntax_set.now syntax definitions → Leads syntax_set.now theme syntax lines answers self.old
+            → LeadsOn syntax_set.now theme syntax lines answers line.entry self.new result }
+        ensures err { OnErr result (self.new ≡ self.old) }
+    {
+        answers_more();
+        stack_is_open();
+        let mut parse_state = copied(&self.parse_state)?;
+        let mut highlight_state = self.highlight_state.clone()?;
+        let ops = parse_state.parse_line(alloc, line, syntax_set)?;
+        let pieces = collect_pieces(
+            alloc,
+            &self.highlighter,
+            &mut highlight_state,
+            ops.as_slice(),
+            line,
+        )?;
+        self.parse_state = parse_state;
+        self.highlight_state = highlight_state;
+        Ok(pieces)
+    }
+}
+
+/// The same state once more.
+fn copied(state: &ParseState) -> Result<ParseState, AllocError>
+    ensures { IfOk result (λ s. s ≡ state.now) }
+{
+    state.clone()
+}

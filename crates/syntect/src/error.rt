@@ -1,0 +1,74 @@
+//! What can go wrong.
+use std::alloc::{AllocError, AllocFailed};
+use syntect_parsing::parser::ParsingError;
+use syntect_scope::stack::ScopeError;
+use thiserror::Error as ThisError;
+
+/// Why a call of this crate was refused.
+#[derive(Debug, Drop, PartialEq, Eq, ThisError)]
+pub enum Error {
+    /// A line was not read.
+    #[error("Parsing error: {0}")]
+    ParsingError(ParsingError),
+    /// An operation on a stack of scopes was refused.
+    #[error("Scope error: {0}")]
+    ScopeError(ScopeError),
+    /// No syntax fits a file.
+    #[error("NoSyntax")]
+    NoSyntax,
+    /// There was no memory.
+    #[error("Memory")]
+    Memory,
+}
+
+impl From<AllocError> for Error {
+    ghost use Rattle.std.specs.Prelude.{◌≡◌};
+    ghost use Rattle.syntect.specs.declared.error.Error.TheVariants.{Memory};
+
+    ghost from_gives = { λ _ e. e ≡ Memory };
+
+    fn from(_e: AllocError) -> Error {
+        Error::Memory
+    }
+}
+
+impl<T: Drop> From<AllocFailed<T>> for Error {
+    ghost use Rattle.std.specs.Prelude.{◌≡◌};
+    ghost use Rattle.syntect.specs.declared.error.Error.TheVariants.{Memory};
+
+    ghost from_gives = { λ _ e. e ≡ Memory };
+
+    fn from(_e: AllocFailed<T>) -> Error {
+        Error::Memory
+    }
+}
+
+/// Want of memory is passed on as such.
+impl From<ParsingError> for Error {
+    ghost use Rattle.std.specs.Prelude.{◌≡◌};
+    ghost use Rattle.syntect.specs.Errors.{from_parsing};
+
+    ghost from_gives = { λ e r. r ≡ from_parsing e };
+
+    fn from(e: ParsingError) -> Error {
+        match e {
+            ParsingError::Memory => Error::Memory,
+            e => Error::ParsingError(e),
+        }
+    }
+}
+
+/// Want of memory is passed on as such.
+impl From<ScopeError> for Error {
+    ghost use Rattle.std.specs.Prelude.{◌≡◌};
+    ghost use Rattle.syntect.specs.Errors.{from_scope};
+
+    ghost from_gives = { λ e r. r ≡ from_scope e };
+
+    fn from(e: ScopeError) -> Error {
+        match e {
+            ScopeError::Memory => Error::Memory,
+            e => Error::ScopeError(e),
+        }
+    }
+}

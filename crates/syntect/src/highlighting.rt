@@ -1,0 +1,7 @@
+//! Themes, styles and the highlighter.
+pub use syntect_scope::selector::{ScopeSelector, ScopeSelectors};
+pub use syntect_style::highlighter::{Highlighter, ScoredStyle};
+pub use syntect_style::pieces::{HighlightIterator, RangedHighlightIterator};
+pub use syntect_style::state::HighlightState;
+pub use syntect_style::style::{Color, FontStyle, Style, StyleModifier};
+pub use syntect_style::theme::{Theme, ThemeItem, ThemeSettings, UnderlineOption};

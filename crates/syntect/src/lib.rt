@@ -1,0 +1,13 @@
+//! Syntax highlighting: a grammar says which scopes stand over each byte of a text, and a theme which style stacks of
+//! scopes are shown in.
+//!
+//! `easy::HighlightLines` takes lines one after another and answers styled pieces. The modules `parsing` and
+//! `highlighting` have the parts that it is made of.
+#![tactic(auto)]
+
+pub mod easy;
+mod error;
+pub mod highlighting;
+pub mod parsing;
+
+pub use error::Error;

@@ -1,0 +1,13 @@
+//! Scopes, grammars, sets of them and the reading of lines.
+pub use syntect_parsing::parser::{ParseState, ParsingError};
+pub use syntect_parsing::syntax_definition;
+pub use syntect_parsing::syntax_definition::SyntaxDefinition;
+pub use syntect_parsing::syntax_set::{SyntaxReference, SyntaxSet, SyntaxSetBuilder};
+pub use syntect_regex::regex::Regex;
+pub use syntect_regex::region::Region;
+pub use syntect_scope::power::MatchPower;
+pub use syntect_scope::repository::{ParseScopeError, ScopeRepository};
+pub use syntect_scope::scope::{ATOM_LEN_BITS, Scope};
+pub use syntect_scope::stack::{
+    BasicScopeStackOp, ClearAmount, ScopeError, ScopeStack, ScopeStackOp,
+};

@@ -1,0 +1,37 @@
+//! A caller of the highlighter, from definitions to the pieces of lines.
+ghost use Rattle.std.specs.Prelude.{◌≡◌, All, IfOk, List, ℕ, [], ◌∷◌};
+ghost use Rattle.syntect_parsing.specs.Link.{definitions_in};
+ghost use Rattle.syntect_style.specs.Candidates.{OnlySingleRules};
+ghost use Rattle.syntect.specs.Built.{IsPlain};
+ghost use Rattle.syntect_bench.specs.Third.{IsThird};
+
+use std::alloc::Global;
+use syntect::Error;
+use syntect::easy::HighlightLines;
+use syntect::highlighting::{Style, Theme};
+use syntect::parsing::{ScopeRepository, SyntaxSetBuilder};
+
+/// The pieces of the third of three lines of text in the first syntax of a set that is built of these definitions. For
+/// plain definitions and a theme of single rules its contract is the whole promise: the three lines were read one after
+/// another, the pieces join to the third, and each byte has the theme's style for its scopes.
+pub fn third_line<'b>(
+    alloc: Global,
+    builder: SyntaxSetBuilder,
+    repository: &mut ScopeRepository,
+    theme: &Theme,
+    first: &str,
+    second: &str,
+    third: &'b str,
+) -> Result<Option<Vec<(Style, &'b str)>>, Error>
+    ensures { All IsPlain (definitions_in builder) → OnlySingleRules theme.now
+        → IfOk result (λ pieces. IsThird (definitions_in builder) theme.now first.now second.now third.now pieces) }
+{
+    let set = builder.build(alloc, repository)?;
+    let Some(syntax) = set.syntaxes().first() else {
+        return Ok(None);
+    };
+    let mut lines = HighlightLines::new(alloc, syntax, theme)?;
+    lines.highlight_line(alloc, first, &set)?;
+    lines.highlight_line(alloc, second, &set)?;
+    Ok(Some(lines.highlight_line(alloc, third, &set)?))
+}
