@@ -2,7 +2,7 @@
 //!
 //! With a word FILE it prints the pieces of that text file's lines by the contexts and the theme of example 17, and with
 //! `time FILE N` how fast that goes over N runs. With `time atoms` it prints how long a repository takes for 60000 new
-//! atoms.
+//! atoms, and with `time searches` how long searches take a character.
 #![tactic(auto)]
 
 mod files;
@@ -10,10 +10,12 @@ mod grammars;
 mod lines;
 mod make;
 mod rows;
+mod searches;
 mod third;
 
 use crate::files::{show, time};
 use crate::rows::{ROWS, holds};
+use crate::searches::time_searches;
 use std::process::ExitCode;
 use std::rt::{Clock, Files};
 use std::time::Instant;
@@ -41,7 +43,7 @@ fn main(rt: HostRuntime) -> io::Result<ExitCode> {
 
 /// What the words can be.
 fn usage(rt: &impl Eprint) -> io::Result<ExitCode> {
-    eprintln!(rt; "usage: syntect_bench [FILE | time FILE N | time atoms]")?;
+    eprintln!(rt; "usage: syntect_bench [FILE | time FILE N | time atoms | time searches]")?;
     Ok(ExitCode::from(2))
 }
 
@@ -51,10 +53,10 @@ fn timed(
     word: &str,
     what: &str,
 ) -> io::Result<ExitCode> {
-    if word == "time" && what == "atoms" {
-        time_atoms(rt)
-    } else {
-        usage(rt)
+    match (word, what) {
+        ("time", "atoms") => time_atoms(rt),
+        ("time", "searches") => time_searches(rt),
+        _ => usage(rt),
     }
 }
 
