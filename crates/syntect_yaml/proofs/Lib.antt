@@ -1,0 +1,12 @@
+pub mod RunLaws
+pub mod PlaceLaws
+pub mod PlainLaws
+pub mod NumberLaws
+pub mod QuotedLaws
+pub mod LiteralLaws
+pub mod ViewLaws
+pub mod FlowLaws
+pub mod BlockLaws
+pub mod YamlLaws
+pub mod Rows
+pub mod KeyLaws

@@ -1,0 +1,11 @@
+pub mod Node
+pub mod View
+pub mod Lines
+pub mod Text
+pub mod Scalars
+pub mod Reading
+pub mod Literal
+pub mod Flow
+pub mod Blocks
+pub mod Yaml
+pub mod Begin
