@@ -1,7 +1,13 @@
 -- The characters of equal simple folding with one of a range.
 use Rattle.std.proofs.Common.{◌≡◌, ℕ, zero, suc, ◌+◌, ◌-◌, ◌≤◌, ◌<◌, Bool, true, false, ◌||◌, refl, ap, arith, ◌⊎◌, inl, inr, ⊎_elim}
 use Rattle.std.specs.List.{list_any}
-use Rattle.syntect_pattern.specs.Sets.{numbers_from, same_fold, is_alike}
+use Rattle.std.specs.Prelude.{◌&&◌, ◌==◌, nat_le, Contains, List, [], ◌∷◌}
+use Rattle.std.proofs.Common.{◌≢◌, sym, ◌∙◌, subst, eqb-true, eq-eqb, leb-true}
+use Rattle.std.proofs.lemmas.Bool.{and_parts}
+use Rattle.std.proofs.lemmas.Bool.Decides.{nat_tests}
+use Rattle.std.specs.Cmp.{both_ways as same_tests}
+use Rattle.ucd_case.specs.CaseFolding.{simple_fold, IsFoldPairs}
+use Rattle.syntect_pattern.specs.Sets.{numbers_from, same_fold, is_within, is_alike}
 
 or_true : (a b : Bool) → (a ≡ false → b ≡ true) → (a || b) ≡ true
 or_true true b f = refl
@@ -35,3 +41,63 @@ pub alike_to : (low high c : ℕ) → is_alike low high c ≡ true → (d : ℕ)
 unfolding is_alike
 alike_to low high c e =
     let r = some_from (λ x. same_fold x c) low (suc high - low) e in (r.0, r.1, omega (arith, r.1, r.2), r.3)
+
+-- -- By the pairs of characters with equal folding
+
+-- the pair is one of the character and of another in the range
+abbrev pub joins : ℕ → ℕ → ℕ → ℕ × ℕ → Bool
+joins low high c p = (p.0 == c) && is_within low high p.1
+
+any_contains : (test : ℕ × ℕ → Bool) (ps : List (ℕ × ℕ)) (x : ℕ × ℕ) → Contains ps x → test x ≡ true → list_any test ps ≡ true
+any_contains test [] x (k, lt, at) e = absurd (omega arith)
+any_contains test (p ∷ ps) x (zero, lt, at) e = let head : test p ≡ true = ap test at ∙ e in or_true (test p) _ (λ no. absurd (cc))
+any_contains test (p ∷ ps) x (suc k, lt, at) e = or_true (test p) _ (λ no. any_contains test ps x (k, omega arith, at) e)
+
+some_contains : (test : ℕ × ℕ → Bool) (ps : List (ℕ × ℕ)) → list_any test ps ≡ true → (x : ℕ × ℕ) × Contains ps x × (test x ≡ true)
+some_contains test [] e = cc
+some_contains test (p ∷ ps) e =
+    ⊎_elim (λ q. (p, (zero, omega arith, refl), q))
+    (λ q. let r = some_contains test ps q in let at = r.1 in (r.0, (suc at.0, omega (arith, at.1), at.2), r.2))
+    (or_cases (test p) (list_any test ps) e)
+
+outside_of : (low high c : ℕ) → is_within low high c ≡ false → low ≤ c → c ≤ high → ⊥
+outside_of low high c e a b = grind (arith, nat_tests)
+
+inside_of : (low high c : ℕ) → is_within low high c ≡ true → (low ≤ c) × (c ≤ high)
+inside_of low high c e = let p = and_parts (nat_le low c) (nat_le c high) e in (leb-true low c p.0, leb-true c high p.1)
+
+pub alike_within : (low high c : ℕ) → is_within low high c ≡ true → is_alike low high c ≡ true
+unfolding same_fold
+alike_within low high c e = let w = inside_of low high c e in alike_from low high c c w.0 w.1 (eq-eqb (simple_fold c) (simple_fold c) refl)
+
+joins_true : (low high c a b : ℕ) → a ≡ c → low ≤ b → b ≤ high → joins low high c (a, b) ≡ true
+joins_true low high c a b e h k = grind (arith, nat_tests)
+
+module _ (low high c : ℕ) (outside : is_within low high c ≡ false) (ps : List (ℕ × ℕ)) (are : IsFoldPairs ps) where
+  pair_alike : (x : ℕ × ℕ) → Contains ps x → joins low high c x ≡ true → is_alike low high c ≡ true
+  unfolding same_fold
+  pair_alike x at e =
+      let p = and_parts (x.0 == c) (is_within low high x.1) e in
+      let w = inside_of low high x.1 p.1 in
+      let equal = ((are x.0 x.1).0 at).1 in
+      alike_from low high c x.1 w.0 w.1 (eq-eqb (simple_fold x.1) (simple_fold c) (sym equal ∙ ap simple_fold (eqb-true x.0 c p.0)))
+
+  alike_pair : (d : ℕ) → low ≤ d → d ≤ high → same_fold d c ≡ true → list_any (joins low high c) ps ≡ true
+  unfolding same_fold
+  alike_pair d a b e =
+      let other : c ≢ d = λ q. outside_of low high c outside (subst (λ x. low ≤ x) (sym q) a) (subst (λ x. x ≤ high) (sym q) b) in
+      any_contains (joins low high c) ps (c, d) ((are c d).1 (other, sym (eqb-true (simple_fold d) (simple_fold c) e))) (joins_true low high c c d refl a b)
+
+  pub alike_outside : list_any (joins low high c) ps ≡ is_alike low high c
+  alike_outside =
+      same_tests (list_any (joins low high c) ps) (is_alike low high c)
+      (λ e. let r = some_contains (joins low high c) ps e in pair_alike r.0 r.1 r.2)
+      (λ e. let r = alike_to low high c e in alike_pair r.0 r.1 r.2 r.3)
+
+-- a character alone
+pub alike_one : (low c : ℕ) → same_fold low c ≡ is_alike low low c
+unfolding is_alike
+alike_one low c =
+    let one : suc low - low ≡ 1 = omega arith in
+    let last : (b : Bool) → b ≡ (b || false) = λ b. elim b as (λ x. x ≡ (x || false)) [ true ↦ refl | false ↦ refl ] in
+    last (same_fold low c) ∙ sym (ap (λ n. list_any (λ d. same_fold d c) (numbers_from low n)) one)

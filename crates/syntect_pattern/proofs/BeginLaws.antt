@@ -1,23 +1,53 @@
 -- Where no match can begin.
-use Rattle.std.proofs.Common.{◌≡◌, ◌<◌, ◌≤◌, ℕ, Bool, true, false, List, length, get_or, sym, ◌∙◌, subst, Option, Some, None}
-use Rattle.syntect_pattern.specs.Trees.{Tree}
-use Rattle.syntect_pattern.specs.Starts.{Starts, AreStarts}
+use Rattle.std.proofs.Common.{◌≡◌, ◌<◌, ◌≤◌, ◌||◌, ℕ, Bool, true, false, List, length, get_or, sym, ◌∙◌, ap, subst, arith, Option, Some, None, inl, inr, min, below_more, length-append, [], ◌∷◌, ◌++◌}
+use Rattle.std.specs.Prelude.{if◌then◌else◌, nat_lt}
+use Rattle.std.proofs.lemmas.Bool.{lt-ltb, le-ltb, cases_lt}
+use Rattle.std.proofs.Math.ListN.{get_or-append}
+use Rattle.std.proofs.Math.Seq.{get_or-append_seam}
+use Rattle.syntect_pattern.specs.Trees.{Tree, nothing}
+use Rattle.syntect_pattern.specs.Starts.{start_at, Starts, AreStarts, Begin, begins_of, reads, stays}
+use Rattle.syntect_pattern.specs.declared.starts.Begins.{Begins}
 use Rattle.syntect_pattern.specs.Program.{CannotBegin}
 use Rattle.syntect_pattern.specs.declared.program.Program.{Program}
-use Rattle.syntect_pattern.proofs.StartLaws.{at_end, another, found_at-nothing, char_at-past, char_at-ascii}
+use Rattle.syntect_pattern.proofs.StartLaws.{found_at-nothing}
 
 starts-of : (o : Option (List Bool)) (flags : List Bool) (tree : Tree) → o ≡ Some flags → Starts o tree → AreStarts flags tree
 starts-of None flags tree e h = cc
 starts-of (Some f) flags tree e h = let same : f ≡ flags = cc in let P : List Bool → Type 0 = λ x. AreStarts x tree in subst P same h
 
--- past the end
-pub cannot_begin-past : (s : List ℕ) (p : Program) (i : ℕ) (flags : List Bool) → p.starts ≡ Some flags → length s ≤ i → CannotBegin s p i
-cannot_begin-past s p i flags e h tree is =
+-- the flag of what stands at the place tells
+pub cannot_begin : (s : List ℕ) (p : Program) (i x : ℕ) (flags : List Bool) → p.starts ≡ Some flags → start_at s i ≡ x → x < 130 → get_or flags x true ≡ false → CannotBegin s p i
+cannot_begin s p i x flags e h l f tree is =
     let starts = starts-of p.starts flags tree e is.starts in
-    found_at-nothing s i starts.set (at_end (char_at-past s i h)) tree starts.first
+    found_at-nothing s tree i (ap (λ y. reads tree y || stays tree y) h ∙ sym (starts x l) ∙ f)
 
--- at a character that is not flagged
-pub cannot_begin-at : (s : List ℕ) (p : Program) (i : ℕ) (flags : List Bool) → p.starts ≡ Some flags → i < length s → get_or s i 0 < 128 → get_or flags (get_or s i 0) true ≡ false → CannotBegin s p i
-cannot_begin-at s p i flags e h l f tree is =
-    let starts = starts-of p.starts flags tree e is.starts in
-    found_at-nothing s i starts.set (another (get_or s i 0) (char_at-ascii s i h l) (sym (starts.flagged (get_or s i 0) l) ∙ f)) tree starts.first
+-- what stands at the place
+pub start-past : (s : List ℕ) (i : ℕ) → length s ≤ i → start_at s i ≡ 129
+unfolding start_at
+start-past s i h = ap (λ b. if b then (if nat_lt (get_or s i 0) 128 then get_or s i 0 else 128) else 129) (le-ltb i (length s) h)
+
+pub start-ascii : (s : List ℕ) (i : ℕ) → i < length s → get_or s i 0 < 128 → start_at s i ≡ get_or s i 0
+unfolding start_at
+start-ascii s i h l =
+    ap (λ b. if b then (if nat_lt (get_or s i 0) 128 then get_or s i 0 else 128) else 129) (lt-ltb i (length s) h)
+    ∙ ap (λ b. if b then get_or s i 0 else 128) (lt-ltb (get_or s i 0) 128 l)
+
+pub start-wide : (s : List ℕ) (i : ℕ) → i < length s → 128 ≤ get_or s i 0 → start_at s i ≡ 128
+unfolding start_at
+start-wide s i h l =
+    ap (λ b. if b then (if nat_lt (get_or s i 0) 128 then get_or s i 0 else 128) else 129) (lt-ltb i (length s) h)
+    ∙ ap (λ b. if b then get_or s i 0 else 128) (le-ltb (get_or s i 0) 128 l)
+
+-- the flag of a byte tells
+pub cannot_begin-at : (s : List ℕ) (p : Program) (i m : ℕ) (flags : List Bool) → p.starts ≡ Some flags → i < length s → m ≡ min (get_or s i 0) 128 → get_or flags m true ≡ false → CannotBegin s p i
+cannot_begin-at s p i m flags e h is f = elim (cases_lt (get_or s i 0) 128) [
+  | inl l ↦ cannot_begin s p i m flags e (start-ascii s i h l ∙ (let b : get_or s i 0 ≡ m = omega (arith, is) in b)) (omega (arith, is)) f
+  | inr g ↦ cannot_begin s p i m flags e (start-wide s i h g ∙ (let b : 128 ≡ m = omega (arith, is) in b)) (omega (arith, is)) f
+]
+
+-- one more node's beginning
+pub Begin-push : (x : ℕ) (bs : List Begins) (ts : List Tree) (b : Begins) (k : ℕ) → Begin x bs ts → length bs ≡ k → b ≡ begins_of x (get_or ts k nothing) → Begin x (bs ++ b ∷ []) ts
+Begin-push x bs ts b k h e is j d l =
+    below_more (λ n. (c : Begins) → get_or (bs ++ b ∷ []) n c ≡ begins_of x (get_or ts n nothing)) (length bs)
+    (λ n p c. get_or-append bs (b ∷ []) c n p ∙ h n c p)
+    (λ c. get_or-append_seam bs b [] c ∙ is ∙ ap (λ n. begins_of x (get_or ts n nothing)) (sym e)) j (omega (arith, length-append bs (b ∷ []))) d

@@ -12,7 +12,7 @@ use Rattle.syntect_pattern.proofs.LeftLaws.{Within, within-none, within-some, wi
 use Rattle.syntect_pattern.proofs.ClassLaws.{bind-same, class-le}
 
 -- what a step leaves, where one that goes on must have read something
-abbrev step_size : Step → ℕ
+abbrev pub step_size : Step → ℕ
 step_size (over p) = length p.text
 step_size (on b p) = suc (length p.text)
 
@@ -69,7 +69,7 @@ module _ (known : Option Names) where
     step_of-le depth b flags names [] = within-some step_size 0 _ (omega arith)
     step_of-le depth b flags names (c ∷ t) = step-le depth b flags names c t (next_char (c ∷ t) c)
 
-    step_at-le : (depth : ℕ) (b : Body) (p : Place) → Within step_size (length p.text) (step known inner depth b p (next_of p.text))
+    pub step_at-le : (depth : ℕ) (b : Body) (p : Place) → Within step_size (length p.text) (step known inner depth b p (next_of p.text))
     step_at-le depth b p = step_of-le depth b p.flags p.names p.text
 
   after-le : (more : Body → Place → Option (Tree × Place)) (n : ℕ) (b : Body) (s : Step) → ((b' : Body) (q : Place) → Within left_place (length q.text) (more b' q)) → step_size s ≤ n
@@ -77,7 +77,7 @@ module _ (known : Option Names) where
   after-le more n b (over p) e h = within-some left_place n (tree_of_body b, p) h
   after-le more n b (on b' p) e h = within-more left_place (length p.text) n (more b' p) (omega arith) (e b' p)
 
-  body-le : (n depth : ℕ) (b : Body) (p : Place) → Within left_place (length p.text) (body known n depth b p)
+  pub body-le : (n depth : ℕ) (b : Body) (p : Place) → Within left_place (length p.text) (body known n depth b p)
   unfolding body
   body-le zero depth b p = within-none left_place (length p.text)
   body-le (suc n) depth b p =
@@ -111,13 +111,13 @@ module _ (known : Option Names) where
   step-same inner inner' depth b flags names c t dollar e = refl
   step-same inner inner' depth b flags names c t (plain d) e = refl
 
-  step_of-same : (inner inner' : Place → Option (Tree × Place)) (depth : ℕ) (b : Body) (flags : Flags) (names : Names) (t : Text)
+  pub step_of-same : (inner inner' : Place → Option (Tree × Place)) (depth : ℕ) (b : Body) (flags : Flags) (names : Names) (t : Text)
       → ((q : Place) → length q.text < length t → inner q ≡ inner' q)
       → step known inner depth b (record { flags = flags; names = names; text = t }) (next_of t) ≡ step known inner' depth b (record { flags = flags; names = names; text = t }) (next_of t)
   step_of-same inner inner' depth b flags names [] e = refl
   step_of-same inner inner' depth b flags names (c ∷ t) e = step-same inner inner' depth b flags names c t (next_char (c ∷ t) c) (λ q l. e q (omega arith))
 
-  after-same : (more more' : Body → Place → Option (Tree × Place)) (n : ℕ) (b : Body) (s : Step) → ((b' : Body) (q : Place) → length q.text < n → more b' q ≡ more' b' q) → step_size s ≤ n
+  pub after-same : (more more' : Body → Place → Option (Tree × Place)) (n : ℕ) (b : Body) (s : Step) → ((b' : Body) (q : Place) → length q.text < n → more b' q ≡ more' b' q) → step_size s ≤ n
       → after_step known more b s ≡ after_step known more' b s
   after-same more more' n b (over p) e h = refl
   after-same more more' n b (on b' p) e h = e b' p (omega arith)

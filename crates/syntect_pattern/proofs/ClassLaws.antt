@@ -32,7 +32,7 @@ module _ (fold : Bool) where
     step-le c x t posix = adds-le c (length t) (posix_item fold (x ∷ t)) (posix_item-le fold (x ∷ t))
     step-le c x t plain = adds-le c (length t) (plain_item fold (x ∷ t)) (plain_item-le fold (x ∷ t))
 
-    step_at-le : (c : Class) (t : Text) → Within step_size (length t) (step fold inner c t (next_in t))
+    pub step_at-le : (c : Class) (t : Text) → Within step_size (length t) (step fold inner c t (next_in t))
     unfolding next_in posix_form plain_item member first
     step_at-le c [] = within-none step_size 0
     step_at-le c (x ∷ t) = step-le c x t (next_in (x ∷ t))
@@ -45,7 +45,7 @@ module _ (fold : Bool) where
   step-same inner inner' c x t posix e = refl
   step-same inner inner' c x t plain e = refl
 
-  step_at-same : (inner inner' : Text → Option (Set × Text)) (c : Class) (t : Text) → ((u : Text) → length u < length t → inner u ≡ inner' u)
+  pub step_at-same : (inner inner' : Text → Option (Set × Text)) (c : Class) (t : Text) → ((u : Text) → length u < length t → inner u ≡ inner' u)
       → step fold inner c t (next_in t) ≡ step fold inner' c t (next_in t)
   unfolding next_in posix_form
   step_at-same inner inner' c [] e = refl
@@ -108,7 +108,7 @@ module _ (fold : Bool) where
   after-same more more' c (over rest) n e l = refl
   after-same more more' c (on c' rest) n e l = e c' rest l
 
-  opened-same : (more more' : ℕ → Class → Text → Option (Set × Text)) (depth : ℕ) (t : Text) → ((d : ℕ) (c : Class) (u : Text) → length u ≤ length t → more d c u ≡ more' d c u)
+  pub opened-same : (more more' : ℕ → Class → Text → Option (Set × Text)) (depth : ℕ) (t : Text) → ((d : ℕ) (c : Class) (u : Text) → length u ≤ length t → more d c u ≡ more' d c u)
       → opened fold more depth t ≡ opened fold more' depth t
   opened-same more more' depth t e =
       let start = start_of t in
@@ -118,7 +118,7 @@ module _ (fold : Bool) where
       let k = start-le t in
       ap (negates fold start.caret) (after-same (more (depth + 1)) (more' (depth + 1)) empty_class s (length t) (e (depth + 1)) (omega arith))))
 
-  on_less : (s : Step) (n : ℕ) → step_size s ≤ n → (more more' : Class → Text → Option (Set × Text)) (c : Class)
+  pub on_less : (s : Step) (n : ℕ) → step_size s ≤ n → (more more' : Class → Text → Option (Set × Text)) (c : Class)
       → ((c' : Class) (u : Text) → length u < n → more c' u ≡ more' c' u) → after_step fold more c s ≡ after_step fold more' c s
   on_less (over rest) n l more more' c e = refl
   on_less (on c' rest) n l more more' c e = e c' rest (omega arith)

@@ -367,3 +367,19 @@ numbers_groups text tree q = (reads text).fits tree q
         gives-bind _ (whole None text) _ (λ x u.
         gives-bind _ (whole (Some x.1) text) _ (λ y v.
         gives-some _ y.0 ((numbers-whole (Some x.1) text).fits y v)))
+
+-- there are as many groups as were opened
+counts-whole : (known : Option Names) (text : Text) → Gives (λ x. group_count x.0 ≡ length x.1) (whole known text)
+unfolding whole
+counts-whole known text =
+    let start : Place = record { flags = record { fold = false; any = false; spaced = false }; names = []; text = text } in
+    gives-bind _ (body known (suc (length text)) 0 empty_body start) _ (λ x u.
+    let r = (body-reads known (suc (length text)) 0 empty_body start).fits x u in
+    let e : numbers x.0 ≡ numbers_from 1 r.adds.count = r.are ∙ r.adds.are in
+    let k : group_count x.0 ≡ r.adds.count = sym (length-numbers x.0) ∙ ap length e ∙ length-from 1 r.adds.count in
+    let n : length x.1.names ≡ 0 + r.adds.count = r.adds.names in
+    let same : group_count x.0 ≡ length x.1.names = omega arith in
+    gives-guard _ (is_empty x.1.text) (Some (x.0, x.1.names)) (gives-some _ (x.0, x.1.names) same))
+
+pub counts_groups : (known : Option Names) (text : Text) (tree : Tree) (names : Names) → whole known text ≡ Some (tree, names) → group_count tree ≡ length names
+counts_groups known text tree names e = (counts-whole known text).fits (tree, names) e

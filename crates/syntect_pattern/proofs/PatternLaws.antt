@@ -3,7 +3,7 @@ use Rattle.std.proofs.Common.{◌≡◌, ℕ, List, refl, Option, Some, None}
 use Rattle.std.specs.Prelude.{IsUtf8, option_and_then}
 use Rattle.syntect_pattern.specs.Trees.{Tree}
 use Rattle.syntect_pattern.specs.Matches.{Groups, found}
-use Rattle.syntect_pattern.specs.Simple.{pattern_tree}
+use Rattle.syntect_pattern.specs.Pattern.{pattern_tree}
 use Rattle.syntect_pattern.specs.Found.{IsPatternMatch, FindsPatternMatches}
 use Rattle.syntect_pattern.proofs.FoundLaws.{finds_matches}
 

@@ -1,33 +1,14 @@
--- Classes and tables of nodes.
-use Rattle.std.proofs.Common.{◌≡◌, ℕ, zero, suc, ◌+◌, ◌<◌, ◌||◌, Bool, true, false, List, [], ◌∷◌, ◌++◌, length, get_or, refl, sym, ◌∙◌, ap, arith, length-append, zero-add, add-zero, Option, Some, None, Bor}
+-- Tables of nodes.
+use Rattle.std.proofs.Common.{◌≡◌, ℕ, zero, suc, ◌+◌, ◌<◌, true, List, [], ◌∷◌, ◌++◌, length, get_or, refl, sym, ◌∙◌, ap, arith, length-append, zero-add, add-zero, Option, Some, None, Bor}
 use Rattle.std.specs.Prelude.{slice_get, MatchOption}
 use Rattle.std.specs.Option.{option_copied}
-use Rattle.std.specs.List.{list_any}
 use Rattle.std.proofs.Math.ListN.{get_or-append}
 use Rattle.std.proofs.Math.Seq.{get_or-append_seam}
 use Rattle.std.proofs.lemmas.List.{get_or_past}
 use Rattle.std.proofs.lemmas.Bool.Decides.{nat_tests}
-use Rattle.syntect_pattern.specs.Sets.{Set, range, either, holds, is_within}
-use Rattle.syntect_pattern.specs.Trees.{Tree, nothing, seq, alt, repeat, group}
-use Rattle.syntect_pattern.specs.Table.{with_ranges, node_tree, trees_from, trees, parts_before, IsOrdered}
-use Rattle.syntect_pattern.specs.declared.node.Range.{Range}
+use Rattle.syntect_pattern.specs.Trees.{Tree, nothing, seq, alt, repeat, group, atomic, ahead, behind}
+use Rattle.syntect_pattern.specs.Table.{node_tree, trees_from, trees, parts_before, IsOrdered}
 use Rattle.syntect_pattern.specs.declared.node.Node.{Node}
-
--- -- Classes
-
-or_assoc : (a b c : Bool) → ((a || b) || c) ≡ (a || (b || c))
-or_assoc true b c = refl
-or_assoc false b c = refl
-
-or_false : (a : Bool) → (a || false) ≡ a
-or_false true = refl
-or_false false = refl
-
-pub holds-with_ranges : (a : Set) (rs : List Range) (c : ℕ) → holds (with_ranges a rs) c ≡ (holds a c || list_any (λ (r : Range). is_within r.first r.last c) rs)
-holds-with_ranges a [] c = sym (or_false (holds a c))
-holds-with_ranges a (r ∷ rs) c =
-    holds-with_ranges (either a (range r.first r.last)) rs c
-    ∙ or_assoc (holds a c) (is_within r.first r.last c) (list_any (λ (r : Range). is_within r.first r.last c) rs)
 
 -- -- Tables
 
@@ -42,10 +23,15 @@ pub node_tree-before : (ts us : List Tree) (k : ℕ) (n : Node) → ((j : ℕ) �
 node_tree-before ts us k Node.Nothing h b = refl
 node_tree-before ts us k (Node.Char c) h b = refl
 node_tree-before ts us k (Node.Class c) h b = refl
+node_tree-before ts us k (Node.Anchor a) h b = refl
+node_tree-before ts us k (Node.Same fold n) h b = refl
 node_tree-before ts us k (Node.Sequence x y) h b = ap (λ t. seq t (get_or ts y nothing)) (h x (grind (arith, nat_tests))) ∙ ap (seq (get_or us x nothing)) (h y (grind (arith, nat_tests)))
 node_tree-before ts us k (Node.Alternation x y) h b = ap (λ t. alt t (get_or ts y nothing)) (h x (grind (arith, nat_tests))) ∙ ap (alt (get_or us x nothing)) (h y (grind (arith, nat_tests)))
 node_tree-before ts us k (Node.Repeat greedy least most x) h b = ap (repeat greedy least most) (h x (grind (arith, nat_tests)))
 node_tree-before ts us k (Node.Group n x) h b = ap (group n) (h x (grind (arith, nat_tests)))
+node_tree-before ts us k (Node.Atomic x) h b = ap atomic (h x (grind (arith, nat_tests)))
+node_tree-before ts us k (Node.Ahead negated x) h b = ap (ahead negated) (h x (grind (arith, nat_tests)))
+node_tree-before ts us k (Node.Behind negated x) h b = ap (behind negated) (h x (grind (arith, nat_tests)))
 
 pub trees-from : (ts : List Tree) (ns : List Node) → ((j : ℕ) → j < length ns → parts_before (length ts + j) (get_or ns j Node.Nothing) ≡ true)
     → (j : ℕ) → get_or (trees_from ts ns) (length ts + j) nothing ≡ node_tree (trees_from ts ns) (get_or ns j Node.Nothing)

@@ -1,9 +1,12 @@
 -- A program that stands for a text.
-use Rattle.std.specs.Prelude.{◌≡◌, ℕ, List, Option, Some, None}
+use Rattle.std.specs.Prelude.{◌≡◌, ℕ, List, Option, Some, None, option_map}
 use Rattle.syntect_pattern.specs.Trees.{Tree}
-use Rattle.syntect_pattern.specs.Simple.{pattern_tree}
+use Rattle.syntect_pattern.specs.Pattern.{pattern_tree}
 use Rattle.syntect_pattern.specs.Program.{IsProgramOf}
+use Rattle.syntect_pattern.specs.Grammar.{Names}
+use Rattle.syntect_pattern.specs.Builder.{tree_in}
 use Rattle.syntect_pattern.specs.declared.program.Program.{Program}
+use Rattle.syntect_pattern.specs.declared.reader.Reader.{Reader}
 
 -- the text is a pattern, and the program is that of its tree
 pub record IsCompiled (pattern : List ℕ) (p : Program) : Type 0 where
@@ -15,3 +18,7 @@ pub record IsCompiled (pattern : List ℕ) (p : Program) : Type 0 where
 abbrev pub Compiles : List ℕ → Option Program → Type 0
 Compiles pattern None = pattern_tree pattern ≡ None
 Compiles pattern (Some p) = IsCompiled pattern p
+
+-- the tree of a whole text and its groups
+abbrev pub whole_as : Option (Reader × ℕ) → Option (Tree × Names)
+whole_as found = option_map (λ f. (tree_in f.0.builder.nodes f.1, f.0.names)) found

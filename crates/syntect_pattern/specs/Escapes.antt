@@ -66,6 +66,13 @@ hex_escape t = if not (begins "{" t) then hex_fixed 2 t else (do
   c ← char_of (value 16 digits)
   Some (char c, drop 1 after))
 
+-- after `\k`: the name of a group in `<` and `>`
+abbrev pub name_escape : Text → Option (Escape × Text)
+name_escape t = do
+  begins "<" t
+  (found, after) ← name_in (drop 1 t)
+  Some (name found, after)
+
 -- a set, negated by a letter in upper case
 abbrev pub set_letter : ℕ → Set → Option Escape
 set_letter c found = Some (set (negate_if (is_ascii_uppercase c) found))
@@ -101,8 +108,5 @@ escape t = do
   if c ∈ "x" then hex_escape rest
       else if c ∈ "u" then hex_fixed 4 rest
       else if c ∈ "pP" then category_escape (c ∈ "P") rest
-      else if c ∈ "k" then (do
-        begins "<" rest
-        (found, after) ← name_in (drop 1 rest)
-        Some (name found, after))
+      else if c ∈ "k" then name_escape rest
       else one_letter c >>= λ e. Some (e, rest)

@@ -3,7 +3,7 @@ use Rattle.std.specs.Prelude.{◌≡◌, ℕ, List, Some, IsUtf8}
 use Rattle.syntect_pattern.specs.Trees.{Tree}
 use Rattle.syntect_pattern.specs.Matches.{Groups}
 use Rattle.syntect_pattern.specs.Nesting.{IsMatch}
-use Rattle.syntect_pattern.specs.Simple.{pattern_tree, pattern_found}
+use Rattle.syntect_pattern.specs.Pattern.{pattern_tree, pattern_found}
 
 -- a match of the pattern's tree that begins at the place or later
 pub record IsPatternMatch (pattern s : List ℕ) (from : ℕ) (g : Groups) : Type 0 where

@@ -1,25 +1,63 @@
--- The characters that a match can begin with.
-use Rattle.std.specs.Prelude.{◌≡◌, ◌<◌, ℕ, suc, Bool, true, List, Option, Some, None, slice_index_or}
+-- Where a match can begin, as far as the byte there tells.
+use Rattle.std.specs.Prelude.{◌≡◌, ◌<◌, ℕ, Bool, true, false, not, ◌&&◌, ◌||◌, ◌==◌, nat_lt, List, length, Option, Some, None, if◌then◌else◌, slice_index, slice_index_or}
 use Rattle.syntect_pattern.specs.Sets.{Set, holds}
-use Rattle.syntect_pattern.specs.Trees.{Tree, one_of, seq, repeat, group}
+use Rattle.syntect_pattern.specs.declared.starts.Begins.{Begins}
+use Rattle.syntect_pattern.specs.Trees.{Anchor, line_end, text_end, last_line_end, Tree, nothing, one_of, anchor, same, seq, alt, repeat, group, atomic, ahead, behind}
 
--- the set that each match's first character is in, for trees that always read one
-abbrev pub first_set : Tree → Option Set
-first_set (one_of a) = Some a
-first_set (seq a b) = first_set a
-first_set (repeat greedy (suc least) most a) = first_set a
-first_set (group n a) = first_set a
-first_set _ = None
+-- what stands at a place: an ASCII character, 128 for any other one, and 129 for the text's end
+unfoldable pub start_at : List ℕ → ℕ → ℕ
+start_at s i = if nat_lt i (length s) then (if nat_lt (slice_index s i) 128 then slice_index s i else 128) else 129
 
--- for each ASCII character whether it is in the set
-abbrev pub AreFlags : List Bool → Set → Type 0
-AreFlags flags a = (b : ℕ) → b < 128 → slice_index_or flags b true ≡ holds a b
+-- a character of the set can stand there
+abbrev pub can_hold : Set → ℕ → Bool
+can_hold a x = if nat_lt x 128 then holds a x else x == 128
 
--- the tree's matches begin with a character of the flagged ones or one beyond ASCII
-pub record AreStarts (flags : List Bool) (tree : Tree) : Type 0 where
-  pub set : Set
-  pub first : first_set tree ≡ Some set
-  pub flagged : AreFlags flags set
+-- the anchor can hold there
+abbrev pub can_stand : Anchor → ℕ → Bool
+can_stand line_end x = not (nat_lt x 128) || x == 0x0A
+can_stand text_end x = x == 129
+can_stand last_line_end x = not (nat_lt x 128) || x == 0x0A
+can_stand _ x = true
+
+-- whether a match can read something where this stands, and whether one can read nothing
+abbrev mutual
+  pub reads : Tree → ℕ → Bool
+  reads nothing x = false
+  reads (one_of a) x = can_hold a x
+  reads (anchor a) x = false
+  reads (same fold n) x = true
+  reads (seq a b) x = reads a x || (stays a x && reads b x)
+  reads (alt a b) x = reads a x || reads b x
+  reads (repeat greedy least most a) x = reads a x
+  reads (group n a) x = reads a x
+  reads (atomic a) x = reads a x
+  reads (ahead negated a) x = false
+  reads (behind negated a) x = false
+
+  pub stays : Tree → ℕ → Bool
+  stays nothing x = true
+  stays (one_of a) x = false
+  stays (anchor a) x = can_stand a x
+  stays (same fold n) x = true
+  stays (seq a b) x = stays a x && stays b x
+  stays (alt a b) x = stays a x || stays b x
+  stays (repeat greedy least most a) x = least == 0 || stays a x
+  stays (group n a) x = stays a x
+  stays (atomic a) x = stays a x
+  stays (ahead negated a) x = negated || (reads a x || stays a x)
+  stays (behind negated a) x = true
+
+-- the same as the code has it
+abbrev pub begins_of : ℕ → Tree → Begins
+begins_of x t = record { read = reads t x; stay = stays t x }
+
+-- so begin these trees
+abbrev pub Begin : ℕ → List Begins → List Tree → Type 0
+Begin x bs ts = (k : ℕ) (d : Begins) → k < length bs → slice_index_or bs k d ≡ begins_of x (slice_index_or ts k nothing)
+
+-- for all that can stand there whether a match can begin
+abbrev pub AreStarts : List Bool → Tree → Type 0
+AreStarts flags tree = (x : ℕ) → x < 130 → slice_index_or flags x true ≡ (reads tree x || stays tree x)
 
 -- the same, if it is known at all
 abbrev pub Starts : Option (List Bool) → Tree → Type 0

@@ -1,29 +1,40 @@
 -- The trees of a table of nodes, each of which stands behind its parts.
 use Rattle.std.specs.Prelude.{◌≡◌, ℕ, ◌<◌, Bool, true, ◌&&◌, nat_lt, List, [], ◌∷◌, ◌++◌, length, slice_index_or}
-use Rattle.syntect_pattern.specs.Sets.{Set, none, range, either, negate_if}
-use Rattle.syntect_pattern.specs.Trees.{Tree, nothing, one_of, seq, alt, repeat, group}
-use Rattle.syntect_pattern.specs.declared.node.Range.{Range}
-use Rattle.syntect_pattern.specs.declared.node.Class as declared
+use Rattle.syntect_pattern.specs.Sets.{Set, range}
+use Rattle.syntect_pattern.specs.Trees.{Anchor, line_start, line_end, text_start, text_end, last_line_end, word_edge, no_word_edge, Tree, nothing, one_of, anchor, same, seq, alt, repeat, group, atomic, ahead, behind}
+use Rattle.syntect_pattern.specs.SetTable.{set_in}
+use Rattle.syntect_pattern.specs.declared.sets.Class.{Class}
+use Rattle.syntect_pattern.specs.declared.node.Anchor as declared_anchor
 use Rattle.syntect_pattern.specs.declared.node.Node.{Node}
 
--- the set with these ranges
-abbrev pub with_ranges : Set → List Range → Set
-with_ranges a [] = a
-with_ranges a (r ∷ rs) = with_ranges (either a (range r.first r.last)) rs
-
 -- what a class holds
-abbrev pub set_of : declared.Class → Set
-set_of c = negate_if c.negated (with_ranges none c.ranges)
+abbrev pub set_of : Class → Set
+set_of c = set_in c.parts c.root
+
+-- the anchor that a node names
+abbrev pub anchor_of : declared_anchor.Anchor → Anchor
+anchor_of declared_anchor.Anchor.LineStart = line_start
+anchor_of declared_anchor.Anchor.LineEnd = line_end
+anchor_of declared_anchor.Anchor.TextStart = text_start
+anchor_of declared_anchor.Anchor.TextEnd = text_end
+anchor_of declared_anchor.Anchor.LastLineEnd = last_line_end
+anchor_of declared_anchor.Anchor.WordEdge = word_edge
+anchor_of declared_anchor.Anchor.NoWordEdge = no_word_edge
 
 -- the tree of a node, from those of the nodes before it
 abbrev pub node_tree : List Tree → Node → Tree
 node_tree before Node.Nothing = nothing
 node_tree before (Node.Char c) = one_of (range c c)
 node_tree before (Node.Class c) = one_of (set_of c)
+node_tree before (Node.Anchor a) = anchor (anchor_of a)
+node_tree before (Node.Same fold n) = same fold n
 node_tree before (Node.Sequence a b) = seq (slice_index_or before a nothing) (slice_index_or before b nothing)
 node_tree before (Node.Alternation a b) = alt (slice_index_or before a nothing) (slice_index_or before b nothing)
 node_tree before (Node.Repeat greedy least most a) = repeat greedy least most (slice_index_or before a nothing)
 node_tree before (Node.Group n a) = group n (slice_index_or before a nothing)
+node_tree before (Node.Atomic a) = atomic (slice_index_or before a nothing)
+node_tree before (Node.Ahead negated a) = ahead negated (slice_index_or before a nothing)
+node_tree before (Node.Behind negated a) = behind negated (slice_index_or before a nothing)
 
 abbrev pub trees_from : List Tree → List Node → List Tree
 trees_from before [] = before
@@ -38,10 +49,15 @@ abbrev pub parts_before : ℕ → Node → Bool
 parts_before k Node.Nothing = true
 parts_before k (Node.Char c) = true
 parts_before k (Node.Class c) = true
+parts_before k (Node.Anchor a) = true
+parts_before k (Node.Same fold n) = true
 parts_before k (Node.Sequence a b) = nat_lt a k && nat_lt b k
 parts_before k (Node.Alternation a b) = nat_lt a k && nat_lt b k
 parts_before k (Node.Repeat greedy least most a) = nat_lt a k
 parts_before k (Node.Group n a) = nat_lt a k
+parts_before k (Node.Atomic a) = nat_lt a k
+parts_before k (Node.Ahead negated a) = nat_lt a k
+parts_before k (Node.Behind negated a) = nat_lt a k
 
 -- each node stands behind its parts
 abbrev pub IsOrdered : List Node → Type 0

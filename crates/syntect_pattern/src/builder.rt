@@ -1,8 +1,10 @@
-//! The making of a program from the items of a pattern.
+//! The making of a program's table of nodes.
 ghost use Rattle.syntect_pattern.specs.Table.{IsOrdered};
 
+use crate::classes::SetBuilder;
+use crate::members::Leaf;
 use crate::node::Node;
-use crate::reader::{Item, Leaf};
+use crate::sets::Class;
 use crate::starts::starts;
 use std::alloc::{AllocError, Global};
 use syntect_values::seq::Seq;
@@ -14,13 +16,23 @@ pub struct Builder {
     pub ghost ordered: { IsOrdered nodes },
 }
 
+/// How parts are put together.
+#[derive(Clone, Copy)]
+pub enum Join {
+    Sequence,
+    Alternation,
+}
+
 impl Builder {
-    ghost use Rattle.std.specs.Prelude.{◌≡◌, ◌<◌, IfOk, OnOk, IfSome, List, ◌∷◌, Some, None, Option, ℕ, length, true};
-    ghost use Rattle.syntect_pattern.specs.Trees.{Tree, repeat, seq_all};
+    ghost use Rattle.std.specs.Prelude.{◌≡◌, ◌<◌, IfOk, OnOk, length, true};
+    ghost use Rattle.syntect_pattern.specs.Sets.{from_to};
+    ghost use Rattle.syntect_pattern.specs.SetTable.{set_in};
+    ghost use Rattle.syntect_pattern.specs.MemberViews.{leaf_set};
+    ghost use Rattle.syntect_pattern.specs.Trees.{one_of};
     ghost use Rattle.syntect_pattern.specs.Table.{node_tree, parts_before, trees};
-    ghost use Rattle.syntect_pattern.specs.Reader.{item_tree, leaf_tree};
     ghost use Rattle.syntect_pattern.specs.Starts.{Starts};
-    ghost use Rattle.syntect_pattern.specs.Builder.{Grows, Holds, IsSequence, tree_in};
+    ghost use Rattle.syntect_pattern.specs.Builder.{Grows, Holds, tree_in};
+    ghost use Rattle.syntect_pattern.specs.JoinViews.{AllBelow, trees_in, joined, chained};
 
     /// Puts a node last.
     pub fn push(&mut self, node: Node) -> Result<usize, AllocError>
@@ -33,49 +45,69 @@ impl Builder {
         Ok(place)
     }
 
-    /// Puts the node of an item last.
-    fn push_item(&mut self, item: Item) -> Result<usize, AllocError>
+    /// Puts two parts together.
+    fn join(&mut self, join: Join, first: usize, second: usize) -> Result<usize, AllocError>
+        requires first { first < length self.old.nodes }
+        requires second { second < length self.old.nodes }
         ensures grows { OnOk result (Grows self.old.nodes self.new.nodes) }
-        ensures holds { IfOk result (λ k. Holds self.new.nodes k (item_tree item)) }
+        ensures holds { IfOk result (λ k. Holds self.new.nodes k (joined join (tree_in self.old.nodes first) (tree_in self.old.nodes second))) }
     {
-        let Item { leaf, plus } = item;
-        let body = match leaf {
-            Leaf::Char(c) => self.push(Node::Char(c))?,
-            Leaf::Class(class) => self.push(Node::Class(class))?,
+        match join {
+            Join::Sequence => self.push(Node::Sequence(first, second)),
+            Join::Alternation => self.push(Node::Alternation(first, second)),
+        }
+    }
+
+    /// Puts all parts together, one of which is reached after the other.
+    pub fn chain(&mut self, join: Join, parts: Seq<usize>) -> Result<usize, AllocError>
+        requires { AllBelow (length self.old.nodes) parts }
+        ensures grows { OnOk result (Grows self.old.nodes self.new.nodes) }
+        ensures holds { IfOk result (λ k. Holds self.new.nodes k (chained join (trees_in self.old.nodes parts))) }
+    {
+        let mut parts = parts;
+        let Some(last) = parts.pop() else {
+            return self.push(Node::Nothing);
         };
-        if !plus {
-            return Ok(body);
+        let mut rest = last;
+        while let Some(part) = parts.pop() {
+            rest = self.join(join, part, rest)?;
         }
-        self.push(Node::Repeat {
-            greedy: true,
-            least: 1,
-            most: None,
-            body,
-        })
+        Ok(rest)
     }
 
-    /// Puts an item before those that have their node already.
-    pub fn push_before(&mut self, item: Item, rest: Option<usize>) -> Result<usize, AllocError>
-        requires { IfSome rest (λ k. k < length self.old.nodes) }
-        ensures inside { IfOk result (λ k. k < length self.new.nodes) }
-        ensures sequence { (behind : List Tree) → IsSequence self.old.nodes rest behind → IfOk result (λ k. IsSequence self.new.nodes (Some k) (item_tree item ∷ behind)) }
+    /// Puts a class last.
+    pub fn push_class(&mut self, sets: SetBuilder, root: usize) -> Result<usize, AllocError>
+        ensures grows { OnOk result (Grows self.old.nodes self.new.nodes) }
+        ensures holds { IfOk result (λ k. Holds self.new.nodes k (one_of (set_in sets.parts root))) }
     {
-        let first = self.push_item(item)?;
-        match rest {
-            Some(second) => self.push(Node::Sequence(first, second)),
-            None => Ok(first),
-        }
+        let alloc = self.nodes.allocator();
+        let class = Class::new(alloc, sets.parts, root)?;
+        self.push(Node::Class(class))
     }
 
-    /// The node of a sequence, perhaps of no items.
-    pub fn sequence(&mut self, rest: Option<usize>) -> Result<usize, AllocError>
-        requires { IfSome rest (λ k. k < length self.old.nodes) }
-        ensures inside { IfOk result (λ k. k < length self.new.nodes) }
-        ensures sequence { (behind : List Tree) → IsSequence self.old.nodes rest behind → IfOk result (λ k. tree_in self.new.nodes k ≡ seq_all behind) }
+    /// Puts a set of characters last.
+    pub fn push_leaf(&mut self, leaf: Leaf) -> Result<usize, AllocError>
+        ensures grows { OnOk result (Grows self.old.nodes self.new.nodes) }
+        ensures holds { IfOk result (λ k. Holds self.new.nodes k (one_of (leaf_set leaf))) }
     {
-        match rest {
-            Some(body) => Ok(body),
-            None => self.push(Node::Nothing),
+        let mut sets = SetBuilder::new(self.nodes.allocator());
+        let root = sets.push_leaf(leaf)?;
+        self.push_class(sets, root)
+    }
+
+    /// Puts a character last, with `fold` all of equal simple folding.
+    pub fn push_char(&mut self, fold: bool, c: char) -> Result<usize, AllocError>
+        ensures grows { OnOk result (Grows self.old.nodes self.new.nodes) }
+        ensures holds { IfOk result (λ k. Holds self.new.nodes k (one_of (from_to fold c c))) }
+    {
+        if fold {
+            self.push_leaf(Leaf::Span {
+                fold,
+                low: c,
+                high: c,
+            })
+        } else {
+            self.push(Node::Char(c))
         }
     }
 

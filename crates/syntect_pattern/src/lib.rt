@@ -6,11 +6,25 @@ ghost use Rattle.syntect_pattern.specs.Grammar.{ReadsEnough, NumbersGroups};
 ghost use Rattle.syntect_pattern.specs.Nesting.{FindsMatches, TurnsEnough};
 
 mod builder;
+pub mod character;
+mod classes;
 pub mod compiler;
+mod escapes;
+mod looks;
+mod members;
+mod names;
 pub mod node;
+mod openings;
 pub mod program;
+mod quantifiers;
 mod reader;
+pub mod sets;
 mod starts;
+pub mod table;
+#[cfg(test)]
+mod tests;
+mod text;
+mod tokens;
 
 /// The law of every search: but for groups in lookarounds, each group lies in the match and between characters, and two
 /// groups lie apart or one in the other.

@@ -1,42 +1,20 @@
 //! The tree of a pattern as a table of nodes, each of which stands behind its parts.
-ghost use Rattle.std.specs.Prelude.{◌≡◌};
-ghost use Rattle.std.specs.List.{list_any};
-ghost use Rattle.syntect_pattern.specs.Sets.{holds, is_within};
-ghost use Rattle.syntect_pattern.specs.Table.{set_of};
+pub use crate::sets::Class;
 
-use syntect_values::seq::Seq;
-
-/// Characters from the first to the last, both included.
+/// A place where nothing is read.
 #[derive(Clone, Copy, Debug, PartialEq, Eq)]
-pub struct Range {
-    pub first: char,
-    pub last: char,
-}
-
-/// A class in brackets: the characters of its ranges, or with `negated` all others.
-#[derive(Debug, Drop)]
-pub struct Class {
-    pub negated: bool,
-    pub ranges: Seq<Range>,
-}
-
-impl Class {
-    /// Whether the character is in the class.
-    pub fn holds(&self, c: char) -> bool
-        ensures { result ≡ holds (set_of self.now) c }
-    {
-        let is_listed = lists(self.ranges.as_slice(), c);
-        if self.negated { !is_listed } else { is_listed }
-    }
-}
-
-/// Whether the character is in one of the ranges.
-fn lists(ranges: &[Range], c: char) -> bool
-    ensures { result ≡ list_any (λ r. is_within r.first r.last c) ranges.now }
-{
-    ranges
-        .iter()
-        .any(|range| range.first <= c && c <= range.last)
+pub enum Anchor {
+    /// The text's start, and behind a newline that isn't last.
+    LineStart,
+    /// The text's end, and before a newline.
+    LineEnd,
+    TextStart,
+    TextEnd,
+    /// The text's end, and before a newline that is last.
+    LastLineEnd,
+    /// Between a character of a word and one of none, or an edge.
+    WordEdge,
+    NoWordEdge,
 }
 
 /// A node of a tree. A part is given by its place in the table.
@@ -48,6 +26,13 @@ pub enum Node {
     Char(char),
     /// One character of the class.
     Class(Class),
+    /// Reads nothing, where the anchor holds.
+    Anchor(Anchor),
+    /// The text of the group again, with `fold` by simple folding.
+    Same {
+        fold: bool,
+        group: usize,
+    },
     /// One part after the other.
     Sequence(usize, usize),
     /// One of two parts, of which the first is preferred.
@@ -62,6 +47,18 @@ pub enum Node {
     /// The group with the number.
     Group {
         number: usize,
+        body: usize,
+    },
+    /// The part's first match alone.
+    Atomic(usize),
+    /// Reads nothing, where the part matches from here on, or with `negated` doesn't.
+    Ahead {
+        negated: bool,
+        body: usize,
+    },
+    /// Reads nothing, where the part matches up to here, or with `negated` doesn't.
+    Behind {
+        negated: bool,
         body: usize,
     },
 }

@@ -1,222 +1,517 @@
-//! The reading of a pattern, of which a part is read for now: characters and classes, each perhaps with a `+`.
-ghost use Rattle.std.specs.Prelude.{◌≡◌, ◌++◌, ◌∷◌, [], List, IfOk, OnOk, Some, None, map, option_map, if◌then◌else◌};
-ghost use Rattle.syntect_pattern.specs.Sets.{none};
-ghost use Rattle.syntect_pattern.specs.Trees.{Tree};
-ghost use Rattle.syntect_pattern.specs.Table.{with_ranges};
-ghost use Rattle.syntect_pattern.specs.Simple as simple;
-ghost use Rattle.syntect_pattern.specs.Reader.{item_tree, stage_of, staged};
+//! The reading of a pattern.
+ghost use Rattle.std.specs.Prelude.{◌≡◌, ◌<◌, ◌+◌, [], ℕ, Option, Some, length, option_map, IfOk, OnOk, IfSome};
+ghost use Rattle.syntect_pattern.specs.Builder.{Grows, Holds, tree_in};
+ghost use Rattle.syntect_pattern.specs.BodyViews.{body_of};
+ghost use Rattle.syntect_pattern.specs.OpeningViews.{place_as, wrapped};
+ghost use Rattle.syntect_pattern.specs.TokenViews.{token_as, looped_tree};
+ghost use Rattle.syntect_pattern.specs.EscapeViews.{escape_of};
+ghost use Rattle.syntect_pattern.specs.MemberViews.{leaf_set};
+ghost use Rattle.syntect_pattern.specs.Trees.{one_of, anchor};
+ghost use Rattle.syntect_pattern.specs.Sets.{from_to};
+ghost use Rattle.syntect_pattern.specs.SetTable.{set_in};
+ghost use Rattle.syntect_pattern.specs.Table.{anchor_of};
+ghost use Rattle.syntect_pattern.specs.Escapes as definition;
+ghost use Rattle.syntect_pattern.specs.Grammar as grammar;
 
-use crate::node::{Class, Range};
+use crate::builder::{Builder, Join};
+use crate::classes::{DEEPEST, SetBuilder};
+use crate::escapes::{Escape, read_escape};
+use crate::members::Leaf;
+use crate::node::{Anchor, Node};
+use crate::openings::{Names, Opening, Place, Wrap, forward, number_of, read_opening};
+use crate::quantifiers::pass;
+use crate::text::after;
+use crate::tokens::{Looping, Token, next_token, read_looping};
 use std::alloc::{AllocError, Global};
 use syntect_values::seq::Seq;
 
-/// What reads one character.
+/// What is read of a group: the alternatives before this one, and the items of this one.
 #[derive(Drop)]
-pub enum Leaf {
-    Char(char),
-    Class(Class),
+pub struct Body {
+    before: Seq<usize>,
+    items: Seq<usize>,
 }
 
-/// An item, which a `+` may follow.
+/// A pattern that is being read.
 #[derive(Drop)]
-pub struct Item {
-    pub leaf: Leaf,
-    pub plus: bool,
+pub struct Reader {
+    pub builder: Builder,
+    pub names: Names,
 }
 
-/// What is read up to a place, where a pattern goes on.
-#[derive(Drop)]
-pub enum Stage {
-    /// Nothing that a `+` could follow.
-    Fresh,
-    /// An item without its `+`.
-    Held(Leaf),
-    /// A class of which perhaps `^` is read.
-    Opened(bool),
-    /// A class without its last character, which could begin a range.
-    Listing(Class, char),
-    /// A class where no range can begin.
-    Listed(Class),
-    /// A class behind this character and `-`.
-    Ranging(Class, char),
-}
+impl Reader {
+    ghost use Rattle.syntect_pattern.specs.ReaderViews.{body_as, IsBodyIn, went_on, tree_as};
 
-/// The character is itself outside classes.
-#[tactic(auto, unfolding(crate::specs::Simple::is_literal))]
-fn is_literal(c: char) -> bool
-    ensures { result ≡ simple.is_literal c }
-{
-    !matches!(
-        c,
-        '\\' | '.' | '+' | '*' | '?' | '(' | ')' | '|' | '[' | ']' | '{' | '}' | '^' | '$'
-    )
-}
-
-/// The character is itself in a class.
-#[tactic(auto, unfolding(crate::specs::Simple::is_listed))]
-fn is_listed(c: char) -> bool
-    ensures { result ≡ simple.is_listed c }
-{
-    c.is_ascii_alphanumeric() || c == ' '
-}
-
-/// An item begins.
-fn begin(c: char) -> Option<Stage>
-    ensures { (done : List Tree) → simple.begin done c ≡ staged done result }
-{
-    if c == '[' {
-        Some(Stage::Opened(false))
-    } else if is_literal(c) {
-        Some(Stage::Held(Leaf::Char(c)))
-    } else {
-        None
+    /// Nothing read. Takes no memory.
+    pub fn new(alloc: Global) -> Reader
+        ensures { result.names ≡ [] }
+    {
+        Reader {
+            builder: Builder {
+                nodes: Seq::new(alloc),
+            },
+            names: Seq::new(alloc),
+        }
     }
-}
 
-/// A character in a class.
-fn list(class: Class, c: char) -> Option<Stage>
-    ensures { (done : List Tree) → simple.list done class.negated (with_ranges none class.ranges) c ≡ staged done result }
-{
-    if is_listed(c) {
-        Some(Stage::Listing(class, c))
-    } else {
-        None
+    /// Puts the node of a loop last.
+    fn push_looping(&mut self, looping: Looping, node: usize) -> Result<usize, AllocError>
+        requires { node < length self.old.builder.nodes }
+        ensures grows { OnOk result (Grows self.old.builder.nodes self.new.builder.nodes) }
+        ensures names { OnOk result (self.new.names ≡ self.old.names) }
+        ensures holds { IfOk result (λ k. Holds self.new.builder.nodes k (looped_tree looping (tree_in self.old.builder.nodes node))) }
+    {
+        match looping {
+            Looping::Once => Ok(node),
+            Looping::Loop {
+                greedy,
+                possessive,
+                least,
+                most,
+            } => {
+                let repeat = self.builder.push(Node::Repeat {
+                    greedy,
+                    least,
+                    most,
+                    body: node,
+                })?;
+                if possessive {
+                    self.builder.push(Node::Atomic(repeat))
+                } else {
+                    Ok(repeat)
+                }
+            }
+        }
     }
-}
 
-/// The class with one range more.
-fn with_range(class: Class, first: char, last: char) -> Result<Class, AllocError>
-    ensures negated { IfOk result (λ d. d.negated ≡ class.negated) }
-    ensures set { IfOk result (λ d. with_ranges none d.ranges ≡ simple.with_range (with_ranges none class.ranges) first last) }
-{
-    let Class {
-        negated,
-        mut ranges,
-    } = class;
-    ranges.push(Range { first, last })?;
-    Ok(Class { negated, ranges })
-}
+    /// Puts the node of a group last.
+    fn push_group(&mut self, wrap: Wrap, body: usize) -> Result<usize, AllocError>
+        requires { body < length self.old.builder.nodes }
+        ensures grows { OnOk result (Grows self.old.builder.nodes self.new.builder.nodes) }
+        ensures names { OnOk result (self.new.names ≡ self.old.names) }
+        ensures holds { IfOk result (λ k. Holds self.new.builder.nodes k (wrapped wrap (tree_in self.old.builder.nodes body))) }
+    {
+        match wrap {
+            Wrap::Plain => Ok(body),
+            Wrap::Group(number) => self.builder.push(Node::Group { number, body }),
+            Wrap::Atomic => self.builder.push(Node::Atomic(body)),
+            Wrap::Ahead(negated) => self.builder.push(Node::Ahead { negated, body }),
+            Wrap::Behind(negated) => self.builder.push(Node::Behind { negated, body }),
+        }
+    }
 
-/// A character behind one that could begin a range.
-fn read_listing(class: Class, low: char, c: char) -> Result<Option<Stage>, AllocError>
-    ensures { IfOk result (λ next. (done : List Tree) → simple.read done (stage_of (Stage.Listing class low)) c ≡ staged done next) }
-{
-    if c == '-' {
-        if !low.is_ascii_alphanumeric() {
+    /// An item that no quantifier may follow.
+    fn firm<'a>(
+        &mut self,
+        body: Body,
+        node: usize,
+        place: Place<'a>,
+    ) -> Result<Option<(Body, Place<'a>)>, AllocError>
+        requires body { IsBodyIn self.old.builder.nodes body }
+        requires node { node < length self.old.builder.nodes }
+        ensures grows { OnOk result (Grows self.old.builder.nodes self.new.builder.nodes) }
+        ensures names { OnOk result (self.new.names ≡ self.old.names) }
+        ensures inside { IfOk result (λ f. IfSome f (λ x. IsBodyIn self.new.builder.nodes x.0)) }
+        ensures reads { IfOk result (λ f. (known : Option grammar.Names) → grammar.firm known (body_as self.old.builder.nodes body) (tree_in self.old.builder.nodes node) (place_as self.old.names place.entry) ≡ went_on self.new f) }
+    {
+        let Body { before, mut items } = body;
+        items.push(node)?;
+        Ok(Some((Body { before, items }, place)))
+    }
+
+    /// An item, perhaps with a quantifier behind it.
+    fn item<'a>(
+        &mut self,
+        body: Body,
+        node: usize,
+        place: Place<'a>,
+    ) -> Result<Option<(Body, Place<'a>)>, AllocError>
+        requires body { IsBodyIn self.old.builder.nodes body }
+        requires node { node < length self.old.builder.nodes }
+        ensures grows { OnOk result (Grows self.old.builder.nodes self.new.builder.nodes) }
+        ensures names { OnOk result (self.new.names ≡ self.old.names) }
+        ensures inside { IfOk result (λ f. IfSome f (λ x. IsBodyIn self.new.builder.nodes x.0)) }
+        ensures reads { IfOk result (λ f. (known : Option grammar.Names) → grammar.item known (body_as self.old.builder.nodes body) (tree_in self.old.builder.nodes node) (place_as self.old.names place.entry) ≡ went_on self.new f) }
+    {
+        let Some((looping, rest)) = read_looping(place) else {
+            return Ok(None);
+        };
+        let node = self.push_looping(looping, node)?;
+        Ok(self.firm(body, node, rest)?)
+    }
+
+    /// A character as an item.
+    fn char_item<'a>(
+        &mut self,
+        body: Body,
+        c: char,
+        place: Place<'a>,
+    ) -> Result<Option<(Body, Place<'a>)>, AllocError>
+        requires body { IsBodyIn self.old.builder.nodes body }
+        ensures grows { OnOk result (Grows self.old.builder.nodes self.new.builder.nodes) }
+        ensures names { OnOk result (self.new.names ≡ self.old.names) }
+        ensures inside { IfOk result (λ f. IfSome f (λ x. IsBodyIn self.new.builder.nodes x.0)) }
+        ensures reads { IfOk result (λ f. (known : Option grammar.Names) → grammar.item known (body_as self.old.builder.nodes body) (one_of (from_to place.entry.flags.fold c c)) (place_as self.old.names place.entry) ≡ went_on self.new f) }
+    {
+        let node = self.builder.push_char(place.flags.fold, c)?;
+        Ok(self.item(body, node, place)?)
+    }
+
+    /// A set as an item.
+    fn class_item<'a>(
+        &mut self,
+        body: Body,
+        sets: SetBuilder,
+        root: usize,
+        place: Place<'a>,
+    ) -> Result<Option<(Body, Place<'a>)>, AllocError>
+        requires body { IsBodyIn self.old.builder.nodes body }
+        ensures grows { OnOk result (Grows self.old.builder.nodes self.new.builder.nodes) }
+        ensures names { OnOk result (self.new.names ≡ self.old.names) }
+        ensures inside { IfOk result (λ f. IfSome f (λ x. IsBodyIn self.new.builder.nodes x.0)) }
+        ensures reads { IfOk result (λ f. (known : Option grammar.Names) → grammar.item known (body_as self.old.builder.nodes body) (one_of (set_in sets.parts root)) (place_as self.old.names place.entry) ≡ went_on self.new f) }
+    {
+        let node = self.builder.push_class(sets, root)?;
+        Ok(self.item(body, node, place)?)
+    }
+
+    /// An anchor.
+    fn anchor_item<'a>(
+        &mut self,
+        body: Body,
+        which: Anchor,
+        place: Place<'a>,
+    ) -> Result<Option<(Body, Place<'a>)>, AllocError>
+        requires body { IsBodyIn self.old.builder.nodes body }
+        ensures grows { OnOk result (Grows self.old.builder.nodes self.new.builder.nodes) }
+        ensures names { OnOk result (self.new.names ≡ self.old.names) }
+        ensures inside { IfOk result (λ f. IfSome f (λ x. IsBodyIn self.new.builder.nodes x.0)) }
+        ensures reads { IfOk result (λ f. (known : Option grammar.Names) → grammar.firm known (body_as self.old.builder.nodes body) (anchor (anchor_of which)) (place_as self.old.names place.entry) ≡ went_on self.new f) }
+    {
+        let node = self.builder.push(Node::Anchor(which))?;
+        Ok(self.firm(body, node, place)?)
+    }
+
+    /// A set that has a name as an item.
+    fn named_item<'a>(
+        &mut self,
+        body: Body,
+        leaf: Leaf,
+        place: Place<'a>,
+    ) -> Result<Option<(Body, Place<'a>)>, AllocError>
+        requires body { IsBodyIn self.old.builder.nodes body }
+        ensures grows { OnOk result (Grows self.old.builder.nodes self.new.builder.nodes) }
+        ensures names { OnOk result (self.new.names ≡ self.old.names) }
+        ensures inside { IfOk result (λ f. IfSome f (λ x. IsBodyIn self.new.builder.nodes x.0)) }
+        ensures reads { IfOk result (λ f. (known : Option grammar.Names) → grammar.item known (body_as self.old.builder.nodes body) (one_of (leaf_set leaf)) (place_as self.old.names place.entry) ≡ went_on self.new f) }
+    {
+        let mut sets = SetBuilder::new(self.names.allocator());
+        let root = sets.push_leaf(leaf)?;
+        Ok(self.class_item(body, sets, root, place)?)
+    }
+
+    /// A `.` as an item.
+    fn dot_item<'a>(
+        &mut self,
+        body: Body,
+        place: Place<'a>,
+    ) -> Result<Option<(Body, Place<'a>)>, AllocError>
+        requires body { IsBodyIn self.old.builder.nodes body }
+        ensures grows { OnOk result (Grows self.old.builder.nodes self.new.builder.nodes) }
+        ensures names { OnOk result (self.new.names ≡ self.old.names) }
+        ensures inside { IfOk result (λ f. IfSome f (λ x. IsBodyIn self.new.builder.nodes x.0)) }
+        ensures reads { IfOk result (λ f. (known : Option grammar.Names) → grammar.item known (body_as self.old.builder.nodes body) (one_of (grammar.dot_set place.entry.flags.any)) (place_as self.old.names place.entry) ≡ went_on self.new f) }
+    {
+        let mut sets = SetBuilder::new(self.names.allocator());
+        let root = sets.push_dot(place.flags.any)?;
+        Ok(self.class_item(body, sets, root, place)?)
+    }
+
+    /// The alternative is over.
+    fn next_alternative(&mut self, body: Body) -> Result<Body, AllocError>
+        requires { IsBodyIn self.old.builder.nodes body }
+        ensures grows { OnOk result (Grows self.old.builder.nodes self.new.builder.nodes) }
+        ensures names { OnOk result (self.new.names ≡ self.old.names) }
+        ensures inside { IfOk result (λ b. IsBodyIn self.new.builder.nodes b) }
+        ensures is { IfOk result (λ b. body_as self.new.builder.nodes b ≡ grammar.next_alternative (body_as self.old.builder.nodes body)) }
+    {
+        let Body { mut before, items } = body;
+        let last = self.builder.chain(Join::Sequence, items)?;
+        before.push(last)?;
+        let items = Seq::new(before.allocator());
+        Ok(Body { before, items })
+    }
+
+    /// The node of a whole group.
+    fn finish(&mut self, body: Body) -> Result<usize, AllocError>
+        requires { IsBodyIn self.old.builder.nodes body }
+        ensures grows { OnOk result (Grows self.old.builder.nodes self.new.builder.nodes) }
+        ensures names { OnOk result (self.new.names ≡ self.old.names) }
+        ensures holds { IfOk result (λ k. Holds self.new.builder.nodes k (grammar.tree_of_body (body_as self.old.builder.nodes body))) }
+    {
+        let body = self.next_alternative(body)?;
+        self.builder.chain(Join::Alternation, body.before)
+    }
+
+    /// What a back reference to the number stands for, if it names a group. While the groups aren't known it is nothing.
+    fn by_number(
+        &mut self,
+        known: &Option<Names>,
+        fold: bool,
+        number: usize,
+    ) -> Result<Option<usize>, AllocError>
+        ensures grows { OnOk result (Grows self.old.builder.nodes self.new.builder.nodes) }
+        ensures names { OnOk result (self.new.names ≡ self.old.names) }
+        ensures inside { IfOk result (λ f. IfSome f (λ k. k < length self.new.builder.nodes)) }
+        ensures reads { IfOk result (λ f. grammar.by_number known.now fold number ≡ option_map (tree_in self.new.builder.nodes) f) }
+    {
+        let Some(names) = known else {
+            return Ok(Some(self.builder.push(Node::Nothing)?));
+        };
+        if number > names.len() {
             return Ok(None);
         }
-        return Ok(Some(Stage::Ranging(class, low)));
+        Ok(Some(
+            self.builder.push(Node::Same {
+                fold,
+                group: number,
+            })?,
+        ))
     }
-    let class = with_range(class, low, low)?;
-    if c == ']' {
-        return Ok(Some(Stage::Held(Leaf::Class(class))));
+
+    /// The same for a name.
+    fn by_name(
+        &mut self,
+        known: &Option<Names>,
+        fold: bool,
+        name: &[char],
+    ) -> Result<Option<usize>, AllocError>
+        ensures grows { OnOk result (Grows self.old.builder.nodes self.new.builder.nodes) }
+        ensures names { OnOk result (self.new.names ≡ self.old.names) }
+        ensures inside { IfOk result (λ f. IfSome f (λ k. k < length self.new.builder.nodes)) }
+        ensures reads { IfOk result (λ f. grammar.by_name known.now fold name.now ≡ option_map (tree_in self.new.builder.nodes) f) }
+    {
+        let Some(names) = known else {
+            return Ok(Some(self.builder.push(Node::Nothing)?));
+        };
+        let Some(group) = number_of(names.as_slice(), name) else {
+            return Ok(None);
+        };
+        Ok(Some(self.builder.push(Node::Same { fold, group })?))
     }
-    Ok(list(class, c))
-}
 
-/// The end of a range.
-fn read_ranging(class: Class, low: char, c: char) -> Result<Option<Stage>, AllocError>
-    ensures { IfOk result (λ next. (done : List Tree) → simple.read done (stage_of (Stage.Ranging class low)) c ≡ staged done next) }
-{
-    if !c.is_ascii_alphanumeric() || c < low {
-        return Ok(None);
+    /// A back reference as an item.
+    fn number_item<'a>(
+        &mut self,
+        known: &Option<Names>,
+        body: Body,
+        number: usize,
+        place: Place<'a>,
+    ) -> Result<Option<(Body, Place<'a>)>, AllocError>
+        requires body { IsBodyIn self.old.builder.nodes body }
+        ensures grows { OnOk result (Grows self.old.builder.nodes self.new.builder.nodes) }
+        ensures names { OnOk result (self.new.names ≡ self.old.names) }
+        ensures inside { IfOk result (λ f. IfSome f (λ x. IsBodyIn self.new.builder.nodes x.0)) }
+        ensures reads { IfOk result (λ f. grammar.escaped known.now (body_as self.old.builder.nodes body) (place_as self.old.names place.entry) (definition.number number) ≡ went_on self.new f) }
+    {
+        let Some(node) = self.by_number(known, place.flags.fold, number)? else {
+            return Ok(None);
+        };
+        Ok(self.item(body, node, place)?)
     }
-    let class = with_range(class, low, c)?;
-    Ok(Some(Stage::Listed(class)))
-}
 
-/// A character in a class where no range can begin.
-fn read_listed(class: Class, c: char) -> Option<Stage>
-    ensures { (done : List Tree) → simple.read done (stage_of (Stage.Listed class)) c ≡ staged done result }
-{
-    if c == ']' {
-        return Some(Stage::Held(Leaf::Class(class)));
+    /// A back reference by a name as an item.
+    fn name_item<'a>(
+        &mut self,
+        known: &Option<Names>,
+        body: Body,
+        name: &[char],
+        place: Place<'a>,
+    ) -> Result<Option<(Body, Place<'a>)>, AllocError>
+        requires body { IsBodyIn self.old.builder.nodes body }
+        ensures grows { OnOk result (Grows self.old.builder.nodes self.new.builder.nodes) }
+        ensures names { OnOk result (self.new.names ≡ self.old.names) }
+        ensures inside { IfOk result (λ f. IfSome f (λ x. IsBodyIn self.new.builder.nodes x.0)) }
+        ensures reads { IfOk result (λ f. grammar.escaped known.now (body_as self.old.builder.nodes body) (place_as self.old.names place.entry) (definition.name name.now) ≡ went_on self.new f) }
+    {
+        let Some(node) = self.by_name(known, place.flags.fold, name)? else {
+            return Ok(None);
+        };
+        Ok(self.item(body, node, place)?)
     }
-    list(class, c)
-}
 
-/// The first character of a class, or its `^`.
-fn read_opened(alloc: Global, negated: bool, c: char) -> Option<Stage>
-    ensures { (done : List Tree) → simple.read done (stage_of (Stage.Opened negated)) c ≡ staged done result }
-{
-    if c == '^' && !negated {
-        return Some(Stage::Opened(true));
-    }
-    let class = Class {
-        negated,
-        ranges: Seq::new(alloc),
-    };
-    list(class, c)
-}
-
-/// Puts an item last.
-fn put(done: &mut Vec<Item>, leaf: Leaf, plus: bool) -> Result<(), AllocError>
-    ensures { OnOk result (map item_tree done.new.items ≡ map item_tree done.old.items ++ item_tree (record { leaf = leaf; plus = plus }) ∷ []) }
-{
-    done.push(Item { leaf, plus })?;
-    Ok(())
-}
-
-/// A character behind an item.
-fn read_held(done: &mut Vec<Item>, leaf: Leaf, c: char) -> Result<Option<Stage>, AllocError>
-    ensures { IfOk result (λ next. simple.read (map item_tree done.old.items) (stage_of (Stage.Held leaf)) c ≡ staged (map item_tree done.new.items) next) }
-{
-    if c == '+' {
-        put(done, leaf, true)?;
-        return Ok(Some(Stage::Fresh));
-    }
-    put(done, leaf, false)?;
-    Ok(begin(c))
-}
-
-/// Reads the next character, if it may stand there.
-fn step(
-    alloc: Global,
-    done: &mut Vec<Item>,
-    stage: Stage,
-    c: char,
-) -> Result<Option<Stage>, AllocError>
-    ensures { IfOk result (λ next. simple.read (map item_tree done.old.items) (stage_of stage) c ≡ staged (map item_tree done.new.items) next) }
-{
-    match stage {
-        Stage::Fresh => Ok(begin(c)),
-        Stage::Held(leaf) => read_held(done, leaf, c),
-        Stage::Opened(negated) => Ok(read_opened(alloc, negated, c)),
-        Stage::Listing(class, low) => read_listing(class, low, c),
-        Stage::Listed(class) => Ok(read_listed(class, c)),
-        Stage::Ranging(class, low) => read_ranging(class, low, c),
-    }
-}
-
-/// The text ends: whether it may end there.
-fn end(done: &mut Vec<Item>, stage: Stage) -> Result<bool, AllocError>
-    ensures { IfOk result (λ yes. simple.ended (map item_tree done.old.items) (stage_of stage) ≡ (if yes then Some (map item_tree done.new.items) else None)) }
-{
-    match stage {
-        Stage::Fresh => Ok(true),
-        Stage::Held(leaf) => {
-            put(done, leaf, false)?;
-            Ok(true)
-        }
-        _ => Ok(false),
-    }
-}
-
-/// The items of a text, if it is a pattern.
-pub fn items(alloc: Global, letters: &[char]) -> Result<Option<Vec<Item>>, AllocError>
-    ensures { IfOk result (λ found. option_map (λ v. map item_tree v.items) found ≡ simple.items_from [] simple.fresh letters.now) }
-{
-    let mut done = Vec::new(alloc);
-    let mut stage = Stage::Fresh;
-    for c in letters {
-        match step(alloc, &mut done, stage, *c)? {
-            Some(next) => stage = next,
-            None => return Ok(None),
+    /// What an escape stands for.
+    fn escaped<'a>(
+        &mut self,
+        known: &Option<Names>,
+        body: Body,
+        escape: Escape<'a>,
+        place: Place<'a>,
+    ) -> Result<Option<(Body, Place<'a>)>, AllocError>
+        requires body { IsBodyIn self.old.builder.nodes body }
+        ensures grows { OnOk result (Grows self.old.builder.nodes self.new.builder.nodes) }
+        ensures inside { IfOk result (λ f. IfSome f (λ x. IsBodyIn self.new.builder.nodes x.0)) }
+        ensures names { OnOk result (self.new.names ≡ self.old.names) }
+        ensures reads { IfOk result (λ f. grammar.escaped known.now (body_as self.old.builder.nodes body) (place_as self.old.names place.entry) (escape_of escape.entry) ≡ went_on self.new f) }
+    {
+        match escape {
+            Escape::Char(c) => Ok(self.char_item(body, c, place)?),
+            Escape::Set { negated, set } => {
+                Ok(self.named_item(body, Leaf::Set { negated, set }, place)?)
+            }
+            Escape::Edge(which) => Ok(self.anchor_item(body, which, place)?),
+            Escape::Number(number) => Ok(self.number_item(known, body, number, place)?),
+            Escape::Name(name) => Ok(self.name_item(known, body, name, place)?),
         }
     }
-    if end(&mut done, stage)? {
-        Ok(Some(done))
-    } else {
-        Ok(None)
+
+    /// An escape, from its backslash on.
+    fn backslash<'a>(
+        &mut self,
+        known: &Option<Names>,
+        body: Body,
+        here: Place<'a>,
+    ) -> Result<Option<(Body, Place<'a>)>, AllocError>
+        requires body { IsBodyIn self.old.builder.nodes body }
+        ensures grows { OnOk result (Grows self.old.builder.nodes self.new.builder.nodes) }
+        ensures inside { IfOk result (λ f. IfSome f (λ x. IsBodyIn self.new.builder.nodes x.0)) }
+        ensures reads { IfOk result (λ f. (inner : _) (depth : ℕ) → grammar.step known.now inner depth (body_as self.old.builder.nodes body) (place_as self.old.names here.entry) grammar.backslash ≡ went_on self.new f) }
+    {
+        let Some((escape, text)) = read_escape(after(here.text, 1)) else {
+            return Ok(None);
+        };
+        let place = Place {
+            flags: here.flags,
+            text,
+        };
+        Ok(self.escaped(known, body, escape, place)?)
+    }
+
+    /// A class, from its bracket on.
+    fn bracket<'a>(
+        &mut self,
+        depth: u32,
+        body: Body,
+        here: Place<'a>,
+    ) -> Result<Option<(Body, Place<'a>)>, AllocError>
+        requires body { IsBodyIn self.old.builder.nodes body }
+        ensures grows { OnOk result (Grows self.old.builder.nodes self.new.builder.nodes) }
+        ensures inside { IfOk result (λ f. IfSome f (λ x. IsBodyIn self.new.builder.nodes x.0)) }
+        ensures reads { IfOk result (λ f. (known : Option grammar.Names) (inner : _) → grammar.step known inner depth (body_as self.old.builder.nodes body) (place_as self.old.names here.entry) grammar.bracket ≡ went_on self.new f) }
+    {
+        let mut sets = SetBuilder::new(self.names.allocator());
+        let Some((root, text)) = sets.class(here.flags.fold, depth, after(here.text, 1))? else {
+            return Ok(None);
+        };
+        let place = Place {
+            flags: here.flags,
+            text,
+        };
+        Ok(self.class_item(body, sets, root, place)?)
+    }
+
+    /// A group, from its parenthesis on, inside so many groups and classes.
+    #[cycle(body)]
+    fn group<'a>(
+        &mut self,
+        known: &Option<Names>,
+        depth: u32,
+        body: Body,
+        here: Place<'a>,
+    ) -> Result<Option<(Body, Place<'a>)>, AllocError>
+        requires body { IsBodyIn self.old.builder.nodes body }
+        ensures grows { OnOk result (Grows self.old.builder.nodes self.new.builder.nodes) }
+        ensures inside { IfOk result (λ f. IfSome f (λ x. IsBodyIn self.new.builder.nodes x.0)) }
+        ensures reads { IfOk result (λ f. grammar.step known.now (body_of known.now (depth + 1) grammar.empty_body) depth (body_as self.old.builder.nodes body) (place_as self.old.names here.entry) grammar.opener ≡ went_on self.new f) }
+    {
+        let Some((opening, place)) = read_opening(&mut self.names, forward(here, 1))? else {
+            return Ok(None);
+        };
+        let Opening::Opens(wrap) = opening else {
+            return Ok(Some((body, place)));
+        };
+        if depth >= DEEPEST {
+            return Ok(None);
+        }
+        let Some((inner, last)) = self.body(known, depth + 1, place)? else {
+            return Ok(None);
+        };
+        if !last.text.starts_with(&[')']) {
+            return Ok(None);
+        }
+        let node = self.push_group(wrap, inner)?;
+        let outside = here.flags;
+        let place = Place {
+            flags: outside,
+            text: after(last.text, 1),
+        };
+        Ok(self.item(body, node, place)?)
+    }
+
+    /// One step of reading a group that stands so deep.
+    #[cycle(body)]
+    fn step<'a>(
+        &mut self,
+        known: &Option<Names>,
+        depth: u32,
+        body: Body,
+        here: Place<'a>,
+        token: Token,
+    ) -> Result<Option<(Body, Place<'a>)>, AllocError>
+        requires body { IsBodyIn self.old.builder.nodes body }
+        ensures grows { OnOk result (Grows self.old.builder.nodes self.new.builder.nodes) }
+        ensures inside { IfOk result (λ f. IfSome f (λ x. IsBodyIn self.new.builder.nodes x.0)) }
+        ensures reads { IfOk result (λ f. grammar.step known.now (body_of known.now (depth + 1) grammar.empty_body) depth (body_as self.old.builder.nodes body) (place_as self.old.names here.entry) (token_as token) ≡ went_on self.new f) }
+    {
+        match token {
+            Token::Bar => {
+                let body = self.next_alternative(body)?;
+                Ok(Some((body, forward(here, 1))))
+            }
+            Token::Opener => Ok(self.group(known, depth, body, here)?),
+            Token::Bracket => Ok(self.bracket(depth, body, here)?),
+            Token::Backslash => Ok(self.backslash(known, body, here)?),
+            Token::Dot => Ok(self.dot_item(body, forward(here, 1))?),
+            Token::Caret => Ok(self.anchor_item(body, Anchor::LineStart, forward(here, 1))?),
+            Token::Dollar => Ok(self.anchor_item(body, Anchor::LineEnd, forward(here, 1))?),
+            Token::Loops => Ok(None),
+            Token::Plain(c) => Ok(self.char_item(body, c, forward(here, 1))?),
+        }
+    }
+
+    /// What stands in a group that stands so deep, up to its parenthesis or the text's end.
+    #[cycle(body)]
+    pub fn body<'a>(
+        &mut self,
+        known: &Option<Names>,
+        depth: u32,
+        place: Place<'a>,
+    ) -> Result<Option<(usize, Place<'a>)>, AllocError>
+        ensures grows { OnOk result (Grows self.old.builder.nodes self.new.builder.nodes) }
+        ensures inside { IfOk result (λ f. IfSome f (λ x. x.0 < length self.new.builder.nodes)) }
+        ensures reads { IfOk result (λ f. body_of known.now depth grammar.empty_body (place_as self.old.names place.entry) ≡ tree_as self.new f) }
+    {
+        let alloc = self.names.allocator();
+        let mut body = Body {
+            before: Seq::new(alloc),
+            items: Seq::new(alloc),
+        };
+        let mut place = place;
+        'steps: loop {
+            let flags = place.flags;
+            let Some(text) = pass(flags.spaced, place.text) else {
+                return Ok(None);
+            };
+            let here = Place { flags, text };
+            let Some(token) = next_token(text) else {
+                let node = self.finish(body)?;
+                return Ok(Some((node, here)));
+            };
+            let Some((more, rest)) = self.step(known, depth, body, here, token)? else {
+                return Ok(None);
+            };
+            body = more;
+            place = rest;
+        }
     }
 }

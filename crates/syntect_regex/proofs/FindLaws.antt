@@ -1,7 +1,8 @@
 -- The least place that has a match.
-use Rattle.std.proofs.Common.{◌≡◌, ℕ, suc, ◌-◌, ◌<◌, ◌≤◌, ◌&&◌, ◌||◌, Bool, true, false, nat_le, nat_lt, List, length, get_or, refl, sym, ◌∙◌, ap, arith, Some, None, inl, inr, ◌⊎◌}
+use Rattle.std.proofs.Common.{◌≡◌, ℕ, zero, suc, ◌+◌, ◌-◌, ◌<◌, ◌≤◌, ◌&&◌, ◌||◌, Bool, true, false, nat_le, nat_lt, List, length, get_or, refl, sym, ◌∙◌, ap, arith, Some, None, inl, inr, ◌⊎◌}
 use Rattle.std.proofs.lemmas.Bool.{cases_lt, le-leb, lt-ltb}
-use Rattle.std.specs.Prelude.{IsCharBoundary, slice_get, slice_index, option_map, replicate, if◌then◌else◌, IsTrue, ◌↔◌}
+use Rattle.std.proofs.lemmas.Str.{IsCharBoundary-start}
+use Rattle.std.specs.Prelude.{IsCharBoundary, IsUtf8, slice_get, slice_index, option_map, replicate, if◌then◌else◌, IsTrue, ◌↔◌}
 use Rattle.std.specs.Option.{option_or}
 use Rattle.std.proofs.lemmas.Bool.Decides.{nat_tests}
 use Rattle.syntect_pattern.specs.Text.{is_boundary}
@@ -9,8 +10,8 @@ use Rattle.syntect_pattern.specs.Trees.{Tree, nothing, group}
 use Rattle.syntect_pattern.specs.Matches.{Groups, Member, matches, unset, found_at, found_within, found}
 use Rattle.syntect_pattern.specs.Program.{trees_of, IsProgramOf}
 use Rattle.syntect_pattern.specs.declared.program.Program.{Program}
-use Rattle.syntect_regex.specs.declared.engine.Search.{Search}
-use Rattle.syntect_regex.specs.Machine.{match_of, groups_of}
+use Rattle.syntect_regex.specs.declared.state.Search.{Search}
+use Rattle.syntect_regex.specs.Machine.{is_start, match_of, groups_of}
 
 is_either : (b : Bool) → (b ≡ true) ⊎ (b ≡ false)
 is_either true = inl refl
@@ -19,6 +20,10 @@ is_either false = inr refl
 pub boundary-true : (s : List ℕ) (i : ℕ) → is_boundary s i ≡ true → IsCharBoundary s i
 unfolding is_boundary
 boundary-true s i h = (grind (arith, nat_tests), λ a b. grind (arith, nat_tests))
+
+pub start-boundary : (s : List ℕ) → IsUtf8 s → (i : ℕ) → is_start s i ≡ true → IsCharBoundary s i
+start-boundary s u zero h = IsCharBoundary-start s u
+start-boundary s u (suc i) h = boundary-true s (suc i) h
 
 or-true : (a : Bool) → (a || true) ≡ true
 or-true true = refl
@@ -82,6 +87,19 @@ module _ (s : List ℕ) (tree : Tree) where
       ap (λ n. found_within s tree n i) (let n : suc (length s) - i ≡ suc (length s - i) = omega arith in n)
       ∙ ap (λ o. option_or o (found_within s tree (length s - i) (suc i))) e
       ∙ ap (λ n. found_within s tree n (suc i)) (let n : length s - i ≡ suc (length s) - suc i = omega arith in n)
+
+  -- places where no match begins are passed over
+  pub found-skip : (n i : ℕ) → i + n ≤ suc (length s) → ((k : ℕ) → i ≤ k → k < i + n → found_at s tree k ≡ None) → found s tree i ≡ found s tree (i + n)
+  found-skip zero i l h = ap (found s tree) (let e : i ≡ i + 0 = omega arith in e)
+  found-skip (suc n) i l h =
+      found-step i (omega arith) (h i (omega arith) (omega arith))
+      ∙ found-skip n (suc i) (omega arith) (λ k p q. h k (omega arith) (omega arith))
+      ∙ ap (found s tree) (let e : suc i + n ≡ i + suc n = omega arith in e)
+
+  pub found-jump : (i j : ℕ) → i ≤ j → j ≤ suc (length s) → ((k : ℕ) → i ≤ k → k < j → found_at s tree k ≡ None) → found s tree i ≡ found s tree j
+  found-jump i j l m h =
+      let e : i + (j - i) ≡ j = omega arith in
+      found-skip (j - i) i (omega arith) (λ k p q. h k p (omega arith)) ∙ ap (found s tree) e
 
   pub found-past : (i : ℕ) → length s < i → found s tree i ≡ None
   unfolding found

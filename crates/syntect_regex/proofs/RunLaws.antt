@@ -3,10 +3,10 @@ use Rattle.std.proofs.Common.{◌≡◌, ℕ, List, [], refl, ◌∙◌, ap, Som
 use Rattle.std.specs.Prelude.{Option, Result, Ok, Err, IfOk, IfNone, slice_get}
 use Rattle.syntect_pattern.specs.Trees.{Tree}
 use Rattle.syntect_pattern.specs.Matches.{Groups, matches}
-use Rattle.syntect_regex.specs.declared.engine.Frame.{Frame}
-use Rattle.syntect_regex.specs.declared.engine.Next.{Next}
-use Rattle.syntect_regex.specs.declared.engine.Search.{Search}
-use Rattle.syntect_regex.specs.Machine.{On, none, one, search, list_at, end, pending, tree_at, found_by}
+use Rattle.syntect_regex.specs.declared.state.Frame.{Frame}
+use Rattle.syntect_regex.specs.declared.state.Next.{Next}
+use Rattle.syntect_regex.specs.declared.state.Search.{Search}
+use Rattle.syntect_regex.specs.Machine.{On, none, one, search, list_at, end, pending, tree_at, bound_of, found_by}
 use Rattle.syntect_regex.proofs.MachineLaws.{list_at-nil, pending-found}
 use Rattle.syntect_regex.proofs.FirstLaws.{search-end}
 
@@ -19,11 +19,11 @@ module _ (s : List ℕ) (ts : List Tree) where
       ∙ ap (λ (fs : List Frame). (pending s ts x.cells.items x.groups.items (reverse fs) none).found) e
 
   -- a match is found
-  pub found_by-found : (x : Search) (next : Next) → next ≡ Next.Found → found_by s ts next x ≡ Some (x.place, x.groups.items)
+  pub found_by-found : (x : Search) (next : Next) → next ≡ Next.Found → bound_of (reverse x.frames.items) ≡ None → found_by s ts next x ≡ Some (x.place, x.groups.items)
   unfolding one
-  found_by-found x next n =
+  found_by-found x next n b =
       ap (λ (m : Next). found_by s ts m x) n
-      ∙ pending-found s ts x.cells.items x.groups.items (reverse x.frames.items) (one x.place x.groups.items) x.place x.groups.items refl
+      ∙ pending-found s ts x.cells.items x.groups.items (reverse x.frames.items) (one x.place x.groups.items) x.place x.groups.items b refl
 
   -- a search that begins with the node finds the first of its matches
   pub found_by-start : (x : Search) (root i : ℕ) (g : Groups) → x.frames.items ≡ [] → x.groups.items ≡ g → x.place ≡ i

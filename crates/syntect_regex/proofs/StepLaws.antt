@@ -5,11 +5,11 @@ use Rattle.std.proofs.Math.Seq.{take-length}
 use Rattle.std.proofs.lemmas.List.{reverse-append}
 use Rattle.syntect_pattern.specs.Trees.{Tree}
 use Rattle.syntect_pattern.specs.Matches.{Groups}
-use Rattle.syntect_regex.specs.declared.engine.Cell.{Cell}
-use Rattle.syntect_regex.specs.declared.engine.Next.{Next}
-use Rattle.syntect_regex.specs.declared.engine.Search.{Search}
-use Rattle.syntect_regex.specs.declared.engine.Frame.{Frame}
-use Rattle.syntect_regex.specs.Machine.{Work, tick, both, On, on_item, list_at, search, tree_at, pending, now, total, FramesFit, ListFits, CellsFit, Fits, Goes, found_by, steps_of}
+use Rattle.syntect_regex.specs.declared.state.Cell.{Cell}
+use Rattle.syntect_regex.specs.declared.state.Next.{Next}
+use Rattle.syntect_regex.specs.declared.state.Search.{Search}
+use Rattle.syntect_regex.specs.declared.state.Frame.{Frame}
+use Rattle.syntect_regex.specs.Machine.{Work, tick, both, On, on_item, list_at, search, tree_at, pending, now, total, FramesFit, ListFits, CellsFit, ItemFits, GroupsFit, Fits, Goes, found_by, steps_of}
 use Rattle.syntect_regex.proofs.WorkLaws.{ticks, found-ticks, count-ticks}
 use Rattle.syntect_regex.proofs.MachineLaws.{list_at-seam, pending-append, pending-tick, CellsFit-push, FramesFit-more}
 
@@ -21,9 +21,9 @@ module _ (s : List ℕ) (ts : List Tree) where
   pub goes_by : (next next' : Next) (old new : Search) (n : ℕ) (xs : List Cell) (i : ℕ) (g : Groups) (fs : List Frame)
       → new.cells.items ≡ xs → new.place ≡ i → new.groups.items ≡ g → reverse new.frames.items ≡ fs
       → total s ts next old ≡ ticks (suc n) (rest next' xs i g fs)
-      → CellsFit xs → FramesFit s (length xs) fs → ListFits next' (length xs) → IsCharBoundary s i
+      → CellsFit s xs → FramesFit s (length xs) fs → ListFits next' (length xs) → IsCharBoundary s i → GroupsFit s g
       → Goes s ts next old next' new
-  goes_by next next' old new n xs i g fs hx hi hg hf h fc ff fl fb =
+  goes_by next next' old new n xs i g fs hx hi hg hf h fc ff fl fb fg =
       let same : total s ts next' new ≡ rest next' xs i g fs =
       ap (λ zs. pending s ts zs new.groups.items (reverse new.frames.items) (now s ts next' zs new.place new.groups.items)) hx
       ∙ ap (λ j. pending s ts xs new.groups.items (reverse new.frames.items) (now s ts next' xs j new.groups.items)) hi
@@ -36,7 +36,7 @@ module _ (s : List ℕ) (ts : List Tree) where
       record {
         found = finds;
         fewer = less;
-        fits = record { cells = rw hx fc; frames = rw (hx, hf) ff; list = rw hx fl; place = rw hi fb };
+        fits = record { cells = rw hx fc; frames = rw (hx, hf) ff; list = rw hx fl; place = rw hi fb; groups = rw hg fg };
       }
 
   pub pending-ticks : (n : ℕ) (xs : List Cell) (g : Groups) (fs : List Frame) (w : Work) → pending s ts xs g fs (ticks n w) ≡ ticks n (pending s ts xs g fs w)
@@ -54,7 +54,7 @@ module _ (s : List ℕ) (ts : List Tree) where
       goes_by next next' old new n old.cells.items j old.groups.items (reverse old.frames.items) hx hi hg (ap reverse hr)
       (ap (pending s ts old.cells.items old.groups.items (reverse old.frames.items)) h
       ∙ pending-ticks (suc n) old.cells.items old.groups.items (reverse old.frames.items) (now s ts next' old.cells.items j old.groups.items))
-      hf.cells hf.frames hl hb
+      hf.cells hf.frames hl hb hf.groups
 
   -- a step that changes nothing but what comes next
   pub goes_on : (next next' : Next) (x : Search) (n : ℕ)
@@ -70,9 +70,9 @@ module _ (s : List ℕ) (ts : List Tree) where
       → new.cells.items ≡ old.cells.items ++ c ∷ [] → new ≡ record old { cells = new.cells }
       → now s ts next old.cells.items old.place old.groups.items
       ≡ ticks (suc n) (search s (tree_at s ts a) (on_item s ts c.item (list_at s ts old.cells.items c.next)) old.place old.groups.items)
-      → c.next ≤ length old.cells.items
+      → c.next ≤ length old.cells.items → ItemFits s c.item
       → Goes s ts next old (Next.Enter a (length old.cells.items + 1)) new
-  goes_cons next old new n a c hf hc ho h hl =
+  goes_cons next old new n a c hf hc ho h hl fi =
       let xs : List Cell = old.cells.items in
       let fs : List Frame = reverse old.frames.items in
       let more : length (xs ++ c ∷ []) ≡ suc (length xs) = omega (arith, length-append xs (c ∷ [])) in
@@ -82,9 +82,9 @@ module _ (s : List ℕ) (ts : List Tree) where
       ∙ pending-ticks (suc n) xs old.groups.items fs _
       ∙ ap (ticks (suc n)) (sym (pending-append s ts xs (c ∷ []) old.groups.items fs _ hf.frames)
       ∙ ap (λ (k : On). pending s ts (xs ++ c ∷ []) old.groups.items fs (search s (tree_at s ts a) k old.place old.groups.items)) (sym (list_at-seam s ts xs c []))))
-      (CellsFit-push xs c hf.cells hl)
+      (CellsFit-push s xs c hf.cells hl fi)
       (FramesFit-more s (length xs) (length (xs ++ c ∷ [])) fs (omega arith) hf.frames)
-      (omega arith) hf.place)
+      (omega arith) hf.place hf.groups)
 
   -- a step that keeps a choice for later and goes on with the node a
   pub goes_choice : (next : Next) (old new : Search) (n a b k : ℕ)
@@ -104,4 +104,4 @@ module _ (s : List ℕ) (ts : List Tree) where
       (ap (pending s ts xs g fs) h
       ∙ pending-ticks (suc n) xs g fs _
       ∙ ap (λ zs. ticks (suc n) (pending s ts zs g fs (both (search s (tree_at s ts a) (list_at s ts xs k) old.place g) (tick (search s (tree_at s ts b) (list_at s ts zs k) old.place g))))) (sym (take-length xs)))
-      hf.cells (hk, omega arith, hf.place, hf.frames) hk hf.place
+      hf.cells (hk, omega arith, hf.place, hf.frames) hk hf.place hf.groups

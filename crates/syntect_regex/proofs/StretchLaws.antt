@@ -12,11 +12,11 @@ use Rattle.syntect_pattern.specs.Sets.{Set, holds}
 use Rattle.syntect_pattern.specs.Trees.{Tree, one_of, repeat}
 use Rattle.syntect_pattern.specs.Matches.{Groups, Member}
 use Rattle.syntect_pattern.proofs.StartLaws.{char_at-past, char_at-ascii}
-use Rattle.syntect_regex.specs.declared.engine.Cell.{Cell}
-use Rattle.syntect_regex.specs.declared.engine.Next.{Next}
-use Rattle.syntect_regex.specs.declared.engine.Search.{Search}
-use Rattle.syntect_regex.specs.declared.engine.Frame.{Frame}
-use Rattle.syntect_regex.specs.Machine.{Work, On, none, tick, both, search, search_turns, after_char, after_turn, go_on, leave_if, list_at, tree_at, at_places, pending, total, Fits, Goes, found_by, steps_of}
+use Rattle.syntect_regex.specs.declared.state.Cell.{Cell}
+use Rattle.syntect_regex.specs.declared.state.Next.{Next}
+use Rattle.syntect_regex.specs.declared.state.Search.{Search}
+use Rattle.syntect_regex.specs.declared.state.Frame.{Frame}
+use Rattle.syntect_regex.specs.Machine.{Work, On, none, tick, both, search, search_turns, after_char, after_turn, go_on, work_if, list_at, tree_at, at_places, pending, total, Fits, Goes, found_by, steps_of}
 use Rattle.syntect_regex.specs.Stretches.{IsStretch}
 use Rattle.syntect_regex.proofs.MachineLaws.{pending-less}
 
@@ -34,8 +34,8 @@ suc_is n = ne_eqb (suc n) 0 (λ e. omega arith)
 module _ (s : List ℕ) (ts : List Tree) where
   -- the first place of a stretch comes last
   pub at_places-first : (k : On) (m e : ℕ) (g : Groups)
-      → ((at_places s ts k (suc m) e g).found ≡ option_or (at_places s ts k m e g).found (k (e - m) g).found)
-      × ((at_places s ts k (suc m) e g).count ≡ (at_places s ts k m e g).count + (k (e - m) g).count + 1)
+      → ((at_places k (suc m) e g).found ≡ option_or (at_places k m e g).found (k (e - m) g).found)
+      × ((at_places k (suc m) e g).count ≡ (at_places k m e g).count + (k (e - m) g).count + 1)
   unfolding both tick none
   at_places-first k zero e g =
       let same : e ≡ e - 0 = omega arith in
@@ -43,10 +43,10 @@ module _ (s : List ℕ) (ts : List Tree) where
   at_places-first k (suc m) e g =
       let h = at_places-first k m (e - 1) g in
       let same : e - 1 - m ≡ e - suc m = omega arith in
-      let count : (at_places s ts k (suc m) (e - 1) g).count ≡ (at_places s ts k m (e - 1) g).count + (k (e - 1 - m) g).count + 1 = h.1 in
+      let count : (at_places k (suc m) (e - 1) g).count ≡ (at_places k m (e - 1) g).count + (k (e - 1 - m) g).count + 1 = h.1 in
       let last : (k (e - 1 - m) g).count ≡ (k (e - suc m) g).count = ap (λ j. (k j g).count) same in (
-        ap (λ r. option_or (k e g).found r) (h.0 ∙ ap (λ j. option_or (at_places s ts k m (e - 1) g).found (k j g).found) same)
-            ∙ sym (or_assoc (k e g).found (at_places s ts k m (e - 1) g).found (k (e - suc m) g).found),
+        ap (λ r. option_or (k e g).found r) (h.0 ∙ ap (λ j. option_or (at_places k m (e - 1) g).found (k j g).found) same)
+            ∙ sym (or_assoc (k e g).found (at_places k m (e - 1) g).found (k (e - suc m) g).found),
         omega arith,
       )
 
@@ -57,16 +57,16 @@ module _ (s : List ℕ) (ts : List Tree) where
 
     -- a turn reads a character
     loop-reads : (fuel least i j : ℕ) (g : Groups) → after_char (holds a) (char_at s i) i ≡ Some j → (j == i) ≡ false
-        → loop (suc fuel) least i g ≡ tick (both (tick (tick (tick (loop fuel (least - 1) j g)))) (leave_if (least == 0) (tick (k i g))))
+        → loop (suc fuel) least i g ≡ tick (both (tick (tick (tick (loop fuel (least - 1) j g)))) (work_if (least == 0) (tick (k i g))))
     loop-reads fuel least i j g e n =
-        ap (λ (o : Option ℕ). tick (both (tick (tick (go_on o (λ j h. tick (after_turn (j == i) k (search_turns (search s (one_of a)) true fuel (least - 1) None k) j h)) g))) (leave_if (least == 0) (tick (k i g))))) e
-        ∙ ap (λ b. tick (both (tick (tick (tick (after_turn b k (search_turns (search s (one_of a)) true fuel (least - 1) None k) j g)))) (leave_if (least == 0) (tick (k i g))))) n
+        ap (λ (o : Option ℕ). tick (both (tick (tick (go_on o (λ j h. tick (after_turn (j == i) k (search_turns (search s (one_of a)) true fuel (least - 1) None k) j h)) g))) (work_if (least == 0) (tick (k i g))))) e
+        ∙ ap (λ b. tick (both (tick (tick (tick (after_turn b k (search_turns (search s (one_of a)) true fuel (least - 1) None k) j g)))) (work_if (least == 0) (tick (k i g))))) n
 
     -- there is no character to read
     loop-stops : (fuel least i : ℕ) (g : Groups) → after_char (holds a) (char_at s i) i ≡ None
-        → loop (suc fuel) least i g ≡ tick (both (tick (tick none)) (leave_if (least == 0) (tick (k i g))))
+        → loop (suc fuel) least i g ≡ tick (both (tick (tick none)) (work_if (least == 0) (tick (k i g))))
     loop-stops fuel least i g e =
-        ap (λ (o : Option ℕ). tick (both (tick (tick (go_on o (λ j h. tick (after_turn (j == i) k (search_turns (search s (one_of a)) true fuel (least - 1) None k) j h)) g))) (leave_if (least == 0) (tick (k i g))))) e
+        ap (λ (o : Option ℕ). tick (both (tick (tick (go_on o (λ j h. tick (after_turn (j == i) k (search_turns (search s (one_of a)) true fuel (least - 1) None k) j h)) g))) (work_if (least == 0) (tick (k i g))))) e
 
     -- what the places find, and how many steps they take, against the loop
     pub record Agrees (w x : Work) : Type 0 where
@@ -77,7 +77,7 @@ module _ (s : List ℕ) (ts : List Tree) where
     unfolding both tick none
     less-work w x h = (h.found, (let l : w.count < x.count = h.fewer in omega arith))
 
-    agrees-none : (least i : ℕ) (g : Groups) → Agrees (at_places s ts k (suc 0 - least) (i + 0) g) (tick (both (tick (tick none)) (leave_if (least == 0) (tick (k i g)))))
+    agrees-none : (least i : ℕ) (g : Groups) → Agrees (at_places k (suc 0 - least) (i + 0) g) (tick (both (tick (tick none)) (work_if (least == 0) (tick (k i g)))))
     unfolding both tick none
     agrees-none zero i g =
         let same : i + 0 ≡ i = omega arith in
@@ -87,12 +87,12 @@ module _ (s : List ℕ) (ts : List Tree) where
         }
     agrees-none (suc l) i g =
         let over : suc 0 - suc l ≡ 0 = omega arith in
-        let P : Work → Type 0 = λ w. Agrees w (tick (both (tick (tick none)) (leave_if (suc l == 0) (tick (k i g))))) in
-        subst P (ap (λ n. at_places s ts k n (i + 0) g) (sym over))
-        (subst (λ (b : Bool). Agrees none (tick (both (tick (tick none)) (leave_if b (tick (k i g)))))) (sym (suc_is l)) (record { found = refl; fewer = omega arith }))
+        let P : Work → Type 0 = λ w. Agrees w (tick (both (tick (tick none)) (work_if (suc l == 0) (tick (k i g))))) in
+        subst P (ap (λ n. at_places k n (i + 0) g) (sym over))
+        (subst (λ (b : Bool). Agrees none (tick (both (tick (tick none)) (work_if b (tick (k i g)))))) (sym (suc_is l)) (record { found = refl; fewer = omega arith }))
 
-    agrees-more : (n least i : ℕ) (g : Groups) (w : Work) → Agrees (at_places s ts k (suc n - (least - 1)) ((i + 1) + n) g) w
-        → Agrees (at_places s ts k (suc (suc n) - least) (i + suc n) g) (tick (both (tick (tick (tick w))) (leave_if (least == 0) (tick (k i g)))))
+    agrees-more : (n least i : ℕ) (g : Groups) (w : Work) → Agrees (at_places k (suc n - (least - 1)) ((i + 1) + n) g) w
+        → Agrees (at_places k (suc (suc n) - least) (i + suc n) g) (tick (both (tick (tick (tick w))) (work_if (least == 0) (tick (k i g)))))
     unfolding both tick none
     agrees-more n zero i g w h =
         let last = at_places-first k (suc n) (i + suc n) g in
@@ -100,24 +100,24 @@ module _ (s : List ℕ) (ts : List Tree) where
         let one : suc n - (0 - 1) ≡ suc n = omega arith in
         let place : (i + 1) + n ≡ i + suc n = omega arith in
         let start : i + suc n - suc n ≡ i = omega arith in
-        let same : at_places s ts k (suc n - (0 - 1)) ((i + 1) + n) g ≡ at_places s ts k (suc n) (i + suc n) g =
-        ap (λ m. at_places s ts k m ((i + 1) + n) g) one ∙ ap (λ e. at_places s ts k (suc n) e g) place in
-        let found : (at_places s ts k (suc n) (i + suc n) g).found ≡ w.found = sym (ap (λ (x : Work). x.found) same) ∙ h.found in
-        let count : (at_places s ts k (suc n) (i + suc n) g).count < w.count = omega (arith, ap (λ (x : Work). x.count) same, h.fewer) in
+        let same : at_places k (suc n - (0 - 1)) ((i + 1) + n) g ≡ at_places k (suc n) (i + suc n) g =
+        ap (λ m. at_places k m ((i + 1) + n) g) one ∙ ap (λ e. at_places k (suc n) e g) place in
+        let found : (at_places k (suc n) (i + suc n) g).found ≡ w.found = sym (ap (λ (x : Work). x.found) same) ∙ h.found in
+        let count : (at_places k (suc n) (i + suc n) g).count < w.count = omega (arith, ap (λ (x : Work). x.count) same, h.fewer) in
         let begin : (k (i + suc n - suc n) g).count ≡ (k i g).count = ap (λ j. (k j g).count) start in
-        let all : (at_places s ts k (suc (suc n)) (i + suc n) g).count ≡ (at_places s ts k (suc n) (i + suc n) g).count + (k (i + suc n - suc n) g).count + 1 = last.1 in
+        let all : (at_places k (suc (suc n)) (i + suc n) g).count ≡ (at_places k (suc n) (i + suc n) g).count + (k (i + suc n - suc n) g).count + 1 = last.1 in
         let P : Work → Type 0 = λ v. Agrees v (tick (both (tick (tick (tick w))) (tick (k i g)))) in
-        subst P (ap (λ m. at_places s ts k m (i + suc n) g) (sym two)) (record {
-          found = last.0 ∙ ap (λ j. option_or (at_places s ts k (suc n) (i + suc n) g).found (k j g).found) start ∙ ap (λ f. option_or f (k i g).found) found;
+        subst P (ap (λ m. at_places k m (i + suc n) g) (sym two)) (record {
+          found = last.0 ∙ ap (λ j. option_or (at_places k (suc n) (i + suc n) g).found (k j g).found) start ∙ ap (λ f. option_or f (k i g).found) found;
           fewer = omega arith;
         })
     agrees-more n (suc l) i g w h =
         let count : suc n - (suc l - 1) ≡ suc (suc n) - suc l = omega arith in
         let place : (i + 1) + n ≡ i + suc n = omega arith in
-        let same : at_places s ts k (suc n - (suc l - 1)) ((i + 1) + n) g ≡ at_places s ts k (suc (suc n) - suc l) (i + suc n) g =
-        ap (λ m. at_places s ts k m ((i + 1) + n) g) count ∙ ap (λ e. at_places s ts k (suc (suc n) - suc l) e g) place in
-        let less : (at_places s ts k (suc (suc n) - suc l) (i + suc n) g).count < w.count = omega (arith, ap (λ (x : Work). x.count) same, h.fewer) in
-        subst (λ (b : Bool). Agrees (at_places s ts k (suc (suc n) - suc l) (i + suc n) g) (tick (both (tick (tick (tick w))) (leave_if b (tick (k i g)))))) (sym (suc_is l)) (record {
+        let same : at_places k (suc n - (suc l - 1)) ((i + 1) + n) g ≡ at_places k (suc (suc n) - suc l) (i + suc n) g =
+        ap (λ m. at_places k m ((i + 1) + n) g) count ∙ ap (λ e. at_places k (suc (suc n) - suc l) e g) place in
+        let less : (at_places k (suc (suc n) - suc l) (i + suc n) g).count < w.count = omega (arith, ap (λ (x : Work). x.count) same, h.fewer) in
+        subst (λ (b : Bool). Agrees (at_places k (suc (suc n) - suc l) (i + suc n) g) (tick (both (tick (tick (tick w))) (work_if b (tick (k i g)))))) (sym (suc_is l)) (record {
           found = sym (ap (λ (x : Work). x.found) same) ∙ h.found ∙ sym (or_none w.found);
           fewer = omega arith;
         })
@@ -153,12 +153,12 @@ module _ (s : List ℕ) (ts : List Tree) where
         ∙ ap (λ l. Some (i + l)) (len_utf8_ascii (get_or s i 0) ascii)
 
     -- the places of a stretch are what the loop tries
-    pub loop-places : (n fuel least i : ℕ) (g : Groups) → IsStretch s a i (i + n) → n < fuel → Agrees (at_places s ts k (suc n - least) (i + n) g) (loop fuel least i g)
+    pub loop-places : (n fuel least i : ℕ) (g : Groups) → IsStretch s a i (i + n) → n < fuel → Agrees (at_places k (suc n - least) (i + n) g) (loop fuel least i g)
     loop-places n zero least i g h f = absurd (omega arith)
     loop-places zero (suc fuel) least i g h f =
-        subst (Agrees (at_places s ts k (suc 0 - least) (i + 0) g)) (sym (loop-stops fuel least i g (char-behind i h))) (agrees-none least i g)
+        subst (Agrees (at_places k (suc 0 - least) (i + 0) g)) (sym (loop-stops fuel least i g (char-behind i h))) (agrees-none least i g)
     loop-places (suc n) (suc fuel) least i g h f =
-        subst (Agrees (at_places s ts k (suc (suc n) - least) (i + suc n) g)) (sym (loop-reads fuel least i (i + 1) g (char-held i n h) (ne_eqb (i + 1) i (λ e. omega arith))))
+        subst (Agrees (at_places k (suc (suc n) - least) (i + suc n) g)) (sym (loop-reads fuel least i (i + 1) g (char-held i n h) (ne_eqb (i + 1) i (λ e. omega arith))))
         (agrees-more n least i g (loop fuel (least - 1) (i + 1) g) (loop-places n fuel (least - 1) (i + 1) g (stretch-rest i n h) (omega arith)))
 
   -- a place within a stretch is on a boundary
@@ -188,14 +188,14 @@ module _ (s : List ℕ) (ts : List Tree) where
       let fs : List Frame = reverse old.frames.items in
       let K : On = list_at s ts xs k in
       let L : Work = search_turns (search s (one_of a)) true (suc (length s - i)) least None K i g in
-      let P : Work = at_places s ts K count end g in
+      let P : Work = at_places K count end g in
       let rises : i ≤ end = h.rises in
       let within : end ≤ length s = h.within in
       let to : i + (end - i) ≡ end = omega arith in
-      let from_start : Agrees a K (at_places s ts K (suc (end - i) - least) (i + (end - i)) g) L =
+      let from_start : Agrees a K (at_places K (suc (end - i) - least) (i + (end - i)) g) L =
       loop-places a K (end - i) (suc (length s - i)) least i g (subst (IsStretch s a i) (sym to) h) (omega arith) in
-      let at_end : Agrees a K (at_places s ts K (suc (end - i) - least) end g) L = subst (λ (j : ℕ). Agrees a K (at_places s ts K (suc (end - i) - least) j g) L) to from_start in
-      let agrees : Agrees a K P L = subst (λ (m : ℕ). Agrees a K (at_places s ts K m end g) L) (sym hc) at_end in
+      let at_end : Agrees a K (at_places K (suc (end - i) - least) end g) L = subst (λ (j : ℕ). Agrees a K (at_places K (suc (end - i) - least) j g) L) to from_start in
+      let agrees : Agrees a K P L = subst (λ (m : ℕ). Agrees a K (at_places K m end g) L) (sym hc) at_end in
       let cells : new.cells.items ≡ xs = ap (λ (x : Search). x.cells.items) ho in
       let groups : new.groups.items ≡ g = ap (λ (x : Search). x.groups.items) ho in
       let frames : reverse new.frames.items ≡ Frame.Stretch k count end (length xs) ∷ fs = ap reverse hr ∙ reverse-append old.frames.items (Frame.Stretch k count end (length xs) ∷ []) in
@@ -204,7 +204,7 @@ module _ (s : List ℕ) (ts : List Tree) where
       ap (λ (zs : List Cell). pending s ts zs new.groups.items (reverse new.frames.items) none) cells
       ∙ ap (λ (q : Groups). pending s ts xs q (reverse new.frames.items) none) groups
       ∙ ap (λ (rs : List Frame). pending s ts xs g rs none) frames
-      ∙ ap (λ (zs : List Cell). pending s ts zs g fs (both none (tick (at_places s ts (list_at s ts zs k) count end g)))) (take-length xs) in
+      ∙ ap (λ (zs : List Cell). pending s ts zs g fs (both none (tick (at_places (list_at s ts zs k) count end g)))) (take-length xs) in
       let w = less-work a K P L agrees in
       let less = pending-less s ts xs g fs (both none (tick P)) (tick L) w.0 w.1 in
       let fewer : (pending s ts xs g fs (both none (tick P))).count < (pending s ts xs g fs (tick L)).count = less.1 in
@@ -220,5 +220,6 @@ module _ (s : List ℕ) (ts : List Tree) where
           frames = rw (cells, frames) (hf.list, omega arith, boundaries, hf.frames);
           list = tt;
           place = rw (ap (λ (x : Search). x.place) ho) hf.place;
+          groups = rw groups hf.groups;
         };
       }

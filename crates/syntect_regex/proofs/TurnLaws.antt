@@ -7,13 +7,13 @@ use Rattle.std.proofs.Math.Seq.{take-append_seam, take-length}
 use Rattle.std.proofs.lemmas.List.{reverse-append}
 use Rattle.syntect_pattern.specs.Trees.{Tree, nothing, repeat}
 use Rattle.syntect_pattern.specs.Matches.{Groups}
-use Rattle.syntect_regex.specs.declared.engine.Turns.{Turns}
-use Rattle.syntect_regex.specs.declared.engine.Item.TheVariants.{Again}
-use Rattle.syntect_regex.specs.declared.engine.Cell.{Cell}
-use Rattle.syntect_regex.specs.declared.engine.Next.{Next}
-use Rattle.syntect_regex.specs.declared.engine.Search.{Search}
-use Rattle.syntect_regex.specs.declared.engine.Frame.{Frame}
-use Rattle.syntect_regex.specs.Machine.{Work, none, tick, both, On, on_item, list_at, search, tree_at, turns_of, prefer, after_turn, while_left, leave_if, is_used_up, one_turn_less, pending, Fits, Goes}
+use Rattle.syntect_regex.specs.declared.state.Turns.{Turns}
+use Rattle.syntect_regex.specs.declared.state.Item.TheVariants.{Again}
+use Rattle.syntect_regex.specs.declared.state.Cell.{Cell}
+use Rattle.syntect_regex.specs.declared.state.Next.{Next}
+use Rattle.syntect_regex.specs.declared.state.Search.{Search}
+use Rattle.syntect_regex.specs.declared.state.Frame.{Frame}
+use Rattle.syntect_regex.specs.Machine.{Work, none, tick, both, On, on_item, list_at, search, tree_at, turns_of, prefer, after_turn, while_left, work_if, is_used_up, one_turn_less, pending, Fits, Goes}
 use Rattle.syntect_regex.proofs.WorkLaws.{both-tick, both-none, both-none_right, ticks}
 use Rattle.syntect_regex.proofs.MachineLaws.{list_at-append, list_at-seam, pending-append, CellsFit-push, FramesFit-more}
 use Rattle.syntect_regex.proofs.StepLaws.{goes_by, goes_on, goes_cons, pending-ticks}
@@ -56,12 +56,12 @@ module _ (s : List ℕ) (ts : List Tree) (t : Turns) (greedy : Bool) (least : �
   more k i g = search s A (on_item s ts (Again (one_turn_less t) i) k) i g
 
   pub turn-now : (k : On) (i : ℕ) (g : Groups) → 0 < t.left
-      → turns_of s ts (tree_at s ts t.node) t k i g ≡ tick (prefer greedy (while_left t.most (tick (more k i g))) (leave_if (t.least == 0) (tick (k i g))))
+      → turns_of s ts (tree_at s ts t.node) t k i g ≡ tick (prefer greedy (while_left t.most (tick (more k i g))) (work_if (t.least == 0) (tick (k i g))))
   turn-now k i g h =
       let n : suc (t.left - 1) ≡ t.left = omega arith in
       ap (λ (T : Tree). turns_of s ts T t k i g) is
       ∙ ap (λ (l : ℕ). turns_of s ts (repeat greedy least most A) (record t { left = l }) k i g) (sym n)
-      ∙ ap (λ (T : Tree). tick (prefer greedy (while_left t.most (tick (search s A (λ j h. tick (after_turn (j == i) k (turns_of s ts T (one_turn_less t) k) j h)) i g))) (leave_if (t.least == 0) (tick (k i g))))) (sym is)
+      ∙ ap (λ (T : Tree). tick (prefer greedy (while_left t.most (tick (search s A (λ j h. tick (after_turn (j == i) k (turns_of s ts T (one_turn_less t) k) j h)) i g))) (work_if (t.least == 0) (tick (k i g))))) (sym is)
 
   -- no turn is left, and the loop is left where its least count is reached
   pub goes_turn-leave : (x : Search) (k : ℕ) → Fits s (Next.Turn t k) x → 0 < t.left → is_used_up t.most ≡ true → (t.least == 0) ≡ true → Goes s ts (Next.Turn t k) x (Next.Leave k) x
@@ -69,8 +69,8 @@ module _ (s : List ℕ) (ts : List Tree) (t : Turns) (greedy : Bool) (least : �
       let K : Work = list_at s ts x.cells.items k x.place x.groups.items in
       goes_on s ts (Next.Turn t k) (Next.Leave k) x 1 hf
       (turn-now (list_at s ts x.cells.items k) x.place x.groups.items hl
-      ∙ ap (λ w. tick (prefer greedy w (leave_if (t.least == 0) (tick K)))) (while-used t.most (tick (more (list_at s ts x.cells.items k) x.place x.groups.items)) hu)
-      ∙ ap (λ b. tick (prefer greedy none (leave_if b (tick K)))) h0
+      ∙ ap (λ w. tick (prefer greedy w (work_if (t.least == 0) (tick K)))) (while-used t.most (tick (more (list_at s ts x.cells.items k) x.place x.groups.items)) hu)
+      ∙ ap (λ b. tick (prefer greedy none (work_if b (tick K)))) h0
       ∙ ap tick (prefer-leave greedy (tick K)))
       hf.list
 
@@ -79,8 +79,8 @@ module _ (s : List ℕ) (ts : List Tree) (t : Turns) (greedy : Bool) (least : �
       let K : Work = list_at s ts x.cells.items k x.place x.groups.items in
       goes_on s ts (Next.Turn t k) Next.Fail x 0 hf
       (turn-now (list_at s ts x.cells.items k) x.place x.groups.items hl
-      ∙ ap (λ w. tick (prefer greedy w (leave_if (t.least == 0) (tick K)))) (while-used t.most (tick (more (list_at s ts x.cells.items k) x.place x.groups.items)) hu)
-      ∙ ap (λ b. tick (prefer greedy none (leave_if b (tick K)))) h0
+      ∙ ap (λ w. tick (prefer greedy w (work_if (t.least == 0) (tick K)))) (while-used t.most (tick (more (list_at s ts x.cells.items k) x.place x.groups.items)) hu)
+      ∙ ap (λ b. tick (prefer greedy none (work_if b (tick K)))) h0
       ∙ ap tick (prefer-none greedy))
       tt
 
@@ -93,10 +93,10 @@ module _ (s : List ℕ) (ts : List Tree) (t : Turns) (greedy : Bool) (least : �
       let M : Work = more (list_at s ts old.cells.items k) old.place old.groups.items in
       goes_cons s ts (Next.Turn t k) old new 1 a (record { item = Again (one_turn_less t) old.place; next = k }) hf hc ho
       (turn-now (list_at s ts old.cells.items k) old.place old.groups.items hl
-      ∙ ap (λ w. tick (prefer greedy w (leave_if (t.least == 0) (tick K)))) (while-unused t.most (tick M) hu)
-      ∙ ap (λ b. tick (prefer greedy (tick M) (leave_if b (tick K)))) h0
+      ∙ ap (λ w. tick (prefer greedy w (work_if (t.least == 0) (tick K)))) (while-unused t.most (tick M) hu)
+      ∙ ap (λ b. tick (prefer greedy (tick M) (work_if b (tick K)))) h0
       ∙ ap tick (prefer-more greedy (tick M)))
-      hf.list
+      hf.list tt
 
   both-ticks : (w x : Work) → tick (both (tick w) (tick x)) ≡ tick (tick (both w (tick x)))
   both-ticks w x = ap tick (both-tick w (tick x))
@@ -119,16 +119,16 @@ module _ (s : List ℕ) (ts : List Tree) (t : Turns) (greedy : Bool) (least : �
       hc hi hs (ap reverse hr ∙ reverse-append old.frames.items (Frame.Leave k old.place (length xs) ∷ []))
       (ap (pending s ts xs g fs)
       (turn-now (list_at s ts xs k) old.place g hl
-      ∙ ap (λ w. tick (prefer greedy w (leave_if (t.least == 0) (tick K)))) (while-unused t.most (tick M) hu)
-      ∙ ap (λ b. tick (prefer greedy (tick M) (leave_if b (tick K)))) h0
+      ∙ ap (λ w. tick (prefer greedy w (work_if (t.least == 0) (tick K)))) (while-unused t.most (tick M) hu)
+      ∙ ap (λ b. tick (prefer greedy (tick M) (work_if b (tick K)))) h0
       ∙ ap (λ b. tick (prefer b (tick M) (tick K))) hg
       ∙ both-ticks M K)
       ∙ pending-ticks s ts 2 xs g fs (both M (tick K))
       ∙ ap (λ zs. ticks 2 (pending s ts zs g fs (both M (tick (list_at s ts zs k old.place g))))) (sym (take-append_seam xs (c ∷ [])))
       ∙ ap (λ (l : On). ticks 2 (pending s ts (xs ++ c ∷ []) g (Frame.Leave k old.place (length xs) ∷ fs) (search s A l old.place g))) (sym (list_at-seam s ts xs c [])))
-      (CellsFit-push xs c hf.cells hf.list)
+      (CellsFit-push s xs c hf.cells hf.list tt)
       (hf.list, omega arith, hf.place, hf.frames)
-      (omega arith) hf.place)
+      (omega arith) hf.place hf.groups)
 
   -- a lazy loop is left and keeps another turn for later
   pub goes_turn-lazy : (old new : Search) (k : ℕ) → Fits s (Next.Turn t k) old → 0 < t.left → is_used_up t.most ≡ false → (t.least == 0) ≡ true → greedy ≡ false
@@ -150,8 +150,8 @@ module _ (s : List ℕ) (ts : List Tree) (t : Turns) (greedy : Bool) (least : �
       ∙ ap (λ zs. Frame.Enter a (suc (length xs)) old.place (length zs) ∷ fs) hc)
       (ap (pending s ts xs g fs)
       (turn-now (list_at s ts xs k) old.place g hl
-      ∙ ap (λ w. tick (prefer greedy w (leave_if (t.least == 0) (tick K)))) (while-unused t.most (tick M) hu)
-      ∙ ap (λ b. tick (prefer greedy (tick M) (leave_if b (tick K)))) h0
+      ∙ ap (λ w. tick (prefer greedy w (work_if (t.least == 0) (tick K)))) (while-unused t.most (tick M) hu)
+      ∙ ap (λ b. tick (prefer greedy (tick M) (work_if b (tick K)))) h0
       ∙ ap (λ b. tick (prefer b (tick M) (tick K))) hg
       ∙ both-ticks K M)
       ∙ pending-ticks s ts 2 xs g fs (both K (tick M))
@@ -159,9 +159,9 @@ module _ (s : List ℕ) (ts : List Tree) (t : Turns) (greedy : Bool) (least : �
       ∙ ap (λ (l : On). ticks 2 (pending s ts (xs ++ c ∷ []) g fs (both K (tick (search s A l old.place g))))) (sym (list_at-seam s ts xs c []))
       ∙ ap (λ zs. ticks 2 (pending s ts zs g fs (both K (tick (search s A (list_at s ts zs (suc (length xs))) old.place g))))) (sym (take-length (xs ++ c ∷ [])))
       ∙ ap (λ (l : On). ticks 2 (pending s ts (xs ++ c ∷ []) g (Frame.Enter a (suc (length xs)) old.place (length (xs ++ c ∷ [])) ∷ fs) (l old.place g))) (sym (list_at-append s ts xs (c ∷ []) k hf.list)))
-      (CellsFit-push xs c hf.cells hf.list)
+      (CellsFit-push s xs c hf.cells hf.list tt)
       (omega arith, omega arith, hf.place, FramesFit-more s (length xs) (length (xs ++ c ∷ [])) fs (omega arith) hf.frames)
-      (let e : k ≤ length xs = hf.list in omega arith) hf.place
+      (let e : k ≤ length xs = hf.list in omega arith) hf.place hf.groups
 
   -- another turn is allowed, and so is leaving
   pub goes_choose : {E : Type 0} (old new : Search) (k : ℕ) (r : Result Next E) (less : Turns) → less ≡ one_turn_less t → Fits s (Next.Turn t k) old → 0 < t.left → is_used_up t.most ≡ false → (t.least == 0) ≡ true
@@ -205,7 +205,12 @@ goes_no_loop s ts t n x k is other hf =
     go Node.Nothing not_loop = refl
     go (Node.Char c) not_loop = refl
     go (Node.Class c) not_loop = refl
+    go (Node.Anchor a) not_loop = refl
+    go (Node.Same fold m) not_loop = refl
     go (Node.Sequence a b) not_loop = refl
     go (Node.Alternation a b) not_loop = refl
     go (Node.Repeat greedy least most a) not_loop = absurd (not_loop greedy least most a refl)
     go (Node.Group m a) not_loop = refl
+    go (Node.Atomic a) not_loop = refl
+    go (Node.Ahead negated a) not_loop = refl
+    go (Node.Behind negated a) not_loop = refl

@@ -1,8 +1,9 @@
 -- The laws of work.
 use Rattle.std.proofs.Common.{◌≡◌, ℕ, zero, suc, ◌+◌, refl, ◌∙◌, ap, arith, Option, Some, None}
 use Rattle.std.specs.Option.{option_or}
-use Rattle.syntect_pattern.specs.Matches.{Member}
-use Rattle.syntect_regex.specs.Machine.{Work, none, tick, both}
+use Rattle.syntect_pattern.specs.Matches.{Groups, Member}
+use Rattle.syntect_regex.specs.declared.state.Bound.{Bound}
+use Rattle.syntect_regex.specs.Machine.{Work, On, none, tick, both, outcome, bounded}
 
 -- equal finds and equal counts
 pub same_work : (f f' : Option Member) (m n : ℕ) → f ≡ f' → m ≡ n → (let w : Work = record { found = f; count = m } in w) ≡ record { found = f'; count = n }
@@ -35,6 +36,15 @@ both-none w = same_work _ _ _ _ refl (omega arith)
 pub both-none_right : (w : Work) → both w none ≡ w
 unfolding both none
 both-none_right w = same_work _ _ _ _ (or_none w.found) (omega arith)
+
+pub bounded-tick : (b : Bound) (w : Work) (k : On) (i : ℕ) (g : Groups) → bounded b (tick w) k i g ≡ tick (bounded b w k i g)
+unfolding bounded tick
+bounded-tick b w k i g = same_work _ _ _ _ refl (omega arith)
+
+-- a part without a match
+pub bounded-none : (b : Bound) (k : On) (i : ℕ) (g : Groups) → bounded b none k i g ≡ outcome b None k i g
+unfolding bounded none
+bounded-none b k i g = same_work _ _ _ _ refl (omega arith)
 
 -- n steps more
 abbrev pub ticks : ℕ → Work → Work

@@ -1,21 +1,22 @@
 -- What a search still has to do: the match that it finds first, and how many steps it has left.
-use Rattle.std.specs.Prelude.{◌≡◌, ℕ, zero, suc, ◌+◌, ◌-◌, ◌≤◌, ◌<◌, Bool, true, false, List, [], ◌∷◌, ◌++◌, length, take, reverse, Option, Some, None, option_map, if◌then◌else◌, ◌==◌, slice_set, slice_index_or, IsCharBoundary}
+use Rattle.std.specs.Prelude.{◌≡◌, ℕ, zero, suc, ◌+◌, ◌-◌, ◌≤◌, ◌<◌, Bool, true, false, List, [], ◌∷◌, ◌++◌, length, take, reverse, Option, Some, None, option_map, if◌then◌else◌, ◌==◌, slice_get, slice_set, slice_index_or, IsCharBoundary}
 use Rattle.std.specs.Char.{len_utf8}
 use Rattle.std.specs.Option.{option_or}
-use Rattle.syntect_pattern.specs.Text.{char_at}
+use Rattle.syntect_pattern.specs.Text.{char_at, is_boundary}
 use Rattle.syntect_pattern.specs.Sets.{holds}
-use Rattle.syntect_pattern.specs.Trees.{Tree, nothing, one_of, seq, alt, repeat, group}
-use Rattle.syntect_pattern.specs.Matches.{Groups, Member, matches, found, found_at}
+use Rattle.syntect_pattern.specs.Trees.{Tree, nothing, one_of, anchor, same, seq, alt, repeat, group, atomic, ahead, behind}
+use Rattle.syntect_pattern.specs.Matches.{Groups, Member, stands, same_text, found, found_at}
 use Rattle.syntect_pattern.specs.Program.{IsProgramOf}
 use Rattle.syntect_pattern.specs.declared.program.Program.{Program}
-use Rattle.syntect_regex.specs.declared.engine.Turns.{Turns}
-use Rattle.syntect_regex.specs.declared.engine.Item.{Item}
-use Rattle.syntect_regex.specs.declared.engine.Item.TheVariants.{Run, Close, Again}
-use Rattle.syntect_regex.specs.declared.engine.Cell.{Cell}
-use Rattle.syntect_regex.specs.declared.engine.Next.{Next}
-use Rattle.syntect_regex.specs.declared.engine.Search.{Search}
-use Rattle.syntect_regex.specs.declared.engine.Frame.{Frame}
-use Rattle.syntect_regex.specs.declared.engine.Frame.TheVariants.{Enter, Leave, Stretch, Restore}
+use Rattle.syntect_regex.specs.declared.state.Turns.{Turns}
+use Rattle.syntect_regex.specs.declared.state.Item.{Item}
+use Rattle.syntect_regex.specs.declared.state.Item.TheVariants.{Run, Close, Again, EndsAt}
+use Rattle.syntect_regex.specs.declared.state.Cell.{Cell}
+use Rattle.syntect_regex.specs.declared.state.Bound.{Bound}
+use Rattle.syntect_regex.specs.declared.state.Next.{Next}
+use Rattle.syntect_regex.specs.declared.state.Search.{Search}
+use Rattle.syntect_regex.specs.declared.state.Frame.{Frame}
+use Rattle.syntect_regex.specs.declared.state.Frame.TheVariants.{Enter, Leave, Stretch, Starts, Within, Restore}
 
 pub record Work : Type 0 where
   pub found : Option Member
@@ -66,10 +67,10 @@ abbrev pub while_left : Option ℕ → Work → Work
 while_left (Some zero) w = none
 while_left _ w = w
 
--- a loop is left where its least count is reached
-abbrev pub leave_if : Bool → Work → Work
-leave_if true w = w
-leave_if false w = none
+-- this is done where the test holds
+abbrev pub work_if : Bool → Work → Work
+work_if true w = w
+work_if false w = none
 
 -- a turn that reads nothing leaves the loop
 abbrev pub after_turn : Bool → On → On → On
@@ -93,9 +94,54 @@ search_turns body greedy zero least most k i g = tick none
 search_turns body greedy (suc n) least most k i g =
     tick (prefer greedy
     (while_left most (tick (body (λ j h. tick (after_turn (j == i) k (search_turns body greedy n (least - 1) (one_less most) k) j h)) i g)))
-    (leave_if (least == 0) (tick (k i g))))
+    (work_if (least == 0) (tick (k i g))))
+
+-- the match ends here
+abbrev pub done : On
+done i g = tick (one i g)
+
+-- k, where the place is this one
+abbrev pub ends_at : ℕ → On → On
+ends_at e k i g = tick (work_if (i == e) (k i g))
+
+-- k at so many places, the last one first
+abbrev pub at_places : On → ℕ → ℕ → Groups → Work
+at_places k zero place g = none
+at_places k (suc n) place g = both (tick (k place g)) (at_places k n (place - 1) g)
+
+-- what follows a part that began at the place, by its first match
+abbrev pub outcome : Bound → Option Member → On → On
+outcome Bound.Whole None k i g = none
+outcome Bound.Whole (Some (j, h)) k i g = k j h
+outcome Bound.Holds None k i g = none
+outcome Bound.Holds (Some (j, h)) k i g = k i h
+outcome Bound.Fails None k i g = k i g
+outcome Bound.Fails (Some m) k i g = none
+
+-- the part, and then what follows it
+unfoldable pub bounded : Bound → Work → On → On
+bounded b w k i g = record { found = (outcome b w.found k i g).found; count = w.count + (outcome b w.found k i g).count }
+
+-- lookarounds
+abbrev pub look_bound : Bool → Bound
+look_bound true = Bound.Fails
+look_bound false = Bound.Holds
+
+-- a match that ends at the place without changing groups, if there is one
+abbrev pub at_end : Option ℕ → Groups → List Member
+at_end None g = []
+at_end (Some j) g = (j, g) ∷ []
 
 module _ (s : List ℕ) where
+  -- a match can begin at the place: it is 0, or a character begins there or the text ends
+  abbrev pub is_start : ℕ → Bool
+  is_start zero = true
+  is_start (suc i) = is_boundary s (suc i)
+
+  -- the part, and then k, at a place where a match can begin
+  abbrev pub at_start : (On → On) → On → On
+  at_start body k i g = work_if (is_start i) (body k i g)
+
   -- the tree, and then k
   abbrev pub search : Tree → On → On
   search nothing k i g = tick (k i g)
@@ -104,14 +150,18 @@ module _ (s : List ℕ) where
   search (alt a b) k i g = tick (both (search a k i g) (tick (search b k i g)))
   search (repeat greedy least most a) k i g = tick (search_turns (search a) greedy (suc (length s - i)) least most k i g)
   search (group n a) k i g = tick (search a (λ j h. tick (tick (k j (slice_set h n (Some (i, j)))))) i g)
-  search t k i g = at_each k (matches s t i g)
+  search (anchor a) k i g = tick (work_if (stands s a i) (k i g))
+  search (same fold n) k i g = tick (at_each k (same_text s fold (slice_get g n) i g))
+  search (atomic a) k i g = tick (tick (bounded Bound.Whole (search a done i g) k i g))
+  search (ahead negated a) k i g = tick (tick (bounded (look_bound negated) (search a done i g) k i g))
+  search (behind negated a) k i g = tick (tick (bounded (look_bound negated) (tick (at_places (at_start (search a) (ends_at i done)) (suc i) i g)) k i g))
 
   module _ (ts : List Tree) where
     abbrev pub tree_at : ℕ → Tree
     tree_at n = slice_index_or ts n nothing
 
     abbrev pub end : On
-    end i g = tick (one i g)
+    end = done
 
     -- the loop's turns, where the node is a loop
     abbrev pub turns_of : Tree → Turns → On → On
@@ -122,6 +172,7 @@ module _ (s : List ℕ) where
     on_item (Run n) k i g = tick (search (tree_at n) k i g)
     on_item (Close n a) k i g = tick (tick (k i (slice_set g n (Some (a, i)))))
     on_item (Again t a) k i g = tick (after_turn (i == a) k (turns_of (tree_at t.node) t k) i g)
+    on_item (EndsAt e) k i g = ends_at e k i g
 
     -- list 0 is empty, and list k + 1 begins with cell k
     abbrev pub list_in : List On → ℕ → On
@@ -139,11 +190,6 @@ module _ (s : List ℕ) where
     unfoldable pub list_at : List Cell → ℕ → On
     list_at cells k = list_in (lists_from [] cells) k
 
-    -- k at so many places, the last one first
-    abbrev pub at_places : On → ℕ → ℕ → Groups → Work
-    at_places k zero place g = none
-    at_places k (suc n) place g = both (tick (k place g)) (at_places k n (place - 1) g)
-
     -- what a search does that first does w, and then what the frames say, the last one first
     abbrev pub pending : List Cell → Groups → List Frame → Work → Work
     pending cells g [] w = w
@@ -151,6 +197,9 @@ module _ (s : List ℕ) where
         pending (take len cells) g fs (both w (tick (search (tree_at n) (list_at (take len cells) k) i g)))
     pending cells g (Leave k i len ∷ fs) w = pending (take len cells) g fs (both w (tick (list_at (take len cells) k i g)))
     pending cells g (Stretch k n i len ∷ fs) w = pending (take len cells) g fs (both w (tick (at_places (list_at (take len cells) k) n i g)))
+    pending cells g (Starts n k c i len ∷ fs) w =
+        pending (take len cells) g fs (both w (tick (at_places (at_start (search (tree_at n)) (list_at (take len cells) k)) c i g)))
+    pending cells g (Within b k i len ∷ fs) w = pending (take len cells) g fs (tick (bounded b w (list_at (take len cells) k) i g))
     pending cells g (Restore n old ∷ fs) w = pending cells (slice_set g n old) fs (tick w)
 
     abbrev pub now : Next → List Cell → ℕ → Groups → Work
@@ -163,13 +212,23 @@ module _ (s : List ℕ) where
     abbrev pub total : Next → Search → Work
     total next x = pending x.cells.items x.groups.items (reverse x.frames.items) (now next x.cells.items x.place x.groups.items)
 
+-- the ends of a group's span are on boundaries
+abbrev pub SlotFits : List ℕ → Option (ℕ × ℕ) → Type 0
+SlotFits s None = Unit {0}
+SlotFits s (Some (a, b)) = IsCharBoundary s a × IsCharBoundary s b
+
+abbrev pub GroupsFit : List ℕ → Groups → Type 0
+GroupsFit s g = (n : ℕ) → SlotFits s (slice_index_or g n None)
+
 -- The lists of the frames are there, and stay there while those above are taken off.
 abbrev pub FramesFit : List ℕ → ℕ → List Frame → Type 0
 FramesFit s n [] = Unit {0}
 FramesFit s n (Enter node k i len ∷ fs) = (k ≤ len) × (len ≤ n) × IsCharBoundary s i × FramesFit s len fs
 FramesFit s n (Leave k i len ∷ fs) = (k ≤ len) × (len ≤ n) × IsCharBoundary s i × FramesFit s len fs
 FramesFit s n (Stretch k count i len ∷ fs) = (k ≤ len) × (len ≤ n) × ((m : ℕ) → m < count → IsCharBoundary s (i - m)) × FramesFit s len fs
-FramesFit s n (Restore i old ∷ fs) = FramesFit s n fs
+FramesFit s n (Starts node k count i len ∷ fs) = (k ≤ len) × (len ≤ n) × FramesFit s len fs
+FramesFit s n (Within b k i len ∷ fs) = (k ≤ len) × (len ≤ n) × IsCharBoundary s i × FramesFit s len fs
+FramesFit s n (Restore i old ∷ fs) = SlotFits s old × FramesFit s n fs
 
 abbrev pub ListFits : Next → ℕ → Type 0
 ListFits (Next.Enter n k) len = k ≤ len
@@ -178,15 +237,21 @@ ListFits (Next.Leave k) len = k ≤ len
 ListFits Next.Fail len = Unit {0}
 ListFits Next.Found len = Unit {0}
 
+-- the place where a group began is on a boundary
+abbrev pub ItemFits : List ℕ → Item → Type 0
+ItemFits s (Close n a) = IsCharBoundary s a
+ItemFits s _ = Unit {0}
+
 -- the list of each cell's others stands before it
-abbrev pub CellsFit : List Cell → Type 0
-CellsFit cells = (k : ℕ) (d : Cell) → k < length cells → (slice_index_or cells k d).next ≤ k
+abbrev pub CellsFit : List ℕ → List Cell → Type 0
+CellsFit s cells = (k : ℕ) (d : Cell) → k < length cells → ((slice_index_or cells k d).next ≤ k) × ItemFits s (slice_index_or cells k d).item
 
 pub record Fits (s : List ℕ) (next : Next) (x : Search) : Type 0 where
-  pub cells : CellsFit x.cells.items
+  pub cells : CellsFit s x.cells.items
   pub frames : FramesFit s (length x.cells.items) (reverse x.frames.items)
   pub list : ListFits next (length x.cells.items)
   pub place : IsCharBoundary s x.place
+  pub groups : GroupsFit s x.groups.items
 
 module _ (s : List ℕ) (ts : List Tree) where
   -- what a search finds
@@ -229,6 +294,64 @@ pub record TriesLast (k n i len : ℕ) (old : Search) (next : Next) (new : Searc
 abbrev pub Retreats : ℕ → ℕ → ℕ → ℕ → Search → Next → Search → Type 0
 Retreats k zero i len old next new = (next ≡ Next.Fail) × ReturnsTo old.place len old new
 Retreats k (suc n) i len old next new = TriesLast k n i len old next new
+
+-- the node is tried at the last of so many places, and the others are kept
+pub record TriesStart (s : List ℕ) (node k n i len : ℕ) (old : Search) (next : Next) (new : Search) : Type 0 where
+  pub next_is : next ≡ (if is_start s i then Next.Enter node k else Next.Fail)
+  pub place : new.place ≡ (if is_start s i then i else old.place)
+  pub cells : new.cells.items ≡ take len old.cells.items
+  pub groups : new.groups.items ≡ old.groups.items
+  pub frames : new.frames.items ≡ old.frames.items ++ Starts node k n (i - 1) len ∷ []
+
+-- a frame of starts is taken off
+abbrev pub Restarts : List ℕ → ℕ → ℕ → ℕ → ℕ → ℕ → Search → Next → Search → Type 0
+Restarts s node k zero i len old next new = (next ≡ Next.Fail) × ReturnsTo old.place len old new
+Restarts s node k (suc n) i len old next new = TriesStart s node k n i len old next new
+
+-- a part has no match
+abbrev pub ComesOut : Bound → ℕ → ℕ → ℕ → Search → Next → Search → Type 0
+ComesOut Bound.Whole k i len old next new = (next ≡ Next.Fail) × ReturnsTo old.place len old new
+ComesOut Bound.Holds k i len old next new = (next ≡ Next.Fail) × ReturnsTo old.place len old new
+ComesOut Bound.Fails k i len old next new = (next ≡ Next.Leave k) × ReturnsTo i len old new
+
+-- the part that began last, of which the first match counts alone, with its list and its place
+abbrev pub bound_of : List Frame → Option (Bound × ℕ × ℕ)
+bound_of [] = None
+bound_of (Enter n k i len ∷ fs) = bound_of fs
+bound_of (Leave k i len ∷ fs) = bound_of fs
+bound_of (Stretch k n i len ∷ fs) = bound_of fs
+bound_of (Starts node k n i len ∷ fs) = bound_of fs
+bound_of (Within b k i len ∷ fs) = Some (b, k, i)
+bound_of (Restore n old ∷ fs) = bound_of fs
+
+-- the frames without what that part can still try
+abbrev pub uncut : List Frame → List Frame
+uncut [] = []
+uncut (Enter n k i len ∷ fs) = uncut fs
+uncut (Leave k i len ∷ fs) = uncut fs
+uncut (Stretch k n i len ∷ fs) = uncut fs
+uncut (Starts node k n i len ∷ fs) = uncut fs
+uncut (Within b k i len ∷ fs) = fs
+uncut (Restore n old ∷ fs) = Restore n old ∷ uncut fs
+
+-- what comes behind the first match of that part, and where
+abbrev pub next_of : Bound × ℕ × ℕ → Next
+next_of (Bound.Whole, k, i) = Next.Leave k
+next_of (Bound.Holds, k, i) = Next.Leave k
+next_of (Bound.Fails, k, i) = Next.Fail
+
+abbrev pub place_of : Bound × ℕ × ℕ → ℕ → ℕ
+place_of (Bound.Whole, k, i) j = j
+place_of (Bound.Holds, k, i) j = i
+place_of (Bound.Fails, k, i) j = j
+
+-- the part is cut
+pub record Cuts (b : Bound × ℕ × ℕ) (old : Search) (next : Next) (new : Search) : Type 0 where
+  pub next_is : next ≡ next_of b
+  pub place : new.place ≡ place_of b old.place
+  pub cells : new.cells.items ≡ old.cells.items
+  pub groups : new.groups.items ≡ old.groups.items
+  pub frames : reverse new.frames.items ≡ uncut (reverse old.frames.items)
 
 -- a loop over one character is entered
 abbrev pub EntersStretch : List ℕ → List Tree → ℕ → ℕ → ℕ → Search → Search → Type 0

@@ -7,7 +7,7 @@ use Rattle.std.specs.Cmp.Lexicographic.{pointwise, lists_equiv, options_equiv}
 use Rattle.std.proofs.Common.{MutBor, inl, inr}
 use Rattle.syntect_pattern.specs.Trees.{Tree}
 use Rattle.syntect_pattern.specs.Matches.{Groups, found, found_at}
-use Rattle.syntect_pattern.specs.Simple.{pattern_tree}
+use Rattle.syntect_pattern.specs.Pattern.{pattern_tree}
 use Rattle.syntect_pattern.specs.Program.{IsProgramOf}
 use Rattle.syntect_pattern.specs.declared.program.Program.{Program}
 

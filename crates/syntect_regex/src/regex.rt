@@ -1,15 +1,17 @@
 //! Patterns.
-ghost use Rattle.std.specs.Prelude.{◌≡◌, ◌≤◌, ◌==◌, take, drop, string_bytes, IfOk, OnErr, IfSome, IfNone, IsCharBoundary, is_some, is_ok, unwrap_or, if◌then◌else◌, None, true};
+ghost use Rattle.std.specs.Prelude.{◌≡◌, ◌≤◌, ◌==◌, ◌++◌, encode_utf8_all, OnOk, take, drop, string_bytes, IfOk, OnErr, IfSome, IfNone, IsCharBoundary, is_some, is_ok, unwrap_or, option_and_then, if◌then◌else◌, None, true};
 ghost use Rattle.std.specs.Cmp.Lexicographic.{pointwise};
 ghost use Rattle.std.proofs.Common.{rules};
 ghost use Rattle.std.specs.Cmp.Rules.{comparing};
-ghost use Rattle.syntect_pattern.specs.Simple.{pattern_tree, pattern_found};
+ghost use Rattle.syntect_pattern.specs.Trees.{group_in_look};
+ghost use Rattle.syntect_pattern.specs.Pattern.{pattern_tree, pattern_found};
 ghost use Rattle.syntect_regex.specs.declared.error.PatternError.{PatternError};
+ghost use Rattle.syntect_regex.specs.Escape.{is_special, escaped_char, escaped};
 ghost use Rattle.syntect_regex.specs.Region.{TakesMatch, Leaves, pattern_begins};
 
-use crate::engine::Search;
 use crate::error::PatternError;
 use crate::region::Region;
+use crate::state::Search;
 use std::alloc::{AllocError, Global};
 use std::marker::Model;
 use syntect_pattern::compiler::compile;
@@ -60,6 +62,17 @@ impl Regex {
         ensures { result.now ≡ self.now }
     {
         self.text.as_str()
+    }
+
+    /// Whether the group of the number stands in a lookaround, which group 0, the whole match, never does. None without such
+    /// a group, and for a text that is no pattern.
+    pub fn group(&self, number: usize) -> Option<bool>
+        ensures { result ≡ option_and_then (λ tree. group_in_look tree number) (pattern_tree self.now) }
+    {
+        match &self.program {
+            Some(program) => program.group(number),
+            None => None,
+        }
     }
 
     /// An equal pattern.
@@ -123,6 +136,54 @@ impl Regex {
         let mut search = Search::new(alloc);
         search.begins_at(program, text, 0)
     }
+}
+
+/// The character can have a meaning of its own in a pattern.
+#[tactic(auto, unfolding(crate::specs::Escape::is_special))]
+fn is_special(c: char) -> bool
+    ensures { result ≡ is_special c }
+{
+    matches!(
+        c,
+        '\\' | '.'
+            | '+'
+            | '*'
+            | '?'
+            | '('
+            | ')'
+            | '|'
+            | '['
+            | ']'
+            | '{'
+            | '}'
+            | '^'
+            | '$'
+            | '#'
+            | '&'
+            | '-'
+            | '~'
+    )
+}
+
+/// Puts the character last, escaped if it can have a meaning of its own.
+fn push_escaped(pattern: &mut String, c: char) -> Result<(), AllocError>
+    ensures { OnOk result (string_bytes pattern.new ≡ string_bytes pattern.old ++ encode_utf8_all (escaped_char c)) }
+{
+    if is_special(c) {
+        pattern.push('\\')?;
+    }
+    pattern.push(c)
+}
+
+/// The pattern that matches just this text.
+pub fn escape(alloc: Global, text: &str) -> Result<String, AllocError>
+    ensures { IfOk result (λ t. string_bytes t ≡ escaped text.now) }
+{
+    let mut pattern = String::new(alloc);
+    for c in text.chars() {
+        push_escaped(&mut pattern, c)?;
+    }
+    Ok(pattern)
 }
 
 impl PartialEq for Regex {

@@ -4,7 +4,7 @@ ghost use Rattle.syntect_pattern.specs.Matches.{Groups};
 ghost use Rattle.syntect_regex.specs.Region.{Takes, same_groups, same_groups-equiv};
 ghost use Rattle.std.specs.Cmp.{partial_equiv_from_equiv};
 
-use crate::engine::{Search, Span};
+use crate::state::{Search, Span};
 use std::alloc::{AllocError, Global};
 use std::marker::Model;
 use std::mem;

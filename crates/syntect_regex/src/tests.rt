@@ -59,7 +59,7 @@ fn refuses_what_is_no_pattern(rt: HostRuntime) -> Result<(), Fail> {
         Some(PatternError::NotAPattern)
     );
     assert_eq!(rt;
-        Regex::try_compile(rt.alloc(), "a++"),
+        Regex::try_compile(rt.alloc(), "a**"),
         Some(PatternError::NotAPattern)
     );
     assert_eq!(rt; Regex::try_compile(rt.alloc(), "[a-c0 ]+x"), None);

@@ -1,13 +1,10 @@
-use Rattle.std.proofs.Common.{◌≡◌, ◌<◌, length}
+use Rattle.std.proofs.Common.{◌≡◌, ◌<◌, ◌||◌, ℕ, length, get_or, true}
 use Rattle.syntect_pattern.specs.Builder.{tree_in}
-use Rattle.syntect_pattern.specs.Starts.{first_set}
+use Rattle.syntect_pattern.specs.Starts.{reads, stays}
 use Rattle.syntect_pattern.proofs.starts.starts.Given as goal
 
-abbrev pub invariant-loop-node : goal.invariant-loop-node
-invariant-loop-node l = record {
-  inside : l.node < length l.nodes;
-  same : first_set (tree_in l.nodes l.node) ≡ first_set (tree_in l.nodes l.fn.root);
+abbrev pub invariant-loop-x : goal.invariant-loop-x
+invariant-loop-x l = record {
+  count : length l.flags ≡ l.x;
+  right : (k : ℕ) → k < l.x → get_or l.flags k true ≡ (reads (tree_in l.nodes l.root) k || stays (tree_in l.nodes l.root) k);
 }
-
-abbrev pub decreases-loop-node : goal.decreases-loop-node
-decreases-loop-node l = l.node

@@ -1,0 +1,23 @@
+use Rattle.std.proofs.Common.{◌≡◌, ◌-◌, ◌+◌, ◌*◌, length}
+use Rattle.syntect_pattern.specs.SetTable.{SetsGrow}
+use Rattle.syntect_pattern.specs.ClassViews.{bracket_as, IsBracketIn, rest_of}
+use Rattle.syntect_pattern.proofs.classes.SetBuilder.+class.Given as goal
+
+abbrev pub decreases-class : goal.decreases-class
+decreases-class l = 3 * (200 - l.depth)
+
+abbrev pub decreases-step : goal.decreases-step
+decreases-step l = 3 * (200 - l.depth) + 1
+
+abbrev pub decreases-class_rest : goal.decreases-class_rest
+decreases-class_rest l = 3 * (200 - l.depth) + 2
+
+abbrev pub invariant-class_rest-steps : goal.invariant-class_rest-steps
+invariant-class_rest-steps l = record {
+  grows : SetsGrow l.fn.self.parts l.self.parts;
+  inside : IsBracketIn l.self.parts l.bracket;
+  reads : rest_of l.fold l.depth (bracket_as l.fn.self.parts l.fn.bracket) l.fn.text ≡ rest_of l.fold l.depth (bracket_as l.self.parts l.bracket) l.text;
+}
+
+abbrev pub decreases-class_rest-steps : goal.decreases-class_rest-steps
+decreases-class_rest-steps l = length l.text

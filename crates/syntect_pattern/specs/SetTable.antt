@@ -1,0 +1,66 @@
+-- The sets of a table of parts, each of which stands behind those that it is made of.
+use Rattle.std.specs.Prelude.{◌≡◌, ℕ, ◌<◌, ◌≤◌, Bool, true, ◌&&◌, nat_lt, List, [], ◌∷◌, ◌++◌, length, slice_index_or}
+use Rattle.ucd_category.specs.declared.GeneralCategoryGroup.TheVariants.{Letter, Number}
+use Rattle.syntect_pattern.specs.Sets.{Set, none, range, alike, category, categories, word, space, either, both, negated, hex_digit, holds}
+use Rattle.syntect_pattern.specs.declared.sets.Named.{Named}
+use Rattle.syntect_pattern.specs.declared.sets.Part.{Part}
+
+abbrev pub set_of_named : Named → Set
+set_of_named (Named.Category k) = category k
+set_of_named (Named.Categories k) = categories k
+set_of_named Named.Word = word
+set_of_named Named.Space = space
+set_of_named Named.HexDigit = hex_digit
+set_of_named Named.LetterOrNumber = either (categories Letter) (categories Number)
+set_of_named Named.Blank = either (range 0x20 0x20) (range 0x09 0x09)
+set_of_named Named.Ascii = range 0x00 0x7F
+
+-- the set of a part, from those of the parts before it
+abbrev pub part_set : List Set → Part → Set
+part_set before Part.Nothing = none
+part_set before (Part.Range low high) = range low high
+part_set before (Part.Alike low high) = alike low high
+part_set before (Part.Named n) = set_of_named n
+part_set before (Part.Negated a) = negated (slice_index_or before a none)
+part_set before (Part.Either a b) = either (slice_index_or before a none) (slice_index_or before b none)
+part_set before (Part.Both a b) = both (slice_index_or before a none) (slice_index_or before b none)
+
+abbrev pub sets_from : List Set → List Part → List Set
+sets_from before [] = before
+sets_from before (p ∷ ps) = sets_from (before ++ part_set before p ∷ []) ps
+
+-- the set of each part
+unfoldable pub sets : List Part → List Set
+sets = sets_from []
+
+-- the set of the part at the place
+abbrev pub set_in : List Part → ℕ → Set
+set_in parts k = slice_index_or (sets parts) k none
+
+-- what the part is made of stands before the place
+abbrev pub made_before : ℕ → Part → Bool
+made_before k Part.Nothing = true
+made_before k (Part.Range low high) = true
+made_before k (Part.Alike low high) = true
+made_before k (Part.Named n) = true
+made_before k (Part.Negated a) = nat_lt a k
+made_before k (Part.Either a b) = nat_lt a k && nat_lt b k
+made_before k (Part.Both a b) = nat_lt a k && nat_lt b k
+
+-- each part stands behind those that it is made of
+abbrev pub AreOrdered : List Part → Type 0
+AreOrdered parts = (k : ℕ) → k < length parts → made_before k (slice_index_or parts k Part.Nothing) ≡ true
+
+-- more parts, behind those that were there
+pub record SetsGrow (old new : List Part) : Type 0 where
+  pub longer : length old ≤ length new
+  pub kept : (k : ℕ) → k < length old → set_in new k ≡ set_in old k
+
+-- the place has this set
+pub record HasSet (parts : List Part) (k : ℕ) (a : Set) : Type 0 where
+  pub inside : k < length parts
+  pub is : set_in parts k ≡ a
+
+-- for each ASCII character whether it is in the set
+abbrev pub AreFlags : List Bool → Set → Type 0
+AreFlags flags a = (b : ℕ) → b < 128 → slice_index_or flags b true ≡ holds a b

@@ -1,0 +1,228 @@
+//! What follows a backslash.
+ghost use Rattle.std.specs.Prelude.{◌≡◌, false, Some, option_map, codes, MatchOption};
+ghost use Rattle.std.specs.List.{list_all};
+ghost use Rattle.std.specs.Char.{is_digit};
+ghost use Rattle.syntect_pattern.specs.SetTable.{set_of_named};
+ghost use Rattle.syntect_pattern.specs.Reading.{value, char_of, name_in, is_name, is_name_start, is_name_char, is_among};
+ghost use Rattle.syntect_pattern.specs.Escapes.{escape, one_letter, hex_fixed, hex_escape, category_escape};
+ghost use Rattle.syntect_pattern.specs.EscapeViews.{escape_of, escaped, named_text};
+ghost use Rattle.syntect_pattern.specs.Escapes as definition;
+
+use crate::names::category_named;
+use crate::node::Anchor;
+use crate::sets::Named;
+use crate::text::{Test, after, before, head, number, run};
+use unicode::properties::GeneralCategory;
+
+/// What an escape stands for.
+#[derive(Clone, Copy)]
+pub enum Escape<'a> {
+    Char(char),
+    Set { negated: bool, set: Named },
+    Edge(Anchor),
+    /// A back reference.
+    Number(usize),
+    Name(&'a [char]),
+}
+
+/// The character of the number that the digits write.
+#[tactic(auto, unfolding(crate::specs::Reading::char_of))]
+fn char_of(digits: &[char]) -> Option<char>
+    ensures { result ≡ char_of (value 16 digits.now) }
+{
+    char::from_u32(number(digits, 16))
+}
+
+/// Whether the characters are digits of a hexadecimal number.
+fn are_hexadecimal(text: &[char]) -> bool
+    ensures { result ≡ list_all (λ c. is_digit c 16) text.now }
+{
+    text.iter().all(|c| c.is_digit(16))
+}
+
+/// So many digits of a hexadecimal number.
+#[tactic(auto, unfolding(crate::specs::Escapes::hex_fixed))]
+fn hex_fixed(text: &[char], count: usize) -> Option<(Escape<'_>, &[char])>
+    ensures { hex_fixed count text.now ≡ escaped result }
+{
+    let digits = before(text, count);
+    if digits.len() != count || !are_hexadecimal(digits) {
+        return None;
+    }
+    let c = char_of(digits)?;
+    Some((Escape::Char(c), after(text, count)))
+}
+
+/// Behind `\x`: two digits, or one to eight in braces.
+#[tactic(auto, unfolding(crate::specs::Escapes::hex_escape))]
+fn hex_escape(text: &[char]) -> Option<(Escape<'_>, &[char])>
+    ensures { hex_escape text.now ≡ escaped result }
+{
+    if !text.starts_with(&['{']) {
+        return hex_fixed(text, 2);
+    }
+    let (digits, rest) = run(after(text, 1), Test::Hexadecimal);
+    if digits.is_empty() || digits.len() > 8 || !rest.starts_with(&['}']) {
+        return None;
+    }
+    let c = char_of(digits)?;
+    Some((Escape::Char(c), after(rest, 1)))
+}
+
+/// Behind `\p` or `\P`: a category in braces.
+#[tactic(auto, unfolding(crate::specs::Escapes::category_escape))]
+fn category_escape(text: &[char], upper: bool) -> Option<(Escape<'_>, &[char])>
+    ensures { category_escape upper text.now ≡ escaped result }
+{
+    if !text.starts_with(&['{']) {
+        return None;
+    }
+    let caret = text.starts_with(&['{', '^']);
+    if upper && caret {
+        return None;
+    }
+    let start = if caret { 2 } else { 1 };
+    let (name, rest) = run(after(text, start), Test::NoBrace);
+    if !rest.starts_with(&['}']) {
+        return None;
+    }
+    let set = category_named(name)?;
+    let negated = upper || caret;
+    Some((Escape::Set { negated, set }, after(rest, 1)))
+}
+
+/// A letter that names a set, which is negated where it is in upper case.
+fn set_letter(c: char, set: Named) -> Option<Escape<'static>>
+    ensures { option_map escape_of result ≡ definition.set_letter c (set_of_named set) }
+{
+    let negated = c.is_ascii_uppercase();
+    Some(Escape::Set { negated, set })
+}
+
+/// A letter that names a set.
+#[tactic(auto, unfolding(crate::specs::Escapes::one_letter))]
+fn set_escape(c: char) -> Option<Escape<'static>>
+    ensures { MatchOption result (is_among c (codes "wWdDsShH") ≡ false) (λ e. one_letter c ≡ Some (escape_of e)) }
+{
+    match c {
+        'w' | 'W' => set_letter(c, Named::Word),
+        'd' | 'D' => set_letter(c, Named::Category(GeneralCategory::DecimalNumber)),
+        's' | 'S' => set_letter(c, Named::Space),
+        'h' | 'H' => set_letter(c, Named::HexDigit),
+        _ => None,
+    }
+}
+
+/// A letter that names an anchor.
+#[tactic(auto, unfolding(crate::specs::Escapes::one_letter))]
+fn edge_escape(c: char) -> Option<Escape<'static>>
+    ensures { MatchOption result (is_among c (codes "AzZbB") ≡ false) (λ e. one_letter c ≡ Some (escape_of e)) }
+{
+    match c {
+        'A' => Some(Escape::Edge(Anchor::TextStart)),
+        'z' => Some(Escape::Edge(Anchor::TextEnd)),
+        'Z' => Some(Escape::Edge(Anchor::LastLineEnd)),
+        'b' => Some(Escape::Edge(Anchor::WordEdge)),
+        'B' => Some(Escape::Edge(Anchor::NoWordEdge)),
+        _ => None,
+    }
+}
+
+/// A letter or digit that names a character or a group.
+#[tactic(auto, unfolding(crate::specs::Escapes::one_letter))]
+fn char_escape(c: char) -> Option<Escape<'static>>
+    ensures { MatchOption result (is_among c (codes "ntrfvae123456789") ≡ false) (λ e. one_letter c ≡ Some (escape_of e)) }
+{
+    match c {
+        'n' => Some(Escape::Char('\n')),
+        't' => Some(Escape::Char('\t')),
+        'r' => Some(Escape::Char('\r')),
+        'f' => Some(Escape::Char('\u{C}')),
+        'v' => Some(Escape::Char('\u{B}')),
+        'a' => Some(Escape::Char('\u{7}')),
+        'e' => Some(Escape::Char('\u{1B}')),
+        '1'..='9' => Some(Escape::Number(c as usize - '0' as usize)),
+        _ => None,
+    }
+}
+
+/// An escape of one character.
+#[tactic(auto, unfolding(crate::specs::Escapes::one_letter))]
+fn one_letter(c: char) -> Option<Escape<'static>>
+    ensures { one_letter c ≡ option_map escape_of result }
+{
+    if !c.is_ascii_alphanumeric() {
+        return Some(Escape::Char(c));
+    }
+    if let Some(escape) = set_escape(c) {
+        return Some(escape);
+    }
+    if let Some(escape) = edge_escape(c) {
+        return Some(escape);
+    }
+    char_escape(c)
+}
+
+/// Whether the text is a name of a group.
+fn is_name(text: &[char]) -> bool
+    ensures { result ≡ is_name text.now }
+{
+    match head(text) {
+        Some(c) => is_name_start(c) && are_name_chars(after(text, 1)),
+        None => false,
+    }
+}
+
+/// Whether the character can begin a name.
+fn is_name_start(c: char) -> bool
+    ensures { result ≡ is_name_start c }
+{
+    c == '_' || c.is_ascii_alphabetic()
+}
+
+/// Whether a name can go on with the characters.
+fn are_name_chars(text: &[char]) -> bool
+    ensures { result ≡ list_all is_name_char text.now }
+{
+    text.iter().all(|c| Test::Name.passes(*c))
+}
+
+/// A name, and what stands behind the `>` that ends it.
+#[tactic(auto, unfolding(crate::specs::Reading::name_in))]
+pub fn name_in(text: &[char]) -> Option<(&[char], &[char])>
+    ensures { name_in text.now ≡ named_text result }
+{
+    let (name, rest) = run(text, Test::Name);
+    if !is_name(name) || !rest.starts_with(&['>']) {
+        return None;
+    }
+    Some((name, after(rest, 1)))
+}
+
+/// What follows a backslash, and what stands behind that.
+#[tactic(auto, unfolding(crate::specs::Escapes::escape))]
+pub fn read_escape(text: &[char]) -> Option<(Escape<'_>, &[char])>
+    ensures { escape text.now ≡ escaped result }
+{
+    let c = head(text)?;
+    let rest = after(text, 1);
+    match c {
+        'x' => hex_escape(rest),
+        'u' => hex_fixed(rest, 4),
+        'p' => category_escape(rest, false),
+        'P' => category_escape(rest, true),
+        'k' => name_escape(rest),
+        _ => Some((one_letter(c)?, rest)),
+    }
+}
+
+/// A name in `<` and `>`.
+fn name_escape(text: &[char]) -> Option<(Escape<'_>, &[char])>
+    ensures { definition.name_escape text.now ≡ escaped result }
+{
+    if !text.starts_with(&['<']) {
+        return None;
+    }
+    let (name, rest) = name_in(after(text, 1))?;
+    Some((Escape::Name(name), rest))
+}
