@@ -1,5 +1,5 @@
--- The one that stands after all rules is the first that none beats.
-use Rattle.std.proofs.Common.{◌≡◌, ℕ, zero, suc, ◌<◌, Bool, true, false, not, List, [], ◌∷◌, length, get_or, Option, Some, None, refl, sym, ap, ◌∙◌, arith}
+-- The better one of those that stand after the single rules and after the others is the first that none beats.
+use Rattle.std.proofs.Common.{◌≡◌, ℕ, zero, suc, ◌<◌, ◌+◌, drop, ◌*◌, ◌^◌, cond, if◌then◌else◌, Bool, true, false, not, List, [], ◌∷◌, ◌++◌, length, get_or, Option, Some, None, refl, sym, ap, ◌∙◌, arith}
 use Rattle.std.specs.Prelude.{◌≢◌, map, filter, find, is_some, IsSomeAnd}
 use Rattle.std.specs.Option.{option_map}
 use Rattle.std.specs.List.{cons_option, filter_map, flat_map, list_all, best_of, IsFirstBest}
@@ -8,10 +8,11 @@ use Rattle.std.proofs.lemmas.List.Folds.{list_all_at}
 use Rattle.std.proofs.lemmas.List.{get_or_default}
 use Rattle.std.proofs.lemmas.List.Elements.{filter_map-append, Contains-get_or}
 use Rattle.std.proofs.lemmas.Bool.{and_parts}
+use Rattle.syntect_scope.specs.Choice.{selector_score}
 use Rattle.syntect_scope.specs.declared.selector.ScopeSelector.{ScopeSelector}
-use Rattle.syntect_style.specs.Candidates.{single_scope, single_score, score_of, Candidate, candidate, candidates, beats, prevailing, winner, OnlySingleRules, single_item, single_part}
+use Rattle.syntect_style.specs.Candidates.{single_scope, single_score, other_score, score_of, Score, Candidate, candidate, candidates, beats, prevailing, winner, deepest}
 use Rattle.syntect_style.specs.Laws.{IsGreatest}
-use Rattle.syntect_style.specs.Rules.{rule_of, item_rules, single_rules, against, after_rules}
+use Rattle.syntect_style.specs.Rules.{rule_of, item_rules, single_rules, against, after_rules, other_of, item_others, other_rules, after_others}
 use Rattle.syntect_style.specs.Styling.{winners}
 use Rattle.syntect_style.specs.declared.style.Color.{Color}
 use Rattle.syntect_style.specs.declared.style.FontStyle.{FontStyle}
@@ -19,7 +20,7 @@ use Rattle.syntect_style.specs.declared.style.StyleModifier.{StyleModifier}
 use Rattle.syntect_style.specs.declared.theme.ThemeItem.{ThemeItem}
 use Rattle.syntect_style.specs.declared.theme.Theme.{Theme}
 use Rattle.syntect_style.specs.declared.scores.Rule.{Rule}
-use Rattle.syntect_style.proofs.OrderLaws.{beats_order}
+use Rattle.syntect_style.proofs.OrderLaws.{beats_order, one_of_two}
 
 -- ---- the best of a list ----
 
@@ -74,123 +75,184 @@ one_prevails {V} (c ∷ cs) n =
       unbeaten = λ k d l. rw (get_or_default (c ∷ cs) k d c l) (i.1.1 k c l);
     })
 
--- ---- the candidates of the rules ----
+-- ---- one against another ----
 
--- the candidates that rules give, in their order
-abbrev pub rule_candidates : {V : Type 0} → (StyleModifier → Option V) → List (List ℕ) → List Rule → List (Candidate V)
-rule_candidates attribute stack rules = filter_map (λ r. candidate (attribute r.style) (single_score r.scope stack)) rules
+same_value : {X : Type 0} (b : Bool) (x : X) → cond b x x ≡ x
+same_value true x = refl
+same_value false x = refl
 
-after_step : {V : Type 0} (attribute : StyleModifier → Option V) (stack : List (List ℕ)) (best : Option (Candidate V)) (r : Rule) (rules : List Rule)
-    → ((b : Option (Candidate V)) → after_rules attribute stack b rules ≡ in_turn b (rule_candidates attribute stack rules))
-    → after_rules attribute stack best (r ∷ rules) ≡ in_turn best (rule_candidates attribute stack (r ∷ rules))
-after_step {V} attribute stack best r rules others = split (candidate (attribute r.style) (single_score r.scope stack)) refl
+not_both : (b : Bool) → b ≡ true → b ≡ false → ⊥
+not_both b e f = cc
+
+-- the order in which candidates are put against each other doesn't matter, as long as theirs stays
+against_grouped : {V : Type 0} (a b c : Option (Candidate V)) → against (against a b) c ≡ against a (against b c)
+against_grouped None None None = refl
+against_grouped None None (Some c) = refl
+against_grouped None (Some b) None = refl
+against_grouped None (Some b) (Some c) = by (beats c.score b.score)
   where
-    split : (o : Option (Candidate V)) → candidate (attribute r.style) (single_score r.scope stack) ≡ o → after_rules attribute stack best (r ∷ rules) ≡ in_turn best (rule_candidates attribute stack (r ∷ rules))
-    split None e = rw e (others best)
-    split (Some c) e = rw e (others (against best (Some c)))
-
-after_in_turn : {V : Type 0} (attribute : StyleModifier → Option V) (stack : List (List ℕ)) (best : Option (Candidate V)) (rules : List Rule)
-    → after_rules attribute stack best rules ≡ in_turn best (rule_candidates attribute stack rules)
-after_in_turn attribute stack best [] = refl
-after_in_turn attribute stack best (r ∷ rules) = after_step attribute stack best r rules (λ b. after_in_turn attribute stack b rules)
-
--- ---- a theme of single rules ----
-
--- a selector gives the candidate that its rule gives
-one_candidate : {V : Type 0} (attribute : StyleModifier → Option V) (stack : List (List ℕ)) (style : StyleModifier) (selector : ScopeSelector) (cs : List (Candidate V)) (rules : List Rule) → is_some (single_scope selector) ≡ true
-    → cs ≡ rule_candidates attribute stack rules
-    → cons_option (candidate (attribute style) (score_of selector stack)) cs ≡ rule_candidates attribute stack (cons_option (rule_of (single_scope selector) style) rules)
-one_candidate {V} attribute stack style selector cs rules h e = split (single_scope selector) refl
+    by : (t : Bool) → (if t then Some c else Some b) ≡ against None (if t then Some c else Some b)
+    by true = refl
+    by false = refl
+against_grouped (Some a) None None = refl
+against_grouped (Some a) None (Some c) = refl
+against_grouped (Some a) (Some b) None = refl
+against_grouped {V} (Some a) (Some b) (Some c) = by (beats b.score a.score) (beats c.score b.score) (beats c.score a.score) refl refl refl
   where
-    split : (o : Option (List ℕ)) → single_scope selector ≡ o
-        → cons_option (candidate (attribute style) (score_of selector stack)) cs ≡ rule_candidates attribute stack (cons_option (rule_of (single_scope selector) style) rules)
-    split None n = let f : false ≡ true = rw n at h in cc
-    split (Some scope) n = rw (n, e) refl
+    by : (p q r : Bool) → beats b.score a.score ≡ p → beats c.score b.score ≡ q → beats c.score a.score ≡ r
+        → against (if beats b.score a.score then Some b else Some a) (Some c) ≡ against (Some a) (if beats c.score b.score then Some c else Some b)
+    by true true true d e f = rw (d, e, f) refl
+    by true true false d e f = absurd (not_both (beats c.score b.score) e ((beats_order {V = V}).chain c a b f ((beats_order {V = V}).one_way b a d)))
+    by true false r d e f = rw (d, e, d) refl
+    by false true r d e f = rw (d, e, f) refl
+    by false false true d e f = absurd (not_both (beats c.score a.score) f ((beats_order {V = V}).chain c b a e d))
+    by false false false d e f = rw (d, e, f, d) refl
 
-item_candidates : {V : Type 0} (attribute : StyleModifier → Option V) (stack : List (List ℕ)) (style : StyleModifier) (selectors : List ScopeSelector) → list_all (λ s. is_some (single_scope s)) selectors ≡ true
-    → filter_map (λ s. candidate (attribute style) (score_of s stack)) selectors ≡ rule_candidates attribute stack (filter_map (λ s. rule_of (single_scope s) style) selectors)
-item_candidates attribute stack style [] h = refl
-item_candidates attribute stack style (s ∷ selectors) h =
-    let k : (is_some (single_scope s) ≡ true) × (list_all (λ s. is_some (single_scope s)) selectors ≡ true) = and_parts _ _ h in
-    one_candidate attribute stack style s _ _ k.0 (item_candidates attribute stack style selectors k.1)
+-- a candidate of a single rule, and one of another
+abbrev IsSingle : {V : Type 0} → Option (Candidate V) → Type 0
+IsSingle None = Unit {0}
+IsSingle (Some c) = (p : ℕ) × (c.score.place ≡ Some p)
 
--- an item gives the candidates that its rules give
-item_of_rules : {V : Type 0} (attribute : StyleModifier → Option V) (stack : List (List ℕ)) (item : ThemeItem) → list_all (λ s. is_some (single_scope s)) item.scope.selectors ≡ true
-    → filter_map (λ s. candidate (attribute item.style) (score_of s stack)) item.scope.selectors ≡ rule_candidates attribute stack (item_rules item)
-item_of_rules attribute stack item h = item_candidates attribute stack item.style item.scope.selectors h
+abbrev IsOther : {V : Type 0} → Option (Candidate V) → Type 0
+IsOther None = Unit {0}
+IsOther (Some c) = c.score.place ≡ None
 
-items_candidates : {V : Type 0} (attribute : StyleModifier → Option V) (stack : List (List ℕ)) (items : List ThemeItem)
-    → list_all (λ item. list_all (λ s. is_some (single_scope s)) item.scope.selectors) items ≡ true
-    → flat_map (λ item. filter_map (λ s. candidate (attribute item.style) (score_of s stack)) item.scope.selectors) items ≡ rule_candidates attribute stack (flat_map item_rules items)
-items_candidates attribute stack [] h = refl
-items_candidates attribute stack (item ∷ items) h =
-    let k : (list_all (λ s. is_some (single_scope s)) item.scope.selectors ≡ true) × (list_all (λ item. list_all (λ s. is_some (single_scope s)) item.scope.selectors) items ≡ true) = and_parts _ _ h in
-    rw (item_of_rules attribute stack item k.0, items_candidates attribute stack items k.1)
-    (sym (filter_map-append (λ (r : Rule). candidate (attribute r.style) (single_score r.scope stack)) (item_rules item) (flat_map item_rules items)))
+-- one of the two beats the other
+against_either : {V : Type 0} (o c : Option (Candidate V)) → IsOther o → IsSingle c → against o c ≡ against c o
+against_either None None i j = refl
+against_either None (Some c) i j = refl
+against_either (Some o) None i j = refl
+against_either (Some o) (Some c) i j = by (beats c.score o.score) (beats o.score c.score) refl refl (one_of_two c.score o.score j.0 j.1 i)
+  where
+    by : (p q : Bool) → beats c.score o.score ≡ p → beats o.score c.score ≡ q → beats o.score c.score ≡ not (beats c.score o.score) → (if beats c.score o.score then Some c else Some o) ≡ (if beats o.score c.score then Some o else Some c)
+    by true true d e f = absurd (not_both (beats o.score c.score) e (f ∙ ap not d))
+    by true false d e f = rw (d, e) refl
+    by false true d e f = rw (d, e) refl
+    by false false d e f = absurd (not_both (beats o.score c.score) (f ∙ ap not d) e)
 
--- where all selectors are single, the one that stands after the rules is the one that prevails
-pub stands_prevailing : {V : Type 0} (attribute : StyleModifier → Option V) (theme : Theme) (stack : List (List ℕ)) → OnlySingleRules theme
-    → after_rules attribute stack None (single_rules theme) ≡ prevailing (candidates attribute theme stack)
-stands_prevailing attribute theme stack h =
-    after_in_turn attribute stack None (single_rules theme) ∙ in_turn_prevails (rule_candidates attribute stack (single_rules theme))
-    ∙ ap prevailing (sym (items_candidates attribute stack theme.scopes h))
+swapped : {V : Type 0} (s o c : Option (Candidate V)) → IsOther o → IsSingle c → against (against s o) c ≡ against (against s c) o
+swapped s o c i j = against_grouped s o c ∙ ap (against s) (against_either o c i j) ∙ sym (against_grouped s c o)
+
+other_stays : {V : Type 0} (o c : Option (Candidate V)) → IsOther o → IsOther c → IsOther (against o c)
+other_stays None None i j = tt
+other_stays None (Some c) i j = j
+other_stays (Some o) None i j = i
+other_stays {V} (Some o) (Some c) i j = by (beats c.score o.score)
+  where
+    by : (t : Bool) → IsOther {V = V} (if t then Some c else Some o)
+    by true = j
+    by false = i
+
+-- ---- the candidates of a theme, the single ones and the others ----
+
+module _ {V : Type 0} (attribute : StyleModifier → Option V) (stack : List (List ℕ)) where
+  after_rules-append : (best : Option (Candidate V)) (xs ys : List Rule) → after_rules attribute stack best (xs ++ ys) ≡ after_rules attribute stack (after_rules attribute stack best xs) ys
+  after_rules-append best [] ys = refl
+  after_rules-append best (x ∷ xs) ys = after_rules-append (against best (candidate (attribute x.style) (single_score x.scope stack))) xs ys
+
+  others-append : (best : Option (Candidate V)) (xs ys : List (ScopeSelector × StyleModifier)) → after_others attribute stack best (xs ++ ys) ≡ after_others attribute stack (after_others attribute stack best xs) ys
+  others-append best [] ys = refl
+  others-append best (x ∷ xs) ys = others-append (against best (candidate (attribute x.1) (other_score x.0 stack))) xs ys
+
+  in_turn-append : (best : Option (Candidate V)) (xs ys : List (Candidate V)) → in_turn best (xs ++ ys) ≡ in_turn (in_turn best xs) ys
+  in_turn-append best [] ys = refl
+  in_turn-append best (x ∷ xs) ys = in_turn-append (against best (Some x)) xs ys
+
+  in_turn-cons : (best o : Option (Candidate V)) (cs : List (Candidate V)) → in_turn best (cons_option o cs) ≡ in_turn (against best o) cs
+  in_turn-cons None None cs = refl
+  in_turn-cons (Some b) None cs = refl
+  in_turn-cons best (Some c) cs = refl
+
+  single_candidate : (v : Option V) (o : Option ℕ) (scope : List ℕ) → IsSingle (candidate v (option_map (λ place. record { power = length scope * 8 ^ place; place = Some place }) o))
+  single_candidate None o scope = tt
+  single_candidate (Some v) None scope = tt
+  single_candidate (Some v) (Some p) scope = (p, refl)
+
+  other_candidate : (v : Option V) (o : Option ℕ) → IsOther (candidate v (option_map (λ power. record { power = power; place = None }) o))
+  other_candidate None o = tt
+  other_candidate (Some v) None = tt
+  other_candidate (Some v) (Some p) = refl
+
+  others_stay : (best : Option (Candidate V)) (others : List (ScopeSelector × StyleModifier)) → IsOther best → IsOther (after_others attribute stack best others)
+  others_stay best [] i = i
+  others_stay best (o ∷ others) i =
+      others_stay (against best (candidate (attribute o.1) (other_score o.0 stack))) others (other_stays best (candidate (attribute o.1) (other_score o.0 stack)) i (other_candidate (attribute o.1) (selector_score o.0 stack)))
+
+  -- both in their places
+  abbrev Parted : Option (Candidate V) → Option (Candidate V) → List (Candidate V) → List Rule → List (ScopeSelector × StyleModifier) → Type 0
+  Parted s o cs rules others = in_turn (against s o) cs ≡ against (after_rules attribute stack s rules) (after_others attribute stack o others)
+
+  selectors_parted : (style : StyleModifier) (selectors : List ScopeSelector) (s o : Option (Candidate V)) → IsOther o
+      → Parted s o (filter_map (λ sel. candidate (attribute style) (score_of sel stack)) selectors) (filter_map (λ sel. rule_of (single_scope sel) style) selectors)
+      (filter_map (λ sel. other_of (single_scope sel) sel style) selectors)
+  selectors_parted style [] s o i = refl
+  selectors_parted style (sel ∷ selectors) s o i = by (single_scope sel) refl (λ s o i. selectors_parted style selectors s o i)
+    where
+      by : (k : Option (List ℕ)) → single_scope sel ≡ k
+          → ((s o : Option (Candidate V)) → IsOther o → Parted s o (filter_map (λ sel. candidate (attribute style) (score_of sel stack)) selectors) (filter_map (λ sel. rule_of (single_scope sel) style) selectors)
+          (filter_map (λ sel. other_of (single_scope sel) sel style) selectors))
+          → Parted s o (filter_map (λ sel. candidate (attribute style) (score_of sel stack)) (sel ∷ selectors)) (filter_map (λ sel. rule_of (single_scope sel) style) (sel ∷ selectors))
+          (filter_map (λ sel. other_of (single_scope sel) sel style) (sel ∷ selectors))
+      by (Some scope) e rest =
+          let c : Option (Candidate V) = candidate (attribute style) (single_score scope stack) in
+          rw e (in_turn-cons (against s o) c _ ∙ ap (λ b. in_turn b (filter_map (λ sel. candidate (attribute style) (score_of sel stack)) selectors)) (swapped s o c i (single_candidate (attribute style) (deepest scope stack) scope)) ∙ rest (against s c) o i)
+      by None e rest =
+          let c : Option (Candidate V) = candidate (attribute style) (other_score sel stack) in
+          rw e (in_turn-cons (against s o) c _ ∙ ap (λ b. in_turn b (filter_map (λ sel. candidate (attribute style) (score_of sel stack)) selectors)) (against_grouped s o c) ∙ rest s (against o c) (other_stays o c i (other_candidate (attribute style) (selector_score sel stack))))
+
+  items_parted : (items : List ThemeItem) (s o : Option (Candidate V)) → IsOther o
+      → Parted s o (flat_map (λ item. filter_map (λ sel. candidate (attribute item.style) (score_of sel stack)) item.scope.selectors) items) (flat_map item_rules items) (flat_map item_others items)
+  items_parted [] s o i = refl
+  items_parted (item ∷ items) s o i =
+      in_turn-append (against s o) (filter_map (λ sel. candidate (attribute item.style) (score_of sel stack)) item.scope.selectors) _
+      ∙ ap (λ b. in_turn b (flat_map (λ item. filter_map (λ sel. candidate (attribute item.style) (score_of sel stack)) item.scope.selectors) items)) (selectors_parted item.style item.scope.selectors s o i)
+      ∙ items_parted items (after_rules attribute stack s (item_rules item)) (after_others attribute stack o (item_others item)) (others_stay o (item_others item) i)
+      ∙ sym (ap (λ b. against b (after_others attribute stack o (item_others item ++ flat_map item_others items))) (after_rules-append s (item_rules item) (flat_map item_rules items))
+      ∙ ap (against (after_rules attribute stack (after_rules attribute stack s (item_rules item)) (flat_map item_rules items))) (others-append o (item_others item) (flat_map item_others items)))
+
+  -- the better one of those that stand after the single rules and after the others is the one that prevails
+  stands_prevailing : (theme : Theme) (rules : List Rule) → rules ≡ single_rules theme
+      → against (after_rules attribute stack None rules) (after_others attribute stack None (other_rules theme)) ≡ prevailing (candidates attribute theme stack)
+  stands_prevailing theme rules e =
+      ap (λ rs. against (after_rules attribute stack None rs) (after_others attribute stack None (other_rules theme))) e
+      ∙ sym (items_parted theme.scopes None None tt) ∙ in_turn_prevails (candidates attribute theme stack)
+
+pub after_others_append : {V : Type 0} (attribute : StyleModifier → Option V) (stack : List (List ℕ)) (best : Option (Candidate V)) (xs ys : List (ScopeSelector × StyleModifier))
+    → after_others attribute stack best (xs ++ ys) ≡ after_others attribute stack (after_others attribute stack best xs) ys
+after_others_append attribute stack best [] ys = refl
+after_others_append attribute stack best (x ∷ xs) ys = after_others_append attribute stack (against best (candidate (attribute x.1) (other_score x.0 stack))) xs ys
+
+drop_at : {X : Type 0} (xs : List X) (i : ℕ) (x : X) → i < length xs → x ≡ get_or xs i x → drop i xs ≡ x ∷ drop (i + 1) xs
+drop_at [] i x l e = absurd (omega arith)
+drop_at (y ∷ xs) zero x l e = ap (λ z. z ∷ xs) (sym e)
+drop_at (y ∷ xs) (suc i) x l e =
+    let j : i + 1 ≡ suc i = omega arith in
+    let k : suc i + 1 ≡ suc (suc i) = omega arith in
+    let h : drop i xs ≡ x ∷ drop (i + 1) xs = drop_at xs i x (omega arith) e in
+    rw k (rw j at h)
+
+-- one item more
+pub items_step : {V : Type 0} (attribute : StyleModifier → Option V) (stack : List (List ℕ)) (old new last : Option (Candidate V)) (items : List ThemeItem) (i : ℕ) (item : ThemeItem) → i < length items → item ≡ get_or items i item
+    → new ≡ after_others attribute stack old (item_others item) → after_others attribute stack old (flat_map item_others (drop i items)) ≡ last → after_others attribute stack new (flat_map item_others (drop (i + 1) items)) ≡ last
+items_step attribute stack old new last items i item l e n h =
+    ap (λ b. after_others attribute stack b (flat_map item_others (drop (i + 1) items))) n
+    ∙ sym (after_others_append attribute stack old (item_others item) (flat_map item_others (drop (i + 1) items)))
+    ∙ sym (ap (λ xs. after_others attribute stack old (flat_map item_others xs)) (drop_at items i item l e)) ∙ h
 
 same_modifier : (m : StyleModifier) (f b : Option Color) (s : Option FontStyle) → m.foreground ≡ f → m.background ≡ b → m.font_style ≡ s → m ≡ record { foreground = f; background = b; font_style = s }
 same_modifier m f b s ef eb es = rw (← ef, ← eb, ← es) refl
 
+-- the value of the better one
+abbrev pub better_value : {V : Type 0} → (StyleModifier → Option V) → List (List ℕ) → List Rule → List (ScopeSelector × StyleModifier) → Option V
+better_value attribute stack rules others = option_map (λ c. c.value) (against (after_rules attribute stack None rules) (after_others attribute stack None others))
+
 -- the values that stand after the rules are the winners
 pub winners_stand : (theme : Theme) (stack : List (List ℕ)) (rules : List Rule) (m : StyleModifier) → rules ≡ single_rules theme
-    → m.foreground ≡ option_map (λ (c : Candidate Color). c.value) (after_rules (λ m. m.foreground) stack None rules)
-    → m.background ≡ option_map (λ (c : Candidate Color). c.value) (after_rules (λ m. m.background) stack None rules)
-    → m.font_style ≡ option_map (λ (c : Candidate FontStyle). c.value) (after_rules (λ m. m.font_style) stack None rules)
-    → OnlySingleRules theme → m ≡ winners theme stack
+    → m.foreground ≡ better_value (λ m. m.foreground) stack rules (other_rules theme) → m.background ≡ better_value (λ m. m.background) stack rules (other_rules theme)
+    → m.font_style ≡ better_value (λ m. m.font_style) stack rules (other_rules theme) → m ≡ winners theme stack
 unfolding winners
-winners_stand theme stack rules m e f b s h =
-    let f' : m.foreground ≡ winner (λ m. m.foreground) theme stack = f ∙ ap (λ rs. option_map (λ (c : Candidate Color). c.value) (after_rules (λ m. m.foreground) stack None rs)) e ∙ ap (option_map (λ (c : Candidate Color). c.value)) (stands_prevailing (λ m. m.foreground) theme stack h) in
-    let b' : m.background ≡ winner (λ m. m.background) theme stack = b ∙ ap (λ rs. option_map (λ (c : Candidate Color). c.value) (after_rules (λ m. m.background) stack None rs)) e ∙ ap (option_map (λ (c : Candidate Color). c.value)) (stands_prevailing (λ m. m.background) theme stack h) in
-    let s' : m.font_style ≡ winner (λ m. m.font_style) theme stack = s ∙ ap (λ rs. option_map (λ (c : Candidate FontStyle). c.value) (after_rules (λ m. m.font_style) stack None rs)) e ∙ ap (option_map (λ (c : Candidate FontStyle). c.value)) (stands_prevailing (λ m. m.font_style) theme stack h) in
-    same_modifier m _ _ _ f' b' s'
-
--- ---- the single part of a theme ----
-
-part_kept : (selectors : List ScopeSelector) (style : StyleModifier)
-    → filter_map (λ s. rule_of (single_scope s) style) (filter (λ s. is_some (single_scope s)) selectors) ≡ filter_map (λ s. rule_of (single_scope s) style) selectors
-part_kept [] style = refl
-part_kept (s ∷ selectors) style = kept_one s selectors style (part_kept selectors style)
-  where
-    kept_one : (s : ScopeSelector) (selectors : List ScopeSelector) (style : StyleModifier)
-        → filter_map (λ s. rule_of (single_scope s) style) (filter (λ s. is_some (single_scope s)) selectors) ≡ filter_map (λ s. rule_of (single_scope s) style) selectors
-        → filter_map (λ s. rule_of (single_scope s) style) (filter (λ s. is_some (single_scope s)) (s ∷ selectors)) ≡ filter_map (λ s. rule_of (single_scope s) style) (s ∷ selectors)
-    kept_one s selectors style i = split (single_scope s) refl
-      where
-        split : (o : Option (List ℕ)) → single_scope s ≡ o
-            → filter_map (λ s. rule_of (single_scope s) style) (filter (λ s. is_some (single_scope s)) (s ∷ selectors)) ≡ filter_map (λ s. rule_of (single_scope s) style) (s ∷ selectors)
-        split None n = rw n i
-        split (Some scope) n = rw (n, n, i) refl
-
-part_rules : (items : List ThemeItem) → flat_map item_rules (map single_item items) ≡ flat_map item_rules items
-part_rules [] = refl
-part_rules (item ∷ items) = rw (part_kept item.scope.selectors item.style, part_rules items) refl
-
--- the single part has the same single rules
-pub single_part-rules : (theme : Theme) → single_rules (single_part theme) ≡ single_rules theme
-single_part-rules theme = part_rules theme.scopes
-
-only_filtered : (selectors : List ScopeSelector) → list_all (λ s. is_some (single_scope s)) (filter (λ s. is_some (single_scope s)) selectors) ≡ true
-only_filtered [] = refl
-only_filtered (s ∷ selectors) = one s selectors (only_filtered selectors)
-  where
-    one : (s : ScopeSelector) (selectors : List ScopeSelector) → list_all (λ s. is_some (single_scope s)) (filter (λ s. is_some (single_scope s)) selectors) ≡ true
-        → list_all (λ s. is_some (single_scope s)) (filter (λ s. is_some (single_scope s)) (s ∷ selectors)) ≡ true
-    one s selectors i = split (is_some (single_scope s)) refl
-      where
-        split : (b : Bool) → is_some (single_scope s) ≡ b → list_all (λ s. is_some (single_scope s)) (filter (λ s. is_some (single_scope s)) (s ∷ selectors)) ≡ true
-        split true e = rw (e, e, i) refl
-        split false e = rw e i
-
-only_items : (items : List ThemeItem) → list_all (λ item. list_all (λ s. is_some (single_scope s)) item.scope.selectors) (map single_item items) ≡ true
-only_items [] = refl
-only_items (item ∷ items) = rw (only_filtered item.scope.selectors, only_items items) refl
-
-pub single_part-only : (theme : Theme) → OnlySingleRules (single_part theme)
-single_part-only theme = only_items theme.scopes
+winners_stand theme stack rules m e f b s =
+    same_modifier m _ _ _
+    (f ∙ ap (option_map (λ (c : Candidate Color). c.value)) (stands_prevailing (λ m. m.foreground) stack theme rules e))
+    (b ∙ ap (option_map (λ (c : Candidate Color). c.value)) (stands_prevailing (λ m. m.background) stack theme rules e))
+    (s ∙ ap (option_map (λ (c : Candidate FontStyle). c.value)) (stands_prevailing (λ m. m.font_style) stack theme rules e))

@@ -127,7 +127,7 @@ passed-more {s} {m} {t} {o} {os} h e v at r a =
 
 pub shows-on : {s m : RangedHighlightIterator} {st : Stretch} {p : Style × Bor (List ℕ) × Range ℕ} → Carries s m → Shows (theme_of m) m.text.now (Tells m) st p → Shows (theme_of s) s.text.now (Tells s) st p
 shows-on c w = record {
-  style = λ k. rw c.highlighter at (w.style (rw c.highlighter (k.0, c.keeps k.1)));
+  style = λ k. rw c.highlighter at (w.style (rw c.highlighter (c.keeps k)));
   text_of = rw c.text at w.text_of;
   from = w.from;
   to = w.to;

@@ -1,9 +1,9 @@
 -- The order of scores.
-use Rattle.std.proofs.Common.{◌≡◌, ◌==◌, ℕ, Bool, true, false, ◌&&◌, ◌||◌, Option, Some, None, refl, arith}
+use Rattle.std.proofs.Common.{◌≡◌, ◌==◌, ℕ, Bool, true, false, ◌&&◌, ◌||◌, not, Option, Some, None, refl, arith}
 use Rattle.std.specs.Prelude.{nat_lt}
 use Rattle.std.specs.Cmp.{IsStrictWeakOrder}
 use Rattle.std.proofs.lemmas.Bool.Decides.{nat_tests}
-use Rattle.syntect_style.specs.Candidates.{Candidate, goes_before, beats}
+use Rattle.syntect_style.specs.Candidates.{Score, Candidate, goes_before, beats}
 
 places_one_way : (p q : Option ℕ) → goes_before p q ≡ true → goes_before q p ≡ false
 places_one_way (Some p) (Some q) h = grind (arith, nat_tests)
@@ -27,3 +27,10 @@ beats_order {V} = record {
   one_way = λ x y h. numbers_one_way x.score.power y.score.power _ _ (places_one_way x.score.place y.score.place) h;
   chain = λ x y z h k. numbers_chain x.score.power y.score.power z.score.power _ _ _ (places_chain x.score.place y.score.place z.score.place) h k;
 }
+
+numbers_either : (m n : ℕ) → (nat_lt m n || ((n == m) && false)) ≡ not (nat_lt n m || ((m == n) && true))
+numbers_either m n = grind (arith, nat_tests)
+
+-- of a single rule and another one beats
+pub one_of_two : (c o : Score) (p : ℕ) → c.place ≡ Some p → o.place ≡ None → beats o c ≡ not (beats c o)
+one_of_two c o p e f = rw (e, f) (numbers_either c.power o.power)

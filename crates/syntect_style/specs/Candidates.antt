@@ -1,5 +1,5 @@
 -- The selectors of a theme that set an attribute of a stack's style, and the one of them that prevails.
-use Rattle.std.specs.Prelude.{ℕ, suc, ◌==◌, nat_lt, ◌*◌, ◌^◌, Bool, true, false, ◌&&◌, ◌||◌, not, List, [], ◌∷◌, length, map, filter, find, Option, Some, None, is_some, IsTrue}
+use Rattle.std.specs.Prelude.{ℕ, suc, ◌==◌, nat_lt, ◌*◌, ◌^◌, Bool, true, false, ◌&&◌, ◌||◌, not, List, [], ◌∷◌, length, find, Option, Some, None}
 use Rattle.std.specs.Option.{option_map}
 use Rattle.std.specs.List.{filter_map, flat_map, list_all}
 use Rattle.syntect_scope.specs.Atoms.{is_prefix}
@@ -8,7 +8,6 @@ use Rattle.syntect_scope.specs.declared.stack.ScopeStack.{ScopeStack}
 use Rattle.syntect_scope.specs.declared.selector.ScopeSelector.{ScopeSelector}
 use Rattle.syntect_style.specs.declared.style.StyleModifier.{StyleModifier}
 use Rattle.syntect_style.specs.declared.theme.Theme.{Theme}
-use Rattle.syntect_style.specs.declared.theme.ThemeItem.{ThemeItem}
 
 -- ---- what a selector scores ----
 
@@ -87,17 +86,3 @@ prevailing cs = find (λ c. list_all (λ d. not (beats d.score c.score)) cs) cs
 -- the value of the candidate that prevails
 abbrev pub winner : {V : Type 0} → (StyleModifier → Option V) → Theme → List (List ℕ) → Option V
 winner attribute theme stack = option_map (λ c. c.value) (prevailing (candidates attribute theme stack))
-
--- ---- themes of single rules ----
-
--- each selector of the theme has one path scope and no exclusion
-abbrev pub OnlySingleRules : Theme → Type 0
-OnlySingleRules theme = IsTrue (list_all (λ item. list_all (λ selector. is_some (single_scope selector)) item.scope.selectors) theme.scopes)
-
--- an item with its single rules alone
-abbrev pub single_item : ThemeItem → ThemeItem
-single_item item = record item { scope = record { selectors = filter (λ selector. is_some (single_scope selector)) item.scope.selectors } }
-
--- The theme with its single rules alone, which are those that are scored for now.
-abbrev pub single_part : Theme → Theme
-single_part theme = record theme { scopes = map single_item theme.scopes }

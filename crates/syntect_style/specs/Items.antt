@@ -8,7 +8,6 @@ use Rattle.syntect_scope.specs.declared.stack.ScopeStack.{ScopeStack}
 use Rattle.syntect_scope.specs.declared.stack.ScopeStackOp.{ScopeStackOp}
 use Rattle.syntect_scope.specs.declared.stack.ScopeError.{ScopeError}
 use Rattle.syntect_scope.specs.declared.stack.ScopeError.TheVariants.{NoClearedScopesToRestore, Memory}
-use Rattle.syntect_style.specs.Candidates.{OnlySingleRules}
 use Rattle.syntect_style.specs.Styling.{shown}
 use Rattle.syntect_style.specs.Pieces.{Stretch, stretches, last_stack, path_of, Keeps}
 use Rattle.syntect_style.specs.declared.style.Style.{Style}
@@ -56,9 +55,9 @@ calls_left s = length s.changes.now + (length s.text.now - s.pos)
 
 -- ---- one call ----
 
--- what colours rest on: a theme of single rules, and what the state keeps being true under it
+-- what colours rest on: what the state keeps is true under the theme
 abbrev pub Tells : RangedHighlightIterator → Type 0
-Tells s = OnlySingleRules (theme_of s) × Keeps (theme_of s) s.state.now
+Tells s = Keeps (theme_of s) s.state.now
 
 -- a piece shows a stretch of a text
 pub record Shows (theme : Theme) (text : List ℕ) (tells : Type 0) (st : Stretch) (p : Style × Bor (List ℕ) × Range ℕ) : Type 0 where

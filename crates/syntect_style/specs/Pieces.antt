@@ -7,7 +7,6 @@ use Rattle.syntect_scope.specs.declared.stack.ScopeStack.{ScopeStack}
 use Rattle.syntect_scope.specs.declared.stack.ScopeStackOp.{ScopeStackOp}
 use Rattle.syntect_scope.specs.declared.stack.ScopeError.{ScopeError}
 use Rattle.syntect_scope.specs.declared.stack.ScopeError.TheVariants.{NoClearedScopesToRestore}
-use Rattle.syntect_style.specs.Candidates.{OnlySingleRules}
 use Rattle.syntect_style.specs.Styling.{shown}
 use Rattle.syntect_style.specs.declared.style.Style.{Style}
 use Rattle.syntect_style.specs.declared.theme.Theme.{Theme}
@@ -21,7 +20,7 @@ path_of s = s.path
 
 -- What a state keeps is true under the theme. A state has it from its making on, as long as one highlighter is used.
 abbrev pub Keeps : Theme → HighlightState → Type 0
-Keeps theme s = IfSome s.kept (λ style. OnlySingleRules theme → style ≡ shown theme s.path.scopes)
+Keeps theme s = IfSome s.kept (λ style. style ≡ shown theme s.path.scopes)
 
 -- ---- stretches ----
 

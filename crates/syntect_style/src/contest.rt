@@ -1,12 +1,11 @@
-//! The contest of a theme's rules for the attributes of a stack's style.
+//! The contest of a theme's single rules for the attributes of a stack's style.
 ghost use Rattle.std.specs.Prelude.{◌≡◌, ◌<◌, Some, None, IfSome, length};
-ghost use Rattle.std.specs.Option.{option_map};
 ghost use Rattle.syntect_scope.specs.Atoms.{is_prefix};
 ghost use Rattle.syntect_style.specs.Candidates.{candidate, deepest};
 ghost use Rattle.syntect_style.specs.Rules.{score_from, candidate_from, against, after_rules};
 
 use crate::scores::{Rule, SingleScore};
-use crate::style::{Color, FontStyle, StyleModifier};
+use crate::style::{Color, FontStyle};
 use syntect_scope::scope::Scope;
 
 /// The deepest place of a stack whose scope the given one begins.
@@ -53,17 +52,17 @@ fn offer<V: Copy>(best: &mut Option<(SingleScore, V)>, score: SingleScore, value
 
 /// The values that stand so far, each with the score of its rule.
 #[derive(Clone, Copy, Debug)]
-struct Standings {
-    foreground: Option<(SingleScore, Color)>,
-    background: Option<(SingleScore, Color)>,
-    font_style: Option<(SingleScore, FontStyle)>,
+pub(crate) struct Standings {
+    pub(crate) foreground: Option<(SingleScore, Color)>,
+    pub(crate) background: Option<(SingleScore, Color)>,
+    pub(crate) font_style: Option<(SingleScore, FontStyle)>,
 }
 
-/// For each attribute the value of the rule that prevails, and `None` where no rule sets it.
-pub(crate) fn winners_of(rules: &[Rule], stack: &[Scope]) -> StyleModifier
-    ensures foreground { result.foreground ≡ option_map (λ c. c.value) (after_rules (λ m. m.foreground) stack.now None rules.now) }
-    ensures background { result.background ≡ option_map (λ c. c.value) (after_rules (λ m. m.background) stack.now None rules.now) }
-    ensures font_style { result.font_style ≡ option_map (λ c. c.value) (after_rules (λ m. m.font_style) stack.now None rules.now) }
+/// For each attribute the value of the single rule that prevails among them, and `None` where none sets it.
+pub(crate) fn standings_of(rules: &[Rule], stack: &[Scope]) -> Standings
+    ensures foreground { candidate_from result.foreground ≡ after_rules (λ m. m.foreground) stack.now None rules.now }
+    ensures background { candidate_from result.background ≡ after_rules (λ m. m.background) stack.now None rules.now }
+    ensures font_style { candidate_from result.font_style ≡ after_rules (λ m. m.font_style) stack.now None rules.now }
 {
     let mut best = Standings {
         foreground: None,
@@ -81,9 +80,5 @@ pub(crate) fn winners_of(rules: &[Rule], stack: &[Scope]) -> StyleModifier
             offer(&mut best.font_style, score, rule.style.font_style);
         }
     }
-    StyleModifier {
-        foreground: best.foreground.map(|c| c.1),
-        background: best.background.map(|c| c.1),
-        font_style: best.font_style.map(|c| c.1),
-    }
+    best
 }

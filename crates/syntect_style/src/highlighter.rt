@@ -1,10 +1,10 @@
 //! The style of a stack of scopes.
 ghost use Rattle.std.specs.Prelude.{◌≡◌, ◌++◌, IfOk, OnOk};
-ghost use Rattle.syntect_style.specs.Candidates.{single_scope, single_part, OnlySingleRules};
 ghost use Rattle.syntect_style.specs.Styling.{style_of, shown, default_style, winners};
 ghost use Rattle.syntect_style.specs.Rules.{item_rules};
 
-use crate::contest::winners_of;
+use crate::contest::standings_of;
+use crate::others::{better, others_of, single_scope};
 use crate::scores::Rule;
 use crate::style::{Color, FontStyle, Style, StyleModifier};
 use crate::theme::{Theme, ThemeItem};
@@ -12,12 +12,12 @@ use std::alloc::{AllocError, Global};
 use std::marker::Model;
 use syntect_scope::power::MatchPower;
 use syntect_scope::scope::Scope;
-use syntect_scope::selector::ScopeSelector;
 
 /// A theme, made ready to style stacks of scopes. Contracts see its theme.
 #[derive(Debug, Drop)]
 pub struct Highlighter<'a> {
     theme: &'a Theme,
+    /// The rules of one scope, which are scored without large numbers.
     rules: Vec<Rule>,
 }
 
@@ -60,29 +60,30 @@ impl<'a> Highlighter<'a> {
     /// The style of a stack of scopes, the bottom one first: for each attribute the value of the rule that
     /// prevails, and the default where no rule sets it. Of no scopes this is the default too, but for rules with an
     /// empty path, which act everywhere.
-    ///
-    /// Selectors of several scopes and those with exclusions are not scored yet.
     pub fn style_for_stack(&self, stack: &[Scope]) -> Result<Style, AllocError>
-        ensures styled { OnlySingleRules self.now → IfOk result (λ s. s ≡ style_of self.now stack.now) }
-        ensures single { IfOk result (λ s. s ≡ style_of (single_part self.now) stack.now) }
+        ensures { IfOk result (λ s. s ≡ style_of self.now stack.now) }
     {
         let modifier = self.style_mod_for_stack(stack)?;
         Ok(self.get_default().apply(modifier))
     }
 
     /// For each attribute the value of the rule that prevails, and `None` where no rule sets it.
-    ///
-    /// Selectors of several scopes and those with exclusions are not scored yet.
     pub fn style_mod_for_stack(&self, stack: &[Scope]) -> Result<StyleModifier, AllocError>
-        ensures won { OnlySingleRules self.now → IfOk result (λ m. m ≡ winners self.now stack.now) }
-        ensures single { IfOk result (λ m. m ≡ winners (single_part self.now) stack.now) }
+        ensures { IfOk result (λ m. m ≡ winners self.now stack.now) }
     {
-        Ok(winners_of(self.rules.as_slice(), stack))
+        let alloc = *self.rules.allocator();
+        let single = standings_of(self.rules.as_slice(), stack);
+        let other = others_of(self.theme.scopes.as_slice(), stack)?;
+        Ok(StyleModifier {
+            foreground: better(alloc, single.foreground, &other.foreground)?,
+            background: better(alloc, single.background, &other.background)?,
+            font_style: better(alloc, single.font_style, &other.font_style)?,
+        })
     }
 
     /// The style of text with these scopes: the default for text that has none.
     pub(crate) fn shown(&self, stack: &[Scope]) -> Result<Style, AllocError>
-        ensures { OnlySingleRules self.now → IfOk result (λ s. s ≡ shown self.now stack.now) }
+        ensures { IfOk result (λ s. s ≡ shown self.now stack.now) }
     {
         if stack.is_empty() {
             Ok(self.get_default())
@@ -138,14 +139,4 @@ fn push_rules(rules: &mut Vec<Rule>, item: &ThemeItem) -> Result<(), AllocError>
         }
     }
     Ok(())
-}
-
-/// The scope of a selector with one path scope and no exclusion.
-fn single_scope(selector: &ScopeSelector) -> Option<Scope>
-    ensures { result ≡ single_scope selector.now }
-{
-    match selector.path.as_slice() {
-        [scope] if selector.excludes.is_empty() => Some(*scope),
-        _ => None,
-    }
 }

@@ -8,6 +8,7 @@
 mod contest;
 pub mod highlighter;
 pub mod laws;
+mod others;
 pub mod pieces;
 mod scores;
 pub mod state;

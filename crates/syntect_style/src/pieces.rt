@@ -4,7 +4,6 @@ ghost use Rattle.std.specs.Iterator.{at_most};
 ghost use Rattle.std.specs.Str.{IsCharBoundary};
 ghost use Rattle.syntect_scope.specs.Stack.{applied, is_refused};
 ghost use Rattle.syntect_scope.specs.Replay.{InOrder, AllApply, replay, before_text, bytes_to};
-ghost use Rattle.syntect_style.specs.Candidates.{OnlySingleRules};
 ghost use Rattle.syntect_style.specs.Pieces.{path_of, Keeps, Joins, IsStyled};
 ghost use Rattle.syntect_style.specs.Items.{Begins, Gives, GivesUnranged, IsReady, Shows, calls_left};
 
@@ -44,7 +43,7 @@ fn piece_to<'b>(
     ensures ok { OnOk result (path_of state.new ≡ applied op.now (path_of state.old)) }
     ensures applied { OnOk result (is_refused op.now (path_of state.old) ≡ false) }
     ensures piece { IfOk result (λ o. MatchOption o (from ≡ to) (λ p. (from < to)
-        × Shows highlighter.now text.now (OnlySingleRules highlighter.now × Keeps highlighter.now state.old) (record { from = from; to = to; scopes = (path_of state.old).scopes }) p)) }
+        × Shows highlighter.now text.now (Keeps highlighter.now state.old) (record { from = from; to = to; scopes = (path_of state.old).scopes }) p)) }
     ensures none { IfErr result (λ e. e ≡ ScopeError.NoClearedScopesToRestore → is_refused op.now (path_of state.old) ≡ true) }
     ensures err { OnErr result (path_of state.new ≡ path_of state.old) }
     ensures keeps { Keeps highlighter.now state.old → Keeps highlighter.now state.new }
@@ -131,7 +130,7 @@ pub fn collect_pieces<'b>(
 ) -> Result<Vec<(Style, &'b str)>, ScopeError>
     requires { InOrder text.now 0 changes.now (length text.now) }
     ensures joins { IfOk result (λ pieces. Joins text.now pieces.items) }
-    ensures styled { IfOk result (λ pieces. OnlySingleRules highlighter.now → Keeps highlighter.now state.old
+    ensures styled { IfOk result (λ pieces. Keeps highlighter.now state.old
         → IsStyled highlighter.now (bytes_to (replay changes.now (before_text (path_of state.old))) (length text.now)) pieces.items) }
     ensures path { OnOk result (path_of state.new ≡ (replay changes.now (before_text (path_of state.old))).stack) }
     ensures applied { OnOk result (AllApply (path_of state.old) changes.now) }

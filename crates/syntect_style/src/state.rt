@@ -1,7 +1,6 @@
 //! The state of a highlighter between two texts.
 ghost use Rattle.std.specs.Prelude.{◌≡◌, ◌↔◌, IsTrue, IfOk, OnOk, OnErr, IfErr, true, false};
 ghost use Rattle.syntect_scope.specs.Stack.{applied, is_refused};
-ghost use Rattle.syntect_style.specs.Candidates.{OnlySingleRules};
 ghost use Rattle.syntect_style.specs.Styling.{shown};
 ghost use Rattle.syntect_style.specs.Pieces.{path_of, Keeps};
 
@@ -58,7 +57,7 @@ impl HighlightState {
     pub(crate) fn style(&mut self, highlighter: &Highlighter<'_>) -> Result<Style, AllocError>
         ensures path { path_of self.new ≡ path_of self.old }
         ensures keeps { Keeps highlighter.now self.old → Keeps highlighter.now self.new }
-        ensures style { IfOk result (λ s. OnlySingleRules highlighter.now → Keeps highlighter.now self.old → s ≡ shown highlighter.now (path_of self.old).scopes) }
+        ensures style { IfOk result (λ s. Keeps highlighter.now self.old → s ≡ shown highlighter.now (path_of self.old).scopes) }
     {
         if let Some(style) = self.kept {
             return Ok(style);

@@ -248,3 +248,128 @@ fn flags_and_modifiers(rt: HostRuntime) {
     assert_eq!(rt; style.font_style, flags);
     assert_eq!(rt; style.background, FIRST);
 }
+
+/// A rule for a path of scopes, of which none of the exclusions may be found.
+fn excluding(
+    alloc: Global,
+    path: &[Scope],
+    exclusions: &[Scope],
+    style: StyleModifier,
+) -> io::Result<ThemeItem> {
+    let mut scopes = ScopeStack::new(alloc);
+    for scope in path {
+        scopes.push(*scope)?;
+    }
+    let mut excludes = Seq::new(alloc);
+    for scope in exclusions {
+        let mut exclusion = ScopeStack::new(alloc);
+        exclusion.push(*scope)?;
+        excludes.push(exclusion)?;
+    }
+    let mut selectors = Seq::new(alloc);
+    selectors.push(ScopeSelector {
+        path: scopes,
+        excludes,
+    })?;
+    Ok(ThemeItem {
+        scope: ScopeSelectors { selectors },
+        style,
+    })
+}
+
+#[test]
+fn an_excluded_scope_lets_the_rule_go(rt: HostRuntime) -> io::Result<()> {
+    let alloc = rt.alloc();
+    let mut repository = ScopeRepository::new(alloc);
+    let line = scope(&mut repository, "comment.line");
+    let comment = scope(&mut repository, "comment");
+    let line_rs = scope(&mut repository, "comment.line.rs");
+    let keyword = scope(&mut repository, "keyword");
+    let control = scope(&mut repository, "keyword.control.rs");
+    let none = scope(&mut repository, "no.match");
+    let on_comment = StyleModifier {
+        foreground: Some(SECOND),
+        background: None,
+        font_style: Some(FontStyle::ITALIC),
+    };
+    let behind = StyleModifier {
+        foreground: None,
+        background: Some(FIRST),
+        font_style: None,
+    };
+    let nowhere = StyleModifier {
+        foreground: None,
+        background: Some(SECOND),
+        font_style: Some(FontStyle::UNDERLINE),
+    };
+    let mut theme = theme_of(alloc, &[(line, ON_TEXT), (comment, on_comment)])?;
+    let excluded = excluding(alloc, &[line_rs], &[keyword], behind)?;
+    theme.scopes.push(excluded)?;
+    theme.scopes.push(rule(alloc, none, nowhere)?)?;
+    let highlighter = Highlighter::new(alloc, &theme)?;
+    let modifier = highlighter.style_mod_for_stack(&[line_rs, control])?;
+    assert_eq!(rt; modifier.foreground, Some(FIRST));
+    assert!(rt; modifier.background.is_none());
+    assert_eq!(rt; modifier.font_style, Some(FontStyle::ITALIC));
+    let mut state = HighlightState::new(&highlighter, ScopeStack::new(alloc));
+    let changes = [
+        (0, ScopeStackOp::Push(line_rs)),
+        (1, ScopeStackOp::Push(control)),
+        (2, ScopeStackOp::Pop(1)),
+    ];
+    let outer = Style {
+        foreground: FIRST,
+        background: FIRST,
+        font_style: FontStyle::ITALIC,
+    };
+    let inner = Style {
+        background: Color::WHITE,
+        ..outer
+    };
+    let pieces = collect_pieces(alloc, &highlighter, &mut state, &changes, "abcdef");
+    let expected = [(outer, "a"), (inner, "b"), (outer, "cdef")];
+    assert!(rt; pieces.is_ok_and(|p| p.as_slice() == expected.as_slice()));
+    Ok(())
+}
+
+#[test]
+fn a_rule_without_scopes_acts_on_every_scope(rt: HostRuntime) -> io::Result<()> {
+    let alloc = rt.alloc();
+    let mut repository = ScopeRepository::new(alloc);
+    let q = scope(&mut repository, "q");
+    let mut theme = Theme::default(alloc);
+    theme.scopes.push(excluding(alloc, &[], &[], ON_TEXT)?)?;
+    let highlighter = Highlighter::new(alloc, &theme)?;
+    assert_eq!(rt; highlighter.style_for_stack(&[])?.foreground, FIRST);
+    let mut state = HighlightState::new(&highlighter, ScopeStack::new(alloc));
+    let changes = [(1, ScopeStackOp::Push(q)), (2, ScopeStackOp::Pop(1))];
+    let ruled = Style {
+        foreground: FIRST,
+        ..Style::default()
+    };
+    let pieces = collect_pieces(alloc, &highlighter, &mut state, &changes, "abc");
+    let expected = [
+        (Style::default(), "a"),
+        (ruled, "b"),
+        (Style::default(), "c"),
+    ];
+    assert!(rt; pieces.is_ok_and(|p| p.as_slice() == expected.as_slice()));
+    Ok(())
+}
+
+#[test]
+fn a_path_of_several_scopes_scores_each(rt: HostRuntime) -> io::Result<()> {
+    let alloc = rt.alloc();
+    let mut repository = ScopeRepository::new(alloc);
+    let a = scope(&mut repository, "a");
+    let b = scope(&mut repository, "b");
+    let mut theme = theme_of(alloc, &[(b, OTHER_ON_TEXT)])?;
+    theme.scopes.push(excluding(alloc, &[a, b], &[], ON_TEXT)?)?;
+    let highlighter = Highlighter::new(alloc, &theme)?;
+    // 1 and 8 are more than 8
+    assert_eq!(rt; highlighter.style_for_stack(&[a, b])?.foreground, FIRST);
+    assert_eq!(rt; highlighter.style_for_stack(&[b, b])?.foreground, SECOND);
+    // the path takes the lower places, 1 and 8, and the single rule the deepest one, 64
+    assert_eq!(rt; highlighter.style_for_stack(&[a, b, b])?.foreground, SECOND);
+    Ok(())
+}

@@ -12,7 +12,7 @@ returns-in-Ok-clause-steps c =
     let e : c.loop-first.self.changes.now ≡ [] = none_first c.split_first.ensures.cases c.in_default.not-Some in
     gives-last c.loop-first.invariant e c.if-from-to.false
     (record { text = refl; highlighter = refl; state = refl; keeps = c.in-Ok.ensures.keeps; changes = e; pos = refl })
-    c.in-Ok.ensures.path _ (record { style = λ k. c.in-Ok.ensures.style k.0 k.1; text_of = c.range.ensures.value; from = refl; to = refl })
+    c.in-Ok.ensures.path _ (record { style = λ k. c.in-Ok.ensures.style k; text_of = c.range.ensures.value; from = refl; to = refl })
 
 pub returns-in-Err-clause-steps : goal.returns-in-Err-clause-steps
 returns-in-Err-clause-steps c = gives-error {o = c.in-Some.first.now} {os = c.in-Some.others.now} c.in-Err.e c.loop-first.invariant c.in-Some.ensures.cases.0

@@ -1,6 +1,6 @@
 use Rattle.std.proofs.Common.{◌≡◌, drop, None}
 use Rattle.syntect_style.specs.Rules.{after_rules, candidate_from}
-use Rattle.syntect_style.proofs.contest.winners_of.Given as goal
+use Rattle.syntect_style.proofs.contest.standings_of.Given as goal
 
 abbrev pub invariant-loop-rule : goal.invariant-loop-rule
 invariant-loop-rule l = record {
