@@ -1,13 +1,14 @@
 -- What holds of a set that was built of plain definitions.
-use Rattle.std.proofs.Common.{◌≡◌, ◌==◌, ℕ, zero, suc, ◌+◌, ◌≤◌, List, [], ◌∷◌, length, map, take, refl, sym, ap, ◌∙◌, arith, Option, Some, None, subst}
+use Rattle.std.proofs.Common.{◌≡◌, ◌==◌, ℕ, zero, suc, ◌+◌, ◌≤◌, ◌<◌, true, false, is_none, get_or, List, [], ◌∷◌, length, map, take, refl, sym, ap, ◌∙◌, arith, Option, Some, None, subst}
 use Rattle.std.specs.Prelude.{position, codes, IfSome, All, slice_get}
 use Rattle.std.specs.Option.{option_map, option_and_then}
 use Rattle.std.specs.Cmp.Lexicographic.{pointwise}
 use Rattle.std.proofs.lemmas.List.{append-nil}
 use Rattle.std.proofs.lemmas.Option.{slice_get-map}
+use Rattle.std.proofs.lemmas.List.Quantifiers.{position-Some}
 use Rattle.syntect_parsing.specs.Contexts.{context_at, contexts_of}
 use Rattle.syntect_parsing.specs.Link.{linked_from, linked_definition, linked_context, names_of, syntaxes_in}
-use Rattle.syntect_parsing.specs.Line.{start, start_of, HasPlainStart}
+use Rattle.syntect_parsing.specs.Line.{start, start_id, start_of, HasPlainStart}
 use Rattle.syntect_parsing.specs.declared.syntax_definition.ContextId.{ContextId}
 use Rattle.syntect_parsing.specs.declared.syntax_definition.Context.{Context}
 use Rattle.syntect_parsing.specs.declared.syntax_definition.SyntaxDefinition.{SyntaxDefinition}
@@ -84,3 +85,29 @@ built_begins_plain set syntax definitions h = λ s e.
     let k : 0 + h.place ≡ h.place = omega arith in
     let is : syntax ≡ linked_definition h.place r.definition = rw k at r.is in
     starts_at set h.place syntax r.definition h.among is (plain_at definitions h.place r.definition h.plain r.at) _ refl s (sym (ap start_of is) ∙ e)
+
+-- the start of a syntax is a context of the set
+starts_there : (set : SyntaxSet) (place : ℕ) (syntax : SyntaxReference) (d : SyntaxDefinition) → slice_get (syntaxes_in set) place ≡ Some syntax → syntax ≡ linked_definition place d
+    → (o : Option ℕ) → position (pointwise ◌==◌ (codes "__start")) (names_of d.contexts) ≡ o
+    → (id : ContextId) → option_map (λ i. record { syntax_index = place; context_index = i }) o ≡ Some id → is_none (context_at set id) ≡ false
+starts_there set place syntax d at is None p id e = cc
+starts_there set place syntax d at is (Some k) p id e =
+    let names : List (List ℕ) = names_of d.contexts in
+    let f : record { syntax_index = place; context_index = k } ≡ id = cc in
+    let n : (k < length names) × (pointwise ◌==◌ (codes "__start") (get_or names k []) ≡ true) × ((j : ℕ) → j < k → pointwise ◌==◌ (codes "__start") (get_or names j []) ≡ false) = position-Some (pointwise ◌==◌ (codes "__start")) names k [] p in
+    let held : context_at set (record { syntax_index = place; context_index = k }) ≡ option_map (λ (x : List ℕ × Context). linked_context place names x.1) (slice_get d.contexts k)
+    = context_here set place k syntax at ∙ ap (λ (x : SyntaxReference). slice_get x.contexts k) is ∙ slice_get-map (λ (x : List ℕ × Context). linked_context place names x.1) d.contexts k in
+    subst (λ (x : ContextId). is_none (context_at set x) ≡ false) f (ap is_none held ∙ entry_there d.contexts k (λ x. linked_context place names x.1) n.0)
+  where
+    entry_there : (entries : List (List ℕ × Context)) (k : ℕ) (f : List ℕ × Context → Context) → k < length (names_of entries) → is_none (option_map f (slice_get entries k)) ≡ false
+    entry_there [] k f l = absurd (omega arith)
+    entry_there (x ∷ entries) zero f l = refl
+    entry_there (x ∷ entries) (suc k) f l = entry_there entries k f (omega arith)
+
+pub built_there : (set : SyntaxSet) (syntax : SyntaxReference) (definitions : List SyntaxDefinition) → IsBuiltOf set syntax definitions → (id : ContextId) → start_id syntax ≡ Some id → is_none (context_at set id) ≡ false
+built_there set syntax definitions h id e =
+    let at : slice_get (linked_from 0 definitions) h.place ≡ Some syntax = rw h.set_is at h.among in
+    let r : IsLinkedAt definitions h.place (0 + h.place) syntax = linked_at 0 definitions h.place syntax at in
+    let k : 0 + h.place ≡ h.place = omega arith in
+    let is : syntax ≡ linked_definition h.place r.definition = rw k at r.is in
+    starts_there set h.place syntax r.definition h.among is _ refl id (sym (ap start_id is) ∙ e)

@@ -7,7 +7,6 @@ use Rattle.syntect_scope.specs.Replay.{IsAt, AllApply, before_text, replay, byte
 use Rattle.syntect_scope.specs.declared.stack.ScopeStackOp.{ScopeStackOp}
 use Rattle.syntect_scope.specs.declared.stack.ScopeError.{ScopeError}
 use Rattle.syntect_scope.specs.declared.stack.ScopeError.TheVariants as scope
-use Rattle.syntect_style.specs.Candidates.{OnlySingleRules}
 use Rattle.syntect_style.specs.Pieces.{Joins, IsStyled, Keeps, path_of}
 use Rattle.syntect_style.specs.declared.style.Style.{Style}
 use Rattle.syntect_style.specs.declared.theme.Theme.{Theme}
@@ -88,7 +87,7 @@ lead_unshown set theme syntax lines answers line h new ops scope.NoClearedScopes
 -- what the caller of `collect_pieces` holds
 pub record Shown (theme : Theme) (line : List ℕ) (old new : HighlightState) (ops : List (ℕ × ScopeStackOp)) (pieces : List (Style × Bor (List ℕ))) : Type 0 where
   pub joins : Joins line pieces
-  pub styled : OnlySingleRules theme → Keeps theme old → IsStyled theme (bytes_to (replay ops (before_text (path_of old))) (length line)) pieces
+  pub styled : Keeps theme old → IsStyled theme (bytes_to (replay ops (before_text (path_of old))) (length line)) pieces
   pub path : path_of new ≡ (replay ops (before_text (path_of old))).stack
   pub keeps : Keeps theme old → Keeps theme new
 
@@ -104,7 +103,8 @@ lead_accepted set theme syntax lines answers line h new state ops pieces more op
       leads-more set theme syntax lines answers line.now h (record { highlighter = h.highlighter; parse_state = new; highlight_state = state }) (Accepted a.bytes) more l (accepts a.reads)
           (rw l.path at x.path ∙ at.stack) l.theme_is (x.keeps l.keeps),
       w.joins,
-      λ single.
-          let y : IsStyled theme (bytes_to (replay ops (before_text (path_of h.highlight_state))) (length line.now)) pieces.items = x.styled single l.keeps in
-          rw at.before at (rw l.path at y),
+      (
+          let y : IsStyled theme (bytes_to (replay ops (before_text (path_of h.highlight_state))) (length line.now)) pieces.items = x.styled l.keeps in
+          rw at.before at (rw l.path at y)
+          ),
     )

@@ -1,8 +1,11 @@
 -- Sets that were built of definitions, and what the definitions have to be.
-use Rattle.std.specs.Prelude.{◌≡◌, ℕ, ◌==◌, ◌≤◌, List, [], length, map, position, codes, Option, Some, IfSome, All, slice_get}
+use Rattle.std.specs.Prelude.{◌≡◌, true, ℕ, ◌==◌, ◌≤◌, List, [], length, map, position, codes, Option, Some, IfSome, All, slice_get}
+use Rattle.std.specs.List.{list_all}
 use Rattle.std.specs.Option.{option_and_then}
 use Rattle.std.specs.Cmp.Lexicographic.{pointwise}
+use Rattle.syntect_parsing.specs.Line.{start_id}
 use Rattle.syntect_parsing.specs.Link.{linked, names_of, syntaxes_in}
+use Rattle.syntect_parsing.specs.Refusals.{lone_patterns, stays}
 use Rattle.syntect_parsing.specs.declared.syntax_definition.Context.{Context}
 use Rattle.syntect_parsing.specs.declared.syntax_definition.SyntaxDefinition.{SyntaxDefinition}
 use Rattle.syntect_parsing.specs.declared.syntax_set.SyntaxReference.{SyntaxReference}
@@ -22,3 +25,7 @@ pub record IsBuiltOf (set : SyntaxSet) (syntax : SyntaxReference) (definitions :
   pub place : ℕ
   pub among : slice_get (syntaxes_in set) place ≡ Some syntax
   pub plain : All IsPlain definitions
+
+-- Nothing that is looked at in `__start` alone pops it or sets another context in its place: a text never leaves it.
+abbrev pub StaysInStart : SyntaxSet → SyntaxReference → Type 0
+StaysInStart set syntax = IfSome (start_id syntax) (λ id. list_all (λ m. stays m.operation) (lone_patterns set id) ≡ true)

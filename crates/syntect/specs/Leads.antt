@@ -3,13 +3,14 @@ use Rattle.std.specs.Prelude.{◌≡◌, ℕ, List, [], ◌∷◌, ◌++◌, Som
 use Rattle.std.specs.Borrow.{Bor}
 use Rattle.std.specs.Global.{Vec}
 use Rattle.syntect_scope.specs.Stack.{plain}
-use Rattle.syntect_style.specs.Candidates.{OnlySingleRules}
 use Rattle.syntect_style.specs.Pieces.{Joins, IsStyled, Keeps, path_of}
 use Rattle.syntect_style.specs.declared.style.Style.{Style}
 use Rattle.syntect_style.specs.declared.theme.Theme.{Theme}
 use Rattle.syntect_parsing.specs.Engine.{dialect}
 use Rattle.syntect_parsing.specs.Line.{Answer, Accepted, RefusedBy, AnswersAll, start_of, stack_before, HasPlainStart}
+use Rattle.syntect_parsing.specs.Refusals.{NamesUnresolved, PicksUnresolved}
 use Rattle.syntect_parsing.specs.declared.parser.ParseState.{ParseState}
+use Rattle.syntect_parsing.specs.declared.syntax_definition.ContextReference.{ContextReference}
 use Rattle.syntect_parsing.specs.declared.parser.ParsingError.TheVariants as parsing
 use Rattle.syntect_parsing.specs.declared.syntax_set.SyntaxReference.{SyntaxReference}
 use Rattle.syntect_parsing.specs.declared.syntax_set.SyntaxSet.{SyntaxSet}
@@ -43,8 +44,21 @@ pub record Leads (set : SyntaxSet) (theme : Theme) (syntax : SyntaxReference) (l
 abbrev pub LeadsOn : SyntaxSet → Theme → SyntaxReference → List (List ℕ) → List Answer → Bor (List ℕ) → HighlightLines → Result (Vec (Style × Bor (List ℕ))) Error → Type 0
 LeadsOn set theme syntax lines answers line h (Ok pieces) =
     (bytes : List (List (List ℕ))) × Leads set theme syntax (lines ++ line.now ∷ []) (answers ++ Accepted bytes ∷ []) h
-    × Joins line.now pieces.items × (OnlySingleRules theme → IsStyled theme bytes pieces.items)
+    × Joins line.now pieces.items × IsStyled theme bytes pieces.items
 LeadsOn set theme syntax lines answers line h (Err (error.ParsingError e)) = Leads set theme syntax (lines ++ line.now ∷ []) (answers ++ RefusedBy e ∷ []) h
 LeadsOn set theme syntax lines answers line h (Err error.Memory) = Unit {0}
 LeadsOn set theme syntax lines answers line h (Err (error.ScopeError e)) = ⊥
+LeadsOn set theme syntax lines answers line h (Err (error.Fmt e)) = ⊥
+LeadsOn set theme syntax lines answers line h (Err (error.Io e)) = ⊥
 LeadsOn set theme syntax lines answers line h (Err error.NoSyntax) = ⊥
+
+-- The line is refused exactly where a turn of its reading picks a match that names a reference without target, and with
+-- that reference, unless memory ran out. h is what is held before the line.
+abbrev pub RefusedExactly : SyntaxSet → List ℕ → HighlightLines → Result (Vec (Style × Bor (List ℕ))) Error → Type 0
+RefusedExactly set line h (Ok pieces) = (r : ContextReference) → PicksUnresolved dialect set line h.parse_state r → ⊥
+RefusedExactly set line h (Err (error.ParsingError e)) = NamesUnresolved dialect set line h.parse_state e
+RefusedExactly set line h (Err error.Memory) = Unit {0}
+RefusedExactly set line h (Err (error.ScopeError e)) = ⊥
+RefusedExactly set line h (Err (error.Fmt e)) = ⊥
+RefusedExactly set line h (Err (error.Io e)) = ⊥
+RefusedExactly set line h (Err error.NoSyntax) = ⊥

@@ -8,7 +8,9 @@ ghost use Rattle.syntect_style.specs.declared.theme.Theme.{Theme as ATheme};
 
 use crate::error::Error;
 use std::alloc::{AllocError, Global};
-use syntect_parsing::laws::{answers_more, stack_is_open};
+use syntect_parsing::laws::{
+    answers_more, links_closed, never_both, refuses_unresolved, stack_is_open,
+};
 use syntect_parsing::parser::ParseState;
 use syntect_parsing::syntax_set::{SyntaxReference, SyntaxSet};
 use syntect_scope::stack::ScopeStack;
@@ -27,8 +29,9 @@ pub struct HighlightLines<'a> {
 }
 
 impl<'a> HighlightLines<'a> {
-    ghost use Rattle.syntect.specs.Leads.{Leads, LeadsOn, LacksStart};
-    ghost use Rattle.syntect.specs.Built.{IsBuiltOf};
+    ghost use Rattle.syntect.specs.Leads.{Leads, LeadsOn, LacksStart, RefusedExactly};
+    ghost use Rattle.syntect.specs.Built.{IsBuiltOf, StaysInStart};
+    ghost use Rattle.syntect_parsing.specs.Refusals.{AreByName};
 
     /// The state before the first line of a text in this syntax, under this theme. `MissingMainContext` where the
     /// syntax has no context `__start`.
@@ -62,10 +65,17 @@ impl<'a> HighlightLines<'a> {
         ensures answered { (theme : ATheme) (definitions : List ADefinition) (syntax : ASyntax) (lines : List (List ℕ)) (answers : List Answer)
             → IsBuiltOf syntax_set.now syntax definitions → Leads syntax_set.now theme syntax lines answers self.old
             → LeadsOn syntax_set.now theme syntax lines answers line.entry self.new result }
+        // where besides the definitions' references are all by name, and no pattern leaves `__start`
+        ensures refused { (theme : ATheme) (definitions : List ADefinition) (syntax : ASyntax) (lines : List (List ℕ)) (answers : List Answer)
+            → IsBuiltOf syntax_set.now syntax definitions → AreByName definitions → StaysInStart syntax_set.now syntax
+            → Leads syntax_set.now theme syntax lines answers self.old → RefusedExactly syntax_set.now line.entry.now self.old result }
         ensures err { OnErr result (self.new ≡ self.old) }
     {
         answers_more();
         stack_is_open();
+        never_both();
+        refuses_unresolved();
+        links_closed();
         let mut parse_state = copied(&self.parse_state)?;
         let mut highlight_state = self.highlight_state.clone()?;
         let ops = parse_state.parse_line(alloc, line, syntax_set)?;

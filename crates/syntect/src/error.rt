@@ -1,11 +1,12 @@
 //! What can go wrong.
 use std::alloc::{AllocError, AllocFailed};
+use std::{fmt, io};
 use syntect_parsing::parser::ParsingError;
 use syntect_scope::stack::ScopeError;
 use thiserror::Error as ThisError;
 
 /// Why a call of this crate was refused.
-#[derive(Debug, Drop, PartialEq, Eq, ThisError)]
+#[derive(Debug, Drop, ThisError)]
 pub enum Error {
     /// A line was not read.
     #[error("Parsing error: {0}")]
@@ -13,6 +14,12 @@ pub enum Error {
     /// An operation on a stack of scopes was refused.
     #[error("Scope error: {0}")]
     ScopeError(ScopeError),
+    /// A text could not be formatted. No call of this crate answers it.
+    #[error("Formatting error: {0}")]
+    Fmt(fmt::Error),
+    /// A file or reader failed, or its bytes aren't UTF-8.
+    #[error("IO Error: {0}")]
+    Io(io::Error),
     /// No syntax fits a file.
     #[error("NoSyntax")]
     NoSyntax,

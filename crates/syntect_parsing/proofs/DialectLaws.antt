@@ -6,7 +6,7 @@ use Rattle.std.specs.Str.{IsUtf8}
 use Rattle.syntect_pattern.specs.Trees.{Tree}
 use Rattle.syntect_pattern.specs.Matches.{found}
 use Rattle.syntect_pattern.specs.Grammar.{tree_of}
-use Rattle.syntect_pattern.specs.Simple.{pattern_tree}
+use Rattle.syntect_pattern.specs.Pattern.{pattern_tree}
 use Rattle.syntect_pattern.specs.Reading.{◌>>=◌}
 use Rattle.syntect_pattern.specs.Nesting.{FindsMatches, IsMatch, LiesIn}
 use Rattle.syntect_parsing.specs.Engine.{dialect, whole_dialect}

@@ -22,3 +22,7 @@ pub mod ChoiceLaws
 pub mod TakeLaws
 pub mod WholeTurnLaws
 pub mod Runs
+pub mod EachLaws
+pub mod ClosedLaws
+pub mod RefusalLaws
+pub mod LinkedLaws

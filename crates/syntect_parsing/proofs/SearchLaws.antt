@@ -2,7 +2,7 @@
 use Rattle.std.proofs.Common.{◌≡◌, ℕ, Bool, true, false, List, [], ◌∷◌, length, take, map, ◌&&◌, Option, Some, None, refl, ap, sym, ◌∙◌, if◌then◌else◌}
 use Rattle.std.specs.Prelude.{slice_index_or, is_some, unwrap_or}
 use Rattle.std.specs.List.{list_all}
-use Rattle.syntect_pattern.specs.Simple.{pattern_found}
+use Rattle.syntect_pattern.specs.Pattern.{pattern_found}
 use Rattle.syntect_parsing.specs.Substitution.{Groups}
 use Rattle.syntect_parsing.specs.Engine.{dialect}
 use Rattle.syntect_parsing.specs.Chain.{Member}

@@ -1,7 +1,7 @@
 -- Members of a chain and their matches, as the reader of a line keeps them.
 use Rattle.std.specs.Prelude.{ℕ, ◌+◌, ◌<◌, List, [], length, Option, Some, unwrap_or}
 use Rattle.std.specs.Option.{option_copied}
-use Rattle.syntect_pattern.specs.Simple.{pattern_found}
+use Rattle.syntect_pattern.specs.Pattern.{pattern_found}
 use Rattle.syntect_parsing.specs.Chain.{Member}
 use Rattle.syntect_parsing.specs.Turn.{Live, char_len}
 use Rattle.syntect_parsing.specs.Laws.{StandsIn}

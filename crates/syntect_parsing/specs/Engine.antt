@@ -3,7 +3,7 @@ use Rattle.std.specs.Prelude.{ℕ, Bool, true, false, List, Option, unwrap_or, c
 use Rattle.std.specs.Option.{option_map_or}
 use Rattle.syntect_pattern.specs.Trees.{group_in_look}
 use Rattle.syntect_pattern.specs.Grammar.{tree_of, found_in}
-use Rattle.syntect_pattern.specs.Simple.{pattern_found}
+use Rattle.syntect_pattern.specs.Pattern.{pattern_found}
 use Rattle.syntect_parsing.specs.Substitution.{Groups, substituted}
 
 -- Patterns are given by their texts.
@@ -23,7 +23,7 @@ whole_dialect = record {
   substituted = substituted;
 }
 
--- The part of it that is read for now: no pattern has a group or a back reference, so no capture has an effect.
+-- What lines are read with for now: the whole dialect too, but no back reference is replaced, and no capture has an effect.
 abbrev pub dialect : Engine
 dialect = record {
   found = pattern_found;

@@ -13,3 +13,4 @@ pub mod Laws
 pub mod Candidates
 pub mod Operations
 pub mod Step
+pub mod Refusals

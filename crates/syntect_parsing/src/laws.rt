@@ -1,5 +1,6 @@
 //! Laws of reading.
 ghost use Rattle.syntect_parsing.specs.Laws.{ReadsOnce, RefusesOnce, NeverBoth, AnswersOnce, AnswersMore, CoversLine, RoomIsNotFelt, EachLineEnds, PlacesAreBoundaries, StackIsOpen, FindsInText};
+ghost use Rattle.syntect_parsing.specs.Refusals.{RefusesUnresolved, LinksClosed};
 ghost use Rattle.syntect_parsing.specs.Engine.{dialect, whole_dialect};
 
 /// A line that is accepted has one reading.
@@ -67,3 +68,14 @@ pub fn dialect_finds_in_text()
 {
     syntect_pattern::matches_are_laid_out();
 }
+
+/// A text that begins in a context that is never left is refused exactly where a picked match names a reference without
+/// target, with the refusal of that reference.
+pub fn refuses_unresolved()
+    ensures { RefusesUnresolved }
+{}
+
+/// A set that is linked of definitions whose references are all by name leads nowhere out of it.
+pub fn links_closed()
+    ensures { LinksClosed }
+{}

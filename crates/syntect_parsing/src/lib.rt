@@ -13,6 +13,8 @@ mod link;
 mod names;
 pub mod parser;
 mod position;
+#[cfg(test)]
+mod row_tests;
 mod search;
 pub mod syntax_definition;
 pub mod syntax_set;

@@ -1,6 +1,7 @@
 use Rattle.std.proofs.lemmas.Result.{err_from_is_err_and}
 use Rattle.syntect.proofs.BuiltLaws.{built_begins_plain}
 use Rattle.syntect.proofs.LeadLaws.{lead_refused, lead_unshown, lead_accepted}
+use Rattle.syntect.proofs.ExactLaws.{exact_refused, exact_accepted, exact_unshown}
 use Rattle.syntect.proofs.easy.HighlightLines.highlight_line.Goals as goal
 
 pub returns-in_err-ops-clause-answered : goal.returns-in_err-ops-clause-answered
@@ -26,3 +27,21 @@ returns-clause-answered c = λ theme definitions syntax lines answers b l.
       path = rw (c.as_slice.ensures.value, c.in_ok-highlight_state.ensures) at c.in_ok-pieces.ensures.path;
       keeps = rw c.in_ok-highlight_state.ensures at c.in_ok-pieces.ensures.keeps;
     })
+
+pub returns-in_err-ops-clause-refused : goal.returns-in_err-ops-clause-refused
+returns-in_err-ops-clause-refused c = λ theme definitions syntax lines answers b n s l.
+    let p = err_from_is_err_and c.from_residual-in_err-ops.result c.from_residual-in_err-ops.ensures.1 in
+    rw (p.1, p.2) (exact_refused (record { refuses = c.refuses_unresolved.ensures; links = c.links_closed.ensures; built = b; by_name = n; stays_in = s; leads = l }) c.args.line.now c.in_err-ops.field-0.0
+    (rw c.in_ok-parse_state.ensures at c.in_err-ops.ensures.refused))
+
+pub returns-in_err-pieces-clause-refused : goal.returns-in_err-pieces-clause-refused
+returns-in_err-pieces-clause-refused c = λ theme definitions syntax lines answers b n s l.
+    let p = err_from_is_err_and c.from_residual-in_err-pieces.result c.from_residual-in_err-pieces.ensures.1 in
+    rw (p.1, p.2) (exact_unshown (record { refuses = c.refuses_unresolved.ensures; links = c.links_closed.ensures; built = b; by_name = n; stays_in = s; leads = l }) c.args.line c.stack_is_open.ensures c.parse_line.new.self c.in_ok-ops.ops.items c.in_err-pieces.field-0.0
+    (rw c.in_ok-parse_state.ensures at c.in_ok-ops.ensures.accepted)
+    (rw (c.as_slice.ensures.value, c.in_ok-highlight_state.ensures) at c.in_err-pieces.ensures.none))
+
+pub returns-clause-refused : goal.returns-clause-refused
+returns-clause-refused c = λ theme definitions syntax lines answers b n s l.
+    exact_accepted (record { refuses = c.refuses_unresolved.ensures; links = c.links_closed.ensures; built = b; by_name = n; stays_in = s; leads = l }) c.args.line.now c.never_both.ensures c.parse_line.new.self c.in_ok-ops.ops.items c.in_ok-pieces.pieces
+    (rw c.in_ok-parse_state.ensures at c.in_ok-ops.ensures.accepted)
