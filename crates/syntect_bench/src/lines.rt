@@ -66,8 +66,8 @@ pub fn unresolved_line(alloc: Global) -> Option<bool> {
     let refusal = lines.highlight_line(alloc, "xa", &set).err()?;
     let name = Text::from_str(alloc, "none").ok()?;
     let reference = ContextReference::Named(name);
-    let wanted = Error::ParsingError(ParsingError::UnresolvedContextReference(reference));
-    let refused = refusal == wanted;
+    let wanted = ParsingError::UnresolvedContextReference(reference);
+    let refused = matches!(&refusal, Error::ParsingError(e) if *e == wanted);
     let pieces = lines.highlight_line(alloc, "ya", &set).ok()?;
     Some(refused && are_pieces(pieces.as_slice(), &["ya"], None))
 }

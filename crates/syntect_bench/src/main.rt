@@ -2,18 +2,24 @@
 //!
 //! With a word FILE it prints the pieces of that text file's lines by the contexts and the theme of example 17, and with
 //! `time FILE N` how fast that goes over N runs. With `time atoms` it prints how long a repository takes for 60000 new
-//! atoms, and with `time searches` how long searches take a character.
+//! atoms, with `time searches` how long searches take a character, and with `time yaml FOLDER` how long the files of
+//! the folder take to be read as YAML. With `answers FILE` it prints what the pattern engine answers to the queries of a
+//! file, and with `regexbench FILE N` how long they take.
 #![tactic(auto)]
 
+mod documents;
 mod files;
 mod grammars;
 mod lines;
 mod make;
+mod queries;
 mod rows;
 mod searches;
 mod third;
 
+use crate::documents::time_documents;
 use crate::files::{show, time};
+use crate::queries::{answers, count_patterns, time_queries};
 use crate::rows::{ROWS, holds};
 use crate::searches::time_searches;
 use std::process::ExitCode;
@@ -30,7 +36,7 @@ fn main(rt: HostRuntime) -> io::Result<ExitCode> {
     match words.as_slice() {
         [] => run_rows(&rt),
         [path] => show(&rt, path.as_str()),
-        [time, what] => timed(&rt, time.as_str(), what.as_str()),
+        [word, what] => two_words(&rt, word.as_str(), what.as_str()),
         [time_word, path, rounds] => timed_file(
             &rt,
             time_word.as_str(),
@@ -43,46 +49,69 @@ fn main(rt: HostRuntime) -> io::Result<ExitCode> {
 
 /// What the words can be.
 fn usage(rt: &impl Eprint) -> io::Result<ExitCode> {
-    eprintln!(rt; "usage: syntect_bench [FILE | time FILE N | time atoms | time searches]")?;
+    eprintln!(rt;
+        "usage: syntect_bench [FILE | time FILE N | time atoms | time searches | time yaml FOLDER | answers FILE | regexbench FILE N]"
+    )?;
     Ok(ExitCode::from(2))
 }
 
 /// Two words.
-fn timed(
-    rt: &(impl Print + Eprint + AllocGlobal + Clock),
+fn two_words(
+    rt: &(impl Print + Eprint + AllocGlobal + Files + Clock),
     word: &str,
     what: &str,
 ) -> io::Result<ExitCode> {
     match (word, what) {
         ("time", "atoms") => time_atoms(rt),
         ("time", "searches") => time_searches(rt),
+        ("answers", path) => answers(rt, path),
         _ => usage(rt),
     }
 }
 
 /// Three words.
 fn timed_file(
-    rt: &(impl Print + Eprint + AllocGlobal + Files + Clock),
+    rt: &(impl Print + Eprint + AllocGlobal + Files + Clock + Clone + Drop),
     word: &str,
     path: &str,
     rounds: &str,
 ) -> io::Result<ExitCode> {
-    match rounds.parse::<u32>() {
-        Ok(rounds) if word == "time" => time(rt, path, rounds),
+    if (word, path) == ("time", "yaml") {
+        return time_documents(rt, rounds);
+    }
+    match (word, rounds.parse::<u32>()) {
+        ("time", Ok(rounds)) => time(rt, path, rounds),
+        ("regexbench", Ok(rounds)) => time_queries(rt, path, rounds),
         _ => usage(rt),
     }
 }
 
+/// Files of patterns, with how many in them are patterns of the dialect and how many are none.
+const FILES_OF_PATTERNS: [(&str, (u32, u32)); 2] = [
+    ("patterns.txt", (718, 0)),
+    ("no_patterns.txt", (0, 7)),
+];
+
 /// Runs each example. The status is 0 if all come out as they are written, else 1.
-fn run_rows(rt: &(impl Print + AllocGlobal)) -> io::Result<ExitCode> {
+fn run_rows(rt: &(impl Print + AllocGlobal + Files)) -> io::Result<ExitCode> {
     let mut failed = false;
     for (label, row) in &ROWS {
-        if holds(rt.alloc(), *row) {
-            println!(rt; "row {label} ok")?;
+        let outcome = if holds(rt.alloc(), *row) {
+            "ok"
         } else {
-            failed = true;
-            println!(rt; "row {label} fails")?;
-        }
+            "fails"
+        };
+        failed |= outcome == "fails";
+        println!(rt; "row {label} {outcome}")?;
+    }
+    for (path, counts) in &FILES_OF_PATTERNS {
+        let outcome = if count_patterns(rt, *path)? == *counts {
+            "ok"
+        } else {
+            "fails"
+        };
+        failed |= outcome == "fails";
+        println!(rt; "{path} {outcome}")?;
     }
     Ok(ExitCode::from(u8::from(failed)))
 }

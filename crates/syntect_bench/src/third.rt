@@ -1,9 +1,9 @@
 //! A caller of the highlighter, from definitions to the pieces of lines.
-ghost use Rattle.std.specs.Prelude.{◌≡◌, All, IfOk, List, ℕ, [], ◌∷◌};
+ghost use Rattle.std.specs.Prelude.{◌≡◌, All, IfOk, IfErr, List, ℕ, [], ◌∷◌};
 ghost use Rattle.syntect_parsing.specs.Link.{definitions_in};
-ghost use Rattle.syntect_style.specs.Candidates.{OnlySingleRules};
 ghost use Rattle.syntect.specs.Built.{IsPlain};
-ghost use Rattle.syntect_bench.specs.Third.{IsThird};
+ghost use Rattle.syntect_parsing.specs.Refusals.{AreByName};
+ghost use Rattle.syntect_bench.specs.Third.{IsThird, FirstStays, IsRefusal};
 
 use std::alloc::Global;
 use syntect::Error;
@@ -12,8 +12,10 @@ use syntect::highlighting::{Style, Theme};
 use syntect::parsing::{ScopeRepository, SyntaxSetBuilder};
 
 /// The pieces of the third of three lines of text in the first syntax of a set that is built of these definitions. For
-/// plain definitions and a theme of single rules its contract is the whole promise: the three lines were read one after
-/// another, the pieces join to the third, and each byte has the theme's style for its scopes.
+/// plain definitions its contract is the whole promise: the three lines were read one after
+/// another, the pieces join to the third, and each byte has the theme's style for its scopes. Where the references are
+/// all by name and no pattern leaves `__start`, a refusal is that of a line whose reading picks a match that names a
+/// context that is not there.
 pub fn third_line<'b>(
     alloc: Global,
     builder: SyntaxSetBuilder,
@@ -23,8 +25,10 @@ pub fn third_line<'b>(
     second: &str,
     third: &'b str,
 ) -> Result<Option<Vec<(Style, &'b str)>>, Error>
-    ensures { All IsPlain (definitions_in builder) → OnlySingleRules theme.now
+    ensures pieces { All IsPlain (definitions_in builder)
         → IfOk result (λ pieces. IsThird (definitions_in builder) theme.now first.now second.now third.now pieces) }
+    ensures refused { All IsPlain (definitions_in builder) → AreByName (definitions_in builder) → FirstStays (definitions_in builder)
+        → IfErr result (IsRefusal (definitions_in builder) (first.now ∷ second.now ∷ third.now ∷ [])) }
 {
     let set = builder.build(alloc, repository)?;
     let Some(syntax) = set.syntaxes().first() else {
