@@ -1,0 +1,6 @@
+//! What the loaders stand on: their errors.
+#![tactic(auto)]
+
+pub mod loading;
+pub mod syntax;
+pub mod theme;

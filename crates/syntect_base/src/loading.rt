@@ -1,0 +1,90 @@
+//! Why a file or a folder was not loaded.
+use crate::syntax::ParseSyntaxError;
+use crate::theme::ParseThemeError;
+use std::alloc::{AllocError, AllocFailed};
+use std::io;
+use thiserror::Error;
+
+/// Why the bytes of a theme or of metadata are no value.
+#[derive(Clone, Copy, Debug, PartialEq, Eq, Error)]
+pub enum SettingsError {
+    /// They are no JSON, or have a number that is no whole one.
+    #[error("Json")]
+    Json,
+    /// There was no memory.
+    #[error("Memory")]
+    Memory,
+}
+
+/// Why a file or a folder was not loaded.
+#[derive(Debug, Drop, Error)]
+pub enum LoadingError {
+    /// The files of a folder were not found.
+    #[error("error finding all the files in a directory")]
+    WalkDir,
+    /// A file was not read.
+    #[error("error reading a file: {0}")]
+    Io(io::Error),
+    /// A file, whose name stands second, is no syntax.
+    #[error("{1}: {0}")]
+    ParseSyntax(ParseSyntaxError, String),
+    /// A file is no metadata.
+    #[error("Failed to parse JSON")]
+    ParseMetadata,
+    /// A value is no theme.
+    #[error("Invalid syntax theme")]
+    ParseTheme(ParseThemeError),
+    /// A file has no value.
+    #[error("Invalid syntax theme settings")]
+    ReadSettings(SettingsError),
+    /// A path is no file's. No call answers it.
+    #[error("Invalid path")]
+    BadPath,
+    /// There was no memory.
+    #[error("Memory")]
+    Memory,
+}
+
+impl From<AllocError> for SettingsError {
+    ghost use Rattle.std.specs.Prelude.{◌≡◌};
+    ghost use Rattle.syntect_base.specs.declared.loading.SettingsError.TheVariants.{Memory};
+
+    ghost from_gives = { λ _ e. e ≡ Memory };
+
+    fn from(_e: AllocError) -> SettingsError {
+        SettingsError::Memory
+    }
+}
+
+impl<T: Drop> From<AllocFailed<T>> for SettingsError {
+    ghost use Rattle.std.specs.Prelude.{◌≡◌};
+    ghost use Rattle.syntect_base.specs.declared.loading.SettingsError.TheVariants.{Memory};
+
+    ghost from_gives = { λ _ e. e ≡ Memory };
+
+    fn from(_e: AllocFailed<T>) -> SettingsError {
+        SettingsError::Memory
+    }
+}
+
+impl From<AllocError> for LoadingError {
+    ghost use Rattle.std.specs.Prelude.{◌≡◌};
+    ghost use Rattle.syntect_base.specs.declared.loading.LoadingError.TheVariants.{Memory};
+
+    ghost from_gives = { λ _ e. e ≡ Memory };
+
+    fn from(_e: AllocError) -> LoadingError {
+        LoadingError::Memory
+    }
+}
+
+impl<T: Drop> From<AllocFailed<T>> for LoadingError {
+    ghost use Rattle.std.specs.Prelude.{◌≡◌};
+    ghost use Rattle.syntect_base.specs.declared.loading.LoadingError.TheVariants.{Memory};
+
+    ghost from_gives = { λ _ e. e ≡ Memory };
+
+    fn from(_e: AllocFailed<T>) -> LoadingError {
+        LoadingError::Memory
+    }
+}
