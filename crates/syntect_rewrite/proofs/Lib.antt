@@ -1,0 +1,8 @@
+pub mod CuttingLaws
+pub mod ReferenceLaws
+pub mod TokenLaws
+pub mod NewlineLaws
+pub mod ReplaceLaws
+pub mod VariableLaws
+pub mod ExpandLaws
+pub mod Rows

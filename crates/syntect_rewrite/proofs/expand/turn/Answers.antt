@@ -1,0 +1,37 @@
+use Rattle.std.proofs.Common.{◌≡◌, ◌++◌, ◌<◌, [], ◌∷◌, List, ℕ, false, length, string_bytes, sym, ap, ◌∙◌, append_assoc, arith}
+use Rattle.std.proofs.lemmas.Grind.{common_steps}
+use Rattle.syntect_rewrite.specs.Variables.{is_use}
+use Rattle.syntect_rewrite.specs.Expanding.{left}
+use Rattle.syntect_rewrite.proofs.ExpandLaws.{char-turn, char-falls, use-turn, use-falls}
+use Rattle.syntect_rewrite.proofs.expand.turn.Goals as goal
+
+pub returns-clause-kept : goal.returns-clause-kept
+returns-clause-kept c =
+    let t = c.args.text.now in
+    let some : 0 < length t = grind (arith, common_steps) in
+    let not_use : is_use t ≡ false = grind (arith, common_steps) in
+    let e = char-turn c.args.variables.now c.args.frames.now.items t c.split_at.result.0.now c.split_at.result.1.now [] c.char_len.result some not_use c.char_len.ensures.len c.split_at.ensures.front c.split_at.ensures.back in
+    ap (λ (x : List ℕ). x ++ left [] c.args.variables.now c.args.frames.now.items c.split_at.result.1.now) c.in_ok-push_str.ensures.bytes
+    ∙ append_assoc (string_bytes c.args.out.now) c.split_at.result.0.now (left [] c.args.variables.now c.args.frames.now.items c.split_at.result.1.now)
+    ∙ ap (λ (x : List ℕ). string_bytes c.args.out.now ++ x) (sym e)
+
+pub returns-clause-falls : goal.returns-clause-falls
+returns-clause-falls c =
+    let t = c.args.text.now in
+    let some : 0 < length t = grind (arith, common_steps) in
+    let not_use : is_use t ≡ false = grind (arith, common_steps) in
+    let long : 0 < length c.split_at.result.0.now = omega (arith, c.char_len.ensures.some some, c.split_at.ensures.front_len) in
+    let e = char-turn c.args.variables.now c.args.frames.now.items t c.split_at.result.0.now c.split_at.result.1.now (0 ∷ []) c.char_len.result some not_use c.char_len.ensures.len c.split_at.ensures.front c.split_at.ensures.back in
+    char-falls c.args.variables.now c.args.frames.now.items t c.split_at.result.0.now c.split_at.result.1.now e long
+
+pub returns-in-Some-clause-kept : goal.returns-in-Some-clause-kept
+returns-in-Some-clause-kept c =
+    let some : 0 < length c.args.text.now = grind (arith, common_steps) in
+    let e = use-turn c.args.variables.now c.args.frames.now.items c.enter.new.frames.items c.args.text.now c.in_ok-name.name c.in-Some.after.now c.in_ok-next.next.now [] some c.in-Some.ensures.cases (c.in_ok-name.ensures ∙ c.in-Some.ensures.name) c.in-Some.ensures.rest c.in_ok-next.ensures.kept in
+    ap (λ (x : List ℕ). string_bytes c.args.out.now ++ x) (sym e)
+
+pub returns-in-Some-clause-falls : goal.returns-in-Some-clause-falls
+returns-in-Some-clause-falls c =
+    let some : 0 < length c.args.text.now = grind (arith, common_steps) in
+    let e = use-turn c.args.variables.now c.args.frames.now.items c.enter.new.frames.items c.args.text.now c.in_ok-name.name c.in-Some.after.now c.in_ok-next.next.now (0 ∷ []) some c.in-Some.ensures.cases (c.in_ok-name.ensures ∙ c.in-Some.ensures.name) c.in-Some.ensures.rest c.in_ok-next.ensures.kept in
+    use-falls c.args.variables.now c.args.frames.now.items c.enter.new.frames.items c.args.text.now c.in_ok-next.next.now e c.in_ok-next.ensures.deeper

@@ -1,0 +1,12 @@
+use Rattle.std.proofs.Common.{◌≡◌, List, ℕ, sym, ap, ◌∙◌, Option}
+use Rattle.std.specs.Map.{lookup}
+use Rattle.syntect_rewrite.proofs.VariableLaws.{open_none, closed_same, lookup_by_order, copied}
+use Rattle.syntect_rewrite.proofs.expand.value_of.Goals as goal
+
+pub returns-then-is_open : goal.returns-then-is_open
+returns-then-is_open c = sym (open_none c.args.name.now c.args.variables.now c.args.frames.now (sym c.is_open.ensures ∙ c.if-is_open.true))
+
+pub returns : goal.returns
+returns c =
+    copied c.get.result ∙ c.get.ensures ∙ lookup_by_order c.args.name.now c.args.variables.now
+    ∙ sym (closed_same c.args.name.now c.args.variables.now c.args.frames.now (sym c.is_open.ensures ∙ c.if-is_open.false))

@@ -1,0 +1,12 @@
+use Rattle.std.proofs.Common.{◌≡◌, ◌++◌, List, ℕ, length, string_bytes, sym, ap, ◌∙◌, append-nil, arith, append_assoc, rules}
+use Rattle.std.proofs.lemmas.Grind.{common_steps}
+use Rattle.syntect_rewrite.specs.Replacing.{replaced}
+use Rattle.syntect_rewrite.specs.Views.{words_of}
+use Rattle.syntect_rewrite.proofs.ReplaceLaws.{replaced-none}
+use Rattle.syntect_rewrite.proofs.replace.replaced.Goals as goal
+
+pub returns : goal.returns
+returns c =
+    let l = c.words in
+    let none : length l.rest.now ≡ 0 = grind (arith, common_steps) in
+    sym (append-nil (string_bytes l.out)) ∙ ap (λ (x : List ℕ). string_bytes l.out ++ x) (sym (replaced-none (words_of c.args.words) l.rest.now none)) ∙ l.invariant.1

@@ -1,0 +1,50 @@
+-- What is left to write while variables are expanded.
+use Rattle.std.specs.Prelude.{◌≡◌, ℕ, zero, suc, ◌+◌, ◌*◌, List, [], ◌∷◌, ◌++◌, length, flat_map, bytes_eq, Option, Some, None}
+use Rattle.std.specs.Map.{lookup}
+use Rattle.syntect_rewrite.specs.Cutting.{parts}
+use Rattle.syntect_rewrite.specs.Variables.{Variables, Part, itself, use_of, part_len, part, without}
+use Rattle.syntect_rewrite.specs.declared.expand.Frame.{Frame}
+
+-- for the use of a variable a mark is written, and then its text
+abbrev pub marked_value : List ℕ → (Variables → List ℕ → List ℕ) → Variables → List ℕ → Option (List ℕ) → List ℕ
+marked_value mark expand variables name None = mark
+marked_value mark expand variables name (Some text) = mark ++ expand (without name variables) text
+
+abbrev pub marked_part : List ℕ → (Variables → List ℕ → List ℕ) → Variables → Part → List ℕ
+marked_part mark expand variables (itself c) = c
+marked_part mark expand variables (use_of name) = marked_value mark expand variables name (lookup (bytes_eq name) variables)
+
+abbrev pub marked_within : List ℕ → ℕ → Variables → List ℕ → List ℕ
+marked_within mark zero variables t = []
+marked_within mark (suc n) variables t = flat_map (marked_part mark (marked_within mark n) variables) (parts part_len part t)
+
+-- a text with its variables expanded, with a mark for each use
+unfoldable pub marked : List ℕ → Variables → List ℕ → List ℕ
+marked mark variables t = marked_within mark (suc (length variables)) variables t
+
+-- the variables that may be used in the text of the last frame's
+abbrev pub inner : Variables → List Frame → Variables
+inner variables [] = variables
+inner variables (f ∷ fs) = inner (without f.name variables) fs
+
+-- what is left to write: the text that is read in the last frame, then what follows the use that each frame was opened for
+abbrev pub left : List ℕ → Variables → List Frame → List ℕ → List ℕ
+left mark variables [] t = marked mark variables t
+left mark variables (f ∷ fs) t = left mark (without f.name variables) fs t ++ marked mark variables f.rest.now
+
+-- how many turns are left: each writes, or opens a frame, or closes one
+abbrev pub turns : Variables → List Frame → List ℕ → ℕ
+turns variables fs t = 2 * length (left (0 ∷ []) variables fs t) + length fs
+
+-- Behind the use of a variable the text `after` follows. From the frames fs a step is made to the frames gs and what is
+-- read there, by which only the use's mark is written.
+abbrev pub Enters : Variables → List Frame → List ℕ → List ℕ → List Frame → List ℕ → Type 0
+Enters variables fs name after gs next =
+    (mark t : List ℕ)
+    → ((us : Variables) → marked mark us t ≡ marked_value mark (marked mark) us name (lookup (bytes_eq name) us) ++ marked mark us after)
+    → left mark variables fs t ≡ mark ++ left mark variables gs next
+
+-- at the end of a text a step is made from the frames fs to the frames gs and what is read there, by which nothing is
+-- written
+abbrev pub Closes : List Frame → List Frame → List ℕ → Type 0
+Closes fs gs next = (mark : List ℕ) (variables : Variables) (t : List ℕ) → length t ≡ 0 → left mark variables fs t ≡ left mark variables gs next

@@ -1,0 +1,9 @@
+pub mod Cutting
+pub mod Variables
+pub mod Replacing
+pub mod Tokens
+pub mod Newlines
+pub mod Testing
+pub mod Rewriting
+pub mod Expanding
+pub mod Views

@@ -1,0 +1,34 @@
+-- The ends of lines, in patterns for lines that have their newline and for lines that have none.
+use Rattle.std.specs.Prelude.{ℕ, Bool, true, false, not, ◌&&◌, if◌then◌else◌, List, [], ◌∷◌, ◌++◌, flat_map, codes}
+use Rattle.syntect_rewrite.specs.Cutting.{◌∈◌, first}
+use Rattle.syntect_rewrite.specs.Tokens.{Token, plain, class, is_newline, tokens, text}
+use Rattle.syntect_rewrite.specs.Replacing.{replaced, optional_newlines}
+
+-- a token `$` matches at the end of each line, which stands before the newline
+abbrev pub anchored_token : Token → List ℕ
+anchored_token (plain s) = if first s ∈ "$" then codes "(?m:$)" else s
+anchored_token (class newline s) = s
+
+-- a text for lines that have their newline
+unfoldable pub anchored : List ℕ → List ℕ
+anchored t = flat_map anchored_token (tokens t)
+
+-- the first byte of the tokens, and 0 where there are none
+abbrev pub next : List Token → ℕ
+next [] = 0
+next (k ∷ ks) = first (text k)
+
+-- A token `\n` that isn't repeated becomes the end of the text. A class that takes a newline, and isn't optional, takes
+-- the end of the text as well.
+abbrev pub ended_token : Token → ℕ → List ℕ
+ended_token (plain s) after = if is_newline s && not (after ∈ "?+*") then codes "$" else s
+ended_token (class true s) after = if after ∈ "?" then s else codes "(?:" ++ s ++ codes "|$)"
+ended_token (class false s) after = s
+
+abbrev pub ended_tokens : List Token → List ℕ
+ended_tokens [] = []
+ended_tokens (k ∷ ks) = ended_token k (next ks) ++ ended_tokens ks
+
+-- a text for lines that have no newline; one without `\n` stays
+unfoldable pub ended : List ℕ → List ℕ
+ended t = ended_tokens (tokens (replaced optional_newlines t))

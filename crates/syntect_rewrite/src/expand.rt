@@ -1,0 +1,160 @@
+//! Variables, expanded.
+ghost use Rattle.std.specs.Prelude.{◌≡◌, ◌<◌, ◌≤◌, ◌+◌, ◌++◌, ◌∷◌, [], IfOk, IfSome, MatchOption, length, drop, option_map, string_bytes, true, false, None};
+ghost use Rattle.std.specs.Map.{lookup};
+ghost use Rattle.std.specs.Str.{bytes_eq};
+ghost use Rattle.std.specs.List.{prefix_len, list_any};
+ghost use Rattle.syntect_rewrite.specs.Variables as uses;
+ghost use Rattle.syntect_rewrite.specs.Expanding.{inner, left, turns, Enters, Closes};
+
+use crate::signs::{byte_at, char_len, first, skip};
+use std::alloc::{AllocError, Global};
+use syntect_values::table::Table;
+use syntect_values::text::Text;
+
+/// A variable whose text is being read, and what follows its use.
+#[derive(Drop)]
+struct Frame<'a> {
+    name: Text,
+    rest: &'a str,
+}
+
+/// Whether a byte is one of a name.
+#[inline(always)]
+fn is_name(byte: u8) -> bool
+    ensures { result ≡ uses.is_name byte }
+{
+    byte.is_ascii_alphanumeric() || byte == b'_'
+}
+
+/// How many bytes at the front are of a name.
+#[inline(always)]
+fn run_len(bytes: &[u8]) -> usize
+    ensures len { result ≡ prefix_len uses.is_name bytes.now }
+    ensures within { result ≤ length bytes.now }
+{
+    bytes.iter().take_while(|byte| is_name(**byte)).count()
+}
+
+/// How long the name behind two braces is.
+fn name_len(bytes: &[u8]) -> usize
+    ensures len { result ≡ uses.name_len bytes.now }
+    ensures within { 0 < result → result + 2 ≤ length bytes.now }
+{
+    if bytes.len() < 2 {
+        return 0;
+    }
+    run_len(&bytes[2..])
+}
+
+/// The name of the variable with whose use the text begins, and what follows that.
+#[tactic(auto, unfolding(crate::specs::Variables::is_use))]
+fn used(text: &str) -> Option<(&str, &str)>
+    ensures cases { MatchOption result (uses.is_use text.now ≡ false) (λ p. uses.is_use text.now ≡ true) }
+    ensures name { IfSome result (λ p. p.0.now ≡ uses.name text.now) }
+    ensures rest { IfSome result (λ p. p.1.now ≡ drop (uses.name_len text.now + 4) text.now) }
+{
+    let bytes = text.as_bytes();
+    let n = name_len(bytes);
+    if 0 < n
+        && first(text) == b'{'
+        && byte_at(bytes, 1) == b'{'
+        && byte_at(bytes, n + 2) == b'}'
+        && byte_at(bytes, n + 3) == b'}'
+    {
+        let name = skip(text, 2).split_at(n).0;
+        return Some((name, skip(text, n + 4)));
+    }
+    None
+}
+
+/// Whether the text of a variable is being read.
+fn is_open(frames: &[Frame<'_>], name: &Text) -> bool
+    ensures { result ≡ list_any (λ f. bytes_eq f.name name.now) frames.now }
+{
+    frames.iter().any(|frame| frame.name == *name)
+}
+
+/// The text of a variable, unless that is being read.
+fn value_of<'a>(
+    variables: &'a Table<Text, Text>,
+    frames: &[Frame<'_>],
+    name: &Text,
+) -> Option<&'a Text>
+    ensures { option_map (λ v. v.now) result ≡ lookup (bytes_eq name.now) (inner variables.now frames.now) }
+{
+    if is_open(frames, name) {
+        return None;
+    }
+    variables.get(name)
+}
+
+/// Goes into the text of a variable, unless that is being read: what is to be read next.
+fn enter<'a>(
+    variables: &'a Table<Text, Text>,
+    frames: &mut Vec<Frame<'a>>,
+    name: Text,
+    after: &'a str,
+) -> Result<&'a str, AllocError>
+    ensures kept { IfOk result (λ r. Enters variables.now frames.old.items name after.now frames.new.items r.now) }
+    ensures deeper { IfOk result (λ r. length frames.new.items ≤ length frames.old.items + 1) }
+{
+    match value_of(variables, frames.as_slice(), &name) {
+        Some(value) => {
+            frames.push(Frame { name, rest: after })?;
+            Ok(value.as_str())
+        }
+        None => Ok(after),
+    }
+}
+
+/// Goes back to what follows the use of the variable whose text is over, if there is one.
+fn close<'a>(frames: &mut Vec<Frame<'a>>) -> Option<&'a str>
+    ensures none { result ≡ None → length frames.old.items ≡ 0 }
+    ensures kept { IfSome result (λ r. Closes frames.old.items frames.new.items r.now) }
+    ensures shallower { IfSome result (λ r. length frames.old.items ≡ length frames.new.items + 1) }
+{
+    let Frame { name: _, rest } = frames.pop()?;
+    Some(rest)
+}
+
+/// Reads the text's first part, or goes back at its end: what is to be read next.
+fn turn<'a>(
+    alloc: Global,
+    variables: &'a Table<Text, Text>,
+    frames: &mut Vec<Frame<'a>>,
+    out: &mut String,
+    text: &'a str,
+) -> Result<&'a str, AllocError>
+    requires { 0 < length text.now + length frames.now.items }
+    ensures kept { IfOk result (λ r. string_bytes out.new ++ left [] variables.now frames.new.items r.now ≡ string_bytes out.old ++ left [] variables.now frames.old.items text.now) }
+    ensures falls { IfOk result (λ r. turns variables.now frames.new.items r.now < turns variables.now frames.old.items text.now) }
+{
+    if text.is_empty() {
+        return Ok(close(frames).unwrap_or(text));
+    }
+    if let Some((name, after)) = used(text) {
+        let name = Text::from_str(alloc, name)?;
+        let next = enter(variables, frames, name, after)?;
+        return Ok(next);
+    }
+    let (c, after) = text.split_at(char_len(text));
+    out.push_str(c)?;
+    Ok(after)
+}
+
+/// A text with its variables expanded.
+pub(crate) fn expand(
+    alloc: Global,
+    text: &str,
+    variables: &Table<Text, Text>,
+) -> Result<String, AllocError>
+    ensures { IfOk result (λ s. string_bytes s ≡ uses.expanded variables.now text.now) }
+{
+    let mut out = String::new(alloc);
+    let mut frames: Vec<Frame<'_>> = Vec::new(alloc);
+    let mut rest = text;
+    'turns: while !rest.is_empty() || !frames.is_empty() {
+        rest = turn(alloc, variables, &mut frames, &mut out, rest)?;
+    }
+    Ok(out)
+}

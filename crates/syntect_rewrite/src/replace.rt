@@ -1,0 +1,91 @@
+//! Words of a text, each replaced by another.
+ghost use Rattle.std.specs.Prelude.{◌≡◌, ◌<◌, ◌==◌, ◌++◌, IfOk, MatchOption, IfSome, string_bytes, length, drop, slice_index, ◌-◌};
+ghost use Rattle.std.specs.List.{starts_with};
+ghost use Rattle.syntect_rewrite.specs.Replacing as replacing;
+ghost use Rattle.syntect_rewrite.specs.Views.{words_of, IsWord, IsNoWord};
+
+use crate::signs::{char_len, skip};
+use std::alloc::{AllocError, Global};
+
+/// The words that are replaced.
+#[derive(Clone, Copy)]
+pub(crate) enum Words {
+    /// `[:alpha:]` and its like, by categories.
+    Brackets,
+    /// `(?:\n)?`, by the end of the text that may be missing.
+    OptionalNewlines,
+}
+
+/// Whether the text begins with a word.
+#[inline]
+fn begins(text: &str, word: &str) -> bool
+    ensures { result ≡ starts_with ◌==◌ text.now word.now }
+{
+    text.as_bytes().starts_with(word.as_bytes())
+}
+
+/// What replaces the bracket's name at the front of a text. Each has nine bytes.
+fn bracket(text: &str) -> Option<&'static str>
+    ensures cases { MatchOption result (IsNoWord replacing.brackets text.now) (λ w. IsWord replacing.brackets text.now 9 w.now) }
+    ensures last { MatchOption result (result ≡ result) (λ w. slice_index text.now 8 ≡ 93) }
+{
+    if begins(text, "[:alpha:]") {
+        Some("\\p{L}")
+    } else if begins(text, "[:alnum:]") {
+        Some("\\p{L}\\p{N}")
+    } else if begins(text, "[:lower:]") {
+        Some("\\p{Ll}")
+    } else if begins(text, "[:upper:]") {
+        Some("\\p{Lu}")
+    } else if begins(text, "[:digit:]") {
+        Some("\\p{Nd}")
+    } else {
+        None
+    }
+}
+
+/// What replaces the word at the front of a text, and what follows that word.
+fn word(text: &str, words: Words) -> Option<(&'static str, &str)>
+    ensures cases { MatchOption result (IsNoWord (words_of words) text.now) (λ w. IsWord (words_of words) text.now (length text.now - length w.1.now) w.0.now) }
+    ensures rest { IfSome result (λ w. w.1.now ≡ drop (length text.now - length w.1.now) text.now) }
+{
+    match words {
+        Words::Brackets => {
+            let written = bracket(text)?;
+            Some((written, skip(text, 9)))
+        }
+        Words::OptionalNewlines => {
+            if begins(text, "(?:\\n)?") {
+                Some(("(?:$|)", skip(text, 7)))
+            } else {
+                None
+            }
+        }
+    }
+}
+
+/// What is written for the word at the front of a text, or else the first character, and what follows that.
+fn next_part(text: &str, words: Words) -> (&str, &str)
+    requires { 0 < length text.now }
+    ensures turn { replacing.replaced (words_of words) text.now ≡ result.0.now ++ replacing.replaced (words_of words) result.1.now }
+    ensures shorter { length result.1.now < length text.now }
+{
+    match word(text, words) {
+        Some(found) => found,
+        None => text.split_at(char_len(text)),
+    }
+}
+
+/// The text with each of the words replaced.
+pub(crate) fn replaced(alloc: Global, text: &str, words: Words) -> Result<String, AllocError>
+    ensures { IfOk result (λ s. string_bytes s ≡ replacing.replaced (words_of words) text.now) }
+{
+    let mut out = String::new(alloc);
+    let mut rest = text;
+    'words: while !rest.is_empty() {
+        let (written, after) = next_part(rest, words);
+        out.push_str(written)?;
+        rest = after;
+    }
+    Ok(out)
+}
