@@ -1,25 +1,20 @@
 -- Where no match can begin.
-use Rattle.std.proofs.Common.{◌≡◌, ◌<◌, ◌≤◌, ◌||◌, ℕ, Bool, true, false, List, length, get_or, sym, ◌∙◌, ap, subst, arith, Option, Some, None, inl, inr, min, below_more, length-append, [], ◌∷◌, ◌++◌}
+use Rattle.std.proofs.Common.{◌≡◌, ◌<◌, ◌≤◌, ◌||◌, ℕ, true, false, List, length, get_or, sym, ◌∙◌, ap, arith, inl, inr, min, below_more, length-append, [], ◌∷◌, ◌++◌}
 use Rattle.std.specs.Prelude.{if◌then◌else◌, nat_lt}
 use Rattle.std.proofs.lemmas.Bool.{lt-ltb, le-ltb, cases_lt}
 use Rattle.std.proofs.Math.ListN.{get_or-append}
 use Rattle.std.proofs.Math.Seq.{get_or-append_seam}
 use Rattle.syntect_pattern.specs.Trees.{Tree, nothing}
-use Rattle.syntect_pattern.specs.Starts.{start_at, Starts, AreStarts, Begin, begins_of, reads, stays}
+use Rattle.syntect_pattern.specs.Starts.{start_at, Begin, begins_of, reads, stays}
 use Rattle.syntect_pattern.specs.declared.starts.Begins.{Begins}
 use Rattle.syntect_pattern.specs.Program.{CannotBegin}
 use Rattle.syntect_pattern.specs.declared.program.Program.{Program}
 use Rattle.syntect_pattern.proofs.StartLaws.{found_at-nothing}
 
-starts-of : (o : Option (List Bool)) (flags : List Bool) (tree : Tree) → o ≡ Some flags → Starts o tree → AreStarts flags tree
-starts-of None flags tree e h = cc
-starts-of (Some f) flags tree e h = let same : f ≡ flags = cc in let P : List Bool → Type 0 = λ x. AreStarts x tree in subst P same h
-
 -- the flag of what stands at the place tells
-pub cannot_begin : (s : List ℕ) (p : Program) (i x : ℕ) (flags : List Bool) → p.starts ≡ Some flags → start_at s i ≡ x → x < 130 → get_or flags x true ≡ false → CannotBegin s p i
-cannot_begin s p i x flags e h l f tree is =
-    let starts = starts-of p.starts flags tree e is.starts in
-    found_at-nothing s tree i (ap (λ y. reads tree y || stays tree y) h ∙ sym (starts x l) ∙ f)
+pub cannot_begin : (s : List ℕ) (p : Program) (i x : ℕ) → start_at s i ≡ x → x < 130 → get_or p.starts x true ≡ false → CannotBegin s p i
+cannot_begin s p i x h l f tree is =
+    found_at-nothing s tree i (ap (λ y. reads tree y || stays tree y) h ∙ sym (is.starts x l) ∙ f)
 
 -- what stands at the place
 pub start-past : (s : List ℕ) (i : ℕ) → length s ≤ i → start_at s i ≡ 129
@@ -39,10 +34,10 @@ start-wide s i h l =
     ∙ ap (λ b. if b then get_or s i 0 else 128) (le-ltb (get_or s i 0) 128 l)
 
 -- the flag of a byte tells
-pub cannot_begin-at : (s : List ℕ) (p : Program) (i m : ℕ) (flags : List Bool) → p.starts ≡ Some flags → i < length s → m ≡ min (get_or s i 0) 128 → get_or flags m true ≡ false → CannotBegin s p i
-cannot_begin-at s p i m flags e h is f = elim (cases_lt (get_or s i 0) 128) [
-  | inl l ↦ cannot_begin s p i m flags e (start-ascii s i h l ∙ (let b : get_or s i 0 ≡ m = omega (arith, is) in b)) (omega (arith, is)) f
-  | inr g ↦ cannot_begin s p i m flags e (start-wide s i h g ∙ (let b : 128 ≡ m = omega (arith, is) in b)) (omega (arith, is)) f
+pub cannot_begin-at : (s : List ℕ) (p : Program) (i m : ℕ) → i < length s → m ≡ min (get_or s i 0) 128 → get_or p.starts m true ≡ false → CannotBegin s p i
+cannot_begin-at s p i m h is f = elim (cases_lt (get_or s i 0) 128) [
+  | inl l ↦ cannot_begin s p i m (start-ascii s i h l ∙ (let b : get_or s i 0 ≡ m = omega (arith, is) in b)) (omega (arith, is)) f
+  | inr g ↦ cannot_begin s p i m (start-wide s i h g ∙ (let b : 128 ≡ m = omega (arith, is) in b)) (omega (arith, is)) f
 ]
 
 -- one more node's beginning

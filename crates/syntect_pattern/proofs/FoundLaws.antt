@@ -7,9 +7,9 @@ use Rattle.syntect_pattern.specs.Trees.{Tree, nothing, one_of, anchor, same, seq
 use Rattle.syntect_pattern.specs.Matches.{Groups, Member, close, matches, unset, found_at, found_within, found}
 use Rattle.syntect_pattern.specs.Nesting.{Span, AreNested, is_around, is_inside, IsSet, LiesIn, IsLaidOut, looks_fail, outside, IsMatch, FindsMatches}
 use Rattle.syntect_pattern.proofs.Each.{Each}
-use Rattle.syntect_pattern.proofs.TextLemmas.{some_same}
+use Rattle.syntect_pattern.proofs.TextLemmas.{some_same, boundary-true}
 use Rattle.syntect_pattern.proofs.MatchLaws.{Step, IsClosed, steps-matches}
-use Rattle.syntect_pattern.proofs.NestingLaws.{Fine, Grows, matches-nested}
+use Rattle.syntect_pattern.proofs.NestingLaws.{Fine, Grows, Arrives, matches-nested, matches-lie}
 
 or_left : (a b : Bool) → a ≡ true → (a || b) ≡ true
 or_left true b e = refl
@@ -67,11 +67,11 @@ same_length s = record {
   reads = λ b i c g e. refl;
   joins = λ b i j k g h l p q. q ∙ p;
   closes = λ b n i j g h t p. length-slice_set h n (Some (i, j)) ∙ p;
-  looks = λ b k i j g h p. p;
+  looks = λ b k i j g h at p. p;
 }
 
-matches-length : (s : List ℕ) (t : Tree) (i : ℕ) (g : Groups) → Each (λ m. length m.1 ≡ length g) (matches s t i g)
-matches-length s t i g = steps-matches s (λ _. false) SameLength (same_length s) false t (in_look-fails (λ _. false) false t (λ n e. refl)) i g
+matches-length : (s : List ℕ) → IsUtf8 s → (t : Tree) (i : ℕ) (g : Groups) → Each (λ m. length m.1 ≡ length g) (matches s t i g)
+matches-length s text t i g = steps-matches s text (λ _. false) SameLength (same_length s) false t (in_look-fails (λ _. false) false t (λ n e. refl)) i g
 
 none_set : (k n : ℕ) (x : Span) → IsSet (replicate k None) n x → ⊥
 none_set zero n x e = cc
@@ -81,10 +81,6 @@ none_set (suc k) (suc n) x e = none_set k n x e
 length-replicate : {A : Type 0} (k : ℕ) (x : A) → length (replicate k x) ≡ k
 length-replicate zero x = refl
 length-replicate (suc k) x = ap suc (length-replicate k x)
-
-boundary-true : (s : List ℕ) (i : ℕ) → is_boundary s i ≡ true → IsCharBoundary s i
-unfolding is_boundary
-boundary-true s i e = (grind arith, λ a b. grind arith)
 
 first_set : (g : Groups) (x : Span) (n : ℕ) → length g ≡ suc n → IsSet (slice_set g 0 (Some x)) 0 x
 first_set [] x n e = absurd (omega arith)
@@ -120,9 +116,10 @@ module _ (s : List ℕ) (text : IsUtf8 s) (tree : Tree) where
   member_is : (i from : ℕ) (g : Groups) (ms : List Member) → from ≤ i → IsCharBoundary s i
       → Each (λ m. Grows s (outside tree) text i (unset s tree) m.0 m.1 × Fine s (outside tree) text m.0 m.1) (map (close 0 i) ms)
       → Each (λ m. length m.1 ≡ length (unset s tree)) ms
+      → Each (λ m. Arrives s text i m.0 m.1) (map (close 0 i) ms)
       → option_map (λ m. m.1) (slice_get (map (close 0 i) ms) 0) ≡ Some g → IsMatch s tree from g
-  member_is i from g [] a at e l q = cc
-  member_is i from g (m ∷ ms) a at e l q =
+  member_is i from g [] a at e l lie q = cc
+  member_is i from g (m ∷ ms) a at e l lie q =
       let is : slice_set (m.1) 0 (Some (i, m.0)) ≡ g = some_same _ _ q in
       let long : length (m.1) ≡ suc (group_count tree) = l.0 ∙ length-replicate (suc (group_count tree)) None in
       let set : IsSet (slice_set (m.1) 0 (Some (i, m.0))) 0 (i, m.0) = first_set (m.1) (i, m.0) (group_count tree) long in
@@ -137,6 +134,7 @@ module _ (s : List ℕ) (text : IsUtf8 s) (tree : Tree) where
         after = a;
         slots = length-slice_set (m.1) 0 (Some (i, m.0)) ∙ long;
         whole = set;
+        lie = lie.0.lie;
         within = captured-within s tree i m.0 _ set span laid;
         nested = captured-nested s tree i m.0 _ set span laid;
       })
@@ -156,7 +154,8 @@ module _ (s : List ℕ) (text : IsUtf8 s) (tree : Tree) where
   at_place i from g a true e q =
       member_is i from g (matches s tree i (unset s tree)) a (boundary-true s i e)
       (matches-nested s (outside tree) text (group 0 tree) i (unset s tree) (outside-fails tree) (start_fine i e))
-      (matches-length s tree i (unset s tree))
+      (matches-length s text tree i (unset s tree))
+      (matches-lie s text (group 0 tree) i (unset s tree) (in_look-fails (λ _. false) false (group 0 tree) (λ n e. refl)) (boundary-true s i e) (λ n x u. absurd (none_set (suc (group_count tree)) n x u)))
       q
 
   at_found : (i from : ℕ) (g : Groups) → from ≤ i → found_at s tree i ≡ Some g → IsMatch s tree from g

@@ -1,6 +1,7 @@
 -- What holds of each member of a pattern, where it holds of each step.
-use Rattle.std.proofs.Common.{◌≡◌, ℕ, zero, suc, ◌+◌, ◌-◌, List, [], ◌∷◌, length, Bool, true, false, not, ◌&&◌, Option, Some, None, refl}
-use Rattle.std.specs.Prelude.{if◌then◌else◌, ◌==◌, chars, slice_get, slice_set, slice_range, option_map}
+use Rattle.std.proofs.Common.{◌≡◌, ℕ, zero, suc, ◌+◌, ◌-◌, ◌⊎◌, inl, inr, List, [], ◌∷◌, length, Bool, true, false, not, ◌&&◌, Option, Some, None, refl}
+use Rattle.std.specs.Prelude.{if◌then◌else◌, ◌==◌, chars, slice_get, slice_set, slice_range, option_map, IsUtf8, IsCharBoundary}
+use Rattle.std.proofs.lemmas.Str.{IsCharBoundary-start}
 use Rattle.std.specs.List.{flat_map}
 use Rattle.std.specs.Char.{len_utf8}
 use Rattle.syntect_pattern.specs.Text.{char_at, is_boundary}
@@ -9,19 +10,20 @@ use Rattle.syntect_pattern.specs.Trees.{Tree, nothing, one_of, anchor, same, seq
 use Rattle.syntect_pattern.specs.Matches.{Groups, Member, Way, only_if, past, prefer, while_left, after_turn, turns, ending_at, or_else, stay, look, close, equals, stands, spelled, same_text, ending_here, matches}
 use Rattle.syntect_pattern.specs.Nesting.{looks_fail}
 use Rattle.syntect_pattern.proofs.Each.{Each, each_of, each-append, each-flat_map, each-map, each-take, each-filter}
+use Rattle.syntect_pattern.proofs.TextLemmas.{boundary-true}
 
 -- from a place with groups to a place with groups
 abbrev pub Step : Type 1
 Step = ℕ → Groups → ℕ → Groups → Type 0
 
 -- What a family of steps is closed under; the flag says that the step is made in a lookaround. Groups that stand there
--- fail the test.
+-- fail the test. A lookaround looks from its own place or from a boundary.
 pub record IsClosed (s : List ℕ) (picks : ℕ → Bool) (R : Bool → Step) : Type 0 where
   pub here : (b : Bool) (i : ℕ) (g : Groups) → R b i g i g
   pub reads : (b : Bool) (i c : ℕ) (g : Groups) → char_at s i ≡ Some c → R b i g (i + len_utf8 c) g
   pub joins : (b : Bool) (i j k : ℕ) (g h l : Groups) → R b i g j h → R b j h k l → R b i g k l
   pub closes : (b : Bool) (n i j : ℕ) (g h : Groups) → not (b && picks n) ≡ true → R b i g j h → R b i g j (slice_set h n (Some (i, j)))
-  pub looks : (b : Bool) (k i j : ℕ) (g h : Groups) → R true k g j h → R b i g i h
+  pub looks : (b : Bool) (k i j : ℕ) (g h : Groups) → (k ≡ i) ⊎ IsCharBoundary s k → R true k g j h → R b i g i h
 
 both_left : (a b : Bool) → (a && b) ≡ true → a ≡ true
 both_left true b e = refl
@@ -31,7 +33,7 @@ both_right : (a b : Bool) → (a && b) ≡ true → b ≡ true
 both_right true b e = e
 both_right false b e = cc
 
-module _ (s : List ℕ) (picks : ℕ → Bool) (R : Bool → Step) (laws : IsClosed s picks R) where
+module _ (s : List ℕ) (text : IsUtf8 s) (picks : ℕ → Bool) (R : Bool → Step) (laws : IsClosed s picks R) where
   -- each member is a step from the place
   abbrev pub Steps : Bool → ℕ → Groups → List Member → Type 0
   Steps b i g = Each (λ m. R b i g m.0 m.1)
@@ -95,37 +97,42 @@ module _ (s : List ℕ) (picks : ℕ → Bool) (R : Bool → Step) (laws : IsClo
       i g)
       (steps-here b (least == 0) i g)
 
-  -- some way leads from some place to each member
-  abbrev pub Comes : Groups → List Member → Type 0
-  Comes g = Each (λ m. (k : ℕ) × R true k g m.0 m.1)
+  -- a way leads to the member from where a lookaround of this place looks
+  pub record IsLed (i : ℕ) (g : Groups) (m : Member) : Type 0 where
+    pub from : ℕ
+    pub at : (from ≡ i) ⊎ IsCharBoundary s from
+    pub step : R true from g m.0 m.1
 
-  comes : (i : ℕ) (g : Groups) (ms : List Member) → Steps true i g ms → Comes g ms
-  comes i g ms e = each_of (λ m. R true i g m.0 m.1) (λ m. (k : ℕ) × R true k g m.0 m.1) ms (λ m r. (i, r)) e
+  abbrev pub Comes : ℕ → Groups → List Member → Type 0
+  Comes i g = Each (λ m. IsLed i g m)
 
-  comes-or_else : (g : Groups) (a b : List Member) → Comes g a → Comes g b → Comes g (or_else a b)
-  comes-or_else g [] b e f = f
-  comes-or_else g (m ∷ a) b e f = e
+  comes : (i k : ℕ) (g : Groups) (ms : List Member) → (k ≡ i) ⊎ IsCharBoundary s k → Steps true k g ms → Comes i g ms
+  comes i k g ms at e = each_of (λ m. R true k g m.0 m.1) (λ m. IsLed i g m) ms (λ m r. record { from = k; at = at; step = r }) e
 
-  comes-ending_at : (i k : ℕ) (g : Groups) (ms : List Member) → Steps true k g ms → Comes g (ending_at i ms)
-  comes-ending_at i k g ms e =
-      each-filter (λ m. (k : ℕ) × R true k g m.0 m.1) (λ m. m.0 == i) ms (comes k g ms e)
+  comes-or_else : (i : ℕ) (g : Groups) (a b : List Member) → Comes i g a → Comes i g b → Comes i g (or_else a b)
+  comes-or_else i g [] b e f = f
+  comes-or_else i g (m ∷ a) b e f = e
 
-  comes-if : (test : Bool) (g : Groups) (ms : List Member) → Comes g ms → Comes g (if test then ms else [])
-  comes-if true g ms e = e
-  comes-if false g ms e = tt
+  comes-ending_at : (i k : ℕ) (g : Groups) (ms : List Member) → IsCharBoundary s k → Steps true k g ms → Comes i g (ending_at i ms)
+  comes-ending_at i k g ms at e =
+      each-filter (λ m. IsLed i g m) (λ m. m.0 == i) ms (comes i k g ms (inr at) e)
 
-  comes-ending_here : (body : Way) → IsStepping true body → (k i : ℕ) (g : Groups) → Comes g (ending_here s body k i g)
-  comes-ending_here body e zero i g = comes-ending_at i 0 g (body 0 g) (e 0 g)
+  comes-if : (test : Bool) (i : ℕ) (g : Groups) (ms : List Member) → (test ≡ true → Comes i g ms) → Comes i g (if test then ms else [])
+  comes-if true i g ms e = e refl
+  comes-if false i g ms e = tt
+
+  comes-ending_here : (body : Way) → IsStepping true body → (k i : ℕ) (g : Groups) → Comes i g (ending_here s body k i g)
+  comes-ending_here body e zero i g = comes-ending_at i 0 g (body 0 g) (IsCharBoundary-start s text) (e 0 g)
   comes-ending_here body e (suc k) i g =
-      comes-or_else g _ _
-      (comes-if (is_boundary s (suc k)) g _ (comes-ending_at i (suc k) g (body (suc k) g) (e (suc k) g)))
+      comes-or_else i g _ _
+      (comes-if (is_boundary s (suc k)) i g _ (λ t. comes-ending_at i (suc k) g (body (suc k) g) (boundary-true s (suc k) t) (e (suc k) g)))
       (comes-ending_here body e k i g)
 
-  steps-stay : (b : Bool) (i : ℕ) (g : Groups) (ms : List Member) → Comes g ms → Steps b i g (stay i ms)
+  steps-stay : (b : Bool) (i : ℕ) (g : Groups) (ms : List Member) → Comes i g ms → Steps b i g (stay i ms)
   steps-stay b i g [] e = tt
-  steps-stay b i g (m ∷ ms) e = (laws.looks b e.0.0 i m.0 g m.1 e.0.1, tt)
+  steps-stay b i g (m ∷ ms) e = (laws.looks b e.0.from i m.0 g m.1 e.0.at e.0.step, tt)
 
-  steps-look : (b negated : Bool) (i : ℕ) (g : Groups) (ms : List Member) → Comes g ms → Steps b i g (look negated i g ms)
+  steps-look : (b negated : Bool) (i : ℕ) (g : Groups) (ms : List Member) → Comes i g ms → Steps b i g (look negated i g ms)
   steps-look b false i g ms e = steps-stay b i g ms e
   steps-look b true i g [] e = (laws.here b i g, tt)
   steps-look b true i g (m ∷ ms) e = tt
@@ -149,6 +156,6 @@ module _ (s : List ℕ) (picks : ℕ → Bool) (R : Bool → Step) (laws : IsClo
       (λ m r. laws.closes b n i m.0 g m.1 (both_left _ _ e) r)
       (steps-matches b a (both_right _ _ e) i g))
   steps-matches b (atomic a) e i g = each-take (λ m. R b i g m.0 m.1) 1 (matches s a i g) (steps-matches b a e i g)
-  steps-matches b (ahead negated a) e i g = steps-look b negated i g (matches s a i g) (comes i g (matches s a i g) (steps-matches true a e i g))
+  steps-matches b (ahead negated a) e i g = steps-look b negated i g (matches s a i g) (comes i i g (matches s a i g) (inl refl) (steps-matches true a e i g))
   steps-matches b (behind negated a) e i g =
       steps-look b negated i g (ending_here s (matches s a) i i g) (comes-ending_here (matches s a) (steps-matches true a e) i i g)

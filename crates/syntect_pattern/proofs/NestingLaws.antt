@@ -1,5 +1,5 @@
 -- The groups of a match outside lookarounds are nested or disjoint and lie in the match.
-use Rattle.std.proofs.Common.{◌≡◌, ℕ, zero, suc, ◌+◌, ◌≤◌, ◌⊎◌, List, [], ◌∷◌, Bool, true, false, not, ◌&&◌, Some, refl, ap, sym, subst, ◌∙◌, arith, inl, inr, ⊎_elim}
+use Rattle.std.proofs.Common.{◌≡◌, ℕ, zero, suc, ◌+◌, ◌≤◌, ◌⊎◌, List, [], ◌∷◌, length, Bool, true, false, not, ◌&&◌, Some, refl, ap, sym, subst, ◌∙◌, arith, inl, inr, ⊎_elim}
 use Rattle.std.specs.Prelude.{slice_get, slice_set, IsUtf8, IsCharBoundary}
 use Rattle.std.specs.Char.{len_utf8}
 use Rattle.syntect_pattern.specs.Text.{char_at}
@@ -76,9 +76,9 @@ module _ (s : List ℕ) (picks : ℕ → Bool) (text : IsUtf8 s) where
       let second = b first.1 in
       (grows-join i j k g h l first.0 second.0, second.1)
 
-  lays-look : (b : Bool) (k i j : ℕ) (g h : Groups) → Lays true k g j h → Lays b i g i h
-  lays-look true k i j g h r = r
-  lays-look false k i j g h r = λ f. (
+  lays-look : (b : Bool) (k i j : ℕ) (g h : Groups) → (k ≡ i) ⊎ IsCharBoundary s k → Lays true k g j h → Lays b i g i h
+  lays-look true k i j g h at r = r
+  lays-look false k i j g h at r = λ f. (
     record { from = omega arith; spans = λ n x t e. inl (r n x t e) },
     record {
       at = f.at;
@@ -156,4 +156,56 @@ module _ (s : List ℕ) (picks : ℕ → Bool) (text : IsUtf8 s) where
       → Each (λ m. Grows i g m.0 m.1 × Fine m.0 m.1) (matches s t i g)
   matches-nested t i g e f =
       each_of (λ m. Lays false i g m.0 m.1) (λ m. Grows i g m.0 m.1 × Fine m.0 m.1) (matches s t i g) (λ m r. r f)
-      (steps-matches s picks Lays lays false t e i g)
+      (steps-matches s text picks Lays lays false t e i g)
+
+-- Every group lies in the text, also one in a lookaround.
+module _ (s : List ℕ) (text : IsUtf8 s) where
+  -- each group that is set lies in the text
+  abbrev pub AllLie : Groups → Type 0
+  AllLie g = (n : ℕ) (x : Span) → IsSet g n x → LiesIn s 0 (length s) x
+
+  -- from a boundary with such groups to one not before it
+  pub record Arrives (i j : ℕ) (h : Groups) : Type 0 where
+    pub from : i ≤ j
+    pub at : IsCharBoundary s j
+    pub lie : AllLie h
+
+  abbrev pub Keeps : Bool → Step
+  Keeps b i g j h = IsCharBoundary s i → AllLie g → Arrives i j h
+
+  keeps-join : (b : Bool) (i j k : ℕ) (g h l : Groups) → Keeps b i g j h → Keeps b j h k l → Keeps b i g k l
+  keeps-join b i j k g h l p q = λ at f.
+      let a = p at f in
+      let c = q a.at a.lie in
+      record { from = omega (arith, a.from, c.from); at = c.at; lie = c.lie }
+
+  keeps-close : (b : Bool) (n i j : ℕ) (g h : Groups) → Keeps b i g j h → Keeps b i g j (slice_set h n (Some (i, j)))
+  keeps-close b n i j g h r = λ at f.
+      let a = r at f in
+      let own : LiesIn s 0 (length s) (i, j) = record { from = omega arith; rises = a.from; to = a.at.0; starts = at; ends = a.at } in
+      record {
+        from = a.from;
+        at = a.at;
+        lie = λ m x e. ⊎_elim (λ p. subst (λ z. LiesIn s 0 (length s) z) (some_same (i, j) x p.1) own) (λ q. a.lie m x q) (get-set h n m (Some (i, j)) (Some x) e);
+      }
+
+  keeps-look : (b : Bool) (k i j : ℕ) (g h : Groups) → (k ≡ i) ⊎ IsCharBoundary s k → Keeps true k g j h → Keeps b i g i h
+  keeps-look b k i j g h at r = λ here f.
+      let there : IsCharBoundary s k = ⊎_elim (λ p. subst (IsCharBoundary s) (sym p) here) (λ q. q) at in
+      record { from = omega arith; at = here; lie = (r there f).lie }
+
+  keeps : IsClosed s (λ _. false) Keeps
+  keeps = record {
+    here = λ b i g at f. record { from = omega arith; at = at; lie = f };
+    reads = λ b i c g e at f. record { from = omega arith; at = boundary-past s i c text at e; lie = f };
+    joins = keeps-join;
+    closes = λ b n i j g h t r. keeps-close b n i j g h r;
+    looks = keeps-look;
+  }
+
+  -- from a boundary, where each group lies in the text, each member's groups do
+  pub matches-lie : (t : Tree) (i : ℕ) (g : Groups) → looks_fail (λ _. false) false t ≡ true → IsCharBoundary s i → AllLie g
+      → Each (λ m. Arrives i m.0 m.1) (matches s t i g)
+  matches-lie t i g e at f =
+      each_of (λ m. Keeps false i g m.0 m.1) (λ m. Arrives i m.0 m.1) (matches s t i g) (λ m r. r at f)
+      (steps-matches s text (λ _. false) Keeps keeps false t e i g)

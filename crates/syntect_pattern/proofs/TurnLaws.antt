@@ -27,7 +27,7 @@ forward s u = record {
   reads = λ b i c g e. reads b i c g e;
   joins = forward-join s;
   closes = λ b n i j g h t p. closes b n i j g h p;
-  looks = λ b k i j g h p. here_or b i g h;
+  looks = λ b k i j g h at p. here_or b i g h;
 }
   where
     here : (b : Bool) (i : ℕ) (g : Groups) → Forward s b i g i g
@@ -51,7 +51,7 @@ pub matches-forward : (s : List ℕ) → IsUtf8 s → (t : Tree) (i : ℕ) (g : 
     → Each (λ m. (i ≤ m.0) × IsCharBoundary s m.0) (matches s t i g)
 matches-forward s u t i g c =
     each_of (λ m. Forward s false i g m.0 m.1) (λ m. (i ≤ m.0) × IsCharBoundary s m.0) (matches s t i g) (λ m r. r c)
-    (steps-matches s (λ _. false) (Forward s) (forward s u) false t (in_look-fails (λ _. false) false t (λ n e. refl)) i g)
+    (steps-matches s u (λ _. false) (Forward s) (forward s u) false t (in_look-fails (λ _. false) false t (λ n e. refl)) i g)
 
 flat_map-same : (f k : Member → List Member) (P : Member → Type 0) (ms : List Member) → Each P ms → ((m : Member) → P m → f m ≡ k m) → flat_map f ms ≡ flat_map k ms
 flat_map-same f k P [] e same = refl

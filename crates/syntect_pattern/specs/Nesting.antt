@@ -45,14 +45,15 @@ looks_fail picks look (ahead negated a) = looks_fail picks true a
 looks_fail picks look (behind negated a) = looks_fail picks true a
 looks_fail picks look _ = true
 
--- What a search from a place on finds. Group 0 is the whole match. The groups that stand in no lookaround lie in it and
--- end on boundaries, and each two of them are nested or disjoint.
+-- What a search from a place on finds. Group 0 is the whole match. Each group that is set lies in the text and ends on
+-- boundaries. The groups that stand in no lookaround lie in the match, and each two of them are nested or disjoint.
 pub record IsMatch (s : List ℕ) (tree : Tree) (from : ℕ) (g : Groups) : Type 0 where
   pub start : ℕ
   pub end : ℕ
   pub after : from ≤ start
   pub slots : length g ≡ suc (group_count tree)
   pub whole : IsSet g 0 (start, end)
+  pub lie : (n : ℕ) (x : Span) → IsSet g n x → LiesIn s 0 (length s) x
   pub within : (n : ℕ) (x : Span) → group_in_look tree n ≡ Some false → IsSet g n x → LiesIn s start end x
   pub nested : (n m : ℕ) (x y : Span) → group_in_look tree n ≡ Some false → group_in_look tree m ≡ Some false
       → IsSet g n x → IsSet g m y → AreNested x y

@@ -3,7 +3,7 @@ use Rattle.std.specs.Prelude.{◌≡◌, ℕ, suc, List, None, slice_index_or}
 use Rattle.syntect_pattern.specs.Trees.{Tree, nothing, group, group_count}
 use Rattle.syntect_pattern.specs.Matches.{found_at}
 use Rattle.syntect_pattern.specs.Table.{trees}
-use Rattle.syntect_pattern.specs.Starts.{Starts}
+use Rattle.syntect_pattern.specs.Starts.{AreStarts}
 use Rattle.syntect_pattern.specs.declared.program.Program.{Program}
 
 -- the tree of each of its nodes
@@ -14,7 +14,7 @@ trees_of p = trees p.nodes
 pub record IsProgramOf (p : Program) (tree : Tree) : Type 0 where
   pub root : slice_index_or (trees_of p) p.root nothing ≡ group 0 tree
   pub groups : p.groups ≡ suc (group_count tree)
-  pub starts : Starts p.starts tree
+  pub starts : AreStarts p.starts tree
 
 -- no match begins at the place
 abbrev pub CannotBegin : List ℕ → Program → ℕ → Type 0

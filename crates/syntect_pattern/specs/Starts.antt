@@ -1,5 +1,5 @@
 -- Where a match can begin, as far as the byte there tells.
-use Rattle.std.specs.Prelude.{◌≡◌, ◌<◌, ℕ, Bool, true, false, not, ◌&&◌, ◌||◌, ◌==◌, nat_lt, List, length, Option, Some, None, if◌then◌else◌, slice_index, slice_index_or}
+use Rattle.std.specs.Prelude.{◌≡◌, ◌<◌, ℕ, Bool, true, false, not, ◌&&◌, ◌||◌, ◌==◌, nat_lt, List, length, if◌then◌else◌, slice_index, slice_index_or}
 use Rattle.syntect_pattern.specs.Sets.{Set, holds}
 use Rattle.syntect_pattern.specs.declared.starts.Begins.{Begins}
 use Rattle.syntect_pattern.specs.Trees.{Anchor, line_end, text_end, last_line_end, Tree, nothing, one_of, anchor, same, seq, alt, repeat, group, atomic, ahead, behind}
@@ -58,8 +58,3 @@ Begin x bs ts = (k : ℕ) (d : Begins) → k < length bs → slice_index_or bs k
 -- for all that can stand there whether a match can begin
 abbrev pub AreStarts : List Bool → Tree → Type 0
 AreStarts flags tree = (x : ℕ) → x < 130 → slice_index_or flags x true ≡ (reads tree x || stays tree x)
-
--- the same, if it is known at all
-abbrev pub Starts : Option (List Bool) → Tree → Type 0
-Starts None tree = Unit {0}
-Starts (Some flags) tree = AreStarts flags tree

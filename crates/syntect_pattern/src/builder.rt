@@ -30,7 +30,7 @@ impl Builder {
     ghost use Rattle.syntect_pattern.specs.MemberViews.{leaf_set};
     ghost use Rattle.syntect_pattern.specs.Trees.{one_of};
     ghost use Rattle.syntect_pattern.specs.Table.{node_tree, parts_before, trees};
-    ghost use Rattle.syntect_pattern.specs.Starts.{Starts};
+    ghost use Rattle.syntect_pattern.specs.Starts.{AreStarts};
     ghost use Rattle.syntect_pattern.specs.Builder.{Grows, Holds, tree_in};
     ghost use Rattle.syntect_pattern.specs.JoinViews.{AllBelow, trees_in, joined, chained};
 
@@ -111,10 +111,10 @@ impl Builder {
         }
     }
 
-    /// The ASCII characters that a match of the node can begin with, if it always reads one.
-    pub fn starts(&self, alloc: Global, root: usize) -> Result<Option<Seq<bool>>, AllocError>
+    /// Whether a match of the node can begin, for all that can stand at a place.
+    pub fn starts(&self, alloc: Global, root: usize) -> Result<Seq<bool>, AllocError>
         requires { root < length self.now.nodes }
-        ensures { IfOk result (λ flags. Starts flags (tree_in self.now.nodes root)) }
+        ensures { IfOk result (λ flags. AreStarts flags (tree_in self.now.nodes root)) }
     {
         starts(alloc, self.nodes.as_slice(), root)
     }

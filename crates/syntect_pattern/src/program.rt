@@ -15,8 +15,8 @@ pub struct Program {
     /// How many groups there are, group 0 among them.
     pub groups: usize,
     /// Whether a match can begin at a place where this stands: an ASCII character, 128 for any other one, 129 for the text's
-    /// end. None if it isn't known.
-    pub starts: Option<Seq<bool>>,
+    /// end.
+    pub starts: Seq<bool>,
     pub ghost ordered: { IsOrdered nodes },
 }
 
@@ -55,14 +55,12 @@ impl Program {
     pub fn can_begin(&self, text: &str, place: usize) -> bool
         ensures { result ≡ false → CannotBegin text.now self.now place }
     {
-        let Some(flags) = &self.starts else {
-            return true;
-        };
+        let flags = self.starts.as_slice();
         let bytes = text.as_bytes();
         if place < bytes.len() {
-            flag_at(flags.as_slice(), bytes[place].min(128))
+            flag_at(flags, bytes[place].min(128))
         } else {
-            flag_at(flags.as_slice(), 129)
+            flag_at(flags, 129)
         }
     }
 
@@ -73,10 +71,7 @@ impl Program {
         ensures inside { result ≤ length text.now }
         ensures skipped { (k : ℕ) → place ≤ k → k < result → CannotBegin text.now self.now k }
     {
-        let Some(flags) = &self.starts else {
-            return place;
-        };
-        next_flagged(flags.as_slice(), text.as_bytes(), place)
+        next_flagged(self.starts.as_slice(), text.as_bytes(), place)
     }
 }
 

@@ -5,7 +5,7 @@ ghost use Rattle.syntect_pattern.specs.Trees.{Tree};
 ghost use Rattle.syntect_pattern.specs.Table.{IsOrdered, anchor_of, node_tree, parts_before, set_of};
 ghost use Rattle.syntect_pattern.specs.Builder.{tree_in};
 ghost use Rattle.syntect_pattern.specs.Starts as spec;
-ghost use Rattle.syntect_pattern.specs.Starts.{Begin, Starts, reads, stays};
+ghost use Rattle.syntect_pattern.specs.Starts.{AreStarts, Begin, reads, stays};
 
 use crate::node::{Anchor, Class, Node};
 use std::alloc::{AllocError, Global};
@@ -149,15 +149,15 @@ fn can_begin(
 }
 
 /// Whether a match of the node can begin, for all that can stand at a place.
-pub fn starts(alloc: Global, nodes: &[Node], root: usize) -> Result<Option<Seq<bool>>, AllocError>
+pub fn starts(alloc: Global, nodes: &[Node], root: usize) -> Result<Seq<bool>, AllocError>
     requires ordered { IsOrdered nodes.now }
     requires inside { root < length nodes.now }
-    ensures { IfOk result (λ flags. Starts flags (tree_in nodes.now root)) }
+    ensures { IfOk result (λ flags. AreStarts flags (tree_in nodes.now root)) }
 {
     let mut flags = Seq::new(alloc);
     let mut begins = Vec::new(alloc);
     for x in 0..130u8 {
         flags.push(can_begin(&mut begins, nodes, root, x)?)?;
     }
-    Ok(Some(flags))
+    Ok(flags)
 }

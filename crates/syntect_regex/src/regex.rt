@@ -5,6 +5,7 @@ ghost use Rattle.std.proofs.Common.{rules};
 ghost use Rattle.std.specs.Cmp.Rules.{comparing};
 ghost use Rattle.syntect_pattern.specs.Trees.{group_in_look};
 ghost use Rattle.syntect_pattern.specs.Pattern.{pattern_tree, pattern_found};
+ghost use Rattle.syntect_pattern.specs.Found.{IsPatternMatch};
 ghost use Rattle.syntect_regex.specs.declared.error.PatternError.{PatternError};
 ghost use Rattle.syntect_regex.specs.Escape.{is_special, escaped_char, escaped};
 ghost use Rattle.syntect_regex.specs.Region.{TakesMatch, Leaves, pattern_begins};
@@ -86,6 +87,9 @@ impl Regex {
     /// Searches `text[..end]` from `begin` on, both being byte positions: whether the pattern matches at some place there.
     /// The least place counts, and the first match at it. Where there is one, the region has its groups; else, and where
     /// memory is wanting, the region stays.
+    ///
+    /// Group 0 is the whole match. Each group that is set lies in the text and between characters. Those that stand in no
+    /// lookaround lie in the match, and each two of them lie apart or one in the other.
     pub fn search_into(
         &self,
         text: &str,
@@ -97,8 +101,10 @@ impl Regex {
         requires begin_boundary { IsCharBoundary text.now begin }
         requires end_boundary { IsCharBoundary text.now end }
         ensures ok { IfOk result (λ found. TakesMatch (pattern_found self.now (take end text.now) begin) region.old found region.new) }
+        ensures is_match { IfOk result (λ found. found ≡ true → IsPatternMatch self.now (take end text.now) begin region.new) }
         ensures err { OnErr result (region.new ≡ region.old) }
     {
+        syntect_pattern::pattern_matches_are_laid_out();
         let Some(program) = &self.program else {
             return Ok(false);
         };
@@ -118,6 +124,7 @@ impl Regex {
         requires begin_boundary { IsCharBoundary text.now begin }
         requires end_boundary { IsCharBoundary text.now end }
         ensures found { IfOk result (λ found. found ≡ is_some (pattern_found self.now (take end text.now) begin)) }
+        ensures is_match { IfOk result (λ found. found ≡ true → Leaves (λ old new. IsPatternMatch self.now (take end text.now) begin new) region.entry region.exit) }
         ensures region { Leaves (λ old new. new ≡ (if is_ok result then unwrap_or (pattern_found self.now (take end text.now) begin) old else old)) region.entry region.exit }
     {
         match region {
