@@ -5,3 +5,4 @@ pub mod DotLaws
 pub mod RepositoryLaws
 pub mod WordLaws
 pub mod TextLaws
+pub mod ReadingLaws

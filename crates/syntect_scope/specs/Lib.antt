@@ -7,3 +7,4 @@ pub mod Greedy
 pub mod Repository
 pub mod Words
 pub mod Laws
+pub mod SelectorText

@@ -90,8 +90,8 @@ fn trimmed(s: &str) -> &str
     s.trim_end_matches('.')
 }
 
-/// The words of a text.
-fn words_of(alloc: Global, s: &str) -> Result<Vec<&str>, AllocError>
+/// The words of a text: what stands between white space, where that is something.
+pub fn words_of(alloc: Global, s: &str) -> Result<Vec<&str>, AllocError>
     ensures { IfOk result (λ v. map (λ x. x.now) v.items ≡ words s.now) }
 {
     s.split_whitespace().collect(alloc)
@@ -167,6 +167,13 @@ impl ScopeRepository {
             Some(n) => Ok(n),
             None => self.add(part),
         }
+    }
+
+    /// Holds at most so many texts, each once.
+    pub(crate) fn is_whole(&self)
+        ensures { IsRepository self.now }
+    {
+        let _ = &self.atoms;
     }
 
     /// Takes the last atom back.

@@ -1,6 +1,8 @@
 //! Selectors: which stacks of scopes a rule speaks of.
-ghost use Rattle.std.specs.Prelude.{◌≡◌, IfOk};
+ghost use Rattle.std.specs.Prelude.{◌≡◌, IfOk, option_copied};
+ghost use Rattle.syntect_scope.specs.SelectorText.{sole_scope};
 
+use crate::scope::Scope;
 use crate::stack::ScopeStack;
 use std::alloc::AllocError;
 use syntect_values::seq::Seq;
@@ -30,6 +32,28 @@ impl ScopeSelector {
             path: self.path.clone()?,
             excludes: self.excludes.clone()?,
         })
+    }
+
+    /// The scope of the path, where it has just one and there is no exclusion.
+    pub fn extract_single_scope(&self) -> Option<Scope>
+        ensures { result ≡ sole_scope self.now }
+    {
+        if !self.excludes.is_empty() {
+            return None;
+        }
+        match self.path.as_slice() {
+            [scope] => Some(*scope),
+            _ => None,
+        }
+    }
+
+    /// The scopes of the path, the outermost first.
+    pub fn extract_scopes(&self) -> Result<Vec<Scope>, AllocError>
+        ensures { IfOk result (λ scopes. scopes.items ≡ self.now.path.scopes) }
+    {
+        let mut scopes = Vec::new(self.path.scopes.allocator());
+        scopes.extend_from_slice(self.path.as_slice())?;
+        Ok(scopes)
     }
 }
 
