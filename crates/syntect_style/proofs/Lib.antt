@@ -6,3 +6,5 @@ pub mod Cuts
 pub mod ItemLaws
 pub mod Collect
 pub mod StackLaws
+pub mod FlagLaws
+pub mod LoadLaws

@@ -3,7 +3,7 @@ ghost use Rattle.std.specs.Prelude.{◌≡◌, ◌↔◌, IsTrue, bit_and, bit_o
 ghost use Rattle.syntect_style.specs.Modifying.{bits_of, no_flags, plain_style, restyled, merged};
 
 /// A colour, by its red, green, blue and opaque parts.
-#[derive(Clone, Copy, Debug, PartialEq, Eq, Hash)]
+#[derive(Clone, Copy, PartialEq, Eq, Hash)]
 pub struct Color {
     /// Red.
     pub r: u8,
@@ -34,7 +34,7 @@ impl Color {
 }
 
 /// Flags of a font, a bit each: bold is 1, underline 2 and italic 4.
-#[derive(Clone, Copy, Debug, PartialEq, Eq, PartialOrd, Ord, Hash)]
+#[derive(Clone, Copy, PartialEq, Eq, PartialOrd, Ord, Hash)]
 pub struct FontStyle {
     bits: u8,
 }
@@ -54,6 +54,13 @@ impl FontStyle {
         ensures { result ≡ no_flags }
     {
         FontStyle { bits: 0 }
+    }
+
+    /// These bits, also those that are no flag's.
+    pub const fn from_bits_unchecked(bits: u8) -> FontStyle
+        ensures { bits_of result ≡ bits }
+    {
+        FontStyle { bits }
     }
 
     /// The bits of the flags.
