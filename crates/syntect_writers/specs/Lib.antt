@@ -1,0 +1,7 @@
+pub mod Entities
+pub mod Lines
+pub mod Names
+pub mod Opened
+pub mod Spans
+pub mod Terminal
+pub mod Text

@@ -1,0 +1,271 @@
+//! HTML with inline styles.
+ghost use Rattle.std.specs.Prelude.{◌≡◌, ◌++◌, string_bytes, IfOk, OnOk, OnErr, map};
+ghost use Rattle.syntect_writers.specs.Spans.{hex_digit, hex_pair, rgb_text, color_text, flags_text, same_color, same_style, tells_background, asked_for, color_property, background_text, css, open_tag, is_blank, continues, line_text, opening, background_of};
+ghost use Rattle.syntect_writers.specs.Opened.{behind_open, line_behind, close_of, continued};
+ghost use Rattle.syntect_style.specs.Modifying.{bits_of};
+ghost use Rattle.std.specs.Prelude.{◌<◌, ◌∷◌, List, ℕ};
+ghost use Rattle.syntect_style.specs.declared.style.Style.{Style as Plain};
+
+use crate::escape::push_escaped;
+use std::alloc::{AllocError, Global};
+use syntect_style::style::{Color, FontStyle, Style};
+use syntect_style::theme::Theme;
+
+/// Whether spans tell the colour behind their text.
+#[derive(Clone, Copy, Debug, PartialEq, Eq)]
+pub enum IncludeBackground {
+    /// They don't.
+    No,
+    /// They do.
+    Yes,
+    /// They do where it is another colour than this one, which stands behind all of them.
+    IfDifferent(Color),
+}
+
+/// A digit below 16 in hexadecimal.
+fn hex_digit(digit: u8) -> char
+    requires { digit < 16 }
+    ensures { result ≡ hex_digit digit }
+{
+    if digit < 10 {
+        char::from(b'0' + digit)
+    } else {
+        char::from(b'a' + (digit - 10))
+    }
+}
+
+/// Puts a byte last, in two hexadecimal digits.
+fn push_hex(out: &mut String, byte: u8) -> Result<(), AllocError>
+    ensures { OnOk result (string_bytes out.new ≡ string_bytes out.old ++ hex_pair byte) }
+{
+    out.push(hex_digit(byte / 16))?;
+    out.push(hex_digit(byte % 16))
+}
+
+/// Puts a colour last, without how opaque it is.
+fn push_rgb(out: &mut String, color: Color) -> Result<(), AllocError>
+    ensures { OnOk result (string_bytes out.new ≡ string_bytes out.old ++ rgb_text color) }
+{
+    out.push('#')?;
+    push_hex(out, color.r)?;
+    push_hex(out, color.g)?;
+    push_hex(out, color.b)
+}
+
+/// Puts a colour last.
+fn push_color(out: &mut String, color: Color) -> Result<(), AllocError>
+    ensures { OnOk result (string_bytes out.new ≡ string_bytes out.old ++ color_text color) }
+{
+    push_rgb(out, color)?;
+    if color.a != 255 {
+        push_hex(out, color.a)?;
+    }
+    Ok(())
+}
+
+/// Whether two colours are the same.
+fn same_color(left: Color, right: Color) -> bool
+    ensures { result ≡ same_color left right }
+{
+    left.r == right.r && left.g == right.g && left.b == right.b && left.a == right.a
+}
+
+/// Whether two styles are the same.
+fn same_style(left: Style, right: Style) -> bool
+    ensures { result ≡ same_style left right }
+{
+    same_color(left.foreground, right.foreground)
+        && same_color(left.background, right.background)
+        && left.font_style.bits() == right.font_style.bits()
+}
+
+/// Whether a span of this style tells the colour behind its text.
+fn tells_background(bg: IncludeBackground, style: Style) -> bool
+    ensures { result ≡ tells_background bg style }
+{
+    match bg {
+        IncludeBackground::No => false,
+        IncludeBackground::Yes => true,
+        IncludeBackground::IfDifferent(color) => !same_color(style.background, color),
+    }
+}
+
+/// Puts the text last, if it is asked for.
+#[tactic(auto, unfolding(crate::specs::Spans::asked_for))]
+fn push_if(out: &mut String, asked: bool, text: &str) -> Result<(), AllocError>
+    ensures { OnOk result (string_bytes out.new ≡ string_bytes out.old ++ asked_for asked text.now) }
+{
+    if asked {
+        out.push_str(text)?;
+    }
+    Ok(())
+}
+
+/// Puts a property last whose value is a colour.
+#[tactic(auto, using(crate::proofs::SpanLaws::three_joined), unfolding(crate::specs::Spans::color_property))]
+fn push_property(out: &mut String, name: &str, color: Color) -> Result<(), AllocError>
+    ensures { OnOk result (string_bytes out.new ≡ string_bytes out.old ++ color_property name.now color) }
+{
+    out.push_str(name)?;
+    push_color(out, color)?;
+    out.push(';')?;
+    Ok(())
+}
+
+/// Puts the colour behind a text last, if it is told.
+#[tactic(auto, unfolding(crate::specs::Spans::background_text, crate::specs::Spans::asked_for))]
+fn push_background(out: &mut String, bg: IncludeBackground, style: Style) -> Result<(), AllocError>
+    ensures { OnOk result (string_bytes out.new ≡ string_bytes out.old ++ background_text bg style) }
+{
+    if tells_background(bg, style) {
+        push_property(out, "background-color:", style.background)?;
+    }
+    Ok(())
+}
+
+/// Puts the flags of a font last, as CSS has them.
+#[tactic(auto, using(crate::proofs::SpanLaws::three_joined), unfolding(crate::specs::Spans::flags_text))]
+fn push_flags(out: &mut String, font: FontStyle) -> Result<(), AllocError>
+    ensures { OnOk result (string_bytes out.new ≡ string_bytes out.old ++ flags_text (bits_of font)) }
+{
+    let bits = font.bits();
+    push_if(out, bits & 2 == 2, "text-decoration:underline;")?;
+    push_if(out, bits & 1 == 1, "font-weight:bold;")?;
+    push_if(out, bits & 4 == 4, "font-style:italic;")?;
+    Ok(())
+}
+
+/// Puts a style last, as CSS has it.
+#[tactic(auto, using(crate::proofs::SpanLaws::three_joined), unfolding(crate::specs::Spans::css))]
+fn push_css(out: &mut String, bg: IncludeBackground, style: Style) -> Result<(), AllocError>
+    ensures { OnOk result (string_bytes out.new ≡ string_bytes out.old ++ css bg style) }
+{
+    push_background(out, bg, style)?;
+    push_flags(out, style.font_style)?;
+    push_property(out, "color:", style.foreground)?;
+    Ok(())
+}
+
+/// Whether the text is white space alone.
+fn is_blank(text: &str) -> bool
+    ensures { result ≡ is_blank text.now }
+{
+    text.chars().all(|c| c.is_whitespace())
+}
+
+/// Whether a piece goes into the span of this style.
+fn continues(before: Style, style: Style, text: &str) -> bool
+    ensures { result ≡ continues before (style, text.now) }
+{
+    same_style(style, before) || (same_color(style.background, before.background) && is_blank(text))
+}
+
+/// Begins a span.
+#[tactic(auto, using(crate::proofs::SpanLaws::three_joined), unfolding(crate::specs::Spans::open_tag))]
+fn open_span(out: &mut String, bg: IncludeBackground, style: Style) -> Result<(), AllocError>
+    ensures { OnOk result (string_bytes out.new ≡ string_bytes out.old ++ open_tag bg style) }
+{
+    out.push_str("<span style=\"")?;
+    push_css(out, bg, style)?;
+    out.push_str("\">")?;
+    Ok(())
+}
+
+/// Ends the span that is open, if one is.
+fn close_span(out: &mut String, last: Option<Style>) -> Result<(), AllocError>
+    ensures { OnOk result (string_bytes out.new ≡ string_bytes out.old ++ close_of last) }
+{
+    if last.is_some() {
+        out.push_str("</span>")?;
+    }
+    Ok(())
+}
+
+/// The style of the open span, if the piece goes into it.
+fn continued(last: Option<Style>, style: Style, text: &str) -> Option<Style>
+    ensures { result ≡ continued last (style, text.now) }
+{
+    match last {
+        Some(before) if continues(before, style, text) => Some(before),
+        _ => None,
+    }
+}
+
+/// Puts a piece last, behind those whose span is open. Answers the style of the span that is then open.
+fn push_piece(
+    out: &mut String,
+    bg: IncludeBackground,
+    last: Option<Style>,
+    style: Style,
+    text: &str,
+) -> Result<Style, AllocError>
+    ensures { (ps : List (Plain × List ℕ)) → IfOk result (λ s. string_bytes out.new ++ behind_open bg s ps ≡ string_bytes out.old ++ line_behind bg last ((style, text.now) ∷ ps)) }
+{
+    match continued(last, style, text) {
+        Some(before) => {
+            push_escaped(out, text)?;
+            Ok(before)
+        }
+        None => {
+            close_span(out, last)?;
+            open_span(out, bg, style)?;
+            push_escaped(out, text)?;
+            Ok(style)
+        }
+    }
+}
+
+/// Puts a line of pieces last, as spans.
+fn push_line(out: &mut String, v: &[(Style, &str)], bg: IncludeBackground) -> Result<(), AllocError>
+    ensures { OnOk result (string_bytes out.new ≡ string_bytes out.old ++ line_text bg v.now) }
+{
+    let mut last = None;
+    for piece in v {
+        let (style, text) = *piece;
+        last = Some(push_piece(out, bg, last, style, text)?);
+    }
+    close_span(out, last)?;
+    Ok(())
+}
+
+/// Puts a line of styled pieces last, as spans with inline styles. A piece of white space goes into the span before it
+/// where the colour behind it is the same. Without memory the text is as it was.
+pub fn append_highlighted_html_for_styled_line(
+    v: &[(Style, &str)],
+    bg: IncludeBackground,
+    s: &mut String,
+) -> Result<(), AllocError>
+    ensures ok { OnOk result (string_bytes s.new ≡ string_bytes s.old ++ line_text bg v.now) }
+    ensures err { OnErr result (string_bytes s.new ≡ string_bytes s.old) }
+{
+    let line = styled_line_to_highlighted_html(*s.allocator(), v, bg)?;
+    s.push_str(line.as_str())
+}
+
+/// A line of styled pieces as spans with inline styles.
+pub fn styled_line_to_highlighted_html(
+    alloc: Global,
+    v: &[(Style, &str)],
+    bg: IncludeBackground,
+) -> Result<String, AllocError>
+    ensures { IfOk result (λ t. string_bytes t ≡ line_text bg v.now) }
+{
+    let mut s = String::new(alloc);
+    push_line(&mut s, v, bg)?;
+    Ok(s)
+}
+
+/// What stands before the lines of a theme, and the colour behind them.
+pub fn start_highlighted_html_snippet(
+    alloc: Global,
+    t: &Theme,
+) -> Result<(String, Color), AllocError>
+    ensures text { IfOk result (λ p. string_bytes p.0 ≡ opening t.now) }
+    ensures color { IfOk result (λ p. p.1 ≡ background_of t.now) }
+{
+    let color = t.settings.background.unwrap_or(Color::WHITE);
+    let mut s = String::from_str(alloc, "<pre style=\"background-color:")?;
+    push_rgb(&mut s, color)?;
+    s.push_str(";\">\n")?;
+    Ok((s, color))
+}

@@ -1,0 +1,13 @@
+//! Styled pieces as text: HTML with inline styles, and text for terminals.
+//!
+//! Pieces are pairs of a style and a part of a line, as the highlighters give them.
+#![tactic(auto)]
+
+pub mod escape;
+pub mod html;
+pub mod laws;
+pub mod lines;
+pub mod terminal;
+#[cfg(test)]
+mod tests;
+mod text;

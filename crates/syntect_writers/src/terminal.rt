@@ -1,0 +1,66 @@
+//! Text for terminals.
+ghost use Rattle.std.specs.Prelude.{◌≡◌, ◌++◌, string_bytes, codes, IfOk, OnOk};
+ghost use Rattle.syntect_writers.specs.Terminal.{blended_part, blended, sequence, piece_text, terminal_text};
+
+use std::alloc::{AllocError, Global};
+use syntect_style::style::{Color, Style};
+
+/// A part of a colour over that of another.
+fn blend_part(opaque: u8, over: u8, under: u8) -> u8
+    ensures { result ≡ blended_part opaque over under }
+{
+    let opaque = u32::from(opaque);
+    let sum = u32::from(over) * opaque + u32::from(under) * (255 - opaque);
+    (sum / 255) as u8
+}
+
+/// A colour over another.
+fn blend(over: Color, under: Color) -> Color
+    ensures { result ≡ blended over under }
+{
+    if over.a == 255 {
+        return over;
+    }
+    Color {
+        r: blend_part(over.a, over.r, under.r),
+        g: blend_part(over.a, over.g, under.g),
+        b: blend_part(over.a, over.b, under.b),
+        a: 255,
+    }
+}
+
+/// Puts the escape sequence of a colour last.
+fn push_sequence(out: &mut String, number: &str, color: Color) -> Result<(), AllocError>
+    ensures { OnOk result (string_bytes out.new ≡ string_bytes out.old ++ sequence number.now color) }
+{
+    let Color { r, g, b, .. } = color;
+    write!(out, "\x1b[{number};2;{r};{g};{b}m")
+}
+
+/// Puts a piece last.
+fn push_piece(out: &mut String, style: Style, text: &str, bg: bool) -> Result<(), AllocError>
+    ensures { OnOk result (string_bytes out.new ≡ string_bytes out.old ++ piece_text bg (style, text.entry)) }
+{
+    if bg {
+        push_sequence(out, "48", style.background)?;
+    }
+    push_sequence(out, "38", blend(style.foreground, style.background))?;
+    out.push_str(text)
+}
+
+/// Styled pieces with the escape sequences of a terminal that has 24 bit colours; `bg` asks for the colours behind the
+/// text as well. What is not opaque is shown over the colour behind it. Nothing is put back to the terminal's own
+/// colours at the end.
+pub fn as_24_bit_terminal_escaped(
+    alloc: Global,
+    v: &[(Style, &str)],
+    bg: bool,
+) -> Result<String, AllocError>
+    ensures { IfOk result (λ t. string_bytes t ≡ terminal_text bg v.now) }
+{
+    let mut out = String::new(alloc);
+    for (style, text) in v {
+        push_piece(&mut out, *style, *text, bg)?;
+    }
+    Ok(out)
+}
