@@ -1,26 +1,22 @@
 -- Sets in which no reference leads out: what stands in their chains and levels.
-use Rattle.std.proofs.Common.{◌≡◌, ℕ, zero, suc, ◌+◌, ◌-◌, Bool, true, false, not, ◌&&◌, List, [], ◌∷◌, ◌++◌, length, drop, map, find, Option, Some, None, is_none, slice_get, unwrap_or, refl, ap, sym, ◌∙◌, arith, if◌then◌else◌}
-use Rattle.std.specs.List.{filter_map, flat_map, list_any, list_all}
-use Rattle.std.specs.Option.{option_map, option_map_or, option_to_list, option_and_then}
+use Rattle.std.proofs.Common.{◌≡◌, ℕ, zero, suc, Bool, true, false, not, ◌&&◌, List, [], ◌∷◌, ◌++◌, length, find, Option, Some, None, is_none, refl, ap, if◌then◌else◌}
+use Rattle.std.specs.List.{filter_map, flat_map, list_any}
+use Rattle.std.specs.Option.{option_map, option_to_list}
 use Rattle.syntect_parsing.specs.Engine.{Engine}
-use Rattle.syntect_parsing.specs.Substitution.{Groups}
-use Rattle.syntect_parsing.specs.Contexts.{context_at, part_of, target, is_same}
-use Rattle.syntect_parsing.specs.Chain.{Member, chain, entries, last, patterns_in, walk, walk_patterns, included, members, as_members, in_sight, prototypes_in, room_in}
-use Rattle.syntect_parsing.specs.Turn.{Live, Choice, Take, Skip, End, live, live_match, matched, counted, counts, group_at, missing, named, searched_text, winner, choice_of, is_least, loops, char_len}
-use Rattle.syntect_parsing.specs.Refusals.{NamesKnown, IsClosed, IsNeverLeft, stays, lone_patterns}
-use Rattle.syntect_parsing.proofs.EachLaws.{Each, each-append, each-flat_map, each-map, each_always, each_of, each-drop, each-filter_map, each-find, each-all, find-each, each-find_none}
+use Rattle.syntect_parsing.specs.Substitution.{Groups, Opening}
+use Rattle.syntect_parsing.specs.Contexts.{context_at, target, is_same}
+use Rattle.syntect_parsing.specs.Chain.{Member, chain, entries, patterns_in, walk, walk_patterns, included, members, in_sight, room_in}
+use Rattle.syntect_parsing.specs.Turn.{Live, Take, Skip, End, live, live_match, matched, counted, counts, group_at, missing, named, searched_text, winner, choice_of, is_least, loops}
+use Rattle.syntect_parsing.specs.Refusals.{NamesKnown, IsClosed}
+use Rattle.syntect_parsing.proofs.EachLaws.{Each, each-append, each-flat_map, each-map, each_always, each-filter_map, each-find, find-each, each-find_none}
 use Rattle.syntect_parsing.specs.declared.syntax_definition.ContextId.{ContextId}
-use Rattle.syntect_parsing.specs.declared.syntax_definition.ContextReference.{ContextReference}
-use Rattle.syntect_parsing.specs.declared.syntax_definition.MatchOperation.{MatchOperation}
 use Rattle.syntect_parsing.specs.declared.syntax_definition.MatchPattern.{MatchPattern}
 use Rattle.syntect_parsing.specs.declared.syntax_definition.Pattern.{Pattern}
 use Rattle.syntect_parsing.specs.declared.syntax_definition.Pattern.TheVariants.{Match, Include}
 use Rattle.syntect_parsing.specs.declared.syntax_definition.Context.{Context}
 use Rattle.syntect_parsing.specs.declared.syntax_set.SyntaxSet.{SyntaxSet}
-use Rattle.syntect_parsing.specs.declared.parser.Opening.{Opening}
 use Rattle.syntect_parsing.specs.declared.parser.Level.{Level}
 use Rattle.syntect_parsing.specs.declared.position.Position.{Position}
-use Rattle.syntect_parsing.specs.declared.parser.ParsingError.{ParsingError}
 use Rattle.syntect_parsing.specs.declared.parser.ParsingError.TheVariants as error
 
 -- the set has the context

@@ -1,5 +1,5 @@
 -- A fact of each member of a list.
-use Rattle.std.proofs.Common.{◌≡◌, ℕ, zero, suc, Bool, true, false, not, ◌&&◌, ◌||◌, List, [], ◌∷◌, ◌++◌, take, drop, length, map, cond, find, filter, Option, Some, None, refl}
+use Rattle.std.proofs.Common.{◌≡◌, ℕ, zero, suc, Bool, true, false, ◌&&◌, List, [], ◌∷◌, ◌++◌, take, drop, map, cond, find, Option, Some, None, refl}
 use Rattle.std.specs.List.{filter_map, flat_map, cons_option, list_all}
 
 abbrev pub Each : {A : Type 0} → (A → Type 0) → List A → Type 0

@@ -9,7 +9,7 @@ use Rattle.std.proofs.Math.Nat.{mul-le-mul_left}
 use Rattle.std.specs.List.{filter_map, cons_option, flat_map, list_any}
 use Rattle.std.specs.Option.{option_map_or, option_and_then, option_to_list}
 use Rattle.syntect_parsing.specs.Engine.{Engine}
-use Rattle.syntect_parsing.specs.Substitution.{Groups}
+use Rattle.syntect_parsing.specs.Substitution.{Groups, Opening}
 use Rattle.syntect_parsing.specs.Contexts.{is_same, context_at, target, contexts_of}
 use Rattle.syntect_parsing.specs.Chain.{Member, last, entries, included, walk_patterns, walk, room_in, patterns_in, members, chain, in_sight, prototypes_in}
 use Rattle.syntect_parsing.specs.Turn.{Live, Choice, Take, Skip, End, counts, counted, matched, live, live_match, searched_text, group_at, choice_of, winner, is_least, loops, turns_back, char_len, list_of, missing, refusal, new_levels, without_last, opened, levels_by, levels_after, idle_by, position_after, trimmed}
@@ -27,7 +27,6 @@ use Rattle.syntect_parsing.specs.declared.syntax_definition.Pattern.{Pattern}
 use Rattle.syntect_parsing.specs.declared.syntax_definition.Pattern.TheVariants.{Match, Include}
 use Rattle.syntect_parsing.specs.declared.syntax_definition.Context.{Context}
 use Rattle.syntect_parsing.specs.declared.syntax_set.SyntaxSet.{SyntaxSet}
-use Rattle.syntect_parsing.specs.declared.parser.Opening.{Opening}
 use Rattle.syntect_parsing.specs.declared.parser.Level.{Level}
 use Rattle.syntect_parsing.specs.declared.position.Position.{Position}
 use Rattle.syntect_parsing.specs.declared.parser.ParseState.{ParseState}

@@ -26,3 +26,7 @@ pub mod EachLaws
 pub mod ClosedLaws
 pub mod RefusalLaws
 pub mod LinkedLaws
+pub mod SubstitutionLaws
+mod LoadingLaws
+mod RoomLaws
+mod EndLaws

@@ -1,5 +1,5 @@
 -- Definitions whose references are by name are linked to a closed set.
-use Rattle.std.proofs.Common.{◌≡◌, ℕ, zero, suc, ◌+◌, ◌<◌, Bool, true, false, not, ◌&&◌, ◌||◌, ◌==◌, List, [], ◌∷◌, ◌++◌, length, map, Option, Some, None, is_none, slice_get, get_or, unwrap_or, refl, ap, sym, ◌∙◌, arith, cond, if◌then◌else◌}
+use Rattle.std.proofs.Common.{◌≡◌, ℕ, zero, suc, ◌+◌, ◌<◌, Bool, true, false, ◌||◌, ◌==◌, List, [], ◌∷◌, ◌++◌, length, map, Option, Some, None, is_none, slice_get, get_or, unwrap_or, refl, ap, sym, ◌∙◌, arith}
 use Rattle.std.specs.Prelude.{position}
 use Rattle.std.specs.Cmp.Lexicographic.{pointwise}
 use Rattle.std.specs.List.{filter_map, cons_option, list_any}
@@ -7,9 +7,9 @@ use Rattle.std.specs.Option.{option_map, option_map_or, option_to_list, option_a
 use Rattle.std.proofs.lemmas.Option.{slice_get-map}
 use Rattle.std.proofs.lemmas.List.Quantifiers.{position-Some}
 use Rattle.syntect_parsing.specs.Contexts.{context_at, contexts_of, target}
-use Rattle.syntect_parsing.specs.Turn.{missing, named, list_of}
-use Rattle.syntect_parsing.specs.Link.{linked, linked_from, linked_definition, linked_contexts, linked_context, linked_pattern, linked_match, linked_operation, linked_reference, link_of, named_in, names_of, syntaxes_in}
-use Rattle.syntect_parsing.specs.Refusals.{NamesKnown, IsClosed, LinksClosed, AreByName, KnowNoNumber, NamesNoNumber, is_direct}
+use Rattle.syntect_parsing.specs.Turn.{named, list_of}
+use Rattle.syntect_parsing.specs.Link.{linked, linked_from, linked_definition, linked_contexts, linked_context, linked_pattern, linked_operation, linked_reference, names_of}
+use Rattle.syntect_parsing.specs.Refusals.{NamesKnown, LinksClosed, AreByName, KnowNoNumber, NamesNoNumber, is_direct}
 use Rattle.syntect_parsing.proofs.EachLaws.{Each}
 use Rattle.syntect_parsing.proofs.ClosedLaws.{Has, misses_none}
 use Rattle.syntect_parsing.specs.declared.syntax_definition.ContextId.{ContextId}
@@ -17,13 +17,11 @@ use Rattle.syntect_parsing.specs.declared.syntax_definition.ContextReference.{Co
 use Rattle.syntect_parsing.specs.declared.syntax_definition.ContextReference.TheVariants as ref
 use Rattle.syntect_parsing.specs.declared.syntax_definition.MatchOperation.{MatchOperation}
 use Rattle.syntect_parsing.specs.declared.syntax_definition.MatchOperation.TheVariants as op
-use Rattle.syntect_parsing.specs.declared.syntax_definition.MatchPattern.{MatchPattern}
 use Rattle.syntect_parsing.specs.declared.syntax_definition.Pattern.{Pattern}
 use Rattle.syntect_parsing.specs.declared.syntax_definition.Pattern.TheVariants.{Match, Include}
 use Rattle.syntect_parsing.specs.declared.syntax_definition.Context.{Context}
 use Rattle.syntect_parsing.specs.declared.syntax_definition.SyntaxDefinition.{SyntaxDefinition}
 use Rattle.syntect_parsing.specs.declared.syntax_set.SyntaxReference.{SyntaxReference}
-use Rattle.syntect_parsing.specs.declared.syntax_set.SyntaxSet.{SyntaxSet}
 
 -- ---- definitions by their index ----
 

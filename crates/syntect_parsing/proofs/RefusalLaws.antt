@@ -1,16 +1,16 @@
 -- A text that begins in a context that is never left is refused at unresolved references alone.
-use Rattle.std.proofs.Common.{◌≡◌, ◌≢◌, ℕ, zero, suc, ◌+◌, ◌-◌, ◌≤◌, Bool, true, false, not, ◌&&◌, List, [], ◌∷◌, ◌++◌, length, take, drop, map, find, Option, Some, None, is_none, slice_get, unwrap_or, refl, ap, sym, ◌∙◌, subst, arith, length-append, if◌then◌else◌}
-use Rattle.std.specs.List.{filter_map, flat_map, cons_option, list_any, list_all}
+use Rattle.std.proofs.Common.{◌≡◌, ◌≢◌, ℕ, zero, suc, ◌+◌, ◌-◌, Bool, true, false, List, [], ◌∷◌, ◌++◌, length, take, Option, Some, None, is_none, slice_get, unwrap_or, refl, ap, sym, ◌∙◌, subst, arith}
+use Rattle.std.specs.List.{filter_map, flat_map, cons_option}
 use Rattle.std.specs.Option.{option_map, option_map_or, option_to_list, option_and_then, option_or}
-use Rattle.std.proofs.lemmas.List.{append-nil}
+use Rattle.syntect_parsing.specs.Substitution.{Opening}
 use Rattle.syntect_parsing.specs.Engine.{Engine}
 use Rattle.syntect_parsing.specs.Contexts.{context_at, part_of, target}
-use Rattle.syntect_parsing.specs.Chain.{Member, chain, entries, last, patterns_in, members, as_members, in_sight, prototypes_in}
-use Rattle.syntect_parsing.specs.Turn.{Live, Choice, Take, Skip, End, live, missing, named, unresolved, refusal, list_of, winner, trimmed, levels_after, levels_by, opened, new_levels, new_level, without_last, position_after, skipped, char_len}
-use Rattle.syntect_parsing.specs.Scopes.{Scopes, scopes_passed, open_scopes}
-use Rattle.syntect_parsing.specs.Line.{Step, Goes, Ends, Refused, turn, turn_on, turn_in, step, unless_refused, ended, state_left, Reads, ends, goes, Refuses, now, later, Reaches, here, further, ReadsLine, RefusesLine, no_level, in_turn, Answer, Answers, accepts, refuses, AnswersAll, none, one_more, at_start, start}
-use Rattle.syntect_parsing.specs.Refusals.{Picks, PicksUnresolved, NamesUnresolved, unresolved_of, IsClosed, IsNeverLeft, stays, lone_patterns, RefusesUnresolved}
-use Rattle.syntect_parsing.proofs.EachLaws.{Each, each-append, each-flat_map, each-map, each_always, each_of, each-drop, each-take, each-all}
+use Rattle.syntect_parsing.specs.Chain.{Member, chain, entries, last, patterns_in, members, in_sight, prototypes_in}
+use Rattle.syntect_parsing.specs.Turn.{Live, Choice, Take, Skip, End, live, missing, named, refusal, list_of, winner, trimmed, levels_after, levels_by, opened, new_levels, without_last, position_after}
+use Rattle.syntect_parsing.specs.Scopes.{Scopes, scopes_passed}
+use Rattle.syntect_parsing.specs.Line.{Step, Goes, Ends, Refused, turn, turn_on, turn_in, step, unless_refused, Reads, ends, goes, Refuses, now, later, Reaches, here, further, RefusesLine, no_level, in_turn, Answer, Answers, accepts, refuses, AnswersAll, none, one_more, at_start, start}
+use Rattle.syntect_parsing.specs.Refusals.{Picks, NamesUnresolved, unresolved_of, IsClosed, IsNeverLeft, stays, lone_patterns, RefusesUnresolved}
+use Rattle.syntect_parsing.proofs.EachLaws.{Each, each-append, each-flat_map, each_of, each-drop, each-take, each-all}
 use Rattle.syntect_parsing.proofs.ClosedLaws.{Has, Knows, has_all, misses_none, chain-each, wins-each, members-each, closed_patterns}
 use Rattle.syntect_parsing.specs.declared.syntax_definition.ContextId.{ContextId}
 use Rattle.syntect_parsing.specs.declared.syntax_definition.ContextReference.{ContextReference}
@@ -19,7 +19,6 @@ use Rattle.syntect_parsing.specs.declared.syntax_definition.MatchOperation.TheVa
 use Rattle.syntect_parsing.specs.declared.syntax_definition.MatchPattern.{MatchPattern}
 use Rattle.syntect_parsing.specs.declared.syntax_definition.Context.{Context}
 use Rattle.syntect_parsing.specs.declared.syntax_set.SyntaxSet.{SyntaxSet}
-use Rattle.syntect_parsing.specs.declared.parser.Opening.{Opening}
 use Rattle.syntect_parsing.specs.declared.parser.Level.{Level}
 use Rattle.syntect_parsing.specs.declared.position.Position.{Position}
 use Rattle.syntect_parsing.specs.declared.parser.ParseState.{ParseState}

@@ -14,6 +14,7 @@ use Rattle.syntect_pattern.specs.Escapes.{escape, one_letter, hex_escape, hex_fi
 use Rattle.syntect_pattern.specs.Classes.{class, class_rest, next_in, posix_form, class_escape, member, range_end, start_of, plain_item, posix_item}
 use Rattle.syntect_pattern.specs.Grammar.{tree_of, whole, body, passed, quantified, quantifier, count, loop, off_letters, flags_at, named_group, flag_group, opening, next_char}
 use Rattle.std.specs.Str.{chars}
+use Rattle.syntect_regex.specs.Escape.{is_special}
 use Rattle.syntect_parsing.specs.Contexts.{context_at}
 use Rattle.syntect_parsing.specs.Chain.{patterns_in}
 use Rattle.syntect_parsing.specs.Scopes.{Scopes, open_scopes}
@@ -193,15 +194,15 @@ abbrev pub in_doc : ParseState
 in_doc = on (level 0 ∷ level 1 ∷ record (level 3) { opening = Some (record { region = Some (0, 5) ∷ Some (2, 5) ∷ []; line = codes "<<EOT" ++ newline }) } ∷ [])
 
 reads_open : Reads whole_dialect doc (codes "<<EOT" ++ newline) (at_start at_first) (tops (replicate 6 (s 2 ∷ []))) in_doc 3
-unfolding turn tree_of whole body passed pass quantified quantifier count loop off_letters flags_at named_group flag_group opening next_char escape one_letter hex_escape hex_fixed category_escape named_set name_in run first char_of class class_rest next_in posix_form class_escape member range_end start_of plain_item posix_item found found_at char_at char_before is_boundary is_word_edge is_word is_alike same_fold chars general_category general_category_rows value_in simple_folding simple_folding_rows
+unfolding turn tree_of whole body passed pass quantified quantifier count loop off_letters flags_at named_group flag_group opening next_char escape one_letter hex_escape hex_fixed category_escape named_set name_in run first char_of class class_rest next_in posix_form class_escape member range_end start_of plain_item posix_item found found_at char_at char_before is_boundary is_word_edge is_word is_alike same_fold chars general_category general_category_rows value_in simple_folding simple_folding_rows lib.Utf8.encode is_special
 reads_open = sound whole_dialect doc (codes "<<EOT" ++ newline) 20 (at_start at_first)
 
 reads_inside : Reads whole_dialect doc (codes "x" ++ newline) (at_start in_doc) (tops (replicate 2 (s 2 ∷ []))) in_doc 1
-unfolding turn tree_of whole body passed pass quantified quantifier count loop off_letters flags_at named_group flag_group opening next_char escape one_letter hex_escape hex_fixed category_escape named_set name_in run first char_of class class_rest next_in posix_form class_escape member range_end start_of plain_item posix_item found found_at char_at char_before is_boundary is_word_edge is_word is_alike same_fold chars general_category general_category_rows value_in simple_folding simple_folding_rows
+unfolding turn tree_of whole body passed pass quantified quantifier count loop off_letters flags_at named_group flag_group opening next_char escape one_letter hex_escape hex_fixed category_escape named_set name_in run first char_of class class_rest next_in posix_form class_escape member range_end start_of plain_item posix_item found found_at char_at char_before is_boundary is_word_edge is_word is_alike same_fold chars general_category general_category_rows value_in simple_folding simple_folding_rows lib.Utf8.encode is_special
 reads_inside = sound whole_dialect doc (codes "x" ++ newline) 20 (at_start in_doc)
 
 reads_close : Reads whole_dialect doc (codes "EOT" ++ newline) (at_start in_doc) (tops (replicate 3 (s 2 ∷ []) ++ replicate 1 [])) (on (level 0 ∷ level 1 ∷ [])) 2
-unfolding turn tree_of whole body passed pass quantified quantifier count loop off_letters flags_at named_group flag_group opening next_char escape one_letter hex_escape hex_fixed category_escape named_set name_in run first char_of class class_rest next_in posix_form class_escape member range_end start_of plain_item posix_item found found_at char_at char_before is_boundary is_word_edge is_word is_alike same_fold chars general_category general_category_rows value_in simple_folding simple_folding_rows
+unfolding turn tree_of whole body passed pass quantified quantifier count loop off_letters flags_at named_group flag_group opening next_char escape one_letter hex_escape hex_fixed category_escape named_set name_in run first char_of class class_rest next_in posix_form class_escape member range_end start_of plain_item posix_item found found_at char_at char_before is_boundary is_word_edge is_word is_alike same_fold chars general_category general_category_rows value_in simple_folding simple_folding_rows lib.Utf8.encode is_special
 reads_close = sound whole_dialect doc (codes "EOT" ++ newline) 20 (at_start in_doc)
 
 -- ---- references that have no target ----

@@ -10,6 +10,7 @@ use Rattle.syntect_scope.specs.declared.stack.ScopeStack.{ScopeStack}
 use Rattle.syntect_scope.specs.declared.stack.ScopeStackOp.{ScopeStackOp}
 use Rattle.syntect_scope.specs.Stack.{applied}
 use Rattle.syntect_scope.specs.Replay.{Replay, IsAt, InOrder, AllApply, replay, replayed, pushes, pops}
+use Rattle.syntect_parsing.specs.Substitution.{Opening}
 use Rattle.syntect_parsing.specs.Contexts.{context_at, part_of, target}
 use Rattle.syntect_parsing.specs.Chain.{last}
 use Rattle.syntect_parsing.specs.Engine.{dialect}
@@ -25,7 +26,6 @@ use Rattle.syntect_parsing.specs.declared.syntax_definition.Context.{Context}
 use Rattle.syntect_parsing.specs.declared.syntax_definition.MatchOperation.{MatchOperation}
 use Rattle.syntect_parsing.specs.declared.syntax_definition.MatchOperation.TheVariants as op
 use Rattle.syntect_parsing.specs.declared.syntax_set.SyntaxSet.{SyntaxSet}
-use Rattle.syntect_parsing.specs.declared.parser.Opening.{Opening}
 use Rattle.syntect_parsing.specs.declared.parser.Level.{Level}
 
 pub replay-append : (os ps : List (ℕ × ScopeStackOp)) (r : Replay) → replay (os ++ ps) r ≡ replay ps (replay os r)

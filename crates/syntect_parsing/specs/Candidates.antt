@@ -2,11 +2,11 @@
 use Rattle.std.specs.Prelude.{ℕ, ◌+◌, ◌<◌, List, [], length, Option, Some, unwrap_or}
 use Rattle.std.specs.Option.{option_copied}
 use Rattle.syntect_pattern.specs.Pattern.{pattern_found}
+use Rattle.syntect_parsing.specs.Substitution.{Opening}
 use Rattle.syntect_parsing.specs.Chain.{Member}
 use Rattle.syntect_parsing.specs.Turn.{Live, char_len}
 use Rattle.syntect_parsing.specs.Laws.{StandsIn}
 use Rattle.syntect_parsing.specs.Turn as turn
-use Rattle.syntect_parsing.specs.declared.parser.Opening.{Opening}
 use Rattle.syntect_parsing.specs.declared.syntax_definition.MatchOperation.{MatchOperation}
 use Rattle.syntect_parsing.specs.declared.syntax_definition.MatchOperation.TheVariants as op
 use Rattle.syntect_parsing.specs.declared.position.Record.{Record}
@@ -18,25 +18,29 @@ use Rattle.syntect_parsing.specs.declared.search.Choice.TheVariants as code
 abbrev pub member_of : Entry → Member
 member_of e = record { pattern = e.pattern.now; opening = option_copied e.opening; from_with_prototype = e.from_with_prototype }
 
+-- the text of the pattern that a candidate was searched with
+abbrev pub text_of : Candidate → List ℕ
+text_of c = unwrap_or c.substituted c.pattern.now.regex
+
 -- the match that a candidate stands for, in this line from this place on
 abbrev pub seen : List ℕ → ℕ → Candidate → Live
 seen line place c = record {
   pattern = c.pattern.now;
   from_with_prototype = c.from_with_prototype;
-  searched = c.pattern.now.regex;
-  groups = unwrap_or (pattern_found c.pattern.now.regex line place) [];
+  searched = text_of c;
+  groups = unwrap_or (pattern_found (text_of c) line place) [];
   start = c.start;
   end = c.end;
 }
 
 abbrev pub chosen : List ℕ → ℕ → Choice → turn.Choice
-chosen line place (code.Take c) = turn.Take (seen line place c)
+chosen line place (code.Take c) = turn.Take (seen line place c.now)
 chosen line place code.Skip = turn.Skip
 chosen line place code.End = turn.End
 
 -- that match as the opening match of the levels that it opens
 abbrev pub opening_by : List ℕ → ℕ → Candidate → Opening
-opening_by line place c = record { region = unwrap_or (pattern_found c.pattern.now.regex line place) []; line = line }
+opening_by line place c = record { region = unwrap_or (pattern_found (text_of c) line place) []; line = line }
 
 -- the record after an operation at the place itself, where there were so many levels
 abbrev pub record_at : ℕ → ℕ → Option Record → MatchOperation → Option Record
@@ -47,6 +51,6 @@ record_at place height before op.None = before
 
 -- what is taken stands in the line, not before the place, and on character boundaries; what is passed over is in the line
 abbrev pub StandsChosen : List ℕ → ℕ → Choice → Type 0
-StandsChosen line place (code.Take m) = StandsIn line place m.start m.end
+StandsChosen line place (code.Take m) = StandsIn line place m.now.start m.now.end
 StandsChosen line place code.Skip = place + char_len line place < length line
 StandsChosen line place code.End = Unit {0}

@@ -2,6 +2,7 @@
 use Rattle.std.specs.Prelude.{◌≡◌, ℕ, zero, suc, ◌+◌, ◌-◌, Bool, true, false, List, [], ◌∷◌, ◌++◌, length, drop, map, Option, Some, None, slice_get, unwrap_or, if◌then◌else◌}
 use Rattle.std.specs.Option.{option_to_list}
 use Rattle.std.specs.List.{flat_map, list_any}
+use Rattle.syntect_parsing.specs.Substitution.{Opening}
 use Rattle.syntect_parsing.specs.Contexts.{is_same, contexts_of, context_at, part_of, target}
 use Rattle.syntect_parsing.specs.declared.position.Position.{Position}
 use Rattle.syntect_parsing.specs.declared.syntax_definition.ContextId.{ContextId}
@@ -11,7 +12,6 @@ use Rattle.syntect_parsing.specs.declared.syntax_definition.Pattern.{Pattern}
 use Rattle.syntect_parsing.specs.declared.syntax_definition.Pattern.TheVariants.{Match, Include}
 use Rattle.syntect_parsing.specs.declared.syntax_definition.Context.{Context}
 use Rattle.syntect_parsing.specs.declared.syntax_set.SyntaxSet.{SyntaxSet}
-use Rattle.syntect_parsing.specs.declared.parser.Opening.{Opening}
 use Rattle.syntect_parsing.specs.declared.parser.Level.{Level}
 
 -- ---- the patterns of a context ----

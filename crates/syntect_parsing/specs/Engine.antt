@@ -23,10 +23,10 @@ whole_dialect = record {
   substituted = substituted;
 }
 
--- What lines are read with for now: the whole dialect too, but no back reference is replaced, and no capture has an effect.
+-- What lines are read with for now: the whole dialect too, but no capture has an effect.
 abbrev pub dialect : Engine
 dialect = record {
   found = pattern_found;
   in_lookaround = λ pattern group. true;
-  substituted = λ pattern groups line. pattern;
+  substituted = substituted;
 }

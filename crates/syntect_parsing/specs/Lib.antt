@@ -2,6 +2,7 @@ pub mod Contexts
 pub mod Errors
 pub mod Link
 pub mod Substitution
+pub mod Openings
 pub mod Engine
 pub mod Chain
 pub mod Turn
@@ -14,3 +15,8 @@ pub mod Candidates
 pub mod Operations
 pub mod Step
 pub mod Refusals
+pub mod LoadingSteps
+pub mod LoadingValues
+pub mod LoadingParts
+pub mod LoadingContexts
+pub mod Loading

@@ -1,33 +1,39 @@
 -- Patterns that refer to the groups of the match that opened their context.
-use Rattle.std.specs.Prelude.{ℕ, ◌-◌, Bool, true, false, List, [], ◌∷◌, ◌++◌, take, drop, codes, Option, if◌then◌else◌, ◌==◌}
+use Rattle.std.specs.Prelude.{◌≡◌, ℕ, ◌-◌, Bool, true, false, List, [], ◌∷◌, ◌++◌, take, drop, chars, encode_utf8, Option, Some, if◌then◌else◌, ◌==◌, IsCharBoundary}
 use Rattle.std.specs.Option.{option_map_or, option_flatten}
-use Rattle.std.specs.List.{slice_get, flat_map, list_any}
+use Rattle.std.specs.List.{slice_get}
 use Rattle.std.specs.Char.{is_ascii_digit}
+use Rattle.syntect_regex.specs.Escape.{escaped}
 
 -- where each group of a match stands, the whole match as group 0
 abbrev pub Groups : Type 0
 Groups = List (Option (ℕ × ℕ))
 
--- the bytes that a pattern reads as more than themselves
-abbrev pub special : List ℕ
-special = 92 ∷ codes ".+*?()|[]{}^$#&-~"
+-- the match that opened a context: where its groups stand, and its line
+pub record Opening : Type 0 where
+  pub region : Groups
+  pub line : List ℕ
 
--- a text as a pattern that matches it alone
-abbrev pub escaped : List ℕ → List ℕ
-escaped text = flat_map (λ b. if list_any (λ c. c == b) special then 92 ∷ b ∷ [] else b ∷ []) text
+-- each group begins and ends on a character boundary of the text
+abbrev pub AreOnBoundaries : List ℕ → Groups → Type 0
+AreOnBoundaries text groups = (n : ℕ) (at : ℕ × ℕ) → slice_get groups n ≡ Some (Some at) → IsCharBoundary text at.0 × IsCharBoundary text at.1
 
 -- the text of a group, nothing if it was not set
 abbrev pub group_text : Groups → List ℕ → ℕ → List ℕ
 group_text groups line n = option_map_or (λ at. take (at.1 - at.0) (drop at.0 line)) (option_flatten (slice_get groups n)) []
 
--- the text of a pattern with a digit behind a backslash replaced by the escaped text of the group of that number; the
--- flag says that a backslash stands before it
-abbrev pub substituted_from : Bool → List ℕ → Groups → List ℕ → List ℕ
-substituted_from false [] groups line = []
-substituted_from true [] groups line = 92 ∷ []
-substituted_from false (b ∷ rest) groups line = (if b == 92 then [] else b ∷ []) ++ substituted_from (b == 92) rest groups line
-substituted_from true (b ∷ rest) groups line =
-    (if is_ascii_digit b then escaped (group_text groups line (b - 48)) else 92 ∷ b ∷ []) ++ substituted_from false rest groups line
+-- what stands for a backslash and this character: with a digit the escaped text of the group of that number, else they stay
+abbrev pub replaced : Groups → List ℕ → ℕ → List ℕ
+replaced groups line c = if is_ascii_digit c then escaped (group_text groups line (c - 48)) else 92 ∷ encode_utf8 c
 
+-- the characters of a pattern, replaced where a backslash stands before them that isn't itself escaped; the flag says that
+-- one does
+abbrev pub substituted_from : Groups → List ℕ → Bool → List ℕ → List ℕ
+substituted_from groups line false [] = []
+substituted_from groups line true [] = 92 ∷ []
+substituted_from groups line false (c ∷ rest) = (if c == 92 then [] else encode_utf8 c) ++ substituted_from groups line (c == 92) rest
+substituted_from groups line true (c ∷ rest) = replaced groups line c ++ substituted_from groups line false rest
+
+-- the text of a pattern with the groups of a match in this line for its references
 abbrev pub substituted : List ℕ → Groups → List ℕ → List ℕ
-substituted = substituted_from false
+substituted pattern groups line = substituted_from groups line false (chars pattern)

@@ -6,7 +6,8 @@ ghost use Rattle.syntect_parsing.specs.Contexts.{is_same, context_at, target};
 ghost use Rattle.syntect_parsing.specs.Chain.{entries, walk, walk_patterns, room_in, patterns_in, as_members, members, in_sight, chain, prototypes_in};
 ghost use Rattle.syntect_parsing.specs.Candidates.{member_of};
 
-use crate::parser::{Level, Opening};
+use crate::opening::Opening;
+use crate::parser::Level;
 use crate::position::Position;
 use crate::syntax_definition::{Context, ContextId, MatchPattern, Pattern};
 use crate::syntax_set::SyntaxSet;

@@ -8,7 +8,8 @@ ghost use Rattle.syntect_parsing.specs.Candidates.{seen, opening_by, record_at};
 ghost use Rattle.syntect_parsing.specs.Chain.{last};
 
 use crate::names::targets;
-use crate::parser::{Level, Opening};
+use crate::opening::Opening;
+use crate::parser::Level;
 use crate::position::{Position, Record};
 use crate::search::Candidate;
 use crate::syntax_definition::{ContextId, ContextReference, MatchOperation};
@@ -53,14 +54,8 @@ fn opening_by(
     ensures { IfOk result (λ o. o ≡ opening_by line.now place m.now) }
 {
     let mut region = Region::new(alloc);
-    let _ = m
-        .pattern
-        .regex
-        .search_into(line, place, line.len(), &mut region)?;
-    Ok(Opening {
-        region,
-        line: Text::from_str(alloc, line)?,
-    })
+    let _ = m.regex().search_into(line, place, line.len(), &mut region)?;
+    Ok(Opening::new(region, Text::from_str(alloc, line)?))
 }
 
 /// A level that a match opens.

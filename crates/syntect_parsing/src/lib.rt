@@ -11,14 +11,21 @@ pub mod laws;
 mod levels;
 mod link;
 mod names;
+mod opening;
 pub mod parser;
 mod position;
 #[cfg(test)]
 mod row_tests;
 mod search;
+mod substitution;
 pub mod syntax_definition;
 pub mod syntax_set;
 #[cfg(test)]
 mod tests;
 mod text;
 mod turn;
+pub mod yaml_load;
+mod yaml_load_contexts;
+mod yaml_load_parts;
+mod yaml_load_state;
+mod yaml_load_values;

@@ -12,6 +12,7 @@ ghost use Rattle.syntect_parsing.specs.declared.parser.ParsingError.TheVariants.
 use crate::chain::room_in;
 use crate::laws::dialect_finds_in_text;
 use crate::link::context_named;
+use crate::opening::Opening;
 use crate::position::Position;
 use crate::syntax_definition::{ContextId, ContextReference};
 use crate::syntax_set::{SyntaxReference, SyntaxSet};
@@ -21,7 +22,6 @@ use syntect_regex::region::Region;
 use syntect_scope::scope::Scope;
 use syntect_scope::stack::ScopeStackOp;
 use syntect_values::seq::Seq;
-use syntect_values::text::Text;
 use thiserror::Error;
 
 /// Why a line is refused, or a reference has no context.
@@ -55,13 +55,6 @@ impl<T: Drop> From<AllocFailed<T>> for ParsingError {
     }
 }
 
-/// The match that opened a level: where its groups stand, and its line.
-#[derive(Drop, PartialEq, Eq)]
-pub struct Opening {
-    pub region: Region,
-    pub line: Text,
-}
-
 /// An open context, its prototypes, and the match that opened it where that is kept.
 #[derive(Drop, PartialEq, Eq)]
 pub struct Level {
@@ -70,22 +63,12 @@ pub struct Level {
     pub opening: Option<Opening>,
 }
 
-/// The same match once more.
-fn copied_opening(alloc: Global, opening: &Opening) -> Result<Opening, AllocError>
-    ensures { IfOk result (λ o. o ≡ opening.now) }
-{
-    Ok(Opening {
-        region: opening.region.clone(alloc)?,
-        line: opening.line.clone()?,
-    })
-}
-
 impl Clone for Level {
     ghost is_clone = { λ x y. y ≡ x };
 
     fn clone(&self) -> Result<Level, AllocError> {
         let opening = match &self.opening {
-            Some(opening) => Some(copied_opening(self.prototypes.allocator(), opening)?),
+            Some(opening) => Some(opening.clone(self.prototypes.allocator())?),
             None => None,
         };
         Ok(Level {

@@ -1,22 +1,25 @@
 //! Which match a turn takes.
-ghost use Rattle.std.specs.Prelude.{◌≡◌, ◌≤◌, ◌<◌, ◌==◌, ◌&&◌, not, nat_le, nat_lt, List, ℕ, length, map, find, IfOk, IfSome, None, Some, IsCharBoundary};
+ghost use Rattle.std.specs.Prelude.{◌≡◌, ◌≤◌, ◌<◌, ◌==◌, ◌&&◌, not, nat_le, nat_lt, List, ℕ, length, map, find, IfOk, IfSome, None, Some, IsCharBoundary, unwrap_or};
 ghost use Rattle.std.specs.Option.{option_map, option_copied};
 ghost use Rattle.std.specs.List.{list_all};
 ghost use Rattle.syntect_parsing.specs.Engine.{dialect};
-ghost use Rattle.syntect_parsing.specs.Turn.{live, live_match, loops, is_least, counts, turns_back, is_at_record, Live, winner, choice_of, char_len};
-ghost use Rattle.syntect_parsing.specs.Candidates.{member_of, seen, chosen};
+ghost use Rattle.syntect_parsing.specs.Turn.{live, live_match, searched_text, loops, is_least, counts, turns_back, is_at_record, Live, winner, choice_of, char_len};
+ghost use Rattle.syntect_parsing.specs.Candidates.{member_of, seen, text_of, chosen};
 
 use crate::chain::Entry;
 use crate::position::Position;
 use crate::syntax_definition::{MatchOperation, MatchPattern};
 use crate::text::char_at;
 use std::alloc::{AllocError, Global};
+use syntect_regex::regex::Regex;
 use syntect_regex::region::Region;
 
 /// A match of a pattern of the chain.
-#[derive(Clone, Copy)]
+#[derive(Drop)]
 pub struct Candidate<'s> {
     pub pattern: &'s MatchPattern,
+    /// What was searched in its place, if back references were replaced.
+    pub substituted: Option<Regex>,
     pub from_with_prototype: bool,
     pub start: usize,
     pub end: usize,
@@ -24,10 +27,29 @@ pub struct Candidate<'s> {
 
 /// What a turn does: take a match, pass over a character, or end the line.
 #[derive(Clone, Copy)]
-pub enum Choice<'s> {
-    Take(Candidate<'s>),
+pub enum Choice<'m, 's> {
+    Take(&'m Candidate<'s>),
     Skip,
     End,
+}
+
+/// The pattern that is searched.
+fn searched<'r>(pattern: &'r MatchPattern, substituted: &'r Option<Regex>) -> &'r Regex
+    ensures { result.now ≡ unwrap_or substituted.now pattern.now.regex }
+{
+    match substituted {
+        Some(regex) => regex,
+        None => &pattern.regex,
+    }
+}
+
+impl<'s> Candidate<'s> {
+    /// The pattern that was searched.
+    pub fn regex(&self) -> &Regex
+        ensures { result.now ≡ text_of self.now }
+    {
+        searched(self.pattern, &self.substituted)
+    }
 }
 
 /// Whether a match counts at this height.
@@ -39,6 +61,20 @@ fn counts(height: usize, operation: &MatchOperation, start: usize, end: usize) -
         MatchOperation::Set(_) => true,
         MatchOperation::Pop => true,
         MatchOperation::None => start != end,
+    }
+}
+
+/// What is searched in place of the pattern where it uses back references and has an opening match.
+fn substituted(entry: &Entry<'_, '_>) -> Result<Option<Regex>, AllocError>
+    ensures { IfOk result (λ r. unwrap_or r entry.now.pattern.now.regex ≡ searched_text dialect entry.now.pattern.now (option_copied entry.now.opening)) }
+{
+    let Some(opening) = entry.opening else {
+        return Ok(None);
+    };
+    if entry.pattern.has_captures {
+        Ok(Some(opening.substituted(entry.pattern)?))
+    } else {
+        Ok(None)
     }
 }
 
@@ -54,11 +90,9 @@ fn search_entry<'s>(
     requires boundary { IsCharBoundary line.now place }
     ensures { IfOk result (λ m. option_map (seen line.now place) m ≡ live_match dialect height line.now place (member_of entry.now)) }
 {
-    if !entry
-        .pattern
-        .regex
-        .search_into(line, place, line.len(), region)?
-    {
+    let substituted = substituted(entry)?;
+    let regex = searched(entry.pattern, &substituted);
+    if !regex.search_into(line, place, line.len(), region)? {
         return Ok(None);
     }
     let Some((start, end)) = region.pos(0) else {
@@ -67,6 +101,7 @@ fn search_entry<'s>(
     if counts(height, &entry.pattern.operation, start, end) {
         Ok(Some(Candidate {
             pattern: entry.pattern,
+            substituted,
             from_with_prototype: entry.from_with_prototype,
             start,
             end,
@@ -136,13 +171,13 @@ fn is_least(line: &str, p: &Position, ms: &[Candidate<'_>], m: &Candidate<'_>) -
 }
 
 /// The first match of least start that doesn't go round in circles.
-fn pick<'s>(line: &str, p: &Position, ms: &[Candidate<'s>]) -> Option<Candidate<'s>>
-    ensures { option_map (seen line.now p.now.place) result
+fn pick<'m, 's>(line: &str, p: &Position, ms: &'m [Candidate<'s>]) -> Option<&'m Candidate<'s>>
+    ensures { option_map (seen line.now p.now.place) (option_copied result)
         ≡ find (λ m. is_least (map (seen line.now p.now.place) ms.now) m && not (loops p.now m)) (map (seen line.now p.now.place) ms.now) }
 {
     for m in ms {
         if is_least(line, p, ms, m) && !loops(line, p, m) {
-            return Some(*m);
+            return Some(m);
         }
     }
     None
@@ -163,7 +198,7 @@ pub fn char_len(line: &str, place: usize) -> usize
 
 /// What a turn does with these matches: it takes the first of least start that doesn't go round in circles, or else
 /// passes over a character, or else ends the line.
-pub fn winner<'s>(line: &str, p: &Position, ms: &[Candidate<'s>]) -> Choice<'s>
+pub fn winner<'m, 's>(line: &str, p: &Position, ms: &'m [Candidate<'s>]) -> Choice<'m, 's>
     requires within { p.now.place ≤ length line.now }
     requires boundary { IsCharBoundary line.now p.now.place }
     ensures { chosen line.now p.now.place result ≡ winner line.now p.now (map (seen line.now p.now.place) ms.now) }

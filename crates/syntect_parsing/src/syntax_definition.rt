@@ -5,12 +5,15 @@
 ghost use Rattle.std.specs.Prelude.{◌≡◌, [], false, string_bytes, Some, None, IfOk, IfErr};
 ghost use Rattle.std.specs.Option.{option_copied, option_and_then};
 ghost use Rattle.syntect_parsing.specs.Contexts.{context_at, target, match_of};
+ghost use Rattle.syntect_parsing.specs.Substitution.{AreOnBoundaries, substituted};
 ghost use Rattle.syntect_parsing.specs.Errors.{IsUnresolved, IsMissing, IsBadIndex};
 
 use crate::parser::ParsingError;
+use crate::substitution::substituted;
 use crate::syntax_set::SyntaxSet;
 use std::alloc::{AllocError, Global};
 use syntect_regex::regex::Regex;
+use syntect_regex::region::Region;
 use syntect_scope::scope::Scope;
 use syntect_scope::stack::ClearAmount;
 use syntect_values::seq::Seq;
@@ -272,5 +275,17 @@ impl MatchPattern {
         ensures { result.now ≡ self.now.regex }
     {
         &self.regex
+    }
+
+    /// The pattern with the groups of a match in a text for its back references: a digit behind a backslash that isn't
+    /// itself escaped, and that backslash, give way to the escaped text of the group of that number, or to nothing where
+    /// it was not set. The region's positions are byte positions between characters of the text.
+    pub fn regex_with_refs(&self, region: &Region, text: &str) -> Result<Regex, AllocError>
+        requires { AreOnBoundaries text.now region.now }
+        ensures { IfOk result (λ r. r ≡ substituted self.now.regex region.now text.now) }
+    {
+        let alloc = self.scope.allocator();
+        let pattern = substituted(alloc, self.regex.regex_str(), region, text)?;
+        Regex::new(alloc, pattern)
     }
 }

@@ -1,11 +1,11 @@
 //! One turn of reading a line.
-ghost use Rattle.std.specs.Prelude.{◌≡◌, ◌≤◌, ◌<◌, nat_lt, filter, length, IfOk, IfErr, IsCharBoundary, Some, None, ◌+◌};
+ghost use Rattle.std.specs.Prelude.{◌≡◌, ◌≤◌, ◌<◌, nat_lt, filter, List, length, map, IfOk, IfErr, IsCharBoundary, Some, None, ◌+◌};
 ghost use Rattle.syntect_parsing.specs.Engine.{dialect};
-ghost use Rattle.syntect_parsing.specs.Chain.{last, room_in};
-ghost use Rattle.syntect_parsing.specs.Turn.{trimmed, skipped, char_len, Take};
+ghost use Rattle.syntect_parsing.specs.Chain.{Member, last, room_in};
+ghost use Rattle.syntect_parsing.specs.Turn.{trimmed, skipped, char_len, live, winner, Take};
 ghost use Rattle.syntect_parsing.specs.Line.{step, turn_on};
 ghost use Rattle.syntect_parsing.specs.Laws.{StandsIn};
-ghost use Rattle.syntect_parsing.specs.Candidates.{seen, chosen, StandsChosen};
+ghost use Rattle.syntect_parsing.specs.Candidates.{seen};
 ghost use Rattle.syntect_parsing.specs.Step.{MakesStep, RefusesStep, Turns, RefusesTurn};
 
 use crate::chain::{chain, missing_prototype};
@@ -39,26 +39,25 @@ fn trim(alloc: Global, p: &mut Position)
     p.cuts = Seq::from_vec(cuts);
 }
 
-/// What a turn does, once cuts are dropped.
-fn choose<'s>(
+/// The matches that a turn has to choose from, once cuts are dropped.
+fn candidates<'s>(
     alloc: Global,
     set: &'s SyntaxSet,
     room: u128,
     line: &str,
     p: &Position,
     region: &mut Region,
-) -> Result<Choice<'s>, ParsingError>
+) -> Result<Vec<Candidate<'s>>, ParsingError>
     requires room { room ≡ room_in set.now }
     requires within { p.now.place ≤ length line.now }
     requires boundary { IsCharBoundary line.now p.now.place }
-    ensures chosen { IfOk result (λ c. turn_on dialect set.now line.now p.now (last p.now.levels)
-        ≡ step dialect set.now line.now p.now (chosen line.now p.now.place c)) }
-    ensures stands { IfOk result (StandsChosen line.now p.now.place) }
+    ensures chosen { IfOk result (λ ms. turn_on dialect set.now line.now p.now (last p.now.levels)
+        ≡ step dialect set.now line.now p.now (winner line.now p.now (map (seen line.now p.now.place) ms.items))) }
+    ensures live { IfOk result (λ ms. (members : List Member) × (map (seen line.now p.now.place) ms.items ≡ live dialect line.now p.now members)) }
     ensures refused { IfErr result (RefusesStep (turn_on dialect set.now line.now p.now (last p.now.levels))) }
 {
-    dialect_finds_in_text();
     let Some(top) = p.levels.as_slice().last() else {
-        return Ok(Choice::End);
+        return Ok(Vec::new(alloc));
     };
     let Some(context) = set.context_at(top.context) else {
         return Err(ParsingError::MissingContext(top.context));
@@ -67,8 +66,7 @@ fn choose<'s>(
         return Err(ParsingError::MissingContext(id));
     }
     let entries = chain(alloc, set, room, p, top, context)?;
-    let ms = live(alloc, entries.as_slice(), line, p, region)?;
-    Ok(winner(line, p, ms.as_slice()))
+    Ok(live(alloc, entries.as_slice(), line, p, region)?)
 }
 
 /// Takes a match: its operations, and where the reader then stands.
@@ -122,13 +120,14 @@ pub fn turn(
     ensures turns { IfOk result (Turns dialect set.now line.now p.old p.new ops.old.items ops.new.items) }
     ensures refused { IfErr result (RefusesTurn dialect set.now line.now p.old) }
 {
+    dialect_finds_in_text();
     trim(alloc, p);
-    let choice = match choose(alloc, set, room, line, p, region) {
-        Ok(choice) => choice,
+    let ms = match candidates(alloc, set, room, line, p, region) {
+        Ok(ms) => ms,
         Err(e) => return Err(e),
     };
-    match choice {
-        Choice::Take(m) => match take(alloc, set, line, p, &m, ops) {
+    match winner(line, p, ms.as_slice()) {
+        Choice::Take(m) => match take(alloc, set, line, p, m, ops) {
             Ok(()) => Ok(true),
             Err(e) => Err(e),
         },

@@ -1,32 +1,58 @@
+use Rattle.std.proofs.Common.{◌∙◌, ap}
 use Rattle.syntect_parsing.specs.Engine.{dialect}
-use Rattle.syntect_parsing.specs.Candidates.{seen}
+use Rattle.syntect_parsing.specs.Candidates.{seen, chosen}
+use Rattle.syntect_parsing.specs.Chain.{last}
 use Rattle.syntect_parsing.specs.Turn.{Take, Skip}
-use Rattle.syntect_parsing.specs.Line.{step}
+use Rattle.syntect_parsing.specs.Line.{step, turn_on}
+use Rattle.syntect_parsing.proofs.ChoiceLaws.{choice_stands, step_chosen}
 use Rattle.syntect_parsing.proofs.WholeTurnLaws.{turn_refused, turn_refused_by, turn_makes, turn_ends, skip_makes}
 use Rattle.syntect_parsing.proofs.turn.turn.Goals as goal
 
 pub returns-in-Err-clause-refused : goal.returns-in-Err-clause-refused
 returns-in-Err-clause-refused c = turn_refused c.args.set.now c.args.line.now c.args.p.now c.trim.new.p c.trim.ensures c.in-Err.e c.in-Err.ensures.refused
 
+pub take-requires-clause-stands : goal.take-requires-clause-stands
+take-requires-clause-stands c =
+    rw c.in-Take.is at
+    (choice_stands c.dialect_finds_in_text.ensures.now c.args.line.now c.utf8.line c.trim.new.p c.in-Ok.ensures.live.0 c.in-Ok.ms.items c.winner.result c.in-Ok.ensures.live.1
+    (rw c.as_slice.ensures.value at c.winner.ensures))
+
 pub returns-in-Ok-take-clause-turns : goal.returns-in-Ok-take-clause-turns
 returns-in-Ok-take-clause-turns c =
     turn_makes c.args.set.now c.args.line.now c.args.p.now c.trim.new.p c.trim.ensures
-    (step dialect c.args.set.now c.args.line.now c.trim.new.p (Take (seen c.args.line.now c.trim.new.p.place c.in-Take.m)))
-    c.take.new.p c.args.ops.now.items c.take.new.ops.items (rw c.in-Take.is at c.in-Ok.ensures.chosen) c.in-Ok-take.ensures.makes
+    (step dialect c.args.set.now c.args.line.now c.trim.new.p (Take (seen c.args.line.now c.trim.new.p.place c.in-Take.m.now)))
+    c.take.new.p c.args.ops.now.items c.take.new.ops.items
+    (step_chosen c.args.set.now c.args.line.now c.trim.new.p c.in-Ok.ms.items c.winner.result (turn_on dialect c.args.set.now c.args.line.now c.trim.new.p (last c.trim.new.p.levels)) c.in-Ok.ensures.chosen
+    (rw c.as_slice.ensures.value at c.winner.ensures)
+    ∙ ap (λ x. step dialect c.args.set.now c.args.line.now c.trim.new.p (chosen c.args.line.now c.trim.new.p.place x)) c.in-Take.is)
+    c.in-Ok-take.ensures.makes
 
-pub returns-in-Err-take-clause-refused : goal.returns-in-Err-take-clause-refused
-returns-in-Err-take-clause-refused c =
+pub returns-in-Take-clause-refused : goal.returns-in-Take-clause-refused
+returns-in-Take-clause-refused c =
     turn_refused_by c.args.set.now c.args.line.now c.args.p.now c.trim.new.p c.trim.ensures
-    (step dialect c.args.set.now c.args.line.now c.trim.new.p (Take (seen c.args.line.now c.trim.new.p.place c.in-Take.m)))
-    c.in-Err-take.e (rw c.in-Take.is at c.in-Ok.ensures.chosen) c.in-Err-take.ensures.refused
+    (step dialect c.args.set.now c.args.line.now c.trim.new.p (Take (seen c.args.line.now c.trim.new.p.place c.in-Take.m.now)))
+    c.in-Err-take.e
+    (step_chosen c.args.set.now c.args.line.now c.trim.new.p c.in-Ok.ms.items c.winner.result (turn_on dialect c.args.set.now c.args.line.now c.trim.new.p (last c.trim.new.p.levels)) c.in-Ok.ensures.chosen
+    (rw c.as_slice.ensures.value at c.winner.ensures)
+    ∙ ap (λ x. step dialect c.args.set.now c.args.line.now c.trim.new.p (chosen c.args.line.now c.trim.new.p.place x)) c.in-Take.is)
+    c.in-Err-take.ensures.refused
 
 pub returns-in-Skip-clause-turns : goal.returns-in-Skip-clause-turns
 returns-in-Skip-clause-turns c =
     turn_makes c.args.set.now c.args.line.now c.args.p.now c.trim.new.p c.trim.ensures
     (step dialect c.args.set.now c.args.line.now c.trim.new.p Skip)
-    c.skip.new.p c.args.ops.now.items c.args.ops.now.items (rw c.in-Skip.is at c.in-Ok.ensures.chosen)
-    (rw c.skip.ensures (skip_makes c.args.set.now c.args.line.now c.trim.new.p c.args.ops.now.items c.utf8.line (rw c.trim.ensures c.requires.boundary) (rw c.in-Skip.is at c.in-Ok.ensures.stands)))
+    c.skip.new.p c.args.ops.now.items c.args.ops.now.items
+    (step_chosen c.args.set.now c.args.line.now c.trim.new.p c.in-Ok.ms.items c.winner.result (turn_on dialect c.args.set.now c.args.line.now c.trim.new.p (last c.trim.new.p.levels)) c.in-Ok.ensures.chosen
+    (rw c.as_slice.ensures.value at c.winner.ensures)
+    ∙ ap (λ x. step dialect c.args.set.now c.args.line.now c.trim.new.p (chosen c.args.line.now c.trim.new.p.place x)) c.in-Skip.is)
+    (rw c.skip.ensures (skip_makes c.args.set.now c.args.line.now c.trim.new.p c.args.ops.now.items c.utf8.line (rw c.trim.ensures c.requires.boundary)
+    (rw c.in-Skip.is at
+    (choice_stands c.dialect_finds_in_text.ensures.now c.args.line.now c.utf8.line c.trim.new.p c.in-Ok.ensures.live.0 c.in-Ok.ms.items c.winner.result c.in-Ok.ensures.live.1
+    (rw c.as_slice.ensures.value at c.winner.ensures)))))
 
-pub returns-in-End-clause-turns : goal.returns-in-End-clause-turns
-returns-in-End-clause-turns c =
-    turn_ends c.args.set.now c.args.line.now c.args.p.now c.trim.new.p c.trim.ensures c.args.ops.now.items c.requires.within (rw c.in-End.is at c.in-Ok.ensures.chosen)
+pub returns-clause-turns : goal.returns-clause-turns
+returns-clause-turns c =
+    turn_ends c.args.set.now c.args.line.now c.args.p.now c.trim.new.p c.trim.ensures c.args.ops.now.items c.requires.within
+    (step_chosen c.args.set.now c.args.line.now c.trim.new.p c.in-Ok.ms.items c.winner.result (turn_on dialect c.args.set.now c.args.line.now c.trim.new.p (last c.trim.new.p.levels)) c.in-Ok.ensures.chosen
+    (rw c.as_slice.ensures.value at c.winner.ensures)
+    ∙ ap (λ x. step dialect c.args.set.now c.args.line.now c.trim.new.p (chosen c.args.line.now c.trim.new.p.place x)) c.in-End.is)
