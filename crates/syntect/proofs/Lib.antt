@@ -1,3 +1,5 @@
 pub mod BuiltLaws
 pub mod LeadLaws
 pub mod ExactLaws
+pub mod PageLaws
+pub mod LoadedLaws

@@ -1,3 +1,4 @@
 pub mod Built
 pub mod Errors
 pub mod Leads
+pub mod Pages

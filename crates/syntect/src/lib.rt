@@ -8,6 +8,10 @@
 pub mod easy;
 mod error;
 pub mod highlighting;
+pub mod html;
+pub mod laws;
 pub mod parsing;
+pub mod util;
 
 pub use error::Error;
+pub use syntect_writers::escape;

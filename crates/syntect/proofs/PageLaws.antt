@@ -1,0 +1,115 @@
+-- A page while it is written.
+use Rattle.std.proofs.Common.{◌≡◌, ℕ, List, [], ◌∷◌, ◌++◌, map, refl, sym, ap, ◌∙◌, append_assoc, append-nil, Ok, Err, Bor, inl, inr, Result}
+use Rattle.std.specs.Global.{Vec}
+use Rattle.std.specs.List.{flat_map}
+use Rattle.std.proofs.lemmas.Grind.{flat_map-append}
+use Rattle.std.specs.Prelude.{Option, Some, None}
+use Rattle.syntect_style.specs.declared.style.Style.{Style}
+use Rattle.syntect_style.specs.declared.theme.Theme.{Theme}
+use Rattle.syntect_parsing.specs.Line.{Answer, Accepted, RefusedBy}
+use Rattle.syntect_parsing.specs.declared.parser.ParsingError.{ParsingError}
+use Rattle.syntect_parsing.specs.declared.syntax_set.SyntaxReference.{SyntaxReference}
+use Rattle.syntect_parsing.specs.declared.syntax_set.SyntaxSet.{SyntaxSet}
+use Rattle.syntect_writers.specs.Lines.{lines_of, text_left, GivesLine}
+use Rattle.syntect_writers.specs.declared.lines.LinesWithEndings.{LinesWithEndings}
+use Rattle.syntect_writers.specs.Spans.{line_text, opening, closing, background_of}
+use Rattle.syntect_writers.specs.declared.html.IncludeBackground.TheVariants.{IfDifferent}
+use Rattle.syntect.specs.Leads.{Leads, LeadsOn, LacksStart}
+use Rattle.syntect.specs.Pages.{Row, IsShown, AreShown, lines_in, answers_in, body_text, IsPage, IsRefusedAtALine, HasNoPage}
+use Rattle.syntect.specs.declared.easy.HighlightLines.{HighlightLines}
+use Rattle.syntect.specs.declared.error.Error.{Error}
+use Rattle.syntect.specs.declared.error.Error.TheVariants as error
+
+-- the rows of the lines so far are on the page
+pub record IsSoFar (set : SyntaxSet) (theme : Theme) (syntax : SyntaxReference) (text left page : List ℕ) (h : HighlightLines) : Type 0 where
+  pub rows : List Row
+  pub leads : Leads set theme syntax (lines_in rows) (answers_in rows) h
+  pub lines : lines_in rows ++ lines_of left ≡ lines_of text
+  pub shown : AreShown theme rows
+  pub written : page ≡ opening theme ++ body_text theme rows
+
+pub so_far_none : (set : SyntaxSet) (theme : Theme) (syntax : SyntaxReference) (text left page : List ℕ) (h : HighlightLines) → Leads set theme syntax [] [] h → left ≡ text → page ≡ opening theme
+    → IsSoFar set theme syntax text left page h
+so_far_none set theme syntax text left page h l e f = record {
+  rows = [];
+  leads = l;
+  lines = ap lines_of e;
+  shown = tt;
+  written = f ∙ sym (append-nil (opening theme));
+}
+
+map_last : {X Y : Type 0} (f : X → Y) (xs : List X) (x : X) → map f (xs ++ x ∷ []) ≡ map f xs ++ f x ∷ []
+map_last f [] x = refl
+map_last f (y ∷ ys) x = ap (λ zs. f y ∷ zs) (map_last f ys x)
+
+shown_last : (theme : Theme) (rows : List Row) (row : Row) → AreShown theme rows → IsShown theme row → AreShown theme (rows ++ row ∷ [])
+shown_last theme [] row s t = (t, tt)
+shown_last theme (r ∷ rows) row s t = (s.0, shown_last theme rows row s.1 t)
+
+pub so_far_more : (set : SyntaxSet) (theme : Theme) (syntax : SyntaxReference) (text left rest page next : List ℕ) (line : Bor (List ℕ)) (h new : HighlightLines) (pieces : Vec (Style × Bor (List ℕ)))
+    (s : IsSoFar set theme syntax text left page h)
+    → LeadsOn set theme syntax (lines_in s.rows) (answers_in s.rows) line new (Ok pieces)
+    → lines_of left ≡ line.now ∷ lines_of rest
+    → next ≡ page ++ line_text (IfDifferent (background_of theme)) pieces.items
+    → IsSoFar set theme syntax text rest next new
+so_far_more set theme syntax text left rest page next line h new pieces s l e f =
+    let row : Row = record { line = line.now; scopes = l.0; pieces = pieces.items } in
+    let some : List Row = s.rows ++ row ∷ [] in
+    record {
+      rows = some;
+      leads = rw (map_last (λ (r : Row). r.line) s.rows row, map_last (λ (r : Row). Accepted r.scopes) s.rows row) l.1;
+      lines =
+          ap (λ xs. xs ++ lines_of rest) (map_last (λ (r : Row). r.line) s.rows row)
+          ∙ append_assoc (lines_in s.rows) (line.now ∷ []) (lines_of rest)
+          ∙ ap (λ xs. lines_in s.rows ++ xs) (sym e)
+          ∙ s.lines;
+      shown = shown_last theme s.rows row s.shown (l.2, l.3);
+      written =
+          f ∙ ap (λ (xs : List ℕ). xs ++ line_text (IfDifferent (background_of theme)) pieces.items) s.written
+          ∙ append_assoc (opening theme) (body_text theme s.rows) _
+          ∙ ap (λ (xs : List ℕ). opening theme ++ xs)
+          (ap (λ (xs : List ℕ). body_text theme s.rows ++ xs) (sym (append-nil (line_text (IfDifferent (background_of theme)) pieces.items)))
+          ∙ sym (flat_map-append (λ (r : Row). line_text (IfDifferent (background_of theme)) r.pieces) s.rows (row ∷ [])));
+    }
+
+pub page_whole : (set : SyntaxSet) (theme : Theme) (syntax : SyntaxReference) (text left page whole : List ℕ) (h : HighlightLines) → IsSoFar set theme syntax text left page h → lines_of left ≡ [] → whole ≡ page ++ closing
+    → IsPage set theme syntax text whole
+page_whole set theme syntax text left page whole h s e f = record {
+  rows = s.rows;
+  start = s.leads.start;
+  after = h.parse_state;
+  begins = s.leads.begins;
+  lines = sym (append-nil (lines_in s.rows)) ∙ ap (λ xs. lines_in s.rows ++ xs) (sym e) ∙ s.lines;
+  run = s.leads.run;
+  shown = s.shown;
+  written = f ∙ ap (λ (xs : List ℕ). xs ++ closing) s.written ∙ append_assoc (opening theme) (body_text theme s.rows) closing;
+}
+
+pub no_page : (set : SyntaxSet) (theme : Theme) (syntax : SyntaxReference) (text left page : List ℕ) (line : Bor (List ℕ)) (rest : List (List ℕ)) (h new : HighlightLines) (e : Error)
+    (s : IsSoFar set theme syntax text left page h)
+    → LeadsOn set theme syntax (lines_in s.rows) (answers_in s.rows) line new (Err e)
+    → lines_of left ≡ line.now ∷ rest → HasNoPage set syntax text e
+no_page set theme syntax text left page line rest h new (error.ParsingError e) s l f =
+    inr (record {
+      rows = s.rows;
+      line = line.now;
+      rest = rest;
+      start = l.start;
+      after = new.parse_state;
+      begins = l.begins;
+      lines = ap (λ xs. lines_in s.rows ++ xs) (sym f) ∙ s.lines;
+      run = l.run;
+    })
+no_page set theme syntax text left page line rest h new error.Memory s l f = tt
+no_page set theme syntax text left page line rest h new (error.ScopeError e) s l f = absurd l
+no_page set theme syntax text left page line rest h new (error.Fmt e) s l f = absurd l
+no_page set theme syntax text left page line rest h new (error.Io e) s l f = absurd l
+no_page set theme syntax text left page line rest h new error.NoSyntax s l f = absurd l
+
+pub no_start : (set : SyntaxSet) (syntax : SyntaxReference) (text : List ℕ) (e : Error) → LacksStart syntax e → HasNoPage set syntax text e
+no_start set syntax text (error.ParsingError e) l = inl l
+no_start set syntax text error.Memory l = tt
+no_start set syntax text (error.ScopeError e) l = absurd l
+no_start set syntax text (error.Fmt e) l = absurd l
+no_start set syntax text (error.Io e) l = absurd l
+no_start set syntax text error.NoSyntax l = absurd l

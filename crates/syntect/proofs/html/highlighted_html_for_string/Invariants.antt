@@ -1,0 +1,11 @@
+use Rattle.std.proofs.Common.{◌≡◌, List, string_bytes}
+use Rattle.syntect_parsing.specs.declared.syntax_definition.SyntaxDefinition.{SyntaxDefinition}
+use Rattle.syntect_writers.specs.Lines.{text_left}
+use Rattle.syntect.specs.Built.{IsBuiltOf}
+use Rattle.syntect.proofs.PageLaws.{IsSoFar}
+use Rattle.syntect.proofs.html.highlighted_html_for_string.Given as goal
+
+abbrev pub invariant-loop-line : goal.invariant-loop-line
+invariant-loop-line l =
+    (definitions : List SyntaxDefinition) → IsBuiltOf l.ss l.syntax definitions
+    → IsSoFar l.ss l.theme l.syntax l.s (text_left l.line-iterator) (string_bytes l.page) l.highlighter

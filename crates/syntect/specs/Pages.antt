@@ -1,0 +1,74 @@
+-- What a page of HTML shows of a text.
+use Rattle.std.specs.Prelude.{◌≡◌, ℕ, List, [], ◌∷◌, ◌++◌, map, Some, ◌⊎◌}
+use Rattle.std.specs.List.{flat_map}
+use Rattle.std.specs.Borrow.{Bor}
+use Rattle.syntect_style.specs.Pieces.{Joins, IsStyled}
+use Rattle.syntect_style.specs.declared.style.Style.{Style}
+use Rattle.syntect_style.specs.declared.theme.Theme.{Theme}
+use Rattle.syntect_parsing.specs.Engine.{dialect}
+use Rattle.syntect_parsing.specs.Line.{Answer, Accepted, RefusedBy, AnswersAll, start_of}
+use Rattle.syntect_parsing.specs.declared.parser.ParseState.{ParseState}
+use Rattle.syntect_parsing.specs.declared.parser.ParsingError.{ParsingError}
+use Rattle.syntect_parsing.specs.declared.syntax_set.SyntaxReference.{SyntaxReference}
+use Rattle.syntect_parsing.specs.declared.syntax_set.SyntaxSet.{SyntaxSet}
+use Rattle.syntect_writers.specs.Lines.{lines_of}
+use Rattle.syntect_writers.specs.Spans.{line_text, opening, closing, background_of}
+use Rattle.syntect_writers.specs.declared.html.IncludeBackground.TheVariants.{IfDifferent}
+use Rattle.syntect.specs.Leads.{LacksStart}
+use Rattle.syntect.specs.declared.error.Error.{Error}
+use Rattle.syntect.specs.declared.error.Error.TheVariants as error
+
+-- a line, the scopes that its reading gives each byte, and the pieces that it is shown in
+pub record Row : Type 0 where
+  pub line : List ℕ
+  pub scopes : List (List (List ℕ))
+  pub pieces : List (Style × Bor (List ℕ))
+
+-- the pieces join to the line, none is empty, and each byte has the theme's style for its scopes
+abbrev pub IsShown : Theme → Row → Type 0
+IsShown theme row = Joins row.line row.pieces × IsStyled theme row.scopes row.pieces
+
+abbrev pub AreShown : Theme → List Row → Type 0
+AreShown theme [] = Unit {0}
+AreShown theme (row ∷ rows) = IsShown theme row × AreShown theme rows
+
+abbrev pub lines_in : List Row → List (List ℕ)
+lines_in rows = map (λ row. row.line) rows
+
+abbrev pub answers_in : List Row → List Answer
+answers_in rows = map (λ row. Accepted row.scopes) rows
+
+-- the lines of rows as HTML: the colour behind the theme's text is not told again
+abbrev pub body_text : Theme → List Row → List ℕ
+body_text theme rows = flat_map (λ row. line_text (IfDifferent (background_of theme)) row.pieces) rows
+
+-- The page shows the text's lines, each read from the state that the lines before it leave, between the theme's frame.
+pub record IsPage (set : SyntaxSet) (theme : Theme) (syntax : SyntaxReference) (text page : List ℕ) : Type 0 where
+  pub rows : List Row
+  pub start : ParseState
+  pub after : ParseState
+  pub begins : start_of syntax ≡ Some start
+  pub lines : lines_in rows ≡ lines_of text
+  pub run : AnswersAll dialect set (lines_in rows) start (answers_in rows) after
+  pub shown : AreShown theme rows
+  pub written : page ≡ opening theme ++ (body_text theme rows ++ closing)
+
+-- The text's lines up to one are read, and that one is refused so.
+pub record IsRefusedAtALine (set : SyntaxSet) (syntax : SyntaxReference) (text : List ℕ) (e : ParsingError) : Type 0 where
+  pub rows : List Row
+  pub line : List ℕ
+  pub rest : List (List ℕ)
+  pub start : ParseState
+  pub after : ParseState
+  pub begins : start_of syntax ≡ Some start
+  pub lines : lines_in rows ++ line ∷ rest ≡ lines_of text
+  pub run : AnswersAll dialect set (lines_in rows ++ line ∷ []) start (answers_in rows ++ RefusedBy e ∷ []) after
+
+-- there is no page: the syntax has no `__start`, or a line is refused, or there was no memory
+abbrev pub HasNoPage : SyntaxSet → SyntaxReference → List ℕ → Error → Type 0
+HasNoPage set syntax text (error.ParsingError e) = LacksStart syntax (error.ParsingError e) ⊎ IsRefusedAtALine set syntax text e
+HasNoPage set syntax text error.Memory = Unit {0}
+HasNoPage set syntax text (error.ScopeError e) = ⊥
+HasNoPage set syntax text (error.Fmt e) = ⊥
+HasNoPage set syntax text (error.Io e) = ⊥
+HasNoPage set syntax text error.NoSyntax = ⊥
