@@ -1,1 +1,2 @@
 pub mod Third
+pub mod Grammars

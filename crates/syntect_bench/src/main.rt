@@ -2,8 +2,8 @@
 //!
 //! With a word FILE it prints the pieces of that text file's lines by the contexts and the theme of example 17, and with
 //! `time FILE N` how fast that goes over N runs. With `time atoms` it prints how long a repository takes for 60000 new
-//! atoms, with `time searches` how long searches take a character, and with `time yaml FOLDER` how long the files of
-//! the folder take to be read as YAML. With `answers FILE` it prints what the pattern engine answers to the queries of a
+//! atoms, with `time searches` how long searches take a character, and with `time yaml FOLDER` and `time load FOLDER` how
+//! long the files of the folder take to be read as YAML, and to be loaded as grammars. With `answers FILE` it prints what the pattern engine answers to the queries of a
 //! file, and with `regexbench FILE N` how long they take.
 #![tactic(auto)]
 
@@ -11,13 +11,18 @@ mod documents;
 mod files;
 mod grammars;
 mod lines;
+mod loaded;
+mod loading;
 mod make;
+mod pages;
 mod queries;
 mod rows;
 mod searches;
+mod searching;
 mod third;
+mod whole;
 
-use crate::documents::time_documents;
+use crate::documents::{time_documents, time_loads};
 use crate::files::{show, time};
 use crate::queries::{answers, count_patterns, time_queries};
 use crate::rows::{ROWS, holds};
@@ -50,7 +55,7 @@ fn main(rt: HostRuntime) -> io::Result<ExitCode> {
 /// What the words can be.
 fn usage(rt: &impl Eprint) -> io::Result<ExitCode> {
     eprintln!(rt;
-        "usage: syntect_bench [FILE | time FILE N | time atoms | time searches | time yaml FOLDER | answers FILE | regexbench FILE N]"
+        "usage: syntect_bench [FILE | time FILE N | time atoms | time searches | time yaml FOLDER | time load FOLDER | answers FILE | regexbench FILE N]"
     )?;
     Ok(ExitCode::from(2))
 }
@@ -78,6 +83,9 @@ fn timed_file(
 ) -> io::Result<ExitCode> {
     if (word, path) == ("time", "yaml") {
         return time_documents(rt, rounds);
+    }
+    if (word, path) == ("time", "load") {
+        return time_loads(rt, rounds);
     }
     match (word, rounds.parse::<u32>()) {
         ("time", Ok(rounds)) => time(rt, path, rounds),

@@ -193,9 +193,17 @@ pub fn answers(
     Ok(ExitCode::SUCCESS)
 }
 
-/// How many of the patterns of a file, with a line `%%` between two, are patterns, and how many are none.
-pub fn count_patterns(rt: &(impl AllocGlobal + Files), path: &str) -> io::Result<(u32, u32)> {
-    let text = fs::read_to_string(rt, path)?;
+/// The text of a file in the folder, or in `data` below it.
+fn read_data(rt: &(impl AllocGlobal + Files), name: &str) -> io::Result<String> {
+    match fs::read_to_string(rt, name) {
+        Ok(text) => Ok(text),
+        Err(_) => fs::read_to_string(rt, format!(in rt.alloc(); "data/{name}")?.as_str()),
+    }
+}
+
+/// How many of the texts of a file, with a line `%%` between two, are patterns, and how many are none.
+pub fn count_patterns(rt: &(impl AllocGlobal + Files), name: &str) -> io::Result<(u32, u32)> {
+    let text = read_data(rt, name)?;
     let mut patterns = 0u32;
     let mut others = 0u32;
     for pattern in text.as_str().split("\n%%\n") {

@@ -1,6 +1,10 @@
 //! The worked examples.
 use crate::lines::{first_line, no_start, unresolved_line};
+use crate::loaded::{heredoc, letters, page};
+use crate::loading::{captures, embeds, grammar, names, refusals, starts};
 use crate::make::{foreground, grey, scope, scopes, theme};
+use crate::pages::{escaped_page, leading_space_page, two_line_page, word_page};
+use crate::searching::{long_loop, references};
 use std::alloc::Global;
 use syntect_scope::repository::{ParseScopeError, ScopeRepository};
 use syntect_scope::stack::{ClearAmount, ScopeError, ScopeStack, ScopeStackOp};
@@ -23,17 +27,62 @@ pub enum Row {
     UnresolvedLine,
     /// A syntax without a first context.
     NoStart,
+    /// A page of HTML.
+    WordPage,
+    /// Characters that have a meaning in HTML.
+    EscapedPage,
+    /// Spans end with their line.
+    TwoLinePage,
+    /// White space at the front of a piece.
+    LeadingSpacePage,
+    /// Lines of a loaded grammar.
+    Letters,
+    /// A back reference into an earlier line.
+    Heredoc,
+    /// Texts that are no grammar.
+    RefusedGrammars,
+    /// Names of grammars.
+    NamesOfGrammars,
+    /// Captures that are kept.
+    KeptCaptures,
+    /// A grammar with references of each kind.
+    Grammar,
+    /// The contexts that are made for the start.
+    StartsOfGrammars,
+    /// The contexts of an `embed`.
+    Embeds,
+    /// Back references that give way to groups.
+    References,
+    /// A loop of many turns.
+    LongLoop,
+    /// A page from the text of a grammar.
+    WholePage,
 }
 
 /// The examples in order, by their labels.
-pub const ROWS: [(&str, Row); 7] = [
+pub const ROWS: [(&str, Row); 22] = [
+    ("1", Row::Letters),
+    ("3", Row::WordPage),
     ("4", Row::DeepestPlace),
     ("5", Row::LowerPlace),
+    ("9", Row::Heredoc),
     ("13", Row::TextsOfScopes),
+    ("14", Row::RefusedGrammars),
     ("17", Row::FirstLine),
     ("19", Row::ClearedScopes),
+    ("24", Row::References),
     ("R1.1", Row::UnresolvedLine),
     ("R1.2", Row::NoStart),
+    ("R2.12", Row::LongLoop),
+    ("R6.1", Row::EscapedPage),
+    ("R6.2", Row::TwoLinePage),
+    ("R6.5", Row::LeadingSpacePage),
+    ("names", Row::NamesOfGrammars),
+    ("captures", Row::KeptCaptures),
+    ("grammar", Row::Grammar),
+    ("starts", Row::StartsOfGrammars),
+    ("embeds", Row::Embeds),
+    ("page", Row::WholePage),
 ];
 
 /// Whether an example comes out as it is written. Want of memory counts as no.
@@ -46,6 +95,21 @@ pub fn holds(alloc: Global, row: Row) -> bool {
         Row::ClearedScopes => cleared_scopes(alloc),
         Row::UnresolvedLine => unresolved_line(alloc),
         Row::NoStart => no_start(alloc),
+        Row::WordPage => word_page(alloc),
+        Row::EscapedPage => escaped_page(alloc),
+        Row::TwoLinePage => two_line_page(alloc),
+        Row::LeadingSpacePage => leading_space_page(alloc),
+        Row::Letters => letters(alloc),
+        Row::Heredoc => heredoc(alloc),
+        Row::RefusedGrammars => refusals(alloc),
+        Row::NamesOfGrammars => names(alloc),
+        Row::KeptCaptures => captures(alloc),
+        Row::Grammar => grammar(alloc),
+        Row::StartsOfGrammars => starts(alloc),
+        Row::Embeds => embeds(alloc),
+        Row::References => references(alloc),
+        Row::LongLoop => long_loop(alloc),
+        Row::WholePage => page(alloc),
     };
     outcome.unwrap_or(false)
 }

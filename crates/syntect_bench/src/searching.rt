@@ -1,0 +1,66 @@
+//! The examples about patterns.
+use std::alloc::Global;
+use syntect_parsing::syntax_definition::{MatchOperation, MatchPattern};
+use syntect_regex::regex::Regex;
+use syntect_regex::region::Region;
+use syntect_values::seq::Seq;
+
+/// How long the line of a long loop is.
+const LONG: usize = 100000;
+
+fn regex(alloc: Global, text: &str) -> Option<Regex> {
+    Regex::new(alloc, String::from_str(alloc, text).ok()?).ok()
+}
+
+/// A pattern that pops, with back references.
+fn popping(alloc: Global, text: &str) -> Option<MatchPattern> {
+    let text = String::from_str(alloc, text).ok()?;
+    MatchPattern::new(
+        alloc,
+        true,
+        text,
+        Seq::new(alloc),
+        None,
+        MatchOperation::Pop,
+        None,
+    )
+    .ok()
+}
+
+/// The pattern with the groups of the first match in a text; none where there is no match.
+fn substituted(
+    alloc: Global,
+    opening: &Regex,
+    pattern: &MatchPattern,
+    text: &str,
+) -> Option<Regex> {
+    let mut region = Region::new(alloc);
+    let Ok(found) = opening.search_into(text, 0, text.len(), &mut region) else {
+        return None;
+    };
+    if !found {
+        return None;
+    }
+    pattern.regex_with_refs(&region, text).ok()
+}
+
+/// References give way to the texts of groups, escaped.
+pub fn references(alloc: Global) -> Option<bool> {
+    let opening = regex(alloc, "(\\\\\\[\\]\\(\\))(b)(c)(d)(e)")?;
+    let pattern = popping(alloc, "lol \\\\ \\2 \\1 '\\9' \\wz")?;
+    let made = substituted(alloc, &opening, &pattern, "\\[]()bcde")?;
+    Some(made.regex_str() == "lol \\\\ b \\\\\\[\\]\\(\\) '' \\wz")
+}
+
+/// The choices of a long loop stand in lists.
+pub fn long_loop(alloc: Global) -> Option<bool> {
+    let mut line = String::new(alloc);
+    for _ in 0..LONG {
+        line.push('a').ok()?;
+    }
+    let line = line.as_str();
+    let regex = regex(alloc, "(a|b)*")?;
+    let mut region = Region::new(alloc);
+    let found = regex.search_into(line, 0, line.len(), &mut region).ok()?;
+    Some(found && region.pos(0) == Some((0, LONG)) && region.pos(1) == Some((LONG - 1, LONG)))
+}
