@@ -5,8 +5,8 @@ use Rattle.std.proofs.lemmas.Bool.{lt-ltb, le-ltb, cases_lt}
 use Rattle.std.proofs.Math.ListN.{get_or-append}
 use Rattle.std.proofs.Math.Seq.{get_or-append_seam}
 use Rattle.syntect_pattern.specs.Trees.{Tree, nothing}
-use Rattle.syntect_pattern.specs.Starts.{start_at, Begin, begins_of, reads, stays}
-use Rattle.syntect_pattern.specs.declared.starts.Begins.{Begins}
+use Rattle.syntect_pattern.specs.Starts.{start_at, Begin, begins, begins_at, reads, stays}
+use Rattle.syntect_pattern.specs.declared.starts.Firsts.{Firsts}
 use Rattle.syntect_pattern.specs.Program.{CannotBegin}
 use Rattle.syntect_pattern.specs.declared.program.Program.{Program}
 use Rattle.syntect_pattern.proofs.StartLaws.{found_at-nothing}
@@ -41,8 +41,8 @@ cannot_begin-at s p i m h is f = elim (cases_lt (get_or s i 0) 128) [
 ]
 
 -- one more node's beginning
-pub Begin-push : (x : ℕ) (bs : List Begins) (ts : List Tree) (b : Begins) (k : ℕ) → Begin x bs ts → length bs ≡ k → b ≡ begins_of x (get_or ts k nothing) → Begin x (bs ++ b ∷ []) ts
-Begin-push x bs ts b k h e is j d l =
-    below_more (λ n. (c : Begins) → get_or (bs ++ b ∷ []) n c ≡ begins_of x (get_or ts n nothing)) (length bs)
-    (λ n p c. get_or-append bs (b ∷ []) c n p ∙ h n c p)
-    (λ c. get_or-append_seam bs b [] c ∙ is ∙ ap (λ n. begins_of x (get_or ts n nothing)) (sym e)) j (omega (arith, length-append bs (b ∷ []))) d
+pub Begin-push : (x : ℕ) (fs : List Firsts) (ts : List Tree) (f : Firsts) (k : ℕ) → Begin x fs ts → length fs ≡ k → begins_at x f ≡ begins x (get_or ts k nothing) → Begin x (fs ++ f ∷ []) ts
+Begin-push x fs ts f k h e is j d l =
+    below_more (λ n. (c : Firsts) → begins_at x (get_or (fs ++ f ∷ []) n c) ≡ begins x (get_or ts n nothing)) (length fs)
+    (λ n p c. ap (begins_at x) (get_or-append fs (f ∷ []) c n p) ∙ h n c p)
+    (λ c. ap (begins_at x) (get_or-append_seam fs f [] c) ∙ is ∙ ap (λ n. begins x (get_or ts n nothing)) (sym e)) j (omega (arith, length-append fs (f ∷ []))) d

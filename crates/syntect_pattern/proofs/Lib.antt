@@ -27,5 +27,6 @@ pub mod BuilderLaws
 pub mod JoinLaws
 pub mod StartLaws
 pub mod BeginLaws
+pub mod PlaceLaws
 pub mod PatternLaws
 pub mod LookLaws

@@ -58,7 +58,7 @@ pub sets-push : (ps : List Part) (p : Part) → sets (ps ++ p ∷ []) ≡ sets p
 unfolding sets
 sets-push ps p = sets-append [] ps (p ∷ [])
 
-get_or-past : (ts : List Set) (k : ℕ) → length ts ≤ k → get_or ts k none ≡ none
+pub get_or-past : (ts : List Set) (k : ℕ) → length ts ≤ k → get_or ts k none ≡ none
 get_or-past [] zero h = refl
 get_or-past [] (suc k) h = refl
 get_or-past (t ∷ ts) zero h = absurd (omega arith)

@@ -1,5 +1,6 @@
 -- The sets of a table of parts, each of which stands behind those that it is made of.
-use Rattle.std.specs.Prelude.{◌≡◌, ℕ, ◌<◌, ◌≤◌, Bool, true, ◌&&◌, nat_lt, List, [], ◌∷◌, ◌++◌, length, slice_index_or}
+use Rattle.std.specs.Prelude.{◌≡◌, ℕ, ◌<◌, ◌≤◌, Bool, true, ◌&&◌, ◌==◌, nat_lt, List, [], ◌∷◌, ◌++◌, length, slice_index_or}
+use Rattle.std.specs.Int.{bit_at}
 use Rattle.ucd_category.specs.declared.GeneralCategoryGroup.TheVariants.{Letter, Number}
 use Rattle.syntect_pattern.specs.Sets.{Set, none, range, alike, category, categories, word, space, either, both, negated, hex_digit, holds}
 use Rattle.syntect_pattern.specs.declared.sets.Named.{Named}
@@ -61,6 +62,10 @@ pub record HasSet (parts : List Part) (k : ℕ) (a : Set) : Type 0 where
   pub inside : k < length parts
   pub is : set_in parts k ≡ a
 
--- for each ASCII character whether it is in the set
-abbrev pub AreFlags : List Bool → Set → Type 0
-AreFlags flags a = (b : ℕ) → b < 128 → slice_index_or flags b true ≡ holds a b
+-- a bit for each ASCII character, whether it is in the set
+abbrev pub AreFlags : ℕ → Set → Type 0
+AreFlags bits a = (x : ℕ) → x < 128 → (bit_at bits x == 1) ≡ holds a x
+
+-- of each set the bit of this character
+abbrev pub AreBits : ℕ → List ℕ → List Set → Type 0
+AreBits x bits ss = (k : ℕ) (d : ℕ) → k < length bits → (bit_at (slice_index_or bits k d) x == 1) ≡ holds (slice_index_or ss k none) x

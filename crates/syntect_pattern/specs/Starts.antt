@@ -1,7 +1,9 @@
 -- Where a match can begin, as far as the byte there tells.
 use Rattle.std.specs.Prelude.{◌≡◌, ◌<◌, ℕ, Bool, true, false, not, ◌&&◌, ◌||◌, ◌==◌, nat_lt, List, length, if◌then◌else◌, slice_index, slice_index_or}
 use Rattle.syntect_pattern.specs.Sets.{Set, holds}
-use Rattle.syntect_pattern.specs.declared.starts.Begins.{Begins}
+use Rattle.syntect_pattern.specs.declared.starts.Firsts.{Firsts}
+use Rattle.syntect_pattern.specs.declared.starts.Places.{Places}
+use Rattle.std.specs.Int.{bit_at}
 use Rattle.syntect_pattern.specs.Trees.{Anchor, line_end, text_end, last_line_end, Tree, nothing, one_of, anchor, same, seq, alt, repeat, group, atomic, ahead, behind}
 
 -- what stands at a place: an ASCII character, 128 for any other one, and 129 for the text's end
@@ -47,13 +49,38 @@ abbrev mutual
   stays (ahead negated a) x = negated || (reads a x || stays a x)
   stays (behind negated a) x = true
 
--- the same as the code has it
-abbrev pub begins_of : ℕ → Tree → Begins
-begins_of x t = record { read = reads t x; stay = stays t x }
+-- whether a match can read something, and whether one can read nothing
+pub record Begins : Type 0 where
+  pub read : Bool
+  pub stay : Bool
+
+abbrev pub begins : ℕ → Tree → Begins
+begins x t = record { read = reads t x; stay = stays t x }
+
+-- a part behind another, one of two parts, a loop, a lookahead
+abbrev pub sequence_begins : Begins → Begins → Begins
+sequence_begins a b = record { read = a.read || (a.stay && b.read); stay = a.stay && b.stay }
+
+abbrev pub either_begins : Begins → Begins → Begins
+either_begins a b = record { read = a.read || b.read; stay = a.stay || b.stay }
+
+abbrev pub looped_begins : Bool → Begins → Begins
+looped_begins none a = record { read = a.read; stay = none || a.stay }
+
+abbrev pub looked_begins : Bool → Begins → Begins
+looked_begins negated a = record { read = false; stay = negated || (a.read || a.stay) }
+
+-- it is among what can stand there
+unfoldable pub is_in : Places → ℕ → Bool
+is_in p x = if nat_lt x 128 then bit_at p.ascii x == 1 else (if x == 128 then p.wide else p.end)
+
+-- how the parts with these firsts begin
+abbrev pub begins_at : ℕ → Firsts → Begins
+begins_at x f = record { read = is_in f.read x; stay = is_in f.stay x }
 
 -- so begin these trees
-abbrev pub Begin : ℕ → List Begins → List Tree → Type 0
-Begin x bs ts = (k : ℕ) (d : Begins) → k < length bs → slice_index_or bs k d ≡ begins_of x (slice_index_or ts k nothing)
+abbrev pub Begin : ℕ → List Firsts → List Tree → Type 0
+Begin x fs ts = (k : ℕ) (d : Firsts) → k < length fs → begins_at x (slice_index_or fs k d) ≡ begins x (slice_index_or ts k nothing)
 
 -- for all that can stand there whether a match can begin
 abbrev pub AreStarts : List Bool → Tree → Type 0

@@ -5,6 +5,7 @@ ghost use Rattle.syntect_pattern.specs.Found.{FindsPatternMatches};
 ghost use Rattle.syntect_pattern.specs.Grammar.{ReadsEnough, NumbersGroups};
 ghost use Rattle.syntect_pattern.specs.Nesting.{FindsMatches, TurnsEnough};
 
+mod ascii;
 mod builder;
 pub mod character;
 mod classes;
@@ -21,8 +22,6 @@ mod reader;
 pub mod sets;
 mod starts;
 pub mod table;
-#[cfg(test)]
-mod tests;
 mod text;
 mod tokens;
 

@@ -1,10 +1,12 @@
 //! Sets of characters, kept so that an ASCII character is looked up at once.
-ghost use Rattle.std.specs.Prelude.{◌≡◌, ◌<◌, ◌||◌, ◌&&◌, ◌==◌, nat_le, IfOk, slice_index_or, true};
+ghost use Rattle.std.specs.Prelude.{◌≡◌, ◌<◌, ◌||◌, ◌&&◌, ◌==◌, nat_le, IfOk, slice_index_or};
+ghost use Rattle.std.specs.Int.{bit_at};
 ghost use Rattle.std.specs.List.{list_any};
 ghost use Rattle.ucd_category.specs.GeneralCategoryGroup.{in_group};
 ghost use Rattle.syntect_pattern.specs.Sets.{holds, range, is_within, is_word, is_word_category, is_alike};
 ghost use Rattle.syntect_pattern.specs.SetTable.{AreFlags, AreOrdered, set_in, set_of_named};
 
+use crate::ascii::ascii_bits;
 use crate::character::{is_word, same_fold};
 use std::alloc::{AllocError, Global};
 use syntect_values::seq::Seq;
@@ -57,7 +59,7 @@ fn is_within(low: char, high: char, c: char) -> bool
 }
 
 /// Whether simple folding makes the character equal to one from the first to the last.
-fn is_alike(low: char, high: char, c: char) -> bool
+pub fn is_alike(low: char, high: char, c: char) -> bool
     ensures { result ≡ is_alike low high c }
 {
     if is_within(low, high, c) {
@@ -128,24 +130,13 @@ fn holds_at(parts: &[Part], root: usize, c: char) -> bool
     }
 }
 
-/// For each ASCII character whether the part at the place holds it.
-fn ascii_flags(alloc: Global, parts: &[Part], root: usize) -> Result<Seq<bool>, AllocError>
-    requires { AreOrdered parts.now }
-    ensures { IfOk result (λ flags. AreFlags flags (set_in parts.now root)) }
-{
-    let mut flags = Vec::with_capacity(alloc, 128)?;
-    for b in 0..128u8 {
-        flags.push(holds_at(parts, root, b as char))?;
-    }
-    Ok(Seq::from_vec(flags))
-}
-
 /// A set of characters, made of parts, with its ASCII characters beside.
 #[derive(Debug, Drop)]
 pub struct Class {
     parts: Seq<Part>,
     root: usize,
-    ascii: Seq<bool>,
+    /// A bit for each ASCII character.
+    ascii: u128,
     ghost ordered: { AreOrdered parts },
     ghost flagged: { AreFlags ascii (set_in parts root) },
 }
@@ -158,8 +149,15 @@ impl Class {
         requires { AreOrdered parts }
         ensures { IfOk result (λ s. set_of s ≡ set_in parts root) }
     {
-        let ascii = ascii_flags(alloc, parts.as_slice(), root)?;
+        let ascii = ascii_bits(alloc, parts.as_slice(), root)?;
         Ok(Class { parts, root, ascii })
+    }
+
+    /// Its ASCII characters, a bit for each.
+    pub fn ascii(&self) -> u128
+        ensures { AreFlags result (set_of self.now) }
+    {
+        self.ascii
     }
 
     /// Whether the character is in the set.
@@ -167,16 +165,19 @@ impl Class {
         ensures { result ≡ holds (set_of self.now) c }
     {
         if c.is_ascii() {
-            flag_at(self.ascii.as_slice(), c)
+            has_bit(self.ascii, c as u32)
         } else {
             holds_at(self.parts.as_slice(), self.root, c)
         }
     }
 }
 
-/// The flag of the character, which is true past the end.
-fn flag_at(flags: &[bool], c: char) -> bool
-    ensures { result ≡ slice_index_or flags.now c true }
+/// Whether the bit is set.
+#[inline(always)]
+#[tactic(auto, using(crate::proofs::PlaceLaws::is_bit))]
+pub fn has_bit(bits: u128, x: u32) -> bool
+    requires { x < 128 }
+    ensures { result ≡ (bit_at bits x == 1) }
 {
-    flags.get(c as usize).copied().unwrap_or(true)
+    (bits >> x) & 1 == 1
 }

@@ -1,12 +1,12 @@
 -- What is left to write, from turn to turn.
-use Rattle.std.proofs.Common.{◌≡◌, ℕ, zero, suc, ◌<◌, ◌≤◌, ◌+◌, ◌*◌, Bool, true, false, List, [], ◌∷◌, ◌++◌, length, take, drop, Option, Some, None, refl, sym, ap, ◌∙◌, arith, append_assoc, append-nil, length-append}
+use Rattle.std.proofs.Common.{◌≡◌, ℕ, zero, suc, ◌<◌, ◌+◌, Bool, true, false, List, [], ◌∷◌, ◌++◌, length, take, drop, Option, Some, None, refl, ap, ◌∙◌, arith, append_assoc}
 use Rattle.std.specs.Prelude.{flat_map}
 use Rattle.std.specs.Map.{lookup}
 use Rattle.std.specs.Str.{bytes_eq}
 use Rattle.syntect_rewrite.specs.Cutting.{char_len, parts}
 use Rattle.syntect_rewrite.specs.Variables.{Variables, Part, itself, use_of, is_use, name_len, name, part_len, part, without, value_by, written_by, expanded_within, expanded}
 use Rattle.syntect_rewrite.specs.declared.expand.Frame.{Frame}
-use Rattle.syntect_rewrite.specs.Expanding.{marked_value, marked_part, marked_within, marked, inner, left, turns, Enters, Closes}
+use Rattle.syntect_rewrite.specs.Expanding.{marked_value, marked_part, marked_within, marked, inner, left}
 use Rattle.syntect_rewrite.proofs.CuttingLaws.{flat-cons, parts-none, char_some}
 use Rattle.syntect_rewrite.proofs.VariableLaws.{without-lt}
 
@@ -24,7 +24,7 @@ plain_part : (n : ℕ) (vs : Variables) (p : Part) → ((us : Variables) (t : Li
 plain_part n vs (itself c) h = refl
 plain_part n vs (use_of name) h = plain_value n vs name (lookup (bytes_eq name) vs) h
 
-plain_within : (n : ℕ) (vs : Variables) (t : List ℕ) → marked_within [] n vs t ≡ expanded_within n vs t
+pub plain_within : (n : ℕ) (vs : Variables) (t : List ℕ) → marked_within [] n vs t ≡ expanded_within n vs t
 plain_within zero vs t = refl
 plain_within (suc n) vs t = flat-same (marked_part [] (marked_within [] n) vs) (written_by (expanded_within n) vs) (λ p. plain_part n vs p (plain_within n)) (parts part_len part t)
 
@@ -42,7 +42,7 @@ room_part : (mark : List ℕ) (n m : ℕ) (vs : Variables) (p : Part) → ((us :
 room_part mark n m vs (itself c) h = refl
 room_part mark n m vs (use_of name) h = room_value mark n m vs name (lookup (bytes_eq name) vs) refl h
 
-room : (mark : List ℕ) (n m : ℕ) (vs : Variables) (t : List ℕ) → length vs < n → length vs < m → marked_within mark n vs t ≡ marked_within mark m vs t
+pub room : (mark : List ℕ) (n m : ℕ) (vs : Variables) (t : List ℕ) → length vs < n → length vs < m → marked_within mark n vs t ≡ marked_within mark m vs t
 room mark zero m vs t h k = absurd (omega arith)
 room mark (suc n) zero vs t h k = absurd (omega arith)
 room mark (suc n) (suc m) vs t h k =
@@ -102,57 +102,3 @@ left-open mark vs (f ∷ fs) g t text h =
 pub left-close : (mark : List ℕ) (vs : Variables) (fs : List Frame) (g : Frame) (t : List ℕ) → length t ≡ 0 → left mark vs (fs ++ g ∷ []) t ≡ left mark vs fs g.rest.now
 left-close mark vs [] g t none = ap (λ (y : List ℕ). y ++ marked mark vs g.rest.now) (marked-none mark (without g.name vs) t none)
 left-close mark vs (f ∷ fs) g t none = ap (λ (y : List ℕ). y ++ marked mark vs f.rest.now) (left-close mark (without f.name vs) fs g t none)
-
--- ---- turns
-
-pub enter-none : (vs : Variables) (fs : List Frame) (name after : List ℕ) → lookup (bytes_eq name) (inner vs fs) ≡ None → Enters vs fs name after fs after
-enter-none vs fs name after e mark t h =
-    left-write mark mark vs fs t after (h (inner vs fs) ∙ ap (λ o. marked_value mark (marked mark) (inner vs fs) name o ++ marked mark (inner vs fs) after) e)
-
-pub enter-some : (vs : Variables) (fs : List Frame) (g : Frame) (text : List ℕ) → lookup (bytes_eq g.name) (inner vs fs) ≡ Some text → Enters vs fs g.name g.rest.now (fs ++ g ∷ []) text
-enter-some vs fs g text e mark t h =
-    left-open mark vs fs g t text (h (inner vs fs) ∙ ap (λ o. marked_value mark (marked mark) (inner vs fs) g.name o ++ marked mark (inner vs fs) g.rest.now) e)
-
-pub enter-push : (vs : Variables) (fs gs : List Frame) (g : Frame) (text next : List ℕ) → gs ≡ fs ++ g ∷ [] → next ≡ text → lookup (bytes_eq g.name) (inner vs fs) ≡ Some text → Enters vs fs g.name g.rest.now gs next
-enter-push vs fs gs g text next e n l mark t h =
-    enter-some vs fs g text l mark t h ∙ ap (λ (x : List ℕ). mark ++ left mark vs (fs ++ g ∷ []) x) (sym n) ∙ ap (λ xs. mark ++ left mark vs xs next) (sym e)
-
-pub use-turn : (vs : Variables) (fs gs : List Frame) (t name_now after next mark : List ℕ) → 0 < length t → is_use t ≡ true → name_now ≡ name t → after ≡ drop (name_len t + 4) t → Enters vs fs name_now after gs next → left mark vs fs t ≡ mark ++ left mark vs gs next
-use-turn vs fs gs t name_now after next mark some e n a h =
-    h mark t (λ us.
-    marked-use mark us t some e
-    ∙ ap (λ (x : List ℕ). marked_value mark (marked mark) us x (lookup (bytes_eq x) us) ++ marked mark us (drop (name_len t + 4) t)) (sym n)
-    ∙ ap (λ (x : List ℕ). marked_value mark (marked mark) us name_now (lookup (bytes_eq name_now) us) ++ marked mark us x) (sym a))
-
-pub use-falls : (vs : Variables) (fs gs : List Frame) (t next : List ℕ) → left (0 ∷ []) vs fs t ≡ (0 ∷ []) ++ left (0 ∷ []) vs gs next → length gs ≤ length fs + 1 → turns vs gs next < turns vs fs t
-use-falls vs fs gs t next e deep =
-    let one : length (left (0 ∷ []) vs fs t) ≡ suc (length (left (0 ∷ []) vs gs next)) = ap length e in
-    omega arith
-
-pub char-turn : (vs : Variables) (fs : List Frame) (t c after mark : List ℕ) (n : ℕ) → 0 < length t → is_use t ≡ false → n ≡ char_len t → c ≡ take n t → after ≡ drop n t → left mark vs fs t ≡ c ++ left mark vs fs after
-char-turn vs fs t c after mark n some e l f b =
-    left-write mark c vs fs t after (
-    marked-char mark (inner vs fs) t some e
-    ∙ ap (λ (k : ℕ). take k t ++ marked mark (inner vs fs) (drop k t)) (sym l)
-    ∙ ap (λ (x : List ℕ). x ++ marked mark (inner vs fs) (drop n t)) (sym f)
-    ∙ ap (λ (x : List ℕ). c ++ marked mark (inner vs fs) x) (sym b)
-    )
-
-pub char-falls : (vs : Variables) (fs : List Frame) (t c after : List ℕ) → left (0 ∷ []) vs fs t ≡ c ++ left (0 ∷ []) vs fs after → 0 < length c → turns vs fs after < turns vs fs t
-char-falls vs fs t c after e some =
-    let more : length (left (0 ∷ []) vs fs t) ≡ length c + length (left (0 ∷ []) vs fs after) = ap length e ∙ length-append c (left (0 ∷ []) vs fs after) in
-    omega arith
-
--- where nothing is left
-pub over : (vs : Variables) (fs : List Frame) (t : List ℕ) → length t ≡ 0 → length fs ≡ 0 → left [] vs fs t ≡ []
-over vs [] t none last = marked-none [] vs t none
-over vs (f ∷ fs) t none last = absurd (omega arith)
-
-pub close-pop : (fs gs : List Frame) (g : Frame) → fs ≡ gs ++ g ∷ [] → Closes fs gs g.rest.now
-close-pop fs gs g e mark vs t none = ap (λ xs. left mark vs xs t) e ∙ left-close mark vs gs g t none
-
-pub start : (vs : Variables) (fs : List Frame) (t out : List ℕ) → out ≡ [] → fs ≡ [] → out ++ left [] vs fs t ≡ expanded vs t
-start vs fs t out e f = ap (λ (x : List ℕ). x ++ left [] vs fs t) e ∙ ap (λ xs. left [] vs xs t) f ∙ without_mark vs t
-
-pub finish : (vs : Variables) (fs : List Frame) (t out whole : List ℕ) → out ++ left [] vs fs t ≡ whole → length t ≡ 0 → length fs ≡ 0 → out ≡ whole
-finish vs fs t out whole e none last = sym (append-nil out) ∙ ap (λ (x : List ℕ). out ++ x) (sym (over vs fs t none last)) ∙ e

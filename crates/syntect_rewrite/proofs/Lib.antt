@@ -5,4 +5,6 @@ pub mod NewlineLaws
 pub mod ReplaceLaws
 pub mod VariableLaws
 pub mod ExpandLaws
+pub mod VanishLaws
+pub mod TurnLaws
 pub mod Rows

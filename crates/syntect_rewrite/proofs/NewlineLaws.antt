@@ -1,9 +1,9 @@
 -- The ends of lines, a token at a time.
-use Rattle.std.proofs.Common.{◌≡◌, ℕ, ◌<◌, ◌+◌, Bool, true, false, List, [], ◌∷◌, ◌++◌, length, get_or, take, drop, refl, sym, ap, ◌∙◌, inl, inr, arith, subst}
-use Rattle.std.proofs.lemmas.Bool.Decides.{nat_tests, eqb_tells}
+use Rattle.std.proofs.Common.{◌≡◌, ℕ, ◌<◌, Bool, true, false, List, [], ◌∷◌, ◌++◌, length, get_or, take, drop, refl, sym, ap, ◌∙◌, inl, inr, arith}
+use Rattle.std.proofs.lemmas.Bool.Decides.{eqb_tells}
 use Rattle.std.specs.Prelude.{flat_map}
 use Rattle.syntect_rewrite.specs.Cutting.{sign}
-use Rattle.syntect_rewrite.specs.Tokens.{Token, plain, class, opening_len, class_len, takes_newline, class_takes_newline, token_len, token, tokens, text}
+use Rattle.syntect_rewrite.specs.Tokens.{plain, class, opening_len, class_len, takes_newline, class_takes_newline, token_len, token, tokens, text}
 use Rattle.syntect_rewrite.specs.Newlines.{anchored_token, anchored, next, ended_token, ended_tokens}
 use Rattle.syntect_rewrite.specs.Views.{token_of}
 use Rattle.syntect_rewrite.proofs.CuttingLaws.{parts-cons, parts-none, flat-cons, sign_some, first-take}

@@ -1,6 +1,6 @@
 -- Words, a word at a time.
-use Rattle.std.proofs.Common.{◌≡◌, ℕ, ◌<◌, Bool, true, List, [], ◌++◌, length, get_or, take, drop, refl, sym, ap, ◌∙◌, subst}
-use Rattle.std.specs.Prelude.{flat_map, ◌==◌}
+use Rattle.std.proofs.Common.{◌≡◌, ℕ, ◌<◌, List, [], ◌++◌, length, take, drop, sym, ap, ◌∙◌, subst}
+use Rattle.std.specs.Prelude.{flat_map}
 use Rattle.syntect_rewrite.specs.Cutting.{char_len}
 use Rattle.syntect_rewrite.specs.Replacing.{Words, word_len, replacement, replaced}
 use Rattle.syntect_rewrite.specs.Views.{IsWord, IsNoWord}

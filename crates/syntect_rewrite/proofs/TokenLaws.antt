@@ -1,18 +1,15 @@
 -- Classes and tokens, a sign and a token at a time.
-use Rattle.std.proofs.Common.{◌≡◌, ℕ, zero, suc, ◌+◌, ◌-◌, ◌<◌, ◌≤◌, Bool, true, false, not, List, [], ◌∷◌, ◌++◌, length, get_or, take, drop, refl, sym, ap, ◌∙◌, inl, inr, arith, subst, append_assoc}
-use Rattle.std.proofs.lemmas.Bool.Decides.{nat_tests, eqb_tells}
+use Rattle.std.proofs.Common.{◌≡◌, ℕ, ◌+◌, ◌<◌, ◌≤◌, Bool, true, false, not, List, ◌∷◌, length, take, drop, refl, sym, ap, ◌∙◌, arith, subst}
 use Rattle.std.proofs.lemmas.Bool.{false≢true}
 use Rattle.std.proofs.lemmas.List.{drop-drop}
 use Rattle.std.proofs.Math.Bool.{or-false}
 use Rattle.std.proofs.Math.Nat.{add_assoc}
 use Rattle.std.proofs.lemmas.Str.{IsCharBoundary-from_rest, IsCharBoundary-end}
-use Rattle.std.specs.Prelude.{flat_map, ◌==◌, ◌&&◌, ◌||◌, codes}
+use Rattle.std.specs.Prelude.{◌==◌, ◌&&◌, ◌||◌}
 use Rattle.std.specs.Str.{IsCharBoundary}
-use Rattle.syntect_rewrite.specs.Cutting.{parts, sign_len, sign, signs}
-use Rattle.syntect_rewrite.specs.Tokens.{Token, plain, class, closes, open_after, rest_len, is_newline, has_newline, class_len, takes_newline, class_takes_newline, token_len, token, tokens, text}
-use Rattle.syntect_rewrite.specs.Newlines.{anchored_token, anchored, next, ended_token, ended_tokens}
-use Rattle.syntect_rewrite.specs.Views.{token_of}
-use Rattle.syntect_rewrite.proofs.CuttingLaws.{parts-cons, parts-none, flat-cons, sign_some, length-sign, sign_boundary, first-take}
+use Rattle.syntect_rewrite.specs.Cutting.{sign_len, sign, signs}
+use Rattle.syntect_rewrite.specs.Tokens.{closes, open_after, rest_len, is_newline, has_newline}
+use Rattle.syntect_rewrite.proofs.CuttingLaws.{parts-cons, parts-none, sign_some, length-sign, sign_boundary}
 
 -- the first sign of a text of so many bytes, as the code has it
 pub record IsSign (t s : List ℕ) (n : ℕ) : Type 0 where

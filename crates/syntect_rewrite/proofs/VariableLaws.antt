@@ -1,5 +1,5 @@
 -- Variables that are looked up, and those that are left out.
-use Rattle.std.proofs.Common.{◌≡◌, ◌⊎◌, ℕ, ◌<◌, ◌≤◌, ◌+◌, Bool, true, false, not, cond, List, [], ◌∷◌, length, Option, Some, None, refl, sym, ap, ◌∙◌, inl, inr, subst, arith}
+use Rattle.std.proofs.Common.{◌≡◌, ◌⊎◌, ℕ, ◌<◌, ◌≤◌, Bool, true, false, cond, List, [], ◌∷◌, length, Option, Some, None, refl, sym, ap, ◌∙◌, inl, inr, arith}
 use Rattle.std.proofs.lemmas.Bool.{true≢false, false≢true}
 use Rattle.std.proofs.lemmas.Slice.Eq.{bytes_eq-Decides}
 use Rattle.std.proofs.lemmas.Map.Text.{is_eq-slice_cmp}
@@ -15,7 +15,7 @@ use Rattle.syntect_rewrite.specs.Variables.{Variables, without}
 use Rattle.syntect_rewrite.specs.declared.expand.Frame.{Frame}
 use Rattle.syntect_rewrite.specs.Expanding.{inner}
 
-cases : (b : Bool) → (b ≡ true) ⊎ (b ≡ false)
+pub cases : (b : Bool) → (b ≡ true) ⊎ (b ≡ false)
 cases true = inl refl
 cases false = inr refl
 
@@ -34,7 +34,7 @@ without-lt name text (v ∷ vs) e = elim (cases (bytes_eq name v.0)) [
   | inr b ↦ let f = rw b at e in rw b (omega (arith, without-lt name text vs f))
 ]
 
-same_text : (a b : List ℕ) → bytes_eq a b ≡ true → a ≡ b
+pub same_text : (a b : List ℕ) → bytes_eq a b ≡ true → a ≡ b
 same_text a b e = (bytes_eq-Decides a b).0 e
 
 is_itself : (a : List ℕ) → bytes_eq a a ≡ true
@@ -103,7 +103,7 @@ closed_same name vs (f ∷ fs) e = elim (cases (bytes_eq f.name name)) [
 ]
 
 -- a look-up by the order of texts
-pub lookup_by_order : (name : List ℕ) (vs : Variables) → lookup (is_at (slice_cmp nat_cmp name)) vs ≡ lookup (bytes_eq name) vs
+pub lookup_by_order : {X : Type 0} (name : List ℕ) (vs : List (List ℕ × X)) → lookup (is_at (slice_cmp nat_cmp name)) vs ≡ lookup (bytes_eq name) vs
 lookup_by_order name [] = refl
 lookup_by_order name (v ∷ vs) =
     ap (λ (b : Bool). cond b (Some v.1) (lookup (is_at (slice_cmp nat_cmp name)) vs)) (is_eq-slice_cmp name v.0)

@@ -1,8 +1,9 @@
 -- What is left to write while variables are expanded.
-use Rattle.std.specs.Prelude.{◌≡◌, ℕ, zero, suc, ◌+◌, ◌*◌, List, [], ◌∷◌, ◌++◌, length, flat_map, bytes_eq, Option, Some, None}
-use Rattle.std.specs.Map.{lookup}
+use Rattle.std.specs.Prelude.{◌≡◌, ℕ, zero, suc, ◌+◌, ◌*◌, ◌<◌, ◌≤◌, Bool, ⊤, List, [], ◌∷◌, ◌++◌, length, flat_map, bytes_eq, Option, Some, None}
+use Rattle.std.specs.List.{All}
+use Rattle.std.specs.Map.{lookup, keys_of}
 use Rattle.syntect_rewrite.specs.Cutting.{parts}
-use Rattle.syntect_rewrite.specs.Variables.{Variables, Part, itself, use_of, part_len, part, without}
+use Rattle.syntect_rewrite.specs.Variables.{Variables, Part, itself, use_of, part_len, part, without, value_by, expanded}
 use Rattle.syntect_rewrite.specs.declared.expand.Frame.{Frame}
 
 -- for the use of a variable a mark is written, and then its text
@@ -36,15 +37,41 @@ left mark variables (f ∷ fs) t = left mark (without f.name variables) fs t ++ 
 abbrev pub turns : Variables → List Frame → List ℕ → ℕ
 turns variables fs t = 2 * length (left (0 ∷ []) variables fs t) + length fs
 
+-- what the use of a name stands for
+abbrev pub use_value : Variables → List ℕ → List ℕ
+use_value variables name = value_by expanded variables name (lookup (bytes_eq name) variables)
+
+-- the use of the name stands for nothing: as its variable's text has nothing but uses that stand for nothing in it, or as
+-- there is no such variable
+abbrev pub Vanishes : Variables → List ℕ → Type 0
+Vanishes variables name = use_value variables name ≡ []
+
+-- each of the names that are remembered stands for nothing
+abbrev pub AllVanish : Variables → List (List ℕ × Bool) → Type 0
+AllVanish variables known = All (Vanishes variables) (keys_of known)
+
+-- Of each frame: `start` is at most how much is written, and where it is that, so that nothing was written since the frame
+-- was opened, then what is left to write in the frame is all that its use stands for.
+abbrev pub AreTraced : Variables → List Frame → List ℕ → ℕ → Type 0
+AreTraced variables [] t written = ⊤
+AreTraced variables (f ∷ fs) t written =
+    (f.start ≡ written → left [] (without f.name variables) fs t ≡ use_value variables f.name) × (f.start ≤ written) × AreTraced (without f.name variables) fs t written
+
 -- Behind the use of a variable the text `after` follows. From the frames fs a step is made to the frames gs and what is
--- read there, by which only the use's mark is written.
-abbrev pub Enters : Variables → List Frame → List ℕ → List ℕ → List Frame → List ℕ → Type 0
-Enters variables fs name after gs next =
-    (mark t : List ℕ)
-    → ((us : Variables) → marked mark us t ≡ marked_value mark (marked mark) us name (lookup (bytes_eq name) us) ++ marked mark us after)
-    → left mark variables fs t ≡ mark ++ left mark variables gs next
+-- read there, by which nothing is written, and which is one of the turns.
+abbrev pub Enters : Variables → List Frame → List (List ℕ × Bool) → ℕ → List ℕ → List ℕ → List Frame → List ℕ → Type 0
+Enters variables fs known written name after gs next =
+    (t : List ℕ)
+    → ((mark : List ℕ) (us : Variables) → marked mark us t ≡ marked_value mark (marked mark) us name (lookup (bytes_eq name) us) ++ marked mark us after)
+    → AreTraced variables fs t written
+    → (left [] variables fs t ≡ left [] variables gs next) × (turns variables gs next < turns variables fs t) × AreTraced variables gs next written × AllVanish (inner variables gs) known
 
 -- at the end of a text a step is made from the frames fs to the frames gs and what is read there, by which nothing is
 -- written
-abbrev pub Closes : List Frame → List Frame → List ℕ → Type 0
-Closes fs gs next = (mark : List ℕ) (variables : Variables) (t : List ℕ) → length t ≡ 0 → left mark variables fs t ≡ left mark variables gs next
+abbrev pub Closes : List Frame → List (List ℕ × Bool) → ℕ → List Frame → List (List ℕ × Bool) → List ℕ → Type 0
+Closes fs known written gs later next =
+    (variables : Variables) (t : List ℕ)
+    → length t ≡ 0
+    → AreTraced variables fs t written
+    → AllVanish (inner variables fs) known
+    → ((mark : List ℕ) → left mark variables fs t ≡ left mark variables gs next) × AreTraced variables gs next written × AllVanish (inner variables gs) later

@@ -1,5 +1,5 @@
 -- The ends of lines, in patterns for lines that have their newline and for lines that have none.
-use Rattle.std.specs.Prelude.{ℕ, Bool, true, false, not, ◌&&◌, if◌then◌else◌, List, [], ◌∷◌, ◌++◌, flat_map, codes}
+use Rattle.std.specs.Prelude.{ℕ, true, false, not, ◌&&◌, if◌then◌else◌, List, [], ◌∷◌, ◌++◌, flat_map, codes}
 use Rattle.syntect_rewrite.specs.Cutting.{◌∈◌, first}
 use Rattle.syntect_rewrite.specs.Tokens.{Token, plain, class, is_newline, tokens, text}
 use Rattle.syntect_rewrite.specs.Replacing.{replaced, optional_newlines}

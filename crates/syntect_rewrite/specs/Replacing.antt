@@ -1,7 +1,6 @@
 -- Words of a text, each replaced by another.
-use Rattle.std.specs.Prelude.{ℕ, Bool, if◌then◌else◌, List, [], ◌∷◌, length, take, flat_map, ◌==◌, codes}
+use Rattle.std.specs.Prelude.{ℕ, if◌then◌else◌, List, [], ◌∷◌, length, take, flat_map, ◌==◌, codes}
 use Rattle.std.specs.List.{starts_with}
-use Prim.Native.String.{String}
 use Rattle.syntect_rewrite.specs.Cutting.{parts, char_len}
 
 -- words, each with what replaces it

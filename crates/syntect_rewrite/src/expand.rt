@@ -1,21 +1,26 @@
 //! Variables, expanded.
-ghost use Rattle.std.specs.Prelude.{◌≡◌, ◌<◌, ◌≤◌, ◌+◌, ◌++◌, ◌∷◌, [], IfOk, IfSome, MatchOption, length, drop, option_map, string_bytes, true, false, None};
+ghost use Rattle.std.specs.Prelude.{◌≡◌, ◌<◌, ◌≤◌, ◌+◌, ◌++◌, ◌∷◌, [], IsTrue, IsOk, IfOk, IfSome, MatchOption, length, drop, option_map, string_bytes, true, false, None};
 ghost use Rattle.std.specs.Map.{lookup};
+ghost use Rattle.std.specs.BTreeMap.{insert_entry};
+ghost use Rattle.std.specs.Cmp.Lexicographic.{slice_cmp};
+ghost use Rattle.std.specs.Ordering.{nat_cmp};
 ghost use Rattle.std.specs.Str.{bytes_eq};
 ghost use Rattle.std.specs.List.{prefix_len, list_any};
 ghost use Rattle.syntect_rewrite.specs.Variables as uses;
-ghost use Rattle.syntect_rewrite.specs.Expanding.{inner, left, turns, Enters, Closes};
+ghost use Rattle.syntect_rewrite.specs.Variables.{Variables, without};
+ghost use Rattle.syntect_rewrite.specs.Expanding.{inner, left, turns, Vanishes, AllVanish, AreTraced, Enters, Closes};
 
 use crate::signs::{byte_at, char_len, first, skip};
-use std::alloc::{AllocError, Global};
+use std::alloc::{AllocError, AllocFailed, Global};
 use syntect_values::table::Table;
 use syntect_values::text::Text;
 
-/// A variable whose text is being read, and what follows its use.
+/// A variable whose text is being read, what follows its use, and how much was written before it.
 #[derive(Drop)]
 struct Frame<'a> {
     name: Text,
     rest: &'a str,
+    start: usize,
 }
 
 /// Whether a byte is one of a name.
@@ -88,33 +93,86 @@ fn value_of<'a>(
     variables.get(name)
 }
 
-/// Goes into the text of a variable, unless that is being read: what is to be read next.
+/// Whether the use of the name is remembered to stand for nothing.
+fn vanishes(known: &Table<Text, bool>, name: &Text) -> bool
+    ensures { IsTrue result → (us : Variables) → AllVanish us known.now → Vanishes us name.now }
+{
+    known.get(name).is_some()
+}
+
+/// Goes into the text of a variable, unless that is being read or its use is remembered to stand for nothing: what is to be
+/// read next.
 fn enter<'a>(
     variables: &'a Table<Text, Text>,
     frames: &mut Vec<Frame<'a>>,
+    known: &Table<Text, bool>,
+    written: usize,
     name: Text,
     after: &'a str,
 ) -> Result<&'a str, AllocError>
-    ensures kept { IfOk result (λ r. Enters variables.now frames.old.items name after.now frames.new.items r.now) }
-    ensures deeper { IfOk result (λ r. length frames.new.items ≤ length frames.old.items + 1) }
+    requires { AllVanish (inner variables.now frames.now.items) known.now }
+    ensures kept { IfOk result (λ r. Enters variables.now frames.old.items known.now written name after.now frames.new.items r.now) }
 {
+    if vanishes(known, &name) {
+        return Ok(after);
+    }
     match value_of(variables, frames.as_slice(), &name) {
         Some(value) => {
-            frames.push(Frame { name, rest: after })?;
+            frames.push(Frame {
+                name,
+                rest: after,
+                start: written,
+            })?;
             Ok(value.as_str())
         }
         None => Ok(after),
     }
 }
 
-/// Goes back to what follows the use of the variable whose text is over, if there is one.
-fn close<'a>(frames: &mut Vec<Frame<'a>>) -> Option<&'a str>
-    ensures none { result ≡ None → length frames.old.items ≡ 0 }
-    ensures kept { IfSome result (λ r. Closes frames.old.items frames.new.items r.now) }
-    ensures shallower { IfSome result (λ r. length frames.old.items ≡ length frames.new.items + 1) }
+/// Remembers that the use of a name stands for nothing.
+fn remember(known: &mut Table<Text, bool>, name: Text) -> Result<(), AllocError>
+    ensures { IsOk result → known.new ≡ insert_entry (slice_cmp nat_cmp) known.old name true }
 {
-    let Frame { name: _, rest } = frames.pop()?;
-    Some(rest)
+    match known.insert(name, true) {
+        Ok(_) => Ok(()),
+        Err(AllocFailed { .. }) => Err(AllocError),
+    }
+}
+
+/// Remembers whether the use of a name stands for nothing, when its variable's text is over: if it does, what is remembered
+/// from within that text holds outside of it too, and else nothing is remembered.
+fn settle(
+    alloc: Global,
+    known: &mut Table<Text, bool>,
+    name: Text,
+    vanishes: bool,
+) -> Result<(), AllocError>
+    ensures { IsOk result → (us : Variables) → (IsTrue vanishes → Vanishes us name) → AllVanish (without name us) known.old → AllVanish us known.new }
+{
+    if vanishes {
+        remember(known, name)?;
+    } else if !known.is_empty() {
+        *known = Table::new(alloc);
+    }
+    Ok(())
+}
+
+/// Goes back to what follows the use of the variable whose text is over, if there is one.
+fn close<'a>(
+    alloc: Global,
+    frames: &mut Vec<Frame<'a>>,
+    known: &mut Table<Text, bool>,
+    written: usize,
+) -> Result<Option<&'a str>, AllocError>
+    ensures none { IfOk result (λ r. r ≡ None → length frames.old.items ≡ 0) }
+    ensures kept { IfOk result (λ o. IfSome o (λ r. Closes frames.old.items known.old written frames.new.items known.new r.now)) }
+    ensures shallower { IfOk result (λ o. IfSome o (λ r. length frames.old.items ≡ length frames.new.items + 1)) }
+{
+    let Some(Frame { name, rest, start }) = frames.pop() else {
+        return Ok(None);
+    };
+    settle(alloc, known, name, start == written)?;
+    Ok(Some(rest))
 }
 
 /// Reads the text's first part, or goes back at its end: what is to be read next.
@@ -122,19 +180,25 @@ fn turn<'a>(
     alloc: Global,
     variables: &'a Table<Text, Text>,
     frames: &mut Vec<Frame<'a>>,
+    known: &mut Table<Text, bool>,
     out: &mut String,
     text: &'a str,
 ) -> Result<&'a str, AllocError>
-    requires { 0 < length text.now + length frames.now.items }
+    requires more { 0 < length text.now + length frames.now.items }
+    requires traced { AreTraced variables.now frames.now.items text.now (length (string_bytes out.now)) }
+    requires vanish { AllVanish (inner variables.now frames.now.items) known.now }
     ensures kept { IfOk result (λ r. string_bytes out.new ++ left [] variables.now frames.new.items r.now ≡ string_bytes out.old ++ left [] variables.now frames.old.items text.now) }
     ensures falls { IfOk result (λ r. turns variables.now frames.new.items r.now < turns variables.now frames.old.items text.now) }
+    ensures traced { IfOk result (λ r. AreTraced variables.now frames.new.items r.now (length (string_bytes out.new))) }
+    ensures vanish { IfOk result (λ r. AllVanish (inner variables.now frames.new.items) known.new) }
 {
     if text.is_empty() {
-        return Ok(close(frames).unwrap_or(text));
+        let next = close(alloc, frames, known, out.len())?;
+        return Ok(next.unwrap_or(text));
     }
     if let Some((name, after)) = used(text) {
         let name = Text::from_str(alloc, name)?;
-        let next = enter(variables, frames, name, after)?;
+        let next = enter(variables, frames, known, out.len(), name, after)?;
         return Ok(next);
     }
     let (c, after) = text.split_at(char_len(text));
@@ -143,6 +207,10 @@ fn turn<'a>(
 }
 
 /// A text with its variables expanded.
+///
+/// Each use that is gone into and writes nothing is remembered until one that wrote something is over. So of as many
+/// variables as there are, each is gone into at most once for nothing between two that write, and each character is written
+/// in at most as many of them: how long it takes is bounded by what is written and the number of variables.
 pub(crate) fn expand(
     alloc: Global,
     text: &str,
@@ -152,9 +220,10 @@ pub(crate) fn expand(
 {
     let mut out = String::new(alloc);
     let mut frames: Vec<Frame<'_>> = Vec::new(alloc);
+    let mut known: Table<Text, bool> = Table::new(alloc);
     let mut rest = text;
     'turns: while !rest.is_empty() || !frames.is_empty() {
-        rest = turn(alloc, variables, &mut frames, &mut out, rest)?;
+        rest = turn(alloc, variables, &mut frames, &mut known, &mut out, rest)?;
     }
     Ok(out)
 }

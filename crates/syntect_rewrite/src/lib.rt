@@ -11,5 +11,3 @@ pub mod references;
 mod replace;
 pub mod rewrite;
 mod signs;
-#[cfg(test)]
-mod tests;

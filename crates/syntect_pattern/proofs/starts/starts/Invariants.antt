@@ -5,6 +5,6 @@ use Rattle.syntect_pattern.proofs.starts.starts.Given as goal
 
 abbrev pub invariant-loop-x : goal.invariant-loop-x
 invariant-loop-x l = record {
-  count : length l.flags ≡ l.x;
-  right : (k : ℕ) → k < l.x → get_or l.flags k true ≡ (reads (tree_in l.nodes l.root) k || stays (tree_in l.nodes l.root) k);
+  count : length l.flags.items ≡ l.x;
+  right : (k : ℕ) → k < l.x → get_or l.flags.items k true ≡ (reads (tree_in l.nodes l.root) k || stays (tree_in l.nodes l.root) k);
 }

@@ -1,6 +1,6 @@
-use Rattle.std.proofs.Common.{◌≡◌, ◌<◌, length, sym, ◌∙◌, rules, arith}
+use Rattle.std.proofs.Common.{◌<◌, length, sym, ◌∙◌, rules, arith}
 use Rattle.std.proofs.lemmas.Grind.{common_steps}
-use Rattle.syntect_rewrite.proofs.TokenLaws.{IsSign, IsOver, read-start, read-closed, read-on, read-over}
+use Rattle.syntect_rewrite.proofs.TokenLaws.{IsSign, read-start, read-closed, read-on, read-over}
 use Rattle.syntect_rewrite.proofs.classes.rest_of_class.Goals as goal
 
 pub signs-init : goal.signs-init

@@ -1,25 +1,32 @@
-use Rattle.std.proofs.Common.{◌≡◌, ◌++◌, ◌∷◌, [], List, Some, None, sym, ap, ◌∙◌}
+use Rattle.std.proofs.Common.{◌≡◌, Some, None, refl, sym, ap, ◌∙◌}
 use Rattle.std.specs.Option.{option_map}
 use Rattle.std.specs.Map.{lookup}
 use Rattle.std.specs.Str.{bytes_eq}
 use Rattle.syntect_rewrite.specs.declared.expand.Frame.{Frame}
+use Rattle.syntect_rewrite.specs.Variables.{value_by, expanded}
 use Rattle.syntect_rewrite.specs.Expanding.{inner}
-use Rattle.syntect_rewrite.proofs.ExpandLaws.{enter-push, enter-none}
+use Rattle.syntect_rewrite.proofs.TurnLaws.{enter-push, enter-none}
 use Rattle.syntect_rewrite.proofs.expand.enter.Goals as goal
 
-pub returns-in-Some-clause-kept : goal.returns-in-Some-clause-kept
-returns-in-Some-clause-kept c =
+pub returns-then-vanishes : goal.returns-then-vanishes
+returns-then-vanishes c =
     let vs = c.args.variables.now in
     let fs = c.args.frames.now.items in
-    let frame : Frame = record { name = c.args.name; rest = c.args.after } in
+    record { kept = enter-none vs fs c.args.known.now c.args.written c.args.name c.args.after.now c.requires (c.vanishes.ensures c.if-vanishes.true (inner vs fs) c.requires) }
+
+pub returns-in-Some : goal.returns-in-Some
+returns-in-Some c =
+    let vs = c.args.variables.now in
+    let fs = c.args.frames.now.items in
+    let frame : Frame = record { name = c.args.name; rest = c.args.after; start = c.args.written } in
     let found : lookup (bytes_eq c.args.name) (inner vs fs) ≡ Some c.in-Some.value.now =
     ap (λ xs. lookup (bytes_eq c.args.name) (inner vs xs)) (sym c.as_slice.ensures.value) ∙ sym c.value_of.ensures ∙ ap (option_map (λ v. v.now)) c.in-Some.is in
-    enter-push vs fs c.push.new.self.items frame c.in-Some.value.now c.as_str.result.now c.in_ok-push-in-Some.ensures.items c.as_str.ensures found
+    record { kept = enter-push vs fs c.push.new.self.items c.args.known.now c.args.written frame c.in-Some.value.now c.as_str.result.now c.in_ok-push-in-Some.ensures.items c.as_str.ensures c.requires refl found }
 
-pub returns-clause-kept : goal.returns-clause-kept
-returns-clause-kept c =
+pub returns : goal.returns
+returns c =
     let vs = c.args.variables.now in
     let fs = c.args.frames.now.items in
     let found : lookup (bytes_eq c.args.name) (inner vs fs) ≡ None =
     ap (λ xs. lookup (bytes_eq c.args.name) (inner vs xs)) (sym c.as_slice.ensures.value) ∙ sym c.value_of.ensures ∙ ap (option_map (λ v. v.now)) c.in-None.is in
-    enter-none vs fs c.args.name c.args.after.now found
+    record { kept = enter-none vs fs c.args.known.now c.args.written c.args.name c.args.after.now c.requires (ap (value_by expanded (inner vs fs) c.args.name) found) }

@@ -1,10 +1,18 @@
-use Rattle.std.proofs.Common.{◌≡◌, ℕ, length, string_bytes, arith}
+use Rattle.std.proofs.Common.{◌≡◌, length, string_bytes, arith}
 use Rattle.std.proofs.lemmas.Grind.{common_steps}
-use Rattle.syntect_rewrite.proofs.ExpandLaws.{start, finish}
+use Rattle.syntect_rewrite.specs.Expanding.{inner}
+use Rattle.syntect_rewrite.proofs.TurnLaws.{start, start-traced, finish}
+use Rattle.syntect_rewrite.proofs.VanishLaws.{all-none}
 use Rattle.syntect_rewrite.proofs.expand.expand.Goals as goal
 
 pub turns-init : goal.turns-init
-turns-init c = (c.utf8.text, start c.args.variables.now c.new-frames.result.items c.args.text.now (string_bytes c.new-out.result) c.new-out.ensures.bytes c.new-frames.ensures.items)
+turns-init c =
+    let fs = c.new-frames.result.items in (
+      c.utf8.text,
+      start c.args.variables.now fs c.args.text.now (string_bytes c.new-out.result) c.new-out.ensures.bytes c.new-frames.ensures.items,
+      start-traced c.args.variables.now fs c.args.text.now (length (string_bytes c.new-out.result)) c.new-frames.ensures.items,
+      all-none (inner c.args.variables.now fs) c.new-known.result c.new-known.ensures,
+    )
 
 pub returns : goal.returns
 returns c =

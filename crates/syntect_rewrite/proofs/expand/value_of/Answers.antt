@@ -1,5 +1,4 @@
-use Rattle.std.proofs.Common.{◌≡◌, List, ℕ, sym, ap, ◌∙◌, Option}
-use Rattle.std.specs.Map.{lookup}
+use Rattle.std.proofs.Common.{sym, ◌∙◌}
 use Rattle.syntect_rewrite.proofs.VariableLaws.{open_none, closed_same, lookup_by_order, copied}
 use Rattle.syntect_rewrite.proofs.expand.value_of.Goals as goal
 

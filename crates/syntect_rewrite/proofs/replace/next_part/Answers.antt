@@ -1,4 +1,4 @@
-use Rattle.std.proofs.Common.{◌≡◌, ◌++◌, List, ℕ, take, drop, sym, ap, ◌∙◌}
+use Rattle.std.proofs.Common.{◌++◌, List, ℕ, take, drop, sym, ap, ◌∙◌}
 use Rattle.syntect_rewrite.specs.Replacing.{replaced}
 use Rattle.syntect_rewrite.specs.Views.{words_of}
 use Rattle.syntect_rewrite.proofs.ReplaceLaws.{replaced-word, replaced-char}

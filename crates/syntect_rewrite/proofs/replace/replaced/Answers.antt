@@ -1,6 +1,5 @@
-use Rattle.std.proofs.Common.{◌≡◌, ◌++◌, List, ℕ, length, string_bytes, sym, ap, ◌∙◌, append-nil, arith, append_assoc, rules}
+use Rattle.std.proofs.Common.{◌≡◌, ◌++◌, List, ℕ, length, string_bytes, sym, ap, ◌∙◌, append-nil, arith}
 use Rattle.std.proofs.lemmas.Grind.{common_steps}
-use Rattle.syntect_rewrite.specs.Replacing.{replaced}
 use Rattle.syntect_rewrite.specs.Views.{words_of}
 use Rattle.syntect_rewrite.proofs.ReplaceLaws.{replaced-none}
 use Rattle.syntect_rewrite.proofs.replace.replaced.Goals as goal
