@@ -3,6 +3,7 @@ use crate::syntax::ParseSyntaxError;
 use crate::theme::ParseThemeError;
 use std::alloc::{AllocError, AllocFailed};
 use std::io;
+use std::io::ErrorKind;
 use thiserror::Error;
 
 /// Why the bytes of a theme or of metadata are no value.
@@ -86,5 +87,50 @@ impl<T: Drop> From<AllocFailed<T>> for LoadingError {
 
     fn from(_e: AllocFailed<T>) -> LoadingError {
         LoadingError::Memory
+    }
+}
+
+/// A fault that is want of memory is passed on as such.
+impl From<io::Error> for LoadingError {
+    ghost use Rattle.syntect_base.specs.Refusals.{IsReadFault};
+
+    ghost from_gives = { λ e r. IsReadFault e r };
+
+    fn from(e: io::Error) -> LoadingError {
+        if e.kind() == ErrorKind::OutOfMemory {
+            LoadingError::Memory
+        } else {
+            LoadingError::Io(e)
+        }
+    }
+}
+
+/// Want of memory is passed on as such.
+impl From<ParseThemeError> for LoadingError {
+    ghost use Rattle.std.specs.Prelude.{◌≡◌};
+    ghost use Rattle.syntect_base.specs.Refusals.{from_theme};
+
+    ghost from_gives = { λ e r. r ≡ from_theme e };
+
+    fn from(e: ParseThemeError) -> LoadingError {
+        match e {
+            ParseThemeError::Memory => LoadingError::Memory,
+            e => LoadingError::ParseTheme(e),
+        }
+    }
+}
+
+/// Want of memory is passed on as such.
+impl From<SettingsError> for LoadingError {
+    ghost use Rattle.std.specs.Prelude.{◌≡◌};
+    ghost use Rattle.syntect_base.specs.Refusals.{from_settings};
+
+    ghost from_gives = { λ e r. r ≡ from_settings e };
+
+    fn from(e: SettingsError) -> LoadingError {
+        match e {
+            SettingsError::Memory => LoadingError::Memory,
+            e => LoadingError::ReadSettings(e),
+        }
     }
 }

@@ -69,3 +69,18 @@ impl<T: Drop> From<AllocFailed<T>> for ParseThemeError {
         ParseThemeError::Memory
     }
 }
+
+/// Want of memory is passed on as such.
+impl From<ParseScopeError> for ParseThemeError {
+    ghost use Rattle.std.specs.Prelude.{◌≡◌};
+    ghost use Rattle.syntect_base.specs.Refusals.{from_scopes};
+
+    ghost from_gives = { λ e r. r ≡ from_scopes e };
+
+    fn from(e: ParseScopeError) -> ParseThemeError {
+        match e {
+            ParseScopeError::Memory => ParseThemeError::Memory,
+            e => ParseThemeError::ScopeParse(e),
+        }
+    }
+}

@@ -8,11 +8,7 @@ pub mod laws;
 mod matching;
 pub mod power;
 mod reading;
-#[cfg(test)]
-mod reading_tests;
 pub mod repository;
 pub mod scope;
 pub mod selector;
 pub mod stack;
-#[cfg(test)]
-mod tests;

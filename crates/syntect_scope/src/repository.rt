@@ -169,8 +169,9 @@ impl ScopeRepository {
         }
     }
 
-    /// Holds at most so many texts, each once.
-    pub(crate) fn is_whole(&self)
+    /// Holds at most 65534 texts, each once. It does nothing: it is for callers whose contracts say so of a repository
+    /// that they were handed.
+    pub fn is_whole(&self)
         ensures { IsRepository self.now }
     {
         let _ = &self.atoms;

@@ -1,16 +1,16 @@
 -- The better one of those that stand after the single rules and after the others is the first that none beats.
 use Rattle.std.proofs.Common.{◌≡◌, ℕ, zero, suc, ◌<◌, ◌+◌, drop, ◌*◌, ◌^◌, cond, if◌then◌else◌, Bool, true, false, not, List, [], ◌∷◌, ◌++◌, length, get_or, Option, Some, None, refl, sym, ap, ◌∙◌, arith}
-use Rattle.std.specs.Prelude.{◌≢◌, map, filter, find, is_some, IsSomeAnd}
+use Rattle.std.specs.Prelude.{◌≢◌, find, IsSomeAnd}
 use Rattle.std.specs.Option.{option_map}
 use Rattle.std.specs.List.{cons_option, filter_map, flat_map, list_all, best_of, IsFirstBest}
 use Rattle.std.proofs.lemmas.List.MinMax.{IsFirstBest-from_best_of}
 use Rattle.std.proofs.lemmas.List.Folds.{list_all_at}
 use Rattle.std.proofs.lemmas.List.{get_or_default}
-use Rattle.std.proofs.lemmas.List.Elements.{filter_map-append, Contains-get_or}
-use Rattle.std.proofs.lemmas.Bool.{and_parts}
+use Rattle.std.proofs.lemmas.List.Elements.{Contains-get_or}
 use Rattle.syntect_scope.specs.Choice.{selector_score}
 use Rattle.syntect_scope.specs.declared.selector.ScopeSelector.{ScopeSelector}
-use Rattle.syntect_style.specs.Candidates.{single_scope, single_score, other_score, score_of, Score, Candidate, candidate, candidates, beats, prevailing, winner, deepest}
+use Rattle.syntect_scope.specs.SelectorText.{sole_scope}
+use Rattle.syntect_style.specs.Candidates.{single_score, other_score, score_of, Candidate, candidate, candidates, beats, prevailing, deepest}
 use Rattle.syntect_style.specs.Laws.{IsGreatest}
 use Rattle.syntect_style.specs.Rules.{rule_of, item_rules, single_rules, against, after_rules, other_of, item_others, other_rules, after_others}
 use Rattle.syntect_style.specs.Styling.{winners}
@@ -183,16 +183,16 @@ module _ {V : Type 0} (attribute : StyleModifier → Option V) (stack : List (Li
   Parted s o cs rules others = in_turn (against s o) cs ≡ against (after_rules attribute stack s rules) (after_others attribute stack o others)
 
   selectors_parted : (style : StyleModifier) (selectors : List ScopeSelector) (s o : Option (Candidate V)) → IsOther o
-      → Parted s o (filter_map (λ sel. candidate (attribute style) (score_of sel stack)) selectors) (filter_map (λ sel. rule_of (single_scope sel) style) selectors)
-      (filter_map (λ sel. other_of (single_scope sel) sel style) selectors)
+      → Parted s o (filter_map (λ sel. candidate (attribute style) (score_of sel stack)) selectors) (filter_map (λ sel. rule_of (sole_scope sel) style) selectors)
+      (filter_map (λ sel. other_of (sole_scope sel) sel style) selectors)
   selectors_parted style [] s o i = refl
-  selectors_parted style (sel ∷ selectors) s o i = by (single_scope sel) refl (λ s o i. selectors_parted style selectors s o i)
+  selectors_parted style (sel ∷ selectors) s o i = by (sole_scope sel) refl (λ s o i. selectors_parted style selectors s o i)
     where
-      by : (k : Option (List ℕ)) → single_scope sel ≡ k
-          → ((s o : Option (Candidate V)) → IsOther o → Parted s o (filter_map (λ sel. candidate (attribute style) (score_of sel stack)) selectors) (filter_map (λ sel. rule_of (single_scope sel) style) selectors)
-          (filter_map (λ sel. other_of (single_scope sel) sel style) selectors))
-          → Parted s o (filter_map (λ sel. candidate (attribute style) (score_of sel stack)) (sel ∷ selectors)) (filter_map (λ sel. rule_of (single_scope sel) style) (sel ∷ selectors))
-          (filter_map (λ sel. other_of (single_scope sel) sel style) (sel ∷ selectors))
+      by : (k : Option (List ℕ)) → sole_scope sel ≡ k
+          → ((s o : Option (Candidate V)) → IsOther o → Parted s o (filter_map (λ sel. candidate (attribute style) (score_of sel stack)) selectors) (filter_map (λ sel. rule_of (sole_scope sel) style) selectors)
+          (filter_map (λ sel. other_of (sole_scope sel) sel style) selectors))
+          → Parted s o (filter_map (λ sel. candidate (attribute style) (score_of sel stack)) (sel ∷ selectors)) (filter_map (λ sel. rule_of (sole_scope sel) style) (sel ∷ selectors))
+          (filter_map (λ sel. other_of (sole_scope sel) sel style) (sel ∷ selectors))
       by (Some scope) e rest =
           let c : Option (Candidate V) = candidate (attribute style) (single_score scope stack) in
           rw e (in_turn-cons (against s o) c _ ∙ ap (λ b. in_turn b (filter_map (λ sel. candidate (attribute style) (score_of sel stack)) selectors)) (swapped s o c i (single_candidate (attribute style) (deepest scope stack) scope)) ∙ rest (against s c) o i)

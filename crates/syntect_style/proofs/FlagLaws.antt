@@ -1,10 +1,10 @@
 -- Flags that are inserted one after another.
-use Rattle.std.proofs.Common.{◌≡◌, ◌≢◌, ℕ, zero, suc, ◌+◌, ◌<◌, List, [], ◌∷◌, ◌++◌, length, drop, get_or, map, refl, ap, sym, ◌∙◌, arith, Option, Some, None, Bor, subst}
-use Rattle.std.specs.Prelude.{bit_or, Result, Ok, Err}
+use Rattle.std.proofs.Common.{◌≡◌, ℕ, zero, suc, ◌+◌, ◌<◌, List, [], ◌∷◌, ◌++◌, length, drop, get_or, map, refl, ap, sym, ◌∙◌, arith, Option, Some, None, Bor}
+use Rattle.std.specs.Prelude.{bit_or, Err}
 use Rattle.syntect_scope.specs.Words.{words}
 use Rattle.syntect_base.specs.declared.theme.ParseThemeError.TheVariants.{IncorrectFontStyle}
 use Rattle.syntect_style.specs.declared.style.FontStyle.{FontStyle}
-use Rattle.syntect_style.specs.Flags.{flags, with_flags}
+use Rattle.syntect_style.specs.Flags.{with_flags}
 use Rattle.syntect_style.specs.Modifying.{bits_of}
 use Rattle.syntect_style.specs.Texts.{word_bits, wrong_word, with_words, flags_of_text}
 

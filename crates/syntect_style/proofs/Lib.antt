@@ -7,4 +7,5 @@ pub mod ItemLaws
 pub mod Collect
 pub mod StackLaws
 pub mod FlagLaws
+pub mod FileLaws
 pub mod LoadLaws

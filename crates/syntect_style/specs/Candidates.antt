@@ -4,20 +4,14 @@ use Rattle.std.specs.Option.{option_map}
 use Rattle.std.specs.List.{filter_map, flat_map, list_all}
 use Rattle.syntect_scope.specs.Atoms.{is_prefix}
 use Rattle.syntect_scope.specs.Choice.{selector_score}
-use Rattle.syntect_scope.specs.declared.stack.ScopeStack.{ScopeStack}
+use Rattle.syntect_scope.specs.SelectorText.{sole_scope}
 use Rattle.syntect_scope.specs.declared.selector.ScopeSelector.{ScopeSelector}
 use Rattle.syntect_style.specs.declared.style.StyleModifier.{StyleModifier}
 use Rattle.syntect_style.specs.declared.theme.Theme.{Theme}
 
 -- ---- what a selector scores ----
 
--- the scope of a single rule: a selector of one path scope and no exclusion
-abbrev pub single_scope : ScopeSelector → Option (List ℕ)
-single_scope selector = only selector.path.scopes selector.excludes
-  where
-    only : List (List ℕ) → List ScopeStack → Option (List ℕ)
-    only (scope ∷ []) [] = Some scope
-    only path excludes = None
+-- A single rule is one whose selector has a sole scope: one path scope and no exclusion.
 
 -- one place further, or here where there is none further
 abbrev pub further : Bool → Option ℕ → Option ℕ
@@ -45,7 +39,7 @@ other_score selector stack = option_map (λ power. record { power = power; place
 
 -- none where the selector doesn't match
 abbrev pub score_of : ScopeSelector → List (List ℕ) → Option Score
-score_of selector stack = by_kind (single_scope selector)
+score_of selector stack = by_kind (sole_scope selector)
   where
     by_kind : Option (List ℕ) → Option Score
     by_kind (Some scope) = single_score scope stack

@@ -9,4 +9,5 @@ pub mod Refusals
 pub mod Rules
 pub mod Styling
 pub mod Texts
+pub mod ThemeFiles
 pub mod Themes

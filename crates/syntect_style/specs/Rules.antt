@@ -2,7 +2,8 @@
 use Rattle.std.specs.Prelude.{ℕ, ◌*◌, ◌^◌, List, [], ◌∷◌, if◌then◌else◌, Option, Some, None}
 use Rattle.std.specs.List.{filter_map, flat_map}
 use Rattle.syntect_scope.specs.declared.selector.ScopeSelector.{ScopeSelector}
-use Rattle.syntect_style.specs.Candidates.{single_scope, single_score, other_score, Score, Candidate, candidate, beats}
+use Rattle.syntect_scope.specs.SelectorText.{sole_scope}
+use Rattle.syntect_style.specs.Candidates.{single_score, other_score, Score, Candidate, candidate, beats}
 use Rattle.syntect_style.specs.declared.style.StyleModifier.{StyleModifier}
 use Rattle.syntect_style.specs.declared.theme.ThemeItem.{ThemeItem}
 use Rattle.syntect_style.specs.declared.theme.Theme.{Theme}
@@ -16,7 +17,7 @@ rule_of None m = None
 
 -- the single rules of an item, in the order of its selectors
 abbrev pub item_rules : ThemeItem → List Rule
-item_rules item = filter_map (λ selector. rule_of (single_scope selector) item.style) item.scope.selectors
+item_rules item = filter_map (λ selector. rule_of (sole_scope selector) item.style) item.scope.selectors
 
 -- the single rules of a theme, in its order
 abbrev pub single_rules : Theme → List Rule
@@ -51,7 +52,7 @@ other_of None selector m = Some (selector, m)
 
 -- those of an item, in the order of its selectors
 abbrev pub item_others : ThemeItem → List (ScopeSelector × StyleModifier)
-item_others item = filter_map (λ selector. other_of (single_scope selector) selector item.style) item.scope.selectors
+item_others item = filter_map (λ selector. other_of (sole_scope selector) selector item.style) item.scope.selectors
 
 -- those of a theme, in its order
 abbrev pub other_rules : Theme → List (ScopeSelector × StyleModifier)

@@ -4,7 +4,7 @@ ghost use Rattle.syntect_style.specs.Styling.{style_of, shown, default_style, wi
 ghost use Rattle.syntect_style.specs.Rules.{item_rules};
 
 use crate::contest::standings_of;
-use crate::others::{better, others_of, single_scope};
+use crate::others::{better, others_of};
 use crate::scores::Rule;
 use crate::style::{Color, FontStyle, Style, StyleModifier};
 use crate::theme::{Theme, ThemeItem};
@@ -131,7 +131,7 @@ fn push_rules(rules: &mut Vec<Rule>, item: &ThemeItem) -> Result<(), AllocError>
     ensures { OnOk result (rules.new.items ≡ rules.old.items ++ item_rules item.now) }
 {
     for selector in item.scope.selectors.as_slice() {
-        if let Some(scope) = single_scope(selector) {
+        if let Some(scope) = selector.extract_single_scope() {
             rules.push(Rule {
                 scope,
                 style: item.style,

@@ -6,23 +6,18 @@
 #![tactic(auto)]
 
 mod contest;
-#[cfg(test)]
-mod flag_tests;
 mod flags;
 mod formats;
 pub mod highlighter;
 pub mod laws;
 mod load;
-#[cfg(test)]
-mod load_tests;
 mod load_theme;
 mod others;
 pub mod pieces;
 mod scores;
 pub mod state;
 pub mod style;
-#[cfg(test)]
-mod tests;
 mod texts;
 pub mod theme;
 pub mod theme_load;
+pub mod theme_set;

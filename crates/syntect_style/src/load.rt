@@ -21,7 +21,7 @@ use syntect_values::text::Text;
 
 /// Whether a number in the value is a float.
 #[cycle(holds)]
-fn holds_float(value: &Value) -> bool
+pub(crate) fn holds_float(value: &Value) -> bool
     ensures { result ≡ has_float (view value.now) }
 {
     match value {
@@ -135,8 +135,10 @@ pub(crate) fn selectors(
     ensures ok { IfOk result (λ selectors. loading.selectors_at repository.old (view value.now) ≡ Ok selectors) }
     ensures atoms { OnOk result (repository.new ≡ with_scopes repository.old (loading.text_words (as_str (view value.now)))) }
     ensures err { IfErr result (Refuses (loading.selectors_at repository.old (view value.now))) }
+    ensures whole { IsRepository repository.new }
     ensures kept { take (length repository.old) repository.new ≡ repository.old }
 {
+    repository.is_whole();
     match value.as_str() {
         Some(text) => selectors_of(alloc, text, repository),
         None => Err(ParseThemeError::ScopeSelectorIsNotString(shown(alloc, value)?)),
@@ -217,8 +219,10 @@ fn rule_selectors(
     ensures ok { IfOk result (λ selectors. loading.rule_selectors repository.old (option_map (λ v. view v.now) value.entry) ≡ Ok selectors) }
     ensures atoms { OnOk result (repository.new ≡ with_scopes repository.old (loading.text_words (option_and_then as_str (option_map (λ v. view v.now) value.entry)))) }
     ensures err { IfErr result (Refuses (loading.rule_selectors repository.old (option_map (λ v. view v.now) value.entry))) }
+    ensures whole { IsRepository repository.new }
     ensures kept { take (length repository.old) repository.new ≡ repository.old }
 {
+    repository.is_whole();
     match value {
         Some(value) => selectors(alloc, value, repository),
         None => Err(ParseThemeError::ScopeSelectorIsNotString(Text::new(alloc))),
@@ -245,6 +249,7 @@ fn rule_in(
     ensures ok { IfOk result (λ rule. loading.rule_in repository.old (view value.now) ≡ Ok rule) }
     ensures atoms { OnOk result (repository.new ≡ with_scopes repository.old (loading.rule_words (view value.now))) }
     ensures err { IfErr result (Refuses (loading.rule_in repository.old (view value.now))) }
+    ensures whole { IsRepository repository.new }
     ensures kept { take (length repository.old) repository.new ≡ repository.old }
 {
     let scope = match rule_selectors(alloc, value.get("scope"), repository) {
@@ -266,8 +271,10 @@ pub(crate) fn rule(
     ensures ok { IfOk result (λ rule. loading.item_at repository.old (view value.now) ≡ Ok rule) }
     ensures atoms { OnOk result (repository.new ≡ with_scopes repository.old (loading.rule_words (view value.now))) }
     ensures err { IfErr result (Refuses (loading.item_at repository.old (view value.now))) }
+    ensures whole { IsRepository repository.new }
     ensures kept { take (length repository.old) repository.new ≡ repository.old }
 {
+    repository.is_whole();
     match value.as_object() {
         Some(_) => rule_in(alloc, value, repository),
         None => Err(ParseThemeError::ColorShemeScopeIsNotObject),

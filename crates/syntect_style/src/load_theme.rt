@@ -253,8 +253,10 @@ fn rules(
     repository: &mut ScopeRepository,
 ) -> Result<Seq<ThemeItem>, AllocError>
     ensures ok { IfOk result (λ rules. loading.ReadsRules repository.old (items_view items.now) repository.new rules) }
+    ensures whole { IsRepository repository.new }
     ensures kept { take (length repository.old) repository.new ≡ repository.old }
 {
+    repository.is_whole();
     let mut rules = Seq::new(alloc);
     for item in items {
         match rule(alloc, item, repository) {
@@ -274,8 +276,10 @@ pub(crate) fn theme(
 ) -> Result<Theme, ParseThemeError>
     ensures ok { IfOk result (loading.IsTheme repository.old (view value.now) repository.new) }
     ensures err { IfErr result (Refuses (loading.head_at (view value.now))) }
+    ensures whole { IsRepository repository.new }
     ensures kept { take (length repository.old) repository.new ≡ repository.old }
 {
+    repository.is_whole();
     let theme = match head(alloc, value) {
         Ok(theme) => theme,
         Err(e) => return Err(e),

@@ -2,7 +2,7 @@
 ghost use Rattle.std.specs.Prelude.{◌≡◌, Some, None, IfOk, OnOk};
 ghost use Rattle.std.specs.Option.{option_map};
 ghost use Rattle.std.specs.List.{flat_map};
-ghost use Rattle.syntect_style.specs.Candidates.{candidate, single_scope};
+ghost use Rattle.syntect_style.specs.Candidates.{candidate};
 ghost use Rattle.syntect_style.specs.Rules.{against, candidate_from, other_from, power_score, after_others, item_others};
 
 use crate::scores::SingleScore;
@@ -64,7 +64,7 @@ fn add_item(best: &mut OtherStandings, item: &ThemeItem, stack: &[Scope]) -> Res
     ensures font_style { OnOk result (other_from best.new.font_style ≡ after_others (λ m. m.font_style) stack.now (other_from best.old.font_style) (item_others item.now)) }
 {
     for selector in item.scope.selectors.as_slice() {
-        if single_scope(selector).is_none() {
+        if selector.extract_single_scope().is_none() {
             let power = match selector.does_match(stack) {
                 Ok(power) => power,
                 Err(e) => return Err(e),
@@ -99,16 +99,6 @@ pub(crate) fn others_of(items: &[ThemeItem], stack: &[Scope]) -> Result<OtherSta
         }
     }
     Ok(best)
-}
-
-/// The scope of a selector with one path scope and no exclusion.
-pub(crate) fn single_scope(selector: &ScopeSelector) -> Option<Scope>
-    ensures { result ≡ single_scope selector.now }
-{
-    match selector.path.as_slice() {
-        [scope] if selector.excludes.is_empty() => Some(*scope),
-        _ => None,
-    }
 }
 
 /// The value of the one with the greater score: of equal scores that of the single rule.

@@ -2,7 +2,7 @@
 ghost use Rattle.std.specs.Prelude.{◌≡◌, length, take, IfOk, OnOk, IfErr, Ok};
 ghost use Rattle.serde_json.specs.Find.{as_str};
 ghost use Rattle.serde_json.specs.View.{view};
-ghost use Rattle.syntect_scope.specs.Repository.{with_scopes};
+ghost use Rattle.syntect_scope.specs.Repository.{with_scopes, IsRepository};
 ghost use Rattle.syntect_style.specs.Loading as loading;
 ghost use Rattle.syntect_style.specs.Refusals.{Refuses};
 
@@ -92,6 +92,7 @@ impl ParseSettings for ScopeSelectors {
         ensures ok { IfOk result (λ selectors. loading.selectors_at repository.old (view settings) ≡ Ok selectors) }
         ensures atoms { OnOk result (repository.new ≡ with_scopes repository.old (loading.text_words (as_str (view settings)))) }
         ensures err { IfErr result (Refuses (loading.selectors_at repository.old (view settings))) }
+        ensures whole { IsRepository repository.new }
         ensures kept { take (length repository.old) repository.new ≡ repository.old }
     {
         load::selectors(alloc, &settings, repository)
@@ -129,6 +130,7 @@ impl ParseSettings for ThemeItem {
         ensures ok { IfOk result (λ rule. loading.item_at repository.old (view settings) ≡ Ok rule) }
         ensures atoms { OnOk result (repository.new ≡ with_scopes repository.old (loading.rule_words (view settings))) }
         ensures err { IfErr result (Refuses (loading.item_at repository.old (view settings))) }
+        ensures whole { IsRepository repository.new }
         ensures kept { take (length repository.old) repository.new ≡ repository.old }
     {
         load::rule(alloc, &settings, repository)
@@ -166,6 +168,7 @@ impl ParseSettings for Theme {
     ) -> Result<Theme, ParseThemeError>
         ensures ok { IfOk result (loading.IsTheme repository.old (view settings) repository.new) }
         ensures err { IfErr result (Refuses (loading.head_at (view settings))) }
+        ensures whole { IsRepository repository.new }
         ensures kept { take (length repository.old) repository.new ≡ repository.old }
     {
         load_theme::theme(alloc, &settings, repository)

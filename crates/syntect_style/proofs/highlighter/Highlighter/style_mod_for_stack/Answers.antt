@@ -1,4 +1,4 @@
-use Rattle.std.proofs.Common.{◌≡◌, refl, ap, sym, ◌∙◌}
+use Rattle.std.proofs.Common.{◌≡◌, refl, ap, ◌∙◌}
 use Rattle.std.specs.List.{flat_map}
 use Rattle.syntect_style.specs.Rules.{single_rules, other_rules, item_others}
 use Rattle.syntect_style.proofs.ContestLaws.{winners_stand}
