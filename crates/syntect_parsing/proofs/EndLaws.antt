@@ -1,5 +1,5 @@
 -- The end of loading.
-use Rattle.std.proofs.Common.{◌≡◌, ℕ, List, Option, Result, Ok, Err, refl, ap, sym, ◌∙◌}
+use Rattle.std.proofs.Common.{◌≡◌, ℕ, List, Option, Result, Ok, Err, ap, ◌∙◌}
 use Rattle.syntect_yaml.specs.Node.{Node}
 use Rattle.syntect_base.specs.declared.syntax.ParseSyntaxError.{ParseSyntaxError}
 use Rattle.syntect_parsing.specs.LoadingSteps.{Refusal, Finds}

@@ -9,6 +9,9 @@ pub mod LongRows
 pub mod Places
 pub mod Open
 pub mod LinkLaws
+pub mod Walks
+pub mod LeadsLaws
+pub mod ReachedLaws
 pub mod DialectLaws
 pub mod ListLaws
 pub mod SearchLaws
@@ -17,6 +20,10 @@ pub mod LevelLaws
 pub mod EmitLaws
 pub mod ReplayLaws
 pub mod OrderLaws
+pub mod CaptureLaws
+pub mod MarkLaws
+pub mod CapturedLaws
+pub mod SortLaws
 pub mod ShowLaws
 pub mod ChoiceLaws
 pub mod TakeLaws
@@ -26,7 +33,12 @@ pub mod EachLaws
 pub mod ClosedLaws
 pub mod RefusalLaws
 pub mod LinkedLaws
+mod LinkRows
 pub mod SubstitutionLaws
 mod LoadingLaws
 mod RoomLaws
 mod EndLaws
+mod PlaceLaws
+mod FindLaws
+mod PlainLaws
+mod UnlinkedLaws

@@ -1,18 +1,17 @@
 -- The steps of the loader, and values as it sees them.
-use Rattle.std.proofs.Common.{◌≡◌, ℕ, List, [], ◌∷◌, map, Option, Some, None, Result, Ok, Err, option_map, Bool, true, false, cond, ◌+◌, ◌<◌, drop, get_or, ◌++◌, ◌≤◌, length, take, is_some, arith, refl, ap, sym, ◌∙◌}
+use Rattle.std.proofs.Common.{◌≡◌, ℕ, List, [], ◌∷◌, map, Option, Some, None, Result, Ok, option_map, Bool, true, false, cond, ◌+◌, ◌<◌, drop, get_or, ◌++◌, ◌≤◌, length, is_some, arith, refl, ap, sym, ◌∙◌}
 use Rattle.std.proofs.lemmas.Str.Pattern.{ends_text}
 use Rattle.std.specs.Str.Pattern.{FindsTextSuffix}
 use Rattle.std.specs.Borrow.{Bor}
 use Rattle.std.proofs.lemmas.Grind.{common_steps}
 use Rattle.std.proofs.lemmas.List.{take-append-le, drop_more}
 use Rattle.syntect_scope.specs.Repository.{with_atom, with_atoms, place_in}
-use Rattle.syntect_yaml.specs.Node as node
-use Rattle.syntect_yaml.specs.Node.{Node, Items, Entries, as_list, as_map}
+use Rattle.syntect_yaml.specs.Node.{Node, Items, Entries}
 use Rattle.syntect_yaml.specs.View.{view, items_of, items_view, entries_of, entries_view, entry_view}
 use Rattle.syntect_yaml.specs.declared.value.Scalar.{Scalar}
 use Rattle.syntect_yaml.specs.declared.value.Yaml.{Yaml}
 use Rattle.syntect_base.specs.declared.syntax.ParseSyntaxError.{ParseSyntaxError}
-use Rattle.syntect_parsing.specs.LoadingSteps.{Refusal, seen, Fails, Step, on, each, Begins, Keeps}
+use Rattle.syntect_parsing.specs.LoadingSteps.{Refusal, Fails, Step, on, each, Begins, Keeps}
 use Rattle.syntect_parsing.specs.LoadingValues.{values, pairs, file_ending, without_ending}
 use Rattle.syntect_parsing.specs.declared.yaml_load_state.Reading.{Reading}
 

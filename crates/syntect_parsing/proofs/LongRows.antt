@@ -16,7 +16,7 @@ use Rattle.syntect_pattern.specs.Grammar.{tree_of, whole, body, passed, quantifi
 use Rattle.std.specs.Str.{chars}
 use Rattle.syntect_parsing.specs.Line.{turn, Reads, at_start}
 use Rattle.syntect_parsing.proofs.Run.{sound}
-use Rattle.syntect_parsing.specs.Engine.{whole_dialect}
+use Rattle.syntect_parsing.specs.Engine.{dialect}
 use Rattle.syntect_parsing.proofs.Rows.{grammar, context, pattern, to, t, tops, level, on, at_first}
 use Rattle.syntect_parsing.specs.declared.syntax_definition.MatchOperation.TheVariants as op
 use Rattle.syntect_parsing.specs.declared.syntax_set.SyntaxSet.{SyntaxSet}
@@ -26,15 +26,15 @@ use Rattle.syntect_parsing.specs.declared.syntax_set.SyntaxSet.{SyntaxSet}
 abbrev pub idle : SyntaxSet
 idle = grammar (pattern (codes "(?=x)") [] (op.Set (to 3)) ∷ []) (context [] [] (pattern (codes "(?=x)") [] (op.Set (to 2)) ∷ []) ∷ [])
 
-reads_idle : Reads whole_dialect idle (codes "xa") (at_start at_first) (tops (replicate 2 [])) (on (level 0 ∷ level 3 ∷ [])) 1002
+reads_idle : Reads dialect idle (codes "xa") (at_start at_first) (tops (replicate 2 [])) (on (level 0 ∷ level 3 ∷ [])) 1002
 unfolding turn tree_of whole body passed pass quantified quantifier count loop off_letters flags_at named_group flag_group opening next_char escape one_letter hex_escape hex_fixed category_escape named_set name_in run first char_of class class_rest next_in posix_form class_escape member range_end start_of plain_item posix_item found found_at char_at char_before is_boundary is_word_edge is_word is_alike same_fold chars general_category general_category_rows value_in simple_folding simple_folding_rows
-reads_idle = sound whole_dialect idle (codes "xa") 1002 (at_start at_first)
+reads_idle = sound dialect idle (codes "xa") 1002 (at_start at_first)
 
 -- ---- no push at a hundred levels ----
 
 abbrev pub deep : SyntaxSet
 deep = grammar (pattern (codes "x") [] (op.Push (to 2)) ∷ []) []
 
-reads_deep : Reads whole_dialect deep (replicate 150 120) (at_start at_first) (map (λ k. replicate (k + 1) t) (range_with_len 0 98) ++ replicate 52 (replicate 99 t)) (on (level 0 ∷ level 1 ∷ replicate 98 (level 2))) 100
+reads_deep : Reads dialect deep (replicate 150 120) (at_start at_first) (map (λ k. replicate (k + 1) t) (range_with_len 0 98) ++ replicate 52 (replicate 99 t)) (on (level 0 ∷ level 1 ∷ replicate 98 (level 2))) 100
 unfolding turn tree_of whole body passed pass quantified quantifier count loop off_letters flags_at named_group flag_group opening next_char escape one_letter hex_escape hex_fixed category_escape named_set name_in run first char_of class class_rest next_in posix_form class_escape member range_end start_of plain_item posix_item found found_at char_at char_before is_boundary is_word_edge is_word is_alike same_fold chars general_category general_category_rows value_in simple_folding simple_folding_rows
-reads_deep = sound whole_dialect deep (replicate 150 120) 100 (at_start at_first)
+reads_deep = sound dialect deep (replicate 150 120) 100 (at_start at_first)

@@ -27,6 +27,10 @@ pub apply-append : (xs ys : List (ℕ × ScopeStackOp)) (r : Replay) → AllAppl
 apply-append [] ys r h k = k
 apply-append (x ∷ xs) ys r h k = (h.0, apply-append xs ys (replayed r x) h.1 k)
 
+pub apply-onto : (xs ys : List (ℕ × ScopeStackOp)) (s : ScopeStack) → AllApply s xs → ((t : ScopeStack) → AllApply t ys) → AllApply s (xs ++ ys)
+apply-onto [] ys s h k = k s
+apply-onto (x ∷ xs) ys s h k = (h.0, apply-onto xs ys (applied x.1 s) h.1 k)
+
 pub apply-pushes : (at : ℕ) (ss : List (List ℕ)) (s : ScopeStack) → AllApply s (pushes at ss)
 apply-pushes at [] s = tt
 apply-pushes at (x ∷ ss) s = (refl, apply-pushes at ss (applied (Push x) s))

@@ -18,6 +18,10 @@ replicate_add (suc m) n s = let z : suc m + n ≡ suc (m + n) = omega arith in r
 none_left : (b : List (List (List ℕ))) (i : ℕ) (s : List (List ℕ)) → length b ≡ i → b ++ replicate (i - length b) s ≡ b
 none_left b i s e = let z : i - length b ≡ 0 = omega (arith, e) in rw z (append-nil b)
 
+pub replay-append : (os ps : List (ℕ × ScopeStackOp)) (r : Replay) → replay (os ++ ps) r ≡ replay ps (replay os r)
+replay-append [] ps r = refl
+replay-append (o ∷ os) ps r = replay-append os ps (replayed r o)
+
 pub at_op : (r : Replay) (i : ℕ) (b : List (List (List ℕ))) (st st' : List (List ℕ)) (op : ScopeStackOp) → applied op (plain st) ≡ plain st' → IsAt r i b st → IsAt (replayed r (i, op)) i b st'
 at_op r i b st st' op e h = record {
   before = rw h.before (none_left b i _ h.count);

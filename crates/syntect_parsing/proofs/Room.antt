@@ -16,14 +16,14 @@ use Rattle.syntect_parsing.specs.declared.syntax_set.SyntaxSet.{SyntaxSet}
 
 -- ---- the contexts of a set ----
 
-abbrev number : ℕ → ℕ → ContextId
+abbrev pub number : ℕ → ℕ → ContextId
 number i j = record { syntax_index = i; context_index = j }
 
-abbrev numbers_of : ℕ → ℕ → ℕ → List ContextId
+abbrev pub numbers_of : ℕ → ℕ → ℕ → List ContextId
 numbers_of i j zero = []
 numbers_of i j (suc n) = number i j ∷ numbers_of i (j + 1) n
 
-abbrev numbers_from : ℕ → List (List Context) → List ContextId
+abbrev pub numbers_from : ℕ → List (List Context) → List ContextId
 numbers_from i [] = []
 numbers_from i (cs ∷ css) = numbers_of i 0 (length cs) ++ numbers_from (i + 1) css
 
@@ -31,11 +31,11 @@ length_of : (i j n : ℕ) → length (numbers_of i j n) ≡ n
 length_of i j zero = refl
 length_of i j (suc n) = ap suc (length_of i (j + 1) n)
 
-length_from : (i : ℕ) (css : List (List Context)) → length (numbers_from i css) ≡ count_contexts css
+pub length_from : (i : ℕ) (css : List (List Context)) → length (numbers_from i css) ≡ count_contexts css
 length_from i [] = refl
 length_from i (cs ∷ css) = omega (arith, length-append (numbers_of i 0 (length cs)) (numbers_from (i + 1) css), length_of i 0 (length cs), length_from (i + 1) css)
 
-any_append : (p : ContextId → Bool) (xs ys : List ContextId) → list_any p (xs ++ ys) ≡ (list_any p xs || list_any p ys)
+pub any_append : (p : ContextId → Bool) (xs ys : List ContextId) → list_any p (xs ++ ys) ≡ (list_any p xs || list_any p ys)
 any_append p [] ys = refl
 any_append p (x ∷ xs) ys = or_step (p x) (list_any p xs) (list_any p ys) (list_any p (xs ++ ys)) (any_append p xs ys)
   where
@@ -43,29 +43,29 @@ any_append p (x ∷ xs) ys = or_step (p x) (list_any p xs) (list_any p ys) (list
     or_step true b c d e = refl
     or_step false b c d e = e
 
-is_same_self : (a : ContextId) → is_same a a ≡ true
+pub is_same_self : (a : ContextId) → is_same a a ≡ true
 is_same_self a = grind (arith, nat_tests)
 
-same_id : (a b : ContextId) → is_same a b ≡ true → a ≡ b
+pub same_id : (a b : ContextId) → is_same a b ≡ true → a ≡ b
 same_id a b e =
     let i : a.syntax_index ≡ b.syntax_index = grind (arith, nat_tests) in
     let j : a.context_index ≡ b.context_index = grind (arith, nat_tests) in
     ap (λ (n : ℕ). number n a.context_index) i ∙ ap (λ (n : ℕ). number b.syntax_index n) j
 
-any_here : (p : ContextId → Bool) (x : ContextId) (xs : List ContextId) → p x ≡ true → list_any p (x ∷ xs) ≡ true
+pub any_here : (p : ContextId → Bool) (x : ContextId) (xs : List ContextId) → p x ≡ true → list_any p (x ∷ xs) ≡ true
 any_here p x xs e = rw e refl
 
-any_later : (p : ContextId → Bool) (x : ContextId) (xs : List ContextId) → list_any p xs ≡ true → list_any p (x ∷ xs) ≡ true
+pub any_later : (p : ContextId → Bool) (x : ContextId) (xs : List ContextId) → list_any p xs ≡ true → list_any p (x ∷ xs) ≡ true
 any_later p x xs e = by (p x) (list_any p xs) e
   where
     by : (a b : Bool) → b ≡ true → (a || b) ≡ true
     by true b e = refl
     by false b e = e
 
-any_left : (p : ContextId → Bool) (xs ys : List ContextId) → list_any p xs ≡ true → list_any p (xs ++ ys) ≡ true
+pub any_left : (p : ContextId → Bool) (xs ys : List ContextId) → list_any p xs ≡ true → list_any p (xs ++ ys) ≡ true
 any_left p xs ys e = rw (any_append p xs ys, e) refl
 
-any_right : (p : ContextId → Bool) (xs ys : List ContextId) → list_any p ys ≡ true → list_any p (xs ++ ys) ≡ true
+pub any_right : (p : ContextId → Bool) (xs ys : List ContextId) → list_any p ys ≡ true → list_any p (xs ++ ys) ≡ true
 any_right p xs ys e = rw (any_append p xs ys, e) (by (list_any p xs))
   where
     by : (a : Bool) → (a || true) ≡ true
@@ -80,7 +80,7 @@ listed_of i j (suc k) (d ∷ cs) c e =
     let h : list_any (is_same (number i ((j + 1) + k))) (numbers_of i (j + 1) (length cs)) ≡ true = listed_of i (j + 1) k cs c e in
     any_later (is_same (number i (j + suc k))) (number i j) (numbers_of i (j + 1) (length cs)) (rw m at h)
 
-listed_from : (i k n : ℕ) (css : List (List Context)) (c : Context) → option_and_then (λ (cs : List Context). slice_get cs n) (slice_get css k) ≡ Some c
+pub listed_from : (i k n : ℕ) (css : List (List Context)) (c : Context) → option_and_then (λ (cs : List Context). slice_get cs n) (slice_get css k) ≡ Some c
     → list_any (is_same (number (i + k) n)) (numbers_from i css) ≡ true
 listed_from i k n [] c e = cc
 listed_from i zero n (cs ∷ css) c e =

@@ -1,5 +1,5 @@
 -- A context where contexts may nest, and where they may not.
-use Rattle.std.proofs.Common.{◌≡◌, ℕ, zero, suc, ◌-◌, ◌<◌, Bool, List, Some, Result, Ok, Err, unwrap_or, refl, ap, sym, ◌∙◌, subst, arith}
+use Rattle.std.proofs.Common.{◌≡◌, ℕ, zero, suc, ◌-◌, ◌<◌, Bool, List, Some, Result, Ok, Err, unwrap_or, ap, sym, ◌∙◌, subst, arith}
 use Rattle.syntect_yaml.specs.Node.{Node}
 use Rattle.syntect_base.specs.declared.syntax.ParseSyntaxError.{ParseSyntaxError}
 use Rattle.syntect_parsing.specs.LoadingSteps.{Refusal, wrong_kind, Gives, on}

@@ -25,7 +25,7 @@ use Rattle.syntect_scope.specs.declared.stack.ScopeStackOp.TheVariants.{Push, Po
 use Rattle.syntect_scope.specs.Stack.{plain as plain_stack}
 use Rattle.syntect_scope.specs.Replay.{replay, before_text, bytes_to}
 use Rattle.syntect_parsing.proofs.Run.{sound}
-use Rattle.syntect_parsing.specs.Engine.{whole_dialect}
+use Rattle.syntect_parsing.specs.Engine.{dialect}
 use Rattle.syntect_parsing.specs.declared.syntax_definition.ContextId.{ContextId}
 use Rattle.syntect_parsing.specs.declared.syntax_definition.ContextReference.{ContextReference}
 use Rattle.syntect_parsing.specs.declared.syntax_definition.ContextReference.TheVariants.{Direct, ByScope}
@@ -92,8 +92,10 @@ set_of contexts = record {
     variables = [];
     index = 0;
     names = [];
+    first_line = None;
     contexts = contexts;
   } ∷ [];
+  path_syntaxes = [];
 }
 
 -- `__start` is 0, `__main` is 1, `main` is 2, and then the others
@@ -127,13 +129,13 @@ words = grammar
 abbrev pub word_bytes : List Scopes
 word_bytes = tops ([] ∷ (s 2 ∷ []) ∷ (s 5 ∷ []) ∷ (s 5 ∷ []) ∷ (s 5 ∷ []) ∷ (s 3 ∷ []) ∷ (s 4 ∷ []) ∷ (s 4 ∷ []) ∷ (s 4 ∷ []) ∷ [])
 
-reads_words : Reads whole_dialect words (codes " Aaaabxxx") (at_start at_first) word_bytes (on (level 0 ∷ level 1 ∷ [])) 7
+reads_words : Reads dialect words (codes " Aaaabxxx") (at_start at_first) word_bytes (on (level 0 ∷ level 1 ∷ [])) 7
 unfolding turn tree_of whole body passed pass quantified quantifier count loop off_letters flags_at named_group flag_group opening next_char escape one_letter hex_escape hex_fixed category_escape named_set name_in run first char_of class class_rest next_in posix_form class_escape member range_end start_of plain_item posix_item found found_at char_at char_before is_boundary is_word_edge is_word is_alike same_fold chars general_category general_category_rows value_in simple_folding simple_folding_rows
-reads_words = sound whole_dialect words (codes " Aaaabxxx") 20 (at_start at_first)
+reads_words = sound dialect words (codes " Aaaabxxx") 20 (at_start at_first)
 
-reads_words_again : Reads whole_dialect words (codes " Aaaabxxx") (at_start (on (level 0 ∷ level 1 ∷ []))) word_bytes (on (level 0 ∷ level 1 ∷ [])) 6
+reads_words_again : Reads dialect words (codes " Aaaabxxx") (at_start (on (level 0 ∷ level 1 ∷ []))) word_bytes (on (level 0 ∷ level 1 ∷ [])) 6
 unfolding turn tree_of whole body passed pass quantified quantifier count loop off_letters flags_at named_group flag_group opening next_char escape one_letter hex_escape hex_fixed category_escape named_set name_in run first char_of class class_rest next_in posix_form class_escape member range_end start_of plain_item posix_item found found_at char_at char_before is_boundary is_word_edge is_word is_alike same_fold chars general_category general_category_rows value_in simple_folding simple_folding_rows
-reads_words_again = sound whole_dialect words (codes " Aaaabxxx") 20 (at_start (on (level 0 ∷ level 1 ∷ [])))
+reads_words_again = sound dialect words (codes " Aaaabxxx") 20 (at_start (on (level 0 ∷ level 1 ∷ [])))
 
 -- ---- an empty pop that would undo an empty push ----
 
@@ -141,9 +143,9 @@ abbrev pub hello : SyntaxSet
 hello = grammar (pattern (codes "(?=.)") [] (op.Push (to 3)) ∷ [])
     (context [] [] (pattern word (s 2 ∷ []) op.None ∷ pattern (codes "(?=.)") [] op.Pop ∷ []) ∷ [])
 
-reads_hello : Reads whole_dialect hello (codes " hello") (at_start at_first) (tops ([] ∷ replicate 5 (s 2 ∷ []))) (on (level 0 ∷ level 1 ∷ level 3 ∷ [])) 5
+reads_hello : Reads dialect hello (codes " hello") (at_start at_first) (tops ([] ∷ replicate 5 (s 2 ∷ []))) (on (level 0 ∷ level 1 ∷ level 3 ∷ [])) 5
 unfolding turn tree_of whole body passed pass quantified quantifier count loop off_letters flags_at named_group flag_group opening next_char escape one_letter hex_escape hex_fixed category_escape named_set name_in run first char_of class class_rest next_in posix_form class_escape member range_end start_of plain_item posix_item found found_at char_at char_before is_boundary is_word_edge is_word is_alike same_fold chars general_category general_category_rows value_in simple_folding simple_folding_rows
-reads_hello = sound whole_dialect hello (codes " hello") 20 (at_start at_first)
+reads_hello = sound dialect hello (codes " hello") 20 (at_start at_first)
 
 -- ---- captures ----
 
@@ -153,33 +155,33 @@ one_pattern p = grammar (p ∷ []) []
 abbrev pub bob : SyntaxSet
 bob = one_pattern (captured (codes "((bob)|(hi))*") ((1, s 2 ∷ []) ∷ (2, s 3 ∷ []) ∷ (3, s 4 ∷ []) ∷ []))
 
-reads_bob : Reads whole_dialect bob (codes "hibob") (at_start at_first) (tops (replicate 2 (s 4 ∷ []) ++ replicate 3 (s 2 ∷ s 3 ∷ []))) (on (level 0 ∷ level 1 ∷ [])) 3
+reads_bob : Reads dialect bob (codes "hibob") (at_start at_first) (tops (replicate 2 (s 4 ∷ []) ++ replicate 3 (s 2 ∷ s 3 ∷ []))) (on (level 0 ∷ level 1 ∷ [])) 3
 unfolding turn tree_of whole body passed pass quantified quantifier count loop off_letters flags_at named_group flag_group opening next_char escape one_letter hex_escape hex_fixed category_escape named_set name_in run first char_of class class_rest next_in posix_form class_escape member range_end start_of plain_item posix_item found found_at char_at char_before is_boundary is_word_edge is_word is_alike same_fold chars general_category general_category_rows value_in simple_folding simple_folding_rows
-reads_bob = sound whole_dialect bob (codes "hibob") 20 (at_start at_first)
+reads_bob = sound dialect bob (codes "hibob") 20 (at_start at_first)
 
 -- longer ones first
 abbrev pub nested : SyntaxSet
 nested = one_pattern (captured (codes "((a)(b))") ((2, s 3 ∷ []) ∷ (1, s 2 ∷ []) ∷ (3, s 4 ∷ []) ∷ []))
 
-reads_nested : Reads whole_dialect nested (codes "ab") (at_start at_first) (tops ((s 2 ∷ s 3 ∷ []) ∷ (s 2 ∷ s 4 ∷ []) ∷ [])) (on (level 0 ∷ level 1 ∷ [])) 3
+reads_nested : Reads dialect nested (codes "ab") (at_start at_first) (tops ((s 2 ∷ s 3 ∷ []) ∷ (s 2 ∷ s 4 ∷ []) ∷ [])) (on (level 0 ∷ level 1 ∷ [])) 3
 unfolding turn tree_of whole body passed pass quantified quantifier count loop off_letters flags_at named_group flag_group opening next_char escape one_letter hex_escape hex_fixed category_escape named_set name_in run first char_of class class_rest next_in posix_form class_escape member range_end start_of plain_item posix_item found found_at char_at char_before is_boundary is_word_edge is_word is_alike same_fold chars general_category general_category_rows value_in simple_folding simple_folding_rows
-reads_nested = sound whole_dialect nested (codes "ab") 20 (at_start at_first)
+reads_nested = sound dialect nested (codes "ab") 20 (at_start at_first)
 
 -- equal spans in the order of the list
 abbrev pub equal_spans : SyntaxSet
 equal_spans = one_pattern (captured (codes "((a))") ((2, s 3 ∷ []) ∷ (1, s 2 ∷ []) ∷ []))
 
-reads_equal_spans : Reads whole_dialect equal_spans (codes "a") (at_start at_first) (tops ((s 3 ∷ s 2 ∷ []) ∷ [])) (on (level 0 ∷ level 1 ∷ [])) 3
+reads_equal_spans : Reads dialect equal_spans (codes "a") (at_start at_first) (tops ((s 3 ∷ s 2 ∷ []) ∷ [])) (on (level 0 ∷ level 1 ∷ [])) 3
 unfolding turn tree_of whole body passed pass quantified quantifier count loop off_letters flags_at named_group flag_group opening next_char escape one_letter hex_escape hex_fixed category_escape named_set name_in run first char_of class class_rest next_in posix_form class_escape member range_end start_of plain_item posix_item found found_at char_at char_before is_boundary is_word_edge is_word is_alike same_fold chars general_category general_category_rows value_in simple_folding simple_folding_rows
-reads_equal_spans = sound whole_dialect equal_spans (codes "a") 20 (at_start at_first)
+reads_equal_spans = sound dialect equal_spans (codes "a") 20 (at_start at_first)
 
 -- a lookaround's group has no effect
 abbrev pub ahead : SyntaxSet
 ahead = one_pattern (captured (codes "(?=(a))a(b)") ((1, s 2 ∷ []) ∷ (2, s 3 ∷ []) ∷ []))
 
-reads_ahead : Reads whole_dialect ahead (codes "ab") (at_start at_first) (tops ([] ∷ (s 3 ∷ []) ∷ [])) (on (level 0 ∷ level 1 ∷ [])) 3
+reads_ahead : Reads dialect ahead (codes "ab") (at_start at_first) (tops ([] ∷ (s 3 ∷ []) ∷ [])) (on (level 0 ∷ level 1 ∷ [])) 3
 unfolding turn tree_of whole body passed pass quantified quantifier count loop off_letters flags_at named_group flag_group opening next_char escape one_letter hex_escape hex_fixed category_escape named_set name_in run first char_of class class_rest next_in posix_form class_escape member range_end start_of plain_item posix_item found found_at char_at char_before is_boundary is_word_edge is_word is_alike same_fold chars general_category general_category_rows value_in simple_folding simple_folding_rows
-reads_ahead = sound whole_dialect ahead (codes "ab") 20 (at_start at_first)
+reads_ahead = sound dialect ahead (codes "ab") 20 (at_start at_first)
 
 -- ---- back references into the opening match ----
 
@@ -193,17 +195,17 @@ newline = 10 ∷ []
 abbrev pub in_doc : ParseState
 in_doc = on (level 0 ∷ level 1 ∷ record (level 3) { opening = Some (record { region = Some (0, 5) ∷ Some (2, 5) ∷ []; line = codes "<<EOT" ++ newline }) } ∷ [])
 
-reads_open : Reads whole_dialect doc (codes "<<EOT" ++ newline) (at_start at_first) (tops (replicate 6 (s 2 ∷ []))) in_doc 3
+reads_open : Reads dialect doc (codes "<<EOT" ++ newline) (at_start at_first) (tops (replicate 6 (s 2 ∷ []))) in_doc 3
 unfolding turn tree_of whole body passed pass quantified quantifier count loop off_letters flags_at named_group flag_group opening next_char escape one_letter hex_escape hex_fixed category_escape named_set name_in run first char_of class class_rest next_in posix_form class_escape member range_end start_of plain_item posix_item found found_at char_at char_before is_boundary is_word_edge is_word is_alike same_fold chars general_category general_category_rows value_in simple_folding simple_folding_rows lib.Utf8.encode is_special
-reads_open = sound whole_dialect doc (codes "<<EOT" ++ newline) 20 (at_start at_first)
+reads_open = sound dialect doc (codes "<<EOT" ++ newline) 20 (at_start at_first)
 
-reads_inside : Reads whole_dialect doc (codes "x" ++ newline) (at_start in_doc) (tops (replicate 2 (s 2 ∷ []))) in_doc 1
+reads_inside : Reads dialect doc (codes "x" ++ newline) (at_start in_doc) (tops (replicate 2 (s 2 ∷ []))) in_doc 1
 unfolding turn tree_of whole body passed pass quantified quantifier count loop off_letters flags_at named_group flag_group opening next_char escape one_letter hex_escape hex_fixed category_escape named_set name_in run first char_of class class_rest next_in posix_form class_escape member range_end start_of plain_item posix_item found found_at char_at char_before is_boundary is_word_edge is_word is_alike same_fold chars general_category general_category_rows value_in simple_folding simple_folding_rows lib.Utf8.encode is_special
-reads_inside = sound whole_dialect doc (codes "x" ++ newline) 20 (at_start in_doc)
+reads_inside = sound dialect doc (codes "x" ++ newline) 20 (at_start in_doc)
 
-reads_close : Reads whole_dialect doc (codes "EOT" ++ newline) (at_start in_doc) (tops (replicate 3 (s 2 ∷ []) ++ replicate 1 [])) (on (level 0 ∷ level 1 ∷ [])) 2
+reads_close : Reads dialect doc (codes "EOT" ++ newline) (at_start in_doc) (tops (replicate 3 (s 2 ∷ []) ++ replicate 1 [])) (on (level 0 ∷ level 1 ∷ [])) 2
 unfolding turn tree_of whole body passed pass quantified quantifier count loop off_letters flags_at named_group flag_group opening next_char escape one_letter hex_escape hex_fixed category_escape named_set name_in run first char_of class class_rest next_in posix_form class_escape member range_end start_of plain_item posix_item found found_at char_at char_before is_boundary is_word_edge is_word is_alike same_fold chars general_category general_category_rows value_in simple_folding simple_folding_rows lib.Utf8.encode is_special
-reads_close = sound whole_dialect doc (codes "EOT" ++ newline) 20 (at_start in_doc)
+reads_close = sound dialect doc (codes "EOT" ++ newline) 20 (at_start in_doc)
 
 -- ---- references that have no target ----
 
@@ -213,25 +215,25 @@ nowhere = ByScope (s 9) None false
 abbrev pub unlinked : SyntaxSet
 unlinked = grammar (pattern (codes "x") [] (op.Push (nowhere ∷ [])) ∷ []) []
 
-refuses_unlinked : Refuses whole_dialect unlinked (codes "ax") (at_start at_first) (error.UnresolvedContextReference nowhere) 2
+refuses_unlinked : Refuses dialect unlinked (codes "ax") (at_start at_first) (error.UnresolvedContextReference nowhere) 2
 unfolding turn tree_of whole body passed pass quantified quantifier count loop off_letters flags_at named_group flag_group opening next_char escape one_letter hex_escape hex_fixed category_escape named_set name_in run first char_of class class_rest next_in posix_form class_escape member range_end start_of plain_item posix_item found found_at char_at char_before is_boundary is_word_edge is_word is_alike same_fold chars general_category general_category_rows value_in simple_folding simple_folding_rows
-refuses_unlinked = sound whole_dialect unlinked (codes "ax") 20 (at_start at_first)
+refuses_unlinked = sound dialect unlinked (codes "ax") 20 (at_start at_first)
 
-reads_unlinked : Reads whole_dialect unlinked (codes "ay") (at_start at_first) (tops (replicate 2 [])) (on (level 0 ∷ level 1 ∷ [])) 2
+reads_unlinked : Reads dialect unlinked (codes "ay") (at_start at_first) (tops (replicate 2 [])) (on (level 0 ∷ level 1 ∷ [])) 2
 unfolding turn tree_of whole body passed pass quantified quantifier count loop off_letters flags_at named_group flag_group opening next_char escape one_letter hex_escape hex_fixed category_escape named_set name_in run first char_of class class_rest next_in posix_form class_escape member range_end start_of plain_item posix_item found found_at char_at char_before is_boundary is_word_edge is_word is_alike same_fold chars general_category general_category_rows value_in simple_folding simple_folding_rows
-reads_unlinked = sound whole_dialect unlinked (codes "ay") 20 (at_start at_first)
+reads_unlinked = sound dialect unlinked (codes "ay") 20 (at_start at_first)
 
 -- all references are looked at before a context that the set lacks
 abbrev pub lacking : SyntaxSet
 lacking = grammar (pattern (codes "x") [] (op.Push (Direct (id 9) ∷ nowhere ∷ [])) ∷ pattern (codes "y") [] (op.Push (to 2 ++ to 9)) ∷ []) []
 
-refuses_unresolved : Refuses whole_dialect lacking (codes "x") (at_start at_first) (error.UnresolvedContextReference nowhere) 2
+refuses_unresolved : Refuses dialect lacking (codes "x") (at_start at_first) (error.UnresolvedContextReference nowhere) 2
 unfolding turn tree_of whole body passed pass quantified quantifier count loop off_letters flags_at named_group flag_group opening next_char escape one_letter hex_escape hex_fixed category_escape named_set name_in run first char_of class class_rest next_in posix_form class_escape member range_end start_of plain_item posix_item found found_at char_at char_before is_boundary is_word_edge is_word is_alike same_fold chars general_category general_category_rows value_in simple_folding simple_folding_rows
-refuses_unresolved = sound whole_dialect lacking (codes "x") 20 (at_start at_first)
+refuses_unresolved = sound dialect lacking (codes "x") 20 (at_start at_first)
 
-refuses_lacking : Refuses whole_dialect lacking (codes "y") (at_start at_first) (error.MissingContext (id 9)) 2
+refuses_lacking : Refuses dialect lacking (codes "y") (at_start at_first) (error.MissingContext (id 9)) 2
 unfolding turn tree_of whole body passed pass quantified quantifier count loop off_letters flags_at named_group flag_group opening next_char escape one_letter hex_escape hex_fixed category_escape named_set name_in run first char_of class class_rest next_in posix_form class_escape member range_end start_of plain_item posix_item found found_at char_at char_before is_boundary is_word_edge is_word is_alike same_fold chars general_category general_category_rows value_in simple_folding simple_folding_rows
-refuses_lacking = sound whole_dialect lacking (codes "y") 20 (at_start at_first)
+refuses_lacking = sound dialect lacking (codes "y") 20 (at_start at_first)
 
 -- ---- cuts ----
 
@@ -247,19 +249,19 @@ abbrev pub in_p : ℕ → Level
 in_p n = record (level n) { prototypes = id 5 ∷ [] }
 
 -- a cut that was dropped has no effect at a greater height
-reads_cuts : Reads whole_dialect cuts (codes "xpyp") (at_start at_first) (tops ([] ∷ (s 2 ∷ []) ∷ [] ∷ (s 2 ∷ []) ∷ [])) (on (level 0 ∷ level 1 ∷ in_p 3 ∷ level 4 ∷ [])) 6
+reads_cuts : Reads dialect cuts (codes "xpyp") (at_start at_first) (tops ([] ∷ (s 2 ∷ []) ∷ [] ∷ (s 2 ∷ []) ∷ [])) (on (level 0 ∷ level 1 ∷ in_p 3 ∷ level 4 ∷ [])) 6
 unfolding turn tree_of whole body passed pass quantified quantifier count loop off_letters flags_at named_group flag_group opening next_char escape one_letter hex_escape hex_fixed category_escape named_set name_in run first char_of class class_rest next_in posix_form class_escape member range_end start_of plain_item posix_item found found_at char_at char_before is_boundary is_word_edge is_word is_alike same_fold chars general_category general_category_rows value_in simple_folding simple_folding_rows
-reads_cuts = sound whole_dialect cuts (codes "xpyp") 20 (at_start at_first)
+reads_cuts = sound dialect cuts (codes "xpyp") 20 (at_start at_first)
 
 -- a context that a `with_prototype`'s match pushes doesn't see the prototypes below it
 abbrev pub hides : SyntaxSet
 hides = grammar (with_prototype (codes "x") (to 3) (Direct (id 4)) ∷ [])
     (context [] [] [] ∷ context [] [] (pattern (codes "p") (s 2 ∷ []) (op.Push (to 3)) ∷ []) ∷ [])
 
-reads_hides : Reads whole_dialect hides (codes "xpp") (at_start at_first) (tops ([] ∷ (s 2 ∷ []) ∷ [] ∷ []))
+reads_hides : Reads dialect hides (codes "xpp") (at_start at_first) (tops ([] ∷ (s 2 ∷ []) ∷ [] ∷ []))
     (record (on (level 0 ∷ level 1 ∷ record (level 3) { prototypes = id 4 ∷ [] } ∷ level 3 ∷ [])) { cuts = 3 ∷ [] }) 4
 unfolding turn tree_of whole body passed pass quantified quantifier count loop off_letters flags_at named_group flag_group opening next_char escape one_letter hex_escape hex_fixed category_escape named_set name_in run first char_of class class_rest next_in posix_form class_escape member range_end start_of plain_item posix_item found found_at char_at char_before is_boundary is_word_edge is_word is_alike same_fold chars general_category general_category_rows value_in simple_folding simple_folding_rows
-reads_hides = sound whole_dialect hides (codes "xpp") 20 (at_start at_first)
+reads_hides = sound dialect hides (codes "xpp") 20 (at_start at_first)
 
 -- a set keeps the left level's prototypes on the first new level, its own `with_prototype` is for the last
 abbrev pub sets : SyntaxSet
@@ -267,10 +269,10 @@ sets = grammar (with_prototype (codes "x") (to 3) (Direct (id 5)) ∷ [])
     (context [] [] (Match (record (plain (codes "y") [] (op.Set (to 4 ++ to 4))) { with_prototype = Some (Direct (id 6)) }) ∷ [])
     ∷ context [] [] [] ∷ context [] [] (pattern (codes "p") (s 2 ∷ []) op.None ∷ []) ∷ context [] [] (pattern (codes "q") (s 3 ∷ []) op.None ∷ []) ∷ [])
 
-reads_sets : Reads whole_dialect sets (codes "xypq") (at_start at_first) (tops ([] ∷ [] ∷ (s 2 ∷ []) ∷ (s 3 ∷ []) ∷ []))
+reads_sets : Reads dialect sets (codes "xypq") (at_start at_first) (tops ([] ∷ [] ∷ (s 2 ∷ []) ∷ (s 3 ∷ []) ∷ []))
     (on (level 0 ∷ level 1 ∷ in_p 4 ∷ record (level 4) { prototypes = id 6 ∷ [] } ∷ [])) 6
 unfolding turn tree_of whole body passed pass quantified quantifier count loop off_letters flags_at named_group flag_group opening next_char escape one_letter hex_escape hex_fixed category_escape named_set name_in run first char_of class class_rest next_in posix_form class_escape member range_end start_of plain_item posix_item found found_at char_at char_before is_boundary is_word_edge is_word is_alike same_fold chars general_category general_category_rows value_in simple_folding simple_folding_rows
-reads_sets = sound whole_dialect sets (codes "xypq") 20 (at_start at_first)
+reads_sets = sound dialect sets (codes "xypq") 20 (at_start at_first)
 
 -- ---- an embedded grammar with its escape ----
 
@@ -279,13 +281,13 @@ abbrev pub embeds : ContextReference → SyntaxSet
 embeds r = grammar (with_prototype (codes "x") (to 3 ++ r ∷ []) (Direct (id 4)) ∷ [])
     (context [] [] (pattern (codes "y") [] op.Pop ∷ []) ∷ context [] [] (pattern (codes "(?=y)") [] op.Pop ∷ []) ∷ context [] (s 2 ∷ []) [] ∷ [])
 
-reads_embed : Reads whole_dialect (embeds (Direct (id 5))) (codes "xay") (at_start at_first) (tops ([] ∷ (s 2 ∷ []) ∷ [] ∷ [])) (on (level 0 ∷ level 1 ∷ [])) 5
+reads_embed : Reads dialect (embeds (Direct (id 5))) (codes "xay") (at_start at_first) (tops ([] ∷ (s 2 ∷ []) ∷ [] ∷ [])) (on (level 0 ∷ level 1 ∷ [])) 5
 unfolding turn tree_of whole body passed pass quantified quantifier count loop off_letters flags_at named_group flag_group opening next_char escape one_letter hex_escape hex_fixed category_escape named_set name_in run first char_of class class_rest next_in posix_form class_escape member range_end start_of plain_item posix_item found found_at char_at char_before is_boundary is_word_edge is_word is_alike same_fold chars general_category general_category_rows value_in simple_folding simple_folding_rows
-reads_embed = sound whole_dialect (embeds (Direct (id 5))) (codes "xay") 20 (at_start at_first)
+reads_embed = sound dialect (embeds (Direct (id 5))) (codes "xay") 20 (at_start at_first)
 
-refuses_embed : Refuses whole_dialect (embeds (ByScope (s 9) None true)) (codes "xay") (at_start at_first) (error.UnresolvedContextReference (ByScope (s 9) None true)) 2
+refuses_embed : Refuses dialect (embeds (ByScope (s 9) None true)) (codes "xay") (at_start at_first) (error.UnresolvedContextReference (ByScope (s 9) None true)) 2
 unfolding turn tree_of whole body passed pass quantified quantifier count loop off_letters flags_at named_group flag_group opening next_char escape one_letter hex_escape hex_fixed category_escape named_set name_in run first char_of class class_rest next_in posix_form class_escape member range_end start_of plain_item posix_item found found_at char_at char_before is_boundary is_word_edge is_word is_alike same_fold chars general_category general_category_rows value_in simple_folding simple_folding_rows
-refuses_embed = sound whole_dialect (embeds (ByScope (s 9) None true)) (codes "xay") 20 (at_start at_first)
+refuses_embed = sound dialect (embeds (ByScope (s 9) None true)) (codes "xay") 20 (at_start at_first)
 
 -- ---- meta scopes on the matched text ----
 
@@ -295,13 +297,13 @@ metas = grammar (pattern (92 ∷ codes "(") (s 6 ∷ []) (op.Push (to 3)) ∷ []
     (context (s 2 ∷ []) (s 3 ∷ []) (pattern (92 ∷ codes ")") (s 7 ∷ []) op.Pop ∷ pattern (codes ";") (s 8 ∷ []) (op.Set (to 4)) ∷ [])
     ∷ context (s 4 ∷ []) (s 5 ∷ []) [] ∷ [])
 
-reads_metas : Reads whole_dialect metas (codes "(a)") (at_start at_first) (tops ((s 2 ∷ s 6 ∷ []) ∷ (s 2 ∷ s 3 ∷ []) ∷ (s 2 ∷ s 7 ∷ []) ∷ [])) (on (level 0 ∷ level 1 ∷ [])) 4
+reads_metas : Reads dialect metas (codes "(a)") (at_start at_first) (tops ((s 2 ∷ s 6 ∷ []) ∷ (s 2 ∷ s 3 ∷ []) ∷ (s 2 ∷ s 7 ∷ []) ∷ [])) (on (level 0 ∷ level 1 ∷ [])) 4
 unfolding turn tree_of whole body passed pass quantified quantifier count loop off_letters flags_at named_group flag_group opening next_char escape one_letter hex_escape hex_fixed category_escape named_set name_in run first char_of class class_rest next_in posix_form class_escape member range_end start_of plain_item posix_item found found_at char_at char_before is_boundary is_word_edge is_word is_alike same_fold chars general_category general_category_rows value_in simple_folding simple_folding_rows
-reads_metas = sound whole_dialect metas (codes "(a)") 20 (at_start at_first)
+reads_metas = sound dialect metas (codes "(a)") 20 (at_start at_first)
 
-reads_set_metas : Reads whole_dialect metas (codes "(;a") (at_start at_first) (tops ((s 2 ∷ s 6 ∷ []) ∷ (s 2 ∷ s 3 ∷ s 4 ∷ s 8 ∷ []) ∷ (s 4 ∷ s 5 ∷ []) ∷ [])) (on (level 0 ∷ level 1 ∷ level 4 ∷ [])) 4
+reads_set_metas : Reads dialect metas (codes "(;a") (at_start at_first) (tops ((s 2 ∷ s 6 ∷ []) ∷ (s 2 ∷ s 3 ∷ s 4 ∷ s 8 ∷ []) ∷ (s 4 ∷ s 5 ∷ []) ∷ [])) (on (level 0 ∷ level 1 ∷ level 4 ∷ [])) 4
 unfolding turn tree_of whole body passed pass quantified quantifier count loop off_letters flags_at named_group flag_group opening next_char escape one_letter hex_escape hex_fixed category_escape named_set name_in run first char_of class class_rest next_in posix_form class_escape member range_end start_of plain_item posix_item found found_at char_at char_before is_boundary is_word_edge is_word is_alike same_fold chars general_category general_category_rows value_in simple_folding simple_folding_rows
-reads_set_metas = sound whole_dialect metas (codes "(;a") 20 (at_start at_first)
+reads_set_metas = sound dialect metas (codes "(;a") 20 (at_start at_first)
 
 -- ---- a syntax whose `__start` holds its own patterns ----
 
@@ -310,9 +312,9 @@ own = set_of (
     context [] (t ∷ []) (pattern (codes "A") (s 2 ∷ []) (op.Push (to 1)) ∷ pattern (codes "[a-z]+") (s 4 ∷ []) op.None ∷ [])
     ∷ context [] [] (pattern (codes "a+") (s 5 ∷ []) op.None ∷ pattern (codes "b") (s 3 ∷ []) op.Pop ∷ []) ∷ [])
 
-reads_own : Reads whole_dialect own (codes " Aaaabxxx") (at_start at_first) word_bytes (on (level 0 ∷ [])) 5
+reads_own : Reads dialect own (codes " Aaaabxxx") (at_start at_first) word_bytes (on (level 0 ∷ [])) 5
 unfolding turn tree_of whole body passed pass quantified quantifier count loop off_letters flags_at named_group flag_group opening next_char escape one_letter hex_escape hex_fixed category_escape named_set name_in run first char_of class class_rest next_in posix_form class_escape member range_end start_of plain_item posix_item found found_at char_at char_before is_boundary is_word_edge is_word is_alike same_fold chars general_category general_category_rows value_in simple_folding simple_folding_rows
-reads_own = sound whole_dialect own (codes " Aaaabxxx") 20 (at_start at_first)
+reads_own = sound dialect own (codes " Aaaabxxx") 20 (at_start at_first)
 
 -- ---- no levels ----
 
@@ -320,12 +322,12 @@ abbrev pub leaves : SyntaxSet
 leaves = set_of (context (s 2 ∷ []) (t ∷ []) (pattern (codes "x") (s 3 ∷ []) op.Pop ∷ []) ∷ [])
 
 -- a turn on no levels ends the line
-reads_emptied : Reads whole_dialect leaves (codes "axa") (at_start at_first) ((s 2 ∷ t ∷ []) ∷ (s 2 ∷ s 3 ∷ []) ∷ [] ∷ []) (on []) 2
+reads_emptied : Reads dialect leaves (codes "axa") (at_start at_first) ((s 2 ∷ t ∷ []) ∷ (s 2 ∷ s 3 ∷ []) ∷ [] ∷ []) (on []) 2
 unfolding turn tree_of whole body passed pass quantified quantifier count loop off_letters flags_at named_group flag_group opening next_char escape one_letter hex_escape hex_fixed category_escape named_set name_in run first char_of class class_rest next_in posix_form class_escape member range_end start_of plain_item posix_item found found_at char_at char_before is_boundary is_word_edge is_word is_alike same_fold chars general_category general_category_rows value_in simple_folding simple_folding_rows
-reads_emptied = sound whole_dialect leaves (codes "axa") 20 (at_start at_first)
+reads_emptied = sound dialect leaves (codes "axa") 20 (at_start at_first)
 
 -- and the next line is refused
-answers_emptied : AnswersAll whole_dialect leaves (codes "axa" ∷ codes "a" ∷ []) at_first (Accepted ((s 2 ∷ t ∷ []) ∷ (s 2 ∷ s 3 ∷ []) ∷ [] ∷ []) ∷ RefusedBy error.MissingMainContext ∷ []) (on [])
+answers_emptied : AnswersAll dialect leaves (codes "axa" ∷ codes "a" ∷ []) at_first (Accepted ((s 2 ∷ t ∷ []) ∷ (s 2 ∷ s 3 ∷ []) ∷ [] ∷ []) ∷ RefusedBy error.MissingMainContext ∷ []) (on [])
 answers_emptied = one_more (accepts (record { on_levels = λ e. some_level e; reads = reads_emptied })) (one_more (refuses (no_level refl)) none)
   where
     some_level : at_first.levels ≡ [] → ⊥
@@ -333,13 +335,13 @@ answers_emptied = one_more (accepts (record { on_levels = λ e. some_level e; re
 
 -- ---- lines one after the other ----
 
-answers_unlinked : AnswersAll whole_dialect unlinked (codes "ax" ∷ codes "ay" ∷ []) at_first (RefusedBy (error.UnresolvedContextReference nowhere) ∷ Accepted (tops (replicate 2 [])) ∷ []) (on (level 0 ∷ level 1 ∷ []))
+answers_unlinked : AnswersAll dialect unlinked (codes "ax" ∷ codes "ay" ∷ []) at_first (RefusedBy (error.UnresolvedContextReference nowhere) ∷ Accepted (tops (replicate 2 [])) ∷ []) (on (level 0 ∷ level 1 ∷ []))
 answers_unlinked = one_more (refuses (in_turn some_level refuses_unlinked)) (one_more (accepts (record { on_levels = some_level; reads = reads_unlinked })) none)
   where
     some_level : at_first.levels ≡ [] → ⊥
     some_level e = cc
 
-answers_doc : AnswersAll whole_dialect doc ((codes "<<EOT" ++ newline) ∷ (codes "x" ++ newline) ∷ (codes "EOT" ++ newline) ∷ []) at_first
+answers_doc : AnswersAll dialect doc ((codes "<<EOT" ++ newline) ∷ (codes "x" ++ newline) ∷ (codes "EOT" ++ newline) ∷ []) at_first
     (Accepted (tops (replicate 6 (s 2 ∷ []))) ∷ Accepted (tops (replicate 2 (s 2 ∷ []))) ∷ Accepted (tops (replicate 3 (s 2 ∷ []) ++ replicate 1 [])) ∷ []) (on (level 0 ∷ level 1 ∷ []))
 answers_doc =
     one_more (accepts (record { on_levels = some_level; reads = reads_open }))
@@ -391,46 +393,46 @@ order = grammar (with_prototype (codes "a") (to 3) (Direct (id 4)) ∷ [])
     ∷ context [] [] (pattern (codes "x") (s 2 ∷ []) op.None ∷ [])
     ∷ context [] [] (pattern (codes "x") (s 3 ∷ []) op.None ∷ pattern (codes "y") (s 3 ∷ []) op.None ∷ []) ∷ [])
 
-reads_order : Reads whole_dialect order (codes "axyz") (at_start at_first) (tops ([] ∷ (s 2 ∷ []) ∷ (s 3 ∷ []) ∷ (s 4 ∷ []) ∷ []))
+reads_order : Reads dialect order (codes "axyz") (at_start at_first) (tops ([] ∷ (s 2 ∷ []) ∷ (s 3 ∷ []) ∷ (s 4 ∷ []) ∷ []))
     (on (level 0 ∷ level 1 ∷ record (level 3) { prototypes = id 4 ∷ [] } ∷ [])) 6
 unfolding turn tree_of whole body passed pass quantified quantifier count loop off_letters flags_at named_group flag_group opening next_char escape one_letter hex_escape hex_fixed category_escape named_set name_in run first char_of class class_rest next_in posix_form class_escape member range_end start_of plain_item posix_item found found_at char_at char_before is_boundary is_word_edge is_word is_alike same_fold chars general_category general_category_rows value_in simple_folding simple_folding_rows
-reads_order = sound whole_dialect order (codes "axyz") 20 (at_start at_first)
+reads_order = sound dialect order (codes "axyz") 20 (at_start at_first)
 
 -- ---- edges ----
 
 -- at most one character is left where all loop
-reads_last : Reads whole_dialect hello (codes " ") (at_start at_first) (tops ([] ∷ [])) (on (level 0 ∷ level 1 ∷ level 3 ∷ [])) 3
+reads_last : Reads dialect hello (codes " ") (at_start at_first) (tops ([] ∷ [])) (on (level 0 ∷ level 1 ∷ level 3 ∷ [])) 3
 unfolding turn tree_of whole body passed pass quantified quantifier count loop off_letters flags_at named_group flag_group opening next_char escape one_letter hex_escape hex_fixed category_escape named_set name_in run first char_of class class_rest next_in posix_form class_escape member range_end start_of plain_item posix_item found found_at char_at char_before is_boundary is_word_edge is_word is_alike same_fold chars general_category general_category_rows value_in simple_folding simple_folding_rows
-reads_last = sound whole_dialect hello (codes " ") 20 (at_start at_first)
+reads_last = sound dialect hello (codes " ") 20 (at_start at_first)
 
 -- a character of two bytes is passed over
 abbrev pub hello_small : SyntaxSet
 hello_small = grammar (pattern (codes "(?=.)") [] (op.Push (to 3)) ∷ [])
     (context [] [] (pattern (codes "[a-z]+") (s 2 ∷ []) op.None ∷ pattern (codes "(?=.)") [] op.Pop ∷ []) ∷ [])
 
-reads_wide : Reads whole_dialect hello_small (195 ∷ 169 ∷ codes "a") (at_start at_first) (tops ([] ∷ [] ∷ (s 2 ∷ []) ∷ [])) (on (level 0 ∷ level 1 ∷ level 3 ∷ [])) 5
+reads_wide : Reads dialect hello_small (195 ∷ 169 ∷ codes "a") (at_start at_first) (tops ([] ∷ [] ∷ (s 2 ∷ []) ∷ [])) (on (level 0 ∷ level 1 ∷ level 3 ∷ [])) 5
 unfolding turn tree_of whole body passed pass quantified quantifier count loop off_letters flags_at named_group flag_group opening next_char escape one_letter hex_escape hex_fixed category_escape named_set name_in run first char_of class class_rest next_in posix_form class_escape member range_end start_of plain_item posix_item found found_at char_at char_before is_boundary is_word_edge is_word is_alike same_fold chars general_category general_category_rows value_in simple_folding simple_folding_rows
-reads_wide = sound whole_dialect hello_small (195 ∷ 169 ∷ codes "a") 20 (at_start at_first)
+reads_wide = sound dialect hello_small (195 ∷ 169 ∷ codes "a") 20 (at_start at_first)
 
 -- a prototype that the set lacks refuses the line, though nothing would match
 abbrev pub no_prototype : SyntaxSet
 no_prototype = set_of (record (context [] (t ∷ []) []) { prototype = Some (id 9) } ∷ [])
 
-refuses_no_prototype : Refuses whole_dialect no_prototype (codes "a") (at_start at_first) (error.MissingContext (id 9)) 1
+refuses_no_prototype : Refuses dialect no_prototype (codes "a") (at_start at_first) (error.MissingContext (id 9)) 1
 unfolding turn tree_of whole body passed pass quantified quantifier count loop off_letters flags_at named_group flag_group opening next_char escape one_letter hex_escape hex_fixed category_escape named_set name_in run first char_of class class_rest next_in posix_form class_escape member range_end start_of plain_item posix_item found found_at char_at char_before is_boundary is_word_edge is_word is_alike same_fold chars general_category general_category_rows value_in simple_folding simple_folding_rows
-refuses_no_prototype = sound whole_dialect no_prototype (codes "a") 20 (at_start at_first)
+refuses_no_prototype = sound dialect no_prototype (codes "a") 20 (at_start at_first)
 
 -- a match that names no contexts is not refused for its `with_prototype`, a push of an empty list is
 abbrev pub empty_list : MatchOperation → SyntaxSet
 empty_list operation = one_pattern (Match (record (plain (codes "x") [] operation) { with_prototype = Some nowhere }))
 
-refuses_empty_list : Refuses whole_dialect (empty_list (op.Push [])) (codes "x") (at_start at_first) (error.UnresolvedContextReference nowhere) 2
+refuses_empty_list : Refuses dialect (empty_list (op.Push [])) (codes "x") (at_start at_first) (error.UnresolvedContextReference nowhere) 2
 unfolding turn tree_of whole body passed pass quantified quantifier count loop off_letters flags_at named_group flag_group opening next_char escape one_letter hex_escape hex_fixed category_escape named_set name_in run first char_of class class_rest next_in posix_form class_escape member range_end start_of plain_item posix_item found found_at char_at char_before is_boundary is_word_edge is_word is_alike same_fold chars general_category general_category_rows value_in simple_folding simple_folding_rows
-refuses_empty_list = sound whole_dialect (empty_list (op.Push [])) (codes "x") 20 (at_start at_first)
+refuses_empty_list = sound dialect (empty_list (op.Push [])) (codes "x") 20 (at_start at_first)
 
-reads_popped : Reads whole_dialect (empty_list op.Pop) (codes "x") (at_start at_first) (tops ([] ∷ [])) (on (level 0 ∷ level 1 ∷ [])) 4
+reads_popped : Reads dialect (empty_list op.Pop) (codes "x") (at_start at_first) (tops ([] ∷ [])) (on (level 0 ∷ level 1 ∷ [])) 4
 unfolding turn tree_of whole body passed pass quantified quantifier count loop off_letters flags_at named_group flag_group opening next_char escape one_letter hex_escape hex_fixed category_escape named_set name_in run first char_of class class_rest next_in posix_form class_escape member range_end start_of plain_item posix_item found found_at char_at char_before is_boundary is_word_edge is_word is_alike same_fold chars general_category general_category_rows value_in simple_folding simple_folding_rows
-reads_popped = sound whole_dialect (empty_list op.Pop) (codes "x") 20 (at_start at_first)
+reads_popped = sound dialect (empty_list op.Pop) (codes "x") 20 (at_start at_first)
 
 -- ---- contexts that clear ----
 

@@ -11,9 +11,9 @@ use Rattle.syntect_parsing.specs.Scopes.{Scopes, open_scopes}
 use Rattle.syntect_parsing.specs.Line.{turn, Reads, ends, goes, Refuses, now, later, in_turn, at_start, stack_before, first_push, HasPlainStart}
 use Rattle.syntect_parsing.specs.Meaning.{Accepts, MayRefuse}
 use Rattle.syntect_parsing.specs.Step.{MakesStep, EndsLine, RefusesTurn}
-use Rattle.syntect_parsing.proofs.ShowLaws.{replay-append, at_same}
+use Rattle.syntect_parsing.proofs.ShowLaws.{at_same}
 use Rattle.syntect_parsing.proofs.OrderLaws.{order-append, order-pushes, apply-append, apply-pushes}
-use Rattle.syntect_parsing.proofs.ReplayLaws.{at_pushes}
+use Rattle.syntect_parsing.proofs.ReplayLaws.{replay-append, at_pushes}
 use Rattle.syntect_parsing.specs.declared.syntax_set.SyntaxSet.{SyntaxSet}
 use Rattle.syntect_parsing.specs.declared.position.Position.{Position}
 use Rattle.syntect_parsing.specs.declared.parser.ParseState.{ParseState}

@@ -11,6 +11,10 @@ empty_of : (xs : List ℕ) → length xs ≡ 0 → xs ≡ []
 empty_of [] e = refl
 empty_of (x ∷ xs) e = absurd (omega arith)
 
+-- no characters are left
+pub chars_over : (x : Chars) → length (chars_rest x) ≡ 0 → chars (chars_rest x) ≡ []
+chars_over x e = ap chars (empty_of (chars_rest x) e) ∙ chars-nil
+
 -- one step over the characters from the place
 module _ (s : List ℕ) (i : ℕ) (x y : Chars) (u : IsUtf8 s) (b : IsCharBoundary s i) (e : chars_rest x ≡ drop i s) where
   pub char_at-step : (r : Option ℕ) → chars_steps x r y → r ≡ char_at s i

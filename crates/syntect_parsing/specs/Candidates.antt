@@ -1,16 +1,21 @@
 -- Members of a chain and their matches, as the reader of a line keeps them.
-use Rattle.std.specs.Prelude.{ℕ, ◌+◌, ◌<◌, List, [], length, Option, Some, unwrap_or}
+use Rattle.std.specs.Prelude.{ℕ, ◌+◌, ◌-◌, ◌<◌, ◌==◌, List, [], ◌∷◌, length, Option, Some, unwrap_or, if◌then◌else◌}
 use Rattle.std.specs.Option.{option_copied}
 use Rattle.syntect_pattern.specs.Pattern.{pattern_found}
+use Rattle.syntect_scope.specs.declared.stack.ScopeStackOp.{ScopeStackOp}
+use Rattle.syntect_scope.specs.declared.stack.ScopeStackOp.TheVariants.{Pop}
+use Rattle.syntect_scope.specs.Replay.{pushes}
 use Rattle.syntect_parsing.specs.Substitution.{Opening}
 use Rattle.syntect_parsing.specs.Chain.{Member}
 use Rattle.syntect_parsing.specs.Turn.{Live, char_len}
+use Rattle.syntect_parsing.specs.Scopes.{Scopes, Capture}
 use Rattle.syntect_parsing.specs.Laws.{StandsIn}
 use Rattle.syntect_parsing.specs.Turn as turn
 use Rattle.syntect_parsing.specs.declared.syntax_definition.MatchOperation.{MatchOperation}
 use Rattle.syntect_parsing.specs.declared.syntax_definition.MatchOperation.TheVariants as op
 use Rattle.syntect_parsing.specs.declared.position.Record.{Record}
 use Rattle.syntect_parsing.specs.declared.chain.Entry.{Entry}
+use Rattle.syntect_parsing.specs.declared.captures.Mark.{Mark}
 use Rattle.syntect_parsing.specs.declared.search.Candidate.{Candidate}
 use Rattle.syntect_parsing.specs.declared.search.Choice.{Choice}
 use Rattle.syntect_parsing.specs.declared.search.Choice.TheVariants as code
@@ -54,3 +59,21 @@ abbrev pub StandsChosen : List ℕ → ℕ → Choice → Type 0
 StandsChosen line place (code.Take m) = StandsIn line place m.now.start m.now.end
 StandsChosen line place code.Skip = place + char_len line place < length line
 StandsChosen line place code.End = Unit {0}
+
+-- ---- the scopes of captures, as they are put in order ----
+
+-- a mark that pops scopes has the rank 0, one that pushes them a lower one the longer its capture is
+abbrev pub end_mark : Capture → ℕ × (ℕ × Scopes)
+end_mark c = (c.end, (0, c.scopes))
+
+abbrev pub start_mark : Capture → ℕ × (ℕ × Scopes)
+start_mark c = (c.start, (18446744073709551615 - (c.end - c.start - 1), c.scopes))
+
+abbrev pub marks_of : Capture → List (ℕ × (ℕ × Scopes))
+marks_of c = end_mark c ∷ start_mark c ∷ []
+
+abbrev pub seen_mark : Mark → ℕ × (ℕ × Scopes)
+seen_mark m = (m.place, (m.rank, m.scopes.now))
+
+abbrev pub mark_operations : ℕ × (ℕ × Scopes) → List (ℕ × ScopeStackOp)
+mark_operations m = if m.1.0 == 0 then (m.0, Pop (length m.1.1)) ∷ [] else pushes m.0 m.1.1

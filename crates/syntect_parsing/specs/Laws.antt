@@ -1,7 +1,8 @@
 -- Laws of reading.
-use Rattle.std.specs.Prelude.{◌≡◌, ◌⊎◌, ℕ, ◌+◌, ◌*◌, ◌≤◌, max, List, [], ◌∷◌, ◌++◌, length, Some}
+use Rattle.std.specs.Prelude.{◌≡◌, ◌⊎◌, ℕ, ◌+◌, ◌*◌, ◌≤◌, max, List, [], ◌∷◌, ◌++◌, length, Some, false}
 use Rattle.std.specs.Option.{option_map_or}
 use Rattle.std.specs.Str.{IsUtf8, IsCharBoundary}
+use Rattle.syntect_pattern.specs.Nesting.{Span, AreNested, LiesIn}
 use Rattle.syntect_parsing.specs.Engine.{Engine}
 use Rattle.syntect_parsing.specs.Substitution.{Groups}
 use Rattle.syntect_parsing.specs.Contexts.{contexts_of}
@@ -55,6 +56,21 @@ pub record StandsIn (text : List ℕ) (place start end : ℕ) : Type 0 where
 abbrev pub FindsInText : Engine → Type 0
 FindsInText engine = (pattern text : List ℕ) (place start end : ℕ) (groups : Groups)
     → IsUtf8 text → engine.found pattern text place ≡ Some groups → group_at groups 0 ≡ Some (start, end) → StandsIn text place start end
+
+-- The whole match stands from the start to the end. Each group of a match that stands in no lookaround lies in it, on
+-- character boundaries, and each two of these groups are apart or one in the other.
+pub record LaysOut (engine : Engine) (pattern text : List ℕ) (groups : Groups) : Type 0 where
+  pub start : ℕ
+  pub end : ℕ
+  pub whole : group_at groups 0 ≡ Some (start, end)
+  pub lies : (n : ℕ) (x : Span) → engine.in_lookaround pattern n ≡ false → group_at groups n ≡ Some x → LiesIn text start end x
+  pub nested : (n m : ℕ) (x y : Span) → engine.in_lookaround pattern n ≡ false → engine.in_lookaround pattern m ≡ false
+      → group_at groups n ≡ Some x → group_at groups m ≡ Some y → AreNested x y
+
+-- every match that is found is laid out so
+abbrev pub LaysGroupsOut : Engine → Type 0
+LaysGroupsOut engine = (pattern text : List ℕ) (place : ℕ) (groups : Groups)
+    → IsUtf8 text → engine.found pattern text place ≡ Some groups → LaysOut engine pattern text groups
 
 -- Each byte of an accepted line has its scopes.
 abbrev pub CoversLine : Type 0

@@ -1,7 +1,7 @@
 -- One turn, a whole line, and lines one after the other.
 use Rattle.std.specs.Prelude.{◌≡◌, ◌≢◌, ℕ, ◌+◌, ◌-◌, true, false, List, [], ◌∷◌, ◌++◌, length, take, replicate, codes, Option, Some, None, if◌then◌else◌}
 use Rattle.std.specs.Option.{option_map, option_map_or}
-use Rattle.syntect_parsing.specs.Link.{named_in}
+use Rattle.syntect_parsing.specs.References.{named_in}
 use Rattle.syntect_parsing.specs.Engine.{Engine}
 use Rattle.syntect_parsing.specs.Contexts.{context_at, part_of}
 use Rattle.syntect_parsing.specs.Chain.{chain, prototypes_in, last}

@@ -1,10 +1,10 @@
 -- What linking makes of definitions.
-use Rattle.std.specs.Prelude.{ℕ, ◌==◌, ◌+◌, List, [], ◌∷◌, map, position, Option, None, unwrap_or}
+pub use Rattle.syntect_parsing.specs.References.{names_of}
+use Rattle.std.specs.Prelude.{ℕ, ◌+◌, Bool, List, [], ◌∷◌, map, Option}
 use Rattle.std.specs.Option.{option_map}
-use Rattle.std.specs.Cmp.Lexicographic.{pointwise}
+use Rattle.syntect_parsing.specs.References.{head_of, heads_from, body_of, linked_reference}
+use Rattle.syntect_parsing.specs.Reached.{prototype_for, is_marked_in_set}
 use Rattle.syntect_parsing.specs.declared.syntax_definition.ContextId.{ContextId}
-use Rattle.syntect_parsing.specs.declared.syntax_definition.ContextReference.{ContextReference}
-use Rattle.syntect_parsing.specs.declared.syntax_definition.ContextReference.TheVariants.{Named, Direct}
 use Rattle.syntect_parsing.specs.declared.syntax_definition.MatchOperation.{MatchOperation}
 use Rattle.syntect_parsing.specs.declared.syntax_definition.MatchOperation.TheVariants as op
 use Rattle.syntect_parsing.specs.declared.syntax_definition.MatchPattern.{MatchPattern}
@@ -23,68 +23,61 @@ definitions_in builder = builder.syntaxes
 abbrev pub syntaxes_in : SyntaxSet → List SyntaxReference
 syntaxes_in set = set.syntaxes
 
--- a set of these syntaxes
+-- the paths of the files from which some of them were loaded, each with the place of its definition or syntax
+abbrev pub paths_in : SyntaxSetBuilder → List (List ℕ × ℕ)
+paths_in builder = builder.path_syntaxes
+
+abbrev pub set_paths : SyntaxSet → List (List ℕ × ℕ)
+set_paths set = set.path_syntaxes
+
+-- a set of these syntaxes, none of them from a file
 abbrev pub set_of : List SyntaxReference → SyntaxSet
-set_of syntaxes = record { syntaxes = syntaxes }
+set_of syntaxes = record { syntaxes = syntaxes; path_syntaxes = [] }
 
--- ---- references ----
+-- the set with these paths
+abbrev pub with_paths : List (List ℕ × ℕ) → SyntaxSet → SyntaxSet
+with_paths paths set = record set { path_syntaxes = paths }
 
--- the context of a name in the syntax of this index whose contexts have these names
-abbrev pub named_in : ℕ → List (List ℕ) → List ℕ → Option ContextId
-named_in index names name = option_map (λ i. record { syntax_index = index; context_index = i }) (position (pointwise ◌==◌ name) names)
+-- ---- contexts ----
 
--- what a reference stands for by its name
-abbrev pub link_of : ℕ → List (List ℕ) → ContextReference → Option ContextId
-link_of index names (Named name) = named_in index names name
-link_of index names _ = None
+abbrev pub linked_operation : List SyntaxReference → ℕ → MatchOperation → MatchOperation
+linked_operation heads index (op.Push refs) = op.Push (map (linked_reference heads index) refs)
+linked_operation heads index (op.Set refs) = op.Set (map (linked_reference heads index) refs)
+linked_operation heads index op.Pop = op.Pop
+linked_operation heads index op.None = op.None
 
--- a reference by name is linked where its syntax has the name, any other reference stays
-abbrev pub linked_reference : ℕ → List (List ℕ) → ContextReference → ContextReference
-linked_reference index names r = unwrap_or (option_map Direct (link_of index names r)) r
+abbrev pub linked_match : List SyntaxReference → ℕ → MatchPattern → MatchPattern
+linked_match heads index m = record m { operation = linked_operation heads index m.operation; with_prototype = option_map (linked_reference heads index) m.with_prototype }
 
--- ---- what else stays as it is ----
+abbrev pub linked_pattern : List SyntaxReference → ℕ → Pattern → Pattern
+linked_pattern heads index (Match m) = Match (linked_match heads index m)
+linked_pattern heads index (Include r) = Include (linked_reference heads index r)
 
-abbrev pub linked_operation : ℕ → List (List ℕ) → MatchOperation → MatchOperation
-linked_operation index names (op.Push refs) = op.Push (map (linked_reference index names) refs)
-linked_operation index names (op.Set refs) = op.Set (map (linked_reference index names) refs)
-linked_operation index names op.Pop = op.Pop
-linked_operation index names op.None = op.None
+-- the context with its references linked, with this prototype and this mark of back references
+abbrev pub context_with : List SyntaxReference → ℕ → Option ContextId → Bool → Context → Context
+context_with heads index prototype uses_backrefs c = record c { prototype = prototype; uses_backrefs = uses_backrefs; patterns = map (linked_pattern heads index) c.patterns }
 
-abbrev pub linked_match : ℕ → List (List ℕ) → MatchPattern → MatchPattern
-linked_match index names m = record m { operation = linked_operation index names m.operation; with_prototype = option_map (linked_reference index names) m.with_prototype }
+-- the context of this number, linked
+abbrev pub linked_context : List SyntaxReference → List (List Context) → ContextId → Context → Context
+linked_context heads bodies id c = context_with heads id.syntax_index (prototype_for heads bodies id c) (is_marked_in_set heads bodies id) c
 
-abbrev pub linked_pattern : ℕ → List (List ℕ) → Pattern → Pattern
-linked_pattern index names (Match m) = Match (linked_match index names m)
-linked_pattern index names (Include r) = Include (linked_reference index names r)
+-- contexts of the syntax of an index, from this place on
+abbrev pub linked_contexts : List SyntaxReference → List (List Context) → ℕ → ℕ → List Context → List Context
+linked_contexts heads bodies index place [] = []
+linked_contexts heads bodies index place (c ∷ cs) =
+    linked_context heads bodies (record { syntax_index = index; context_index = place }) c ∷ linked_contexts heads bodies index (place + 1) cs
 
-abbrev pub linked_context : ℕ → List (List ℕ) → Context → Context
-linked_context index names c = record c { patterns = map (linked_pattern index names) c.patterns }
+-- ---- syntaxes ----
 
--- the names of contexts in their order, which is that of their bytes
-abbrev pub names_of : List (List ℕ × Context) → List (List ℕ)
-names_of contexts = map (λ entry. entry.0) contexts
-
-abbrev pub linked_contexts : ℕ → List (List ℕ × Context) → List Context
-linked_contexts index contexts = map (λ entry. linked_context index (names_of contexts) entry.1) contexts
-
--- the definition that stands at this index
-abbrev pub linked_definition : ℕ → SyntaxDefinition → SyntaxReference
-linked_definition index d = record {
-  name = d.name;
-  file_extensions = d.file_extensions;
-  scope = d.scope;
-  first_line_match = d.first_line_match;
-  hidden = d.hidden;
-  variables = d.variables;
-  index = index;
-  names = names_of d.contexts;
-  contexts = linked_contexts index d.contexts;
-}
+-- The definition that stands at this index, linked with these heads and contexts of all definitions: its contexts are
+-- linked, and all else is as it was given.
+abbrev pub linked_definition : List SyntaxReference → List (List Context) → ℕ → SyntaxDefinition → SyntaxReference
+linked_definition heads bodies index d = record (head_of index d) { contexts = linked_contexts heads bodies index 0 (body_of d) }
 
 -- definitions from this index on
-abbrev pub linked_from : ℕ → List SyntaxDefinition → List SyntaxReference
-linked_from index [] = []
-linked_from index (d ∷ ds) = linked_definition index d ∷ linked_from (index + 1) ds
+abbrev pub linked_from : List SyntaxReference → List (List Context) → ℕ → List SyntaxDefinition → List SyntaxReference
+linked_from heads bodies index [] = []
+linked_from heads bodies index (d ∷ ds) = linked_definition heads bodies index d ∷ linked_from heads bodies (index + 1) ds
 
 abbrev pub linked : List SyntaxDefinition → SyntaxSet
-linked definitions = set_of (linked_from 0 definitions)
+linked definitions = set_of (linked_from (heads_from 0 definitions) (map body_of definitions) 0 definitions)

@@ -1,12 +1,11 @@
 -- The definition of a grammar: of its value, and of its text.
-use Rattle.std.specs.Prelude.{ℕ, suc, Bool, true, false, not, List, [], ◌∷◌, ◌++◌, length, codes, map, Option, Some, None, unwrap_or, option_map, Result, Ok, Err}
+use Rattle.std.specs.Prelude.{ℕ, Bool, false, not, List, [], ◌∷◌, ◌++◌, codes, Option, Some, None, unwrap_or, option_map, Result, Ok, Err}
 use Rattle.std.specs.List.{filter_map}
 use Rattle.std.specs.Str.{bytes_eq}
 use Rattle.std.specs.BTreeMap.{is_at, insert_entry}
 use Rattle.std.specs.Map.{lookup, remove_entry}
 use Rattle.std.specs.Cmp.Lexicographic.{slice_cmp}
 use Rattle.std.specs.Ordering.{nat_cmp}
-use Rattle.syntect_yaml.specs.Node as node
 use Rattle.syntect_yaml.specs.Node.{Node, text_of, get}
 use Rattle.syntect_yaml.specs.Yaml.{yaml_of, deepest}
 use Rattle.syntect_yaml.specs.declared.value.Scalar.{Scalar}

@@ -1,18 +1,16 @@
 -- Contexts and what stands in them.
-use Rattle.std.specs.Prelude.{ℕ, zero, suc, Bool, true, false, not, ◌&&◌, ◌||◌, if◌then◌else◌, List, [], ◌∷◌, ◌++◌, length, codes, map, Option, Some, None, is_some, unwrap_or, option_map, Result, Ok, Err, ℤ, pos, negsuc, ◌^◌, ◌-◌}
+use Rattle.std.specs.Prelude.{ℕ, zero, suc, Bool, true, false, ◌&&◌, ◌||◌, if◌then◌else◌, List, [], ◌∷◌, ◌++◌, length, codes, Option, Some, None, is_some, unwrap_or, Result, Ok, Err, ℤ, pos, negsuc, ◌^◌, ◌-◌}
 use Rattle.std.specs.Fmt.{decimal}
 use Rattle.std.specs.BTreeMap.{insert_entry}
 use Rattle.std.specs.Cmp.Lexicographic.{slice_cmp}
 use Rattle.std.specs.Ordering.{nat_cmp}
 use Rattle.syntect_scope.specs.declared.stack.ClearAmount.{ClearAmount}
 use Rattle.syntect_scope.specs.declared.stack.ClearAmount.TheVariants.{TopN, All}
-use Rattle.syntect_yaml.specs.Node as node
 use Rattle.syntect_yaml.specs.Node.{Node, get}
-use Rattle.syntect_yaml.specs.declared.value.Scalar.{Scalar}
 use Rattle.syntect_parsing.specs.Scopes.{Scopes}
 use Rattle.syntect_rewrite.specs.Testing.{tested_text, refers_back}
-use Rattle.syntect_parsing.specs.LoadingSteps.{Refusal, missing, wrong_kind, Step, give, refuse, on, ◌>>=◌, known, finding, perhaps, each}
-use Rattle.syntect_parsing.specs.LoadingValues.{values, pairs, text_in, truth_in, number_in, list_in, map_in, at, is_several, is_none, escape_items, ahead_items}
+use Rattle.syntect_parsing.specs.LoadingSteps.{Refusal, missing, wrong_kind, Step, give, refuse, ◌>>=◌, known, finding, perhaps, each}
+use Rattle.syntect_parsing.specs.LoadingValues.{text_in, truth_in, number_in, list_in, map_in, at, is_several, is_none, escape_items, ahead_items}
 use Rattle.syntect_parsing.specs.LoadingParts.{scopes, expression, captures, text_reference}
 use Rattle.syntect_parsing.specs.declared.yaml_load_state.Reading.{Reading}
 use Rattle.syntect_parsing.specs.declared.syntax_definition.ContextReference.{ContextReference}
@@ -20,7 +18,6 @@ use Rattle.syntect_parsing.specs.declared.syntax_definition.ContextReference.The
 use Rattle.syntect_parsing.specs.declared.syntax_definition.MatchOperation.{MatchOperation}
 use Rattle.syntect_parsing.specs.declared.syntax_definition.MatchOperation.TheVariants as op
 use Rattle.syntect_parsing.specs.declared.syntax_definition.MatchPattern.{MatchPattern}
-use Rattle.syntect_parsing.specs.declared.syntax_definition.Pattern.{Pattern}
 use Rattle.syntect_parsing.specs.declared.syntax_definition.Pattern.TheVariants.{Match, Include}
 use Rattle.syntect_parsing.specs.declared.syntax_definition.Context.{Context}
 

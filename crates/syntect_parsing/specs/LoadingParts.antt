@@ -1,17 +1,17 @@
 -- The parts of a context: scopes, patterns, captures and references by text.
-use Rattle.std.specs.Prelude.{ℕ, Bool, true, false, if◌then◌else◌, List, [], ◌∷◌, ◌++◌, length, drop, map, Option, Some, None, is_some, option_and_then, Result, Ok, Err, ℤ, pos, negsuc}
+use Rattle.std.specs.Prelude.{ℕ, Bool, true, false, if◌then◌else◌, List, [], ◌∷◌, ◌++◌, map, Option, Some, None, is_some, option_and_then, Result, Ok, Err, ℤ, pos, negsuc}
 use Rattle.syntect_scope.specs.Words.{words}
 use Rattle.syntect_scope.specs.Repository.{with_atoms, with_scopes, atom_texts, scope_in, first_refusal}
 use Rattle.syntect_scope.specs.declared.repository.ParseScopeError.{ParseScopeError}
 use Rattle.syntect_pattern.specs.Pattern.{pattern_tree}
 use Rattle.syntect_pattern.specs.Trees.{group_in_look}
 use Rattle.syntect_regex.specs.declared.error.PatternError.TheVariants.{NotAPattern}
-use Rattle.syntect_yaml.specs.Node.{Node, text_of, number_of}
+use Rattle.syntect_yaml.specs.Node.{Node, number_of}
 use Rattle.syntect_yaml.specs.declared.value.Scalar.{Scalar}
 use Rattle.syntect_parsing.specs.Scopes.{Scopes}
 use Rattle.syntect_rewrite.specs.Rewriting.{rewritten}
 use Rattle.syntect_rewrite.specs.Testing.{tested_text}
-use Rattle.syntect_parsing.specs.LoadingSteps.{Refusal, no_scope, no_pattern, Step, give, refuse, ◌>>=◌, each}
+use Rattle.syntect_parsing.specs.LoadingSteps.{Refusal, no_scope, no_pattern, Step, give, ◌>>=◌, each}
 use Rattle.syntect_parsing.specs.LoadingValues.{text_in, head, sub_context, scope_text, is_file, file_name}
 use Rattle.syntect_parsing.specs.declared.yaml_load_state.Reading.{Reading}
 use Rattle.syntect_parsing.specs.declared.syntax_definition.ContextReference.{ContextReference}

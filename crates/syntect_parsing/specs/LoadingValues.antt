@@ -1,6 +1,6 @@
 -- What the loader looks up in values.
-use Rattle.std.specs.Prelude.{ℕ, ◌==◌, ◌-◌, nat_lt, Bool, true, false, not, ◌&&◌, ◌||◌, if◌then◌else◌, List, [], ◌∷◌, ◌++◌, length, take, drop, codes, map, Option, Some, None, is_some, unwrap_or, option_map, option_and_then, slice_get, ℤ, pos, negsuc}
-use Rattle.std.specs.List.{slice_split, starts_with, ends_with, filter_map}
+use Rattle.std.specs.Prelude.{ℕ, ◌==◌, ◌-◌, nat_lt, Bool, true, false, ◌&&◌, ◌||◌, if◌then◌else◌, List, [], ◌∷◌, ◌++◌, length, take, drop, codes, Option, Some, None, is_some, unwrap_or, option_map, option_and_then, slice_get, ℤ}
+use Rattle.std.specs.List.{slice_split, starts_with, ends_with}
 use Rattle.syntect_yaml.specs.Node as node
 use Rattle.syntect_yaml.specs.Node.{Node, scalar, list, Items, no_items, item, Entries, no_entries, entry, text_of, number_of, truth_of, as_scalar, as_list, as_map, get}
 use Rattle.syntect_yaml.specs.declared.value.Scalar.{Scalar}

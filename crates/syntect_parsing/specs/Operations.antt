@@ -1,12 +1,13 @@
 -- The operations of a match.
-use Rattle.std.specs.Prelude.{ℕ, ◌+◌, List, [], ◌∷◌, ◌++◌, length, if◌then◌else◌, Bool, true, false, ◌&&◌, ◌==◌}
-use Rattle.std.specs.List.{filter_map, flat_map}
+use Rattle.std.specs.Prelude.{ℕ, ◌+◌, ◌-◌, List, [], ◌∷◌, ◌++◌, length, map, filter, if◌then◌else◌, Bool, true, false, ◌&&◌, ◌==◌}
+use Rattle.std.specs.List.{filter_map, flat_map, range_with_len}
 use Rattle.std.specs.Option.{option_map_or}
 use Rattle.syntect_scope.specs.declared.stack.ScopeStackOp.{ScopeStackOp}
+use Rattle.syntect_scope.specs.declared.stack.ScopeStackOp.TheVariants.{Pop}
 use Rattle.syntect_scope.specs.Replay.{pushes, pops}
 use Rattle.syntect_parsing.specs.Contexts.{part_of, target}
 use Rattle.syntect_parsing.specs.Chain.{last}
-use Rattle.syntect_parsing.specs.Scopes.{Scopes}
+use Rattle.syntect_parsing.specs.Scopes.{Scopes, Capture, longer_first}
 use Rattle.syntect_parsing.specs.declared.syntax_definition.Context.{Context}
 use Rattle.syntect_parsing.specs.declared.syntax_definition.ContextReference.{ContextReference}
 use Rattle.syntect_parsing.specs.declared.syntax_definition.MatchOperation.{MatchOperation}
@@ -21,11 +22,22 @@ pub record Parts : Type 0 where
   pub dropped : ℕ
   pub above : Scopes
 
--- the scopes of a match stand on top of those that are pushed at its start
-abbrev pub operations : ℕ → ℕ → Scopes → Parts → List (ℕ × ScopeStackOp)
-operations start end scope parts =
-    pops start parts.popped ++ (pushes start parts.below ++ (pushes start scope
-    ++ (pops end (length scope) ++ (pops end parts.dropped ++ pushes end parts.above))))
+-- At a place the captures that end there are popped in the order of the list, each by one operation. Then those that begin
+-- there are pushed, longer ones first.
+abbrev pub captures_at : List Capture → ℕ → List (ℕ × ScopeStackOp)
+captures_at cs place =
+    map (λ c. (place, Pop (length c.scopes))) (filter (λ c. c.end == place) cs)
+    ++ pushes place (flat_map (λ c. c.scopes) (longer_first (filter (λ c. c.start == place) cs)))
+
+-- the same place by place, from the start of a match to its end
+abbrev pub capture_operations : ℕ → ℕ → List Capture → List (ℕ × ScopeStackOp)
+capture_operations start end cs = flat_map (captures_at cs) (range_with_len start (end - start + 1))
+
+-- the scopes of a match stand on top of those that are pushed at its start, and its captures on top of them
+abbrev pub operations : ℕ → ℕ → Scopes → List Capture → Parts → List (ℕ × ScopeStackOp)
+operations start end scope captures parts =
+    pops start parts.popped ++ (pushes start parts.below ++ (pushes start scope ++ (capture_operations start end captures
+    ++ (pops end (length scope) ++ (pops end parts.dropped ++ pushes end parts.above)))))
 
 -- of the contexts that references stand for: their `meta_scope`s, their `meta_content_scope`s, and both
 abbrev pub metas : SyntaxSet → List ContextReference → Scopes

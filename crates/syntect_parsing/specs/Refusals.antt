@@ -7,7 +7,7 @@ use Rattle.syntect_parsing.specs.Contexts.{context_at, part_of, target}
 use Rattle.syntect_parsing.specs.Chain.{chain, entries, last, patterns_in}
 use Rattle.syntect_parsing.specs.Turn.{Live, Take, live, missing, named, trimmed, winner}
 use Rattle.syntect_parsing.specs.Line.{AnswersAll, Answer, Reaches, RefusesLine, at_start, start}
-use Rattle.syntect_parsing.specs.Link.{linked}
+use Rattle.syntect_parsing.specs.Link.{with_paths, linked}
 use Rattle.syntect_parsing.specs.declared.syntax_definition.ContextId.{ContextId}
 use Rattle.syntect_parsing.specs.declared.syntax_definition.ContextReference.{ContextReference}
 use Rattle.syntect_parsing.specs.declared.syntax_definition.ContextReference.TheVariants.{Direct}
@@ -111,6 +111,6 @@ abbrev pub AreByName : List SyntaxDefinition → Type 0
 AreByName [] = Unit {0}
 AreByName (d ∷ ds) = KnowNoNumber d.contexts × AreByName ds
 
--- What they are linked to is closed.
+-- What they are linked to is closed, whatever files they are from.
 abbrev pub LinksClosed : Type 0
-LinksClosed = (definitions : List SyntaxDefinition) → AreByName definitions → IsClosed (linked definitions)
+LinksClosed = (paths : List (List ℕ × ℕ)) (definitions : List SyntaxDefinition) → AreByName definitions → IsClosed (with_paths paths (linked definitions))

@@ -1,16 +1,23 @@
 //! The operations of a match.
-ghost use Rattle.std.specs.Prelude.{◌≡◌, ◌<◌, ◌+◌, ◌++◌, ◌∷◌, [], List, ℕ, length, OnOk, IfOk, ◌&&◌};
+ghost use Rattle.std.specs.Prelude.{◌≡◌, ◌<◌, ◌≤◌, ◌+◌, ◌++◌, ◌∷◌, [], List, ℕ, length, map, OnOk, IfOk, ◌&&◌, IsCharBoundary};
 ghost use Rattle.std.specs.List.{filter_map, flat_map};
 ghost use Rattle.std.specs.Option.{option_map_or, option_copied, option_and_then};
 ghost use Rattle.syntect_parsing.specs.Contexts.{part_of, target, context_at};
-ghost use Rattle.syntect_parsing.specs.Operations.{operations, parts_of, push_parts, set_parts, metas, contents, opens, top_part, none};
+ghost use Rattle.syntect_parsing.specs.Operations.{operations, capture_operations, parts_of, push_parts, set_parts, metas, contents, opens, top_part, none};
+ghost use Rattle.syntect_parsing.specs.Engine.{dialect};
+ghost use Rattle.syntect_parsing.specs.Scopes.{Capture, captures};
+ghost use Rattle.syntect_parsing.specs.Laws.{StandsIn};
+ghost use Rattle.syntect_parsing.specs.Candidates.{seen, seen_mark, mark_operations};
 ghost use Rattle.syntect_scope.specs.Replay.{pushes, pops};
 
+use crate::captures::{Mark, capture_marks};
 use crate::parser::Level;
+use crate::position::Position;
 use crate::search::Candidate;
 use crate::syntax_definition::{Context, ContextReference, MatchOperation};
 use crate::syntax_set::SyntaxSet;
-use std::alloc::AllocError;
+use std::alloc::{AllocError, Global};
+use syntect_regex::region::Region;
 use syntect_scope::scope::Scope;
 use syntect_scope::stack::ScopeStackOp;
 
@@ -120,19 +127,44 @@ fn top_counts(set: &SyntaxSet, levels: &[Level]) -> (usize, usize)
     }
 }
 
+/// The operations of captures.
+fn emit_marks(ops: &mut Ops, marks: &[Mark<'_>]) -> Result<(), AllocError>
+    ensures { OnOk result (ops.new.items ≡ ops.old.items ++ flat_map mark_operations (map seen_mark marks.now)) }
+{
+    for mark in marks {
+        if mark.rank == 0 {
+            ops.push((mark.place, ScopeStackOp::Pop(mark.scopes.len())))?;
+        } else {
+            push_scopes(ops, mark.place, mark.scopes)?;
+        }
+    }
+    Ok(())
+}
+
+/// The operations of a match's own scopes and of its captures.
+fn emit_own(ops: &mut Ops, m: &Candidate<'_>, marks: &[Mark<'_>]) -> Result<(), AllocError>
+    ensures { OnOk result (ops.new.items ≡ ops.old.items ++ (pushes m.now.start m.now.pattern.now.scope
+        ++ (flat_map mark_operations (map seen_mark marks.now) ++ pops m.now.end (length m.now.pattern.now.scope)))) }
+{
+    push_scopes(ops, m.start, m.pattern.scope.as_slice())?;
+    emit_marks(ops, marks)?;
+    pop_scopes(ops, m.end, m.pattern.scope.len())
+}
+
 fn emit_push(
     ops: &mut Ops,
     set: &SyntaxSet,
     m: &Candidate<'_>,
+    marks: &[Mark<'_>],
     refs: &[ContextReference],
 ) -> Result<(), AllocError>
-    ensures { OnOk result (ops.new.items ≡ ops.old.items ++ operations m.now.start m.now.end m.now.pattern.now.scope (push_parts set.now refs.now)) }
+    ensures { (cs : List Capture) → flat_map mark_operations (map seen_mark marks.now) ≡ capture_operations m.now.start m.now.end cs
+        → OnOk result (ops.new.items ≡ ops.old.items ++ operations m.now.start m.now.end m.now.pattern.now.scope cs (push_parts set.now refs.now)) }
 {
     let before = ops.len();
     push_metas(ops, m.start, set, refs)?;
     let count = ops.len() - before;
-    push_scopes(ops, m.start, m.pattern.scope.as_slice())?;
-    pop_scopes(ops, m.end, m.pattern.scope.len())?;
+    emit_own(ops, m, marks)?;
     if no_contents(set, refs) {
         return Ok(());
     }
@@ -144,17 +176,18 @@ fn emit_set(
     ops: &mut Ops,
     set: &SyntaxSet,
     m: &Candidate<'_>,
+    marks: &[Mark<'_>],
     left: usize,
     refs: &[ContextReference],
 ) -> Result<(), AllocError>
     requires { left < 9223372036854775808 }
-    ensures { OnOk result (ops.new.items ≡ ops.old.items ++ operations m.now.start m.now.end m.now.pattern.now.scope (set_parts set.now left refs.now)) }
+    ensures { (cs : List Capture) → flat_map mark_operations (map seen_mark marks.now) ≡ capture_operations m.now.start m.now.end cs
+        → OnOk result (ops.new.items ≡ ops.old.items ++ operations m.now.start m.now.end m.now.pattern.now.scope cs (set_parts set.now left refs.now)) }
 {
     let before = ops.as_slice().len();
     push_metas(ops, m.start, set, refs)?;
     let count = ops.as_slice().len() - before;
-    push_scopes(ops, m.start, m.pattern.scope.as_slice())?;
-    pop_scopes(ops, m.end, m.pattern.scope.len())?;
+    emit_own(ops, m, marks)?;
     if no_contents(set, refs) && left == 0 {
         return Ok(());
     }
@@ -162,29 +195,49 @@ fn emit_set(
     push_opens(ops, m.end, set, refs)
 }
 
-/// The operations of a match, which finds these levels.
-pub fn emit(
+/// The operations of a match, which finds these levels, with its captures in order.
+fn emit_all(
     ops: &mut Ops,
     set: &SyntaxSet,
     levels: &[Level],
     m: &Candidate<'_>,
+    marks: &[Mark<'_>],
 ) -> Result<(), AllocError>
-    ensures { OnOk result (ops.new.items ≡ ops.old.items
-        ++ operations m.now.start m.now.end m.now.pattern.now.scope (parts_of set.now levels.now m.now.pattern.now.operation)) }
+    ensures { (cs : List Capture) → flat_map mark_operations (map seen_mark marks.now) ≡ capture_operations m.now.start m.now.end cs
+        → OnOk result (ops.new.items ≡ ops.old.items
+        ++ operations m.now.start m.now.end m.now.pattern.now.scope cs (parts_of set.now levels.now m.now.pattern.now.operation)) }
 {
     let (metas, contents) = top_counts(set, levels);
     match &m.pattern.operation {
-        MatchOperation::Push(refs) => emit_push(ops, set, m, refs.as_slice()),
-        MatchOperation::Set(refs) => emit_set(ops, set, m, metas + contents, refs.as_slice()),
+        MatchOperation::Push(refs) => emit_push(ops, set, m, marks, refs.as_slice()),
+        MatchOperation::Set(refs) => {
+            emit_set(ops, set, m, marks, metas + contents, refs.as_slice())
+        }
         MatchOperation::Pop => {
             pop_scopes(ops, m.start, contents)?;
-            push_scopes(ops, m.start, m.pattern.scope.as_slice())?;
-            pop_scopes(ops, m.end, m.pattern.scope.len())?;
+            emit_own(ops, m, marks)?;
             pop_scopes(ops, m.end, metas)
         }
-        MatchOperation::None => {
-            push_scopes(ops, m.start, m.pattern.scope.as_slice())?;
-            pop_scopes(ops, m.end, m.pattern.scope.len())
-        }
+        MatchOperation::None => emit_own(ops, m, marks),
     }
+}
+
+/// The operations of a match, which finds the levels of this position.
+pub fn emit(
+    alloc: Global,
+    ops: &mut Ops,
+    set: &SyntaxSet,
+    line: &str,
+    p: &Position,
+    m: &Candidate<'_>,
+    region: &mut Region,
+) -> Result<(), AllocError>
+    requires within { p.now.place ≤ length line.now }
+    requires boundary { IsCharBoundary line.now p.now.place }
+    requires stands { StandsIn line.now p.now.place m.now.start m.now.end }
+    ensures { OnOk result (ops.new.items ≡ ops.old.items
+        ++ operations m.now.start m.now.end m.now.pattern.now.scope (captures dialect (seen line.now p.now.place m.now)) (parts_of set.now p.now.levels m.now.pattern.now.operation)) }
+{
+    let marks = capture_marks(alloc, line, p.place, m, region)?;
+    emit_all(ops, set, p.levels.as_slice(), m, marks.as_slice())
 }

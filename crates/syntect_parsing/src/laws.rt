@@ -1,7 +1,8 @@
 //! Laws of reading.
-ghost use Rattle.syntect_parsing.specs.Laws.{ReadsOnce, RefusesOnce, NeverBoth, AnswersOnce, AnswersMore, CoversLine, RoomIsNotFelt, EachLineEnds, PlacesAreBoundaries, StackIsOpen, FindsInText};
+ghost use Rattle.syntect_parsing.specs.Laws.{ReadsOnce, RefusesOnce, NeverBoth, AnswersOnce, AnswersMore, CoversLine, RoomIsNotFelt, EachLineEnds, PlacesAreBoundaries, StackIsOpen, FindsInText, LaysGroupsOut};
 ghost use Rattle.syntect_parsing.specs.Refusals.{RefusesUnresolved, LinksClosed};
-ghost use Rattle.syntect_parsing.specs.Engine.{dialect, whole_dialect};
+ghost use Rattle.syntect_parsing.specs.Reached.{PrototypesReach, MarksReach};
+ghost use Rattle.syntect_parsing.specs.Engine.{dialect};
 
 /// A line that is accepted has one reading.
 #[tactic(auto, using(crate::proofs::Once::reads_once))]
@@ -63,10 +64,18 @@ pub fn stack_is_open()
 
 /// What the dialect finds stands in the text, on character boundaries: so the laws hold of it.
 pub fn dialect_finds_in_text()
-    ensures now { FindsInText dialect }
-    ensures whole { FindsInText whole_dialect }
+    ensures { FindsInText dialect }
 {
     syntect_pattern::matches_are_laid_out();
+}
+
+/// The groups of a match that stand in no lookaround lie in the match, and each two of them are apart or one in the other:
+/// so their scopes are pushed and popped as on a stack.
+pub fn dialect_lays_groups_out()
+    ensures { LaysGroupsOut dialect }
+{
+    syntect_pattern::matches_are_laid_out();
+    syntect_pattern::groups_are_numbered();
 }
 
 /// A text that begins in a context that is never left is refused exactly where a picked match names a reference without
@@ -78,4 +87,15 @@ pub fn refuses_unresolved()
 /// A set that is linked of definitions whose references are all by name leads nowhere out of it.
 pub fn links_closed()
     ensures { LinksClosed }
+{}
+
+/// As many steps as there are contexts reach from a prototype what any number of steps reach.
+pub fn prototypes_reach()
+    ensures { PrototypesReach }
+{}
+
+/// As many includes as there are contexts lead to each mark of back references that any number of them leads to.
+#[tactic(auto, using(crate::proofs::ReachedLaws::marks_reach))]
+pub fn marks_reach()
+    ensures { MarksReach }
 {}

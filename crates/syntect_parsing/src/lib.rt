@@ -5,25 +5,28 @@
 //! reads text with it line by line.
 #![tactic(auto)]
 
+mod captures;
 mod chain;
+mod directory;
 mod emit;
+mod finders;
 pub mod laws;
 mod levels;
 mod link;
+mod match_iter;
 mod names;
 mod opening;
 pub mod parser;
+mod plain_text;
 mod position;
-#[cfg(test)]
-mod row_tests;
+mod reached;
 mod search;
 mod substitution;
 pub mod syntax_definition;
 pub mod syntax_set;
-#[cfg(test)]
-mod tests;
 mod text;
 mod turn;
+mod unlinked;
 pub mod yaml_load;
 mod yaml_load_contexts;
 mod yaml_load_parts;

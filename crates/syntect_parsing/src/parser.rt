@@ -10,8 +10,8 @@ ghost use Rattle.syntect_parsing.specs.Meaning.{MayLackStart, Accepts, MayRefuse
 ghost use Rattle.syntect_parsing.specs.declared.parser.ParsingError.TheVariants.{Memory as NoMemory};
 
 use crate::chain::room_in;
+use crate::directory::context_named;
 use crate::laws::dialect_finds_in_text;
-use crate::link::context_named;
 use crate::opening::Opening;
 use crate::position::Position;
 use crate::syntax_definition::{ContextId, ContextReference};

@@ -8,6 +8,7 @@ ghost use Rattle.syntect_parsing.specs.Contexts.{context_at, target, match_of};
 ghost use Rattle.syntect_parsing.specs.Substitution.{AreOnBoundaries, substituted};
 ghost use Rattle.syntect_parsing.specs.Errors.{IsUnresolved, IsMissing, IsBadIndex};
 
+pub use crate::match_iter::{MatchIter, context_iter};
 use crate::parser::ParsingError;
 use crate::substitution::substituted;
 use crate::syntax_set::SyntaxSet;

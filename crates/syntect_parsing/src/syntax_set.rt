@@ -1,12 +1,13 @@
 //! Syntaxes that are linked together.
-ghost use Rattle.std.specs.Prelude.{◌≡◌, [], ◌∷◌, ◌++◌, IfOk, OnOk, OnErr};
+ghost use Rattle.std.specs.Prelude.{◌≡◌, [], ◌∷◌, ◌++◌, length, IfOk, OnOk, OnErr};
 ghost use Rattle.std.specs.Option.{option_copied};
 ghost use Rattle.syntect_parsing.specs.Contexts.{context_at};
-ghost use Rattle.syntect_parsing.specs.Link.{definitions_in, syntaxes_in, set_of, linked};
+ghost use Rattle.syntect_parsing.specs.Link.{definitions_in, paths_in, syntaxes_in, set_paths, set_of, with_paths, linked};
 
 use crate::link::link_definitions;
 use crate::syntax_definition::{Context, ContextId, SyntaxDefinition};
 use std::alloc::{AllocError, AllocFailed, Global};
+use syntect_regex::regex::Regex;
 use syntect_scope::repository::ScopeRepository;
 use syntect_scope::scope::Scope;
 use syntect_values::seq::Seq;
@@ -14,7 +15,7 @@ use syntect_values::table::Table;
 use syntect_values::text::Text;
 
 /// A syntax of a set, of use with that set alone.
-#[derive(Clone, Drop)]
+#[derive(Drop)]
 pub struct SyntaxReference {
     pub name: Text,
     pub file_extensions: Seq<Text>,
@@ -27,18 +28,78 @@ pub struct SyntaxReference {
     pub(crate) index: usize,
     pub(crate) names: Seq<Text>,
     pub(crate) contexts: Seq<Context>,
+    /// The pattern of `first_line_match`, compiled.
+    pub(crate) first_line: Option<Regex>,
+}
+
+impl Clone for SyntaxReference {
+    ghost is_clone = { λ x y. y ≡ x };
+
+    fn clone(&self) -> Result<SyntaxReference, AllocError> {
+        Ok(SyntaxReference {
+            name: self.name.clone()?,
+            file_extensions: copied_texts(&self.file_extensions)?,
+            scope: self.scope,
+            first_line_match: copied_text(&self.first_line_match)?,
+            hidden: self.hidden,
+            variables: copied_variables(&self.variables)?,
+            index: self.index,
+            names: copied_texts(&self.names)?,
+            contexts: copied_contexts(&self.contexts)?,
+            first_line: copied_pattern(self.names.allocator(), &self.first_line)?,
+        })
+    }
+}
+
+// What stands in a syntax, once more.
+
+fn copied_texts(texts: &Seq<Text>) -> Result<Seq<Text>, AllocError>
+    ensures { IfOk result (λ t. t ≡ texts.now) }
+{
+    texts.clone()
+}
+
+fn copied_variables(variables: &Table<Text, Text>) -> Result<Table<Text, Text>, AllocError>
+    ensures { IfOk result (λ v. v ≡ variables.now) }
+{
+    variables.clone()
+}
+
+fn copied_contexts(contexts: &Seq<Context>) -> Result<Seq<Context>, AllocError>
+    ensures { IfOk result (λ c. c ≡ contexts.now) }
+{
+    contexts.clone()
+}
+
+fn copied_text(text: &Option<Text>) -> Result<Option<Text>, AllocError>
+    ensures { IfOk result (λ t. t ≡ text.now) }
+{
+    text.clone()
+}
+
+fn copied_pattern(alloc: Global, pattern: &Option<Regex>) -> Result<Option<Regex>, AllocError>
+    ensures { IfOk result (λ p. p ≡ pattern.now) }
+{
+    match pattern {
+        Some(pattern) => Ok(Some(pattern.clone(alloc)?)),
+        None => Ok(None),
+    }
 }
 
 /// Syntaxes whose contexts are linked.
 #[derive(Clone, Drop)]
 pub struct SyntaxSet {
     syntaxes: Seq<SyntaxReference>,
+    /// The paths of files that were loaded, each with the place of its syntax.
+    path_syntaxes: Seq<(Text, usize)>,
 }
 
 /// Definitions that are to be linked.
 #[derive(Clone, Drop)]
 pub struct SyntaxSetBuilder {
     syntaxes: Seq<SyntaxDefinition>,
+    /// The paths of files that were loaded, each with the place of its definition.
+    path_syntaxes: Seq<(Text, usize)>,
 }
 
 impl SyntaxSet {
@@ -48,6 +109,7 @@ impl SyntaxSet {
     {
         SyntaxSet {
             syntaxes: Seq::new(alloc),
+            path_syntaxes: Seq::new(alloc),
         }
     }
 
@@ -65,6 +127,18 @@ impl SyntaxSet {
         self.syntaxes.as_slice()
     }
 
+    /// The paths of files that were loaded, each with the place of its syntax.
+    pub(crate) fn paths(&self) -> &[(Text, usize)]
+        ensures { result.now ≡ set_paths self.now }
+    {
+        self.path_syntaxes.as_slice()
+    }
+
+    /// The allocator that the list of syntaxes was made with.
+    pub(crate) fn allocator(&self) -> Global {
+        self.syntaxes.allocator()
+    }
+
     /// The context of a number, if the set has it.
     pub(crate) fn context_at(&self, id: ContextId) -> Option<&Context>
         ensures { option_copied result ≡ context_at self.now id }
@@ -77,16 +151,19 @@ impl SyntaxSet {
 impl SyntaxSetBuilder {
     /// No definitions. Takes no memory.
     pub fn new(alloc: Global) -> SyntaxSetBuilder
-        ensures { definitions_in result ≡ [] }
+        ensures definitions { definitions_in result ≡ [] }
+        ensures paths { paths_in result ≡ [] }
     {
         SyntaxSetBuilder {
             syntaxes: Seq::new(alloc),
+            path_syntaxes: Seq::new(alloc),
         }
     }
 
     /// The same. Takes no memory.
     pub fn default(alloc: Global) -> SyntaxSetBuilder
-        ensures { definitions_in result ≡ [] }
+        ensures definitions { definitions_in result ≡ [] }
+        ensures paths { paths_in result ≡ [] }
     {
         SyntaxSetBuilder::new(alloc)
     }
@@ -94,10 +171,32 @@ impl SyntaxSetBuilder {
     /// Puts a definition last. Without memory for it the builder stays as it is, and the definition is dropped.
     pub fn add(&mut self, syntax: SyntaxDefinition) -> Result<(), AllocError>
         ensures ok { OnOk result (definitions_in self.new ≡ definitions_in self.old ++ syntax ∷ []) }
+        ensures paths { paths_in self.new ≡ paths_in self.old }
         ensures err { OnErr result (self.new ≡ self.old) }
     {
         self.syntaxes.push(syntax)?;
         Ok(())
+    }
+
+    /// Puts a definition last that was loaded from the file of this path. Without memory for both the builder stays as it
+    /// is.
+    pub(crate) fn add_loaded(
+        &mut self,
+        syntax: SyntaxDefinition,
+        path: Text,
+    ) -> Result<(), AllocError>
+        ensures ok { OnOk result (definitions_in self.new ≡ definitions_in self.old ++ syntax ∷ []) }
+        ensures paths { OnOk result (paths_in self.new ≡ paths_in self.old ++ (path, length (definitions_in self.old)) ∷ []) }
+        ensures err { OnErr result (self.new ≡ self.old) }
+    {
+        self.path_syntaxes.push((path, self.syntaxes.len()))?;
+        match self.syntaxes.push(syntax) {
+            Ok(()) => Ok(()),
+            Err(_) => {
+                self.path_syntaxes.pop();
+                Err(AllocError)
+            }
+        }
     }
 
     /// The definitions, in the order in which they were added.
@@ -107,8 +206,16 @@ impl SyntaxSetBuilder {
         self.syntaxes.as_slice()
     }
 
-    /// Links the definitions into a set. Contexts are numbered in the byte order of their names. A reference by name
-    /// is linked where its own syntax has a context of that name; every other one stays as it is, unresolved.
+    /// Links the definitions into a set. Contexts are numbered in the byte order of their names.
+    ///
+    /// A reference by name is linked to the context of that name in its own syntax, `$top_level_main` being `main`. A
+    /// reference by scope or by the name of a syntax is linked to the last syntax of it: to the sub context, or to `main`.
+    /// With a way out, where there is no such context, it is linked to `main` of the last syntax named `Plain Text`. A
+    /// reference that has a number keeps it, and what cannot be linked stays as it is, unresolved.
+    ///
+    /// A context without a prototype of its own is given the context `prototype` of its syntax, if it wants one and isn't
+    /// reached from it. Contexts that include one with back references, over any number of includes, are marked as it is.
+    /// First-line patterns are compiled.
     ///
     /// The repository is that of the definitions' scopes. Without memory the definitions are dropped.
     pub fn build(
@@ -116,13 +223,17 @@ impl SyntaxSetBuilder {
         alloc: Global,
         scope_repo: &mut ScopeRepository,
     ) -> Result<SyntaxSet, AllocError>
-        ensures linked { IfOk result (λ set. set ≡ linked (definitions_in self)) }
+        ensures linked { IfOk result (λ set. set ≡ with_paths (paths_in self) (linked (definitions_in self))) }
         ensures repository { scope_repo.new ≡ scope_repo.old }
     {
         let _ = scope_repo;
-        let SyntaxSetBuilder { syntaxes } = self;
+        let SyntaxSetBuilder {
+            syntaxes,
+            path_syntaxes,
+        } = self;
         Ok(SyntaxSet {
             syntaxes: link_definitions(alloc, syntaxes)?,
+            path_syntaxes,
         })
     }
 }

@@ -10,7 +10,7 @@ ghost use Rattle.syntect_parsing.specs.Step.{MakesStep, RefusesStep, Turns, Refu
 
 use crate::chain::{chain, missing_prototype};
 use crate::emit::emit;
-use crate::laws::dialect_finds_in_text;
+use crate::laws::{dialect_finds_in_text, dialect_lays_groups_out};
 use crate::levels::apply;
 use crate::names::check_names;
 use crate::parser::ParsingError;
@@ -76,6 +76,7 @@ fn take(
     line: &str,
     p: &mut Position,
     m: &Candidate<'_>,
+    region: &mut Region,
     ops: &mut Vec<(usize, ScopeStackOp)>,
 ) -> Result<(), ParsingError>
     requires within { p.old.place ≤ length line.now }
@@ -86,8 +87,9 @@ fn take(
         (step dialect set.now line.now p.old (Take (seen line.now p.old.place m.now))) p.old p.new ops.old.items ops.new.items) }
     ensures refused { IfErr result (RefusesStep (step dialect set.now line.now p.old (Take (seen line.now p.old.place m.now)))) }
 {
+    dialect_lays_groups_out();
     check_names(set, m.pattern)?;
-    emit(ops, set, p.levels.as_slice(), m)?;
+    emit(alloc, ops, set, line, p, m, region)?;
     apply(alloc, set, line, p, m)?;
     Ok(())
 }
@@ -127,7 +129,7 @@ pub fn turn(
         Err(e) => return Err(e),
     };
     match winner(line, p, ms.as_slice()) {
-        Choice::Take(m) => match take(alloc, set, line, p, m, ops) {
+        Choice::Take(m) => match take(alloc, set, line, p, m, region, ops) {
             Ok(()) => Ok(true),
             Err(e) => Err(e),
         },

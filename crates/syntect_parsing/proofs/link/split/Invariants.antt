@@ -1,5 +1,5 @@
 use Rattle.std.proofs.Common.{◌≡◌, map}
-use Rattle.syntect_parsing.specs.Link.{names_of}
+use Rattle.syntect_parsing.specs.References.{names_of}
 use Rattle.syntect_parsing.proofs.link.split.Given as goal
 
 abbrev pub invariant-loop-name : goal.invariant-loop-name

@@ -13,14 +13,14 @@ returns-in-Err-turn-clause-refused c = so_far-refused c.loop-e.invariant c.in-Er
 pub loop-e-smaller : goal.loop-e-smaller
 loop-e-smaller c =
     let t = rw c.in-Ok-true.field-0-test at c.in-Ok-true.ensures.turns in
-    (goes_falls dialect c.args.line.now (finds_in_order dialect c.dialect_finds_in_text.ensures.now c.args.line.now c.utf8.line) c.args.set.now c.loop-e.p c.turn.new.p t.bytes
+    (goes_falls dialect c.args.line.now (finds_in_order dialect c.dialect_finds_in_text.ensures c.args.line.now c.utf8.line) c.args.set.now c.loop-e.p c.turn.new.p t.bytes
     c.loop-e.invariant.within c.loop-e.invariant.few t.goes).0
 
 pub loop-e-preserved : goal.loop-e-preserved
 loop-e-preserved c =
     let t = rw c.in-Ok-true.field-0-test at c.in-Ok-true.ensures.turns in
     so_far-more c.loop-e.invariant t
-    (goes_falls dialect c.args.line.now (finds_in_order dialect c.dialect_finds_in_text.ensures.now c.args.line.now c.utf8.line) c.args.set.now c.loop-e.p c.turn.new.p t.bytes
+    (goes_falls dialect c.args.line.now (finds_in_order dialect c.dialect_finds_in_text.ensures c.args.line.now c.utf8.line) c.args.set.now c.loop-e.p c.turn.new.p t.bytes
     c.loop-e.invariant.within c.loop-e.invariant.few t.goes).1
 
 pub returns-clause-accepted : goal.returns-clause-accepted

@@ -14,7 +14,7 @@ returns-in-Err-clause-refused c = turn_refused c.args.set.now c.args.line.now c.
 pub take-requires-clause-stands : goal.take-requires-clause-stands
 take-requires-clause-stands c =
     rw c.in-Take.is at
-    (choice_stands c.dialect_finds_in_text.ensures.now c.args.line.now c.utf8.line c.trim.new.p c.in-Ok.ensures.live.0 c.in-Ok.ms.items c.winner.result c.in-Ok.ensures.live.1
+    (choice_stands c.dialect_finds_in_text.ensures c.args.line.now c.utf8.line c.trim.new.p c.in-Ok.ensures.live.0 c.in-Ok.ms.items c.winner.result c.in-Ok.ensures.live.1
     (rw c.as_slice.ensures.value at c.winner.ensures))
 
 pub returns-in-Ok-take-clause-turns : goal.returns-in-Ok-take-clause-turns
@@ -47,7 +47,7 @@ returns-in-Skip-clause-turns c =
     ∙ ap (λ x. step dialect c.args.set.now c.args.line.now c.trim.new.p (chosen c.args.line.now c.trim.new.p.place x)) c.in-Skip.is)
     (rw c.skip.ensures (skip_makes c.args.set.now c.args.line.now c.trim.new.p c.args.ops.now.items c.utf8.line (rw c.trim.ensures c.requires.boundary)
     (rw c.in-Skip.is at
-    (choice_stands c.dialect_finds_in_text.ensures.now c.args.line.now c.utf8.line c.trim.new.p c.in-Ok.ensures.live.0 c.in-Ok.ms.items c.winner.result c.in-Ok.ensures.live.1
+    (choice_stands c.dialect_finds_in_text.ensures c.args.line.now c.utf8.line c.trim.new.p c.in-Ok.ensures.live.0 c.in-Ok.ms.items c.winner.result c.in-Ok.ensures.live.1
     (rw c.as_slice.ensures.value at c.winner.ensures)))))
 
 pub returns-clause-turns : goal.returns-clause-turns
