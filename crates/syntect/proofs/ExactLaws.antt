@@ -1,5 +1,5 @@
 -- Where a line is refused.
-use Rattle.std.proofs.Common.{◌≡◌, ℕ, false, List, [], ◌∷◌, Option, Some, None, Ok, Err, Bor, refl, ap, sym, ◌∙◌, is_none, subst}
+use Rattle.std.proofs.Common.{◌≡◌, ℕ, false, List, Option, Some, None, Ok, Err, Bor, refl, sym, is_none, subst}
 use Rattle.std.specs.Prelude.{IfSome, true}
 use Rattle.std.specs.Global.{Vec}
 use Rattle.std.specs.List.{list_all}
@@ -14,8 +14,7 @@ use Rattle.syntect_style.specs.declared.theme.Theme.{Theme}
 use Rattle.syntect_parsing.specs.Contexts.{context_at}
 use Rattle.syntect_parsing.specs.Engine.{dialect}
 use Rattle.syntect_parsing.specs.Laws.{NeverBoth, StackIsOpen}
-use Rattle.syntect_parsing.specs.Line.{Answer, AnswersAll, RefusesLine, start, start_id, start_of}
-use Rattle.syntect_parsing.specs.Link.{linked}
+use Rattle.syntect_parsing.specs.Line.{Answer, AnswersAll, RefusesLine, start, start_id}
 use Rattle.syntect_parsing.specs.Meaning.{Accepts, MayRefuse}
 use Rattle.syntect_parsing.specs.Refusals.{AreByName, IsClosed, IsNeverLeft, LinksClosed, NamesUnresolved, PicksUnresolved, RefusesUnresolved, lone_patterns, stays}
 use Rattle.syntect_parsing.specs.declared.syntax_definition.ContextId.{ContextId}
@@ -28,7 +27,7 @@ use Rattle.syntect_parsing.specs.declared.parser.ParsingError.{ParsingError}
 use Rattle.syntect_parsing.specs.declared.parser.ParsingError.TheVariants as parsing
 use Rattle.syntect.specs.Built.{IsBuiltOf, StaysInStart}
 use Rattle.syntect.specs.Errors.{from_parsing, from_scope}
-use Rattle.syntect.specs.Leads.{Leads, LeadsOn, RefusedExactly}
+use Rattle.syntect.specs.Leads.{Leads, RefusedExactly}
 use Rattle.syntect.specs.declared.easy.HighlightLines.{HighlightLines}
 use Rattle.syntect.proofs.BuiltLaws.{built_there, built_begins_plain}
 use Rattle.syntect.proofs.LeadLaws.{lead_unshown}
@@ -56,7 +55,7 @@ exactly : {set : SyntaxSet} {theme : Theme} {syntax : SyntaxReference} {definiti
     → ((e : ParsingError) (turns : ℕ) → RefusesLine dialect set line h.parse_state e turns → NamesUnresolved dialect set line h.parse_state e)
     × ((r : ContextReference) → PicksUnresolved dialect set line h.parse_state r → (turns : ℕ) × RefusesLine dialect set line h.parse_state (parsing.UnresolvedContextReference r) turns)
 exactly {set} {theme} {syntax} {definitions} {lines} {answers} {h} p line =
-    let closed : IsClosed set = subst IsClosed (sym p.built.set_is) (p.links definitions p.by_name) in
+    let closed : IsClosed set = subst IsClosed (sym p.built.set_is) (p.links p.built.paths definitions p.by_name) in
     let b : BeginsIn set p.leads.start = begins_in set (start_id syntax) p.leads.start (built_there set syntax definitions p.built) p.stays_in p.leads.begins in
     p.refuses dialect set b.id lines answers h.parse_state line closed b.never (subst (λ (s : ParseState). AnswersAll dialect set lines s answers h.parse_state) (sym b.is) p.leads.run)
 

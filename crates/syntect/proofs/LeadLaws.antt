@@ -43,6 +43,18 @@ leads-none set theme syntax h b p t k = record {
   keeps = k;
 }
 
+-- what led to these states leads to the highlighter of the theme that holds them
+pub leads-resumed : (set : SyntaxSet) (theme : Theme) (syntax : SyntaxReference) (lines : List (List ℕ)) (answers : List Answer) (h new : HighlightLines)
+    → h.highlight_state ≡ new.highlight_state → h.parse_state ≡ new.parse_state → new.highlighter ≡ theme → Leads set theme syntax lines answers h → Leads set theme syntax lines answers new
+leads-resumed set theme syntax lines answers h new e f t l = record {
+  start = l.start;
+  begins = l.begins;
+  run = rw f at l.run;
+  path = rw (e, f) at l.path;
+  theme_is = t;
+  keeps = rw e at l.keeps;
+}
+
 -- ---- one line more ----
 
 -- with one more answer, what is held leads on

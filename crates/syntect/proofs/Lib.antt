@@ -3,3 +3,4 @@ pub mod LeadLaws
 pub mod ExactLaws
 pub mod PageLaws
 pub mod LoadedLaws
+pub mod ReaderLaws

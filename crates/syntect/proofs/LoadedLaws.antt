@@ -1,12 +1,12 @@
 -- What holds of a definition that was loaded.
-use Rattle.std.proofs.Common.{◌≡◌, ◌==◌, ℕ, zero, suc, ◌<◌, ◌≤◌, Bool, true, false, ◌&&◌, get_or, List, [], ◌∷◌, length, map, refl, sym, ap, ◌∙◌, arith, Option, Some, None, Result, Ok, Err, subst}
-use Rattle.std.specs.Prelude.{position, codes, IfSome, slice_get}
+use Rattle.std.proofs.Common.{◌≡◌, ◌==◌, ℕ, zero, suc, ◌<◌, ◌≤◌, Bool, true, false, ◌&&◌, get_or, List, [], ◌∷◌, length, map, refl, ap, arith, Option, Some, None, Result, Ok, Err, subst}
+use Rattle.std.specs.Prelude.{position, IfSome, slice_get}
 use Rattle.std.specs.Option.{option_and_then}
 use Rattle.std.proofs.Common.{Ordering, Less, Equal, Greater}
 use Rattle.std.specs.Ordering.{match_ordering, nat_cmp}
 use Rattle.std.specs.Cmp.Lexicographic.{pointwise, slice_cmp}
 use Rattle.std.specs.BTreeMap.{insert_entry, is_at}
-use Rattle.std.specs.Map.{lookup, remove_entry}
+use Rattle.std.specs.Map.{remove_entry}
 use Rattle.std.proofs.lemmas.List.Quantifiers.{position-Some}
 use Rattle.std.proofs.lemmas.Map.Lookups.{exact_bytes}
 use Rattle.std.proofs.lemmas.Bool.Decides.{nat_tests}
@@ -14,8 +14,7 @@ use Rattle.syntect_yaml.specs.Node.{Node}
 use Rattle.syntect_yaml.specs.Yaml.{yaml_of}
 use Rattle.syntect_parsing.specs.Link.{names_of}
 use Rattle.syntect_parsing.specs.LoadingSteps.{Refusal, no_node, no_value, no_main}
-use Rattle.syntect_parsing.specs.LoadingContexts.{put}
-use Rattle.syntect_parsing.specs.Loading.{loaded, definition_in, definition_of, finish, finished, finished_with, leaving, defined, read_contexts, nothing_read, variables_at, with_start, around_main, start_context, outer_context, main_context, start_name, outer_name, main_name}
+use Rattle.syntect_parsing.specs.Loading.{loaded, definition_in, finish, finished_with, leaving, defined, read_contexts, nothing_read, variables_at, with_start, around_main, start_context, outer_context, main_context, start_name, outer_name, main_name}
 use Rattle.syntect_parsing.specs.declared.syntax_definition.Context.{Context}
 use Rattle.syntect_parsing.specs.declared.syntax_definition.SyntaxDefinition.{SyntaxDefinition}
 use Rattle.syntect.specs.Built.{IsPlain}

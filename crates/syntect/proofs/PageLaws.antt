@@ -1,21 +1,17 @@
 -- A page while it is written.
-use Rattle.std.proofs.Common.{◌≡◌, ℕ, List, [], ◌∷◌, ◌++◌, map, refl, sym, ap, ◌∙◌, append_assoc, append-nil, Ok, Err, Bor, inl, inr, Result}
+use Rattle.std.proofs.Common.{◌≡◌, ℕ, List, [], ◌∷◌, ◌++◌, map, refl, sym, ap, ◌∙◌, append_assoc, append-nil, Ok, Err, Bor, inl, inr}
 use Rattle.std.specs.Global.{Vec}
-use Rattle.std.specs.List.{flat_map}
 use Rattle.std.proofs.lemmas.Grind.{flat_map-append}
-use Rattle.std.specs.Prelude.{Option, Some, None}
 use Rattle.syntect_style.specs.declared.style.Style.{Style}
 use Rattle.syntect_style.specs.declared.theme.Theme.{Theme}
-use Rattle.syntect_parsing.specs.Line.{Answer, Accepted, RefusedBy}
-use Rattle.syntect_parsing.specs.declared.parser.ParsingError.{ParsingError}
+use Rattle.syntect_parsing.specs.Line.{Accepted}
 use Rattle.syntect_parsing.specs.declared.syntax_set.SyntaxReference.{SyntaxReference}
 use Rattle.syntect_parsing.specs.declared.syntax_set.SyntaxSet.{SyntaxSet}
-use Rattle.syntect_writers.specs.Lines.{lines_of, text_left, GivesLine}
-use Rattle.syntect_writers.specs.declared.lines.LinesWithEndings.{LinesWithEndings}
+use Rattle.syntect_writers.specs.Lines.{lines_of}
 use Rattle.syntect_writers.specs.Spans.{line_text, opening, closing, background_of}
 use Rattle.syntect_writers.specs.declared.html.IncludeBackground.TheVariants.{IfDifferent}
 use Rattle.syntect.specs.Leads.{Leads, LeadsOn, LacksStart}
-use Rattle.syntect.specs.Pages.{Row, IsShown, AreShown, lines_in, answers_in, body_text, IsPage, IsRefusedAtALine, HasNoPage}
+use Rattle.syntect.specs.Pages.{Row, IsShown, AreShown, lines_in, answers_in, body_text, IsPage, HasNoPage}
 use Rattle.syntect.specs.declared.easy.HighlightLines.{HighlightLines}
 use Rattle.syntect.specs.declared.error.Error.{Error}
 use Rattle.syntect.specs.declared.error.Error.TheVariants as error
@@ -38,15 +34,15 @@ so_far_none set theme syntax text left page h l e f = record {
   written = f ∙ sym (append-nil (opening theme));
 }
 
-map_last : {X Y : Type 0} (f : X → Y) (xs : List X) (x : X) → map f (xs ++ x ∷ []) ≡ map f xs ++ f x ∷ []
+pub map_last : {X Y : Type 0} (f : X → Y) (xs : List X) (x : X) → map f (xs ++ x ∷ []) ≡ map f xs ++ f x ∷ []
 map_last f [] x = refl
 map_last f (y ∷ ys) x = ap (λ zs. f y ∷ zs) (map_last f ys x)
 
-shown_last : (theme : Theme) (rows : List Row) (row : Row) → AreShown theme rows → IsShown theme row → AreShown theme (rows ++ row ∷ [])
+pub shown_last : (theme : Theme) (rows : List Row) (row : Row) → AreShown theme rows → IsShown theme row → AreShown theme (rows ++ row ∷ [])
 shown_last theme [] row s t = (t, tt)
 shown_last theme (r ∷ rows) row s t = (s.0, shown_last theme rows row s.1 t)
 
-pub so_far_more : (set : SyntaxSet) (theme : Theme) (syntax : SyntaxReference) (text left rest page next : List ℕ) (line : Bor (List ℕ)) (h new : HighlightLines) (pieces : Vec (Style × Bor (List ℕ)))
+unfoldable pub so_far_more : (set : SyntaxSet) (theme : Theme) (syntax : SyntaxReference) (text left rest page next : List ℕ) (line : Bor (List ℕ)) (h new : HighlightLines) (pieces : Vec (Style × Bor (List ℕ)))
     (s : IsSoFar set theme syntax text left page h)
     → LeadsOn set theme syntax (lines_in s.rows) (answers_in s.rows) line new (Ok pieces)
     → lines_of left ≡ line.now ∷ lines_of rest

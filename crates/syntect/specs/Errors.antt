@@ -3,6 +3,10 @@ use Rattle.syntect_parsing.specs.declared.parser.ParsingError.{ParsingError}
 use Rattle.syntect_parsing.specs.declared.parser.ParsingError.TheVariants as parsing
 use Rattle.syntect_scope.specs.declared.stack.ScopeError.{ScopeError}
 use Rattle.syntect_scope.specs.declared.stack.ScopeError.TheVariants as scope
+use Rattle.std.specs.IoError.{error_kind}
+use Rattle.std.specs.declared.io.Error.{Error as IoError}
+use Rattle.std.specs.declared.io.ErrorKind.{ErrorKind}
+use Rattle.std.specs.declared.io.ErrorKind.TheVariants.{OutOfMemory}
 use Rattle.syntect.specs.declared.error.Error.{Error}
 use Rattle.syntect.specs.declared.error.Error.TheVariants as error
 
@@ -16,3 +20,11 @@ from_parsing (parsing.UnresolvedContextReference r) = error.ParsingError (parsin
 abbrev pub from_scope : ScopeError → Error
 from_scope scope.Memory = error.Memory
 from_scope scope.NoClearedScopesToRestore = error.ScopeError scope.NoClearedScopesToRestore
+
+-- a fault of a file or reader of this kind
+abbrev pub from_kind : ErrorKind → IoError → Error
+from_kind OutOfMemory e = error.Memory
+from_kind kind e = error.Io e
+
+abbrev pub from_io : IoError → Error
+from_io e = from_kind (error_kind e) e

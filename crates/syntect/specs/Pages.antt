@@ -1,5 +1,6 @@
 -- What a page of HTML shows of a text.
-use Rattle.std.specs.Prelude.{◌≡◌, ℕ, List, [], ◌∷◌, ◌++◌, map, Some, ◌⊎◌}
+use Rattle.std.specs.Prelude.{◌≡◌, ℕ, Bool, true, false, List, [], ◌∷◌, ◌++◌, map, Option, Some, ◌⊎◌}
+use Rattle.std.specs.Str.{IsUtf8}
 use Rattle.std.specs.List.{flat_map}
 use Rattle.std.specs.Borrow.{Bor}
 use Rattle.syntect_style.specs.Pieces.{Joins, IsStyled}
@@ -72,3 +73,43 @@ HasNoPage set syntax text (error.ScopeError e) = ⊥
 HasNoPage set syntax text (error.Fmt e) = ⊥
 HasNoPage set syntax text (error.Io e) = ⊥
 HasNoPage set syntax text error.NoSyntax = ⊥
+
+-- ---- the text of a reader ----
+
+-- a fault of reading, or want of memory
+abbrev pub IsReadFault : Error → Type 0
+IsReadFault (error.Io e) = Unit {0}
+IsReadFault error.Memory = Unit {0}
+IsReadFault e = ⊥
+
+-- The reader had this text, it is UTF-8, and the page shows it.
+abbrev pub IsPageOfBytes : SyntaxSet → Theme → SyntaxReference → List ℕ → List ℕ → Type 0
+IsPageOfBytes set theme syntax text page = IsUtf8 text × IsPage set theme syntax text page
+
+-- each of these lines is UTF-8
+abbrev pub AreUtf8 : List (List ℕ) → Type 0
+AreUtf8 [] = Unit {0}
+AreUtf8 (line ∷ lines) = IsUtf8 line × AreUtf8 lines
+
+-- A line is refused, and it and those before it are UTF-8.
+abbrev pub IsRefusedAtALineOfBytes : SyntaxSet → SyntaxReference → List ℕ → ParsingError → Type 0
+IsRefusedAtALineOfBytes set syntax text e = (r : IsRefusedAtALine set syntax text e) × AreUtf8 (lines_in r.rows) × IsUtf8 r.line
+
+-- There is no page: a line is refused before one that is not UTF-8 and before a fault of the reader, or such a fault comes
+-- first, or there was no memory.
+abbrev pub IsStopped : SyntaxSet → SyntaxReference → List ℕ → Error → Type 0
+IsStopped set syntax text (error.ParsingError e) = IsRefusedAtALineOfBytes set syntax text e
+IsStopped set syntax text (error.Io e) = Unit {0}
+IsStopped set syntax text error.Memory = Unit {0}
+IsStopped set syntax text (error.ScopeError e) = ⊥
+IsStopped set syntax text (error.Fmt e) = ⊥
+IsStopped set syntax text error.NoSyntax = ⊥
+
+-- The same, where the syntax is looked at first.
+abbrev pub HasNoPageOfBytes : SyntaxSet → SyntaxReference → List ℕ → Error → Type 0
+HasNoPageOfBytes set syntax text e = LacksStart syntax e ⊎ IsStopped set syntax text e
+
+-- the next line of what a reader has left, and what it has left then; or nothing was left
+abbrev pub GivesNext : List ℕ → List ℕ → Option (List ℕ) → Bool → Type 0
+GivesNext text line left true = (rest : List ℕ) × (left ≡ Some rest) × (lines_of text ≡ line ∷ lines_of rest) × (text ≡ line ++ rest)
+GivesNext text line left false = text ≡ []

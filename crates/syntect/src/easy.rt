@@ -5,6 +5,7 @@ ghost use Rattle.syntect_parsing.specs.declared.syntax_definition.SyntaxDefiniti
 ghost use Rattle.syntect_parsing.specs.declared.syntax_set.SyntaxReference.{SyntaxReference as ASyntax};
 ghost use Rattle.syntect_parsing.specs.declared.syntax_set.SyntaxSet.{SyntaxSet as ASet};
 ghost use Rattle.syntect_style.specs.declared.theme.Theme.{Theme as ATheme};
+ghost use Rattle.syntect.specs.declared.easy.HighlightLines.{HighlightLines as ALines};
 
 use crate::error::Error;
 use std::alloc::{AllocError, Global};
@@ -51,6 +52,36 @@ impl<'a> HighlightLines<'a> {
             parse_state,
             highlight_state,
         })
+    }
+
+    /// The highlighter of this theme that goes on from these states. Under the theme of the highlighter that `state` took
+    /// them from, it answers as that one would.
+    pub fn from_state(
+        alloc: Global,
+        theme: &'a Theme,
+        highlight_state: HighlightState,
+        parse_state: ParseState,
+    ) -> Result<HighlightLines<'a>, AllocError>
+        ensures holds { IfOk result (λ h. h ≡ record { highlighter = theme.now; parse_state = parse_state; highlight_state = highlight_state }) }
+        // what led to those states leads to the highlighter
+        ensures leads { (set : ASet) (syntax : ASyntax) (lines : List (List ℕ)) (answers : List Answer) (h : ALines)
+            → h.highlight_state ≡ highlight_state → h.parse_state ≡ parse_state → Leads set theme.now syntax lines answers h
+            → IfOk result (Leads set theme.now syntax lines answers) }
+    {
+        let ready = Highlighter::new(alloc, theme)?;
+        Ok(HighlightLines {
+            highlighter: ready,
+            parse_state,
+            highlight_state,
+        })
+    }
+
+    /// The states of the highlighter and of the reader of lines, to go on from. Takes no memory.
+    pub fn state(self) -> (HighlightState, ParseState)
+        ensures highlight { result.0 ≡ self.entry.highlight_state }
+        ensures parse { result.1 ≡ self.entry.parse_state }
+    {
+        (self.highlight_state, self.parse_state)
     }
 
     /// The styled pieces of the next line, which join to it. The set has to be that of the syntax. A refusal changes

@@ -1,5 +1,6 @@
 //! What can go wrong.
 use std::alloc::{AllocError, AllocFailed};
+use std::io::ErrorKind;
 use std::{fmt, io};
 use syntect_parsing::parser::ParsingError;
 use syntect_scope::stack::ScopeError;
@@ -76,6 +77,21 @@ impl From<ScopeError> for Error {
         match e {
             ScopeError::Memory => Error::Memory,
             e => Error::ScopeError(e),
+        }
+    }
+}
+
+/// Want of memory is passed on as such.
+impl From<io::Error> for Error {
+    ghost use Rattle.std.specs.Prelude.{◌≡◌};
+    ghost use Rattle.syntect.specs.Errors.{from_io};
+
+    ghost from_gives = { λ e r. r ≡ from_io e };
+
+    fn from(e: io::Error) -> Error {
+        match e.kind() {
+            ErrorKind::OutOfMemory => Error::Memory,
+            _ => Error::Io(e),
         }
     }
 }

@@ -1,0 +1,13 @@
+use Rattle.std.proofs.Common.{List, ℕ, string_bytes}
+use Rattle.std.specs.Prelude.{[], IfSome}
+use Rattle.syntect_parsing.specs.declared.syntax_definition.SyntaxDefinition.{SyntaxDefinition}
+use Rattle.syntect_parsing.specs.declared.syntax_set.SyntaxReference.{SyntaxReference}
+use Rattle.syntect.specs.Built.{IsBuiltOf}
+use Rattle.syntect.specs.Leads.{Leads}
+use Rattle.syntect.proofs.ReaderLaws.{IsSoFarOfBytes}
+use Rattle.syntect.proofs.html.page_of_lines.Given as goal
+
+abbrev pub invariant-loop : goal.invariant-loop
+invariant-loop g l =
+    (definitions : List SyntaxDefinition) (syntax : SyntaxReference) → IsBuiltOf l.ss syntax definitions → Leads l.ss l.theme syntax [] [] l.fn.highlighter
+    → IfSome (g.R.Read.remaining l.fn.reader) (λ text. IsSoFarOfBytes l.ss l.theme syntax text (g.R.Read.remaining l.reader) (string_bytes l.page) l.highlighter)
