@@ -7,6 +7,4 @@
 
 pub mod seq;
 pub mod table;
-#[cfg(test)]
-mod tests;
 pub mod text;

@@ -8,6 +8,4 @@ pub mod html;
 pub mod laws;
 pub mod lines;
 pub mod terminal;
-#[cfg(test)]
-mod tests;
 mod text;

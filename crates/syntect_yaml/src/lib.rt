@@ -13,7 +13,5 @@ mod place;
 mod plain;
 mod quoted;
 pub mod read;
-#[cfg(test)]
-mod tests;
 mod text;
 pub mod value;

@@ -1,14 +1,14 @@
 //! Worked examples.
-use crate::escape::Escape;
-use crate::html::{
-    IncludeBackground, append_highlighted_html_for_styled_line, start_highlighted_html_snippet,
-    styled_line_to_highlighted_html,
-};
-use crate::lines::LinesWithEndings;
-use crate::terminal::as_24_bit_terminal_escaped;
 use std::test::Fail;
 use syntect_style::style::{Color, FontStyle, Style};
 use syntect_style::theme::Theme;
+use syntect_writers::escape::Escape;
+use syntect_writers::html::{
+    IncludeBackground, append_highlighted_html_for_styled_line, start_highlighted_html_snippet,
+    styled_line_to_highlighted_html,
+};
+use syntect_writers::lines::LinesWithEndings;
+use syntect_writers::terminal::as_24_bit_terminal_escaped;
 
 fn grey(part: u8, opaque: u8) -> Color {
     Color {

@@ -1,10 +1,10 @@
 ghost use Rattle.std.specs.Prelude.{◌≡◌, ◌↔◌, IsTrue, IfOk};
 
-use crate::seq::Seq;
-use crate::table::Table;
-use crate::text::Text;
 use std::alloc::{AllocError, Global};
 use std::io;
+use syntect_values::seq::Seq;
+use syntect_values::table::Table;
+use syntect_values::text::Text;
 
 // Equality of nested values is that of their contents.
 fn same(a: &Seq<Seq<u16>>, b: &Seq<Seq<u16>>) -> bool

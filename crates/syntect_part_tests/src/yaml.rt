@@ -1,9 +1,9 @@
-use crate::error::ReadError;
-use crate::read::{LinePlace, read, refused_at};
-use crate::value::{Scalar, Yaml};
 use std::alloc::{AllocError, Global};
 use std::io;
 use std::test::Fail;
+use syntect_yaml::error::ReadError;
+use syntect_yaml::read::{LinePlace, read, refused_at};
+use syntect_yaml::value::{Scalar, Yaml};
 
 // A value in one line, its texts in double quotes.
 fn show_scalar(alloc: Global, out: &mut String, scalar: &Scalar) -> Result<(), AllocError> {

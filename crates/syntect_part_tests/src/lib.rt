@@ -1,0 +1,29 @@
+//! Tests of the crates that reading stands on, and of styles and writers, by values from outside.
+//!
+//! They stand in a crate of their own, since a crate that has tests is proved a second time with them.
+#![tactic(auto)]
+
+#[cfg(test)]
+mod flags;
+#[cfg(test)]
+mod groups;
+#[cfg(test)]
+mod patterns;
+#[cfg(test)]
+mod rewrites;
+#[cfg(test)]
+mod scopes;
+#[cfg(test)]
+mod searches;
+#[cfg(test)]
+mod selectors;
+#[cfg(test)]
+mod styles;
+#[cfg(test)]
+mod themes;
+#[cfg(test)]
+mod values;
+#[cfg(test)]
+mod writers;
+#[cfg(test)]
+mod yaml;
