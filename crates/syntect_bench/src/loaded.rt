@@ -9,7 +9,7 @@ use syntect_scope::repository::ScopeRepository;
 use syntect_style::style::Style;
 
 /// A string that begins with a word behind `<<`, and ends at the line of that word.
-const HEREDOC: &str = r"
+pub const HEREDOC: &str = r"
 name: T
 scope: source.t
 contexts:
@@ -23,7 +23,7 @@ contexts:
 ";
 
 /// An `A` begins a run of `a`.
-const LETTERS: &str = r"
+pub const LETTERS: &str = r"
 name: T
 scope: source.t
 contexts:
@@ -46,7 +46,7 @@ const PAGE: &str =
     "<pre style=\"background-color:#ffffff;\">\n<span style=\"color:#000000;\">Aa</span><span style=\"color:#030303;\">b\n</span></pre>\n";
 
 /// A set of one grammar.
-fn loaded(
+pub fn loaded(
     alloc: Global,
     repository: &mut ScopeRepository,
     text: &str,

@@ -9,6 +9,7 @@
 
 mod documents;
 mod files;
+mod finding;
 mod grammars;
 mod lines;
 mod loaded;
@@ -16,15 +17,17 @@ mod loading;
 mod make;
 mod pages;
 mod queries;
+mod readers;
 mod rows;
 mod searches;
 mod searching;
+mod stacks;
 mod third;
 mod whole;
 
 use crate::documents::{time_documents, time_loads};
 use crate::files::{show, time};
-use crate::queries::{answers, count_patterns, time_queries};
+use crate::queries::{answers, count_answers, count_patterns, time_queries};
 use crate::rows::{ROWS, holds};
 use crate::searches::time_searches;
 use std::process::ExitCode;
@@ -100,6 +103,11 @@ const FILES_OF_PATTERNS: [(&str, (u32, u32)); 2] = [
     ("no_patterns.txt", (0, 7)),
 ];
 
+/// The file of queries, each behind the answer that Oniguruma gives, and how many there are.
+const ANSWERED: &str = "queries.tsv";
+
+const ANSWERED_QUERIES: u32 = 1516;
+
 /// Runs each example. The status is 0 if all come out as they are written, else 1.
 fn run_rows(rt: &(impl Print + AllocGlobal + Files)) -> io::Result<ExitCode> {
     let mut failed = false;
@@ -121,6 +129,13 @@ fn run_rows(rt: &(impl Print + AllocGlobal + Files)) -> io::Result<ExitCode> {
         failed |= outcome == "fails";
         println!(rt; "{path} {outcome}")?;
     }
+    let outcome = if count_answers(rt, ANSWERED)? == (ANSWERED_QUERIES, 0) {
+        "ok"
+    } else {
+        "fails"
+    };
+    failed |= outcome == "fails";
+    println!(rt; "{ANSWERED} {outcome}")?;
     Ok(ExitCode::from(u8::from(failed)))
 }
 

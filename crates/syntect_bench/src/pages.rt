@@ -20,14 +20,14 @@ const NO_TEXT: &str = "<pre style=\"background-color:#020202;\">\n</pre>\n";
 const THREE_MARKS: &str =
     "<pre style=\"background-color:#ffffff;\">\n<span style=\"color:#000000;\">&lt;&amp;&gt;</span></pre>\n";
 
-const TWO_LINES: &str =
+pub const TWO_LINES: &str =
     "<pre style=\"background-color:#ffffff;\">\n<span style=\"color:#000000;\">a\n</span><span style=\"color:#000000;\">b</span></pre>\n";
 
 const SPACE_IN_FRONT: &str =
     "<pre style=\"background-color:#020202;\">\n<span style=\"color:#010101;\">a</span><span style=\"color:#030303;\"> b</span></pre>\n";
 
 /// A set of one syntax with these contexts.
-fn set_of(
+pub fn set_of(
     alloc: Global,
     repository: &mut ScopeRepository,
     contexts: Table<Text, Context>,
@@ -37,7 +37,7 @@ fn set_of(
 }
 
 /// Contexts with `__start` alone, of these patterns.
-fn start_alone(
+pub fn start_alone(
     alloc: Global,
     repository: &mut ScopeRepository,
     patterns: Seq<Pattern>,

@@ -201,6 +201,31 @@ fn read_data(rt: &(impl AllocGlobal + Files), name: &str) -> io::Result<String> 
     }
 }
 
+/// Whether the query of a line, which stands behind its answer, is answered so.
+fn is_answered(alloc: Global, line: &str) -> io::Result<bool> {
+    let Some((wanted, query)) = line.split_once('\t') else {
+        return Ok(false);
+    };
+    let mut out = String::new(alloc);
+    answer(alloc, query, &mut out)?;
+    Ok(out.as_str().trim_end() == wanted)
+}
+
+/// How many of the queries of a file, each of which stands behind its answer, are answered so, and how many otherwise.
+pub fn count_answers(rt: &(impl AllocGlobal + Files), name: &str) -> io::Result<(u32, u32)> {
+    let text = read_data(rt, name)?;
+    let mut answered = 0u32;
+    let mut others = 0u32;
+    for line in text.lines() {
+        if is_answered(rt.alloc(), line)? {
+            answered = answered.saturating_add(1);
+        } else {
+            others = others.saturating_add(1);
+        }
+    }
+    Ok((answered, others))
+}
+
 /// How many of the texts of a file, with a line `%%` between two, are patterns, and how many are none.
 pub fn count_patterns(rt: &(impl AllocGlobal + Files), name: &str) -> io::Result<(u32, u32)> {
     let text = read_data(rt, name)?;

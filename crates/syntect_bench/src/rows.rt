@@ -1,10 +1,16 @@
 //! The worked examples.
+use crate::finding::{finders, places, unlinked};
 use crate::lines::{first_line, no_start, unresolved_line};
 use crate::loaded::{heredoc, letters, page};
 use crate::loading::{captures, embeds, grammar, names, refusals, starts};
 use crate::make::{foreground, grey, scope, scopes, theme};
 use crate::pages::{escaped_page, leading_space_page, two_line_page, word_page};
+use crate::readers::readers;
 use crate::searching::{long_loop, references};
+use crate::stacks::{
+    bob, deep, hello, idle, lacking, operations_of_captures, order_of_captures, resumed,
+    with_prototype,
+};
 use std::alloc::Global;
 use syntect_scope::repository::{ParseScopeError, ScopeRepository};
 use syntect_scope::stack::{ClearAmount, ScopeError, ScopeStack, ScopeStackOp};
@@ -41,6 +47,12 @@ pub enum Row {
     Heredoc,
     /// Texts that are no grammar.
     RefusedGrammars,
+    /// What linking left unresolved.
+    UnlinkedText,
+    /// The last syntax that fits.
+    Finders,
+    /// The patterns of a context.
+    Places,
     /// Names of grammars.
     NamesOfGrammars,
     /// Captures that are kept.
@@ -57,23 +69,53 @@ pub enum Row {
     LongLoop,
     /// A page from the text of a grammar.
     WholePage,
+    /// Pages of what readers give.
+    Readers,
+    /// A word behind a space, in a context that is left at once.
+    Hello,
+    /// Captures in a loop.
+    Bob,
+    /// Captures around others, and of equal stretches.
+    OrderOfCaptures,
+    /// A grammar that names a syntax which is not there.
+    Lacking,
+    /// Contexts that set each other.
+    Idle,
+    /// A context that pushes itself.
+    Deep,
+    /// Patterns that go with a context.
+    WithPrototype,
+    /// A highlighter that is taken up again from its states.
+    Resumed,
+    /// The operations of captures.
+    OperationsOfCaptures,
 }
 
 /// The examples in order, by their labels.
-pub const ROWS: [(&str, Row); 22] = [
+pub const ROWS: [(&str, Row); 35] = [
     ("1", Row::Letters),
+    ("2", Row::Hello),
     ("3", Row::WordPage),
     ("4", Row::DeepestPlace),
     ("5", Row::LowerPlace),
+    ("7", Row::Bob),
+    ("8", Row::OrderOfCaptures),
     ("9", Row::Heredoc),
+    ("10", Row::Lacking),
+    ("11", Row::Idle),
+    ("12", Row::Deep),
     ("13", Row::TextsOfScopes),
     ("14", Row::RefusedGrammars),
     ("17", Row::FirstLine),
     ("19", Row::ClearedScopes),
     ("24", Row::References),
+    ("26", Row::Readers),
     ("R1.1", Row::UnresolvedLine),
     ("R1.2", Row::NoStart),
     ("R2.12", Row::LongLoop),
+    ("R4.2", Row::UnlinkedText),
+    ("R4.3", Row::Finders),
+    ("R4.5", Row::WithPrototype),
     ("R6.1", Row::EscapedPage),
     ("R6.2", Row::TwoLinePage),
     ("R6.5", Row::LeadingSpacePage),
@@ -83,6 +125,9 @@ pub const ROWS: [(&str, Row); 22] = [
     ("starts", Row::StartsOfGrammars),
     ("embeds", Row::Embeds),
     ("page", Row::WholePage),
+    ("places", Row::Places),
+    ("resumed", Row::Resumed),
+    ("operations", Row::OperationsOfCaptures),
 ];
 
 /// Whether an example comes out as it is written. Want of memory counts as no.
@@ -110,6 +155,19 @@ pub fn holds(alloc: Global, row: Row) -> bool {
         Row::References => references(alloc),
         Row::LongLoop => long_loop(alloc),
         Row::WholePage => page(alloc),
+        Row::Readers => readers(alloc),
+        Row::Hello => hello(alloc),
+        Row::Bob => bob(alloc),
+        Row::OrderOfCaptures => order_of_captures(alloc),
+        Row::Lacking => lacking(alloc),
+        Row::Idle => idle(alloc),
+        Row::Deep => deep(alloc),
+        Row::WithPrototype => with_prototype(alloc),
+        Row::Resumed => resumed(alloc),
+        Row::OperationsOfCaptures => operations_of_captures(alloc),
+        Row::UnlinkedText => unlinked(alloc),
+        Row::Finders => finders(alloc),
+        Row::Places => places(alloc),
     };
     outcome.unwrap_or(false)
 }

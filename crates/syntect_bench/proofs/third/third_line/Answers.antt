@@ -7,7 +7,7 @@ use Rattle.syntect_parsing.specs.Engine.{dialect}
 use Rattle.syntect_parsing.specs.Line.{Accepted, AnswersAll}
 use Rattle.syntect_parsing.specs.Refusals.{NamesUnresolved}
 use Rattle.syntect_parsing.specs.declared.syntax_set.SyntaxSet.{SyntaxSet}
-use Rattle.syntect_parsing.specs.Link.{definitions_in, linked, syntaxes_in}
+use Rattle.syntect_parsing.specs.Link.{definitions_in, paths_in, with_paths, linked, syntaxes_in}
 use Rattle.syntect_parsing.specs.declared.syntax_definition.SyntaxDefinition.{SyntaxDefinition}
 use Rattle.syntect_parsing.specs.declared.syntax_set.SyntaxReference.{SyntaxReference}
 use Rattle.syntect_parsing.specs.declared.parser.ParseState.{ParseState}
@@ -43,6 +43,7 @@ returns-clause-pieces c = λ plain.
     let definitions : List SyntaxDefinition = definitions_in c.args.builder in
     let syntax = c.in-Some.syntax.now in
     let built : IsBuiltOf c.in_ok-set.set syntax definitions = record {
+      paths = paths_in c.args.builder;
       set_is = c.in_ok-set.ensures.linked;
       place = 0;
       among = sym (c.in-Some.ensures.value ∙ ap (λ xs. slice_get xs 0) c.syntaxes.ensures);
@@ -66,8 +67,8 @@ returns-clause-pieces c = λ plain.
     }
 
 -- a refused line, after those that were accepted
-module _ (definitions : List SyntaxDefinition) (set : SyntaxSet) (theme : Theme) (syntax : SyntaxReference) (before : List (List ℕ)) (bytes : List (List (List (List ℕ)))) (h : HighlightLines) (line : List ℕ) (behind all : List (List ℕ)) where
-  refused_line : set ≡ linked definitions → slice_get (syntaxes_in set) 0 ≡ Some syntax → Leads set theme syntax before (map Accepted bytes) h → before ++ line ∷ behind ≡ all → (e : ParsingError) → NamesUnresolved dialect set line h.parse_state e → IsRefusedLine definitions all e
+module _ (paths : List (List ℕ × ℕ)) (definitions : List SyntaxDefinition) (set : SyntaxSet) (theme : Theme) (syntax : SyntaxReference) (before : List (List ℕ)) (bytes : List (List (List (List ℕ)))) (h : HighlightLines) (line : List ℕ) (behind all : List (List ℕ)) where
+  refused_line : set ≡ with_paths paths (linked definitions) → slice_get (syntaxes_in set) 0 ≡ Some syntax → Leads set theme syntax before (map Accepted bytes) h → before ++ line ∷ behind ≡ all → (e : ParsingError) → NamesUnresolved dialect set line h.parse_state e → IsRefusedLine paths definitions all e
   refused_line is m l s e n = record {
     syntax = syntax;
     among = sym (ap (λ (s : SyntaxSet). slice_get (syntaxes_in s) 0) is) ∙ m;
@@ -86,7 +87,7 @@ module _ (definitions : List SyntaxDefinition) (set : SyntaxSet) (theme : Theme)
   another : (r : _) → parsing.MissingMainContext ≡ parsing.UnresolvedContextReference r → ⊥
   another r e = cc
 
-  refusal_of : set ≡ linked definitions → slice_get (syntaxes_in set) 0 ≡ Some syntax → Leads set theme syntax before (map Accepted bytes) h → before ++ line ∷ behind ≡ all → (e : Error) → RefusedExactly set line h (Err e) → IsRefusal definitions all e
+  refusal_of : set ≡ with_paths paths (linked definitions) → slice_get (syntaxes_in set) 0 ≡ Some syntax → Leads set theme syntax before (map Accepted bytes) h → before ++ line ∷ behind ≡ all → (e : Error) → RefusedExactly set line h (Err e) → IsRefusal paths definitions all e
   refusal_of is m l s error.Memory r = tt
   refusal_of is m l s (error.ParsingError parsing.MissingMainContext) r = absurd (another r.0 r.1)
   refusal_of is m l s (error.ParsingError parsing.Memory) r = refused_line is m l s parsing.Memory r
@@ -104,11 +105,11 @@ returns-in_err-highlight_line-clause-refused c = λ plain names stays.
     let definitions : List SyntaxDefinition = definitions_in c.args.builder in
     let syntax = c.in-Some.syntax.now in
     let among : slice_get (syntaxes_in c.in_ok-set.set) 0 ≡ Some syntax = sym (c.in-Some.ensures.value ∙ ap (λ xs. slice_get xs 0) c.syntaxes.ensures) in
-    let built : IsBuiltOf c.in_ok-set.set syntax definitions = record { set_is = c.in_ok-set.ensures.linked; place = 0; among = among; plain = plain } in
+    let built : IsBuiltOf c.in_ok-set.set syntax definitions = record { paths = paths_in c.args.builder; set_is = c.in_ok-set.ensures.linked; place = 0; among = among; plain = plain } in
     let stay : StaysInStart c.in_ok-set.set syntax = subst (λ (s : SyntaxSet). StaysInStart s syntax) (sym c.in_ok-set.ensures.linked) (stays syntax (sym (ap (λ (s : SyntaxSet). slice_get (syntaxes_in s) 0) c.in_ok-set.ensures.linked) ∙ among)) in
     let l = c.in_ok-lines.ensures.leads c.in_ok-set.set in
     let p = err_from_is_err_and c.from_residual-in_err-highlight_line.result c.from_residual-in_err-highlight_line.ensures.1 in
-    rw (p.1, p.2) (refusal_of definitions c.in_ok-set.set theme syntax [] [] _ c.args.first.now (c.args.second.now ∷ c.args.third.now ∷ []) (c.args.first.now ∷ c.args.second.now ∷ c.args.third.now ∷ []) c.in_ok-set.ensures.linked among l refl _
+    rw (p.1, p.2) (refusal_of (paths_in c.args.builder) definitions c.in_ok-set.set theme syntax [] [] _ c.args.first.now (c.args.second.now ∷ c.args.third.now ∷ []) (c.args.first.now ∷ c.args.second.now ∷ c.args.third.now ∷ []) c.in_ok-set.ensures.linked among l refl _
     (c.in_err-highlight_line.ensures.refused theme definitions syntax [] [] built names stay l))
 
 pub returns-in_err-highlight_line-2-clause-refused : goal.returns-in_err-highlight_line-2-clause-refused
@@ -117,11 +118,11 @@ returns-in_err-highlight_line-2-clause-refused c = λ plain names stays.
     let definitions : List SyntaxDefinition = definitions_in c.args.builder in
     let syntax = c.in-Some.syntax.now in
     let among : slice_get (syntaxes_in c.in_ok-set.set) 0 ≡ Some syntax = sym (c.in-Some.ensures.value ∙ ap (λ xs. slice_get xs 0) c.syntaxes.ensures) in
-    let built : IsBuiltOf c.in_ok-set.set syntax definitions = record { set_is = c.in_ok-set.ensures.linked; place = 0; among = among; plain = plain } in
+    let built : IsBuiltOf c.in_ok-set.set syntax definitions = record { paths = paths_in c.args.builder; set_is = c.in_ok-set.ensures.linked; place = 0; among = among; plain = plain } in
     let stay : StaysInStart c.in_ok-set.set syntax = subst (λ (s : SyntaxSet). StaysInStart s syntax) (sym c.in_ok-set.ensures.linked) (stays syntax (sym (ap (λ (s : SyntaxSet). slice_get (syntaxes_in s) 0) c.in_ok-set.ensures.linked) ∙ among)) in
     let one = c.in_ok-highlight_line.ensures.answered theme definitions syntax [] [] built (c.in_ok-lines.ensures.leads c.in_ok-set.set) in
     let p = err_from_is_err_and c.from_residual-in_err-highlight_line-2.result c.from_residual-in_err-highlight_line-2.ensures.1 in
-    rw (p.1, p.2) (refusal_of definitions c.in_ok-set.set theme syntax (c.args.first.now ∷ []) (one.0 ∷ []) _ c.args.second.now (c.args.third.now ∷ []) (c.args.first.now ∷ c.args.second.now ∷ c.args.third.now ∷ []) c.in_ok-set.ensures.linked among one.1 refl _
+    rw (p.1, p.2) (refusal_of (paths_in c.args.builder) definitions c.in_ok-set.set theme syntax (c.args.first.now ∷ []) (one.0 ∷ []) _ c.args.second.now (c.args.third.now ∷ []) (c.args.first.now ∷ c.args.second.now ∷ c.args.third.now ∷ []) c.in_ok-set.ensures.linked among one.1 refl _
     (c.in_err-highlight_line-2.ensures.refused theme definitions syntax _ _ built names stay one.1))
 
 pub returns-in_err-highlight_line-3-clause-refused : goal.returns-in_err-highlight_line-3-clause-refused
@@ -130,10 +131,10 @@ returns-in_err-highlight_line-3-clause-refused c = λ plain names stays.
     let definitions : List SyntaxDefinition = definitions_in c.args.builder in
     let syntax = c.in-Some.syntax.now in
     let among : slice_get (syntaxes_in c.in_ok-set.set) 0 ≡ Some syntax = sym (c.in-Some.ensures.value ∙ ap (λ xs. slice_get xs 0) c.syntaxes.ensures) in
-    let built : IsBuiltOf c.in_ok-set.set syntax definitions = record { set_is = c.in_ok-set.ensures.linked; place = 0; among = among; plain = plain } in
+    let built : IsBuiltOf c.in_ok-set.set syntax definitions = record { paths = paths_in c.args.builder; set_is = c.in_ok-set.ensures.linked; place = 0; among = among; plain = plain } in
     let stay : StaysInStart c.in_ok-set.set syntax = subst (λ (s : SyntaxSet). StaysInStart s syntax) (sym c.in_ok-set.ensures.linked) (stays syntax (sym (ap (λ (s : SyntaxSet). slice_get (syntaxes_in s) 0) c.in_ok-set.ensures.linked) ∙ among)) in
     let one = c.in_ok-highlight_line.ensures.answered theme definitions syntax [] [] built (c.in_ok-lines.ensures.leads c.in_ok-set.set) in
     let two = c.in_ok-highlight_line-2.ensures.answered theme definitions syntax _ _ built one.1 in
     let p = err_from_is_err_and c.from_residual-in_err-highlight_line-3.result c.from_residual-in_err-highlight_line-3.ensures.1 in
-    rw (p.1, p.2) (refusal_of definitions c.in_ok-set.set theme syntax (c.args.first.now ∷ c.args.second.now ∷ []) (one.0 ∷ two.0 ∷ []) _ c.args.third.now [] (c.args.first.now ∷ c.args.second.now ∷ c.args.third.now ∷ []) c.in_ok-set.ensures.linked among two.1 refl _
+    rw (p.1, p.2) (refusal_of (paths_in c.args.builder) definitions c.in_ok-set.set theme syntax (c.args.first.now ∷ c.args.second.now ∷ []) (one.0 ∷ two.0 ∷ []) _ c.args.third.now [] (c.args.first.now ∷ c.args.second.now ∷ c.args.third.now ∷ []) c.in_ok-set.ensures.linked among two.1 refl _
     (c.in_err-highlight_line-3.ensures.refused theme definitions syntax _ _ built names stay two.1))

@@ -1,0 +1,119 @@
+//! The examples about pages of what a reader gives.
+use crate::grammars::matching;
+use crate::pages::{TWO_LINES, set_of, start_alone};
+use std::alloc::Global;
+use std::io;
+use std::io::{BufRead, Read};
+use syntect::Error;
+use syntect::html::highlighted_html_for_reader;
+use syntect_parsing::parser::ParsingError;
+use syntect_parsing::syntax_definition::{ContextReference, MatchOperation};
+use syntect_parsing::syntax_set::SyntaxSet;
+use syntect_scope::repository::ScopeRepository;
+use syntect_scope::scope::Scope;
+use syntect_style::theme::Theme;
+use syntect_values::seq::Seq;
+
+/// A reader that gives bytes, and fails where they end.
+#[derive(Clone, Copy)]
+struct Failing<'a> {
+    bytes: &'a [u8],
+}
+
+impl Read for Failing<'_> {
+    fn read(&mut self, buf: &mut [u8]) -> io::Result<usize> {
+        if self.bytes.is_empty() {
+            return Err(broken());
+        }
+        let mut bytes = self.bytes;
+        let count = bytes.read(buf)?;
+        self.bytes = bytes;
+        Ok(count)
+    }
+}
+
+impl BufRead for Failing<'_> {
+    fn fill_buf(&mut self) -> io::Result<&[u8]> {
+        if self.bytes.is_empty() {
+            return Err(broken());
+        }
+        Ok(self.bytes)
+    }
+
+    fn consume(&mut self, amount: usize) {
+        self.bytes = self.bytes.get(amount..).unwrap_or(&[]);
+    }
+}
+
+/// The fault of such a reader.
+fn broken() -> io::Error {
+    io::Error::from(io::ErrorKind::BrokenPipe)
+}
+
+/// What a reader's page is expected to be.
+#[derive(Clone, Copy)]
+enum Outcome {
+    Page(&'static str),
+    Io,
+    /// A line names a context that is not there.
+    Unresolved,
+}
+
+/// Whether a reader's bytes come to this.
+fn comes_to<R: BufRead + Drop>(
+    alloc: Global,
+    reader: R,
+    set: &SyntaxSet,
+    outcome: Outcome,
+) -> Option<bool> {
+    let syntax = set.syntaxes().first()?;
+    let theme = Theme::default(alloc);
+    let page = highlighted_html_for_reader(alloc, reader, set, syntax, &theme);
+    Some(match (page, outcome) {
+        (Ok(page), Outcome::Page(wanted)) => page.as_str() == wanted,
+        (Err(Error::Io(_)), Outcome::Io) => true,
+        (
+            Err(Error::ParsingError(ParsingError::UnresolvedContextReference(_))),
+            Outcome::Unresolved,
+        ) => true,
+        _ => false,
+    })
+}
+
+/// A set of one syntax whose patterns push a context that is not there at each `x`.
+fn leading_out(alloc: Global, repository: &mut ScopeRepository) -> Option<SyntaxSet> {
+    let scope = Scope::new("source.none", repository).ok()?;
+    let mut references = Seq::new(alloc);
+    references
+        .push(ContextReference::ByScope {
+            scope,
+            sub_context: None,
+            with_escape: false,
+        })
+        .ok()?;
+    let mut patterns = Seq::new(alloc);
+    let operation = MatchOperation::Push(references);
+    patterns
+        .push(matching(alloc, repository, "x", "", operation)?)
+        .ok()?;
+    let contexts = start_alone(alloc, repository, patterns)?;
+    set_of(alloc, repository, contexts)
+}
+
+/// Readers that give all, that fail, and whose bytes are no text: of several faults the first in the order of lines.
+pub fn readers(alloc: Global) -> Option<bool> {
+    let mut repository = ScopeRepository::new(alloc);
+    let set = leading_out(alloc, &mut repository)?;
+    let whole: &[u8] = b"a\nb";
+    let no_text: &[u8] = b"\xff\n";
+    let late: &[u8] = b"a\n\xff\n";
+    let refused: &[u8] = b"ax\n\xff\n";
+    let mut holds = comes_to(alloc, whole, &set, Outcome::Page(TWO_LINES))?;
+    holds &= comes_to(alloc, Failing { bytes: b"x" }, &set, Outcome::Io)?;
+    holds &= comes_to(alloc, Failing { bytes: b"a\n" }, &set, Outcome::Io)?;
+    holds &= comes_to(alloc, no_text, &set, Outcome::Io)?;
+    holds &= comes_to(alloc, late, &set, Outcome::Io)?;
+    holds &= comes_to(alloc, refused, &set, Outcome::Unresolved)?;
+    holds &= comes_to(alloc, Failing { bytes: b"x\n" }, &set, Outcome::Unresolved)?;
+    Some(holds)
+}
