@@ -241,21 +241,35 @@ fn put(
     Some(())
 }
 
-/// `x` pushes `c`, and with it `p`; in `c` `y` pushes `d`, which has no patterns.
-fn with_prototype_set(alloc: Global, repository: &mut ScopeRepository) -> Option<SyntaxSet> {
-    let x = MatchPattern::new(
-        alloc,
-        false,
-        String::from_str(alloc, "x").ok()?,
-        Seq::new(alloc),
-        None,
-        push(alloc, "c")?,
-        Some(ContextReference::Named(Text::from_str(alloc, "w").ok()?)),
-    );
-    let y = matching(alloc, repository, "y", "", push(alloc, "d")?)?;
+/// `x` pushes `c`, and with it `w`.
+fn pushing_with_prototype(alloc: Global) -> Option<Pattern> {
+    let text = String::from_str(alloc, "x").ok()?;
+    let name = Text::from_str(alloc, "w").ok()?;
+    let operation = push(alloc, "c")?;
+    let reference = Some(ContextReference::Named(name));
+    let scope = Seq::new(alloc);
+    let pattern = MatchPattern::new(alloc, false, text, scope, None, operation, reference);
+    Some(Pattern::Match(pattern.ok()?))
+}
+
+/// In `c` `y` pushes `d`, which has no patterns; `w` has `p`.
+fn put_inner(
+    alloc: Global,
+    repository: &mut ScopeRepository,
+    contexts: &mut Table<Text, Context>,
+) -> Option<()> {
+    let operation = push(alloc, "d")?;
+    let y = matching(alloc, repository, "y", "", operation)?;
+    put(alloc, repository, contexts, "c", "", Some(y))?;
+    put(alloc, repository, contexts, "d", "", None)?;
     let p = matching(alloc, repository, "p", "s.p", MatchOperation::None)?;
+    put(alloc, repository, contexts, "w", "", Some(p))
+}
+
+/// The set of these contexts.
+fn with_prototype_set(alloc: Global, repository: &mut ScopeRepository) -> Option<SyntaxSet> {
     let mut contexts = Table::new(alloc);
-    let x = Pattern::Match(x.ok()?);
+    let x = pushing_with_prototype(alloc)?;
     put(
         alloc,
         repository,
@@ -264,9 +278,7 @@ fn with_prototype_set(alloc: Global, repository: &mut ScopeRepository) -> Option
         "source.t",
         Some(x),
     )?;
-    put(alloc, repository, &mut contexts, "c", "", Some(y))?;
-    put(alloc, repository, &mut contexts, "d", "", None)?;
-    put(alloc, repository, &mut contexts, "w", "", Some(p))?;
+    put_inner(alloc, repository, &mut contexts)?;
     let builder = builder_of(alloc, repository, contexts)?;
     builder.build(alloc, repository).ok()
 }

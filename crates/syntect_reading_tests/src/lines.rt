@@ -267,9 +267,10 @@ fn sets_that_go_round(rt: HostRuntime) -> Result<(), ParsingError> {
     let mut repo = ScopeRepository::new(alloc);
     let set = built(alloc, &mut repo, &SETS)?;
     let mut state = started(alloc, &set)?;
+    let mut stack = ScopeStack::new(alloc);
     let ops = state.parse_line(alloc, "xa", &set)?;
-    let wanted = [(0, ScopeStackOp::Push(scope(&mut repo, "source.t")?))];
-    assert!(rt; ops.as_slice() == wanted.as_slice());
+    let text = scopes_of(alloc, &repo, "xa", ops.as_slice(), &mut stack)?;
+    assert!(rt; text.as_str() == "source.t \nsource.t \n");
     assert!(rt; named(alloc, "m2")?.id().is_err());
     Ok(())
 }
