@@ -19,10 +19,11 @@ pub mod NumberLaws
 pub mod TableLaws
 pub mod SetLaws
 pub mod PassLaws
+pub mod QuantifierLaws
+pub mod PartLaws
 pub mod TokenLaws
 pub mod EscapeLaws
 pub mod NameLaws
-pub mod RunLaws
 pub mod BuilderLaws
 pub mod JoinLaws
 pub mod StartLaws

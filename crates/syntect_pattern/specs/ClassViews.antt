@@ -1,5 +1,5 @@
 -- What the reader's classes stand for.
-use Rattle.std.specs.Prelude.{◌<◌, ℕ, suc, Bool, List, Option, length, option_map, IfSome}
+use Rattle.std.specs.Prelude.{◌<◌, ℕ, suc, Bool, List, Option, length, option_map, IfSome, chars}
 use Rattle.std.specs.Borrow.{Bor}
 use Rattle.syntect_pattern.specs.Sets.{Set}
 use Rattle.syntect_pattern.specs.Reading.{Text}
@@ -25,12 +25,12 @@ IsStepIn parts (Step.Over rest) = Unit {0}
 IsStepIn parts (Step.On o rest) = IsBracketIn parts o
 
 abbrev pub step_as : List Part → Step → definition.Step
-step_as parts (Step.Over rest) = over rest.now
-step_as parts (Step.On o rest) = on (bracket_as parts o) rest.now
+step_as parts (Step.Over rest) = over (chars rest.now)
+step_as parts (Step.On o rest) = on (bracket_as parts o) (chars rest.now)
 
 -- a set in the table and what follows it
 abbrev pub set_as : List Part → Option (ℕ × Bor (List ℕ)) → Option (Set × Text)
-set_as parts found = option_map (λ f. (set_in parts f.0, f.1.now)) found
+set_as parts found = option_map (λ f. (set_in parts f.0, chars f.1.now)) found
 
 -- the rest of a class
 abbrev pub rest_of : Bool → ℕ → definition.Class → Text → Option (Set × Text)
@@ -38,4 +38,4 @@ rest_of fold depth c t = class_rest fold (suc (length t)) depth c t
 
 -- a class that is begun, and what follows
 abbrev pub begun : List Part → Option (Bracket × Bor (List ℕ)) → Option definition.Step
-begun parts found = option_map (λ f. on (bracket_as parts f.0) f.1.now) found
+begun parts found = option_map (λ f. on (bracket_as parts f.0) (chars f.1.now)) found

@@ -22,3 +22,7 @@ Compiles pattern (Some p) = IsCompiled pattern p
 -- the tree of a whole text and its groups
 abbrev pub whole_as : Option (Reader × ℕ) → Option (Tree × Names)
 whole_as found = option_map (λ f. (tree_in f.0.builder.nodes f.1, f.0.names)) found
+
+-- the tree alone
+abbrev pub tree_read : Option (Reader × ℕ) → Option Tree
+tree_read found = option_map (λ f. tree_in f.0.builder.nodes f.1) found

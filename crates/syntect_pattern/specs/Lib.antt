@@ -22,6 +22,7 @@ pub mod MemberViews
 pub mod ClassViews
 pub mod QuantifierViews
 pub mod OpeningViews
+pub mod TextViews
 pub mod JoinViews
 pub mod BodyViews
 pub mod TokenViews

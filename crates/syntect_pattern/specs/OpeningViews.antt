@@ -1,5 +1,5 @@
 -- What the reader's openings stand for.
-use Rattle.std.specs.Prelude.{ℕ, List, Option, option_map}
+use Rattle.std.specs.Prelude.{ℕ, List, Option, option_map, chars}
 use Rattle.std.specs.Borrow.{Bor}
 use Rattle.syntect_pattern.specs.Trees.{Tree, group, atomic, ahead, behind}
 use Rattle.syntect_pattern.specs.Reading.{Text}
@@ -15,7 +15,7 @@ flags_as f = record { fold = f.fold; any = f.any; spaced = f.spaced }
 
 -- the place, behind these groups
 abbrev pub place_as : Names → Place → grammar.Place
-place_as names p = record { flags = flags_as p.flags; names = names; text = p.text.now }
+place_as names p = record { flags = flags_as p.flags; names = names; text = chars p.text.now }
 
 abbrev pub wrapped : Wrap → Tree → Tree
 wrapped Wrap.Plain = λ a. a
@@ -32,7 +32,7 @@ abbrev pub opened_as : Names → Option (Opening × Place) → Option (grammar.O
 opened_as names found = option_map (λ f. (opening_as f.0, place_as names f.1)) found
 
 abbrev pub letters_as : Option (Bor (List ℕ) × Bor (List ℕ)) → Option (Text × Text)
-letters_as found = option_map (λ f. (f.0.now, f.1.now)) found
+letters_as found = option_map (λ f. (chars f.0.now, chars f.1.now)) found
 
 abbrev pub flagged_as : Option (Flags × Bor (List ℕ)) → Option (grammar.Flags × Text)
-flagged_as found = option_map (λ f. (flags_as f.0, f.1.now)) found
+flagged_as found = option_map (λ f. (flags_as f.0, chars f.1.now)) found

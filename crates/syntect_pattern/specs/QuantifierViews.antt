@@ -1,5 +1,5 @@
 -- What the reader's quantifiers stand for.
-use Rattle.std.specs.Prelude.{ℕ, Bool, List, Option, Some, option_map, min, if◌then◌else◌}
+use Rattle.std.specs.Prelude.{ℕ, Bool, List, Option, Some, option_map, min, if◌then◌else◌, chars}
 use Rattle.std.specs.Borrow.{Bor}
 use Rattle.syntect_pattern.specs.Reading.{Text, ◌∈◌, between, note, comment, passing_at}
 use Rattle.syntect_pattern.specs.Reading as reading
@@ -34,4 +34,4 @@ quantifier_as q = record { least = q.least; most = q.most; short = q.short }
 
 -- a quantifier and what follows it, if there is one
 abbrev pub counted : Option (Quantifier × Bor (List ℕ)) → Option (grammar.Quantifier × Text)
-counted found = option_map (λ f. (quantifier_as f.0, f.1.now)) found
+counted found = option_map (λ f. (quantifier_as f.0, chars f.1.now)) found

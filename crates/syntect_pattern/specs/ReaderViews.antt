@@ -1,5 +1,5 @@
 -- What the reader's groups stand for.
-use Rattle.std.specs.Prelude.{ℕ, List, Option, length, option_map}
+use Rattle.std.specs.Prelude.{◌≡◌, ℕ, Bool, true, List, Option, length, option_map}
 use Rattle.syntect_pattern.specs.Trees.{Tree}
 use Rattle.syntect_pattern.specs.Grammar.{Names, on}
 use Rattle.syntect_pattern.specs.Grammar as grammar
@@ -26,3 +26,11 @@ went_on r found = option_map (λ f. on (body_as r.builder.nodes f.0) (place_as r
 -- a tree and what follows
 abbrev pub tree_as : Reader → Option (ℕ × Place) → Option (Tree × grammar.Place)
 tree_as r found = option_map (λ f. (tree_in r.builder.nodes f.0, place_as r.names f.1)) found
+
+-- a back reference that was met stays so
+abbrev pub Keeps : Bool → Bool → Type 0
+Keeps before after = before ≡ true → after ≡ true
+
+-- The groups that were known may be taken for these: they are the same, or no back reference was met.
+abbrev pub Serves : Bool → Option Names → Option Names → Type 0
+Serves refers known these = refers ≡ true → known ≡ these

@@ -1,5 +1,5 @@
 //! Classes in brackets.
-ghost use Rattle.std.specs.Prelude.{◌≡◌, ◌<◌, true, length, nat_eq, codes, option_map, IfOk, OnOk, IfSome};
+ghost use Rattle.std.specs.Prelude.{◌≡◌, ◌<◌, true, length, nat_eq, chars, codes, option_map, IfOk, OnOk, IfSome};
 ghost use Rattle.std.specs.List.{starts_with};
 ghost use Rattle.syntect_pattern.specs.Sets.{Set, both, either, negate_if};
 ghost use Rattle.syntect_pattern.specs.SetTable.{AreOrdered, set_in, sets, part_set, made_before, SetsGrow, HasSet};
@@ -9,7 +9,7 @@ ghost use Rattle.syntect_pattern.specs.Classes as definition;
 
 use crate::members::{Leaf, Next, next_in, plain_item, posix_item};
 use crate::sets::{Class, Part};
-use crate::text::after;
+use crate::text::{after, begins};
 use std::alloc::{AllocError, Global};
 use syntect_values::seq::Seq;
 
@@ -33,16 +33,16 @@ pub struct Bracket {
 /// What one step makes of a class: it is over, or goes on.
 #[derive(Clone, Copy)]
 pub enum Step<'a> {
-    Over(&'a [char]),
-    On(Bracket, &'a [char]),
+    Over(&'a str),
+    On(Bracket, &'a str),
 }
 
 /// Whether the class is negated, and what stands behind the `^`.
 #[tactic(auto, unfolding(crate::specs::Classes::start_of))]
-fn start_of(text: &[char]) -> (bool, &[char])
-    ensures { definition.start_of text.now ≡ started result.0 result.1.now }
+fn start_of(text: &str) -> (bool, &str)
+    ensures { definition.start_of (chars text.now) ≡ started result.0 (chars result.1.now) }
 {
-    if text.starts_with(&['^']) {
+    if begins(text, &['^']) {
         (true, after(text, 1))
     } else {
         (false, text)
@@ -173,7 +173,7 @@ impl SetBuilder {
     fn add_leaf<'a>(
         &mut self,
         bracket: Bracket,
-        found: Option<(Leaf, &'a [char])>,
+        found: Option<(Leaf, &'a str)>,
     ) -> Result<Option<Step<'a>>, AllocError>
         requires { IsBracketIn self.old.parts bracket }
         ensures grows { OnOk result (SetsGrow self.old.parts self.new.parts) }
@@ -192,14 +192,14 @@ impl SetBuilder {
     fn first_item<'a>(
         &mut self,
         fold: bool,
-        text: &'a [char],
-    ) -> Result<Option<(Bracket, &'a [char])>, AllocError>
+        text: &'a str,
+    ) -> Result<Option<(Bracket, &'a str)>, AllocError>
         ensures grows { OnOk result (SetsGrow self.old.parts self.new.parts) }
         ensures inside { IfOk result (λ f. IfSome f (λ x. IsBracketIn self.new.parts x.0)) }
-        ensures reads { IfOk result (λ f. definition.first_item fold (starts_with nat_eq text.now (codes "]")) text.now ≡ begun self.new.parts f) }
+        ensures reads { IfOk result (λ f. definition.first_item fold (starts_with nat_eq (chars text.now) (codes "]")) (chars text.now) ≡ begun self.new.parts f) }
     {
         let bracket = self.begin()?;
-        if !text.starts_with(&[']']) {
+        if !begins(text, &[']']) {
             return Ok(Some((bracket, text)));
         }
         let Some((leaf, rest)) = plain_item(fold, text) else {
@@ -217,12 +217,12 @@ impl SetBuilder {
         fold: bool,
         depth: u32,
         bracket: Bracket,
-        text: &'a [char],
+        text: &'a str,
     ) -> Result<Option<Step<'a>>, AllocError>
         requires held { IsBracketIn self.old.parts bracket }
         ensures grows { OnOk result (SetsGrow self.old.parts self.new.parts) }
         ensures inside { IfOk result (λ s. IfSome s (IsStepIn self.new.parts)) }
-        ensures reads { IfOk result (λ s. definition.step fold (definition.class fold depth) (bracket_as self.old.parts bracket) text.now (definition.next_in text.now) ≡ option_map (step_as self.new.parts) s) }
+        ensures reads { IfOk result (λ s. definition.step fold (definition.class fold depth) (bracket_as self.old.parts bracket) (chars text.now) (definition.next_in (chars text.now)) ≡ option_map (step_as self.new.parts) s) }
     {
         match next_in(text) {
             Next::Closing => Ok(Some(Step::Over(after(text, 1)))),
@@ -249,12 +249,12 @@ impl SetBuilder {
         fold: bool,
         depth: u32,
         bracket: Bracket,
-        text: &'a [char],
-    ) -> Result<Option<(usize, &'a [char])>, AllocError>
+        text: &'a str,
+    ) -> Result<Option<(usize, &'a str)>, AllocError>
         requires held { IsBracketIn self.old.parts bracket }
         ensures grows { OnOk result (SetsGrow self.old.parts self.new.parts) }
         ensures inside { IfOk result (λ f. IfSome f (λ x. x.0 < length self.new.parts)) }
-        ensures reads { IfOk result (λ f. rest_of fold depth (bracket_as self.old.parts bracket) text.now ≡ set_as self.new.parts f) }
+        ensures reads { IfOk result (λ f. rest_of fold depth (bracket_as self.old.parts bracket) (chars text.now) ≡ set_as self.new.parts f) }
     {
         let mut bracket = bracket;
         let mut text = text;
@@ -279,11 +279,11 @@ impl SetBuilder {
         &mut self,
         fold: bool,
         depth: u32,
-        text: &'a [char],
-    ) -> Result<Option<(usize, &'a [char])>, AllocError>
+        text: &'a str,
+    ) -> Result<Option<(usize, &'a str)>, AllocError>
         ensures grows { OnOk result (SetsGrow self.old.parts self.new.parts) }
         ensures inside { IfOk result (λ f. IfSome f (λ x. x.0 < length self.new.parts)) }
-        ensures reads { IfOk result (λ f. definition.class fold depth text.now ≡ set_as self.new.parts f) }
+        ensures reads { IfOk result (λ f. definition.class fold depth (chars text.now) ≡ set_as self.new.parts f) }
     {
         if depth >= DEEPEST {
             return Ok(None);

@@ -1,49 +1,56 @@
 //! From the text of a pattern to its program.
-ghost use Rattle.std.specs.Prelude.{◌≡◌, ◌<◌, ℕ, suc, IfOk, IfSome, length, chars, option_map};
+ghost use Rattle.std.specs.Prelude.{◌≡◌, ◌<◌, ℕ, suc, false, Option, IfOk, IfSome, length, chars, option_map};
 ghost use Rattle.syntect_pattern.specs.Trees.{group_count};
 ghost use Rattle.syntect_pattern.specs.Builder.{tree_in};
 ghost use Rattle.syntect_pattern.specs.Program.{IsProgramOf};
-ghost use Rattle.syntect_pattern.specs.Reading.{is_empty};
-ghost use Rattle.syntect_pattern.specs.Grammar.{whole};
-ghost use Rattle.syntect_pattern.specs.Compiled.{Compiles, whole_as};
+ghost use Rattle.syntect_pattern.specs.Grammar.{tree_of, whole};
+ghost use Rattle.syntect_pattern.specs.Grammar as grammar;
+ghost use Rattle.syntect_pattern.specs.Compiled.{Compiles, whole_as, tree_read};
 
 use crate::node::Node;
 use crate::openings::{Flags, Names, Place};
 use crate::program::Program;
 use crate::reader::Reader;
+use crate::text::is_empty;
 use std::alloc::{AllocError, Global};
 
 /// The program of a pattern's text. None if the text is no pattern.
 pub fn compile(alloc: Global, pattern: &str) -> Result<Option<Program>, AllocError>
     ensures { IfOk result (λ found. Compiles pattern.now found) }
 {
-    let letters = letters(alloc, pattern)?;
-    let Some((first, _)) = read_whole(alloc, &None, letters.as_slice())? else {
-        return Ok(None);
-    };
-    let known = Some(first.names);
-    let Some((reader, body)) = read_whole(alloc, &known, letters.as_slice())? else {
+    let Some((reader, body)) = read_text(alloc, pattern)? else {
         return Ok(None);
     };
     let program = program_of(alloc, reader, body)?;
     Ok(Some(program))
 }
 
-/// The characters of a text.
-fn letters(alloc: Global, text: &str) -> Result<Vec<char>, AllocError>
-    ensures { IfOk result (λ v. v.items ≡ chars text.now) }
+/// What the text reads as. Only where a back reference was met is it read again, now with its groups.
+fn read_text(alloc: Global, text: &str) -> Result<Option<(Reader, usize)>, AllocError>
+    ensures inside { IfOk result (λ f. IfSome f (λ x. x.1 < length x.0.builder.nodes)) }
+    ensures reads { IfOk result (λ f. tree_of (chars text.now) ≡ tree_read f) }
+    ensures groups { IfOk result (λ f. IfSome f (λ x. group_count (tree_in x.0.builder.nodes x.1) ≡ length x.0.names)) }
 {
-    text.chars().collect(alloc)
+    let Some((first, body)) = read_whole(alloc, &None, text)? else {
+        return Ok(None);
+    };
+    if !first.refers {
+        return Ok(Some((first, body)));
+    }
+    let known = Some(first.names);
+    let again = read_whole(alloc, &known, text)?;
+    Ok(again)
 }
 
 /// A whole text, read with the groups that are known, and the place of its tree.
 fn read_whole(
     alloc: Global,
     known: &Option<Names>,
-    text: &[char],
+    text: &str,
 ) -> Result<Option<(Reader, usize)>, AllocError>
     ensures inside { IfOk result (λ f. IfSome f (λ x. x.1 < length x.0.builder.nodes)) }
-    ensures reads { IfOk result (λ f. whole known.now text.now ≡ whole_as f) }
+    ensures reads { IfOk result (λ f. whole known.now (chars text.now) ≡ whole_as f) }
+    ensures alone { IfOk result (λ f. IfSome f (λ x. x.0.refers ≡ false → (other : Option grammar.Names) → whole other (chars text.now) ≡ whole_as f)) }
 {
     let mut reader = Reader::new(alloc);
     let flags = Flags {
@@ -54,17 +61,10 @@ fn read_whole(
     let Some((body, last)) = reader.body(known, 0, Place { flags, text })? else {
         return Ok(None);
     };
-    if !is_over(last.text) {
+    if !is_empty(last.text) {
         return Ok(None);
     }
     Ok(Some((reader, body)))
-}
-
-/// Whether nothing is left.
-fn is_over(text: &[char]) -> bool
-    ensures { result ≡ is_empty text.now }
-{
-    text.is_empty()
 }
 
 /// The program of a pattern that is read.
@@ -72,7 +72,11 @@ fn program_of(alloc: Global, reader: Reader, body: usize) -> Result<Program, All
     requires { body < length reader.builder.nodes }
     ensures { IfOk result (λ p. group_count (tree_in reader.builder.nodes body) ≡ length reader.names → IsProgramOf p (tree_in reader.builder.nodes body)) }
 {
-    let Reader { mut builder, names } = reader;
+    let Reader {
+        mut builder,
+        names,
+        ..
+    } = reader;
     let starts = builder.starts(alloc, body)?;
     let root = builder.push(Node::Group { number: 0, body })?;
     Ok(Program {

@@ -1,5 +1,5 @@
 //! What follows a backslash.
-ghost use Rattle.std.specs.Prelude.{◌≡◌, false, Some, option_map, codes, MatchOption};
+ghost use Rattle.std.specs.Prelude.{◌≡◌, false, Some, option_map, chars, codes, MatchOption};
 ghost use Rattle.std.specs.List.{list_all};
 ghost use Rattle.std.specs.Char.{is_digit};
 ghost use Rattle.syntect_pattern.specs.SetTable.{set_of_named};
@@ -11,7 +11,7 @@ ghost use Rattle.syntect_pattern.specs.Escapes as definition;
 use crate::names::category_named;
 use crate::node::Anchor;
 use crate::sets::Named;
-use crate::text::{Test, after, before, head, number, run};
+use crate::text::{Test, after, before, begins, count_of, head, is_empty, number, run};
 use unicode::properties::GeneralCategory;
 
 /// What an escape stands for.
@@ -22,31 +22,31 @@ pub enum Escape<'a> {
     Edge(Anchor),
     /// A back reference.
     Number(usize),
-    Name(&'a [char]),
+    Name(&'a str),
 }
 
 /// The character of the number that the digits write.
 #[tactic(auto, unfolding(crate::specs::Reading::char_of))]
-fn char_of(digits: &[char]) -> Option<char>
-    ensures { result ≡ char_of (value 16 digits.now) }
+fn char_of(digits: &str) -> Option<char>
+    ensures { result ≡ char_of (value 16 (chars digits.now)) }
 {
     char::from_u32(number(digits, 16))
 }
 
 /// Whether the characters are digits of a hexadecimal number.
-fn are_hexadecimal(text: &[char]) -> bool
-    ensures { result ≡ list_all (λ c. is_digit c 16) text.now }
+fn are_hexadecimal(text: &str) -> bool
+    ensures { result ≡ list_all (λ c. is_digit c 16) (chars text.now) }
 {
-    text.iter().all(|c| c.is_digit(16))
+    text.chars().all(|c| c.is_digit(16))
 }
 
 /// So many digits of a hexadecimal number.
 #[tactic(auto, unfolding(crate::specs::Escapes::hex_fixed))]
-fn hex_fixed(text: &[char], count: usize) -> Option<(Escape<'_>, &[char])>
-    ensures { hex_fixed count text.now ≡ escaped result }
+fn hex_fixed(text: &str, count: usize) -> Option<(Escape<'_>, &str)>
+    ensures { hex_fixed count (chars text.now) ≡ escaped result }
 {
     let digits = before(text, count);
-    if digits.len() != count || !are_hexadecimal(digits) {
+    if count_of(digits) != count || !are_hexadecimal(digits) {
         return None;
     }
     let c = char_of(digits)?;
@@ -55,14 +55,14 @@ fn hex_fixed(text: &[char], count: usize) -> Option<(Escape<'_>, &[char])>
 
 /// Behind `\x`: two digits, or one to eight in braces.
 #[tactic(auto, unfolding(crate::specs::Escapes::hex_escape))]
-fn hex_escape(text: &[char]) -> Option<(Escape<'_>, &[char])>
-    ensures { hex_escape text.now ≡ escaped result }
+fn hex_escape(text: &str) -> Option<(Escape<'_>, &str)>
+    ensures { hex_escape (chars text.now) ≡ escaped result }
 {
-    if !text.starts_with(&['{']) {
+    if !begins(text, &['{']) {
         return hex_fixed(text, 2);
     }
     let (digits, rest) = run(after(text, 1), Test::Hexadecimal);
-    if digits.is_empty() || digits.len() > 8 || !rest.starts_with(&['}']) {
+    if is_empty(digits) || count_of(digits) > 8 || !begins(rest, &['}']) {
         return None;
     }
     let c = char_of(digits)?;
@@ -71,19 +71,19 @@ fn hex_escape(text: &[char]) -> Option<(Escape<'_>, &[char])>
 
 /// Behind `\p` or `\P`: a category in braces.
 #[tactic(auto, unfolding(crate::specs::Escapes::category_escape))]
-fn category_escape(text: &[char], upper: bool) -> Option<(Escape<'_>, &[char])>
-    ensures { category_escape upper text.now ≡ escaped result }
+fn category_escape(text: &str, upper: bool) -> Option<(Escape<'_>, &str)>
+    ensures { category_escape upper (chars text.now) ≡ escaped result }
 {
-    if !text.starts_with(&['{']) {
+    if !begins(text, &['{']) {
         return None;
     }
-    let caret = text.starts_with(&['{', '^']);
+    let caret = begins(text, &['{', '^']);
     if upper && caret {
         return None;
     }
     let start = if caret { 2 } else { 1 };
     let (name, rest) = run(after(text, start), Test::NoBrace);
-    if !rest.starts_with(&['}']) {
+    if !begins(rest, &['}']) {
         return None;
     }
     let set = category_named(name)?;
@@ -164,8 +164,8 @@ fn one_letter(c: char) -> Option<Escape<'static>>
 }
 
 /// Whether the text is a name of a group.
-fn is_name(text: &[char]) -> bool
-    ensures { result ≡ is_name text.now }
+fn is_name(text: &str) -> bool
+    ensures { result ≡ is_name (chars text.now) }
 {
     match head(text) {
         Some(c) => is_name_start(c) && are_name_chars(after(text, 1)),
@@ -181,19 +181,19 @@ fn is_name_start(c: char) -> bool
 }
 
 /// Whether a name can go on with the characters.
-fn are_name_chars(text: &[char]) -> bool
-    ensures { result ≡ list_all is_name_char text.now }
+fn are_name_chars(text: &str) -> bool
+    ensures { result ≡ list_all is_name_char (chars text.now) }
 {
-    text.iter().all(|c| Test::Name.passes(*c))
+    text.chars().all(|c| Test::Name.passes(c))
 }
 
 /// A name, and what stands behind the `>` that ends it.
 #[tactic(auto, unfolding(crate::specs::Reading::name_in))]
-pub fn name_in(text: &[char]) -> Option<(&[char], &[char])>
-    ensures { name_in text.now ≡ named_text result }
+pub fn name_in(text: &str) -> Option<(&str, &str)>
+    ensures { name_in (chars text.now) ≡ named_text result }
 {
     let (name, rest) = run(text, Test::Name);
-    if !is_name(name) || !rest.starts_with(&['>']) {
+    if !is_name(name) || !begins(rest, &['>']) {
         return None;
     }
     Some((name, after(rest, 1)))
@@ -201,8 +201,8 @@ pub fn name_in(text: &[char]) -> Option<(&[char], &[char])>
 
 /// What follows a backslash, and what stands behind that.
 #[tactic(auto, unfolding(crate::specs::Escapes::escape))]
-pub fn read_escape(text: &[char]) -> Option<(Escape<'_>, &[char])>
-    ensures { escape text.now ≡ escaped result }
+pub fn read_escape(text: &str) -> Option<(Escape<'_>, &str)>
+    ensures { escape (chars text.now) ≡ escaped result }
 {
     let c = head(text)?;
     let rest = after(text, 1);
@@ -217,10 +217,10 @@ pub fn read_escape(text: &[char]) -> Option<(Escape<'_>, &[char])>
 }
 
 /// A name in `<` and `>`.
-fn name_escape(text: &[char]) -> Option<(Escape<'_>, &[char])>
-    ensures { definition.name_escape text.now ≡ escaped result }
+fn name_escape(text: &str) -> Option<(Escape<'_>, &str)>
+    ensures { definition.name_escape (chars text.now) ≡ escaped result }
 {
-    if !text.starts_with(&['<']) {
+    if !begins(text, &['<']) {
         return None;
     }
     let (name, rest) = name_in(after(text, 1))?;

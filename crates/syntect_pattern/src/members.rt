@@ -1,5 +1,5 @@
 //! What stands in a class in brackets, other than nested classes.
-ghost use Rattle.std.specs.Prelude.{◌≡◌, option_map};
+ghost use Rattle.std.specs.Prelude.{◌≡◌, chars, option_map};
 ghost use Rattle.syntect_pattern.specs.Escapes.{named_set};
 ghost use Rattle.syntect_pattern.specs.EscapeViews.{escape_of};
 ghost use Rattle.syntect_pattern.specs.MemberViews.{member_as, membered, charred, leafed, posix_as, next_as};
@@ -8,7 +8,7 @@ ghost use Rattle.syntect_pattern.specs.Classes as definition;
 use crate::escapes::{Escape, read_escape};
 use crate::names::bracket_named;
 use crate::sets::Named;
-use crate::text::{Test, after, head, run};
+use crate::text::{Test, after, begins, head, is_empty, run};
 
 /// A character or a set.
 #[derive(Clone, Copy)]
@@ -48,10 +48,10 @@ fn member_of(escape: Escape<'_>) -> Option<Member>
 
 /// An escape, from behind its backslash.
 #[tactic(auto, unfolding(crate::specs::Classes::class_escape))]
-fn class_escape(text: &[char]) -> Option<(Member, &[char])>
-    ensures { definition.class_escape text.now ≡ membered result }
+fn class_escape(text: &str) -> Option<(Member, &str)>
+    ensures { definition.class_escape (chars text.now) ≡ membered result }
 {
-    if text.starts_with(&['b']) {
+    if begins(text, &['b']) {
         return Some((Member::One('\u{8}'), after(text, 1)));
     }
     let (escape, rest) = read_escape(text)?;
@@ -60,8 +60,8 @@ fn class_escape(text: &[char]) -> Option<(Member, &[char])>
 
 /// A character or an escape.
 #[tactic(auto, unfolding(crate::specs::Classes::member))]
-fn read_member(text: &[char]) -> Option<(Member, &[char])>
-    ensures { definition.member text.now ≡ membered result }
+fn read_member(text: &str) -> Option<(Member, &str)>
+    ensures { definition.member (chars text.now) ≡ membered result }
 {
     let c = head(text)?;
     let rest = after(text, 1);
@@ -73,22 +73,22 @@ fn read_member(text: &[char]) -> Option<(Member, &[char])>
 }
 
 /// Whether a side of `&&` ends here.
-fn ends_side(text: &[char]) -> bool
-    ensures { result ≡ definition.ends_side text.now }
+fn ends_side(text: &str) -> bool
+    ensures { result ≡ definition.ends_side (chars text.now) }
 {
-    text.starts_with(&[']']) || text.starts_with(&['&', '&'])
+    begins(text, &[']']) || begins(text, &['&', '&'])
 }
 
 /// The last character of a range, from its `-` on.
 #[tactic(auto, unfolding(crate::specs::Classes::range_end))]
-fn range_end(text: &[char]) -> Option<(char, &[char])>
-    ensures { definition.range_end text.now ≡ charred result }
+fn range_end(text: &str) -> Option<(char, &str)>
+    ensures { definition.range_end (chars text.now) ≡ charred result }
 {
-    if !text.starts_with(&['-']) {
+    if !begins(text, &['-']) {
         return None;
     }
     let rest = after(text, 1);
-    if ends_side(rest) || rest.starts_with(&['[']) {
+    if ends_side(rest) || begins(rest, &['[']) {
         return None;
     }
     match read_member(rest)? {
@@ -98,8 +98,8 @@ fn range_end(text: &[char]) -> Option<(char, &[char])>
 }
 
 /// A character, or a range where an end follows.
-fn up_to(fold: bool, low: char, rest: &[char]) -> Option<(Leaf, &[char])>
-    ensures { definition.up_to fold low rest.now (definition.range_end rest.now) ≡ leafed result }
+fn up_to(fold: bool, low: char, rest: &str) -> Option<(Leaf, &str)>
+    ensures { definition.up_to fold low (chars rest.now) (definition.range_end (chars rest.now)) ≡ leafed result }
 {
     match range_end(rest) {
         Some((high, rest)) => {
@@ -122,8 +122,8 @@ fn up_to(fold: bool, low: char, rest: &[char]) -> Option<(Leaf, &[char])>
 
 /// A range, a character or an escape.
 #[tactic(auto, unfolding(crate::specs::Classes::plain_item))]
-pub fn plain_item(fold: bool, text: &[char]) -> Option<(Leaf, &[char])>
-    ensures { definition.plain_item fold text.now ≡ leafed result }
+pub fn plain_item(fold: bool, text: &str) -> Option<(Leaf, &str)>
+    ensures { definition.plain_item fold (chars text.now) ≡ leafed result }
 {
     match read_member(text)? {
         (Member::One(c), rest) => up_to(fold, c, rest),
@@ -133,16 +133,16 @@ pub fn plain_item(fold: bool, text: &[char]) -> Option<(Leaf, &[char])>
 
 /// The name in a bracket of the form `[:name:]` or `[:^name:]`, and what follows it.
 #[tactic(auto, unfolding(crate::specs::Classes::posix_form))]
-fn posix_form(text: &[char]) -> Option<(bool, &[char], &[char])>
-    ensures { definition.posix_form text.now ≡ posix_as result }
+fn posix_form(text: &str) -> Option<(bool, &str, &str)>
+    ensures { definition.posix_form (chars text.now) ≡ posix_as result }
 {
-    if !text.starts_with(&['[', ':']) {
+    if !begins(text, &['[', ':']) {
         return None;
     }
-    let caret = text.starts_with(&['[', ':', '^']);
+    let caret = begins(text, &['[', ':', '^']);
     let start = if caret { 3 } else { 2 };
     let (name, rest) = run(after(text, start), Test::Letter);
-    if name.is_empty() || !rest.starts_with(&[':', ']']) {
+    if is_empty(name) || !begins(rest, &[':', ']']) {
         return None;
     }
     Some((caret, name, after(rest, 2)))
@@ -150,8 +150,8 @@ fn posix_form(text: &[char]) -> Option<(bool, &[char], &[char])>
 
 /// A bracket of a known name.
 #[tactic(auto, unfolding(crate::specs::Classes::posix_item))]
-pub fn posix_item(fold: bool, text: &[char]) -> Option<(Leaf, &[char])>
-    ensures { definition.posix_item fold text.now ≡ leafed result }
+pub fn posix_item(fold: bool, text: &str) -> Option<(Leaf, &str)>
+    ensures { definition.posix_item fold (chars text.now) ≡ leafed result }
 {
     let _ = fold;
     let (negated, name, rest) = posix_form(text)?;
@@ -161,16 +161,16 @@ pub fn posix_item(fold: bool, text: &[char]) -> Option<(Leaf, &[char])>
 
 /// What stands next in a class.
 #[tactic(auto, unfolding(crate::specs::Classes::next_in))]
-pub fn next_in(text: &[char]) -> Next
-    ensures { definition.next_in text.now ≡ next_as result }
+pub fn next_in(text: &str) -> Next
+    ensures { definition.next_in (chars text.now) ≡ next_as result }
 {
-    if text.starts_with(&[']']) {
+    if begins(text, &[']']) {
         Next::Closing
-    } else if text.starts_with(&['&', '&']) {
+    } else if begins(text, &['&', '&']) {
         Next::Intersecting
     } else if posix_form(text).is_some() {
         Next::Posix
-    } else if text.starts_with(&['[']) {
+    } else if begins(text, &['[']) {
         Next::Nested
     } else {
         Next::Plain

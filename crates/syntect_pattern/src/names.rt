@@ -1,5 +1,5 @@
 //! The sets that escapes and brackets name.
-ghost use Rattle.std.specs.Prelude.{◌≡◌, map, option_map};
+ghost use Rattle.std.specs.Prelude.{◌≡◌, chars, map, option_map};
 ghost use Rattle.syntect_pattern.specs.SetTable.{set_of_named};
 ghost use Rattle.syntect_pattern.specs.Escapes.{named_set, category_names};
 ghost use Rattle.syntect_pattern.specs.Classes.{posix_names};
@@ -73,8 +73,8 @@ static BRACKETS: [Entry; 12] = [
 ];
 
 /// The set that the table has for the name.
-fn find_named(table: &[Entry], name: &[char]) -> Option<Named>
-    ensures { result ≡ entry_named (map (λ e. (e.0.now, e.1)) table.now) name.now }
+fn find_named(table: &[Entry], name: &str) -> Option<Named>
+    ensures { result ≡ entry_named (map (λ e. (e.0.now, e.1)) table.now) (chars name.now) }
 {
     for entry in table {
         if spells(name, entry.0) {
@@ -85,15 +85,15 @@ fn find_named(table: &[Entry], name: &[char]) -> Option<Named>
 }
 
 /// The set of a category.
-pub fn category_named(name: &[char]) -> Option<Named>
-    ensures { named_set category_names name.now ≡ option_map set_of_named result }
+pub fn category_named(name: &str) -> Option<Named>
+    ensures { named_set category_names (chars name.now) ≡ option_map set_of_named result }
 {
     find_named(&CATEGORIES, name)
 }
 
 /// The set of a bracket.
-pub fn bracket_named(name: &[char]) -> Option<Named>
-    ensures { named_set posix_names name.now ≡ option_map set_of_named result }
+pub fn bracket_named(name: &str) -> Option<Named>
+    ensures { named_set posix_names (chars name.now) ≡ option_map set_of_named result }
 {
     find_named(&BRACKETS, name)
 }

@@ -1,13 +1,13 @@
 //! Openings of groups, and flags.
-ghost use Rattle.std.specs.Prelude.{◌≡◌, ◌++◌, ◌∷◌, [], suc, length, drop, List, Option, ℕ, option_map, IfOk, OnOk};
+ghost use Rattle.std.specs.Prelude.{◌≡◌, ◌++◌, ◌∷◌, [], suc, length, drop, List, Option, ℕ, option_map, chars, IfOk, OnOk};
 ghost use Rattle.std.specs.List.{list_any};
 ghost use Rattle.syntect_pattern.specs.Reading.{◌∈◌};
 ghost use Rattle.syntect_pattern.specs.OpeningViews.{flags_as, place_as, opened_as, letters_as, flagged_as};
 ghost use Rattle.syntect_pattern.specs.Grammar as grammar;
 
 use crate::escapes::name_in;
-use crate::text::{Test, after, before, run};
-use std::alloc::AllocError;
+use crate::text::{Test, after, before, begins, equals, is_empty, run};
+use std::alloc::{AllocError, Global};
 use syntect_values::seq::Seq;
 
 /// The flags `i`, `m` and `x`.
@@ -22,7 +22,7 @@ pub struct Flags {
 #[derive(Clone, Copy)]
 pub struct Place<'a> {
     pub flags: Flags,
-    pub text: &'a [char],
+    pub text: &'a str,
 }
 
 /// What a group makes of what stands in it.
@@ -47,8 +47,8 @@ pub enum Opening {
 pub type Names = Seq<Option<Seq<char>>>;
 
 /// The flags with these letters turned on or off.
-fn turned(on: bool, letters: &[char], flags: Flags) -> Flags
-    ensures { flags_as result ≡ grammar.turned on letters.now (flags_as flags) }
+fn turned(on: bool, letters: &str, flags: Flags) -> Flags
+    ensures { flags_as result ≡ grammar.turned on (chars letters.now) (flags_as flags) }
 {
     Flags {
         fold: if has_i(letters) { on } else { flags.fold },
@@ -57,34 +57,34 @@ fn turned(on: bool, letters: &[char], flags: Flags) -> Flags
     }
 }
 
-fn has_i(letters: &[char]) -> bool
-    ensures { result ≡ list_any (λ c. c ∈ "i") letters.now }
+fn has_i(letters: &str) -> bool
+    ensures { result ≡ list_any (λ c. c ∈ "i") (chars letters.now) }
 {
-    letters.iter().any(|c| *c == 'i')
+    letters.chars().any(|c| c == 'i')
 }
 
-fn has_m(letters: &[char]) -> bool
-    ensures { result ≡ list_any (λ c. c ∈ "m") letters.now }
+fn has_m(letters: &str) -> bool
+    ensures { result ≡ list_any (λ c. c ∈ "m") (chars letters.now) }
 {
-    letters.iter().any(|c| *c == 'm')
+    letters.chars().any(|c| c == 'm')
 }
 
-fn has_x(letters: &[char]) -> bool
-    ensures { result ≡ list_any (λ c. c ∈ "x") letters.now }
+fn has_x(letters: &str) -> bool
+    ensures { result ≡ list_any (λ c. c ∈ "x") (chars letters.now) }
 {
-    letters.iter().any(|c| *c == 'x')
+    letters.chars().any(|c| c == 'x')
 }
 
 /// The letters that are turned off, behind `-`.
 #[tactic(auto, unfolding(crate::specs::Grammar::off_letters))]
-fn off_letters(text: &[char]) -> Option<(&[char], &[char])>
-    ensures { grammar.off_letters text.now ≡ letters_as result }
+fn off_letters(text: &str) -> Option<(&str, &str)>
+    ensures { grammar.off_letters (chars text.now) ≡ letters_as result }
 {
-    if !text.starts_with(&['-']) {
+    if !begins(text, &['-']) {
         return Some((before(text, 0), text));
     }
     let (letters, rest) = run(after(text, 1), Test::Flag);
-    if letters.is_empty() {
+    if is_empty(letters) {
         return None;
     }
     Some((letters, rest))
@@ -92,12 +92,12 @@ fn off_letters(text: &[char]) -> Option<(&[char], &[char])>
 
 /// The flags behind letters that are turned on or off.
 #[tactic(auto, unfolding(crate::specs::Grammar::flags_at))]
-fn flags_at(flags: Flags, text: &[char]) -> Option<(Flags, &[char])>
-    ensures { grammar.flags_at (flags_as flags) text.now ≡ flagged_as result }
+fn flags_at(flags: Flags, text: &str) -> Option<(Flags, &str)>
+    ensures { grammar.flags_at (flags_as flags) (chars text.now) ≡ flagged_as result }
 {
     let (on, middle) = run(text, Test::Flag);
     let (off, rest) = off_letters(middle)?;
-    if on.is_empty() && off.is_empty() {
+    if is_empty(on) && is_empty(off) {
         return None;
     }
     let flags = turned(false, off, turned(true, on, flags));
@@ -105,12 +105,12 @@ fn flags_at(flags: Flags, text: &[char]) -> Option<(Flags, &[char])>
 }
 
 /// Whether a group of the name is there.
-fn has_name(names: &[Option<Seq<char>>], wanted: &[char]) -> bool
-    ensures { result ≡ list_any (grammar.has_name wanted.now) names.now }
+fn has_name(names: &[Option<Seq<char>>], wanted: &str) -> bool
+    ensures { result ≡ list_any (grammar.has_name (chars wanted.now)) names.now }
 {
     for name in names {
         if let Some(other) = name {
-            if other.as_slice() == wanted {
+            if equals(other.as_slice(), wanted) {
                 return true;
             }
         }
@@ -121,7 +121,7 @@ fn has_name(names: &[Option<Seq<char>>], wanted: &[char]) -> bool
 /// The place so many characters later.
 pub fn forward(place: Place<'_>, count: usize) -> Place<'_>
     ensures flags { result.flags ≡ place.entry.flags }
-    ensures text { result.text.now ≡ drop count place.entry.text.now }
+    ensures text { chars result.text.now ≡ drop count (chars place.entry.text.now) }
     ensures place { (names : grammar.Names) → place_as names result ≡ grammar.forward count (place_as names place.entry) }
 {
     Place {
@@ -139,6 +139,14 @@ fn numbered(names: &mut Names, name: Option<Seq<char>>) -> Result<usize, AllocEr
     Ok(names.len())
 }
 
+/// The characters of a name.
+fn name_of(alloc: Global, name: &str) -> Result<Seq<char>, AllocError>
+    ensures { IfOk result (λ letters. letters ≡ chars name.now) }
+{
+    let letters = name.chars().collect(alloc)?;
+    Ok(Seq::from_vec(letters))
+}
+
 /// A group with a name, from the name on.
 #[tactic(auto, unfolding(crate::specs::Grammar::named_group))]
 fn named_group<'a>(
@@ -153,7 +161,7 @@ fn named_group<'a>(
     if has_name(names.as_slice(), name) {
         return Ok(None);
     }
-    let name = Seq::from_slice(names.allocator(), name)?;
+    let name = name_of(names.allocator(), name)?;
     let number = numbered(names, Some(name))?;
     let inside = Place {
         flags: place.flags,
@@ -172,9 +180,9 @@ fn flag_group(place: Place<'_>) -> Option<(Opening, Place<'_>)>
         flags,
         text: after(rest, 1),
     };
-    if rest.starts_with(&[')']) {
+    if begins(rest, &[')']) {
         Some((Opening::Setting, inside))
-    } else if rest.starts_with(&[':']) {
+    } else if begins(rest, &[':']) {
         Some((Opening::Opens(Wrap::Plain), inside))
     } else {
         None
@@ -190,24 +198,24 @@ pub fn read_opening<'a>(
     ensures { IfOk result (λ f. grammar.opening (place_as names.old place.entry) ≡ opened_as names.new f) }
 {
     let text = place.text;
-    if !text.starts_with(&['?']) {
+    if !begins(text, &['?']) {
         let number = numbered(names, None)?;
         Ok(Some((Opening::Opens(Wrap::Group(number)), place)))
-    } else if text.starts_with(&['?', ':']) {
+    } else if begins(text, &['?', ':']) {
         Ok(Some((Opening::Opens(Wrap::Plain), forward(place, 2))))
-    } else if text.starts_with(&['?', '>']) {
+    } else if begins(text, &['?', '>']) {
         Ok(Some((Opening::Opens(Wrap::Atomic), forward(place, 2))))
-    } else if text.starts_with(&['?', '=']) {
+    } else if begins(text, &['?', '=']) {
         Ok(Some((Opening::Opens(Wrap::Ahead(false)), forward(place, 2))))
-    } else if text.starts_with(&['?', '!']) {
+    } else if begins(text, &['?', '!']) {
         Ok(Some((Opening::Opens(Wrap::Ahead(true)), forward(place, 2))))
-    } else if text.starts_with(&['?', '<', '=']) {
+    } else if begins(text, &['?', '<', '=']) {
         Ok(Some((Opening::Opens(Wrap::Behind(false)), forward(place, 3))))
-    } else if text.starts_with(&['?', '<', '!']) {
+    } else if begins(text, &['?', '<', '!']) {
         Ok(Some((Opening::Opens(Wrap::Behind(true)), forward(place, 3))))
-    } else if text.starts_with(&['?', 'P', '<']) {
+    } else if begins(text, &['?', 'P', '<']) {
         Ok(named_group(names, forward(place, 3))?)
-    } else if text.starts_with(&['?', '<']) {
+    } else if begins(text, &['?', '<']) {
         Ok(named_group(names, forward(place, 2))?)
     } else {
         Ok(flag_group(forward(place, 1)))
@@ -215,18 +223,18 @@ pub fn read_opening<'a>(
 }
 
 /// Whether the group has the name.
-fn is_named(name: &Option<Seq<char>>, wanted: &[char]) -> bool
-    ensures { result ≡ grammar.has_name wanted.now name.now }
+fn is_named(name: &Option<Seq<char>>, wanted: &str) -> bool
+    ensures { result ≡ grammar.has_name (chars wanted.now) name.now }
 {
     match name {
-        Some(other) => other.as_slice() == wanted,
+        Some(other) => equals(other.as_slice(), wanted),
         None => false,
     }
 }
 
 /// The number of the group of the name.
-pub fn number_of(names: &[Option<Seq<char>>], wanted: &[char]) -> Option<usize>
-    ensures { result ≡ grammar.number_of wanted.now names.now }
+pub fn number_of(names: &[Option<Seq<char>>], wanted: &str) -> Option<usize>
+    ensures { result ≡ grammar.number_of (chars wanted.now) names.now }
 {
     for i in 0..names.len() {
         if is_named(&names[i], wanted) {

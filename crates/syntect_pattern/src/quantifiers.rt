@@ -1,11 +1,11 @@
 //! Quantifiers, and what is passed over.
-ghost use Rattle.std.specs.Prelude.{◌≡◌, option_map};
+ghost use Rattle.std.specs.Prelude.{◌≡◌, chars, option_map};
 ghost use Rattle.syntect_pattern.specs.Reading.{pass, between};
 ghost use Rattle.syntect_pattern.specs.QuantifierViews.{capped, capped_all, quantifier_as, passing_as, goes_on, counted};
 ghost use Rattle.syntect_pattern.specs.Reading as reading;
 ghost use Rattle.syntect_pattern.specs.Grammar as grammar;
 
-use crate::text::{Test, after, head, number, run};
+use crate::text::{Test, after, begins, head, is_empty, number, run, split_first};
 
 /// The least and the greatest number of turns, and whether it is `*`, `+` or `?` and not a count. Large numbers are cut.
 #[derive(Clone, Copy)]
@@ -24,10 +24,10 @@ pub enum Passing {
 }
 
 /// What the character begins to be passed over, if anything.
-fn passing_at(spaced: bool, c: char, rest: &[char]) -> Option<Passing>
-    ensures { reading.passing_at spaced c rest.now ≡ option_map passing_as result }
+fn passing_at(spaced: bool, c: char, rest: &str) -> Option<Passing>
+    ensures { reading.passing_at spaced c (chars rest.now) ≡ option_map passing_as result }
 {
-    if c == '(' && rest.starts_with(&['?', '#']) {
+    if c == '(' && begins(rest, &['?', '#']) {
         Some(Passing::Note)
     } else if spaced && c.is_whitespace() {
         Some(Passing::Between)
@@ -39,8 +39,8 @@ fn passing_at(spaced: bool, c: char, rest: &[char]) -> Option<Passing>
 }
 
 /// What is passed over behind the character, unless it isn't passed over itself.
-fn go_on(spaced: bool, passing: Passing, c: char, rest: &[char]) -> Option<Passing>
-    ensures { goes_on spaced (passing_as passing) c rest.now ≡ option_map passing_as result }
+fn go_on(spaced: bool, passing: Passing, c: char, rest: &str) -> Option<Passing>
+    ensures { goes_on spaced (passing_as passing) c (chars rest.now) ≡ option_map passing_as result }
 {
     match passing {
         Passing::Note => {
@@ -62,20 +62,19 @@ fn go_on(spaced: bool, passing: Passing, c: char, rest: &[char]) -> Option<Passi
 }
 
 /// The text behind white space and comments, where they are passed over, and behind notes.
-pub fn pass(spaced: bool, text: &[char]) -> Option<&[char]>
-    ensures { pass spaced between text.now ≡ option_map (λ rest. rest.now) result }
+pub fn pass(spaced: bool, text: &str) -> Option<&str>
+    ensures { pass spaced between (chars text.now) ≡ option_map (λ rest. chars rest.now) result }
 {
     let mut passing = Passing::Between;
     let mut text = text;
     'passes: loop {
-        let Some(c) = head(text) else {
+        let Some((c, rest)) = split_first(text) else {
             return match passing {
                 Passing::Note => None,
                 Passing::Comment => Some(text),
                 Passing::Between => Some(text),
             };
         };
-        let rest = after(text, 1);
         let Some(next) = go_on(spaced, passing, c, rest) else {
             return Some(text);
         };
@@ -85,10 +84,10 @@ pub fn pass(spaced: bool, text: &[char]) -> Option<&[char]>
 }
 
 /// The number that the digits write, if there are any.
-fn limit(digits: &[char]) -> Option<u32>
-    ensures { result ≡ option_map capped (grammar.limit digits.now) }
+fn limit(digits: &str) -> Option<u32>
+    ensures { result ≡ option_map capped (grammar.limit (chars digits.now)) }
 {
-    if digits.is_empty() {
+    if is_empty(digits) {
         None
     } else {
         Some(number(digits, 10))
@@ -97,17 +96,17 @@ fn limit(digits: &[char]) -> Option<u32>
 
 /// A count in braces.
 #[tactic(auto, unfolding(crate::specs::Grammar::count))]
-fn count(text: &[char]) -> Option<(Quantifier, &[char])>
-    ensures { capped_all (grammar.count text.now) ≡ counted result }
+fn count(text: &str) -> Option<(Quantifier, &str)>
+    ensures { capped_all (grammar.count (chars text.now)) ≡ counted result }
 {
-    if !text.starts_with(&['{']) {
+    if !begins(text, &['{']) {
         return None;
     }
     let (low, rest) = run(after(text, 1), Test::Decimal);
-    let comma = rest.starts_with(&[',']);
+    let comma = begins(rest, &[',']);
     let (high, end) = run(after(rest, 1), Test::Decimal);
     let close = if comma { end } else { rest };
-    if !close.starts_with(&['}']) || low.is_empty() && (!comma || high.is_empty()) {
+    if !begins(close, &['}']) || is_empty(low) && (!comma || is_empty(high)) {
         return None;
     }
     let quantifier = Quantifier {
@@ -119,8 +118,8 @@ fn count(text: &[char]) -> Option<(Quantifier, &[char])>
 }
 
 /// A quantifier of one sign.
-fn sign(least: u32, most: Option<u32>, text: &[char]) -> Option<(Quantifier, &[char])>
-    ensures { counted result ≡ grammar.sign least most text.now }
+fn sign(least: u32, most: Option<u32>, text: &str) -> Option<(Quantifier, &str)>
+    ensures { counted result ≡ grammar.sign least most (chars text.now) }
 {
     let quantifier = Quantifier {
         least,
@@ -131,18 +130,20 @@ fn sign(least: u32, most: Option<u32>, text: &[char]) -> Option<(Quantifier, &[c
 }
 
 /// The quantifier at the front, if there is one.
-#[tactic(auto, unfolding(crate::specs::Grammar::quantifier))]
-pub fn read_quantifier(text: &[char]) -> Option<(Quantifier, &[char])>
-    ensures { capped_all (grammar.quantifier text.now) ≡ counted result }
+pub fn read_quantifier(text: &str) -> Option<(Quantifier, &str)>
+    ensures { capped_all (grammar.quantifier (chars text.now)) ≡ counted result }
 {
-    if text.starts_with(&['*']) {
+    let c = head(text)?;
+    if c == '*' {
         sign(0, None, text)
-    } else if text.starts_with(&['+']) {
+    } else if c == '+' {
         sign(1, None, text)
-    } else if text.starts_with(&['?']) {
+    } else if c == '?' {
         sign(0, Some(1), text)
-    } else {
+    } else if c == '{' {
         count(text)
+    } else {
+        None
     }
 }
 

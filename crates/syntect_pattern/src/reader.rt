@@ -1,5 +1,5 @@
 //! The reading of a pattern.
-ghost use Rattle.std.specs.Prelude.{◌≡◌, ◌<◌, ◌+◌, [], ℕ, Option, Some, length, option_map, IfOk, OnOk, IfSome};
+ghost use Rattle.std.specs.Prelude.{◌≡◌, ◌<◌, ◌+◌, [], ℕ, true, Option, Some, length, chars, option_map, IfOk, OnOk, IfSome};
 ghost use Rattle.syntect_pattern.specs.Builder.{Grows, Holds, tree_in};
 ghost use Rattle.syntect_pattern.specs.BodyViews.{body_of};
 ghost use Rattle.syntect_pattern.specs.OpeningViews.{place_as, wrapped};
@@ -20,7 +20,7 @@ use crate::members::Leaf;
 use crate::node::{Anchor, Node};
 use crate::openings::{Names, Opening, Place, Wrap, forward, number_of, read_opening};
 use crate::quantifiers::pass;
-use crate::text::after;
+use crate::text::{after, begins};
 use crate::tokens::{Looping, Token, next_token, read_looping};
 use std::alloc::{AllocError, Global};
 use syntect_values::seq::Seq;
@@ -37,10 +37,12 @@ pub struct Body {
 pub struct Reader {
     pub builder: Builder,
     pub names: Names,
+    /// Whether a back reference was met. Where none was, it makes no difference which groups are known.
+    pub refers: bool,
 }
 
 impl Reader {
-    ghost use Rattle.syntect_pattern.specs.ReaderViews.{body_as, IsBodyIn, went_on, tree_as};
+    ghost use Rattle.syntect_pattern.specs.ReaderViews.{body_as, IsBodyIn, went_on, tree_as, Keeps, Serves};
 
     /// Nothing read. Takes no memory.
     pub fn new(alloc: Global) -> Reader
@@ -51,6 +53,7 @@ impl Reader {
                 nodes: Seq::new(alloc),
             },
             names: Seq::new(alloc),
+            refers: false,
         }
     }
 
@@ -59,6 +62,7 @@ impl Reader {
         requires { node < length self.old.builder.nodes }
         ensures grows { OnOk result (Grows self.old.builder.nodes self.new.builder.nodes) }
         ensures names { OnOk result (self.new.names ≡ self.old.names) }
+        ensures refers { OnOk result (self.new.refers ≡ self.old.refers) }
         ensures holds { IfOk result (λ k. Holds self.new.builder.nodes k (looped_tree looping (tree_in self.old.builder.nodes node))) }
     {
         match looping {
@@ -89,6 +93,7 @@ impl Reader {
         requires { body < length self.old.builder.nodes }
         ensures grows { OnOk result (Grows self.old.builder.nodes self.new.builder.nodes) }
         ensures names { OnOk result (self.new.names ≡ self.old.names) }
+        ensures refers { OnOk result (self.new.refers ≡ self.old.refers) }
         ensures holds { IfOk result (λ k. Holds self.new.builder.nodes k (wrapped wrap (tree_in self.old.builder.nodes body))) }
     {
         match wrap {
@@ -111,6 +116,7 @@ impl Reader {
         requires node { node < length self.old.builder.nodes }
         ensures grows { OnOk result (Grows self.old.builder.nodes self.new.builder.nodes) }
         ensures names { OnOk result (self.new.names ≡ self.old.names) }
+        ensures refers { OnOk result (self.new.refers ≡ self.old.refers) }
         ensures inside { IfOk result (λ f. IfSome f (λ x. IsBodyIn self.new.builder.nodes x.0)) }
         ensures reads { IfOk result (λ f. (known : Option grammar.Names) → grammar.firm known (body_as self.old.builder.nodes body) (tree_in self.old.builder.nodes node) (place_as self.old.names place.entry) ≡ went_on self.new f) }
     {
@@ -130,6 +136,7 @@ impl Reader {
         requires node { node < length self.old.builder.nodes }
         ensures grows { OnOk result (Grows self.old.builder.nodes self.new.builder.nodes) }
         ensures names { OnOk result (self.new.names ≡ self.old.names) }
+        ensures refers { OnOk result (self.new.refers ≡ self.old.refers) }
         ensures inside { IfOk result (λ f. IfSome f (λ x. IsBodyIn self.new.builder.nodes x.0)) }
         ensures reads { IfOk result (λ f. (known : Option grammar.Names) → grammar.item known (body_as self.old.builder.nodes body) (tree_in self.old.builder.nodes node) (place_as self.old.names place.entry) ≡ went_on self.new f) }
     {
@@ -150,6 +157,7 @@ impl Reader {
         requires body { IsBodyIn self.old.builder.nodes body }
         ensures grows { OnOk result (Grows self.old.builder.nodes self.new.builder.nodes) }
         ensures names { OnOk result (self.new.names ≡ self.old.names) }
+        ensures refers { OnOk result (self.new.refers ≡ self.old.refers) }
         ensures inside { IfOk result (λ f. IfSome f (λ x. IsBodyIn self.new.builder.nodes x.0)) }
         ensures reads { IfOk result (λ f. (known : Option grammar.Names) → grammar.item known (body_as self.old.builder.nodes body) (one_of (from_to place.entry.flags.fold c c)) (place_as self.old.names place.entry) ≡ went_on self.new f) }
     {
@@ -168,6 +176,7 @@ impl Reader {
         requires body { IsBodyIn self.old.builder.nodes body }
         ensures grows { OnOk result (Grows self.old.builder.nodes self.new.builder.nodes) }
         ensures names { OnOk result (self.new.names ≡ self.old.names) }
+        ensures refers { OnOk result (self.new.refers ≡ self.old.refers) }
         ensures inside { IfOk result (λ f. IfSome f (λ x. IsBodyIn self.new.builder.nodes x.0)) }
         ensures reads { IfOk result (λ f. (known : Option grammar.Names) → grammar.item known (body_as self.old.builder.nodes body) (one_of (set_in sets.parts root)) (place_as self.old.names place.entry) ≡ went_on self.new f) }
     {
@@ -185,6 +194,7 @@ impl Reader {
         requires body { IsBodyIn self.old.builder.nodes body }
         ensures grows { OnOk result (Grows self.old.builder.nodes self.new.builder.nodes) }
         ensures names { OnOk result (self.new.names ≡ self.old.names) }
+        ensures refers { OnOk result (self.new.refers ≡ self.old.refers) }
         ensures inside { IfOk result (λ f. IfSome f (λ x. IsBodyIn self.new.builder.nodes x.0)) }
         ensures reads { IfOk result (λ f. (known : Option grammar.Names) → grammar.firm known (body_as self.old.builder.nodes body) (anchor (anchor_of which)) (place_as self.old.names place.entry) ≡ went_on self.new f) }
     {
@@ -202,6 +212,7 @@ impl Reader {
         requires body { IsBodyIn self.old.builder.nodes body }
         ensures grows { OnOk result (Grows self.old.builder.nodes self.new.builder.nodes) }
         ensures names { OnOk result (self.new.names ≡ self.old.names) }
+        ensures refers { OnOk result (self.new.refers ≡ self.old.refers) }
         ensures inside { IfOk result (λ f. IfSome f (λ x. IsBodyIn self.new.builder.nodes x.0)) }
         ensures reads { IfOk result (λ f. (known : Option grammar.Names) → grammar.item known (body_as self.old.builder.nodes body) (one_of (leaf_set leaf)) (place_as self.old.names place.entry) ≡ went_on self.new f) }
     {
@@ -219,6 +230,7 @@ impl Reader {
         requires body { IsBodyIn self.old.builder.nodes body }
         ensures grows { OnOk result (Grows self.old.builder.nodes self.new.builder.nodes) }
         ensures names { OnOk result (self.new.names ≡ self.old.names) }
+        ensures refers { OnOk result (self.new.refers ≡ self.old.refers) }
         ensures inside { IfOk result (λ f. IfSome f (λ x. IsBodyIn self.new.builder.nodes x.0)) }
         ensures reads { IfOk result (λ f. (known : Option grammar.Names) → grammar.item known (body_as self.old.builder.nodes body) (one_of (grammar.dot_set place.entry.flags.any)) (place_as self.old.names place.entry) ≡ went_on self.new f) }
     {
@@ -232,6 +244,7 @@ impl Reader {
         requires { IsBodyIn self.old.builder.nodes body }
         ensures grows { OnOk result (Grows self.old.builder.nodes self.new.builder.nodes) }
         ensures names { OnOk result (self.new.names ≡ self.old.names) }
+        ensures refers { OnOk result (self.new.refers ≡ self.old.refers) }
         ensures inside { IfOk result (λ b. IsBodyIn self.new.builder.nodes b) }
         ensures is { IfOk result (λ b. body_as self.new.builder.nodes b ≡ grammar.next_alternative (body_as self.old.builder.nodes body)) }
     {
@@ -247,6 +260,7 @@ impl Reader {
         requires { IsBodyIn self.old.builder.nodes body }
         ensures grows { OnOk result (Grows self.old.builder.nodes self.new.builder.nodes) }
         ensures names { OnOk result (self.new.names ≡ self.old.names) }
+        ensures refers { OnOk result (self.new.refers ≡ self.old.refers) }
         ensures holds { IfOk result (λ k. Holds self.new.builder.nodes k (grammar.tree_of_body (body_as self.old.builder.nodes body))) }
     {
         let body = self.next_alternative(body)?;
@@ -262,9 +276,11 @@ impl Reader {
     ) -> Result<Option<usize>, AllocError>
         ensures grows { OnOk result (Grows self.old.builder.nodes self.new.builder.nodes) }
         ensures names { OnOk result (self.new.names ≡ self.old.names) }
+        ensures refers { OnOk result (self.new.refers ≡ true) }
         ensures inside { IfOk result (λ f. IfSome f (λ k. k < length self.new.builder.nodes)) }
         ensures reads { IfOk result (λ f. grammar.by_number known.now fold number ≡ option_map (tree_in self.new.builder.nodes) f) }
     {
+        self.refers = true;
         let Some(names) = known else {
             return Ok(Some(self.builder.push(Node::Nothing)?));
         };
@@ -284,13 +300,15 @@ impl Reader {
         &mut self,
         known: &Option<Names>,
         fold: bool,
-        name: &[char],
+        name: &str,
     ) -> Result<Option<usize>, AllocError>
         ensures grows { OnOk result (Grows self.old.builder.nodes self.new.builder.nodes) }
         ensures names { OnOk result (self.new.names ≡ self.old.names) }
+        ensures refers { OnOk result (self.new.refers ≡ true) }
         ensures inside { IfOk result (λ f. IfSome f (λ k. k < length self.new.builder.nodes)) }
-        ensures reads { IfOk result (λ f. grammar.by_name known.now fold name.now ≡ option_map (tree_in self.new.builder.nodes) f) }
+        ensures reads { IfOk result (λ f. grammar.by_name known.now fold (chars name.now) ≡ option_map (tree_in self.new.builder.nodes) f) }
     {
+        self.refers = true;
         let Some(names) = known else {
             return Ok(Some(self.builder.push(Node::Nothing)?));
         };
@@ -311,6 +329,7 @@ impl Reader {
         requires body { IsBodyIn self.old.builder.nodes body }
         ensures grows { OnOk result (Grows self.old.builder.nodes self.new.builder.nodes) }
         ensures names { OnOk result (self.new.names ≡ self.old.names) }
+        ensures refers { OnOk result (self.new.refers ≡ true) }
         ensures inside { IfOk result (λ f. IfSome f (λ x. IsBodyIn self.new.builder.nodes x.0)) }
         ensures reads { IfOk result (λ f. grammar.escaped known.now (body_as self.old.builder.nodes body) (place_as self.old.names place.entry) (definition.number number) ≡ went_on self.new f) }
     {
@@ -325,14 +344,15 @@ impl Reader {
         &mut self,
         known: &Option<Names>,
         body: Body,
-        name: &[char],
+        name: &str,
         place: Place<'a>,
     ) -> Result<Option<(Body, Place<'a>)>, AllocError>
         requires body { IsBodyIn self.old.builder.nodes body }
         ensures grows { OnOk result (Grows self.old.builder.nodes self.new.builder.nodes) }
         ensures names { OnOk result (self.new.names ≡ self.old.names) }
+        ensures refers { OnOk result (self.new.refers ≡ true) }
         ensures inside { IfOk result (λ f. IfSome f (λ x. IsBodyIn self.new.builder.nodes x.0)) }
-        ensures reads { IfOk result (λ f. grammar.escaped known.now (body_as self.old.builder.nodes body) (place_as self.old.names place.entry) (definition.name name.now) ≡ went_on self.new f) }
+        ensures reads { IfOk result (λ f. grammar.escaped known.now (body_as self.old.builder.nodes body) (place_as self.old.names place.entry) (definition.name (chars name.now)) ≡ went_on self.new f) }
     {
         let Some(node) = self.by_name(known, place.flags.fold, name)? else {
             return Ok(None);
@@ -350,9 +370,10 @@ impl Reader {
     ) -> Result<Option<(Body, Place<'a>)>, AllocError>
         requires body { IsBodyIn self.old.builder.nodes body }
         ensures grows { OnOk result (Grows self.old.builder.nodes self.new.builder.nodes) }
+        ensures refers { OnOk result (Keeps self.old.refers self.new.refers) }
         ensures inside { IfOk result (λ f. IfSome f (λ x. IsBodyIn self.new.builder.nodes x.0)) }
         ensures names { OnOk result (self.new.names ≡ self.old.names) }
-        ensures reads { IfOk result (λ f. grammar.escaped known.now (body_as self.old.builder.nodes body) (place_as self.old.names place.entry) (escape_of escape.entry) ≡ went_on self.new f) }
+        ensures reads { IfOk result (λ f. (groups : Option grammar.Names) → Serves self.new.refers known.now groups → grammar.escaped groups (body_as self.old.builder.nodes body) (place_as self.old.names place.entry) (escape_of escape.entry) ≡ went_on self.new f) }
     {
         match escape {
             Escape::Char(c) => Ok(self.char_item(body, c, place)?),
@@ -374,8 +395,9 @@ impl Reader {
     ) -> Result<Option<(Body, Place<'a>)>, AllocError>
         requires body { IsBodyIn self.old.builder.nodes body }
         ensures grows { OnOk result (Grows self.old.builder.nodes self.new.builder.nodes) }
+        ensures refers { OnOk result (Keeps self.old.refers self.new.refers) }
         ensures inside { IfOk result (λ f. IfSome f (λ x. IsBodyIn self.new.builder.nodes x.0)) }
-        ensures reads { IfOk result (λ f. (inner : _) (depth : ℕ) → grammar.step known.now inner depth (body_as self.old.builder.nodes body) (place_as self.old.names here.entry) grammar.backslash ≡ went_on self.new f) }
+        ensures reads { IfOk result (λ f. (groups : Option grammar.Names) → Serves self.new.refers known.now groups → (inner : _) (depth : ℕ) → grammar.step groups inner depth (body_as self.old.builder.nodes body) (place_as self.old.names here.entry) grammar.backslash ≡ went_on self.new f) }
     {
         let Some((escape, text)) = read_escape(after(here.text, 1)) else {
             return Ok(None);
@@ -396,6 +418,7 @@ impl Reader {
     ) -> Result<Option<(Body, Place<'a>)>, AllocError>
         requires body { IsBodyIn self.old.builder.nodes body }
         ensures grows { OnOk result (Grows self.old.builder.nodes self.new.builder.nodes) }
+        ensures refers { OnOk result (self.new.refers ≡ self.old.refers) }
         ensures inside { IfOk result (λ f. IfSome f (λ x. IsBodyIn self.new.builder.nodes x.0)) }
         ensures reads { IfOk result (λ f. (known : Option grammar.Names) (inner : _) → grammar.step known inner depth (body_as self.old.builder.nodes body) (place_as self.old.names here.entry) grammar.bracket ≡ went_on self.new f) }
     {
@@ -421,8 +444,9 @@ impl Reader {
     ) -> Result<Option<(Body, Place<'a>)>, AllocError>
         requires body { IsBodyIn self.old.builder.nodes body }
         ensures grows { OnOk result (Grows self.old.builder.nodes self.new.builder.nodes) }
+        ensures refers { OnOk result (Keeps self.old.refers self.new.refers) }
         ensures inside { IfOk result (λ f. IfSome f (λ x. IsBodyIn self.new.builder.nodes x.0)) }
-        ensures reads { IfOk result (λ f. grammar.step known.now (body_of known.now (depth + 1) grammar.empty_body) depth (body_as self.old.builder.nodes body) (place_as self.old.names here.entry) grammar.opener ≡ went_on self.new f) }
+        ensures reads { IfOk result (λ f. (groups : Option grammar.Names) → Serves self.new.refers known.now groups → grammar.step groups (body_of groups (depth + 1) grammar.empty_body) depth (body_as self.old.builder.nodes body) (place_as self.old.names here.entry) grammar.opener ≡ went_on self.new f) }
     {
         let Some((opening, place)) = read_opening(&mut self.names, forward(here, 1))? else {
             return Ok(None);
@@ -436,7 +460,7 @@ impl Reader {
         let Some((inner, last)) = self.body(known, depth + 1, place)? else {
             return Ok(None);
         };
-        if !last.text.starts_with(&[')']) {
+        if !begins(last.text, &[')']) {
             return Ok(None);
         }
         let node = self.push_group(wrap, inner)?;
@@ -460,8 +484,9 @@ impl Reader {
     ) -> Result<Option<(Body, Place<'a>)>, AllocError>
         requires body { IsBodyIn self.old.builder.nodes body }
         ensures grows { OnOk result (Grows self.old.builder.nodes self.new.builder.nodes) }
+        ensures refers { OnOk result (Keeps self.old.refers self.new.refers) }
         ensures inside { IfOk result (λ f. IfSome f (λ x. IsBodyIn self.new.builder.nodes x.0)) }
-        ensures reads { IfOk result (λ f. grammar.step known.now (body_of known.now (depth + 1) grammar.empty_body) depth (body_as self.old.builder.nodes body) (place_as self.old.names here.entry) (token_as token) ≡ went_on self.new f) }
+        ensures reads { IfOk result (λ f. (groups : Option grammar.Names) → Serves self.new.refers known.now groups → grammar.step groups (body_of groups (depth + 1) grammar.empty_body) depth (body_as self.old.builder.nodes body) (place_as self.old.names here.entry) (token_as token) ≡ went_on self.new f) }
     {
         match token {
             Token::Bar => {
@@ -488,8 +513,9 @@ impl Reader {
         place: Place<'a>,
     ) -> Result<Option<(usize, Place<'a>)>, AllocError>
         ensures grows { OnOk result (Grows self.old.builder.nodes self.new.builder.nodes) }
+        ensures refers { OnOk result (Keeps self.old.refers self.new.refers) }
         ensures inside { IfOk result (λ f. IfSome f (λ x. x.0 < length self.new.builder.nodes)) }
-        ensures reads { IfOk result (λ f. body_of known.now depth grammar.empty_body (place_as self.old.names place.entry) ≡ tree_as self.new f) }
+        ensures reads { IfOk result (λ f. (groups : Option grammar.Names) → Serves self.new.refers known.now groups → body_of groups depth grammar.empty_body (place_as self.old.names place.entry) ≡ tree_as self.new f) }
     {
         let alloc = self.names.allocator();
         let mut body = Body {

@@ -1,5 +1,5 @@
 //! What stands next in a pattern, and loops.
-ghost use Rattle.std.specs.Prelude.{◌≡◌, ◌&&◌, MatchOption, is_some};
+ghost use Rattle.std.specs.Prelude.{◌≡◌, ◌&&◌, MatchOption, chars, is_some};
 ghost use Rattle.syntect_pattern.specs.Trees.{Tree};
 ghost use Rattle.syntect_pattern.specs.Reading.{begins};
 ghost use Rattle.syntect_pattern.specs.Grammar.{Names};
@@ -11,7 +11,7 @@ ghost use Rattle.syntect_pattern.specs.QuantifierViews.{quantifier_as};
 
 use crate::openings::Place;
 use crate::quantifiers::{Quantifier, is_allowed, pass, read_quantifier};
-use crate::text::{after, head};
+use crate::text::{after, begins, head};
 
 /// What stands next, if the group isn't over.
 #[derive(Clone, Copy)]
@@ -30,8 +30,8 @@ pub enum Token {
 
 /// What begins with the character, and none where the group is over.
 #[tactic(auto, unfolding(crate::specs::Grammar::next_char))]
-fn token_of(text: &[char], c: char) -> Option<Token>
-    ensures { MatchOption result (IsOver (grammar.next_char text.now c)) (λ t. grammar.next_char text.now c ≡ token_as t) }
+fn token_of(text: &str, c: char) -> Option<Token>
+    ensures { MatchOption result (IsOver (grammar.next_char (chars text.now) c)) (λ t. grammar.next_char (chars text.now) c ≡ token_as t) }
 {
     match c {
         ')' => None,
@@ -53,15 +53,15 @@ fn token_of(text: &[char], c: char) -> Option<Token>
 }
 
 /// Whether a quantifier stands next.
-fn is_quantifier(text: &[char]) -> bool
-    ensures { result ≡ is_some (grammar.quantifier text.now) }
+fn is_quantifier(text: &str) -> bool
+    ensures { result ≡ is_some (grammar.quantifier (chars text.now)) }
 {
     read_quantifier(text).is_some()
 }
 
 /// What stands next, and none where the group is over.
-pub fn next_token(text: &[char]) -> Option<Token>
-    ensures { MatchOption result (IsOver (grammar.next_of text.now)) (λ t. grammar.next_of text.now ≡ token_as t) }
+pub fn next_token(text: &str) -> Option<Token>
+    ensures { MatchOption result (IsOver (grammar.next_of (chars text.now))) (λ t. grammar.next_of (chars text.now) ≡ token_as t) }
 {
     match head(text) {
         Some(c) => token_of(text, c),
@@ -82,18 +82,18 @@ pub enum Looping {
 }
 
 /// Whether a `+` behind a quantifier that is no count makes it possessive.
-fn gives_nothing_back(short: bool, text: &[char]) -> bool
-    ensures { result ≡ (short && begins "+" text.now) }
+fn gives_nothing_back(short: bool, text: &str) -> bool
+    ensures { result ≡ (short && begins "+" (chars text.now)) }
 {
-    short && text.starts_with(&['+'])
+    short && begins(text, &['+'])
 }
 
 /// The loop of a quantifier, as the sign behind it wants it, and what follows.
-fn looped(quantifier: Quantifier, text: &[char]) -> (Looping, &[char])
-    ensures { (a : Tree) → grammar.loop (quantifier_as quantifier) a text.now ≡ (looped_tree result.0 a, result.1.now) }
+fn looped(quantifier: Quantifier, text: &str) -> (Looping, &str)
+    ensures { (a : Tree) → grammar.loop (quantifier_as quantifier) a (chars text.now) ≡ (looped_tree result.0 a, chars result.1.now) }
 {
     let Quantifier { least, most, short } = quantifier;
-    if text.starts_with(&['?']) {
+    if begins(text, &['?']) {
         let looping = Looping::Loop {
             greedy: false,
             possessive: false,

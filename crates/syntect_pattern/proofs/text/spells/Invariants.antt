@@ -1,5 +1,12 @@
-use Rattle.std.proofs.Common.{ℕ, ◌<◌, get_or, ◌≡◌}
+use Rattle.std.proofs.Common.{◌≡◌, drop, nat_eq}
+use Rattle.std.specs.Prelude.{chars}
+use lib.Pointwise.{pointwise}
+use denote.Text.{Utf8}
+use denote.Shadow.{shadow}
 use Rattle.syntect_pattern.proofs.text.spells.Given as goal
 
-abbrev pub invariant-loop-i : goal.invariant-loop-i
-invariant-loop-i l = (k : ℕ) → k < l.i → get_or l.text k 0 ≡ get_or l.word k 0
+abbrev pub invariant-loop-letter : goal.invariant-loop-letter
+invariant-loop-letter l = record {
+  utf8 : shadow (Utf8 l.rest);
+  value : pointwise nat_eq (chars l.text) l.word ≡ pointwise nat_eq (chars l.rest) (drop l.letter-index l.word);
+}

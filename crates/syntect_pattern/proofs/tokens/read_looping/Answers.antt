@@ -1,3 +1,4 @@
+use Rattle.std.specs.Prelude.{chars}
 use Rattle.std.proofs.Common.{◌∙◌, sym}
 use Rattle.syntect_pattern.specs.QuantifierViews.{quantifier_as}
 use Rattle.syntect_pattern.specs.OpeningViews.{flags_as}
@@ -6,19 +7,19 @@ use Rattle.syntect_pattern.proofs.TokenLaws.{quantified-stuck, quantified-once, 
 use Rattle.syntect_pattern.proofs.tokens.read_looping.Goals as goal
 
 pub returns-in_default : goal.returns-in_default
-returns-in_default c = λ names a. quantified-stuck a (flags_as c.args.place.flags) names c.args.place.text.now c.in_default.ensures
+returns-in_default c = λ names a. quantified-stuck a (flags_as c.args.place.flags) names (chars c.args.place.text.now) c.in_default.ensures
 
 pub returns-in_default-read_quantifier : goal.returns-in_default-read_quantifier
 returns-in_default-read_quantifier c = λ names a.
-    quantified-once a (flags_as c.args.place.flags) names c.args.place.text.now c.in-Some.text.now c.in-Some.ensures c.in_default-read_quantifier.ensures
+    quantified-once a (flags_as c.args.place.flags) names (chars c.args.place.text.now) (chars c.in-Some.text.now) c.in-Some.ensures c.in_default-read_quantifier.ensures
 
 pub returns-then-not-is_allowed : goal.returns-then-not-is_allowed
 returns-then-not-is_allowed c = λ names a.
-    quantified-refused a (flags_as c.args.place.flags) names c.args.place.text.now c.in-Some.text.now c.in-Some.ensures
-    (quantifier_as c.in-Some-read_quantifier.quantifier) c.in-Some-read_quantifier.rest.now c.in-Some-read_quantifier.ensures (sym c.is_allowed.ensures ∙ c.if-not-is_allowed.true)
+    quantified-refused a (flags_as c.args.place.flags) names (chars c.args.place.text.now) (chars c.in-Some.text.now) c.in-Some.ensures
+    (quantifier_as c.in-Some-read_quantifier.quantifier) (chars c.in-Some-read_quantifier.rest.now) c.in-Some-read_quantifier.ensures (sym c.is_allowed.ensures ∙ c.if-not-is_allowed.true)
 
 pub returns : goal.returns
 returns c = λ names a.
-    quantified-loop a (flags_as c.args.place.flags) names c.args.place.text.now c.in-Some.text.now c.in-Some.ensures
-    (quantifier_as c.in-Some-read_quantifier.quantifier) c.in-Some-read_quantifier.rest.now c.in-Some-read_quantifier.ensures (sym c.is_allowed.ensures ∙ c.if-not-is_allowed.false)
-    (looped_tree c.looped-looping.result.0 a) c.looped-looping.result.1.now (c.looped-looping.ensures a)
+    quantified-loop a (flags_as c.args.place.flags) names (chars c.args.place.text.now) (chars c.in-Some.text.now) c.in-Some.ensures
+    (quantifier_as c.in-Some-read_quantifier.quantifier) (chars c.in-Some-read_quantifier.rest.now) c.in-Some-read_quantifier.ensures (sym c.is_allowed.ensures ∙ c.if-not-is_allowed.false)
+    (looped_tree c.looped-looping.result.0 a) (chars c.looped-looping.result.1.now) (c.looped-looping.ensures a)

@@ -1,4 +1,7 @@
+use Rattle.std.specs.Prelude.{chars}
 use Rattle.std.proofs.Common.{◌≡◌, ◌-◌, ◌+◌, ◌*◌, length}
+use denote.Text.{Utf8}
+use denote.Shadow.{shadow}
 use Rattle.syntect_pattern.specs.SetTable.{SetsGrow}
 use Rattle.syntect_pattern.specs.ClassViews.{bracket_as, IsBracketIn, rest_of}
 use Rattle.syntect_pattern.proofs.classes.SetBuilder.+class.Given as goal
@@ -14,10 +17,11 @@ decreases-class_rest l = 3 * (200 - l.depth) + 2
 
 abbrev pub invariant-class_rest-steps : goal.invariant-class_rest-steps
 invariant-class_rest-steps l = record {
+  utf8 : shadow (Utf8 l.text);
   grows : SetsGrow l.fn.self.parts l.self.parts;
   inside : IsBracketIn l.self.parts l.bracket;
-  reads : rest_of l.fold l.depth (bracket_as l.fn.self.parts l.fn.bracket) l.fn.text ≡ rest_of l.fold l.depth (bracket_as l.self.parts l.bracket) l.text;
+  reads : rest_of l.fold l.depth (bracket_as l.fn.self.parts l.fn.bracket) (chars l.fn.text) ≡ rest_of l.fold l.depth (bracket_as l.self.parts l.bracket) (chars l.text);
 }
 
 abbrev pub decreases-class_rest-steps : goal.decreases-class_rest-steps
-decreases-class_rest-steps l = length l.text
+decreases-class_rest-steps l = length (chars l.text)

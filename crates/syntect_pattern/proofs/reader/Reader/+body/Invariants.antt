@@ -1,9 +1,12 @@
-use Rattle.std.proofs.Common.{◌≡◌, ◌-◌, ◌+◌, ◌*◌, length}
+use Rattle.std.specs.Prelude.{chars}
+use Rattle.std.proofs.Common.{◌≡◌, ◌-◌, ◌+◌, ◌*◌, length, Option}
+use denote.Text.{Utf8}
+use denote.Shadow.{shadow}
 use Rattle.syntect_pattern.specs.Builder.{Grows}
-use Rattle.syntect_pattern.specs.Grammar.{empty_body}
+use Rattle.syntect_pattern.specs.Grammar.{Names, empty_body}
 use Rattle.syntect_pattern.specs.BodyViews.{body_of}
 use Rattle.syntect_pattern.specs.OpeningViews.{place_as}
-use Rattle.syntect_pattern.specs.ReaderViews.{body_as, IsBodyIn}
+use Rattle.syntect_pattern.specs.ReaderViews.{body_as, IsBodyIn, Keeps, Serves}
 use Rattle.syntect_pattern.proofs.reader.Reader.+body.Given as goal
 
 abbrev pub decreases-group : goal.decreases-group
@@ -17,10 +20,12 @@ decreases-body l = 3 * (200 - l.depth) + 2
 
 abbrev pub invariant-body-steps : goal.invariant-body-steps
 invariant-body-steps l = record {
+  utf8 : shadow (Utf8 l.place.text.now);
   grows : Grows l.fn.self.builder.nodes l.self.builder.nodes;
   inside : IsBodyIn l.self.builder.nodes l.body;
-  reads : body_of l.known l.depth empty_body (place_as l.fn.self.names l.fn.place) ≡ body_of l.known l.depth (body_as l.self.builder.nodes l.body) (place_as l.self.names l.place);
+  refers : Keeps l.fn.self.refers l.self.refers;
+  reads : (groups : Option Names) → Serves l.self.refers l.known groups → body_of groups l.depth empty_body (place_as l.fn.self.names l.fn.place) ≡ body_of groups l.depth (body_as l.self.builder.nodes l.body) (place_as l.self.names l.place);
 }
 
 abbrev pub decreases-body-steps : goal.decreases-body-steps
-decreases-body-steps l = length l.place.text.now
+decreases-body-steps l = length (chars l.place.text.now)

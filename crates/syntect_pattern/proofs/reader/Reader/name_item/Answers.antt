@@ -1,5 +1,5 @@
 use Rattle.std.proofs.Common.{ap, ◌∙◌}
-use Rattle.std.specs.Prelude.{option_map}
+use Rattle.std.specs.Prelude.{option_map, chars}
 use Rattle.syntect_pattern.specs.Grammar.{by_name}
 use Rattle.syntect_pattern.specs.Builder.{tree_in}
 use Rattle.syntect_pattern.specs.OpeningViews.{place_as}
@@ -14,7 +14,7 @@ pub returns-clause-reads : goal.returns-clause-reads
 returns-clause-reads c =
     refer-is c.args.known.now (body_as c.args.self.now.builder.nodes c.args.body) (body_as c.by_name.new.self.builder.nodes c.args.body)
     (tree_in c.by_name.new.self.builder.nodes c.in-Some.node) c.args.self.now.names c.by_name.new.self.names (λ names. place_as names c.args.place)
-    (by_name c.args.known.now c.args.place.flags.fold c.args.name.now) (went_on c.item.new.self c.in_ok-item.field-0)
+    (by_name c.args.known.now c.args.place.flags.fold (chars c.args.name.now)) (went_on c.item.new.self c.in_ok-item.field-0)
     (c.in_ok-node.ensures.reads ∙ ap (option_map (tree_in c.by_name.new.self.builder.nodes)) c.in-Some.is)
     (body-grown c.args.self.now.builder.nodes c.by_name.new.self.builder.nodes c.args.body c.in_ok-node.ensures.grows c.requires.body)
     c.in_ok-node.ensures.names
