@@ -1,7 +1,5 @@
 -- The atoms stand before the first 0.
-use Rattle.std.proofs.Common.{set, ◌≡◌, ◌≢◌, ◌≤◌, ◌<◌, ℕ, zero, suc, ◌==◌, ◌+◌, ◌-◌, List, [], ◌∷◌, ◌++◌, length, take, get_or, replicate, refl, ap, arith, Bool, false, sym, ◌∙◌}
-use Rattle.std.specs.List.{position_or_len}
-use Rattle.std.proofs.lemmas.Bool.Decides.{nat_tests}
+use Rattle.std.proofs.Common.{set, ◌≡◌, ◌≢◌, ◌≤◌, ◌<◌, ℕ, zero, suc, List, [], ◌∷◌, ◌++◌, length, take, get_or, replicate, refl, ap, arith, sym}
 use Rattle.std.proofs.lemmas.List.{length-replicate, length-take}
 use Rattle.syntect_scope.specs.Atoms.{atoms_in, IsPacked}
 

@@ -1,8 +1,8 @@
 -- Digits that are set, put at the end, and compared.
-use Rattle.std.proofs.Common.{◌≡◌, ◌≢◌, ℕ, zero, suc, ◌+◌, ◌*◌, ◌^◌, ◌<◌, ◌≤◌, ◌-◌, ◌%◌, ◌/◌, Bool, true, false, List, [], ◌∷◌, ◌++◌, length, length-append, take, drop, get_or, set, refl, arith, if◌then◌else◌, sym, ◌∙◌, ap, inl, inr, lit<}
+use Rattle.std.proofs.Common.{◌≡◌, ℕ, zero, suc, ◌+◌, ◌*◌, ◌^◌, ◌<◌, ◌≤◌, ◌-◌, ◌%◌, ◌/◌, Bool, true, false, List, [], ◌∷◌, ◌++◌, length, length-append, drop, get_or, set, refl, arith, if◌then◌else◌, sym, ◌∙◌, ap, inl, inr, lit<}
 use Rattle.std.proofs.lemmas.Bool.{cases_lt}
 use Rattle.std.proofs.Math.Nat.{pow-suc, pow-le-pow_right}
-use Rattle.std.proofs.lemmas.Nat.{pow-add, pow_pos, shl_below}
+use Rattle.std.proofs.lemmas.Nat.{pow-add, shl_below}
 use Rattle.std.proofs.Common.{not, nat_cmp, nat_eq, Less, Equal, Greater}
 use Rattle.std.specs.Bool.{beq}
 use Rattle.std.specs.Ordering.{bool_cmp}

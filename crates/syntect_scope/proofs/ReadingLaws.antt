@@ -1,7 +1,7 @@
 -- Parts of a text that are read one after another into a repository.
-use Rattle.std.proofs.Common.{◌≡◌, ◌≢◌, ℕ, zero, suc, ◌+◌, ◌-◌, ◌<◌, ◌≤◌, Bool, true, false, List, [], ◌∷◌, ◌++◌, length, length-append, take, drop, get_or, map, refl, ap, sym, ◌∙◌, arith, subst, inl, inr, Option, Some, None, Bor, append_assoc, take-append-drop}
+use Rattle.std.proofs.Common.{◌≡◌, ℕ, zero, suc, ◌+◌, ◌<◌, ◌≤◌, Bool, true, false, List, [], ◌∷◌, ◌++◌, length, take, drop, get_or, map, refl, ap, sym, ◌∙◌, arith, subst, inl, inr, Option, Some, None, Bor, append_assoc, take-append-drop}
 use Rattle.std.specs.Prelude.{if◌then◌else◌, nat_lt, ◌==◌, ◌&&◌}
-use Rattle.std.specs.List.{flat_map, onto_first}
+use Rattle.std.specs.List.{flat_map}
 use Rattle.std.specs.Str.Pattern.{LacksTextAt, FindsText, SplitsAroundMatch}
 use Rattle.std.specs.Str.{IsUtf8, IsCharBoundary}
 use Rattle.std.proofs.lemmas.Bool.Decides.{eqb_tells}
@@ -13,7 +13,6 @@ use Rattle.syntect_scope.specs.Words.{words}
 use Rattle.syntect_scope.specs.SelectorText.{hyphen_parts, selector_words, stack_in, selector_of, selector_in}
 use Rattle.syntect_scope.specs.declared.repository.ParseScopeError.{ParseScopeError}
 use Rattle.syntect_scope.specs.declared.repository.ParseScopeError.TheVariants.{TooLong, TooManyAtoms, Memory}
-use Rattle.syntect_scope.specs.declared.selector.ScopeSelector.{ScopeSelector}
 use Rattle.syntect_scope.specs.declared.stack.ScopeStack.{ScopeStack}
 use Rattle.syntect_scope.proofs.RepositoryLaws.{scope_stays}
 

@@ -5,14 +5,12 @@ use Rattle.std.specs.Prelude.{Result, Ok, Err, IsErrOf}
 use Rattle.std.specs.List.{position_from, list_any, join_with_byte}
 use Rattle.std.proofs.lemmas.List.Folds.{list_any-append}
 use Rattle.std.proofs.lemmas.Slice.Eq.{bytes_eq-Decides}
-use Rattle.std.specs.Cmp.Lexicographic.{pointwise}
 use Rattle.std.proofs.lemmas.Bool.Decides.{nat_tests, same_from_decides, Decides-like}
 use Rattle.std.proofs.lemmas.List.{append-nil, length-take, take-append-le}
 use Rattle.std.specs.Str.{bytes_eq}
-use Rattle.syntect_scope.specs.declared.repository.ParseScopeError.{ParseScopeError}
-use Rattle.syntect_scope.specs.declared.repository.ParseScopeError.TheVariants.{TooLong, TooManyAtoms, Memory}
+use Rattle.syntect_scope.specs.declared.repository.ParseScopeError.TheVariants.{TooLong, TooManyAtoms}
 use Rattle.std.specs.Prelude.{nat_lt}
-use Rattle.syntect_scope.specs.Repository.{with_atom, with_atoms, number_in, place_in, scope_in, with_scopes, atom_texts, is_too_long, first_refusal, MayRefuse, atom_text, scope_text, IsDistinct, IsRepository}
+use Rattle.syntect_scope.specs.Repository.{with_atom, with_atoms, number_in, place_in, scope_in, with_scopes, atom_texts, is_too_long, first_refusal, atom_text, scope_text, IsDistinct, IsRepository}
 
 same : (n : ℕ) → (n == n) ≡ true
 same n = grind (arith, nat_tests)

@@ -1,12 +1,12 @@
 -- The text of a scope that was built of a text.
-use Rattle.std.proofs.Common.{◌≡◌, ◌==◌, ℕ, zero, suc, ◌+◌, ◌-◌, ◌<◌, ◌≤◌, Bool, true, false, List, [], ◌∷◌, ◌++◌, length, map, refl, ap, sym, ◌∙◌, arith, cond, Option, Some, None, is_some, unwrap_or, add-one, subst}
+use Rattle.std.proofs.Common.{◌≡◌, ◌==◌, ℕ, suc, ◌+◌, ◌-◌, ◌≤◌, Bool, true, false, List, [], ◌∷◌, ◌++◌, map, refl, ap, sym, ◌∙◌, arith, cond, Option, Some, None, is_some, unwrap_or, add-one}
 use Rattle.std.specs.Prelude.{slice_get, if◌then◌else◌}
 use Rattle.std.specs.Option.{option_map_or}
 use Rattle.std.specs.List.{slice_split, position_from, join_with_byte, onto_first}
 use Rattle.std.specs.Str.{bytes_eq}
 use Rattle.std.proofs.lemmas.Slice.Eq.{bytes_eq-Decides}
 use Rattle.std.proofs.lemmas.Bool.Decides.{Decides-eqb}
-use Rattle.syntect_scope.specs.Repository.{atom_in, atom_text, atom_texts, number_in, place_in, scope_in, scope_text, with_atom, with_atoms, without_dots}
+use Rattle.syntect_scope.specs.Repository.{atom_text, atom_texts, number_in, place_in, with_atom, with_atoms, without_dots}
 use Rattle.syntect_scope.specs.Laws.{BuildsBack}
 use Rattle.syntect_scope.proofs.RepositoryLaws.{grows, has_atom, place_more}
 

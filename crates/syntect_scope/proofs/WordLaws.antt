@@ -1,6 +1,6 @@
 -- The words that come off the front of a text, one after another.
-use Rattle.std.proofs.Common.{◌≡◌, ◌≢◌, ℕ, zero, suc, ◌+◌, ◌-◌, ◌<◌, ◌≤◌, Bool, true, false, not, List, [], ◌∷◌, ◌++◌, length, length-append, take, drop, get_or, map, refl, ap, sym, ◌∙◌, arith, subst, inl, inr, cond, Option, Some, None, Bor, append_assoc}
-use Rattle.std.specs.Prelude.{nat_lt, ◌==◌, ◌&&◌, encode_utf8, encode_utf8_all, filter, MatchOption}
+use Rattle.std.proofs.Common.{◌≡◌, ℕ, ◌<◌, ◌≤◌, Bool, true, false, not, List, [], ◌∷◌, ◌++◌, length, length-append, take, map, refl, ap, sym, ◌∙◌, arith, subst, inl, inr}
+use Rattle.std.specs.Prelude.{nat_lt, ◌==◌, ◌&&◌, encode_utf8, encode_utf8_all}
 use Rattle.std.specs.List.{slice_split}
 use Rattle.std.specs.Char.{is_whitespace, is_not_whitespace, IsScalar}
 use Rattle.std.specs.Str.{chars, IsUtf8, IsCharBoundary, NoCharPasses, EmptyOrStartsWithPassing, NonePass}

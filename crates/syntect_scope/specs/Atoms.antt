@@ -1,7 +1,7 @@
 -- A scope is the list of its atom numbers, kept in places of which the unused ones are 0.
-use Rattle.std.specs.Prelude.{◌≡◌, ℕ, zero, suc, ◌==◌, ◌-◌, ◌+◌, ◌≤◌, ◌<◌, Bool, List, [], ◌∷◌, ◌++◌, length, replicate, refl}
+use Rattle.std.specs.Prelude.{◌≡◌, ℕ, zero, suc, ◌==◌, ◌-◌, Bool, List, [], ◌∷◌, ◌++◌, length, replicate, refl}
 use Rattle.std.specs.List.{starts_with}
-use Rattle.std.proofs.Common.{arith, ap, sym, ◌∙◌}
+use Rattle.std.proofs.Common.{arith, ap, sym}
 
 -- the first list of atoms begins the second
 abbrev pub is_prefix : List ℕ → List ℕ → Bool

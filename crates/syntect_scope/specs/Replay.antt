@@ -1,5 +1,5 @@
 -- What operations on a text mean: the scopes of each byte.
-use Rattle.std.specs.Prelude.{◌≡◌, ℕ, zero, suc, ◌-◌, ◌≤◌, ◌<◌, Bool, true, false, IsTrue, List, [], ◌∷◌, ◌++◌, length, replicate, map}
+use Rattle.std.specs.Prelude.{◌≡◌, ℕ, zero, suc, ◌-◌, ◌≤◌, false, List, [], ◌∷◌, ◌++◌, length, replicate, map}
 use Rattle.std.specs.Str.{IsCharBoundary}
 use Rattle.syntect_scope.specs.Stack.{applied, is_refused, plain}
 use Rattle.syntect_scope.specs.declared.stack.ScopeStack.{ScopeStack}

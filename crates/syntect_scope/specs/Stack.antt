@@ -1,5 +1,5 @@
 -- What operations do to a stack of scopes. The bottom comes first.
-use Rattle.std.specs.Prelude.{◌≡◌, ℕ, Bool, true, false, ◌-◌, List, [], ◌∷◌, ◌++◌, length, take, drop, unwrap_or}
+use Rattle.std.specs.Prelude.{ℕ, Bool, true, false, ◌-◌, List, [], ◌∷◌, ◌++◌, length, take, drop, unwrap_or}
 use Rattle.std.specs.List.{slice_get}
 use Rattle.syntect_scope.specs.declared.stack.ScopeStack.{ScopeStack}
 use Rattle.syntect_scope.specs.declared.stack.ScopeStackOp.{ScopeStackOp}

@@ -104,10 +104,7 @@ fn selector_from(alloc: Global, mut stacks: Vec<ScopeStack>) -> ScopeSelector
     ensures { result ≡ selector_of stacks.items }
 {
     if stacks.is_empty() {
-        return ScopeSelector {
-            path: ScopeStack::new(alloc),
-            excludes: Seq::new(alloc),
-        };
+        return ScopeSelector::default(alloc);
     }
     let path = stacks.remove(0);
     ScopeSelector {

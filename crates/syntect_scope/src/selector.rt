@@ -1,10 +1,10 @@
 //! Selectors: which stacks of scopes a rule speaks of.
-ghost use Rattle.std.specs.Prelude.{◌≡◌, IfOk, option_copied};
-ghost use Rattle.syntect_scope.specs.SelectorText.{sole_scope};
+ghost use Rattle.std.specs.Prelude.{◌≡◌, IfOk, [], option_copied};
+ghost use Rattle.syntect_scope.specs.SelectorText.{selector_of, sole_scope};
 
 use crate::scope::Scope;
 use crate::stack::ScopeStack;
-use std::alloc::AllocError;
+use std::alloc::{AllocError, Global};
 use syntect_values::seq::Seq;
 
 /// A path of scopes that has to be found in a stack, and paths that must not be found there.
@@ -24,6 +24,16 @@ pub struct ScopeSelectors {
 }
 
 impl ScopeSelector {
+    /// The selector of an empty path, without exclusions. Takes no memory.
+    pub fn default(alloc: Global) -> ScopeSelector
+        ensures { result ≡ selector_of [] }
+    {
+        ScopeSelector {
+            path: ScopeStack::new(alloc),
+            excludes: Seq::new(alloc),
+        }
+    }
+
     /// The same selector once more.
     pub fn clone(&self) -> Result<ScopeSelector, AllocError>
         ensures { IfOk result (λ selector. selector ≡ self.now) }
@@ -66,6 +76,15 @@ impl Clone for ScopeSelector {
 }
 
 impl ScopeSelectors {
+    /// No selectors. Takes no memory.
+    pub fn default(alloc: Global) -> ScopeSelectors
+        ensures { result.selectors ≡ [] }
+    {
+        ScopeSelectors {
+            selectors: Seq::new(alloc),
+        }
+    }
+
     /// The same selectors once more.
     pub fn clone(&self) -> Result<ScopeSelectors, AllocError>
         ensures { IfOk result (λ selectors. selectors ≡ self.now) }

@@ -9,3 +9,4 @@ pub mod StackLaws
 pub mod FlagLaws
 pub mod FileLaws
 pub mod LoadLaws
+pub mod FlagText

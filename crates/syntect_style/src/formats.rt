@@ -1,6 +1,7 @@
 //! Colours and flags as texts.
-ghost use Rattle.std.specs.Prelude.{Some};
-ghost use Rattle.syntect_style.specs.Flags.{color_text};
+ghost use Rattle.std.specs.Prelude.{◌≡◌, ◌&&◌, not, true, false, Some, IfOk, OnOk};
+ghost use Rattle.std.specs.Fmt.{IsPlainFormatter, HasWritten, WritesOnOk, digits};
+ghost use Rattle.syntect_style.specs.Flags.{color_text, flags_text, part_text, rest_text};
 ghost use Rattle.syntect_style.specs.Modifying.{bits_of};
 
 use crate::style::{Color, FontStyle};
@@ -20,39 +21,55 @@ impl fmt::Debug for Color {
     }
 }
 
-/// Writes a part of a list between bars, of which the first has none before it.
-fn write_part<W: fmt::Write>(f: &mut fmt::Formatter<W>, is_first: bool, part: &str) -> fmt::Result {
+/// Writes the name of a flag if it is there, and a bar before it unless it is the first. Answers whether what comes next is
+/// the first.
+fn write_flag<W: fmt::Write>(
+    f: &mut fmt::Formatter<W>,
+    is_first: bool,
+    is_there: bool,
+    name: &str,
+) -> Result<bool, fmt::Error>
+    ensures writes { OnOk result (IsPlainFormatter f.old → HasWritten W.write_str_gives f.old (part_text is_first is_there name.now) f.new) }
+    ensures next { IfOk result (λ first. first ≡ (is_first && not is_there)) }
+{
+    if !is_there {
+        return Ok(is_first);
+    }
     if !is_first {
         f.write_str(" | ")?;
     }
-    f.write_str(part)
+    f.write_str(name)?;
+    Ok(false)
+}
+
+/// Writes bits that are no flag's, and a bar before them unless they are the first; a word where there is nothing at all.
+fn write_others<W: fmt::Write>(f: &mut fmt::Formatter<W>, is_first: bool, others: u8) -> fmt::Result
+    ensures { WritesOnOk W.write_str_gives f.old result (rest_text is_first others) f.new }
+{
+    if others != 0 {
+        f.write_str(if is_first { "0x" } else { " | 0x" })?;
+        fmt::LowerHex::fmt(&others, f)
+    } else if is_first {
+        f.write_str("(empty)")
+    } else {
+        Ok(())
+    }
 }
 
 /// The names of the flags, and the other bits as a hexadecimal number, between bars.
 impl fmt::Debug for FontStyle {
+    ghost debug_output = { λ f. Some (flags_text f) };
+
     fn fmt<W: fmt::Write>(&self, f: &mut fmt::Formatter<W>) -> fmt::Result {
-        let mut is_first = true;
-        if self.contains(FontStyle::BOLD) {
-            write_part(f, is_first, "BOLD")?;
-            is_first = false;
-        }
-        if self.contains(FontStyle::UNDERLINE) {
-            write_part(f, is_first, "UNDERLINE")?;
-            is_first = false;
-        }
-        if self.contains(FontStyle::ITALIC) {
-            write_part(f, is_first, "ITALIC")?;
-            is_first = false;
-        }
-        let others = self.difference(FontStyle::all()).bits();
-        if others != 0 {
-            write_part(f, is_first, "0x")?;
-            return fmt::LowerHex::fmt(&others, f);
-        }
-        if is_first {
-            f.write_str("(empty)")?;
-        }
-        Ok(())
+        let is_first = write_flag(f, true, self.contains(FontStyle::BOLD), "BOLD")?;
+        let is_first = write_flag(
+            f,
+            is_first,
+            self.contains(FontStyle::UNDERLINE),
+            "UNDERLINE",
+        )?;
+        let is_first = write_flag(f, is_first, self.contains(FontStyle::ITALIC), "ITALIC")?;
+        write_others(f, is_first, self.difference(FontStyle::all()).bits())
     }
 }
 
@@ -66,25 +83,33 @@ impl fmt::HasDigits for FontStyle {
 }
 
 impl fmt::Binary for FontStyle {
-    fn fmt<W: fmt::Write>(&self, f: &mut fmt::Formatter<W>) -> fmt::Result {
+    fn fmt<W: fmt::Write>(&self, f: &mut fmt::Formatter<W>) -> fmt::Result
+        ensures { WritesOnOk W.write_str_gives f.old result (digits 2 false (bits_of self.now)) f.new }
+    {
         fmt::Binary::fmt(&self.bits(), f)
     }
 }
 
 impl fmt::Octal for FontStyle {
-    fn fmt<W: fmt::Write>(&self, f: &mut fmt::Formatter<W>) -> fmt::Result {
+    fn fmt<W: fmt::Write>(&self, f: &mut fmt::Formatter<W>) -> fmt::Result
+        ensures { WritesOnOk W.write_str_gives f.old result (digits 8 false (bits_of self.now)) f.new }
+    {
         fmt::Octal::fmt(&self.bits(), f)
     }
 }
 
 impl fmt::LowerHex for FontStyle {
-    fn fmt<W: fmt::Write>(&self, f: &mut fmt::Formatter<W>) -> fmt::Result {
+    fn fmt<W: fmt::Write>(&self, f: &mut fmt::Formatter<W>) -> fmt::Result
+        ensures { WritesOnOk W.write_str_gives f.old result (digits 16 false (bits_of self.now)) f.new }
+    {
         fmt::LowerHex::fmt(&self.bits(), f)
     }
 }
 
 impl fmt::UpperHex for FontStyle {
-    fn fmt<W: fmt::Write>(&self, f: &mut fmt::Formatter<W>) -> fmt::Result {
+    fn fmt<W: fmt::Write>(&self, f: &mut fmt::Formatter<W>) -> fmt::Result
+        ensures { WritesOnOk W.write_str_gives f.old result (digits 16 true (bits_of self.now)) f.new }
+    {
         fmt::UpperHex::fmt(&self.bits(), f)
     }
 }

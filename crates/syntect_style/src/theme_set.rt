@@ -29,6 +29,7 @@ use syntect_values::text::Text;
 /// Themes by their names.
 #[derive(Debug, Drop)]
 pub struct ThemeSet {
+    /// The themes, each under its name.
     pub themes: Table<Text, Theme>,
 }
 

@@ -1,4 +1,4 @@
-use Rattle.std.proofs.Common.{◌≡◌, ◌∙◌, ℕ, length, length-drop, drop, arith}
+use Rattle.std.proofs.Common.{◌≡◌, ◌∙◌, length, length-drop, drop, arith}
 use Rattle.syntect_scope.proofs.ChoiceLaws.{path_found, path_left}
 use Rattle.syntect_scope.proofs.matching.is_found.Goals as goal
 

@@ -1,4 +1,4 @@
-use Rattle.std.proofs.Common.{◌≡◌, ◌<◌, ℕ, length, length-drop, drop, arith, nat_eq}
+use Rattle.std.proofs.Common.{◌≡◌, ◌<◌, length, length-drop, drop, arith}
 use Rattle.syntect_scope.proofs.ChoiceLaws.{power_found, power_lost}
 use Rattle.std.proofs.lemmas.Bool.Decides.{nat_tests}
 use Rattle.syntect_scope.proofs.matching.path_power.Goals as goal

@@ -1,4 +1,4 @@
-use Rattle.std.proofs.Common.{◌≡◌, ◌<◌, ◌≤◌, ◌+◌, ◌/◌, ◌%◌, ◌∙◌, ℕ, length, length-set, arith, sym, ap, get_or}
+use Rattle.std.proofs.Common.{◌≡◌, ◌<◌, ◌≤◌, ◌+◌, ◌∙◌, length, length-set, arith, sym, ap, get_or}
 use Rattle.syntect_scope.specs.Digits.{digit}
 use Rattle.syntect_scope.proofs.DigitLaws.{digit_left, add_step, digit_of, bool_digit, byte_small}
 use Rattle.syntect_scope.proofs.power.add_at.Goals as goal

@@ -1,4 +1,4 @@
-use Rattle.std.proofs.Common.{◌≡◌, ◌+◌, ◌-◌, ◌∙◌, ℕ, Bool, List, length, drop, ap, sym, arith}
+use Rattle.std.proofs.Common.{◌≡◌, ◌+◌, ◌-◌, ◌∙◌, ℕ, drop, ap, sym, arith}
 use Rattle.syntect_scope.proofs.DigitLaws.{higher_cmp}
 use Rattle.syntect_scope.proofs.power.compare.Goals as goal
 

@@ -1,7 +1,6 @@
 use Rattle.syntect_scope.specs.SelectorText.{stack_in}
 use Rattle.syntect_scope.specs.Words.{words}
 use Rattle.syntect_scope.proofs.ReadingLaws.{stack_stays, more_added, more_given, more_refused, now_refused, kept_on}
-use Rattle.std.proofs.Common.{sym, ◌∙◌}
 use Rattle.syntect_scope.proofs.reading.stacks_of.Goals as goal
 
 pub returns-in-Err-clause-refused : goal.returns-in-Err-clause-refused

@@ -1,4 +1,4 @@
-use Rattle.std.proofs.Common.{◌≡◌, ◌<◌, ◌≤◌, ◌+◌, ◌*◌, ◌-◌, ◌^◌, ◌∙◌, ℕ, length, ap, sym, arith, max}
+use Rattle.std.proofs.Common.{◌≡◌, ◌+◌, ◌*◌, ◌-◌, ◌^◌, ◌∙◌, ℕ, length, ap, sym, arith}
 use Rattle.syntect_scope.specs.Digits.{number_of}
 use Rattle.syntect_scope.proofs.DigitLaws.{sum_below, number_below, eights}
 use Rattle.syntect_scope.proofs.power.MatchPower.add.Goals as goal

@@ -1,4 +1,3 @@
-use Rattle.std.proofs.Common.{◌≡◌, ◌/◌}
 use Rattle.syntect_scope.proofs.DigitLaws.{half_push, normal_push}
 use Rattle.syntect_scope.proofs.power.MatchPower.from_u64.Goals as goal
 

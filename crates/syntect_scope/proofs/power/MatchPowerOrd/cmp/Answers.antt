@@ -1,4 +1,4 @@
-use Rattle.std.proofs.Common.{◌≡◌, ◌∙◌, ℕ, length, ap, sym, nat_cmp, Equal}
+use Rattle.std.proofs.Common.{◌≡◌, ◌∙◌, ℕ, length, ap, nat_cmp}
 use Rattle.syntect_scope.specs.Digits.{number_of}
 use Rattle.syntect_scope.proofs.DigitLaws.{length_cmp}
 use Rattle.syntect_scope.proofs.power.MatchPowerOrd.cmp.Goals as goal

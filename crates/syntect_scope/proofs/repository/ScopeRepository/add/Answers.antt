@@ -1,9 +1,9 @@
-use Rattle.std.proofs.Common.{◌≡◌, ◌+◌, ◌≤◌, List, ℕ, [], ◌∷◌, ◌++◌, length, length-append, ap, sym, ◌∙◌, arith, subst, Some, None, Option, if◌then◌else◌}
+use Rattle.std.proofs.Common.{◌≡◌, ◌+◌, ◌≤◌, List, ℕ, [], ◌∷◌, ◌++◌, length, length-append, ap, sym, ◌∙◌, arith, Some, None, Option, if◌then◌else◌}
 use Rattle.std.specs.Option.{option_map}
 use Rattle.std.specs.Prelude.{string_bytes}
 use Rattle.std.specs.Str.{bytes_eq}
 use Rattle.std.proofs.lemmas.Map.Text.{hash_map_updates_text}
-use Rattle.syntect_scope.specs.Repository.{IsDistinct, place_in}
+use Rattle.syntect_scope.specs.Repository.{place_in}
 use Rattle.syntect_scope.proofs.RepositoryLaws.{distinct_more, place_absent, numbers_more}
 use Rattle.syntect_scope.proofs.repository.ScopeRepository.add.Goals as goal
 

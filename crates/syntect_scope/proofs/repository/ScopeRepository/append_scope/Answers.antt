@@ -1,5 +1,5 @@
-use Rattle.std.proofs.Common.{◌≡◌, ℕ, ◌<◌, List, [], ◌∷◌, ◌++◌, length, ap, sym, ◌∙◌, append_assoc, arith, get_or, lit<, take}
-use Rattle.std.specs.Prelude.{string_bytes, encode_utf8}
+use Rattle.std.proofs.Common.{◌≡◌, ℕ, ◌<◌, List, [], ◌∷◌, ◌++◌, length, ap, sym, ◌∙◌, append_assoc, get_or, lit<, take}
+use Rattle.std.specs.Prelude.{string_bytes}
 use Rattle.std.proofs.lemmas.Str.Ascii.{encode_ascii}
 use Rattle.syntect_scope.specs.Repository.{atom_text, scope_text}
 use Rattle.syntect_scope.proofs.RepositoryLaws.{text_last, text_first}

@@ -1,4 +1,4 @@
-use Rattle.std.proofs.Common.{◌+◌, ◌∷◌, [], length, sym, ◌∙◌, arith, length-append}
+use Rattle.std.proofs.Common.{◌∷◌, [], sym, ◌∙◌, arith, length-append}
 use Rattle.syntect_scope.proofs.RepositoryLaws.{texts_step, front_stays, given_more, too_many_grows}
 use Rattle.syntect_scope.proofs.repository.ScopeRepository.numbers.Goals as goal
 

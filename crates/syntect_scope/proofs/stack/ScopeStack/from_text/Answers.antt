@@ -1,5 +1,5 @@
-use Rattle.std.proofs.Common.{◌≡◌, ◌<◌, ℕ, List, length, ap, sym, ◌∙◌, map, subst}
-use Rattle.syntect_scope.proofs.RepositoryLaws.{kept_more, scope_more, scopes_step, refusal_more, carried, no_error}
+use Rattle.std.proofs.Common.{sym, ◌∙◌}
+use Rattle.syntect_scope.proofs.RepositoryLaws.{kept_more, scope_more, scopes_step, refusal_more, no_error}
 use Rattle.syntect_scope.proofs.stack.ScopeStack.from_text.Goals as goal
 
 pub returns-in_err-push-in-Ok-clause-kept : goal.returns-in_err-push-in-Ok-clause-kept
