@@ -5,7 +5,7 @@ use Rattle.syntect_parsing.specs.Engine.{dialect}
 use Rattle.syntect_parsing.specs.Chain.{Member}
 use Rattle.syntect_parsing.specs.Turn.{live, winner}
 use Rattle.syntect_parsing.specs.Line.{Step, step}
-use Rattle.syntect_parsing.specs.declared.syntax_set.SyntaxSet.{SyntaxSet}
+use Rattle.syntect_grammar.specs.declared.syntax_set.SyntaxSet.{SyntaxSet}
 use Rattle.syntect_parsing.specs.Laws.{FindsInText}
 use Rattle.syntect_parsing.specs.Candidates.{seen, chosen, StandsChosen}
 use Rattle.syntect_parsing.proofs.Places.{winner_ends, IsChoiceOnBoundary}

@@ -18,8 +18,8 @@ use Rattle.syntect_parsing.specs.Line.{turn, Reads, at_start}
 use Rattle.syntect_parsing.proofs.Run.{sound}
 use Rattle.syntect_parsing.specs.Engine.{dialect}
 use Rattle.syntect_parsing.proofs.Rows.{grammar, context, pattern, to, t, tops, level, on, at_first}
-use Rattle.syntect_parsing.specs.declared.syntax_definition.MatchOperation.TheVariants as op
-use Rattle.syntect_parsing.specs.declared.syntax_set.SyntaxSet.{SyntaxSet}
+use Rattle.syntect_grammar.specs.declared.syntax_definition.MatchOperation.TheVariants as op
+use Rattle.syntect_grammar.specs.declared.syntax_set.SyntaxSet.{SyntaxSet}
 
 -- ---- idle sets: a thousand idle turns, then a character is passed over ----
 

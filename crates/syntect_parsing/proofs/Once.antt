@@ -4,10 +4,10 @@ use Rattle.syntect_parsing.specs.Engine.{Engine}
 use Rattle.syntect_parsing.specs.Scopes.{Scopes}
 use Rattle.syntect_parsing.specs.Line.{Goes, Ends, Refused, turn, Reads, ends, goes, Refuses, now, later, ReadsLine, RefusesLine, no_level, in_turn, Answer, Accepted, RefusedBy, Answers, accepts, refuses, AnswersAll, none, one_more, at_start}
 use Rattle.syntect_parsing.specs.Laws.{ReadsOnce, RefusesOnce, NeverBoth, AnswersOnce, AnswersMore}
-use Rattle.syntect_parsing.specs.declared.syntax_set.SyntaxSet.{SyntaxSet}
+use Rattle.syntect_grammar.specs.declared.syntax_set.SyntaxSet.{SyntaxSet}
 use Rattle.syntect_parsing.specs.declared.position.Position.{Position}
 use Rattle.syntect_parsing.specs.declared.parser.ParseState.{ParseState}
-use Rattle.syntect_parsing.specs.declared.parser.ParsingError.{ParsingError}
+use Rattle.syntect_grammar.specs.declared.error.ParsingError.{ParsingError}
 
 module _ (engine : Engine) (set : SyntaxSet) (line : List ℕ) where
   -- what reads from a step on

@@ -8,19 +8,19 @@ use Rattle.std.proofs.Math.Utf8.{encodes}
 use Rattle.std.proofs.lemmas.Bool.Decides.{nat_tests}
 use Rattle.std.proofs.lemmas.Str.{IsUtf8-drop, encodes-chars, IsCharBoundary-past_char, IsCharBoundary-start}
 use Rattle.syntect_pattern.specs.Text.{char_at}
-use Rattle.syntect_parsing.specs.Contexts.{context_at}
+use Rattle.syntect_grammar.specs.Contexts.{context_at}
 use Rattle.syntect_parsing.specs.Chain.{Member, last, chain, prototypes_in}
 use Rattle.syntect_parsing.specs.Engine.{Engine}
-use Rattle.syntect_parsing.specs.Substitution.{Groups}
+use Rattle.syntect_grammar.specs.Substitution.{Groups}
 use Rattle.syntect_parsing.specs.declared.position.Position.{Position}
 use Rattle.syntect_parsing.specs.Turn.{Live, Choice, Take, Skip, End, counts, counted, matched, live, live_match, searched_text, group_at, choice_of, winner, is_least, loops, char_len, missing, refusal, position_after, trimmed}
 use Rattle.syntect_parsing.specs.Scopes.{scopes_passed}
 use Rattle.syntect_parsing.specs.Line.{Step, Goes, Ends, Refused, turn, turn_on, turn_in, step, unless_refused, at_start, Reaches, here, further}
 use Rattle.syntect_parsing.specs.Laws.{FindsInText, StandsIn, PlacesAreBoundaries}
-use Rattle.syntect_parsing.specs.declared.syntax_definition.Context.{Context}
-use Rattle.syntect_parsing.specs.declared.syntax_set.SyntaxSet.{SyntaxSet}
+use Rattle.syntect_grammar.specs.declared.syntax_definition.Context.{Context}
+use Rattle.syntect_grammar.specs.declared.syntax_set.SyntaxSet.{SyntaxSet}
 use Rattle.syntect_parsing.specs.declared.parser.Level.{Level}
-use Rattle.syntect_parsing.specs.declared.parser.ParsingError.{ParsingError}
+use Rattle.syntect_grammar.specs.declared.error.ParsingError.{ParsingError}
 
 -- ---- the place behind a character ----
 

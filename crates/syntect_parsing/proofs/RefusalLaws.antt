@@ -2,9 +2,9 @@
 use Rattle.std.proofs.Common.{◌≡◌, ◌≢◌, ℕ, zero, suc, ◌+◌, ◌-◌, Bool, true, false, List, [], ◌∷◌, ◌++◌, length, take, Option, Some, None, is_none, slice_get, unwrap_or, refl, ap, sym, ◌∙◌, subst, arith}
 use Rattle.std.specs.List.{filter_map, flat_map, cons_option}
 use Rattle.std.specs.Option.{option_map, option_map_or, option_to_list, option_and_then, option_or}
-use Rattle.syntect_parsing.specs.Substitution.{Opening}
+use Rattle.syntect_grammar.specs.Substitution.{Opening}
 use Rattle.syntect_parsing.specs.Engine.{Engine}
-use Rattle.syntect_parsing.specs.Contexts.{context_at, part_of, target}
+use Rattle.syntect_grammar.specs.Contexts.{context_at, part_of, target}
 use Rattle.syntect_parsing.specs.Chain.{Member, chain, entries, last, patterns_in, members, in_sight, prototypes_in}
 use Rattle.syntect_parsing.specs.Turn.{Live, Choice, Take, Skip, End, live, missing, named, refusal, list_of, winner, trimmed, levels_after, levels_by, opened, new_levels, without_last, position_after}
 use Rattle.syntect_parsing.specs.Scopes.{Scopes, scopes_passed}
@@ -12,27 +12,27 @@ use Rattle.syntect_parsing.specs.Line.{Step, Goes, Ends, Refused, turn, turn_on,
 use Rattle.syntect_parsing.specs.Refusals.{Picks, NamesUnresolved, unresolved_of, IsClosed, IsNeverLeft, stays, lone_patterns, RefusesUnresolved}
 use Rattle.syntect_parsing.proofs.EachLaws.{Each, each-append, each-flat_map, each_of, each-drop, each-take, each-all}
 use Rattle.syntect_parsing.proofs.ClosedLaws.{Has, Knows, has_all, misses_none, chain-each, wins-each, members-each, closed_patterns}
-use Rattle.syntect_parsing.specs.declared.syntax_definition.ContextId.{ContextId}
-use Rattle.syntect_parsing.specs.declared.syntax_definition.ContextReference.{ContextReference}
-use Rattle.syntect_parsing.specs.declared.syntax_definition.MatchOperation.{MatchOperation}
-use Rattle.syntect_parsing.specs.declared.syntax_definition.MatchOperation.TheVariants as op
-use Rattle.syntect_parsing.specs.declared.syntax_definition.MatchPattern.{MatchPattern}
-use Rattle.syntect_parsing.specs.declared.syntax_definition.Context.{Context}
-use Rattle.syntect_parsing.specs.declared.syntax_set.SyntaxSet.{SyntaxSet}
+use Rattle.syntect_grammar.specs.declared.syntax_definition.ContextId.{ContextId}
+use Rattle.syntect_grammar.specs.declared.syntax_definition.ContextReference.{ContextReference}
+use Rattle.syntect_grammar.specs.declared.syntax_definition.MatchOperation.{MatchOperation}
+use Rattle.syntect_grammar.specs.declared.syntax_definition.MatchOperation.TheVariants as op
+use Rattle.syntect_grammar.specs.declared.syntax_definition.MatchPattern.{MatchPattern}
+use Rattle.syntect_grammar.specs.declared.syntax_definition.Context.{Context}
+use Rattle.syntect_grammar.specs.declared.syntax_set.SyntaxSet.{SyntaxSet}
 use Rattle.syntect_parsing.specs.declared.parser.Level.{Level}
 use Rattle.syntect_parsing.specs.declared.position.Position.{Position}
 use Rattle.syntect_parsing.specs.declared.parser.ParseState.{ParseState}
-use Rattle.syntect_parsing.specs.declared.parser.ParsingError.{ParsingError}
-use Rattle.syntect_parsing.specs.declared.parser.ParsingError.TheVariants as error
+use Rattle.syntect_grammar.specs.declared.error.ParsingError.{ParsingError}
+use Rattle.syntect_grammar.specs.declared.error.ParsingError.TheVariants as error
 
 -- ---- the levels that such a text has ----
 
 -- the set has a level's context and prototypes
-abbrev Known : SyntaxSet → Level → Type 0
+abbrev pub Known : SyntaxSet → Level → Type 0
 Known set l = Each (Has set) (l.context ∷ l.prototypes)
 
 -- the lowest level is that of the context and has no prototypes, and the set has all that the levels name
-record Stands (set : SyntaxSet) (id : ContextId) (levels : List Level) : Type 0 where
+pub record Stands (set : SyntaxSet) (id : ContextId) (levels : List Level) : Type 0 where
   pub first : Level
   pub rest : List Level
   pub are : levels ≡ first ∷ rest
@@ -101,7 +101,7 @@ module _ (set : SyntaxSet) (id : ContextId) where
   targets_known (r ∷ refs) w h =
       target_known (target r) (filter_map target (refs ++ option_to_list w)) (filter_map target refs) (option_to_list (option_and_then target w)) (targets_known refs w) h
 
-  less : (levels : List Level) → Stands set id levels → ((x : Level) → levels ≡ x ∷ [] → ⊥) → Stands set id (without_last levels)
+  pub less : (levels : List Level) → Stands set id levels → ((x : Level) → levels ≡ x ∷ [] → ⊥) → Stands set id (without_last levels)
   less [] s h = absurd (no_list s.are)
     where
       no_list : {x : Level} {xs : List Level} → [] ≡ x ∷ xs → ⊥
@@ -113,7 +113,7 @@ module _ (set : SyntaxSet) (id : ContextId) where
   kept_known levels None e k = tt
   kept_known levels (Some l) e k = let h : Known set l = last_of (Known set) levels l k e in h.1
 
-  not_so : (b : Bool) → b ≡ false → b ≡ true → ⊥
+  pub not_so : (b : Bool) → b ≡ false → b ≡ true → ⊥
   not_so b e f = cc
 
   levels-kept : (line : List ℕ) (levels : List Level) (m : Live) (o : MatchOperation) → Stands set id levels
@@ -166,10 +166,10 @@ lone-chain set p top c n e b =
 -- ---- a turn ----
 
 module _ (engine : Engine) (set : SyntaxSet) (id : ContextId) (closed : IsClosed set) (left : IsNeverLeft set id) (line : List ℕ) where
-  abbrev Unresolves : Position → ParsingError → Type 0
+  abbrev pub Unresolves : Position → ParsingError → Type 0
   Unresolves p e = (r : ContextReference) × (e ≡ error.UnresolvedContextReference r) × (m : Live) × Picks engine set line p m × (unresolved_of m.pattern ≡ Some r)
 
-  abbrev Stepped : Position → Step → Type 0
+  abbrev pub Stepped : Position → Step → Type 0
   Stepped p (Goes bytes q) = Stands set id q.levels
   Stepped p (Ends bytes after) = Stands set id after.levels
   Stepped p (Refused e) = Unresolves p e
@@ -182,7 +182,7 @@ module _ (engine : Engine) (set : SyntaxSet) (id : ContextId) (closed : IsClosed
       let j : x ≡ top = cc in
       (i ∙ j, j)
 
-  stay_there : (p : Position) (top : Level) (c : Context) (m : Live) → Stands set id p.levels → last p.levels ≡ Some top → context_at set top.context ≡ Some c
+  pub stay_there : (p : Position) (top : Level) (c : Context) (m : Live) → Stands set id p.levels → last p.levels ≡ Some top → context_at set top.context ≡ Some c
       → winner line (trimmed p) (live engine line (trimmed p) (chain set (trimmed p) top c)) ≡ Take m → (x : Level) → p.levels ≡ x ∷ [] → stays m.pattern.operation ≡ true
   stay_there p top c m s e f w = λ x g.
       let o : (s.first ≡ top) × (x ≡ top) = only_one s.first top x p.levels s.rest s.are g e in
@@ -232,7 +232,7 @@ module _ (engine : Engine) (set : SyntaxSet) (id : ContextId) (closed : IsClosed
   turned_on p None s e = s
   turned_on p (Some top) s e = turned_in p top (context_at set top.context) s e refl
 
-  turned : (p : Position) → Stands set id p.levels → Stepped p (turn engine set line p)
+  pub turned : (p : Position) → Stands set id p.levels → Stepped p (turn engine set line p)
   unfolding turn
   turned p s = turned_on p (last p.levels) s refl
 
@@ -248,7 +248,7 @@ module _ (engine : Engine) (set : SyntaxSet) (id : ContextId) (closed : IsClosed
       let k : Came q e = came q e i t h in
       (k.0, k.1, k.2, further f k.3, k.4, k.5, k.6)
 
-  read_so : (p : Position) (bytes : List Scopes) (after : ParseState) (n : ℕ) → Stands set id p.levels → Reads engine set line p bytes after n → Stands set id after.levels
+  pub read_so : (p : Position) (bytes : List Scopes) (after : ParseState) (n : ℕ) → Stands set id p.levels → Reads engine set line p bytes after n → Stands set id after.levels
   read_so p bytes after n s (ends f) = rw f at (turned p s)
   read_so p bytes after n s (goes {q = q} {rest = rest} {n = i} f h) = let t : Stands set id q.levels = rw f at (turned p s) in read_so q rest after i t h
 
@@ -281,7 +281,7 @@ answered_so engine set id c l lines state after answers s (one_more {line = line
     one state next answer line s (accepts {bytes = bytes} {turns = n} h) = read_so engine set id c l line (at_start state) bytes next n s h.reads
     one state next answer line s (refuses h) = s
 
-starts_so : (set : SyntaxSet) (id : ContextId) → IsNeverLeft set id → Stands set id (start id).levels
+pub starts_so : (set : SyntaxSet) (id : ContextId) → IsNeverLeft set id → Stands set id (start id).levels
 starts_so set id n = record {
   first = record { context = id; prototypes = []; opening = None };
   rest = [];

@@ -15,7 +15,7 @@ use Rattle.syntect_pattern.specs.Classes.{class, class_rest, next_in, posix_form
 use Rattle.syntect_pattern.specs.Grammar.{tree_of, whole, body, passed, quantified, quantifier, count, loop, off_letters, flags_at, named_group, flag_group, opening, next_char}
 use Rattle.std.specs.Str.{chars}
 use Rattle.syntect_regex.specs.Escape.{is_special}
-use Rattle.syntect_parsing.specs.Contexts.{context_at}
+use Rattle.syntect_grammar.specs.Contexts.{context_at}
 use Rattle.syntect_parsing.specs.Chain.{patterns_in}
 use Rattle.syntect_parsing.specs.Scopes.{Scopes, open_scopes}
 use Rattle.syntect_parsing.specs.Line.{turn, Reads, Refuses, at_start, start, Accepted, RefusedBy, accepts, refuses, no_level, in_turn, AnswersAll, none, one_more, stack_before, first_push, HasPlainStart}
@@ -26,19 +26,19 @@ use Rattle.syntect_scope.specs.Stack.{plain as plain_stack}
 use Rattle.syntect_scope.specs.Replay.{replay, before_text, bytes_to}
 use Rattle.syntect_parsing.proofs.Run.{sound}
 use Rattle.syntect_parsing.specs.Engine.{dialect}
-use Rattle.syntect_parsing.specs.declared.syntax_definition.ContextId.{ContextId}
-use Rattle.syntect_parsing.specs.declared.syntax_definition.ContextReference.{ContextReference}
-use Rattle.syntect_parsing.specs.declared.syntax_definition.ContextReference.TheVariants.{Direct, ByScope}
-use Rattle.syntect_parsing.specs.declared.syntax_definition.MatchOperation.{MatchOperation}
-use Rattle.syntect_parsing.specs.declared.syntax_definition.MatchOperation.TheVariants as op
-use Rattle.syntect_parsing.specs.declared.syntax_definition.MatchPattern.{MatchPattern}
-use Rattle.syntect_parsing.specs.declared.syntax_definition.Pattern.{Pattern}
-use Rattle.syntect_parsing.specs.declared.syntax_definition.Pattern.TheVariants.{Match, Include}
-use Rattle.syntect_parsing.specs.declared.syntax_definition.Context.{Context}
-use Rattle.syntect_parsing.specs.declared.syntax_set.SyntaxSet.{SyntaxSet}
+use Rattle.syntect_grammar.specs.declared.syntax_definition.ContextId.{ContextId}
+use Rattle.syntect_grammar.specs.declared.syntax_definition.ContextReference.{ContextReference}
+use Rattle.syntect_grammar.specs.declared.syntax_definition.ContextReference.TheVariants.{Direct, ByScope}
+use Rattle.syntect_grammar.specs.declared.syntax_definition.MatchOperation.{MatchOperation}
+use Rattle.syntect_grammar.specs.declared.syntax_definition.MatchOperation.TheVariants as op
+use Rattle.syntect_grammar.specs.declared.syntax_definition.MatchPattern.{MatchPattern}
+use Rattle.syntect_grammar.specs.declared.syntax_definition.Pattern.{Pattern}
+use Rattle.syntect_grammar.specs.declared.syntax_definition.Pattern.TheVariants.{Match, Include}
+use Rattle.syntect_grammar.specs.declared.syntax_definition.Context.{Context}
+use Rattle.syntect_grammar.specs.declared.syntax_set.SyntaxSet.{SyntaxSet}
 use Rattle.syntect_parsing.specs.declared.parser.Level.{Level}
 use Rattle.syntect_parsing.specs.declared.parser.ParseState.{ParseState}
-use Rattle.syntect_parsing.specs.declared.parser.ParsingError.TheVariants as error
+use Rattle.syntect_grammar.specs.declared.error.ParsingError.TheVariants as error
 
 -- patterns by their texts
 abbrev pub word : List ℕ

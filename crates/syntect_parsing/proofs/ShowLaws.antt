@@ -7,8 +7,8 @@ use Rattle.std.proofs.lemmas.List.{append-nil}
 use Rattle.std.proofs.lemmas.List.Concat.{flat_map-append}
 use Rattle.syntect_scope.specs.declared.stack.ScopeStack.{ScopeStack}
 use Rattle.syntect_scope.specs.Replay.{Replay, IsAt, InOrder, AllApply, replay, pushes, pops}
-use Rattle.syntect_parsing.specs.Substitution.{Opening}
-use Rattle.syntect_parsing.specs.Contexts.{context_at, part_of, target}
+use Rattle.syntect_grammar.specs.Substitution.{Opening}
+use Rattle.syntect_grammar.specs.Contexts.{context_at, part_of, target}
 use Rattle.syntect_parsing.specs.Chain.{last}
 use Rattle.syntect_parsing.specs.Engine.{dialect}
 use Rattle.syntect_parsing.specs.Turn.{Live, without_last, new_levels, opened, levels_by}
@@ -18,12 +18,12 @@ use Rattle.syntect_parsing.proofs.ListLaws.{tested_true}
 use Rattle.syntect_parsing.proofs.ReplayLaws.{replay-append, at_pushes, at_pops, at_move}
 use Rattle.syntect_parsing.proofs.OrderLaws.{order-append, order-pushes, order-pops, apply-onto, apply-pushes, apply-pops}
 use Rattle.syntect_parsing.proofs.CaptureLaws.{AreLaidOut, EndOnBoundaries, over, captures_shown, captures_in_order, captures_apply}
-use Rattle.syntect_parsing.specs.declared.syntax_definition.ContextId.{ContextId}
-use Rattle.syntect_parsing.specs.declared.syntax_definition.ContextReference.{ContextReference}
-use Rattle.syntect_parsing.specs.declared.syntax_definition.Context.{Context}
-use Rattle.syntect_parsing.specs.declared.syntax_definition.MatchOperation.{MatchOperation}
-use Rattle.syntect_parsing.specs.declared.syntax_definition.MatchOperation.TheVariants as op
-use Rattle.syntect_parsing.specs.declared.syntax_set.SyntaxSet.{SyntaxSet}
+use Rattle.syntect_grammar.specs.declared.syntax_definition.ContextId.{ContextId}
+use Rattle.syntect_grammar.specs.declared.syntax_definition.ContextReference.{ContextReference}
+use Rattle.syntect_grammar.specs.declared.syntax_definition.Context.{Context}
+use Rattle.syntect_grammar.specs.declared.syntax_definition.MatchOperation.{MatchOperation}
+use Rattle.syntect_grammar.specs.declared.syntax_definition.MatchOperation.TheVariants as op
+use Rattle.syntect_grammar.specs.declared.syntax_set.SyntaxSet.{SyntaxSet}
 use Rattle.syntect_parsing.specs.declared.parser.Level.{Level}
 
 pub at_same : (r : Replay) (i : ℕ) (b : List Scopes) (st st' : Scopes) → st ≡ st' → IsAt r i b st → IsAt r i b st'

@@ -1,70 +1,19 @@
 -- Which patterns a turn looks at, in which order.
+pub use Rattle.syntect_grammar.specs.Patterns.{entries, included, walk_patterns, walk, count_contexts, room_in, patterns_in, GivesNothing, unresolved, lacking, around, Walks, ended, own, passed_over, followed}
 use Rattle.std.specs.Prelude.{◌≡◌, ℕ, zero, suc, ◌+◌, ◌-◌, Bool, true, false, List, [], ◌∷◌, ◌++◌, length, drop, map, Option, Some, None, slice_get, unwrap_or, if◌then◌else◌}
 use Rattle.std.specs.Option.{option_to_list}
 use Rattle.std.specs.List.{flat_map, list_any}
-use Rattle.syntect_parsing.specs.Substitution.{Opening}
-use Rattle.syntect_parsing.specs.Contexts.{is_same, contexts_of, context_at, part_of, target}
+use Rattle.syntect_grammar.specs.Substitution.{Opening}
+use Rattle.syntect_grammar.specs.Contexts.{is_same, contexts_of, context_at, part_of, target}
 use Rattle.syntect_parsing.specs.declared.position.Position.{Position}
-use Rattle.syntect_parsing.specs.declared.syntax_definition.ContextId.{ContextId}
-use Rattle.syntect_parsing.specs.declared.syntax_definition.ContextReference.{ContextReference}
-use Rattle.syntect_parsing.specs.declared.syntax_definition.MatchPattern.{MatchPattern}
-use Rattle.syntect_parsing.specs.declared.syntax_definition.Pattern.{Pattern}
-use Rattle.syntect_parsing.specs.declared.syntax_definition.Pattern.TheVariants.{Match, Include}
-use Rattle.syntect_parsing.specs.declared.syntax_definition.Context.{Context}
-use Rattle.syntect_parsing.specs.declared.syntax_set.SyntaxSet.{SyntaxSet}
+use Rattle.syntect_grammar.specs.declared.syntax_definition.ContextId.{ContextId}
+use Rattle.syntect_grammar.specs.declared.syntax_definition.ContextReference.{ContextReference}
+use Rattle.syntect_grammar.specs.declared.syntax_definition.MatchPattern.{MatchPattern}
+use Rattle.syntect_grammar.specs.declared.syntax_definition.Pattern.{Pattern}
+use Rattle.syntect_grammar.specs.declared.syntax_definition.Pattern.TheVariants.{Match, Include}
+use Rattle.syntect_grammar.specs.declared.syntax_definition.Context.{Context}
+use Rattle.syntect_grammar.specs.declared.syntax_set.SyntaxSet.{SyntaxSet}
 use Rattle.syntect_parsing.specs.declared.parser.Level.{Level}
-
--- ---- the patterns of a context ----
-
--- a context's own entries, nothing where the set lacks it
-abbrev pub entries : SyntaxSet → ContextId → List Pattern
-entries = part_of (λ c. c.patterns)
-
--- an include gives its target's patterns, and nothing where it is unresolved or its target is on the include path
-abbrev pub included : (ContextId → List MatchPattern) → List ContextId → Option ContextId → List MatchPattern
-included inner path None = []
-included inner path (Some id) = if list_any (is_same id) path then [] else inner id
-
--- entries in order, includes walked in place
-abbrev pub walk_patterns : (ContextId → List MatchPattern) → List ContextId → List Pattern → List MatchPattern
-walk_patterns inner path [] = []
-walk_patterns inner path (Match m ∷ ps) = m ∷ walk_patterns inner path ps
-walk_patterns inner path (Include r ∷ ps) = included inner path (target r) ++ walk_patterns inner path ps
-
--- entries that were reached by this include path, which holds the targets of the includes that were followed
-abbrev pub walk : ℕ → SyntaxSet → List ContextId → List Pattern → List MatchPattern
-walk zero set path ps = []
-walk (suc room) set path ps = walk_patterns (λ id. walk room set (path ++ id ∷ []) (entries set id)) path ps
-
-abbrev pub count_contexts : List (List Context) → ℕ
-count_contexts [] = 0
-count_contexts (cs ∷ css) = length cs + count_contexts css
-
--- An include path has no context twice, and only its last may be one that the set lacks: the room is never felt.
-abbrev pub room_in : SyntaxSet → ℕ
-room_in set = count_contexts (contexts_of set) + 1
-
--- the patterns of a context with these entries
-abbrev pub patterns_in : SyntaxSet → List Pattern → List MatchPattern
-patterns_in set ps = walk (room_in set) set [] ps
-
--- ---- the same walk as a relation ----
-
--- an include that gives nothing: it is unresolved, the set lacks its target, or that is on the include path
-pub data GivesNothing (set : SyntaxSet) (path : List ContextId) (r : ContextReference) : Type 0 where
-  unresolved : target r ≡ None → GivesNothing set path r
-  lacking : {id : ContextId} → target r ≡ Some id → context_at set id ≡ None → GivesNothing set path r
-  around : {id : ContextId} → target r ≡ Some id → list_any (is_same id) path ≡ true → GivesNothing set path r
-
--- the walk of these entries, reached by this include path, gives these patterns
-pub data Walks (set : SyntaxSet) : List ContextId → List Pattern → List MatchPattern → Type 0 where
-  ended : {path : List ContextId} → Walks set path [] []
-  own : {path : List ContextId} {m : MatchPattern} {ps : List Pattern} {ms : List MatchPattern} → Walks set path ps ms → Walks set path (Match m ∷ ps) (m ∷ ms)
-  passed_over : {path : List ContextId} {r : ContextReference} {ps : List Pattern} {ms : List MatchPattern}
-      → GivesNothing set path r → Walks set path ps ms → Walks set path (Include r ∷ ps) ms
-  followed : {path : List ContextId} {r : ContextReference} {id : ContextId} {c : Context} {ps : List Pattern} {inner ms : List MatchPattern}
-      → target r ≡ Some id → list_any (is_same id) path ≡ false → context_at set id ≡ Some c
-      → Walks set (path ++ id ∷ []) c.patterns inner → Walks set path ps ms → Walks set path (Include r ∷ ps) (inner ++ ms)
 
 -- ---- the chain of a turn ----
 

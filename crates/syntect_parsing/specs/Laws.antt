@@ -4,20 +4,19 @@ use Rattle.std.specs.Option.{option_map_or}
 use Rattle.std.specs.Str.{IsUtf8, IsCharBoundary}
 use Rattle.syntect_pattern.specs.Nesting.{Span, AreNested, LiesIn}
 use Rattle.syntect_parsing.specs.Engine.{Engine}
-use Rattle.syntect_parsing.specs.Substitution.{Groups}
-use Rattle.syntect_parsing.specs.Contexts.{contexts_of}
-use Rattle.syntect_parsing.specs.Chain.{Walks, patterns_in}
+use Rattle.syntect_grammar.specs.Substitution.{Groups}
+use Rattle.syntect_grammar.specs.Contexts.{contexts_of}
 use Rattle.syntect_parsing.specs.declared.position.Position.{Position}
 use Rattle.syntect_parsing.specs.Turn.{group_at, list_of}
 use Rattle.syntect_parsing.specs.Scopes.{Scopes}
 use Rattle.syntect_parsing.specs.Line.{Answer, Answers, AnswersAll, ReadsLine, RefusesLine, Reaches, at_start, HasPlainStart}
-use Rattle.syntect_parsing.specs.declared.syntax_definition.MatchPattern.{MatchPattern}
-use Rattle.syntect_parsing.specs.declared.syntax_definition.Pattern.{Pattern}
-use Rattle.syntect_parsing.specs.declared.syntax_definition.Pattern.TheVariants.{Match, Include}
-use Rattle.syntect_parsing.specs.declared.syntax_definition.Context.{Context}
-use Rattle.syntect_parsing.specs.declared.syntax_set.SyntaxSet.{SyntaxSet}
+use Rattle.syntect_grammar.specs.declared.syntax_definition.MatchPattern.{MatchPattern}
+use Rattle.syntect_grammar.specs.declared.syntax_definition.Pattern.{Pattern}
+use Rattle.syntect_grammar.specs.declared.syntax_definition.Pattern.TheVariants.{Match, Include}
+use Rattle.syntect_grammar.specs.declared.syntax_definition.Context.{Context}
+use Rattle.syntect_grammar.specs.declared.syntax_set.SyntaxSet.{SyntaxSet}
 use Rattle.syntect_parsing.specs.declared.parser.ParseState.{ParseState}
-use Rattle.syntect_parsing.specs.declared.parser.ParsingError.{ParsingError}
+use Rattle.syntect_grammar.specs.declared.error.ParsingError.{ParsingError}
 
 -- A line that is accepted has one reading.
 abbrev pub ReadsOnce : Type 0
@@ -86,11 +85,6 @@ PlacesAreBoundaries = (engine : Engine) → FindsInText engine → (set : Syntax
 abbrev pub StackIsOpen : Type 0
 StackIsOpen = (engine : Engine) (set : SyntaxSet) (lines : List (List ℕ)) (state after : ParseState) (answers : List Answer)
     → HasPlainStart set state → AnswersAll engine set lines state answers after → HasPlainStart set after
-
--- The walk with its room gives what the rule gives, and nothing else does.
-abbrev pub RoomIsNotFelt : Type 0
-RoomIsNotFelt = (set : SyntaxSet) (entries : List Pattern)
-    → Walks set [] entries (patterns_in set entries) × ((patterns : List MatchPattern) → Walks set [] entries patterns → patterns ≡ patterns_in set entries)
 
 -- ---- how many turns a line takes ----
 

@@ -1,29 +1,30 @@
 -- Where lines are refused: at a picked match that names a reference without target, and nowhere else.
+pub use Rattle.syntect_grammar.specs.Named.{is_direct, NamesNoNumber, KnowNoNumber, AreByName}
 use Rattle.std.specs.Prelude.{◌≡◌, ℕ, Bool, true, false, List, [], ◌∷◌, ◌++◌, find, Option, Some, None, is_none}
 use Rattle.std.specs.List.{filter_map, flat_map, list_all, list_any}
 use Rattle.std.specs.Option.{option_to_list}
 use Rattle.syntect_parsing.specs.Engine.{Engine}
-use Rattle.syntect_parsing.specs.Contexts.{context_at, part_of, target}
+use Rattle.syntect_grammar.specs.Contexts.{context_at, part_of, target}
 use Rattle.syntect_parsing.specs.Chain.{chain, entries, last, patterns_in}
 use Rattle.syntect_parsing.specs.Turn.{Live, Take, live, missing, named, trimmed, winner}
 use Rattle.syntect_parsing.specs.Line.{AnswersAll, Answer, Reaches, RefusesLine, at_start, start}
-use Rattle.syntect_parsing.specs.Link.{with_paths, linked}
-use Rattle.syntect_parsing.specs.declared.syntax_definition.ContextId.{ContextId}
-use Rattle.syntect_parsing.specs.declared.syntax_definition.ContextReference.{ContextReference}
-use Rattle.syntect_parsing.specs.declared.syntax_definition.ContextReference.TheVariants.{Direct}
-use Rattle.syntect_parsing.specs.declared.syntax_definition.MatchOperation.{MatchOperation}
-use Rattle.syntect_parsing.specs.declared.syntax_definition.MatchOperation.TheVariants as op
-use Rattle.syntect_parsing.specs.declared.syntax_definition.MatchPattern.{MatchPattern}
-use Rattle.syntect_parsing.specs.declared.syntax_definition.Pattern.{Pattern}
-use Rattle.syntect_parsing.specs.declared.syntax_definition.Pattern.TheVariants.{Match, Include}
-use Rattle.syntect_parsing.specs.declared.syntax_definition.Context.{Context}
-use Rattle.syntect_parsing.specs.declared.syntax_definition.SyntaxDefinition.{SyntaxDefinition}
-use Rattle.syntect_parsing.specs.declared.syntax_set.SyntaxSet.{SyntaxSet}
+use Rattle.syntect_grammar.specs.Link.{with_paths, linked}
+use Rattle.syntect_grammar.specs.declared.syntax_definition.ContextId.{ContextId}
+use Rattle.syntect_grammar.specs.declared.syntax_definition.ContextReference.{ContextReference}
+use Rattle.syntect_grammar.specs.declared.syntax_definition.ContextReference.TheVariants.{Direct}
+use Rattle.syntect_grammar.specs.declared.syntax_definition.MatchOperation.{MatchOperation}
+use Rattle.syntect_grammar.specs.declared.syntax_definition.MatchOperation.TheVariants as op
+use Rattle.syntect_grammar.specs.declared.syntax_definition.MatchPattern.{MatchPattern}
+use Rattle.syntect_grammar.specs.declared.syntax_definition.Pattern.{Pattern}
+use Rattle.syntect_grammar.specs.declared.syntax_definition.Pattern.TheVariants.{Match, Include}
+use Rattle.syntect_grammar.specs.declared.syntax_definition.Context.{Context}
+use Rattle.syntect_grammar.specs.declared.syntax_definition.SyntaxDefinition.{SyntaxDefinition}
+use Rattle.syntect_grammar.specs.declared.syntax_set.SyntaxSet.{SyntaxSet}
 use Rattle.syntect_parsing.specs.declared.parser.Level.{Level}
 use Rattle.syntect_parsing.specs.declared.position.Position.{Position}
 use Rattle.syntect_parsing.specs.declared.parser.ParseState.{ParseState}
-use Rattle.syntect_parsing.specs.declared.parser.ParsingError.{ParsingError}
-use Rattle.syntect_parsing.specs.declared.parser.ParsingError.TheVariants as error
+use Rattle.syntect_grammar.specs.declared.error.ParsingError.{ParsingError}
+use Rattle.syntect_grammar.specs.declared.error.ParsingError.TheVariants as error
 
 -- ---- what a refusal comes from ----
 
@@ -90,26 +91,6 @@ RefusesUnresolved = (engine : Engine) (set : SyntaxSet) (id : ContextId) (lines 
     × ((r : ContextReference) → PicksUnresolved engine set line state r → (turns : ℕ) × RefusesLine engine set line state (error.UnresolvedContextReference r) turns)
 
 -- ---- definitions whose sets are so ----
-
-abbrev pub is_direct : ContextReference → Bool
-is_direct (Direct id) = true
-is_direct r = false
-
--- no match of these entries names a context by its number
-abbrev pub NamesNoNumber : List Pattern → Type 0
-NamesNoNumber [] = Unit {0}
-NamesNoNumber (Match m ∷ ps) = (list_any is_direct (named m) ≡ false) × NamesNoNumber ps
-NamesNoNumber (Include r ∷ ps) = NamesNoNumber ps
-
--- no context of these names a context by its number, be it as prototype
-abbrev pub KnowNoNumber : List (List ℕ × Context) → Type 0
-KnowNoNumber [] = Unit {0}
-KnowNoNumber (entry ∷ entries) = (entry.1.prototype ≡ None) × NamesNoNumber entry.1.patterns × KnowNoNumber entries
-
--- definitions whose references are all by name
-abbrev pub AreByName : List SyntaxDefinition → Type 0
-AreByName [] = Unit {0}
-AreByName (d ∷ ds) = KnowNoNumber d.contexts × AreByName ds
 
 -- What they are linked to is closed, whatever files they are from.
 abbrev pub LinksClosed : Type 0

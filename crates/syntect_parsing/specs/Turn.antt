@@ -1,4 +1,5 @@
 -- Which match a turn takes, and what it leaves.
+pub use Rattle.syntect_grammar.specs.Contexts.{list_of, named}
 use Rattle.std.specs.Prelude.{ℕ, ◌==◌, nat_le, nat_lt, ◌+◌, ◌-◌, Bool, true, false, ◌&&◌, not, List, [], ◌∷◌, ◌++◌, length, take, filter, find, Option, Some, None, is_none, if◌then◌else◌}
 use Rattle.std.specs.Option.{option_map, option_map_or, option_and_then, option_flatten, option_or, option_to_list}
 use Rattle.std.specs.List.{filter_map, list_any, list_all}
@@ -6,20 +7,20 @@ use Rattle.std.specs.Char.{len_utf8}
 use Rattle.syntect_pattern.specs.Text.{char_at}
 use Rattle.std.specs.List.{slice_get}
 use Rattle.syntect_parsing.specs.Engine.{Engine}
-use Rattle.syntect_parsing.specs.Substitution.{Groups, Opening}
-use Rattle.syntect_parsing.specs.Contexts.{context_at, target}
+use Rattle.syntect_grammar.specs.Substitution.{Groups, Opening}
+use Rattle.syntect_grammar.specs.Contexts.{context_at, target}
 use Rattle.syntect_parsing.specs.Chain.{Member, last}
-use Rattle.syntect_parsing.specs.declared.syntax_definition.ContextId.{ContextId}
-use Rattle.syntect_parsing.specs.declared.syntax_definition.ContextReference.{ContextReference}
-use Rattle.syntect_parsing.specs.declared.syntax_definition.MatchOperation.{MatchOperation}
-use Rattle.syntect_parsing.specs.declared.syntax_definition.MatchOperation.TheVariants as op
-use Rattle.syntect_parsing.specs.declared.syntax_definition.MatchPattern.{MatchPattern}
-use Rattle.syntect_parsing.specs.declared.syntax_set.SyntaxSet.{SyntaxSet}
+use Rattle.syntect_grammar.specs.declared.syntax_definition.ContextId.{ContextId}
+use Rattle.syntect_grammar.specs.declared.syntax_definition.ContextReference.{ContextReference}
+use Rattle.syntect_grammar.specs.declared.syntax_definition.MatchOperation.{MatchOperation}
+use Rattle.syntect_grammar.specs.declared.syntax_definition.MatchOperation.TheVariants as op
+use Rattle.syntect_grammar.specs.declared.syntax_definition.MatchPattern.{MatchPattern}
+use Rattle.syntect_grammar.specs.declared.syntax_set.SyntaxSet.{SyntaxSet}
 use Rattle.syntect_parsing.specs.declared.parser.Level.{Level}
 use Rattle.syntect_parsing.specs.declared.position.Record.{Record}
 use Rattle.syntect_parsing.specs.declared.position.Position.{Position}
-use Rattle.syntect_parsing.specs.declared.parser.ParsingError.{ParsingError}
-use Rattle.syntect_parsing.specs.declared.parser.ParsingError.TheVariants as error
+use Rattle.syntect_grammar.specs.declared.error.ParsingError.{ParsingError}
+use Rattle.syntect_grammar.specs.declared.error.ParsingError.TheVariants as error
 
 -- ---- the live matches ----
 
@@ -112,17 +113,6 @@ abbrev pub winner : List ℕ → Position → List Live → Choice
 winner line p ms = choice_of line p.place ms (find (λ m. is_least ms m && not (loops p m)) ms)
 
 -- ---- what the winner names ----
-
--- the list of a push or a set
-abbrev pub list_of : MatchOperation → Option (List ContextReference)
-list_of (op.Push refs) = Some refs
-list_of (op.Set refs) = Some refs
-list_of op.Pop = None
-list_of op.None = None
-
--- the references that a match names: those of a push or set, then its `with_prototype`
-abbrev pub named : MatchPattern → List ContextReference
-named m = option_map_or (λ refs. refs ++ option_to_list m.with_prototype) (list_of m.operation) []
 
 -- the refusal of the first reference that has no target
 abbrev pub unresolved : List ContextReference → Option ParsingError

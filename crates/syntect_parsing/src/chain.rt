@@ -2,16 +2,16 @@
 ghost use Rattle.std.specs.Prelude.{◌≡◌, ◌≢◌, ◌≤◌, ◌<◌, ◌+◌, ◌++◌, ◌∷◌, [], List, ℕ, length, map, take, find, is_none, true, IfOk, OnErr, Some, None};
 ghost use Rattle.std.specs.Option.{option_copied, option_map};
 ghost use Rattle.std.specs.List.{list_any, flat_map};
-ghost use Rattle.syntect_parsing.specs.Contexts.{is_same, context_at, target};
+ghost use Rattle.syntect_grammar.specs.Contexts.{is_same, context_at, target};
 ghost use Rattle.syntect_parsing.specs.Chain.{entries, walk, walk_patterns, room_in, patterns_in, as_members, members, in_sight, chain, prototypes_in};
 ghost use Rattle.syntect_parsing.specs.Candidates.{member_of};
 
 use crate::opening::Opening;
 use crate::parser::Level;
 use crate::position::Position;
-use crate::syntax_definition::{Context, ContextId, MatchPattern, Pattern};
-use crate::syntax_set::SyntaxSet;
 use std::alloc::{AllocError, Global};
+use syntect_grammar::syntax_definition::{Context, ContextId, MatchPattern, Pattern};
+use syntect_grammar::syntax_set::SyntaxSet;
 
 /// A pattern of the chain, with the opening match that it is searched with, and whether it is from a `with_prototype`.
 #[derive(Clone, Copy)]
@@ -27,17 +27,6 @@ fn is_on(path: &[ContextId], id: ContextId) -> bool
     path.iter().any(|x| {
         id.syntax_index == x.syntax_index && id.context_index == x.context_index
     })
-}
-
-/// One more than a set has contexts.
-pub fn room_in(set: &SyntaxSet) -> u128
-    ensures { result ≡ room_in set.now }
-{
-    let mut room: u128 = 1;
-    for syntax in set.syntaxes() {
-        room += syntax.contexts.len() as u128;
-    }
-    room
 }
 
 /// The entries of a context, none where the set lacks it.

@@ -1,7 +1,7 @@
 //! Laws of reading.
-ghost use Rattle.syntect_parsing.specs.Laws.{ReadsOnce, RefusesOnce, NeverBoth, AnswersOnce, AnswersMore, CoversLine, RoomIsNotFelt, EachLineEnds, PlacesAreBoundaries, StackIsOpen, FindsInText, LaysGroupsOut};
+ghost use Rattle.syntect_parsing.specs.Laws.{ReadsOnce, RefusesOnce, NeverBoth, AnswersOnce, AnswersMore, CoversLine, EachLineEnds, PlacesAreBoundaries, StackIsOpen, FindsInText, LaysGroupsOut};
 ghost use Rattle.syntect_parsing.specs.Refusals.{RefusesUnresolved, LinksClosed};
-ghost use Rattle.syntect_parsing.specs.Reached.{PrototypesReach, MarksReach};
+ghost use Rattle.syntect_parsing.specs.Standing.{BytesHaveScopes};
 ghost use Rattle.syntect_parsing.specs.Engine.{dialect};
 
 /// A line that is accepted has one reading.
@@ -38,11 +38,6 @@ pub fn answers_more()
 #[tactic(auto, using(crate::proofs::Cover::covers_line))]
 pub fn covers_line()
     ensures { CoversLine }
-{}
-
-/// The room for includes is never felt.
-pub fn room_is_not_felt()
-    ensures { RoomIsNotFelt }
 {}
 
 /// Every line is accepted or refused, within so many turns.
@@ -84,18 +79,14 @@ pub fn refuses_unresolved()
     ensures { RefusesUnresolved }
 {}
 
+/// A text that begins in a context that is never left and has a scope of its own has a scope on each byte of each line
+/// that is accepted.
+#[tactic(auto, using(crate::proofs::StandingLaws::bytes_have_scopes))]
+pub fn bytes_have_scopes()
+    ensures { BytesHaveScopes }
+{}
+
 /// A set that is linked of definitions whose references are all by name leads nowhere out of it.
 pub fn links_closed()
     ensures { LinksClosed }
-{}
-
-/// As many steps as there are contexts reach from a prototype what any number of steps reach.
-pub fn prototypes_reach()
-    ensures { PrototypesReach }
-{}
-
-/// As many includes as there are contexts lead to each mark of back references that any number of them leads to.
-#[tactic(auto, using(crate::proofs::ReachedLaws::marks_reach))]
-pub fn marks_reach()
-    ensures { MarksReach }
 {}

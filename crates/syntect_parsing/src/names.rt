@@ -2,14 +2,16 @@
 ghost use Rattle.std.specs.Prelude.{◌≡◌, ◌++◌, List, length, map, find, is_none, IfOk, IfErr, None, true};
 ghost use Rattle.std.specs.Option.{option_copied, option_to_list};
 ghost use Rattle.std.specs.List.{filter_map};
-ghost use Rattle.syntect_parsing.specs.Contexts.{context_at, target};
+ghost use Rattle.syntect_grammar.specs.Contexts.{context_at, target};
 ghost use Rattle.syntect_parsing.specs.Turn.{named, refusal, list_of};
-ghost use Rattle.syntect_parsing.specs.Errors.{MayBe};
+ghost use Rattle.syntect_grammar.specs.Errors.{MayBe};
 
 use crate::parser::ParsingError;
-use crate::syntax_definition::{ContextId, ContextReference, MatchOperation, MatchPattern};
-use crate::syntax_set::SyntaxSet;
 use std::alloc::{AllocError, Global};
+use syntect_grammar::syntax_definition::{
+    ContextId, ContextReference, MatchOperation, MatchPattern,
+};
+use syntect_grammar::syntax_set::SyntaxSet;
 
 /// The list of a push or a set.
 fn list_of(operation: &MatchOperation) -> Option<&[ContextReference]>

@@ -1,12 +1,12 @@
 //! The match that opened a level.
 ghost use Rattle.std.specs.Prelude.{◌≡◌, IfOk};
 ghost use Rattle.std.specs.Cmp.{partial_equiv_from_equiv};
-ghost use Rattle.syntect_parsing.specs.Substitution.{AreOnBoundaries, substituted};
+ghost use Rattle.syntect_grammar.specs.Substitution.{AreOnBoundaries, substituted};
 ghost use Rattle.syntect_parsing.specs.Openings.{same_opening, same_opening-equiv};
 
-use crate::syntax_definition::MatchPattern;
 use std::alloc::{AllocError, Global};
 use std::marker::Model;
+use syntect_grammar::syntax_definition::MatchPattern;
 use syntect_regex::regex::Regex;
 use syntect_regex::region::Region;
 use syntect_values::text::Text;
@@ -19,7 +19,7 @@ pub struct Opening {
 }
 
 impl Model for Opening {
-    ghost use Rattle.syntect_parsing.specs.Substitution as substitution;
+    ghost use Rattle.syntect_grammar.specs.Substitution as substitution;
 
     ghost Value = { substitution.Opening };
 

@@ -2,58 +2,25 @@
 ghost use Rattle.std.specs.Prelude.{◌≡◌, ◌≢◌, [], take, Some, codes, IfOk, IfErr, OnErr};
 ghost use Rattle.std.specs.Option.{option_to_list, option_map_or};
 ghost use Rattle.syntect_scope.specs.Replay.{pushes};
-ghost use Rattle.syntect_parsing.specs.Contexts.{part_of};
+ghost use Rattle.syntect_grammar.specs.Contexts.{part_of};
 ghost use Rattle.syntect_parsing.specs.Chain.{last};
 ghost use Rattle.syntect_parsing.specs.Engine.{dialect};
 ghost use Rattle.syntect_parsing.specs.Line.{start_id, start_of, at_start, first_push};
 ghost use Rattle.syntect_parsing.specs.Meaning.{MayLackStart, Accepts, MayRefuse};
-ghost use Rattle.syntect_parsing.specs.declared.parser.ParsingError.TheVariants.{Memory as NoMemory};
 
-use crate::chain::room_in;
-use crate::directory::context_named;
 use crate::laws::dialect_finds_in_text;
 use crate::opening::Opening;
 use crate::position::Position;
-use crate::syntax_definition::{ContextId, ContextReference};
-use crate::syntax_set::{SyntaxReference, SyntaxSet};
 use crate::turn::turn;
 use std::alloc::{AllocError, AllocFailed, Global};
+pub use syntect_grammar::error::ParsingError;
+use syntect_grammar::includes::room_in;
+use syntect_grammar::syntax_definition::{ContextId, ContextReference};
+use syntect_grammar::syntax_set::{SyntaxReference, SyntaxSet};
 use syntect_regex::region::Region;
 use syntect_scope::scope::Scope;
 use syntect_scope::stack::ScopeStackOp;
 use syntect_values::seq::Seq;
-use thiserror::Error;
-
-/// Why a line is refused, or a reference has no context.
-#[derive(Debug, Drop, PartialEq, Eq, Error)]
-pub enum ParsingError {
-    #[error("Somehow main context was popped from the stack")]
-    MissingMainContext,
-    #[error("Missing context")]
-    MissingContext(ContextId),
-    #[error("Bad index to match_at: {0}")]
-    BadMatchIndex(usize),
-    #[error("Tried to use a ContextReference that has not been resolved yet")]
-    UnresolvedContextReference(ContextReference),
-    #[error("Memory")]
-    Memory,
-}
-
-impl From<AllocError> for ParsingError {
-    ghost from_gives = { λ _ e. e ≡ NoMemory };
-
-    fn from(_e: AllocError) -> ParsingError {
-        ParsingError::Memory
-    }
-}
-
-impl<T: Drop> From<AllocFailed<T>> for ParsingError {
-    ghost from_gives = { λ _ e. e ≡ NoMemory };
-
-    fn from(_e: AllocFailed<T>) -> ParsingError {
-        ParsingError::Memory
-    }
-}
 
 /// An open context, its prototypes, and the match that opened it where that is kept.
 #[derive(Drop, PartialEq, Eq)]
@@ -94,7 +61,7 @@ pub struct ParseState {
 fn start_id(syntax: &SyntaxReference) -> Option<ContextId>
     ensures { result ≡ start_id syntax.now }
 {
-    context_named(syntax.index, syntax.names.as_slice(), "__start")
+    syntax.context_named("__start")
 }
 
 impl ParseState {

@@ -8,9 +8,9 @@ ghost use Rattle.syntect_parsing.specs.Candidates.{member_of, seen, text_of, cho
 
 use crate::chain::Entry;
 use crate::position::Position;
-use crate::syntax_definition::{MatchOperation, MatchPattern};
 use crate::text::char_at;
 use std::alloc::{AllocError, Global};
+use syntect_grammar::syntax_definition::{MatchOperation, MatchPattern};
 use syntect_regex::regex::Regex;
 use syntect_regex::region::Region;
 

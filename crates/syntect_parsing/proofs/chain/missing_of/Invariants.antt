@@ -1,6 +1,6 @@
 use Rattle.std.proofs.Common.{◌≡◌, find, drop}
 use Rattle.std.specs.Prelude.{is_none}
-use Rattle.syntect_parsing.specs.Contexts.{context_at}
+use Rattle.syntect_grammar.specs.Contexts.{context_at}
 use Rattle.syntect_parsing.proofs.chain.missing_of.Given as goal
 
 abbrev pub invariant-loop-id : goal.invariant-loop-id

@@ -2,8 +2,8 @@ use Rattle.std.proofs.Common.{◌≡◌, ◌++◌, List, Bool, Option, Some, Non
 use Rattle.std.specs.Prelude.{is_none}
 use Rattle.std.specs.Option.{option_or, option_to_list}
 use Rattle.std.specs.List.{flat_map}
-use Rattle.syntect_parsing.specs.Contexts.{context_at}
-use Rattle.syntect_parsing.specs.declared.syntax_definition.ContextId.{ContextId}
+use Rattle.syntect_grammar.specs.Contexts.{context_at}
+use Rattle.syntect_grammar.specs.declared.syntax_definition.ContextId.{ContextId}
 use Rattle.syntect_parsing.specs.declared.parser.Level.{Level}
 use Rattle.syntect_parsing.proofs.ListLaws.{find_at}
 use Rattle.syntect_parsing.proofs.chain.missing_prototype.Goals as goal

@@ -1,5 +1,5 @@
 use Rattle.std.proofs.Common.{◌∙◌}
-use Rattle.syntect_parsing.proofs.TextLaws.{char_at-step, boundary-step, inside-step}
+use Rattle.syntect_grammar.proofs.TextLaws.{char_at-step, boundary-step, inside-step}
 use Rattle.syntect_parsing.proofs.text.char_at.Goals as goal
 
 pub returns-clause-value : goal.returns-clause-value

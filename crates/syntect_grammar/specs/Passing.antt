@@ -1,0 +1,42 @@
+-- How refusals of the layers below are passed on.
+use Rattle.syntect_grammar.specs.declared.error.ParsingError.{ParsingError}
+use Rattle.syntect_grammar.specs.declared.error.ParsingError.TheVariants as parsing
+use Rattle.syntect_base.specs.declared.loading.LoadingError.{LoadingError}
+use Rattle.syntect_base.specs.declared.loading.LoadingError.TheVariants as loading
+use Rattle.syntect_scope.specs.declared.stack.ScopeError.{ScopeError}
+use Rattle.syntect_scope.specs.declared.stack.ScopeError.TheVariants as scope
+use Rattle.std.specs.IoError.{error_kind}
+use Rattle.std.specs.declared.io.Error.{Error as IoError}
+use Rattle.std.specs.declared.io.ErrorKind.{ErrorKind}
+use Rattle.std.specs.declared.io.ErrorKind.TheVariants.{OutOfMemory}
+use Rattle.syntect_grammar.specs.declared.error.Error.{Error}
+use Rattle.syntect_grammar.specs.declared.error.Error.TheVariants as error
+
+abbrev pub from_loading : LoadingError → Error
+from_loading loading.Memory = error.Memory
+from_loading loading.WalkDir = error.LoadingError loading.WalkDir
+from_loading (loading.Io e) = error.LoadingError (loading.Io e)
+from_loading (loading.ParseSyntax e path) = error.LoadingError (loading.ParseSyntax e path)
+from_loading loading.ParseMetadata = error.LoadingError loading.ParseMetadata
+from_loading (loading.ParseTheme e) = error.LoadingError (loading.ParseTheme e)
+from_loading (loading.ReadSettings e) = error.LoadingError (loading.ReadSettings e)
+from_loading loading.BadPath = error.LoadingError loading.BadPath
+
+abbrev pub from_parsing : ParsingError → Error
+from_parsing parsing.Memory = error.Memory
+from_parsing parsing.MissingMainContext = error.ParsingError parsing.MissingMainContext
+from_parsing (parsing.MissingContext id) = error.ParsingError (parsing.MissingContext id)
+from_parsing (parsing.BadMatchIndex i) = error.ParsingError (parsing.BadMatchIndex i)
+from_parsing (parsing.UnresolvedContextReference r) = error.ParsingError (parsing.UnresolvedContextReference r)
+
+abbrev pub from_scope : ScopeError → Error
+from_scope scope.Memory = error.Memory
+from_scope scope.NoClearedScopesToRestore = error.ScopeError scope.NoClearedScopesToRestore
+
+-- a fault of a file or reader of this kind
+abbrev pub from_kind : ErrorKind → IoError → Error
+from_kind OutOfMemory e = error.Memory
+from_kind kind e = error.Io e
+
+abbrev pub from_io : IoError → Error
+from_io e = from_kind (error_kind e) e

@@ -1,0 +1,153 @@
+//! What can go wrong.
+use crate::syntax_definition::{ContextId, ContextReference};
+use std::alloc::{AllocError, AllocFailed};
+use std::io::ErrorKind;
+use std::{fmt, io};
+use syntect_base::loading::LoadingError;
+use syntect_scope::stack::ScopeError;
+use thiserror::Error as ThisError;
+
+/// Why a line is refused, or a reference has no context.
+#[derive(Debug, Drop, PartialEq, Eq, ThisError)]
+pub enum ParsingError {
+    #[error("Somehow main context was popped from the stack")]
+    MissingMainContext,
+    #[error("Missing context")]
+    MissingContext(ContextId),
+    #[error("Bad index to match_at: {0}")]
+    BadMatchIndex(usize),
+    #[error("Tried to use a ContextReference that has not been resolved yet")]
+    UnresolvedContextReference(ContextReference),
+    #[error("Memory")]
+    Memory,
+}
+
+impl From<AllocError> for ParsingError {
+    ghost use Rattle.std.specs.Prelude.{◌≡◌};
+    ghost use Rattle.syntect_grammar.specs.declared.error.ParsingError.TheVariants.{Memory};
+
+    ghost from_gives = { λ _ e. e ≡ Memory };
+
+    fn from(_e: AllocError) -> ParsingError {
+        ParsingError::Memory
+    }
+}
+
+impl<T: Drop> From<AllocFailed<T>> for ParsingError {
+    ghost use Rattle.std.specs.Prelude.{◌≡◌};
+    ghost use Rattle.syntect_grammar.specs.declared.error.ParsingError.TheVariants.{Memory};
+
+    ghost from_gives = { λ _ e. e ≡ Memory };
+
+    fn from(_e: AllocFailed<T>) -> ParsingError {
+        ParsingError::Memory
+    }
+}
+
+/// Why a call was refused for which several causes are possible.
+#[derive(Debug, Drop, ThisError)]
+pub enum Error {
+    /// A file or a folder was not loaded.
+    #[error("Loading error: {0}")]
+    LoadingError(LoadingError),
+    /// A line was not read.
+    #[error("Parsing error: {0}")]
+    ParsingError(ParsingError),
+    /// An operation on a stack of scopes was refused.
+    #[error("Scope error: {0}")]
+    ScopeError(ScopeError),
+    /// A text could not be formatted. No call of this crate answers it.
+    #[error("Formatting error: {0}")]
+    Fmt(fmt::Error),
+    /// A file or reader failed, or its bytes aren't UTF-8.
+    #[error("IO Error: {0}")]
+    Io(io::Error),
+    /// No syntax fits a file.
+    #[error("NoSyntax")]
+    NoSyntax,
+    /// There was no memory.
+    #[error("Memory")]
+    Memory,
+}
+
+impl From<AllocError> for Error {
+    ghost use Rattle.std.specs.Prelude.{◌≡◌};
+    ghost use Rattle.syntect_grammar.specs.declared.error.Error.TheVariants.{Memory};
+
+    ghost from_gives = { λ _ e. e ≡ Memory };
+
+    fn from(_e: AllocError) -> Error {
+        Error::Memory
+    }
+}
+
+impl<T: Drop> From<AllocFailed<T>> for Error {
+    ghost use Rattle.std.specs.Prelude.{◌≡◌};
+    ghost use Rattle.syntect_grammar.specs.declared.error.Error.TheVariants.{Memory};
+
+    ghost from_gives = { λ _ e. e ≡ Memory };
+
+    fn from(_e: AllocFailed<T>) -> Error {
+        Error::Memory
+    }
+}
+
+/// Want of memory is passed on as such.
+impl From<LoadingError> for Error {
+    ghost use Rattle.std.specs.Prelude.{◌≡◌};
+    ghost use Rattle.syntect_grammar.specs.Passing.{from_loading};
+
+    ghost from_gives = { λ e r. r ≡ from_loading e };
+
+    fn from(e: LoadingError) -> Error {
+        match e {
+            LoadingError::Memory => Error::Memory,
+            e => Error::LoadingError(e),
+        }
+    }
+}
+
+/// Want of memory is passed on as such.
+impl From<ParsingError> for Error {
+    ghost use Rattle.std.specs.Prelude.{◌≡◌};
+    ghost use Rattle.syntect_grammar.specs.Passing.{from_parsing};
+
+    ghost from_gives = { λ e r. r ≡ from_parsing e };
+
+    fn from(e: ParsingError) -> Error {
+        match e {
+            ParsingError::Memory => Error::Memory,
+            e => Error::ParsingError(e),
+        }
+    }
+}
+
+/// Want of memory is passed on as such.
+impl From<ScopeError> for Error {
+    ghost use Rattle.std.specs.Prelude.{◌≡◌};
+    ghost use Rattle.syntect_grammar.specs.Passing.{from_scope};
+
+    ghost from_gives = { λ e r. r ≡ from_scope e };
+
+    fn from(e: ScopeError) -> Error {
+        match e {
+            ScopeError::Memory => Error::Memory,
+            e => Error::ScopeError(e),
+        }
+    }
+}
+
+/// Want of memory is passed on as such.
+impl From<io::Error> for Error {
+    ghost use Rattle.std.specs.Prelude.{◌≡◌};
+    ghost use Rattle.syntect_grammar.specs.Passing.{from_io};
+
+    ghost from_gives = { λ e r. r ≡ from_io e };
+
+    fn from(e: io::Error) -> Error {
+        match e.kind() {
+            ErrorKind::OutOfMemory => Error::Memory,
+            _ => Error::Io(e),
+        }
+    }
+}

@@ -1,0 +1,194 @@
+//! Grammars from the files of folders.
+ghost use Rattle.std.specs.Prelude.{◌≡◌, ◌≢◌, ℕ, Bool, true, false, IsUtf8, List, [], ◌∷◌, IfOk, OnOk, IfErr, OnErr};
+ghost use Rattle.std.specs.Path.{path_bytes, path_file_stem};
+ghost use Rattle.syntect_base.specs.declared.loading.LoadingError.TheVariants.{Memory};
+ghost use Rattle.syntect_grammar.specs.Folders.{is_grammar_path, IsSyntaxOf, RefusesSyntax, AddsSyntaxes, StopsAt, AddsFolder, RefusesFolder, no_definitions};
+ghost use Rattle.syntect_grammar.specs.Link.{definitions_in, paths_in, with_paths, linked};
+ghost use Rattle.syntect_grammar.specs.Loading.{loaded};
+ghost use Rattle.syntect_grammar.specs.LoadingSteps.{Fails, Keeps};
+ghost use Rattle.syntect_grammar.specs.declared.syntax_set.SyntaxSetBuilder.{SyntaxSetBuilder as ABuilder};
+
+use crate::syntax_definition::SyntaxDefinition;
+use crate::syntax_set::{SyntaxSet, SyntaxSetBuilder};
+use std::alloc::Global;
+use std::fs;
+use std::path::Path;
+use std::rt::Files;
+use syntect_base::loading::LoadingError;
+use syntect_base::syntax::ParseSyntaxError;
+use syntect_base::utils::files_below;
+use syntect_scope::repository::ScopeRepository;
+use syntect_values::text::Text;
+
+/// Whether a file is a grammar's: its extension is `sublime-syntax`, in this case.
+fn is_grammar(path: &str) -> bool
+    ensures { result ≡ is_grammar_path path.now }
+{
+    match Path::new(path).extension() {
+        Some(extension) => extension == "sublime-syntax",
+        None => false,
+    }
+}
+
+/// The refusal of the text in a file that is no grammar, with the file's path. Want of memory is passed on as such.
+fn refused_file(alloc: Global, path: &str, e: ParseSyntaxError) -> LoadingError
+    ensures { (newlines : Bool) (repo : List (List ℕ)) (bytes : List ℕ) → IsUtf8 bytes → Fails (loaded bytes newlines (path_file_stem path.now) repo) e
+        → RefusesSyntax newlines path.now repo result }
+{
+    match e {
+        ParseSyntaxError::Memory => LoadingError::Memory,
+        e => match String::from_str(alloc, path) {
+            Ok(path) => LoadingError::ParseSyntax(e, path),
+            Err(_) => LoadingError::Memory,
+        },
+    }
+}
+
+#[tactic(auto, using(crate::proofs::FolderLaws::not_read_so))]
+/// The definition of the grammar in a file. A syntax without a name has that of the file, without the extension.
+fn load_file(
+    files: &impl Files,
+    alloc: Global,
+    path: &str,
+    lines_include_newline: bool,
+    repository: &mut ScopeRepository,
+) -> Result<SyntaxDefinition, LoadingError>
+    ensures ok { IfOk result (λ d. (bytes : List ℕ) × IsSyntaxOf lines_include_newline path.now repository.old bytes repository.new d) }
+    ensures err { IfErr result (RefusesSyntax lines_include_newline path.now repository.old) }
+    ensures kept { Keeps repository.old repository.new }
+{
+    let text = match fs::read_to_string(&(files, alloc), path) {
+        Ok(text) => text,
+        Err(e) => return Err(LoadingError::from(e)),
+    };
+    let loaded = SyntaxDefinition::load_from_str(
+        alloc,
+        text.as_str(),
+        lines_include_newline,
+        Path::new(path).file_stem(),
+        repository,
+    );
+    match loaded {
+        Ok(syntax) => Ok(syntax),
+        Err(e) => Err(refused_file(alloc, path, e)),
+    }
+}
+
+impl SyntaxSetBuilder {
+    /// Adds the grammars in a folder and in the folders below it, in the order of a walk: each folder's entries in the byte
+    /// order of their names, a subfolder's files at its place. A grammar's file has the extension `sublime-syntax`, in this
+    /// case; a syntax without a name has that of its file. Each is kept under its path, which is the folder's text and the
+    /// names, joined by `/`. `lines_include_newline` is as for `load_from_str`.
+    ///
+    /// A fault of the walk is `WalkDir`, and nothing is added. A file that cannot be read, or isn't UTF-8, is `Io`, and one
+    /// that is no grammar is `ParseSyntax` with its path; the grammars before it stay added.
+    pub fn add_from_folder(
+        &mut self,
+        files: &impl Files,
+        alloc: Global,
+        folder: Path<'_>,
+        lines_include_newline: bool,
+        repository: &mut ScopeRepository,
+    ) -> Result<(), LoadingError>
+        ensures ok { OnOk result (AddsFolder lines_include_newline (path_bytes folder.entry) repository.old self.old repository.new self.new) }
+        ensures err { IfErr result (λ e. RefusesFolder lines_include_newline (path_bytes folder.entry) repository.old self.old e self.new) }
+        ensures kept { Keeps repository.old repository.new }
+    {
+        match files_below(files, alloc, folder) {
+            Ok(found) => self.add_files(
+                files,
+                alloc,
+                found.as_slice(),
+                lines_include_newline,
+                repository,
+            ),
+            Err(e) => Err(e),
+        }
+    }
+
+    /// Adds the grammars of files.
+    fn add_files(
+        &mut self,
+        files: &impl Files,
+        alloc: Global,
+        paths: &[Text],
+        lines_include_newline: bool,
+        repository: &mut ScopeRepository,
+    ) -> Result<(), LoadingError>
+        ensures ok { OnOk result (AddsSyntaxes lines_include_newline paths.now repository.old self.old repository.new self.new) }
+        ensures err { IfErr result (λ e. StopsAt lines_include_newline paths.now repository.old self.old e self.new) }
+        ensures kept { Keeps repository.old repository.new }
+    {
+        for path in paths {
+            match self.add_file(
+                files,
+                alloc,
+                path.as_str(),
+                lines_include_newline,
+                repository,
+            ) {
+                Ok(()) => {}
+                Err(e) => return Err(e),
+            }
+        }
+        Ok(())
+    }
+
+    #[tactic(auto, using(crate::proofs::FolderLaws::passes_over))]
+    /// Adds the grammar of a file, if it is a grammar's.
+    fn add_file(
+        &mut self,
+        files: &impl Files,
+        alloc: Global,
+        path: &str,
+        lines_include_newline: bool,
+        repository: &mut ScopeRepository,
+    ) -> Result<(), LoadingError>
+        ensures ok { OnOk result (AddsSyntaxes lines_include_newline (path.now ∷ []) repository.old self.old repository.new self.new) }
+        ensures err { OnErr result (self.new ≡ self.old) }
+        ensures grammar { OnErr result (is_grammar_path path.now ≡ true) }
+        ensures refusal { IfErr result (RefusesSyntax lines_include_newline path.now repository.old) }
+        ensures kept { Keeps repository.old repository.new }
+    {
+        if !is_grammar(path) {
+            return Ok(());
+        }
+        let syntax = match load_file(files, alloc, path, lines_include_newline, repository) {
+            Ok(syntax) => syntax,
+            Err(e) => return Err(e),
+        };
+        let Ok(path) = Text::from_str(alloc, path) else {
+            return Err(LoadingError::Memory);
+        };
+        match self.add_loaded(syntax, path) {
+            Ok(()) => Ok(()),
+            Err(_) => Err(LoadingError::Memory),
+        }
+    }
+}
+
+impl SyntaxSet {
+    /// A set of the grammars in a folder and in the folders below it, for lines without their line feeds: as
+    /// `add_from_folder` adds them to no definitions, and as `build` links them.
+    pub fn load_from_folder(
+        files: &impl Files,
+        alloc: Global,
+        folder: Path<'_>,
+        repository: &mut ScopeRepository,
+    ) -> Result<SyntaxSet, LoadingError>
+        ensures ok { IfOk result (λ set. (builder : ABuilder) × AddsFolder false (path_bytes folder.entry) repository.old no_definitions repository.new builder
+            × (set ≡ with_paths (paths_in builder) (linked (definitions_in builder)))) }
+        ensures err { IfErr result (λ e. e ≢ Memory → (builder : ABuilder) × RefusesFolder false (path_bytes folder.entry) repository.old no_definitions e builder) }
+        ensures kept { Keeps repository.old repository.new }
+    {
+        let mut builder = SyntaxSetBuilder::new(alloc);
+        match builder.add_from_folder(files, alloc, folder, false, repository) {
+            Ok(()) => {}
+            Err(e) => return Err(e),
+        }
+        match builder.build(alloc, repository) {
+            Ok(set) => Ok(set),
+            Err(_) => Err(LoadingError::Memory),
+        }
+    }
+}

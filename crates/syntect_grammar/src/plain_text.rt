@@ -1,0 +1,49 @@
+//! The syntax of text without markup.
+ghost use Rattle.std.specs.Prelude.{◌≡◌, false, None, IfErr, OnErr, OnOk};
+ghost use Rattle.syntect_grammar.specs.Loading.{loaded};
+ghost use Rattle.syntect_grammar.specs.LoadingSteps.{Fails, Keeps};
+ghost use Rattle.syntect_grammar.specs.PlainText.{plain_text, AddsPlainText, PlainTextIsPlain};
+
+use crate::syntax_definition::SyntaxDefinition;
+use crate::syntax_set::SyntaxSetBuilder;
+use std::alloc::Global;
+use syntect_base::syntax::ParseSyntaxError;
+use syntect_scope::repository::ScopeRepository;
+
+impl SyntaxSetBuilder {
+    /// Puts the syntax of plain text last: its name is `Plain Text`, its file extension `txt` and its scope `text.plain`,
+    /// and no pattern of it gives a further scope.
+    ///
+    /// Where the repository has no room for the scope's atoms, `InvalidScope` is answered. After a refusal the builder is
+    /// as it was; the repository may have more atoms.
+    pub fn add_plain_text_syntax(
+        &mut self,
+        alloc: Global,
+        repository: &mut ScopeRepository,
+    ) -> Result<(), ParseSyntaxError>
+        ensures ok { OnOk result (AddsPlainText self.old self.new repository.old repository.new) }
+        ensures refused { IfErr result (Fails (loaded plain_text false None repository.old)) }
+        ensures err { OnErr result (self.new ≡ self.old) }
+        ensures kept { Keeps repository.old repository.new }
+    {
+        let loaded = SyntaxDefinition::load_from_str(
+            alloc,
+            "---\nname: Plain Text\nfile_extensions: [txt]\nscope: text.plain\ncontexts: {main: []}",
+            false,
+            None,
+            repository,
+        );
+        let syntax = match loaded {
+            Ok(syntax) => syntax,
+            Err(e) => return Err(e),
+        };
+        self.add(syntax)?;
+        Ok(())
+    }
+}
+
+/// The grammar of plain text gives a syntax named `Plain Text`, of the extension `txt` and the scope `text.plain`, with a
+/// `main` that has no patterns.
+pub fn plain_text_is_plain()
+    ensures { PlainTextIsPlain }
+{}

@@ -1,0 +1,272 @@
+//! Syntaxes that are linked together.
+ghost use Rattle.std.specs.Prelude.{◌≡◌, [], ◌∷◌, ◌++◌, length, IfOk, OnOk, OnErr};
+ghost use Rattle.std.specs.Option.{option_copied};
+ghost use Rattle.syntect_grammar.specs.Contexts.{context_at};
+ghost use Rattle.syntect_grammar.specs.Link.{definitions_in, paths_in, syntaxes_in, set_paths, set_of, with_paths, linked};
+
+use crate::context_names::ContextNames;
+use crate::link::link_definitions;
+use crate::syntax_definition::{Context, ContextId, SyntaxDefinition};
+use std::alloc::{AllocError, AllocFailed, Global};
+use syntect_regex::regex::Regex;
+use syntect_scope::repository::ScopeRepository;
+use syntect_scope::scope::Scope;
+use syntect_values::seq::Seq;
+use syntect_values::table::Table;
+use syntect_values::text::Text;
+
+/// A syntax of a set, of use with that set alone.
+#[derive(Drop)]
+pub struct SyntaxReference {
+    pub name: Text,
+    pub file_extensions: Seq<Text>,
+    /// The scope of all its text.
+    pub scope: Scope,
+    /// A pattern that the first line of a file in this syntax matches.
+    pub first_line_match: Option<Text>,
+    pub hidden: bool,
+    pub variables: Table<Text, Text>,
+    pub(crate) index: usize,
+    pub(crate) names: ContextNames,
+    pub(crate) contexts: Seq<Context>,
+    /// The pattern of `first_line_match`, compiled.
+    pub(crate) first_line: Option<Regex>,
+}
+
+impl Clone for SyntaxReference {
+    ghost is_clone = { λ x y. y ≡ x };
+
+    fn clone(&self) -> Result<SyntaxReference, AllocError> {
+        Ok(SyntaxReference {
+            name: self.name.clone()?,
+            file_extensions: copied_texts(&self.file_extensions)?,
+            scope: self.scope,
+            first_line_match: copied_text(&self.first_line_match)?,
+            hidden: self.hidden,
+            variables: copied_variables(&self.variables)?,
+            index: self.index,
+            names: copied_names(&self.names)?,
+            contexts: copied_contexts(&self.contexts)?,
+            first_line: copied_pattern(self.contexts.allocator(), &self.first_line)?,
+        })
+    }
+}
+
+// What stands in a syntax, once more.
+
+fn copied_texts(texts: &Seq<Text>) -> Result<Seq<Text>, AllocError>
+    ensures { IfOk result (λ t. t ≡ texts.now) }
+{
+    texts.clone()
+}
+
+fn copied_names(names: &ContextNames) -> Result<ContextNames, AllocError>
+    ensures { IfOk result (λ n. n ≡ names.now) }
+{
+    names.clone()
+}
+
+fn copied_variables(variables: &Table<Text, Text>) -> Result<Table<Text, Text>, AllocError>
+    ensures { IfOk result (λ v. v ≡ variables.now) }
+{
+    variables.clone()
+}
+
+fn copied_contexts(contexts: &Seq<Context>) -> Result<Seq<Context>, AllocError>
+    ensures { IfOk result (λ c. c ≡ contexts.now) }
+{
+    contexts.clone()
+}
+
+fn copied_text(text: &Option<Text>) -> Result<Option<Text>, AllocError>
+    ensures { IfOk result (λ t. t ≡ text.now) }
+{
+    text.clone()
+}
+
+fn copied_pattern(alloc: Global, pattern: &Option<Regex>) -> Result<Option<Regex>, AllocError>
+    ensures { IfOk result (λ p. p ≡ pattern.now) }
+{
+    match pattern {
+        Some(pattern) => Ok(Some(pattern.clone(alloc)?)),
+        None => Ok(None),
+    }
+}
+
+/// Syntaxes whose contexts are linked.
+#[derive(Clone, Drop)]
+pub struct SyntaxSet {
+    syntaxes: Seq<SyntaxReference>,
+    /// The paths of files that were loaded, each with the place of its syntax.
+    path_syntaxes: Seq<(Text, usize)>,
+}
+
+/// Definitions that are to be linked.
+#[derive(Clone, Drop)]
+pub struct SyntaxSetBuilder {
+    syntaxes: Seq<SyntaxDefinition>,
+    /// The paths of files that were loaded, each with the place of its definition.
+    path_syntaxes: Seq<(Text, usize)>,
+}
+
+impl SyntaxSet {
+    /// A set of no syntaxes. Takes no memory.
+    pub fn new(alloc: Global) -> SyntaxSet
+        ensures { result ≡ set_of [] }
+    {
+        SyntaxSet {
+            syntaxes: Seq::new(alloc),
+            path_syntaxes: Seq::new(alloc),
+        }
+    }
+
+    /// The same. Takes no memory.
+    pub fn default(alloc: Global) -> SyntaxSet
+        ensures { result ≡ set_of [] }
+    {
+        SyntaxSet::new(alloc)
+    }
+
+    /// Its syntaxes, in the order in which their definitions were added.
+    pub fn syntaxes(&self) -> &[SyntaxReference]
+        ensures { result.now ≡ syntaxes_in self.now }
+    {
+        self.syntaxes.as_slice()
+    }
+
+    /// The paths of files that were loaded, each with the place of its syntax.
+    pub(crate) fn paths(&self) -> &[(Text, usize)]
+        ensures { result.now ≡ set_paths self.now }
+    {
+        self.path_syntaxes.as_slice()
+    }
+
+    /// The allocator that the list of syntaxes was made with.
+    pub(crate) fn allocator(&self) -> Global {
+        self.syntaxes.allocator()
+    }
+
+    /// Its syntaxes, and the paths of files that were loaded, each with the place of its syntax.
+    pub(crate) fn into_parts(self) -> (Seq<SyntaxReference>, Seq<(Text, usize)>)
+        ensures syntaxes { result.0 ≡ syntaxes_in self }
+        ensures paths { result.1 ≡ set_paths self }
+    {
+        let SyntaxSet {
+            syntaxes,
+            path_syntaxes,
+        } = self;
+        (syntaxes, path_syntaxes)
+    }
+
+    /// The context of a number, if the set has it.
+    pub fn context_at(&self, id: ContextId) -> Option<&Context>
+        ensures { option_copied result ≡ context_at self.now id }
+    {
+        let syntax = self.syntaxes.get(id.syntax_index)?;
+        syntax.contexts.get(id.context_index)
+    }
+}
+
+impl SyntaxSetBuilder {
+    /// No definitions. Takes no memory.
+    pub fn new(alloc: Global) -> SyntaxSetBuilder
+        ensures definitions { definitions_in result ≡ [] }
+        ensures paths { paths_in result ≡ [] }
+    {
+        SyntaxSetBuilder {
+            syntaxes: Seq::new(alloc),
+            path_syntaxes: Seq::new(alloc),
+        }
+    }
+
+    /// The builder of these definitions, with the paths of files that were loaded, each with the place of its definition.
+    pub(crate) fn from_parts(
+        syntaxes: Seq<SyntaxDefinition>,
+        path_syntaxes: Seq<(Text, usize)>,
+    ) -> SyntaxSetBuilder
+        ensures definitions { definitions_in result ≡ syntaxes }
+        ensures paths { paths_in result ≡ path_syntaxes }
+    {
+        SyntaxSetBuilder {
+            syntaxes,
+            path_syntaxes,
+        }
+    }
+
+    /// The same. Takes no memory.
+    pub fn default(alloc: Global) -> SyntaxSetBuilder
+        ensures definitions { definitions_in result ≡ [] }
+        ensures paths { paths_in result ≡ [] }
+    {
+        SyntaxSetBuilder::new(alloc)
+    }
+
+    /// Puts a definition last. Without memory for it the builder stays as it is, and the definition is dropped.
+    pub fn add(&mut self, syntax: SyntaxDefinition) -> Result<(), AllocError>
+        ensures ok { OnOk result (definitions_in self.new ≡ definitions_in self.old ++ syntax ∷ []) }
+        ensures paths { paths_in self.new ≡ paths_in self.old }
+        ensures err { OnErr result (self.new ≡ self.old) }
+    {
+        self.syntaxes.push(syntax)?;
+        Ok(())
+    }
+
+    /// Puts a definition last that was loaded from the file of this path. Without memory for both the builder stays as it
+    /// is.
+    pub(crate) fn add_loaded(
+        &mut self,
+        syntax: SyntaxDefinition,
+        path: Text,
+    ) -> Result<(), AllocError>
+        ensures ok { OnOk result (definitions_in self.new ≡ definitions_in self.old ++ syntax ∷ []) }
+        ensures paths { OnOk result (paths_in self.new ≡ paths_in self.old ++ (path, length (definitions_in self.old)) ∷ []) }
+        ensures err { OnErr result (self.new ≡ self.old) }
+    {
+        self.path_syntaxes.push((path, self.syntaxes.len()))?;
+        match self.syntaxes.push(syntax) {
+            Ok(()) => Ok(()),
+            Err(_) => {
+                self.path_syntaxes.pop();
+                Err(AllocError)
+            }
+        }
+    }
+
+    /// The definitions, in the order in which they were added.
+    pub fn syntaxes(&self) -> &[SyntaxDefinition]
+        ensures { result.now ≡ definitions_in self.now }
+    {
+        self.syntaxes.as_slice()
+    }
+
+    /// Links the definitions into a set. Contexts are numbered in the byte order of their names.
+    ///
+    /// A reference by name is linked to the context of that name in its own syntax, `$top_level_main` being `main`. A
+    /// reference by scope or by the name of a syntax is linked to the last syntax of it: to the sub context, or to `main`.
+    /// With a way out, where there is no such context, it is linked to `main` of the last syntax named `Plain Text`. A
+    /// reference that has a number keeps it, and what cannot be linked stays as it is, unresolved.
+    ///
+    /// A context without a prototype of its own is given the context `prototype` of its syntax, if it wants one and isn't
+    /// reached from it. Contexts that include one with back references, over any number of includes, are marked as it is.
+    /// First-line patterns are compiled.
+    ///
+    /// The repository is that of the definitions' scopes. Without memory the definitions are dropped.
+    pub fn build(
+        self,
+        alloc: Global,
+        scope_repo: &mut ScopeRepository,
+    ) -> Result<SyntaxSet, AllocError>
+        ensures linked { IfOk result (λ set. set ≡ with_paths (paths_in self) (linked (definitions_in self))) }
+        ensures repository { scope_repo.new ≡ scope_repo.old }
+    {
+        let _ = scope_repo;
+        let SyntaxSetBuilder {
+            syntaxes,
+            path_syntaxes,
+        } = self;
+        Ok(SyntaxSet {
+            syntaxes: link_definitions(alloc, syntaxes)?,
+            path_syntaxes,
+        })
+    }
+}
