@@ -6,21 +6,21 @@ use Rattle.std.specs.Cmp.Lexicographic.{pointwise}
 use Rattle.std.proofs.lemmas.List.{append-nil}
 use Rattle.std.proofs.lemmas.Option.{slice_get-map}
 use Rattle.std.proofs.lemmas.List.Quantifiers.{position-Some}
-use Rattle.syntect_parsing.specs.Contexts.{context_at, contexts_of}
-use Rattle.syntect_parsing.specs.References.{names_of, heads_from, body_of}
-use Rattle.syntect_parsing.specs.Link.{linked_from, linked_definition, linked_contexts, linked_context, syntaxes_in}
+use Rattle.syntect_grammar.specs.Contexts.{context_at, contexts_of}
+use Rattle.syntect_grammar.specs.References.{names_of, heads_from, body_of}
+use Rattle.syntect_grammar.specs.Link.{linked_from, linked_definition, linked_contexts, linked_context, syntaxes_in}
 use Rattle.syntect_parsing.specs.Line.{start, start_id, start_of, HasPlainStart}
-use Rattle.syntect_parsing.specs.declared.syntax_definition.ContextId.{ContextId}
-use Rattle.syntect_parsing.specs.declared.syntax_definition.Context.{Context}
-use Rattle.syntect_parsing.specs.declared.syntax_definition.SyntaxDefinition.{SyntaxDefinition}
-use Rattle.syntect_parsing.specs.declared.syntax_set.SyntaxReference.{SyntaxReference}
-use Rattle.syntect_parsing.specs.declared.syntax_set.SyntaxSet.{SyntaxSet}
+use Rattle.syntect_grammar.specs.declared.syntax_definition.ContextId.{ContextId}
+use Rattle.syntect_grammar.specs.declared.syntax_definition.Context.{Context}
+use Rattle.syntect_grammar.specs.declared.syntax_definition.SyntaxDefinition.{SyntaxDefinition}
+use Rattle.syntect_grammar.specs.declared.syntax_set.SyntaxReference.{SyntaxReference}
+use Rattle.syntect_grammar.specs.declared.syntax_set.SyntaxSet.{SyntaxSet}
 use Rattle.syntect_parsing.specs.declared.parser.ParseState.{ParseState}
 use Rattle.syntect.specs.Built.{start_context, IsPlain, IsBuiltOf}
 use Rattle.syntect.specs.Leads.{BeginsPlain}
 
 -- a definition, linked at this index with these heads and contexts
-record IsLinkedAt (heads : List SyntaxReference) (bodies : List (List Context)) (definitions : List SyntaxDefinition) (place index : ℕ) (syntax : SyntaxReference) : Type 0 where
+pub record IsLinkedAt (heads : List SyntaxReference) (bodies : List (List Context)) (definitions : List SyntaxDefinition) (place index : ℕ) (syntax : SyntaxReference) : Type 0 where
   pub definition : SyntaxDefinition
   pub at : slice_get definitions place ≡ Some definition
   pub is : syntax ≡ linked_definition heads bodies index definition
@@ -60,7 +60,7 @@ linked_at heads bodies definitions place syntax e =
     let k : 0 + place ≡ place = omega arith in
     record { definition = r.definition; at = r.at; is = subst (λ n. syntax ≡ linked_definition heads bodies n r.definition) k r.is }
 
-abbrev number : ℕ → ℕ → ContextId
+abbrev pub number : ℕ → ℕ → ContextId
 number i j = record { syntax_index = i; context_index = j }
 
 in_row : (heads : List SyntaxReference) (bodies : List (List Context)) (i p : ℕ) (cs : List Context) (j : ℕ)
@@ -110,7 +110,7 @@ linked_plain heads bodies id (Some x) h = h
 
 module _ (heads : List SyntaxReference) (bodies : List (List Context)) (set : SyntaxSet) (place : ℕ) (syntax : SyntaxReference) (d : SyntaxDefinition)
     (at : slice_get (syntaxes_in set) place ≡ Some syntax) (is : syntax ≡ linked_definition heads bodies place d) where
-  held : (k : ℕ) → context_at set (number place k) ≡ option_map (linked_context heads bodies (number place k)) (slice_get (body_of d) k)
+  pub held : (k : ℕ) → context_at set (number place k) ≡ option_map (linked_context heads bodies (number place k)) (slice_get (body_of d) k)
   held k = context_here set place k syntax at ∙ ap (λ (x : SyntaxReference). slice_get x.contexts k) is ∙ in_body heads bodies place (body_of d) k
 
   starts_at : IsPlain d → (o : Option ℕ) → position (pointwise ◌==◌ (codes "__start")) (names_of d.contexts) ≡ o
@@ -138,13 +138,13 @@ module _ (heads : List SyntaxReference) (bodies : List (List Context)) (set : Sy
       entry_there (x ∷ entries) (suc k) f l = entry_there entries k f (omega arith)
 
 module _ (set : SyntaxSet) (syntax : SyntaxReference) (definitions : List SyntaxDefinition) (h : IsBuiltOf set syntax definitions) where
-  abbrev heads_in : List SyntaxReference
+  abbrev pub heads_in : List SyntaxReference
   heads_in = heads_from 0 definitions
 
-  abbrev bodies_in : List (List Context)
+  abbrev pub bodies_in : List (List Context)
   bodies_in = map body_of definitions
 
-  here : IsLinkedAt heads_in bodies_in definitions h.place h.place syntax
+  pub here : IsLinkedAt heads_in bodies_in definitions h.place h.place syntax
   here =
       let at : slice_get (linked_from heads_in bodies_in 0 definitions) h.place ≡ Some syntax = rw h.set_is at h.among in
       linked_at heads_in bodies_in definitions h.place syntax at

@@ -11,22 +11,22 @@ use Rattle.syntect_scope.specs.declared.stack.ScopeError.TheVariants as scope
 use Rattle.syntect_style.specs.Pieces.{path_of}
 use Rattle.syntect_style.specs.declared.style.Style.{Style}
 use Rattle.syntect_style.specs.declared.theme.Theme.{Theme}
-use Rattle.syntect_parsing.specs.Contexts.{context_at}
+use Rattle.syntect_grammar.specs.Contexts.{context_at}
 use Rattle.syntect_parsing.specs.Engine.{dialect}
 use Rattle.syntect_parsing.specs.Laws.{NeverBoth, StackIsOpen}
 use Rattle.syntect_parsing.specs.Line.{Answer, AnswersAll, RefusesLine, start, start_id}
 use Rattle.syntect_parsing.specs.Meaning.{Accepts, MayRefuse}
 use Rattle.syntect_parsing.specs.Refusals.{AreByName, IsClosed, IsNeverLeft, LinksClosed, NamesUnresolved, PicksUnresolved, RefusesUnresolved, lone_patterns, stays}
-use Rattle.syntect_parsing.specs.declared.syntax_definition.ContextId.{ContextId}
-use Rattle.syntect_parsing.specs.declared.syntax_definition.ContextReference.{ContextReference}
-use Rattle.syntect_parsing.specs.declared.syntax_definition.SyntaxDefinition.{SyntaxDefinition}
-use Rattle.syntect_parsing.specs.declared.syntax_set.SyntaxReference.{SyntaxReference}
-use Rattle.syntect_parsing.specs.declared.syntax_set.SyntaxSet.{SyntaxSet}
+use Rattle.syntect_grammar.specs.declared.syntax_definition.ContextId.{ContextId}
+use Rattle.syntect_grammar.specs.declared.syntax_definition.ContextReference.{ContextReference}
+use Rattle.syntect_grammar.specs.declared.syntax_definition.SyntaxDefinition.{SyntaxDefinition}
+use Rattle.syntect_grammar.specs.declared.syntax_set.SyntaxReference.{SyntaxReference}
+use Rattle.syntect_grammar.specs.declared.syntax_set.SyntaxSet.{SyntaxSet}
 use Rattle.syntect_parsing.specs.declared.parser.ParseState.{ParseState}
-use Rattle.syntect_parsing.specs.declared.parser.ParsingError.{ParsingError}
-use Rattle.syntect_parsing.specs.declared.parser.ParsingError.TheVariants as parsing
+use Rattle.syntect_grammar.specs.declared.error.ParsingError.{ParsingError}
+use Rattle.syntect_grammar.specs.declared.error.ParsingError.TheVariants as parsing
 use Rattle.syntect.specs.Built.{IsBuiltOf, StaysInStart}
-use Rattle.syntect.specs.Errors.{from_parsing, from_scope}
+use Rattle.syntect_grammar.specs.Passing.{from_parsing, from_scope}
 use Rattle.syntect.specs.Leads.{Leads, RefusedExactly}
 use Rattle.syntect.specs.declared.easy.HighlightLines.{HighlightLines}
 use Rattle.syntect.proofs.BuiltLaws.{built_there, built_begins_plain}

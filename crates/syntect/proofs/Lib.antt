@@ -3,4 +3,7 @@ pub mod LeadLaws
 pub mod ExactLaws
 pub mod PageLaws
 pub mod LoadedLaws
+pub mod StayLaws
 pub mod ReaderLaws
+pub mod RowLaws
+pub mod FileLaws

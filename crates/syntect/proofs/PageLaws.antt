@@ -5,16 +5,16 @@ use Rattle.std.proofs.lemmas.Grind.{flat_map-append}
 use Rattle.syntect_style.specs.declared.style.Style.{Style}
 use Rattle.syntect_style.specs.declared.theme.Theme.{Theme}
 use Rattle.syntect_parsing.specs.Line.{Accepted}
-use Rattle.syntect_parsing.specs.declared.syntax_set.SyntaxReference.{SyntaxReference}
-use Rattle.syntect_parsing.specs.declared.syntax_set.SyntaxSet.{SyntaxSet}
+use Rattle.syntect_grammar.specs.declared.syntax_set.SyntaxReference.{SyntaxReference}
+use Rattle.syntect_grammar.specs.declared.syntax_set.SyntaxSet.{SyntaxSet}
 use Rattle.syntect_writers.specs.Lines.{lines_of}
 use Rattle.syntect_writers.specs.Spans.{line_text, opening, closing, background_of}
 use Rattle.syntect_writers.specs.declared.html.IncludeBackground.TheVariants.{IfDifferent}
 use Rattle.syntect.specs.Leads.{Leads, LeadsOn, LacksStart}
 use Rattle.syntect.specs.Pages.{Row, IsShown, AreShown, lines_in, answers_in, body_text, IsPage, HasNoPage}
 use Rattle.syntect.specs.declared.easy.HighlightLines.{HighlightLines}
-use Rattle.syntect.specs.declared.error.Error.{Error}
-use Rattle.syntect.specs.declared.error.Error.TheVariants as error
+use Rattle.syntect_grammar.specs.declared.error.Error.{Error}
+use Rattle.syntect_grammar.specs.declared.error.Error.TheVariants as error
 
 -- the rows of the lines so far are on the page
 pub record IsSoFar (set : SyntaxSet) (theme : Theme) (syntax : SyntaxReference) (text left page : List ℕ) (h : HighlightLines) : Type 0 where
@@ -42,6 +42,15 @@ pub shown_last : (theme : Theme) (rows : List Row) (row : Row) → AreShown them
 shown_last theme [] row s t = (t, tt)
 shown_last theme (r ∷ rows) row s t = (s.0, shown_last theme rows row s.1 t)
 
+pub written_last : (theme : Theme) (rows : List Row) (row : Row) (page next : List ℕ) → page ≡ opening theme ++ body_text theme rows
+    → next ≡ page ++ line_text (IfDifferent (background_of theme)) row.pieces → next ≡ opening theme ++ body_text theme (rows ++ row ∷ [])
+written_last theme rows row page next e f =
+    f ∙ ap (λ (xs : List ℕ). xs ++ line_text (IfDifferent (background_of theme)) row.pieces) e
+    ∙ append_assoc (opening theme) (body_text theme rows) _
+    ∙ ap (λ (xs : List ℕ). opening theme ++ xs)
+    (ap (λ (xs : List ℕ). body_text theme rows ++ xs) (sym (append-nil (line_text (IfDifferent (background_of theme)) row.pieces)))
+    ∙ sym (flat_map-append (λ (r : Row). line_text (IfDifferent (background_of theme)) r.pieces) rows (row ∷ [])))
+
 unfoldable pub so_far_more : (set : SyntaxSet) (theme : Theme) (syntax : SyntaxReference) (text left rest page next : List ℕ) (line : Bor (List ℕ)) (h new : HighlightLines) (pieces : Vec (Style × Bor (List ℕ)))
     (s : IsSoFar set theme syntax text left page h)
     → LeadsOn set theme syntax (lines_in s.rows) (answers_in s.rows) line new (Ok pieces)
@@ -60,12 +69,7 @@ so_far_more set theme syntax text left rest page next line h new pieces s l e f 
           ∙ ap (λ xs. lines_in s.rows ++ xs) (sym e)
           ∙ s.lines;
       shown = shown_last theme s.rows row s.shown (l.2, l.3);
-      written =
-          f ∙ ap (λ (xs : List ℕ). xs ++ line_text (IfDifferent (background_of theme)) pieces.items) s.written
-          ∙ append_assoc (opening theme) (body_text theme s.rows) _
-          ∙ ap (λ (xs : List ℕ). opening theme ++ xs)
-          (ap (λ (xs : List ℕ). body_text theme s.rows ++ xs) (sym (append-nil (line_text (IfDifferent (background_of theme)) pieces.items)))
-          ∙ sym (flat_map-append (λ (r : Row). line_text (IfDifferent (background_of theme)) r.pieces) s.rows (row ∷ [])));
+      written = written_last theme s.rows row page next s.written f;
     }
 
 pub page_whole : (set : SyntaxSet) (theme : Theme) (syntax : SyntaxReference) (text left page whole : List ℕ) (h : HighlightLines) → IsSoFar set theme syntax text left page h → lines_of left ≡ [] → whole ≡ page ++ closing
@@ -98,6 +102,7 @@ no_page set theme syntax text left page line rest h new (error.ParsingError e) s
     })
 no_page set theme syntax text left page line rest h new error.Memory s l f = tt
 no_page set theme syntax text left page line rest h new (error.ScopeError e) s l f = absurd l
+no_page set theme syntax text left page line rest h new (error.LoadingError e) s l f = absurd l
 no_page set theme syntax text left page line rest h new (error.Fmt e) s l f = absurd l
 no_page set theme syntax text left page line rest h new (error.Io e) s l f = absurd l
 no_page set theme syntax text left page line rest h new error.NoSyntax s l f = absurd l
@@ -106,6 +111,7 @@ pub no_start : (set : SyntaxSet) (syntax : SyntaxReference) (text : List ℕ) (e
 no_start set syntax text (error.ParsingError e) l = inl l
 no_start set syntax text error.Memory l = tt
 no_start set syntax text (error.ScopeError e) l = absurd l
+no_start set syntax text (error.LoadingError e) l = absurd l
 no_start set syntax text (error.Fmt e) l = absurd l
 no_start set syntax text (error.Io e) l = absurd l
 no_start set syntax text error.NoSyntax l = absurd l

@@ -1,15 +1,16 @@
 -- Sets that were built of definitions, and what the definitions have to be.
-use Rattle.std.specs.Prelude.{◌≡◌, true, ℕ, ◌==◌, ◌≤◌, List, [], length, map, position, codes, Option, Some, IfSome, All, slice_get}
+use Rattle.std.specs.Prelude.{◌≡◌, Bool, true, ℕ, ◌==◌, ◌≤◌, List, [], length, map, position, codes, Option, Some, IfSome, All, slice_get, Ok}
 use Rattle.std.specs.List.{list_all}
 use Rattle.std.specs.Option.{option_and_then}
 use Rattle.std.specs.Cmp.Lexicographic.{pointwise}
 use Rattle.syntect_parsing.specs.Line.{start_id}
-use Rattle.syntect_parsing.specs.Link.{with_paths, linked, names_of, syntaxes_in}
+use Rattle.syntect_grammar.specs.Link.{with_paths, linked, names_of, syntaxes_in}
+use Rattle.syntect_grammar.specs.Loading.{loaded}
 use Rattle.syntect_parsing.specs.Refusals.{lone_patterns, stays}
-use Rattle.syntect_parsing.specs.declared.syntax_definition.Context.{Context}
-use Rattle.syntect_parsing.specs.declared.syntax_definition.SyntaxDefinition.{SyntaxDefinition}
-use Rattle.syntect_parsing.specs.declared.syntax_set.SyntaxReference.{SyntaxReference}
-use Rattle.syntect_parsing.specs.declared.syntax_set.SyntaxSet.{SyntaxSet}
+use Rattle.syntect_grammar.specs.declared.syntax_definition.Context.{Context}
+use Rattle.syntect_grammar.specs.declared.syntax_definition.SyntaxDefinition.{SyntaxDefinition}
+use Rattle.syntect_grammar.specs.declared.syntax_set.SyntaxReference.{SyntaxReference}
+use Rattle.syntect_grammar.specs.declared.syntax_set.SyntaxSet.{SyntaxSet}
 
 -- the context `__start` of a definition, in which reading begins, if it has one
 abbrev pub start_context : SyntaxDefinition → Option Context
@@ -25,6 +26,21 @@ pub record IsBuiltOf (set : SyntaxSet) (syntax : SyntaxReference) (definitions :
   pub set_is : set ≡ with_paths paths (linked definitions)
   pub place : ℕ
   pub among : slice_get (syntaxes_in set) place ≡ Some syntax
+  pub plain : All IsPlain definitions
+
+-- a definition that `load_from_str` answers to some text
+pub record IsLoaded (d : SyntaxDefinition) : Type 0 where
+  pub text : List ℕ
+  pub lines_include_newline : Bool
+  pub fallback : Option (List ℕ)
+  pub repository : List (List ℕ)
+  pub left : List (List ℕ)
+  pub loads : loaded text lines_include_newline fallback repository ≡ Ok (d, left)
+
+-- the same of the set alone
+pub record IsBuilt (set : SyntaxSet) (definitions : List SyntaxDefinition) : Type 0 where
+  pub paths : List (List ℕ × ℕ)
+  pub set_is : set ≡ with_paths paths (linked definitions)
   pub plain : All IsPlain definitions
 
 -- Nothing that is looked at in `__start` alone pops it or sets another context in its place: a text never leaves it.

@@ -10,13 +10,13 @@ use Rattle.syntect_parsing.specs.Engine.{dialect}
 use Rattle.syntect_parsing.specs.Line.{Answer, Accepted, RefusedBy, AnswersAll, start_of, stack_before, HasPlainStart}
 use Rattle.syntect_parsing.specs.Refusals.{NamesUnresolved, PicksUnresolved}
 use Rattle.syntect_parsing.specs.declared.parser.ParseState.{ParseState}
-use Rattle.syntect_parsing.specs.declared.syntax_definition.ContextReference.{ContextReference}
-use Rattle.syntect_parsing.specs.declared.parser.ParsingError.TheVariants as parsing
-use Rattle.syntect_parsing.specs.declared.syntax_set.SyntaxReference.{SyntaxReference}
-use Rattle.syntect_parsing.specs.declared.syntax_set.SyntaxSet.{SyntaxSet}
+use Rattle.syntect_grammar.specs.declared.syntax_definition.ContextReference.{ContextReference}
+use Rattle.syntect_grammar.specs.declared.error.ParsingError.TheVariants as parsing
+use Rattle.syntect_grammar.specs.declared.syntax_set.SyntaxReference.{SyntaxReference}
+use Rattle.syntect_grammar.specs.declared.syntax_set.SyntaxSet.{SyntaxSet}
 use Rattle.syntect.specs.declared.easy.HighlightLines.{HighlightLines}
-use Rattle.syntect.specs.declared.error.Error.{Error}
-use Rattle.syntect.specs.declared.error.Error.TheVariants as error
+use Rattle.syntect_grammar.specs.declared.error.Error.{Error}
+use Rattle.syntect_grammar.specs.declared.error.Error.TheVariants as error
 
 -- the syntax has no `__start`, unless memory ran out
 abbrev pub LacksStart : SyntaxReference → Error → Type 0
@@ -48,6 +48,7 @@ LeadsOn set theme syntax lines answers line h (Ok pieces) =
 LeadsOn set theme syntax lines answers line h (Err (error.ParsingError e)) = Leads set theme syntax (lines ++ line.now ∷ []) (answers ++ RefusedBy e ∷ []) h
 LeadsOn set theme syntax lines answers line h (Err error.Memory) = Unit {0}
 LeadsOn set theme syntax lines answers line h (Err (error.ScopeError e)) = ⊥
+LeadsOn set theme syntax lines answers line h (Err (error.LoadingError e)) = ⊥
 LeadsOn set theme syntax lines answers line h (Err (error.Fmt e)) = ⊥
 LeadsOn set theme syntax lines answers line h (Err (error.Io e)) = ⊥
 LeadsOn set theme syntax lines answers line h (Err error.NoSyntax) = ⊥
@@ -59,6 +60,7 @@ RefusedExactly set line h (Ok pieces) = (r : ContextReference) → PicksUnresolv
 RefusedExactly set line h (Err (error.ParsingError e)) = NamesUnresolved dialect set line h.parse_state e
 RefusedExactly set line h (Err error.Memory) = Unit {0}
 RefusedExactly set line h (Err (error.ScopeError e)) = ⊥
+RefusedExactly set line h (Err (error.LoadingError e)) = ⊥
 RefusedExactly set line h (Err (error.Fmt e)) = ⊥
 RefusedExactly set line h (Err (error.Io e)) = ⊥
 RefusedExactly set line h (Err error.NoSyntax) = ⊥

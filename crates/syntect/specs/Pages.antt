@@ -1,5 +1,5 @@
 -- What a page of HTML shows of a text.
-use Rattle.std.specs.Prelude.{◌≡◌, ℕ, Bool, true, false, List, [], ◌∷◌, ◌++◌, map, Option, Some, ◌⊎◌}
+use Rattle.std.specs.Prelude.{◌≡◌, ℕ, List, [], ◌∷◌, ◌++◌, map, Some, ◌⊎◌}
 use Rattle.std.specs.Str.{IsUtf8}
 use Rattle.std.specs.List.{flat_map}
 use Rattle.std.specs.Borrow.{Bor}
@@ -9,15 +9,15 @@ use Rattle.syntect_style.specs.declared.theme.Theme.{Theme}
 use Rattle.syntect_parsing.specs.Engine.{dialect}
 use Rattle.syntect_parsing.specs.Line.{Answer, Accepted, RefusedBy, AnswersAll, start_of}
 use Rattle.syntect_parsing.specs.declared.parser.ParseState.{ParseState}
-use Rattle.syntect_parsing.specs.declared.parser.ParsingError.{ParsingError}
-use Rattle.syntect_parsing.specs.declared.syntax_set.SyntaxReference.{SyntaxReference}
-use Rattle.syntect_parsing.specs.declared.syntax_set.SyntaxSet.{SyntaxSet}
+use Rattle.syntect_grammar.specs.declared.error.ParsingError.{ParsingError}
+use Rattle.syntect_grammar.specs.declared.syntax_set.SyntaxReference.{SyntaxReference}
+use Rattle.syntect_grammar.specs.declared.syntax_set.SyntaxSet.{SyntaxSet}
 use Rattle.syntect_writers.specs.Lines.{lines_of}
 use Rattle.syntect_writers.specs.Spans.{line_text, opening, closing, background_of}
 use Rattle.syntect_writers.specs.declared.html.IncludeBackground.TheVariants.{IfDifferent}
 use Rattle.syntect.specs.Leads.{LacksStart}
-use Rattle.syntect.specs.declared.error.Error.{Error}
-use Rattle.syntect.specs.declared.error.Error.TheVariants as error
+use Rattle.syntect_grammar.specs.declared.error.Error.{Error}
+use Rattle.syntect_grammar.specs.declared.error.Error.TheVariants as error
 
 -- a line, the scopes that its reading gives each byte, and the pieces that it is shown in
 pub record Row : Type 0 where
@@ -70,6 +70,7 @@ abbrev pub HasNoPage : SyntaxSet → SyntaxReference → List ℕ → Error → 
 HasNoPage set syntax text (error.ParsingError e) = LacksStart syntax (error.ParsingError e) ⊎ IsRefusedAtALine set syntax text e
 HasNoPage set syntax text error.Memory = Unit {0}
 HasNoPage set syntax text (error.ScopeError e) = ⊥
+HasNoPage set syntax text (error.LoadingError e) = ⊥
 HasNoPage set syntax text (error.Fmt e) = ⊥
 HasNoPage set syntax text (error.Io e) = ⊥
 HasNoPage set syntax text error.NoSyntax = ⊥
@@ -102,14 +103,10 @@ IsStopped set syntax text (error.ParsingError e) = IsRefusedAtALineOfBytes set s
 IsStopped set syntax text (error.Io e) = Unit {0}
 IsStopped set syntax text error.Memory = Unit {0}
 IsStopped set syntax text (error.ScopeError e) = ⊥
+IsStopped set syntax text (error.LoadingError e) = ⊥
 IsStopped set syntax text (error.Fmt e) = ⊥
 IsStopped set syntax text error.NoSyntax = ⊥
 
 -- The same, where the syntax is looked at first.
 abbrev pub HasNoPageOfBytes : SyntaxSet → SyntaxReference → List ℕ → Error → Type 0
 HasNoPageOfBytes set syntax text e = LacksStart syntax e ⊎ IsStopped set syntax text e
-
--- the next line of what a reader has left, and what it has left then; or nothing was left
-abbrev pub GivesNext : List ℕ → List ℕ → Option (List ℕ) → Bool → Type 0
-GivesNext text line left true = (rest : List ℕ) × (left ≡ Some rest) × (lines_of text ≡ line ∷ lines_of rest) × (text ≡ line ++ rest)
-GivesNext text line left false = text ≡ []

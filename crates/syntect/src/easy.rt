@@ -1,14 +1,21 @@
-//! Lines to styled pieces.
+//! Lines to styled pieces, of texts and of files.
 ghost use Rattle.std.specs.Prelude.{◌≡◌, ◌++◌, ◌∷◌, [], List, ℕ, IfOk, IfErr, OnErr};
+ghost use Rattle.std.specs.Path.{path_bytes};
+ghost use Rattle.syntect.specs.Files.{IsSyntaxFor, HasNoLines};
+ghost use Rattle.syntect.specs.Leads.{Leads};
 ghost use Rattle.syntect_parsing.specs.Line.{Answer};
-ghost use Rattle.syntect_parsing.specs.declared.syntax_definition.SyntaxDefinition.{SyntaxDefinition as ADefinition};
-ghost use Rattle.syntect_parsing.specs.declared.syntax_set.SyntaxReference.{SyntaxReference as ASyntax};
-ghost use Rattle.syntect_parsing.specs.declared.syntax_set.SyntaxSet.{SyntaxSet as ASet};
+ghost use Rattle.syntect_grammar.specs.declared.syntax_definition.SyntaxDefinition.{SyntaxDefinition as ADefinition};
+ghost use Rattle.syntect_grammar.specs.declared.syntax_set.SyntaxReference.{SyntaxReference as ASyntax};
+ghost use Rattle.syntect_grammar.specs.declared.syntax_set.SyntaxSet.{SyntaxSet as ASet};
 ghost use Rattle.syntect_style.specs.declared.theme.Theme.{Theme as ATheme};
 ghost use Rattle.syntect.specs.declared.easy.HighlightLines.{HighlightLines as ALines};
 
-use crate::error::Error;
 use std::alloc::{AllocError, Global};
+use std::fs;
+use std::io::{BufReader, Read};
+use std::path::Path;
+use std::rt::Files;
+use syntect_parsing::error::Error;
 use syntect_parsing::laws::{
     answers_more, links_closed, never_both, refuses_unresolved, stack_is_open,
 };
@@ -30,7 +37,7 @@ pub struct HighlightLines<'a> {
 }
 
 impl<'a> HighlightLines<'a> {
-    ghost use Rattle.syntect.specs.Leads.{Leads, LeadsOn, LacksStart, RefusedExactly};
+    ghost use Rattle.syntect.specs.Leads.{LeadsOn, LacksStart, RefusedExactly};
     ghost use Rattle.syntect.specs.Built.{IsBuiltOf, StaysInStart};
     ghost use Rattle.syntect_parsing.specs.Refusals.{AreByName};
 
@@ -120,6 +127,73 @@ impl<'a> HighlightLines<'a> {
         self.parse_state = parse_state;
         self.highlight_state = highlight_state;
         Ok(pieces)
+    }
+}
+
+/// Highlights the lines of a file, which are read from `reader`.
+#[derive(Drop)]
+pub struct HighlightFile<'a, F> {
+    pub reader: BufReader<F>,
+    pub highlight_lines: HighlightLines<'a>,
+}
+
+impl<'a, F: Read + Drop> HighlightFile<'a, F> {
+    /// Opens a file, at its first line, and the state before that line under this theme. Its syntax is the one that
+    /// `SyntaxSet::find_syntax_for_file` finds, or else plain text.
+    ///
+    /// `Io` where the file is not opened, or not read to find the syntax; `NoSyntax` where no syntax fits and the set has no
+    /// `Plain Text`; `MissingMainContext` where the syntax has no context `__start`.
+    #[tactic(auto, using(crate::proofs::FileLaws::not_read, crate::proofs::FileLaws::no_start_for))]
+    pub fn new<R: Files<File = F>>(
+        files: &R,
+        alloc: Global,
+        path: Path<'_>,
+        ss: &SyntaxSet,
+        theme: &'a Theme,
+    ) -> Result<HighlightFile<'a, F>, Error>
+        ensures leads { IfOk result (λ file. (syntax : ASyntax) × IsSyntaxFor ss.now (path_bytes path.entry) syntax × Leads ss.now theme.now syntax [] [] file.highlight_lines) }
+        ensures refused { IfErr result (HasNoLines ss.now (path_bytes path.entry)) }
+    {
+        let file = match fs::open(files, path) {
+            Ok(file) => file,
+            Err(e) => return Err(Error::from(e)),
+        };
+        let reader = match BufReader::new(alloc, file) {
+            Ok(reader) => reader,
+            Err(e) => return Err(Error::from(e)),
+        };
+        let syntax = match syntax_for(files, alloc, path, ss) {
+            Ok(syntax) => syntax,
+            Err(e) => return Err(e),
+        };
+        match HighlightLines::new(alloc, syntax, theme) {
+            Ok(highlight_lines) => Ok(HighlightFile {
+                reader,
+                highlight_lines,
+            }),
+            Err(e) => Err(e),
+        }
+    }
+}
+
+/// The syntax of a file, or else plain text.
+#[tactic(auto, using(crate::proofs::FileLaws::found_syntax, crate::proofs::FileLaws::plain_syntax, crate::proofs::FileLaws::no_syntax, crate::proofs::FileLaws::not_found))]
+fn syntax_for<'s>(
+    files: &impl Files,
+    alloc: Global,
+    path: Path<'_>,
+    ss: &'s SyntaxSet,
+) -> Result<&'s SyntaxReference, Error>
+    ensures found { IfOk result (λ syntax. IsSyntaxFor ss.now (path_bytes path.entry) syntax.now) }
+    ensures refused { IfErr result (HasNoLines ss.now (path_bytes path.entry)) }
+{
+    match ss.find_syntax_for_file(files, alloc, path) {
+        Ok(Some(syntax)) => Ok(syntax),
+        Ok(None) => match ss.find_syntax_plain_text() {
+            Some(syntax) => Ok(syntax),
+            None => Err(Error::NoSyntax),
+        },
+        Err(e) => Err(e),
     }
 }
 

@@ -1,19 +1,23 @@
 //! Texts as HTML with inline styles.
 //!
 //! `highlighted_html_for_string` does it all; the other calls write lines that were highlighted before.
-ghost use Rattle.std.specs.Prelude.{◌≡◌, List, [], IfOk, IfErr, IfSome, string_bytes};
-ghost use Rattle.syntect.specs.Built.{IsBuiltOf};
+ghost use Rattle.std.specs.Prelude.{◌≡◌, ℕ, List, [], IfOk, IfErr, string_bytes};
+ghost use Rattle.std.specs.Path.{path_bytes};
+ghost use Rattle.syntect.specs.Built.{IsBuilt, IsBuiltOf};
+ghost use Rattle.syntect.specs.Files.{IsPageOfFile, HasNoPageOfFile};
 ghost use Rattle.syntect.specs.Leads.{Leads};
-ghost use Rattle.syntect.specs.Pages.{IsPage, HasNoPage, IsPageOfBytes, HasNoPageOfBytes, IsStopped, GivesNext, IsReadFault};
-ghost use Rattle.std.specs.Str.{IsUtf8};
-ghost use Rattle.syntect_parsing.specs.declared.syntax_definition.SyntaxDefinition.{SyntaxDefinition as ADefinition};
-ghost use Rattle.syntect_parsing.specs.declared.syntax_set.SyntaxReference.{SyntaxReference as ASyntax};
+ghost use Rattle.syntect.specs.Pages.{IsPage, HasNoPage, IsPageOfBytes, HasNoPageOfBytes, IsStopped};
+ghost use Rattle.syntect.specs.Rows.{IsTextOf};
+ghost use Rattle.syntect_grammar.specs.declared.syntax_definition.SyntaxDefinition.{SyntaxDefinition as ADefinition};
+ghost use Rattle.syntect_grammar.specs.declared.syntax_set.SyntaxReference.{SyntaxReference as ASyntax};
 
-use crate::easy::HighlightLines;
-use crate::error::Error;
+use crate::easy::{HighlightFile, HighlightLines};
+use crate::reading::{next_line, text_of};
 use std::alloc::Global;
 use std::io::{BufRead, Error as IoError, ErrorKind};
-use std::str;
+use std::path::Path;
+use std::rt::Files;
+use syntect_parsing::error::Error;
 use syntect_parsing::syntax_set::{SyntaxReference, SyntaxSet};
 use syntect_style::theme::Theme;
 pub use syntect_writers::html::{
@@ -52,7 +56,8 @@ pub fn highlighted_html_for_string(
 
 /// What a reader gives, as HTML with inline styles: as `highlighted_html_for_string` for its bytes. Each line, up to and
 /// with its newline, is tested for UTF-8 and highlighted before the next is read; `Io` where reading fails or a line is
-/// not UTF-8, and no page then.
+/// not UTF-8, and no page then. What follows a line without a newline is not read.
+#[tactic(auto, using(crate::proofs::ReaderLaws::no_page_of_bytes))]
 pub fn highlighted_html_for_reader<R: BufRead + Drop>(
     alloc: Global,
     reader: R,
@@ -60,14 +65,35 @@ pub fn highlighted_html_for_reader<R: BufRead + Drop>(
     syntax: &SyntaxReference,
     theme: &Theme,
 ) -> Result<String, Error>
-    // the set was built of plain definitions, and the reader tells its bytes
+    // the set was built of plain definitions; the text is that of the reader, if it tells its bytes
     ensures page { (definitions : List ADefinition) → IsBuiltOf ss.now syntax.now definitions
-        → IfSome (R.remaining reader) (λ text. IfOk result (λ page. IsPageOfBytes ss.now theme.now syntax.now text (string_bytes page))) }
+        → IfOk result (λ page. (text : List ℕ) × IsTextOf (R.remaining reader) text × IsPageOfBytes ss.now theme.now syntax.now text (string_bytes page)) }
     ensures refused { (definitions : List ADefinition) → IsBuiltOf ss.now syntax.now definitions
-        → IfSome (R.remaining reader) (λ text. IfErr result (HasNoPageOfBytes ss.now syntax.now text)) }
+        → IfErr result (λ e. (text : List ℕ) × IsTextOf (R.remaining reader) text × HasNoPageOfBytes ss.now syntax.now text e) }
 {
     let highlighter = HighlightLines::new(alloc, syntax, theme)?;
     page_of_lines(alloc, reader, highlighter, ss, theme)
+}
+
+/// A file's lines as HTML with inline styles: as `highlighted_html_for_reader` for what the file holds, in the syntax that
+/// `SyntaxSet::find_syntax_for_file` finds, or else plain text. A fault of the file is `Io`, and `NoSyntax` comes where no
+/// syntax fits and the set has no `Plain Text`.
+pub fn highlighted_html_for_file(
+    files: &impl Files,
+    alloc: Global,
+    path: Path<'_>,
+    ss: &SyntaxSet,
+    theme: &Theme,
+) -> Result<String, Error>
+    // the set was built of plain definitions; of what the file holds nothing is known but that the page shows it
+    ensures page { (definitions : List ADefinition) → IsBuilt ss.now definitions
+        → IfOk result (λ page. IsPageOfFile ss.now theme.now (path_bytes path.entry) (string_bytes page)) }
+    ensures refused { (definitions : List ADefinition) → IsBuilt ss.now definitions → IfErr result (HasNoPageOfFile ss.now (path_bytes path.entry)) }
+{
+    match HighlightFile::new(files, alloc, path, ss, theme) {
+        Ok(file) => page_of_lines(alloc, file.reader, file.highlight_lines, ss, theme),
+        Err(e) => Err(e),
+    }
 }
 
 /// The page of what a reader gives, by a highlighter that has read nothing yet.
@@ -79,9 +105,9 @@ fn page_of_lines<R: BufRead + Drop>(
     theme: &Theme,
 ) -> Result<String, Error>
     ensures page { (definitions : List ADefinition) (syntax : ASyntax) → IsBuiltOf ss.now syntax definitions → Leads ss.now theme.now syntax [] [] highlighter.entry
-        → IfSome (R.remaining reader) (λ text. IfOk result (λ page. IsPageOfBytes ss.now theme.now syntax text (string_bytes page))) }
+        → IfOk result (λ page. (text : List ℕ) × IsTextOf (R.remaining reader) text × IsPageOfBytes ss.now theme.now syntax text (string_bytes page)) }
     ensures refused { (definitions : List ADefinition) (syntax : ASyntax) → IsBuiltOf ss.now syntax definitions → Leads ss.now theme.now syntax [] [] highlighter.entry
-        → IfSome (R.remaining reader) (λ text. IfErr result (IsStopped ss.now syntax text)) }
+        → IfErr result (λ e. (text : List ℕ) × IsTextOf (R.remaining reader) text × IsStopped ss.now syntax text e) }
 {
     let (mut page, color) = start_highlighted_html_snippet(alloc, theme)?;
     let ground = IncludeBackground::IfDifferent(color);
@@ -96,28 +122,4 @@ fn page_of_lines<R: BufRead + Drop>(
         append_highlighted_html_for_styled_line(pieces.as_slice(), ground, &mut page)?;
     }
     Err(Error::Io(IoError::new(ErrorKind::Other, "too many lines")))
-}
-
-/// Reads the next line, up to and with its newline, in place of what is in `line`. False where nothing is left.
-fn next_line<R: BufRead>(reader: &mut R, line: &mut Vec<u8>) -> Result<bool, Error>
-    ensures next { IfSome (R.remaining reader.old) (λ text. IfOk result (GivesNext text line.new.items (R.remaining reader.new))) }
-    ensures err { IfErr result (IsReadFault) }
-{
-    line.clear();
-    let count = reader.read_until(b'\n', line)?;
-    Ok(count > 0)
-}
-
-/// The text of bytes that are UTF-8.
-fn text_of(bytes: &[u8]) -> Result<&str, Error>
-    ensures ok { IfOk result (λ text. (text.now ≡ bytes.now) × IsUtf8 bytes.now) }
-    ensures err { IfErr result (IsReadFault) }
-{
-    match str::from_utf8(bytes) {
-        Ok(text) => Ok(text),
-        Err(_) => Err(Error::Io(IoError::new(
-            ErrorKind::InvalidData,
-            "stream did not contain valid UTF-8",
-        ))),
-    }
 }

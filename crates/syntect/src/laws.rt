@@ -1,12 +1,50 @@
 //! Laws that join the crates. Each is the contract of a function that does nothing.
-ghost use Rattle.std.specs.Prelude.{◌≡◌, List, ℕ, Bool, Option, Ok};
-ghost use Rattle.syntect_parsing.specs.Loading.{loaded};
-ghost use Rattle.syntect_parsing.specs.declared.syntax_definition.SyntaxDefinition.{SyntaxDefinition as ADefinition};
-ghost use Rattle.syntect.specs.Built.{IsPlain};
+ghost use Rattle.std.specs.Prelude.{◌≡◌, List, ℕ, Bool, Option, Some, Ok, All};
+ghost use Rattle.syntect_grammar.specs.Loading.{loaded};
+ghost use Rattle.syntect_grammar.specs.declared.syntax_definition.SyntaxDefinition.{SyntaxDefinition as ADefinition};
+ghost use Rattle.syntect_grammar.specs.declared.syntax_set.SyntaxReference.{SyntaxReference as ASyntax};
+ghost use Rattle.syntect_grammar.specs.declared.syntax_set.SyntaxSet.{SyntaxSet as ASet};
+ghost use Rattle.syntect_parsing.specs.declared.parser.ParseState.{ParseState as AState};
+ghost use Rattle.syntect_parsing.specs.Engine.{dialect};
+ghost use Rattle.syntect_parsing.specs.Line.{Answer, AnswersAll, start_of};
+ghost use Rattle.syntect_parsing.specs.Refusals.{AreByName};
+ghost use Rattle.syntect_parsing.specs.Standing.{GiveScopes};
+ghost use Rattle.syntect.specs.Built.{IsPlain, IsLoaded, IsBuiltOf, StaysInStart};
+ghost use Rattle.syntect.specs.Rows.{RowsBegin, RowsGoOn, RowsEnd};
 
 /// A definition that was loaded is plain: its `__start` has no `meta_scope` and one content scope. So what
 /// `HighlightLines::highlight_line` and `highlighted_html_for_string` say holds for sets that were built of such ones.
 pub fn loaded_is_plain()
     ensures { (text : List ℕ) (lines_include_newline : Bool) (fallback : Option (List ℕ)) (repository : List (List ℕ)) (definition : ADefinition) (left : List (List ℕ))
         → loaded text lines_include_newline fallback repository ≡ Ok (definition, left) → IsPlain definition }
+{}
+
+/// Definitions that were loaded are plain, and refer to contexts by name alone; in a set that was built of such ones no
+/// text leaves the `__start` of its syntax. So all clauses of `HighlightLines::highlight_line` hold for them: a line is
+/// refused exactly where a picked match names a reference without target.
+#[tactic(auto, using(crate::proofs::StayLaws::loaded_are_plain))]
+pub fn loaded_sets_stay()
+    ensures plain { (definitions : List ADefinition) → All IsLoaded definitions → All IsPlain definitions }
+    ensures named { (definitions : List ADefinition) → All IsLoaded definitions → AreByName definitions }
+    ensures stay { (set : ASet) (syntax : ASyntax) (definitions : List ADefinition) → IsBuiltOf set syntax definitions → All IsLoaded definitions → StaysInStart set syntax }
+{
+    syntect_grammar::laws::loaded_by_name();
+}
+
+/// In a set that was built of loaded definitions, each byte of each line that is accepted has a scope.
+pub fn loaded_sets_give_scopes()
+    ensures { (set : ASet) (syntax : ASyntax) (definitions : List ADefinition) (start after : AState) (lines : List (List ℕ)) (answers : List Answer)
+        → IsBuiltOf set syntax definitions → All IsLoaded definitions → start_of syntax ≡ Some start → AnswersAll dialect set lines start answers after → GiveScopes answers }
+{
+    syntect_parsing::laws::bytes_have_scopes();
+    syntect_parsing::laws::links_closed();
+    syntect_grammar::laws::loaded_by_name();
+}
+
+/// The lines that a reader gives, one after another, and the pieces that a highlighter answers to them, are the rows of the
+/// reader's text: there are none at first, each line is one more, and in the end they are all.
+pub fn rows_of_readers()
+    ensures begin { RowsBegin }
+    ensures more { RowsGoOn }
+    ensures all { RowsEnd }
 {}

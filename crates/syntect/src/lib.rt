@@ -6,12 +6,12 @@
 #![tactic(auto)]
 
 pub mod easy;
-mod error;
 pub mod highlighting;
 pub mod html;
 pub mod laws;
 pub mod parsing;
+pub mod reading;
 pub mod util;
 
-pub use error::Error;
+pub use syntect_parsing::error::Error;
 pub use syntect_writers::escape;

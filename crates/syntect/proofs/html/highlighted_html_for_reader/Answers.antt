@@ -1,6 +1,7 @@
-use Rattle.std.specs.Prelude.{IfErr}
-use Rattle.syntect.specs.Pages.{HasNoPageOfBytes, IsStopped}
-use Rattle.syntect.proofs.ReaderLaws.{known_on, err_on, stopped_page}
+use Rattle.std.proofs.Common.{List, ℕ}
+use Rattle.syntect.specs.Pages.{HasNoPageOfBytes}
+use Rattle.syntect.specs.Rows.{IsTextOf}
+use Rattle.syntect.proofs.ReaderLaws.{HasStopped, err_on, stopped_page}
 use Rattle.syntect.proofs.html.highlighted_html_for_reader.Goals as goal
 
 pub returns-clause-page : goal.returns-clause-page
@@ -9,8 +10,8 @@ returns-clause-page g c = λ definitions b.
 
 pub returns-clause-refused : goal.returns-clause-refused
 returns-clause-refused g c = λ definitions b.
-    known_on (g.R.Read.remaining c.args.reader)
-    (λ text. IfErr c.page_of_lines.result (IsStopped c.args.ss.now c.args.syntax.now text))
-    (λ text. IfErr c.page_of_lines.result (HasNoPageOfBytes c.args.ss.now c.args.syntax.now text))
-    (λ text h. err_on c.page_of_lines.result (IsStopped c.args.ss.now c.args.syntax.now text) (HasNoPageOfBytes c.args.ss.now c.args.syntax.now text) (stopped_page c.args.ss.now c.args.syntax.now text) h)
+    let had = g.R.Read.remaining c.args.reader in
+    err_on c.page_of_lines.result (HasStopped c.args.ss.now c.args.syntax.now had)
+    (λ e. (text : List ℕ) × IsTextOf had text × HasNoPageOfBytes c.args.ss.now c.args.syntax.now text e)
+    (stopped_page c.args.ss.now c.args.syntax.now had)
     (c.page_of_lines.ensures.refused definitions c.args.syntax.now b (c.in_ok-highlighter.ensures.leads c.args.ss.now))

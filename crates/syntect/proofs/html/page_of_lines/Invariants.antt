@@ -1,7 +1,7 @@
 use Rattle.std.proofs.Common.{List, ℕ, string_bytes}
-use Rattle.std.specs.Prelude.{[], IfSome}
-use Rattle.syntect_parsing.specs.declared.syntax_definition.SyntaxDefinition.{SyntaxDefinition}
-use Rattle.syntect_parsing.specs.declared.syntax_set.SyntaxReference.{SyntaxReference}
+use Rattle.std.specs.Prelude.{[]}
+use Rattle.syntect_grammar.specs.declared.syntax_definition.SyntaxDefinition.{SyntaxDefinition}
+use Rattle.syntect_grammar.specs.declared.syntax_set.SyntaxReference.{SyntaxReference}
 use Rattle.syntect.specs.Built.{IsBuiltOf}
 use Rattle.syntect.specs.Leads.{Leads}
 use Rattle.syntect.proofs.ReaderLaws.{IsSoFarOfBytes}
@@ -10,4 +10,4 @@ use Rattle.syntect.proofs.html.page_of_lines.Given as goal
 abbrev pub invariant-loop : goal.invariant-loop
 invariant-loop g l =
     (definitions : List SyntaxDefinition) (syntax : SyntaxReference) → IsBuiltOf l.ss syntax definitions → Leads l.ss l.theme syntax [] [] l.fn.highlighter
-    → IfSome (g.R.Read.remaining l.fn.reader) (λ text. IsSoFarOfBytes l.ss l.theme syntax text (g.R.Read.remaining l.reader) (string_bytes l.page) l.highlighter)
+    → IsSoFarOfBytes l.ss l.theme syntax (g.R.Read.remaining l.fn.reader) (g.R.Read.remaining l.reader) l.bytes.items (string_bytes l.page) l.highlighter

@@ -1,0 +1,133 @@
+-- Syntaxes of files.
+use Rattle.std.proofs.Common.{◌≡◌, ℕ, suc, Bool, List, [], ◌∷◌, ◌++◌, sym, ap, ◌∙◌, inl, inr, subst, Result, Ok, Err}
+use Rattle.std.specs.Prelude.{Option, Some, None, IfOk, IfErr, IsUtf8, slice_get, find, reverse, ◌⊎◌}
+use Rattle.std.specs.Option.{option_or, option_copied}
+use Rattle.std.proofs.lemmas.Bool.{cases_Bool}
+use Rattle.std.proofs.lemmas.List.{reverse-append}
+use Rattle.syntect_style.specs.declared.theme.Theme.{Theme}
+use Rattle.syntect_grammar.specs.Finding.{found_for_file, found_plain_text, found_by_file_name, found_by_first_line, NotFoundFor}
+use Rattle.syntect_grammar.specs.Link.{syntaxes_in}
+use Rattle.syntect_grammar.specs.declared.syntax_set.SyntaxReference.{SyntaxReference}
+use Rattle.syntect_grammar.specs.declared.syntax_set.SyntaxSet.{SyntaxSet}
+use Rattle.syntect_grammar.specs.declared.syntax_definition.SyntaxDefinition.{SyntaxDefinition}
+use Rattle.syntect_grammar.specs.declared.error.Error.{Error}
+use Rattle.syntect_grammar.specs.declared.error.Error.TheVariants as error
+use Rattle.syntect.specs.Built.{IsBuilt, IsBuiltOf}
+use Rattle.syntect.specs.Files.{IsSyntaxFor, HasNoLines, IsPageOfFile, HasNoPageOfFile}
+use Rattle.syntect.specs.Leads.{LacksStart}
+use Rattle.syntect.specs.Pages.{IsPageOfBytes, IsStopped, IsReadFault}
+
+-- ---- what is found is among what is looked through ----
+
+abbrev pub Among : {X : Type 0} → X → List X → Type 0
+Among x [] = ⊥
+Among x (y ∷ ys) = (y ≡ x) ⊎ Among x ys
+
+among_found : {X : Type 0} (fits : X → Bool) (xs : List X) (x : X) → find fits xs ≡ Some x → Among x xs
+among_found fits [] x e = absurd (let q : None ≡ Some x = e in cc)
+among_found fits (y ∷ ys) x e =
+    elim (cases_Bool (fits y)) [
+      | inl f ↦ inl (let q : Some y ≡ Some x = rw (f) at e in cc)
+      | inr f ↦ inr (among_found fits ys x (rw (f) at e))
+    ]
+
+among_append : {X : Type 0} (x : X) (xs ys : List X) → Among x (xs ++ ys) → Among x xs ⊎ Among x ys
+among_append x [] ys h = inr h
+among_append x (y ∷ xs) ys (inl e) = inl (inl e)
+among_append x (y ∷ xs) ys (inr h) =
+    elim (among_append x xs ys h) [
+      | inl a ↦ inl (inr a)
+      | inr b ↦ inr b
+    ]
+
+among_reverse : {X : Type 0} (x : X) (xs : List X) → Among x (reverse xs) → Among x xs
+among_reverse x [] h = h
+among_reverse x (y ∷ xs) h =
+    elim (among_append x (reverse xs) (y ∷ []) (subst (Among x) (reverse-append (y ∷ []) xs) h)) [
+      | inl a ↦ inr (among_reverse x xs a)
+      | inr (inl e) ↦ inl e
+      | inr (inr b) ↦ absurd b
+    ]
+
+place_of : {X : Type 0} (x : X) (xs : List X) → Among x xs → (place : ℕ) × (slice_get xs place ≡ Some x)
+place_of x [] h = absurd h
+place_of x (y ∷ xs) (inl e) = (0, ap Some e)
+place_of x (y ∷ xs) (inr h) = let p = place_of x xs h in (suc p.0, p.1)
+
+-- the place of a syntax that is found
+pub place_found : {X : Type 0} (fits : X → Bool) (xs : List X) (x : X) → find fits (reverse xs) ≡ Some x → (place : ℕ) × (slice_get xs place ≡ Some x)
+place_found fits xs x e = place_of x xs (among_reverse x xs (among_found fits (reverse xs) x e))
+
+pub either_found : {X : Type 0} (a b : Option X) (x : X) (P : Type 0) → (a ≡ Some x → P) → (b ≡ Some x → P) → option_or a b ≡ Some x → P
+either_found None b x P f g e = g e
+either_found (Some y) b x P f g e = f e
+
+-- ---- the syntax of a file ----
+
+place_among : (set : SyntaxSet) (path line : List ℕ) (syntax : SyntaxReference) → option_or (found_for_file set path line) (found_plain_text set) ≡ Some syntax
+    → (place : ℕ) × (slice_get (syntaxes_in set) place ≡ Some syntax)
+place_among set path line syntax =
+    let Q : Type 0 = (place : ℕ) × (slice_get (syntaxes_in set) place ≡ Some syntax) in
+    either_found (found_for_file set path line) (found_plain_text set) syntax Q
+    (either_found (found_by_file_name set path) (found_by_first_line set line) syntax Q
+    (either_found _ _ syntax Q (place_found _ (syntaxes_in set) syntax) (place_found _ (syntaxes_in set) syntax))
+    (place_found _ (syntaxes_in set) syntax))
+    (place_found _ (syntaxes_in set) syntax)
+
+is_syntax : (set : SyntaxSet) (path line : List ℕ) (syntax : SyntaxReference) → IsUtf8 line → option_or (found_for_file set path line) (found_plain_text set) ≡ Some syntax → IsSyntaxFor set path syntax
+is_syntax set path line syntax u e =
+    let p = place_among set path line syntax e in
+    record { line = line; text = u; found = e; place = p.0; among = p.1 }
+
+pub found_syntax : (set : SyntaxSet) (path line : List ℕ) (syntax : SyntaxReference) → IsUtf8 line → Some syntax ≡ found_for_file set path line → IsSyntaxFor set path syntax
+found_syntax set path line syntax u e = is_syntax set path line syntax u (ap (λ found. option_or found (found_plain_text set)) (sym e))
+
+pub plain_syntax : (set : SyntaxSet) (path line : List ℕ) (syntax : SyntaxReference) → IsUtf8 line → None ≡ found_for_file set path line → Some syntax ≡ found_plain_text set → IsSyntaxFor set path syntax
+plain_syntax set path line syntax u e f = is_syntax set path line syntax u (ap (λ found. option_or found (found_plain_text set)) (sym e) ∙ sym f)
+
+pub no_syntax : (set : SyntaxSet) (path line : List ℕ) → IsUtf8 line → None ≡ found_for_file set path line → None ≡ found_plain_text set → HasNoLines set path error.NoSyntax
+no_syntax set path line u e f = (line, u, ap (λ found. option_or found (found_plain_text set)) (sym e) ∙ sym f)
+
+-- ---- no lines ----
+
+pub not_found : (set : SyntaxSet) (path : List ℕ) (e : Error) → NotFoundFor set path e → HasNoLines set path e
+not_found set path (error.Io e) n = tt
+not_found set path error.Memory n = tt
+not_found set path (error.ParsingError e) n = absurd n
+not_found set path (error.ScopeError e) n = absurd n
+not_found set path (error.LoadingError e) n = absurd n
+not_found set path (error.Fmt e) n = absurd n
+not_found set path error.NoSyntax n = absurd n
+
+pub not_read : (set : SyntaxSet) (path : List ℕ) (e : Error) → IsReadFault e → HasNoLines set path e
+not_read set path (error.Io e) n = tt
+not_read set path error.Memory n = tt
+not_read set path (error.ParsingError e) n = absurd n
+not_read set path (error.ScopeError e) n = absurd n
+not_read set path (error.LoadingError e) n = absurd n
+not_read set path (error.Fmt e) n = absurd n
+not_read set path error.NoSyntax n = absurd n
+
+pub no_start_for : (set : SyntaxSet) (path : List ℕ) (syntax : SyntaxReference) (e : Error) → IsSyntaxFor set path syntax → LacksStart syntax e → HasNoLines set path e
+no_start_for set path syntax (error.Io e) s l = tt
+no_start_for set path syntax error.Memory s l = tt
+no_start_for set path syntax (error.ParsingError e) s l = (syntax, s, l)
+no_start_for set path syntax (error.ScopeError e) s l = absurd l
+no_start_for set path syntax (error.LoadingError e) s l = absurd l
+no_start_for set path syntax (error.Fmt e) s l = absurd l
+no_start_for set path syntax error.NoSyntax s l = absurd l
+
+-- ---- pages ----
+
+pub built_of : (set : SyntaxSet) (path : List ℕ) (syntax : SyntaxReference) (definitions : List SyntaxDefinition) → IsBuilt set definitions → IsSyntaxFor set path syntax → IsBuiltOf set syntax definitions
+built_of set path syntax definitions b s = record { paths = b.paths; set_is = b.set_is; place = s.place; among = s.among; plain = b.plain }
+
+pub page_of_file : {A : Type 0} (view : A → List ℕ) (set : SyntaxSet) (theme : Theme) (path : List ℕ) (syntax : SyntaxReference) (P : List ℕ → Type 0) (result : Result A Error) → IsSyntaxFor set path syntax
+    → IfOk result (λ page. (text : List ℕ) × P text × IsPageOfBytes set theme syntax text (view page)) → IfOk result (λ page. IsPageOfFile set theme path (view page))
+page_of_file view set theme path syntax P (Ok page) s h = (syntax, s, h.0, h.2)
+page_of_file view set theme path syntax P (Err e) s h = tt
+
+pub no_page_of_file : {A : Type 0} (set : SyntaxSet) (path : List ℕ) (syntax : SyntaxReference) (P : List ℕ → Type 0) (result : Result A Error) → IsSyntaxFor set path syntax
+    → IfErr result (λ e. (text : List ℕ) × P text × IsStopped set syntax text e) → IfErr result (HasNoPageOfFile set path)
+no_page_of_file set path syntax P (Ok page) s h = tt
+no_page_of_file set path syntax P (Err e) s h = inr (syntax, s, h.0, h.2)

@@ -1,0 +1,39 @@
+-- What is shown of a file. Of what a file holds nothing is known.
+use Rattle.std.specs.Prelude.{◌≡◌, ℕ, List, Some, None, IsUtf8, slice_get, ◌⊎◌}
+use Rattle.std.specs.Option.{option_or}
+use Rattle.syntect_style.specs.declared.theme.Theme.{Theme}
+use Rattle.syntect_grammar.specs.Finding.{found_for_file, found_plain_text}
+use Rattle.syntect_grammar.specs.Link.{syntaxes_in}
+use Rattle.syntect_grammar.specs.declared.syntax_set.SyntaxReference.{SyntaxReference}
+use Rattle.syntect_grammar.specs.declared.syntax_set.SyntaxSet.{SyntaxSet}
+use Rattle.syntect_grammar.specs.declared.error.Error.{Error}
+use Rattle.syntect_grammar.specs.declared.error.Error.TheVariants as error
+use Rattle.syntect.specs.Leads.{LacksStart}
+use Rattle.syntect.specs.Pages.{IsPageOfBytes, IsStopped}
+
+-- the syntax of the set that the path of a file tells, or else its first line, or else that of plain text
+pub record IsSyntaxFor (set : SyntaxSet) (path : List ℕ) (syntax : SyntaxReference) : Type 0 where
+  pub line : List ℕ
+  pub text : IsUtf8 line
+  pub found : option_or (found_for_file set path line) (found_plain_text set) ≡ Some syntax
+  pub place : ℕ
+  pub among : slice_get (syntaxes_in set) place ≡ Some syntax
+
+-- no line of a file is read: no syntax is there for it, or the syntax has no `__start`, or the file is not read, or there was
+-- no memory
+abbrev pub HasNoLines : SyntaxSet → List ℕ → Error → Type 0
+HasNoLines set path error.NoSyntax = (line : List ℕ) × IsUtf8 line × (option_or (found_for_file set path line) (found_plain_text set) ≡ None)
+HasNoLines set path (error.ParsingError e) = (syntax : SyntaxReference) × IsSyntaxFor set path syntax × LacksStart syntax (error.ParsingError e)
+HasNoLines set path (error.Io e) = Unit {0}
+HasNoLines set path error.Memory = Unit {0}
+HasNoLines set path (error.ScopeError e) = ⊥
+HasNoLines set path (error.LoadingError e) = ⊥
+HasNoLines set path (error.Fmt e) = ⊥
+
+-- the page shows some text in the syntax of the file
+abbrev pub IsPageOfFile : SyntaxSet → Theme → List ℕ → List ℕ → Type 0
+IsPageOfFile set theme path page = (syntax : SyntaxReference) × IsSyntaxFor set path syntax × (text : List ℕ) × IsPageOfBytes set theme syntax text page
+
+-- there is no page: no line is read, or one is refused, or is no text, or is not read
+abbrev pub HasNoPageOfFile : SyntaxSet → List ℕ → Error → Type 0
+HasNoPageOfFile set path e = HasNoLines set path e ⊎ ((syntax : SyntaxReference) × IsSyntaxFor set path syntax × (text : List ℕ) × IsStopped set syntax text e)
