@@ -1,0 +1,11 @@
+use Rattle.std.proofs.Common.{sym, ◌∙◌, string_bytes}
+use Rattle.syntect_cat.proofs.ShownLaws.{file_shown, never_writing}
+use Rattle.syntect_cat.proofs.show.text_for.Goals as goal
+
+pub returns-in-Ok-clause-shown : goal.returns-in-Ok-clause-shown
+returns-in-Ok-clause-shown g c =
+    file_shown c.loaded_is_plain.ensures c.args.job.folder.now c.args.job.format c.args.job.file.now (string_bytes c.in-Ok.text) _ _ c.in_ok-set.set c.in_ok-theme.theme
+    (c.in_ok-set.ensures.ok c.new-repository.ensures.atoms) c.in_ok-theme.ensures.ok c.in-Ok.ensures.shown
+
+pub returns-clause-err : goal.returns-clause-err
+returns-clause-err g c = λ h. never_writing c.in-Err.e (sym c.from.ensures ∙ h)

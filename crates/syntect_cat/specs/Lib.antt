@@ -1,0 +1,5 @@
+pub mod Faults
+pub mod Shown
+pub mod Terminal
+pub mod Words
+pub mod Written

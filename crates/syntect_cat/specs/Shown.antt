@@ -1,0 +1,45 @@
+-- The text that shows a file.
+use Rattle.std.specs.Prelude.{◌≡◌, ℕ, true, List, []}
+use Rattle.syntect_style.specs.ThemeFiles.{IsThemeOf}
+use Rattle.syntect_style.specs.declared.theme.Theme.{Theme}
+use Rattle.syntect_grammar.specs.Folders.{AddsFolder}
+use Rattle.syntect_grammar.specs.Folders.{no_definitions}
+use Rattle.syntect_grammar.specs.Link.{definitions_in, paths_in, with_paths, linked}
+use Rattle.syntect_grammar.specs.PlainText.{AddsPlainText}
+use Rattle.syntect_grammar.specs.declared.syntax_set.SyntaxSet.{SyntaxSet}
+use Rattle.syntect_grammar.specs.declared.syntax_set.SyntaxSetBuilder.{SyntaxSetBuilder}
+use Rattle.syntect.specs.Files.{IsPageOfFile}
+use Rattle.syntect_cat.specs.Terminal.{IsTerminalTextOfFile}
+use Rattle.syntect_cat.specs.Words.{words_for}
+use Rattle.syntect_cat.specs.declared.job.Format.{Format}
+use Rattle.syntect_cat.specs.declared.job.Format.TheVariants.{Html, Terminal}
+
+-- The set links the syntax of plain text and the grammars in a folder, read for lines with newlines and with a repository that
+-- was empty and has become this one.
+pub record IsSetOf (folder : List ℕ) (repository : List (List ℕ)) (set : SyntaxSet) : Type 0 where
+  pub plain : SyntaxSetBuilder
+  pub all : SyntaxSetBuilder
+  pub left : List (List ℕ)
+  pub adds_plain : AddsPlainText no_definitions plain [] left
+  pub adds_folder : AddsFolder true folder left plain repository all
+  pub set_is : set ≡ with_paths (paths_in all) (linked (definitions_in all))
+
+-- the text of a format shows what some file of this path holds
+abbrev pub ShowsFile : Format → SyntaxSet → Theme → List ℕ → List ℕ → Type 0
+ShowsFile Html set theme path text = IsPageOfFile set theme path text
+ShowsFile Terminal set theme path text = IsTerminalTextOfFile set theme path text
+
+-- The text shows a file by the grammars of a folder and the theme of some bytes.
+pub record IsShown (folder : List ℕ) (format : Format) (file text : List ℕ) : Type 0 where
+  pub repository : List (List ℕ)
+  pub after : List (List ℕ)
+  pub set : SyntaxSet
+  pub bytes : List ℕ
+  pub theme : Theme
+  pub set_is : IsSetOf folder repository set
+  pub theme_is : IsThemeOf repository bytes after theme
+  pub shows : ShowsFile format set theme file text
+
+-- the text is what these words ask for
+abbrev pub IsAskedFor : List (List ℕ) → List ℕ → Type 0
+IsAskedFor words text = (folder theme file : List ℕ) × (format : Format) × (words ≡ words_for folder theme format file) × IsShown folder format file text

@@ -1,0 +1,82 @@
+//! The whole program.
+ghost use Rattle.std.specs.Prelude.{◌≡◌, ◌≢◌, ◌≤◌, ◌↔◌, ℕ, List, map, OnOk, IfErr, string_bytes};
+ghost use Rattle.std.specs.Io.KnownBytes.{Appends};
+ghost use Rattle.syntect_cat.specs.Faults.{fault_line, usage_line};
+ghost use Rattle.syntect_cat.specs.Shown.{IsAskedFor, IsShown};
+ghost use Rattle.syntect_cat.specs.Words.{AreWords, words_of};
+ghost use Rattle.syntect_cat.specs.Written.{Begins};
+ghost use Rattle.syntect_cat.specs.declared.fault.Fault.{Fault as AFault};
+ghost use Rattle.syntect_cat.specs.declared.fault.Fault.TheVariants.{Writing};
+
+use crate::fault::{Fault, USAGE};
+use crate::job::Job;
+use crate::put::put;
+use crate::show::text_for;
+use std::alloc::Global;
+use std::io::Write;
+use std::rt::Files;
+
+/// The status after wrong words.
+const WRONG_WORDS: u8 = 2;
+
+/// The status after any other fault.
+const FAILED: u8 = 1;
+
+/// Shows a file: the words are the folder of the grammars, the theme, `html` or `term`, and the file. Its text is written to
+/// `out` once it is whole, and the status is 0.
+///
+/// Other words have the status 2, and any other fault has the status 1; `err` is given a line that tells of it, and `out` nothing,
+/// but that a text may be begun where it can't be written. What can't be written to `err` changes nothing.
+pub fn run<W: Write, E: Write>(
+    files: &impl Files,
+    alloc: Global,
+    words: &[String],
+    out: &mut W,
+    err: &mut E,
+) -> u8
+    ensures status { result ≤ 2 }
+    ensures asked { AreWords (map string_bytes words.now) ↔ (result ≢ 2) }
+
+    // the text was written, whole
+    ensures shown { result ≡ 0 → (text : List ℕ) × IsAskedFor (map string_bytes words.now) text × Appends (W.contents out.old) (W.contents out.new) text }
+    ensures quiet { result ≡ 0 → err.new ≡ err.old }
+
+    // a line tells of the fault, and no text is begun but where it can't be written; what can't be written is begun
+    ensures usage { result ≡ 2 → (out.new ≡ out.old) × Begins (E.contents err.old) (E.contents err.new) usage_line }
+    ensures failed { result ≡ 1 → (fault : AFault) × Begins (E.contents err.old) (E.contents err.new) (fault_line fault)
+        × (fault ≢ Writing → out.new ≡ out.old)
+        × (fault ≡ Writing → (text : List ℕ) × IsAskedFor (map string_bytes words.now) text × Begins (W.contents out.old) (W.contents out.new) text) }
+{
+    let Some(job) = Job::from_words(words) else {
+        let _ = put(err, USAGE.as_bytes());
+        return WRONG_WORDS;
+    };
+    match show(files, alloc, job, out) {
+        Ok(()) => 0,
+        Err(fault) => {
+            let _ = put(err, fault.line().as_bytes());
+            FAILED
+        }
+    }
+}
+
+/// Writes the text that a job asks for.
+fn show<W: Write>(files: &impl Files, alloc: Global, job: Job<'_>, out: &mut W) -> Result<(), Fault>
+    ensures shown { OnOk result ((text : List ℕ) × IsShown job.entry.folder.now job.entry.format job.entry.file.now text × Appends (W.contents out.old) (W.contents out.new) text) }
+    ensures kept { IfErr result (λ fault. fault ≢ Writing → out.new ≡ out.old) }
+    ensures begun { IfErr result (λ fault. fault ≡ Writing
+        → (text : List ℕ) × IsShown job.entry.folder.now job.entry.format job.entry.file.now text × Begins (W.contents out.old) (W.contents out.new) text) }
+{
+    let text = match text_for(files, alloc, job) {
+        Ok(text) => text,
+        Err(fault) => return Err(fault),
+    };
+    match put(out, text.as_bytes()) {
+        Ok(()) => {}
+        Err(_) => return Err(Fault::Writing),
+    }
+    match out.flush() {
+        Ok(()) => Ok(()),
+        Err(_) => Err(Fault::Writing),
+    }
+}

@@ -1,0 +1,97 @@
+//! From files to the text that shows one.
+ghost use Rattle.std.specs.Prelude.{◌≡◌, ◌≢◌, ℕ, List, [], IfOk, IfErr, string_bytes};
+ghost use Rattle.syntect_style.specs.ThemeFiles.{IsThemeOf};
+ghost use Rattle.syntect_grammar.specs.declared.syntax_definition.SyntaxDefinition.{SyntaxDefinition as ADefinition};
+ghost use Rattle.syntect.specs.Built.{IsBuilt};
+ghost use Rattle.syntect_cat.specs.Shown.{IsSetOf, ShowsFile, IsShown};
+ghost use Rattle.syntect_cat.specs.declared.fault.Fault.TheVariants.{Syntaxes, Writing};
+ghost use Rattle.syntect_cat.specs.declared.fault.Fault.TheVariants.{Theme as FaultOfTheme};
+
+use crate::fault::Fault;
+use crate::job::{Format, Job};
+use crate::terminal::terminal_text_for_file;
+use std::alloc::Global;
+use std::path::Path;
+use std::rt::Files;
+use syntect::Error;
+use syntect::html::highlighted_html_for_file;
+use syntect::laws::loaded_is_plain;
+use syntect_parsing::syntax_set::{SyntaxSet, SyntaxSetBuilder};
+use syntect_scope::repository::ScopeRepository;
+use syntect_style::theme::Theme;
+use syntect_style::theme_set::ThemeSet;
+
+/// Plain text and the grammars in a folder, linked, for lines with newlines.
+fn load_syntaxes(
+    files: &impl Files,
+    alloc: Global,
+    folder: &str,
+    repository: &mut ScopeRepository,
+) -> Result<SyntaxSet, Fault>
+    ensures ok { repository.old ≡ [] → IfOk result (IsSetOf folder.now repository.new) }
+    ensures err { IfErr result (λ fault. fault ≡ Syntaxes) }
+{
+    let mut builder = SyntaxSetBuilder::new(alloc);
+    if builder.add_plain_text_syntax(alloc, repository).is_err() {
+        return Err(Fault::Syntaxes);
+    }
+    let folder = Path::new(folder);
+    match builder.add_from_folder(files, alloc, folder, true, repository) {
+        Ok(()) => {}
+        Err(_) => return Err(Fault::Syntaxes),
+    }
+    match builder.build(alloc, repository) {
+        Ok(set) => Ok(set),
+        Err(_) => Err(Fault::Syntaxes),
+    }
+}
+
+/// The theme in a file.
+fn load_theme(
+    files: &impl Files,
+    alloc: Global,
+    path: &str,
+    repository: &mut ScopeRepository,
+) -> Result<Theme, Fault>
+    ensures ok { IfOk result (λ theme. (bytes : List ℕ) × IsThemeOf repository.old bytes repository.new theme) }
+    ensures err { IfErr result (λ fault. fault ≡ FaultOfTheme) }
+{
+    match ThemeSet::get_theme(files, alloc, Path::new(path), repository) {
+        Ok(theme) => Ok(theme),
+        Err(_) => Err(Fault::Theme),
+    }
+}
+
+/// A file's text by a set and a theme.
+fn highlighted(
+    files: &impl Files,
+    alloc: Global,
+    path: &str,
+    format: Format,
+    set: &SyntaxSet,
+    theme: &Theme,
+) -> Result<String, Error>
+    ensures shown { (definitions : List ADefinition) → IsBuilt set.now definitions
+        → IfOk result (λ text. ShowsFile format set.now theme.now path.now (string_bytes text)) }
+{
+    match format {
+        Format::Html => highlighted_html_for_file(files, alloc, Path::new(path), set, theme),
+        Format::Terminal => terminal_text_for_file(files, alloc, Path::new(path), set, theme),
+    }
+}
+
+/// The text that a job asks for. The grammars are loaded first, then the theme, and then the file is read and highlighted; the
+/// first fault ends it.
+pub(crate) fn text_for(files: &impl Files, alloc: Global, job: Job<'_>) -> Result<String, Fault>
+    ensures shown { IfOk result (λ text. IsShown job.entry.folder.now job.entry.format job.entry.file.now (string_bytes text)) }
+    ensures err { IfErr result (λ fault. fault ≢ Writing) }
+{
+    loaded_is_plain();
+    let mut repository = ScopeRepository::new(alloc);
+    let set = load_syntaxes(files, alloc, job.folder, &mut repository)?;
+    let theme = load_theme(files, alloc, job.theme, &mut repository)?;
+    match highlighted(files, alloc, job.file, job.format, &set, &theme) {
+        Ok(text) => Ok(text),
+        Err(e) => Err(Fault::from(e)),
+    }
+}
