@@ -1,6 +1,4 @@
 //! Text files, highlighted by the contexts and the theme of the first line's example.
-use crate::grammars::first_line_set;
-use crate::make::{foreground, grey, theme};
 use std::alloc::Global;
 use std::process::ExitCode;
 use std::rt::{Clock, Files};
@@ -8,6 +6,8 @@ use std::time::Instant;
 use std::{fs, io};
 use syntect::easy::HighlightLines;
 use syntect_parsing::syntax_set::SyntaxSet;
+use syntect_rows::grammars::first_line_set;
+use syntect_rows::make::{foreground, grey, theme};
 use syntect_scope::repository::ScopeRepository;
 use syntect_style::theme::Theme;
 
