@@ -13,5 +13,6 @@ pub mod parsing;
 pub mod reading;
 pub mod util;
 
+pub use syntect_base::loading::LoadingError;
 pub use syntect_parsing::error::Error;
 pub use syntect_writers::escape;

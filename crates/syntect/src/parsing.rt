@@ -1,8 +1,10 @@
 //! Scopes, grammars, sets of them and the reading of lines.
+pub use syntect_base::syntax::ParseSyntaxError;
 pub use syntect_parsing::parser::{ParseState, ParsingError};
 pub use syntect_parsing::syntax_definition;
 pub use syntect_parsing::syntax_definition::SyntaxDefinition;
 pub use syntect_parsing::syntax_set::{SyntaxReference, SyntaxSet, SyntaxSetBuilder};
+pub use syntect_regex::error::PatternError;
 pub use syntect_regex::regex::Regex;
 pub use syntect_regex::region::Region;
 pub use syntect_scope::power::MatchPower;
