@@ -12,6 +12,7 @@ use Rattle.syntect_grammar.specs.declared.syntax_definition.Pattern.TheVariants.
 use Rattle.syntect_grammar.specs.declared.syntax_definition.Context.{Context}
 use Rattle.syntect_grammar.specs.declared.syntax_set.SyntaxSet.{SyntaxSet}
 
+-- whether two numbers are those of one context
 abbrev pub is_same : ContextId → ContextId → Bool
 is_same a b = (a.syntax_index == b.syntax_index) && (a.context_index == b.context_index)
 
@@ -37,6 +38,7 @@ abbrev pub match_in : Pattern → Option MatchPattern
 match_in (Match m) = Some m
 match_in (Include r) = None
 
+-- the match pattern at an index of a context
 abbrev pub match_of : Context → ℕ → Option MatchPattern
 match_of context index = option_and_then match_in (slice_get context.patterns index)
 

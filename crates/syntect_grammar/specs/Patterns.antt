@@ -30,6 +30,7 @@ abbrev pub walk : ℕ → SyntaxSet → List ContextId → List Pattern → List
 walk zero set path ps = []
 walk (suc room) set path ps = walk_patterns (λ id. walk room set (path ++ id ∷ []) (entries set id)) path ps
 
+-- how many contexts there are in all
 abbrev pub count_contexts : List (List Context) → ℕ
 count_contexts [] = 0
 count_contexts (cs ∷ css) = length cs + count_contexts css
