@@ -3,13 +3,13 @@ use Rattle.std.proofs.Common.{◌≡◌, ℕ, zero, suc, ◌+◌, ◌<◌, Bool,
 use Rattle.std.specs.Prelude.{position, codes}
 use Rattle.std.specs.Cmp.Lexicographic.{pointwise}
 use Rattle.std.specs.List.{filter_map, cons_option, list_any}
-use Rattle.std.specs.Option.{option_map, option_map_or, option_to_list, option_and_then, option_or}
+use Rattle.std.specs.Option.{option_map, option_map_or, option_to_list, option_and_then}
 use Rattle.std.proofs.lemmas.Option.{slice_get-map}
 use Rattle.std.proofs.lemmas.List.Quantifiers.{position-Some}
 use Rattle.syntect_grammar.specs.Contexts.{context_at, contexts_of, target}
 use Rattle.syntect_parsing.specs.Turn.{named, list_of}
 use Rattle.syntect_grammar.specs.Link.{with_paths, linked, linked_from, linked_definition, linked_contexts, linked_context, linked_pattern, linked_operation}
-use Rattle.syntect_grammar.specs.References.{names_of, head_of, heads_from, body_of, named_in, context_named, meant, last_that, context_by, has_scope, has_name, plain_text_in, or_plain_text, link_of, linked_reference}
+use Rattle.syntect_grammar.specs.References.{names_of, head_of, heads_from, body_of, named_in, context_named, meant, last_that, context_by, has_scope, has_name, or_plain_text, link_of, linked_reference}
 use Rattle.syntect_grammar.specs.Reached.{unless_reached, is_reached, prototype_for}
 use Rattle.syntect_parsing.specs.Refusals.{NamesKnown, IsClosed, LinksClosed, AreByName, KnowNoNumber, NamesNoNumber, is_direct}
 use Rattle.syntect_parsing.proofs.EachLaws.{Each}

@@ -1,14 +1,13 @@
 -- A text that begins in a context that is never left has the scopes of that context on each byte.
 use Rattle.std.proofs.Common.{◌≡◌, ◌≢◌, ℕ, zero, suc, ◌-◌, true, false, List, [], ◌∷◌, ◌++◌, length, Option, Some, None, refl}
 use Rattle.std.specs.Prelude.{replicate, map}
-use Rattle.std.specs.List.{filter_map, flat_map, range_with_len}
-use Rattle.std.specs.Option.{option_map_or}
+use Rattle.std.specs.List.{flat_map, range_with_len}
 use Rattle.syntect_parsing.specs.Engine.{Engine}
-use Rattle.syntect_grammar.specs.Contexts.{context_at, part_of, target}
+use Rattle.syntect_grammar.specs.Contexts.{context_at, part_of}
 use Rattle.syntect_parsing.specs.Chain.{chain, last, prototypes_in}
-use Rattle.syntect_parsing.specs.Turn.{Choice, Take, Skip, End, Live, live, missing, refusal, winner, trimmed, without_last, position_after, char_len}
+use Rattle.syntect_parsing.specs.Turn.{Choice, Take, Skip, End, live, missing, refusal, winner, trimmed, without_last, position_after, char_len}
 use Rattle.syntect_parsing.specs.Scopes.{Scopes, open_scopes, base, scopes_at, scopes_passed}
-use Rattle.syntect_parsing.specs.Line.{Step, Goes, Ends, Refused, turn, turn_on, turn_in, step, unless_refused, Reads, ends, goes, Answer, Accepted, RefusedBy, Answers, accepts, refuses, AnswersAll, none, one_more, at_start, start}
+use Rattle.syntect_parsing.specs.Line.{Step, Goes, Ends, Refused, turn, turn_on, turn_in, step, unless_refused, Reads, ends, goes, Answer, Answers, accepts, refuses, AnswersAll, none, one_more, at_start, start}
 use Rattle.syntect_parsing.specs.Refusals.{IsClosed, IsNeverLeft, stays}
 use Rattle.syntect_parsing.specs.Standing.{HaveScopes, GiveScopes, BytesHaveScopes}
 use Rattle.syntect_parsing.proofs.RefusalLaws.{Stands, less, not_so, stay_there, turned, read_so, starts_so}

@@ -10,7 +10,6 @@ use Rattle.syntect_parsing.specs.declared.position.Position.{Position}
 use Rattle.syntect_parsing.specs.Turn.{group_at, list_of}
 use Rattle.syntect_parsing.specs.Scopes.{Scopes}
 use Rattle.syntect_parsing.specs.Line.{Answer, Answers, AnswersAll, ReadsLine, RefusesLine, Reaches, at_start, HasPlainStart}
-use Rattle.syntect_grammar.specs.declared.syntax_definition.MatchPattern.{MatchPattern}
 use Rattle.syntect_grammar.specs.declared.syntax_definition.Pattern.{Pattern}
 use Rattle.syntect_grammar.specs.declared.syntax_definition.Pattern.TheVariants.{Match, Include}
 use Rattle.syntect_grammar.specs.declared.syntax_definition.Context.{Context}

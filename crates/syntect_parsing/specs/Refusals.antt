@@ -1,7 +1,7 @@
 -- Where lines are refused: at a picked match that names a reference without target, and nowhere else.
 pub use Rattle.syntect_grammar.specs.Named.{is_direct, NamesNoNumber, KnowNoNumber, AreByName}
 use Rattle.std.specs.Prelude.{◌≡◌, ℕ, Bool, true, false, List, [], ◌∷◌, ◌++◌, find, Option, Some, None, is_none}
-use Rattle.std.specs.List.{filter_map, flat_map, list_all, list_any}
+use Rattle.std.specs.List.{filter_map, flat_map, list_all}
 use Rattle.std.specs.Option.{option_to_list}
 use Rattle.syntect_parsing.specs.Engine.{Engine}
 use Rattle.syntect_grammar.specs.Contexts.{context_at, part_of, target}
@@ -11,7 +11,6 @@ use Rattle.syntect_parsing.specs.Line.{AnswersAll, Answer, Reaches, RefusesLine,
 use Rattle.syntect_grammar.specs.Link.{with_paths, linked}
 use Rattle.syntect_grammar.specs.declared.syntax_definition.ContextId.{ContextId}
 use Rattle.syntect_grammar.specs.declared.syntax_definition.ContextReference.{ContextReference}
-use Rattle.syntect_grammar.specs.declared.syntax_definition.ContextReference.TheVariants.{Direct}
 use Rattle.syntect_grammar.specs.declared.syntax_definition.MatchOperation.{MatchOperation}
 use Rattle.syntect_grammar.specs.declared.syntax_definition.MatchOperation.TheVariants as op
 use Rattle.syntect_grammar.specs.declared.syntax_definition.MatchPattern.{MatchPattern}

@@ -1,5 +1,5 @@
 -- What loaded grammars are known by: each byte of their texts has a scope.
-use Rattle.std.specs.Prelude.{◌≡◌, ◌≢◌, ℕ, List, [], ◌∷◌, ◌++◌}
+use Rattle.std.specs.Prelude.{◌≢◌, ℕ, List, [], ◌∷◌, ◌++◌}
 use Rattle.syntect_parsing.specs.Engine.{Engine}
 use Rattle.syntect_grammar.specs.Contexts.{part_of}
 use Rattle.syntect_parsing.specs.Scopes.{Scopes}
