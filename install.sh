@@ -3,27 +3,127 @@
 #
 #   sh install.sh [FOLDER]
 #
-# FOLDER is where it is put; without the word it is $HOME/.local/bin. The Rattle kit's command rt has to be on the path. The
-# first build proves every crate that the program stands on, which takes a while; a later one takes what has changed.
+# FOLDER is where it is put; without the word it is $HOME/.local/bin. The Rattle kit's command rt has to be on the path.
+# What is built stays in the folder VULSANGI_BUILD, or else in the user's cache: a later call takes what has changed.
 set -eu
 
 here=$(cd "$(dirname "$0")" && pwd)
 folder=${1:-"$HOME/.local/bin"}
-examples="$here/examples"
+build=${VULSANGI_BUILD:-"${XDG_CACHE_HOME:-$HOME/.cache}/vulsangi"}
+program=syncat
 
 if ! command -v rt > /dev/null; then
     echo "install.sh: the command rt of the Rattle kit is not on the path" >&2
     exit 1
 fi
 
-# proves, builds and runs it once: what is installed has shown a file
-cd "$here/crates/syncat"
-rt run -- "$examples/grammars" "$examples/dusk.tmTheme" html "$examples/texts/settings.ini" > /dev/null
+# the libraries of this repository that a crate names
+named() {
+    awk -F: -v crate="$1" '
+        /^[^#]/ && NF > 1 { own[$1] = 1; if ($1 == crate) uses = $2 }
+        END { n = split(uses, words, " "); for (i = 1; i <= n; i++) if (words[i] in own) print words[i] }
+    ' "$here/crates.txt"
+}
+
+# the crate and all that it stands on, lowest first
+below() {
+    awk -F: -v crate="$1" '
+        function visit(name, words, n, i) {
+            if (seen[name]++) return
+            n = split(uses[name], words, " ")
+            for (i = 1; i <= n; i++) if (words[i] in uses) visit(words[i])
+            print name
+        }
+        /^[^#]/ && NF > 1 { uses[$1] = $2 }
+        END { visit(crate) }
+    ' "$here/crates.txt"
+}
+
+# copies a crate's text into a folder of crates
+text_of() {
+    mkdir -p "$2/$1"
+    for part in src specs proofs; do
+        rm -rf "${2:?}/$1/$part"
+        if [ -d "$here/crates/$1/$part" ]; then
+            cp -R "$here/crates/$1/$part" "$2/$1/"
+        fi
+    done
+}
+
+# Proves one crate, in a folder of its own with the libraries that it stands on: rt works in a library's folder one at a
+# time, so that crates side by side need folders apart.
+prove() {
+    lane="$build/$1"
+    mkdir -p "$lane/crates"
+    cp "$here/HANDLES" "$lane/"
+    : > "$lane/crates.txt"
+    for library in $(below "$1"); do
+        grep "^$library:" "$here/crates.txt" >> "$lane/crates.txt"
+        text_of "$library" "$lane/crates"
+        if [ "$library" != "$1" ]; then
+            rm -rf "$lane/crates/$library/out"
+            mkdir -p "$lane/crates/$library/out"
+            cp -R "$build/$library/crates/$library/out/rlib" "$lane/crates/$library/out/"
+        fi
+    done
+    cd "$lane/crates/$1"
+    if [ "$1" = "$program" ]; then
+        # once built it shows a file, so that what is installed has run
+        rt run -- "$here/examples/grammars" "$here/examples/dusk.tmTheme" html "$here/examples/texts/settings.ini"
+    else
+        rt lib
+    fi
+}
+
+# waits for a crate's libraries and for a free processor, proves it, and says so
+work() {
+    for library in $(named "$1"); do
+        until [ -e "$state/$library.done" ]; do
+            [ ! -e "$state/failed" ] || return 0
+            sleep 0.2
+        done
+    done
+    slot=none
+    while [ "$slot" = none ]; do
+        [ ! -e "$state/failed" ] || return 0
+        for number in $(seq "$processors"); do
+            if mkdir "$state/slot.$number" 2> /dev/null; then
+                slot=$number
+                break
+            fi
+        done
+        [ "$slot" != none ] || sleep 0.2
+    done
+    if ( prove "$1" ) > "$build/$1.log" 2>&1 < /dev/null; then
+        : > "$state/$1.done"
+        now=$(($(date +%s) - start))
+        printf '%3d:%02d  %d of %d  %s\n' $((now / 60)) $((now % 60)) "$(ls "$state" | grep -c 'done$')" "$all" "$1"
+    else
+        : > "$state/failed"
+        echo "install.sh: $1 is not proved; what was said stands in $build/$1.log" >&2
+    fi
+    rmdir "$state/slot.$slot"
+}
+
+crates=$(below "$program")
+all=$(echo "$crates" | wc -l)
+processors=$(getconf _NPROCESSORS_ONLN 2> /dev/null || echo 1)
+start=$(date +%s)
+state=$(mktemp -d)
+trap 'rm -rf "$state"' EXIT
+mkdir -p "$build"
+echo "Proving the $all crates that $program stands on, on $processors processors. A first build takes about a quarter of an hour"
+echo "on four free processors, and twice that on two; a later one takes what has changed. Each line is a crate that stands."
+for crate in $crates; do
+    work "$crate" &
+done
+wait
+[ ! -e "$state/failed" ] || exit 1
 
 mkdir -p "$folder"
-cp out/syncat "$folder/syncat"
-chmod 755 "$folder/syncat"
-echo "syncat is in $folder"
+cp "$build/$program/crates/$program/out/$program" "$folder/$program"
+chmod 755 "$folder/$program"
+echo "$program is in $folder"
 case ":$PATH:" in
     *":$folder:"*) ;;
     *) echo "$folder is not on the path" ;;

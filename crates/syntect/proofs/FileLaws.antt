@@ -4,7 +4,7 @@ use Rattle.std.specs.Prelude.{Option, Some, None, IfOk, IfErr, IsUtf8, slice_get
 use Rattle.std.specs.Option.{option_or, option_copied}
 use Rattle.std.proofs.lemmas.Bool.{cases_Bool}
 use Rattle.std.proofs.lemmas.List.{reverse-append}
-use Rattle.syntect_style.specs.declared.theme.Theme.{Theme}
+use Rattle.syntect_theme.specs.declared.theme.Theme.{Theme}
 use Rattle.syntect_grammar.specs.Finding.{found_for_file, found_plain_text, found_by_file_name, found_by_first_line, NotFoundFor}
 use Rattle.syntect_grammar.specs.Link.{syntaxes_in}
 use Rattle.syntect_grammar.specs.declared.syntax_set.SyntaxReference.{SyntaxReference}

@@ -8,8 +8,8 @@ use Rattle.syntect_scope.specs.declared.stack.ScopeStackOp.{ScopeStackOp}
 use Rattle.syntect_scope.specs.declared.stack.ScopeError.{ScopeError}
 use Rattle.syntect_scope.specs.declared.stack.ScopeError.TheVariants as scope
 use Rattle.syntect_style.specs.Pieces.{Joins, IsStyled, Keeps, path_of}
-use Rattle.syntect_style.specs.declared.style.Style.{Style}
-use Rattle.syntect_style.specs.declared.theme.Theme.{Theme}
+use Rattle.syntect_theme.specs.declared.style.Style.{Style}
+use Rattle.syntect_theme.specs.declared.theme.Theme.{Theme}
 use Rattle.syntect_style.specs.declared.state.HighlightState.{HighlightState}
 use Rattle.syntect_parsing.specs.Engine.{dialect}
 use Rattle.syntect_parsing.specs.Laws.{AnswersMore, StackIsOpen}

@@ -1,7 +1,7 @@
 -- What is shown of a file. Of what a file holds nothing is known.
 use Rattle.std.specs.Prelude.{◌≡◌, ℕ, List, Some, None, IsUtf8, slice_get, ◌⊎◌}
 use Rattle.std.specs.Option.{option_or}
-use Rattle.syntect_style.specs.declared.theme.Theme.{Theme}
+use Rattle.syntect_theme.specs.declared.theme.Theme.{Theme}
 use Rattle.syntect_grammar.specs.Finding.{found_for_file, found_plain_text}
 use Rattle.syntect_grammar.specs.Link.{syntaxes_in}
 use Rattle.syntect_grammar.specs.declared.syntax_set.SyntaxReference.{SyntaxReference}

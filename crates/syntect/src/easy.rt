@@ -7,7 +7,7 @@ ghost use Rattle.syntect_parsing.specs.Line.{Answer};
 ghost use Rattle.syntect_grammar.specs.declared.syntax_definition.SyntaxDefinition.{SyntaxDefinition as ADefinition};
 ghost use Rattle.syntect_grammar.specs.declared.syntax_set.SyntaxReference.{SyntaxReference as ASyntax};
 ghost use Rattle.syntect_grammar.specs.declared.syntax_set.SyntaxSet.{SyntaxSet as ASet};
-ghost use Rattle.syntect_style.specs.declared.theme.Theme.{Theme as ATheme};
+ghost use Rattle.syntect_theme.specs.declared.theme.Theme.{Theme as ATheme};
 ghost use Rattle.syntect.specs.declared.easy.HighlightLines.{HighlightLines as ALines};
 
 use std::alloc::{AllocError, Global};
@@ -25,8 +25,8 @@ use syntect_scope::stack::ScopeStack;
 use syntect_style::highlighter::Highlighter;
 use syntect_style::pieces::collect_pieces;
 use syntect_style::state::HighlightState;
-use syntect_style::style::Style;
-use syntect_style::theme::Theme;
+use syntect_theme::style::Style;
+use syntect_theme::theme::Theme;
 
 /// Highlights lines that are given one after another.
 #[derive(Drop)]

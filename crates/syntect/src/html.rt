@@ -19,7 +19,7 @@ use std::path::Path;
 use std::rt::Files;
 use syntect_parsing::error::Error;
 use syntect_parsing::syntax_set::{SyntaxReference, SyntaxSet};
-use syntect_style::theme::Theme;
+use syntect_theme::theme::Theme;
 pub use syntect_writers::html::{
     IncludeBackground, append_highlighted_html_for_styled_line, start_highlighted_html_snippet,
     styled_line_to_highlighted_html,

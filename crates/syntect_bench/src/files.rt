@@ -9,7 +9,7 @@ use syntect_parsing::syntax_set::SyntaxSet;
 use syntect_rows::grammars::first_line_set;
 use syntect_rows::make::{foreground, grey, theme};
 use syntect_scope::repository::ScopeRepository;
-use syntect_style::theme::Theme;
+use syntect_theme::theme::Theme;
 
 /// The set and the theme of the first line's example.
 fn first_line(alloc: Global) -> Option<(SyntaxSet, Theme)> {

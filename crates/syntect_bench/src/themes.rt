@@ -12,10 +12,10 @@ use syntect_scope::stack::{ScopeStack, ScopeStackOp};
 use syntect_style::highlighter::Highlighter;
 use syntect_style::pieces::collect_pieces;
 use syntect_style::state::HighlightState;
-use syntect_style::style::{Color, FontStyle, Style, StyleModifier};
-use syntect_style::theme::{Theme, ThemeItem, UnderlineOption};
-use syntect_style::theme_load::{ParseSettings, Settings};
-use syntect_style::theme_set::ThemeSet;
+use syntect_theme::style::{Color, FontStyle, Style, StyleModifier};
+use syntect_theme::theme::{Theme, ThemeItem, UnderlineOption};
+use syntect_theme_files::theme_load::{ParseSettings, Settings};
+use syntect_theme_files::theme_set::ThemeSet;
 use syntect_values::text::Text;
 
 /// An example.

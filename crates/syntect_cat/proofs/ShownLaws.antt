@@ -2,7 +2,7 @@
 use Rattle.std.proofs.Common.{◌≡◌, ℕ, Bool, true, false, List, [], ◌∷◌, ◌++◌, length, refl, sym, ap, ◌∙◌, subst, All, Result, Ok, Err}
 use Rattle.std.specs.Prelude.{Option, None, IfOk}
 use Rattle.std.proofs.lemmas.List.Elements.{All-append, All-cons, All-nil}
-use Rattle.syntect_style.specs.declared.theme.Theme.{Theme}
+use Rattle.syntect_theme.specs.declared.theme.Theme.{Theme}
 use Rattle.syntect_grammar.specs.Folders.{AddsSyntaxes, AddsFolder, no_more, other, grammar}
 use Rattle.syntect_grammar.specs.Folders.{no_definitions}
 use Rattle.syntect_grammar.specs.Link.{definitions_in, paths_in, with_paths, linked}
@@ -12,7 +12,7 @@ use Rattle.syntect_grammar.specs.declared.syntax_definition.SyntaxDefinition.{Sy
 use Rattle.syntect_grammar.specs.declared.syntax_set.SyntaxSet.{SyntaxSet}
 use Rattle.syntect_grammar.specs.declared.syntax_set.SyntaxSetBuilder.{SyntaxSetBuilder}
 use Rattle.syntect.specs.Built.{IsPlain, IsBuilt}
-use Rattle.syntect_style.specs.ThemeFiles.{IsThemeOf}
+use Rattle.syntect_theme_files.specs.ThemeFiles.{IsThemeOf}
 use Rattle.syntect.specs.Files.{IsPageOfFile}
 use Rattle.syntect_grammar.specs.declared.error.Error.{Error}
 use Rattle.syntect_grammar.specs.declared.error.Error.TheVariants as error

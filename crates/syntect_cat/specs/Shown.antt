@@ -1,7 +1,7 @@
 -- The text that shows a file.
 use Rattle.std.specs.Prelude.{◌≡◌, ℕ, true, List, []}
-use Rattle.syntect_style.specs.ThemeFiles.{IsThemeOf}
-use Rattle.syntect_style.specs.declared.theme.Theme.{Theme}
+use Rattle.syntect_theme_files.specs.ThemeFiles.{IsThemeOf}
+use Rattle.syntect_theme.specs.declared.theme.Theme.{Theme}
 use Rattle.syntect_grammar.specs.Folders.{AddsFolder}
 use Rattle.syntect_grammar.specs.Folders.{no_definitions}
 use Rattle.syntect_grammar.specs.Link.{definitions_in, paths_in, with_paths, linked}

@@ -1,6 +1,6 @@
 //! From files to the text that shows one.
 ghost use Rattle.std.specs.Prelude.{◌≡◌, ◌≢◌, ℕ, List, [], IfOk, IfErr, string_bytes};
-ghost use Rattle.syntect_style.specs.ThemeFiles.{IsThemeOf};
+ghost use Rattle.syntect_theme_files.specs.ThemeFiles.{IsThemeOf};
 ghost use Rattle.syntect_grammar.specs.declared.syntax_definition.SyntaxDefinition.{SyntaxDefinition as ADefinition};
 ghost use Rattle.syntect.specs.Built.{IsBuilt};
 ghost use Rattle.syntect_cat.specs.Shown.{IsSetOf, ShowsFile, IsShown};
@@ -18,8 +18,8 @@ use syntect::html::highlighted_html_for_file;
 use syntect::laws::loaded_is_plain;
 use syntect_parsing::syntax_set::{SyntaxSet, SyntaxSetBuilder};
 use syntect_scope::repository::ScopeRepository;
-use syntect_style::theme::Theme;
-use syntect_style::theme_set::ThemeSet;
+use syntect_theme::theme::Theme;
+use syntect_theme_files::theme_set::ThemeSet;
 
 /// Plain text and the grammars in a folder, linked, for lines with newlines.
 fn load_syntaxes(

@@ -1,7 +1,7 @@
 //! Files for terminals.
 ghost use Rattle.std.specs.Prelude.{◌≡◌, ℕ, List, [], IfOk, IsUtf8, string_bytes};
 ghost use Rattle.std.specs.Path.{path_bytes};
-ghost use Rattle.syntect_style.specs.declared.theme.Theme.{Theme as ATheme};
+ghost use Rattle.syntect_theme.specs.declared.theme.Theme.{Theme as ATheme};
 ghost use Rattle.syntect_grammar.specs.declared.syntax_definition.SyntaxDefinition.{SyntaxDefinition as ADefinition};
 ghost use Rattle.syntect_grammar.specs.declared.syntax_set.SyntaxReference.{SyntaxReference as ASyntax};
 ghost use Rattle.syntect.specs.Built.{IsBuilt, IsBuiltOf};
@@ -19,7 +19,7 @@ use syntect::laws::rows_of_readers;
 use syntect::reading::{next_line, text_of};
 use syntect::util::as_24_bit_terminal_escaped;
 use syntect_parsing::syntax_set::SyntaxSet;
-use syntect_style::theme::Theme;
+use syntect_theme::theme::Theme;
 
 /// What puts the terminal's own colours back, behind the last line.
 const RESET: &str = "\x1b[0m\n";

@@ -1,7 +1,7 @@
 use std::io;
 use syntect_base::theme::ParseThemeError;
-use syntect_style::style::{Color, FontStyle};
-use syntect_style::theme::UnderlineOption;
+use syntect_theme::style::{Color, FontStyle};
+use syntect_theme::theme::UnderlineOption;
 use syntect_values::text::Text;
 
 #[test]

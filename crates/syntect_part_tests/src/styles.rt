@@ -9,8 +9,8 @@ use syntect_style::highlighter::{Highlighter, ScoredStyle};
 use syntect_style::laws::one_prevails;
 use syntect_style::pieces::{HighlightIterator, RangedHighlightIterator, collect_pieces};
 use syntect_style::state::HighlightState;
-use syntect_style::style::{Color, FontStyle, Style, StyleModifier};
-use syntect_style::theme::{Theme, ThemeItem, ThemeSettings};
+use syntect_theme::style::{Color, FontStyle, Style, StyleModifier};
+use syntect_theme::theme::{Theme, ThemeItem, ThemeSettings};
 use syntect_values::seq::Seq;
 use syntect_values::text::Text;
 

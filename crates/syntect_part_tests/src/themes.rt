@@ -3,9 +3,9 @@ use std::alloc::Global;
 use std::io;
 use syntect_base::theme::ParseThemeError;
 use syntect_scope::repository::ScopeRepository;
-use syntect_style::style::{Color, FontStyle};
-use syntect_style::theme::{Theme, ThemeItem};
-use syntect_style::theme_load::ParseSettings;
+use syntect_theme::style::{Color, FontStyle};
+use syntect_theme::theme::{Theme, ThemeItem};
+use syntect_theme_files::theme_load::ParseSettings;
 use syntect_values::text::Text;
 
 /// The value of a text.

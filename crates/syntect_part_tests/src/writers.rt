@@ -1,7 +1,7 @@
 //! Worked examples.
 use std::test::Fail;
-use syntect_style::style::{Color, FontStyle, Style};
-use syntect_style::theme::Theme;
+use syntect_theme::style::{Color, FontStyle, Style};
+use syntect_theme::theme::Theme;
 use syntect_writers::escape::Escape;
 use syntect_writers::html::{
     IncludeBackground, append_highlighted_html_for_styled_line, start_highlighted_html_snippet,

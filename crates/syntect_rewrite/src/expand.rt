@@ -59,13 +59,12 @@ fn used(text: &str) -> Option<(&str, &str)>
     ensures rest { IfSome result (λ p. p.1.now ≡ drop (uses.name_len text.now + 4) text.now) }
 {
     let bytes = text.as_bytes();
+    // only a name behind two braces is measured, so that a long run of letters costs one pass
+    if first(text) != b'{' || byte_at(bytes, 1) != b'{' {
+        return None;
+    }
     let n = name_len(bytes);
-    if 0 < n
-        && first(text) == b'{'
-        && byte_at(bytes, 1) == b'{'
-        && byte_at(bytes, n + 2) == b'}'
-        && byte_at(bytes, n + 3) == b'}'
-    {
+    if 0 < n && byte_at(bytes, n + 2) == b'}' && byte_at(bytes, n + 3) == b'}' {
         let name = skip(text, 2).split_at(n).0;
         return Some((name, skip(text, n + 4)));
     }

@@ -1,11 +1,11 @@
 -- What a caller of a grammar's text is told.
 use Rattle.std.specs.Prelude.{◌≡◌, ℕ, true, List, [], ◌∷◌, Option, Some, None, Ok, slice_get}
 use Rattle.std.specs.Borrow.{Bor}
-use Rattle.syntect_style.specs.declared.style.Style.{Style}
+use Rattle.syntect_theme.specs.declared.style.Style.{Style}
 use Rattle.syntect_grammar.specs.declared.error.Error.{Error}
 use Rattle.syntect_grammar.specs.declared.error.Error.TheVariants as error
 use Rattle.syntect_rows.specs.Third.{IsThirdLine, IsRefusal}
-use Rattle.syntect_style.specs.declared.theme.Theme.{Theme}
+use Rattle.syntect_theme.specs.declared.theme.Theme.{Theme}
 use Rattle.syntect_grammar.specs.Link.{linked, syntaxes_in}
 use Rattle.syntect_grammar.specs.Loading.{loaded}
 use Rattle.syntect_grammar.specs.declared.syntax_definition.SyntaxDefinition.{SyntaxDefinition}

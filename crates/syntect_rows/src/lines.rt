@@ -8,7 +8,7 @@ use syntect::easy::HighlightLines;
 use syntect_parsing::parser::{ParseState, ParsingError};
 use syntect_parsing::syntax_definition::ContextReference;
 use syntect_scope::repository::ScopeRepository;
-use syntect_style::style::Style;
+use syntect_theme::style::Style;
 use syntect_values::table::Table;
 use syntect_values::text::Text;
 

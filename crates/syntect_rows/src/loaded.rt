@@ -6,7 +6,7 @@ use syntect::easy::HighlightLines;
 use syntect_parsing::syntax_definition::SyntaxDefinition;
 use syntect_parsing::syntax_set::{SyntaxSet, SyntaxSetBuilder};
 use syntect_scope::repository::ScopeRepository;
-use syntect_style::style::Style;
+use syntect_theme::style::Style;
 
 /// A string that begins with a word behind `<<`, and ends at the line of that word.
 pub const HEREDOC: &str = r"

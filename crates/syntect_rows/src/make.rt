@@ -4,8 +4,8 @@ use syntect_scope::repository::ScopeRepository;
 use syntect_scope::scope::Scope;
 use syntect_scope::selector::ScopeSelectors;
 use syntect_scope::stack::ScopeStack;
-use syntect_style::style::{Color, StyleModifier};
-use syntect_style::theme::{Theme, ThemeItem};
+use syntect_theme::style::{Color, StyleModifier};
+use syntect_theme::theme::{Theme, ThemeItem};
 use syntect_values::seq::Seq;
 
 /// The scopes of a text, separated by white space.

@@ -6,7 +6,7 @@ use syntect::html::highlighted_html_for_string;
 use syntect_parsing::syntax_definition::{Context, MatchOperation, Pattern};
 use syntect_parsing::syntax_set::SyntaxSet;
 use syntect_scope::repository::ScopeRepository;
-use syntect_style::theme::Theme;
+use syntect_theme::theme::Theme;
 use syntect_values::seq::Seq;
 use syntect_values::table::Table;
 use syntect_values::text::Text;

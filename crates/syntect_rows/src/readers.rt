@@ -11,7 +11,7 @@ use syntect_parsing::syntax_definition::{ContextReference, MatchOperation};
 use syntect_parsing::syntax_set::SyntaxSet;
 use syntect_scope::repository::ScopeRepository;
 use syntect_scope::scope::Scope;
-use syntect_style::theme::Theme;
+use syntect_theme::theme::Theme;
 use syntect_values::seq::Seq;
 
 /// A reader that gives bytes, and fails where they end.

@@ -9,8 +9,8 @@ use Rattle.syntect_scope.specs.declared.stack.ScopeError.{ScopeError}
 use Rattle.syntect_scope.specs.declared.stack.ScopeError.TheVariants.{NoClearedScopesToRestore, Memory}
 use Rattle.syntect_style.specs.Pieces.{Stretch, oks, stretches, last_stack, path_of, Keeps, Joins, IsStyled}
 use Rattle.syntect_style.specs.Items.{theme_of, stack_of, IsReady, Begins, left, final, Tells, Carries, Gives, Shows}
-use Rattle.syntect_style.specs.declared.style.Style.{Style}
-use Rattle.syntect_style.specs.declared.theme.Theme.{Theme}
+use Rattle.syntect_theme.specs.declared.style.Style.{Style}
+use Rattle.syntect_theme.specs.declared.theme.Theme.{Theme}
 use Rattle.syntect_style.specs.declared.state.HighlightState.{HighlightState}
 use Rattle.syntect_style.specs.declared.pieces.RangedHighlightIterator.{RangedHighlightIterator}
 use Rattle.syntect_style.proofs.Cuts.{ShowEach, show_more, oks-append, oks-same, all_apply, cuts, stretches_cuts, cuts_within, cuts_text, cuts_bytes, Within, text_of_cuts, bytes_of_cuts, joins_of, styled_of, last_replayed, refused_somewhere}

@@ -14,11 +14,11 @@ use Rattle.syntect_style.specs.Candidates.{single_score, other_score, score_of, 
 use Rattle.syntect_style.specs.Laws.{IsGreatest}
 use Rattle.syntect_style.specs.Rules.{rule_of, item_rules, single_rules, against, after_rules, other_of, item_others, other_rules, after_others}
 use Rattle.syntect_style.specs.Styling.{winners}
-use Rattle.syntect_style.specs.declared.style.Color.{Color}
-use Rattle.syntect_style.specs.declared.style.FontStyle.{FontStyle}
-use Rattle.syntect_style.specs.declared.style.StyleModifier.{StyleModifier}
-use Rattle.syntect_style.specs.declared.theme.ThemeItem.{ThemeItem}
-use Rattle.syntect_style.specs.declared.theme.Theme.{Theme}
+use Rattle.syntect_theme.specs.declared.style.Color.{Color}
+use Rattle.syntect_theme.specs.declared.style.FontStyle.{FontStyle}
+use Rattle.syntect_theme.specs.declared.style.StyleModifier.{StyleModifier}
+use Rattle.syntect_theme.specs.declared.theme.ThemeItem.{ThemeItem}
+use Rattle.syntect_theme.specs.declared.theme.Theme.{Theme}
 use Rattle.syntect_style.specs.declared.scores.Rule.{Rule}
 use Rattle.syntect_style.proofs.OrderLaws.{beats_order, one_of_two}
 

@@ -15,8 +15,8 @@ use Rattle.syntect_scope.specs.declared.stack.ScopeError.{ScopeError}
 use Rattle.syntect_scope.specs.declared.stack.ScopeError.TheVariants.{NoClearedScopesToRestore}
 use Rattle.syntect_style.specs.Styling.{shown}
 use Rattle.syntect_style.specs.Pieces.{Stretch, stretch, oks, stretches, last_stack, Joins, IsStyled}
-use Rattle.syntect_style.specs.declared.style.Style.{Style}
-use Rattle.syntect_style.specs.declared.theme.Theme.{Theme}
+use Rattle.syntect_theme.specs.declared.style.Style.{Style}
+use Rattle.syntect_theme.specs.declared.theme.Theme.{Theme}
 
 -- the stretches, where no operation is refused
 abbrev pub cuts : ℕ → ℕ → ScopeStack → List (ℕ × ScopeStackOp) → List Stretch

@@ -14,7 +14,7 @@ use Rattle.syntect_scope.specs.declared.stack.ScopeError.{ScopeError}
 use Rattle.syntect_scope.specs.declared.stack.ScopeError.TheVariants.{NoClearedScopesToRestore, Memory}
 use Rattle.syntect_style.specs.Pieces.{Stretch, stretch, stretches, last_stack, Keeps}
 use Rattle.syntect_style.specs.Items.{theme_of, stack_of, IsReady, left, final, Tells, Shows, Carries, Passes, Gives}
-use Rattle.syntect_style.specs.declared.style.Style.{Style}
+use Rattle.syntect_theme.specs.declared.style.Style.{Style}
 use Rattle.syntect_style.specs.declared.pieces.RangedHighlightIterator.{RangedHighlightIterator}
 
 -- ---- one operation more ----

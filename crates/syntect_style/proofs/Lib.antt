@@ -6,7 +6,3 @@ pub mod Cuts
 pub mod ItemLaws
 pub mod Collect
 pub mod StackLaws
-pub mod FlagLaws
-pub mod FileLaws
-pub mod LoadLaws
-pub mod FlagText

@@ -6,8 +6,8 @@ use Rattle.syntect_scope.specs.Atoms.{is_prefix}
 use Rattle.syntect_scope.specs.Choice.{selector_score}
 use Rattle.syntect_scope.specs.SelectorText.{sole_scope}
 use Rattle.syntect_scope.specs.declared.selector.ScopeSelector.{ScopeSelector}
-use Rattle.syntect_style.specs.declared.style.StyleModifier.{StyleModifier}
-use Rattle.syntect_style.specs.declared.theme.Theme.{Theme}
+use Rattle.syntect_theme.specs.declared.style.StyleModifier.{StyleModifier}
+use Rattle.syntect_theme.specs.declared.theme.Theme.{Theme}
 
 -- ---- what a selector scores ----
 

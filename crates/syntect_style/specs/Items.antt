@@ -10,8 +10,8 @@ use Rattle.syntect_scope.specs.declared.stack.ScopeError.{ScopeError}
 use Rattle.syntect_scope.specs.declared.stack.ScopeError.TheVariants.{NoClearedScopesToRestore, Memory}
 use Rattle.syntect_style.specs.Styling.{shown}
 use Rattle.syntect_style.specs.Pieces.{Stretch, stretches, last_stack, path_of, Keeps}
-use Rattle.syntect_style.specs.declared.style.Style.{Style}
-use Rattle.syntect_style.specs.declared.theme.Theme.{Theme}
+use Rattle.syntect_theme.specs.declared.style.Style.{Style}
+use Rattle.syntect_theme.specs.declared.theme.Theme.{Theme}
 use Rattle.syntect_style.specs.declared.state.HighlightState.{HighlightState}
 use Rattle.syntect_style.specs.declared.pieces.RangedHighlightIterator.{RangedHighlightIterator}
 use Rattle.syntect_style.specs.declared.pieces.HighlightIterator.{HighlightIterator}

@@ -1,13 +1,6 @@
 pub mod Candidates
-pub mod Flags
 pub mod Items
 pub mod Laws
-pub mod Loading
-pub mod Modifying
 pub mod Pieces
-pub mod Refusals
 pub mod Rules
 pub mod Styling
-pub mod Texts
-pub mod ThemeFiles
-pub mod Themes

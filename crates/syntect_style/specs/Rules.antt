@@ -4,9 +4,9 @@ use Rattle.std.specs.List.{filter_map, flat_map}
 use Rattle.syntect_scope.specs.declared.selector.ScopeSelector.{ScopeSelector}
 use Rattle.syntect_scope.specs.SelectorText.{sole_scope}
 use Rattle.syntect_style.specs.Candidates.{single_score, other_score, Score, Candidate, candidate, beats}
-use Rattle.syntect_style.specs.declared.style.StyleModifier.{StyleModifier}
-use Rattle.syntect_style.specs.declared.theme.ThemeItem.{ThemeItem}
-use Rattle.syntect_style.specs.declared.theme.Theme.{Theme}
+use Rattle.syntect_theme.specs.declared.style.StyleModifier.{StyleModifier}
+use Rattle.syntect_theme.specs.declared.theme.ThemeItem.{ThemeItem}
+use Rattle.syntect_theme.specs.declared.theme.Theme.{Theme}
 use Rattle.syntect_style.specs.declared.scores.Rule.{Rule}
 use Rattle.syntect_style.specs.declared.scores.SingleScore.{SingleScore}
 

@@ -1,10 +1,10 @@
 -- The style of a stack of scopes under a theme.
 use Rattle.std.specs.Prelude.{ℕ, List, [], ◌∷◌, unwrap_or}
 use Rattle.syntect_style.specs.Candidates.{winner}
-use Rattle.syntect_style.specs.Modifying.{black, white, no_flags, restyled}
-use Rattle.syntect_style.specs.declared.style.Style.{Style}
-use Rattle.syntect_style.specs.declared.style.StyleModifier.{StyleModifier}
-use Rattle.syntect_style.specs.declared.theme.Theme.{Theme}
+use Rattle.syntect_theme.specs.Modifying.{black, white, no_flags, restyled}
+use Rattle.syntect_theme.specs.declared.style.Style.{Style}
+use Rattle.syntect_theme.specs.declared.style.StyleModifier.{StyleModifier}
+use Rattle.syntect_theme.specs.declared.theme.Theme.{Theme}
 
 -- the style of text that no rule styles
 abbrev pub default_style : Theme → Style

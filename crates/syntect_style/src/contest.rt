@@ -5,7 +5,7 @@ ghost use Rattle.syntect_style.specs.Candidates.{candidate, deepest};
 ghost use Rattle.syntect_style.specs.Rules.{score_from, candidate_from, against, after_rules};
 
 use crate::scores::{Rule, SingleScore};
-use crate::style::{Color, FontStyle};
+use syntect_theme::style::{Color, FontStyle};
 use syntect_scope::scope::Scope;
 
 /// The deepest place of a stack whose scope the given one begins.

@@ -6,8 +6,8 @@ ghost use Rattle.syntect_style.specs.Rules.{item_rules};
 use crate::contest::standings_of;
 use crate::others::{better, others_of};
 use crate::scores::Rule;
-use crate::style::{Color, FontStyle, Style, StyleModifier};
-use crate::theme::{Theme, ThemeItem};
+use syntect_theme::style::{Color, FontStyle, Style, StyleModifier};
+use syntect_theme::theme::{Theme, ThemeItem};
 use std::alloc::{AllocError, Global};
 use std::marker::Model;
 use syntect_scope::power::MatchPower;
@@ -23,7 +23,7 @@ pub struct Highlighter<'a> {
 
 impl<'a> Model for Highlighter<'a> {
     ghost use Rattle.std.specs.Prelude.{◌≡◌};
-    ghost use Rattle.syntect_style.specs.declared.theme.Theme.{Theme};
+    ghost use Rattle.syntect_theme.specs.declared.theme.Theme.{Theme};
     ghost use Rattle.syntect_style.specs.Rules.{single_rules};
 
     ghost Value = { Theme };

@@ -6,8 +6,8 @@ ghost use Rattle.syntect_style.specs.Candidates.{candidate};
 ghost use Rattle.syntect_style.specs.Rules.{against, candidate_from, other_from, power_score, after_others, item_others};
 
 use crate::scores::SingleScore;
-use crate::style::{Color, FontStyle, StyleModifier};
-use crate::theme::ThemeItem;
+use syntect_theme::style::{Color, FontStyle, StyleModifier};
+use syntect_theme::theme::ThemeItem;
 use std::alloc::{AllocError, Global};
 use syntect_scope::power::MatchPower;
 use syntect_scope::scope::Scope;

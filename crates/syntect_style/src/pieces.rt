@@ -9,7 +9,7 @@ ghost use Rattle.syntect_style.specs.Items.{Begins, Gives, GivesUnranged, IsRead
 
 use crate::highlighter::Highlighter;
 use crate::state::HighlightState;
-use crate::style::Style;
+use syntect_theme::style::Style;
 use std::alloc::Global;
 use std::ops::Range;
 use syntect_scope::stack::{ScopeError, ScopeStackOp};

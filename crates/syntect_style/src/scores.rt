@@ -1,7 +1,7 @@
 //! Scores of single rules.
 ghost use Rattle.std.specs.Prelude.{◌+◌, ◌≤◌, ◌<◌, ◌^◌};
 
-use crate::style::StyleModifier;
+use syntect_theme::style::StyleModifier;
 use syntect_scope::scope::Scope;
 
 /// A scope with the change that its rule makes.

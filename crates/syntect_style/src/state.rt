@@ -5,7 +5,7 @@ ghost use Rattle.syntect_style.specs.Styling.{shown};
 ghost use Rattle.syntect_style.specs.Pieces.{path_of, Keeps};
 
 use crate::highlighter::Highlighter;
-use crate::style::Style;
+use syntect_theme::style::Style;
 use std::alloc::AllocError;
 use syntect_scope::stack::{ScopeError, ScopeStack, ScopeStackOp};
 

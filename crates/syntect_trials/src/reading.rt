@@ -11,8 +11,8 @@ use syntect_parsing::parser::ParseState;
 use syntect_parsing::syntax_set::{SyntaxReference, SyntaxSet};
 use syntect_scope::repository::ScopeRepository;
 use syntect_scope::stack::{ScopeStack, ScopeStackOp};
-use syntect_style::theme::Theme;
-use syntect_style::theme_set::ThemeSet;
+use syntect_theme::theme::Theme;
+use syntect_theme_files::theme_set::ThemeSet;
 
 /// Why there is nothing to show.
 fn fault(text: &'static str) -> io::Error {

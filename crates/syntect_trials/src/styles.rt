@@ -8,8 +8,8 @@ use std::{fs, io};
 use syntect_scope::repository::ScopeRepository;
 use syntect_scope::stack::ScopeStack;
 use syntect_style::highlighter::Highlighter;
-use syntect_style::style::{Color, Style};
-use syntect_style::theme_set::ThemeSet;
+use syntect_theme::style::{Color, Style};
+use syntect_theme_files::theme_set::ThemeSet;
 
 /// How many scopes the stack has that is styled.
 const SCOPES: usize = 64;

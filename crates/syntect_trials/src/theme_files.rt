@@ -7,7 +7,7 @@ use std::rt::Files;
 use syntect_base::loading::{LoadingError, SettingsError};
 use syntect_base::utils::files_below;
 use syntect_scope::repository::ScopeRepository;
-use syntect_style::theme_set::ThemeSet;
+use syntect_theme_files::theme_set::ThemeSet;
 use syntect_values::text::Text;
 
 /// Two theme files of one name, the later with its extension in capitals, and a file of another kind.

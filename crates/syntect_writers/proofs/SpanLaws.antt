@@ -4,7 +4,7 @@ use Rattle.std.specs.List.{flat_map}
 use Rattle.std.proofs.lemmas.Bool.{cases_Bool}
 use Rattle.std.proofs.lemmas.Grind.{flat_map-append}
 use Rattle.std.specs.Prelude.{Option, None}
-use Rattle.syntect_style.specs.declared.style.Style.{Style}
+use Rattle.syntect_theme.specs.declared.style.Style.{Style}
 use Rattle.syntect_writers.specs.Entities.{entity, escaped}
 use Rattle.syntect_writers.specs.Spans.{open_tag, span_text, spans_from, continues}
 use Rattle.syntect_writers.specs.Opened.{behind_open, line_behind, close_of, continued}

@@ -1,7 +1,7 @@
 -- A line while it is written: what is still to be written behind the spans so far.
 use Rattle.std.specs.Prelude.{ℕ, List, [], ◌∷◌, ◌++◌, codes, Option, Some, None, if◌then◌else◌}
 use Rattle.std.specs.List.{flat_map}
-use Rattle.syntect_style.specs.declared.style.Style.{Style}
+use Rattle.syntect_theme.specs.declared.style.Style.{Style}
 use Rattle.syntect_writers.specs.Entities.{escaped}
 use Rattle.syntect_writers.specs.Spans.{open_tag, span_text, spans, continues}
 use Rattle.syntect_writers.specs.declared.html.IncludeBackground.{IncludeBackground}

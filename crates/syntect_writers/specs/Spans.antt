@@ -3,10 +3,10 @@ use Rattle.std.specs.Prelude.{ℕ, ◌+◌, ◌/◌, ◌%◌, ◌==◌, nat_lt, 
 use Rattle.std.specs.List.{flat_map, list_all}
 use Rattle.std.specs.Borrow.{Bor}
 use Rattle.std.specs.Char.{is_whitespace}
-use Rattle.syntect_style.specs.declared.style.Color.{Color}
-use Rattle.syntect_style.specs.declared.style.Style.{Style}
-use Rattle.syntect_style.specs.declared.theme.Theme.{Theme}
-use Rattle.syntect_style.specs.Modifying.{bits_of}
+use Rattle.syntect_theme.specs.declared.style.Color.{Color}
+use Rattle.syntect_theme.specs.declared.style.Style.{Style}
+use Rattle.syntect_theme.specs.declared.theme.Theme.{Theme}
+use Rattle.syntect_theme.specs.Modifying.{bits_of}
 use Rattle.syntect_writers.specs.Entities.{escaped}
 use Rattle.syntect_writers.specs.declared.html.IncludeBackground.{IncludeBackground}
 use Rattle.syntect_writers.specs.declared.html.IncludeBackground.TheVariants.{No, Yes, IfDifferent}

@@ -2,8 +2,8 @@
 use Rattle.std.specs.Prelude.{ℕ, ◌+◌, ◌-◌, ◌*◌, ◌/◌, ◌==◌, Bool, List, [], ◌∷◌, ◌++◌, codes, decimal, if◌then◌else◌}
 use Rattle.std.specs.List.{flat_map}
 use Rattle.std.specs.Borrow.{Bor}
-use Rattle.syntect_style.specs.declared.style.Color.{Color}
-use Rattle.syntect_style.specs.declared.style.Style.{Style}
+use Rattle.syntect_theme.specs.declared.style.Color.{Color}
+use Rattle.syntect_theme.specs.declared.style.Style.{Style}
 
 -- a part of a colour over that of another, as opaque as this number says
 abbrev pub blended_part : ℕ → ℕ → ℕ → ℕ

@@ -2,14 +2,14 @@
 ghost use Rattle.std.specs.Prelude.{◌≡◌, ◌++◌, string_bytes, IfOk, OnOk, OnErr, map};
 ghost use Rattle.syntect_writers.specs.Spans.{hex_digit, hex_pair, rgb_text, color_text, flags_text, same_color, same_style, tells_background, asked_for, color_property, background_text, css, open_tag, is_blank, continues, line_text, opening, background_of};
 ghost use Rattle.syntect_writers.specs.Opened.{behind_open, line_behind, close_of, continued};
-ghost use Rattle.syntect_style.specs.Modifying.{bits_of};
+ghost use Rattle.syntect_theme.specs.Modifying.{bits_of};
 ghost use Rattle.std.specs.Prelude.{◌<◌, ◌∷◌, List, ℕ};
-ghost use Rattle.syntect_style.specs.declared.style.Style.{Style as Plain};
+ghost use Rattle.syntect_theme.specs.declared.style.Style.{Style as Plain};
 
 use crate::escape::push_escaped;
 use std::alloc::{AllocError, Global};
-use syntect_style::style::{Color, FontStyle, Style};
-use syntect_style::theme::Theme;
+use syntect_theme::style::{Color, FontStyle, Style};
+use syntect_theme::theme::Theme;
 
 /// Whether spans tell the colour behind their text.
 #[derive(Clone, Copy, Debug, PartialEq, Eq)]

@@ -3,7 +3,7 @@ ghost use Rattle.std.specs.Prelude.{◌≡◌, ◌++◌, string_bytes, codes, If
 ghost use Rattle.syntect_writers.specs.Terminal.{blended_part, blended, sequence, piece_text, terminal_text};
 
 use std::alloc::{AllocError, Global};
-use syntect_style::style::{Color, Style};
+use syntect_theme::style::{Color, Style};
 
 /// A part of a colour over that of another.
 fn blend_part(opaque: u8, over: u8, under: u8) -> u8

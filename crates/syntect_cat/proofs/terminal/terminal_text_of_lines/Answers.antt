@@ -1,5 +1,5 @@
 use Rattle.std.proofs.Common.{◌≡◌, ◌++◌, true, List, [], ℕ, ap, ◌∙◌, string_bytes, Bor}
-use Rattle.syntect_style.specs.declared.style.Style.{Style}
+use Rattle.syntect_theme.specs.declared.style.Style.{Style}
 use Rattle.syntect_writers.specs.Terminal.{terminal_text}
 use Rattle.syntect.specs.Pages.{lines_in, answers_in}
 use Rattle.syntect_cat.proofs.TerminalLaws.{gives_more, gives_nothing, line_more, text_whole}

@@ -1,6 +1,6 @@
 use Rattle.std.proofs.Common.{List, ℕ, string_bytes}
 use Rattle.std.specs.Prelude.{[]}
-use Rattle.syntect_style.specs.declared.theme.Theme.{Theme}
+use Rattle.syntect_theme.specs.declared.theme.Theme.{Theme}
 use Rattle.syntect_grammar.specs.declared.syntax_definition.SyntaxDefinition.{SyntaxDefinition}
 use Rattle.syntect_grammar.specs.declared.syntax_set.SyntaxReference.{SyntaxReference}
 use Rattle.syntect.specs.Built.{IsBuiltOf}

@@ -13,8 +13,8 @@ use Rattle.syntect_grammar.specs.declared.syntax_set.SyntaxReference.{SyntaxRefe
 use Rattle.syntect_parsing.specs.declared.parser.ParseState.{ParseState}
 use Rattle.syntect_grammar.specs.declared.error.ParsingError.{ParsingError}
 use Rattle.syntect_grammar.specs.declared.error.ParsingError.TheVariants as parsing
-use Rattle.syntect_style.specs.declared.style.Style.{Style}
-use Rattle.syntect_style.specs.declared.theme.Theme.{Theme}
+use Rattle.syntect_theme.specs.declared.style.Style.{Style}
+use Rattle.syntect_theme.specs.declared.theme.Theme.{Theme}
 use Rattle.syntect.specs.Built.{IsBuiltOf, StaysInStart}
 use Rattle.syntect.specs.Leads.{Leads, RefusedExactly}
 use Rattle.syntect.specs.declared.easy.HighlightLines.{HighlightLines}

@@ -9,8 +9,8 @@ use Rattle.syntect_grammar.specs.declared.syntax_set.SyntaxReference.{SyntaxRefe
 use Rattle.syntect_grammar.specs.declared.syntax_set.SyntaxSet.{SyntaxSet}
 use Rattle.syntect_grammar.specs.declared.error.Error.{Error}
 use Rattle.syntect_grammar.specs.declared.error.Error.TheVariants as error
-use Rattle.syntect_style.specs.declared.style.Style.{Style}
-use Rattle.syntect_style.specs.declared.theme.Theme.{Theme}
+use Rattle.syntect_theme.specs.declared.style.Style.{Style}
+use Rattle.syntect_theme.specs.declared.theme.Theme.{Theme}
 use Rattle.syntect.specs.Built.{IsPlain, IsLoaded, IsBuiltOf, StaysInStart}
 use Rattle.syntect_rows.specs.Third.{FirstStays, IsRefusal, IsThird}
 use Rattle.syntect_rows.specs.Grammars.{Load, IsThirdOf, IsRefusalOf}

@@ -1,5 +1,5 @@
 use Rattle.std.proofs.Common.{◌++◌, List, ℕ, ap, sym, ◌∙◌, append_assoc, string_bytes}
-use Rattle.syntect_style.specs.declared.style.Style.{Style}
+use Rattle.syntect_theme.specs.declared.style.Style.{Style}
 use Rattle.syntect_writers.specs.Entities.{escaped}
 use Rattle.syntect_writers.specs.Spans.{open_tag}
 use Rattle.syntect_writers.specs.Opened.{behind_open, close_of}

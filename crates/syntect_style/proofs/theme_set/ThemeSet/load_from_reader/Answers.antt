@@ -1,5 +1,0 @@
-use Rattle.syntect_style.proofs.FileLaws.{not_read_of}
-use Rattle.syntect_style.proofs.theme_set.ThemeSet.load_from_reader.Goals as goal
-
-pub returns-clause-err : goal.returns-clause-err
-returns-clause-err g c = not_read_of (g.R.Read.remaining c.args.reader.now) c.in-Err.e c.from.result c.from.ensures

@@ -1,0 +1,5 @@
+pub mod Flags
+pub mod Modifying
+pub mod Refusals
+pub mod Texts
+pub mod Themes

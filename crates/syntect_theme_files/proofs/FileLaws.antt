@@ -1,0 +1,124 @@
+-- Themes of bytes and of files.
+use Rattle.std.proofs.Common.{◌≡◌, ◌≢◌, ◌<◌, ◌≤◌, ◌+◌, ℕ, suc, List, [], ◌∷◌, ◌++◌, length, take, drop, get_or, sym, refl, ap, ◌∙◌, subst, arith, Option, Some, None, Err}
+use Rattle.std.proofs.Math.Seq.{take-suc}
+use Rattle.std.specs.BTreeMap.{insert_entry}
+use Rattle.std.specs.Cmp.Lexicographic.{slice_cmp}
+use Rattle.std.specs.Ordering.{nat_cmp}
+use Rattle.std.specs.Prelude.{IfSome, IfErr, Result, Ok}
+use Rattle.std.proofs.lemmas.List.{take_all, take-append-le, take-append-drop, length-take}
+use Rattle.std.specs.declared.io.Error.{Error}
+use Rattle.serde_json.specs.Data.{Data}
+use Rattle.syntect_base.specs.Walks.{InByteOrder, IsWalk, IsWalkFault, ended}
+use Rattle.syntect_base.specs.Refusals.{IsReadFault, from_theme, from_settings}
+use Rattle.syntect_base.specs.declared.theme.ParseThemeError.{ParseThemeError}
+use Rattle.syntect_base.specs.declared.theme.ParseThemeError.TheVariants as error
+use Rattle.syntect_base.specs.declared.loading.SettingsError.{SettingsError}
+use Rattle.syntect_base.specs.declared.loading.SettingsError.TheVariants as settings
+use Rattle.syntect_base.specs.declared.loading.LoadingError.{LoadingError}
+use Rattle.syntect_base.specs.declared.loading.LoadingError.TheVariants as loading
+use Rattle.syntect_theme_files.specs.Loading.{head_at}
+use Rattle.syntect_theme.specs.Refusals.{Refuses}
+use Rattle.syntect_theme_files.specs.ThemeFiles.{IsSettings, IsThemeOf, RefusesTheme, IsThemeFault, theme_name, AddsThemes, no_settings, no_theme, not_read, no_memory, no_more, other, theme}
+use Rattle.syntect_theme.specs.declared.theme.Theme.{Theme}
+
+pub not_settings : (bytes : List ℕ) (e : SettingsError) → (e ≢ settings.Memory → (d : Data) → ¬ (IsSettings bytes d)) → RefusesTheme bytes (from_settings e)
+not_settings bytes settings.Memory h = no_memory
+not_settings bytes settings.Json h = no_settings (h (λ q. cc))
+
+pub not_theme : (bytes : List ℕ) (d : Data) → IsSettings bytes d → (e : ParseThemeError) → Refuses (head_at d) e → RefusesTheme bytes (from_theme e)
+not_theme bytes d s error.Memory h = no_memory
+not_theme bytes d s error.IncorrectUnderlineOption h = no_theme s (h (λ q. cc))
+not_theme bytes d s (error.IncorrectFontStyle x) h = no_theme s (h (λ q. cc))
+not_theme bytes d s error.IncorrectColor h = no_theme s (h (λ q. cc))
+not_theme bytes d s error.IncorrectSyntax h = no_theme s (h (λ q. cc))
+not_theme bytes d s error.IncorrectSettings h = no_theme s (h (λ q. cc))
+not_theme bytes d s error.UndefinedSettings h = no_theme s (h (λ q. cc))
+not_theme bytes d s (error.UndefinedScopeSettings x) h = no_theme s (h (λ q. cc))
+not_theme bytes d s error.ColorShemeScopeIsNotObject h = no_theme s (h (λ q. cc))
+not_theme bytes d s error.ColorShemeSettingsIsNotObject h = no_theme s (h (λ q. cc))
+not_theme bytes d s (error.ScopeSelectorIsNotString x) h = no_theme s (h (λ q. cc))
+not_theme bytes d s error.DuplicateSettings h = no_theme s (h (λ q. cc))
+not_theme bytes d s (error.ScopeParse x) h = no_theme s (h (λ q. cc))
+
+pub not_read_from : (bytes : List ℕ) (e : Error) (r : LoadingError) → IsReadFault e r → RefusesTheme bytes r
+not_read_from bytes e loading.Memory f = no_memory
+not_read_from bytes e (loading.Io x) f = not_read
+not_read_from bytes e loading.WalkDir f = let q : loading.WalkDir ≡ loading.Io e = f.either (λ q. cc) in cc
+not_read_from bytes e (loading.ParseSyntax x y) f = let q : loading.ParseSyntax x y ≡ loading.Io e = f.either (λ q. cc) in cc
+not_read_from bytes e loading.ParseMetadata f = let q : loading.ParseMetadata ≡ loading.Io e = f.either (λ q. cc) in cc
+not_read_from bytes e (loading.ParseTheme x) f = let q : loading.ParseTheme x ≡ loading.Io e = f.either (λ q. cc) in cc
+not_read_from bytes e (loading.ReadSettings x) f = let q : loading.ReadSettings x ≡ loading.Io e = f.either (λ q. cc) in cc
+not_read_from bytes e loading.BadPath f = let q : loading.BadPath ≡ loading.Io e = f.either (λ q. cc) in cc
+
+-- bytes that a reader may have had
+some_bytes : (left : Option (List ℕ)) → (bytes : List ℕ) × IfSome left (λ xs. bytes ≡ xs)
+some_bytes None = ([], tt)
+some_bytes (Some xs) = (xs, refl)
+
+pub not_read_of : (left : Option (List ℕ)) (e : Error) (r : LoadingError) → IsReadFault e r → (bytes : List ℕ) × IfSome left (λ xs. bytes ≡ xs) × RefusesTheme bytes r
+not_read_of left e r f = let s = some_bytes left in (s.0, s.1, not_read_from s.0 e r f)
+
+pub fault_of_memory : IsThemeFault loading.Memory
+fault_of_memory = ([], no_memory)
+
+pub fault_of_walk : (e : LoadingError) → IsWalkFault e → e ≢ loading.WalkDir → IsThemeFault e
+fault_of_walk e f n = subst IsThemeFault (sym (f n)) fault_of_memory
+
+no_walk : {bytes : List ℕ} {e : LoadingError} → RefusesTheme bytes e → e ≢ loading.WalkDir
+no_walk (no_settings h) q = cc
+no_walk (no_theme s h) q = cc
+no_walk not_read q = cc
+no_walk no_memory q = cc
+
+pub no_fault_of_walk : (e : LoadingError) → IsThemeFault e → e ≢ loading.WalkDir
+no_fault_of_walk e f = no_walk f.1
+
+-- ---- files added ----
+
+adds_more : {paths old left new : List (List ℕ)} {themes some all : List (List ℕ × Theme)} (path : List ℕ) → AddsThemes paths old themes left some
+    → AddsThemes (path ∷ []) left some new all → AddsThemes (paths ++ path ∷ []) old themes new all
+adds_more path no_more last = last
+adds_more path (other n rest) last = other n (adds_more path rest last)
+adds_more path (theme n t rest) last = theme n t (adds_more path rest last)
+
+-- one file more
+pub adds_next : (paths : List (List ℕ)) (i : ℕ) (path text : List ℕ) (old left new : List (List ℕ)) (themes some all : List (List ℕ × Theme)) → i < length paths
+    → path ≡ get_or paths i path → text ≡ path → AddsThemes (take i paths) old themes left some → AddsThemes (text ∷ []) left some new all
+    → AddsThemes (take (i + 1) paths) old themes new all
+adds_next paths i path text old left new themes some all l at same before one =
+    let front : take (suc i) paths ≡ take i paths ++ path ∷ [] = take-suc paths i path l ∙ ap (λ p. take i paths ++ p ∷ []) (sym at) in
+    let next : suc i ≡ i + 1 = omega arith in
+    subst (λ n. AddsThemes (take n paths) old themes new all) next
+    (subst (λ xs. AddsThemes xs old themes new all) (sym front) (adds_more path before (subst (λ p. AddsThemes (p ∷ []) left some new all) same one)))
+
+pub passes_over : (path : List ℕ) (repo : List (List ℕ)) (themes : List (List ℕ × Theme)) → theme_name path ≡ None → AddsThemes (path ∷ []) repo themes repo themes
+passes_over path repo themes n = other n no_more
+
+pub adds_one : (path name key bytes : List ℕ) (old new : List (List ℕ)) (themes all : List (List ℕ × Theme)) (one : Theme) → theme_name path ≡ Some name → IsThemeOf old bytes new one
+    → key ≡ name → all ≡ insert_entry (slice_cmp nat_cmp) themes key one → AddsThemes (path ∷ []) old themes new all
+adds_one path name key bytes old new themes all one n t k e =
+    let w : all ≡ insert_entry (slice_cmp nat_cmp) themes name one = e ∙ ap (λ x. insert_entry (slice_cmp nat_cmp) themes x one) k in
+    subst (λ xs. AddsThemes (path ∷ []) old themes new xs) (sym w) (theme n t no_more)
+
+-- a walk that was refused adds nothing
+none_in_order : InByteOrder []
+none_in_order k d a b = let x : ⊥ = omega arith in absurd x
+
+pub nothing_added : (folder : List ℕ) (repo : List (List ℕ)) (themes : List (List ℕ × Theme))
+    → (found : List (List ℕ)) × IsWalk folder found × (n : ℕ) × (left : List (List ℕ)) × AddsThemes (take n found) repo themes left themes
+nothing_added folder repo themes = ([], ([], none_in_order, ended), 0, repo, no_more)
+
+pub no_walk_fault : {A : Type 0} (P : Type 0) (r : Result A LoadingError) → IfErr r IsThemeFault → IfErr r (λ e. e ≡ loading.WalkDir → P)
+no_walk_fault P (Ok x) f = tt
+no_walk_fault P (Err e) f = λ q. absurd (no_fault_of_walk e f q)
+
+-- ---- repositories ----
+
+pub keeps_itself : (repo : List (List ℕ)) → take (length repo) repo ≡ repo
+keeps_itself repo = take_all (length repo) repo (omega arith)
+
+pub keeps_on : (old left new : List (List ℕ)) → take (length old) left ≡ old → take (length left) new ≡ left → take (length old) new ≡ old
+keeps_on old left new e h =
+    let n : length old ≤ length left = omega (arith, ap length (sym e), length-take {A = List ℕ} (length old) left) in
+    let whole : new ≡ left ++ drop (length left) new = sym (take-append-drop (length left) new) ∙ ap (λ (l : List (List ℕ)). l ++ drop (length left) new) h in
+    subst (λ (l : List (List ℕ)). take (length old) l ≡ old) (sym whole) (take-append-le (length old) left (drop (length left) new) n ∙ e)

@@ -1,0 +1,22 @@
+-- Answers of values, one after another.
+use Rattle.std.proofs.Common.{◌≡◌, ℕ, List, [], refl, ap, Option, Some, None}
+use Rattle.std.specs.Prelude.{Ok, Err, codes}
+use Rattle.std.specs.Option.{ok_or}
+use Rattle.std.specs.Result.{result_ok}
+use Rattle.serde_json.specs.Data.{Data, Items}
+use Rattle.serde_json.specs.Find.{get}
+use Rattle.syntect_base.specs.declared.theme.ParseThemeError.{ParseThemeError}
+use Rattle.syntect_theme.specs.declared.theme.Theme.{Theme}
+use Rattle.syntect_theme.specs.declared.theme.ThemeItem.{ThemeItem}
+use Rattle.syntect_theme_files.specs.Loading.{own_text, items_at, first_settings, head_in}
+
+pub ok_of : {X E : Type 0} (o : Option X) (e : E) → result_ok (ok_or o e) ≡ o
+ok_of (Some x) e = refl
+ok_of None e = refl
+
+-- the refusal of the first settings is that of what stands round the rules
+pub head_refused : (d : Data) (name author : Option (List ℕ)) (ds : Items) (e : ParseThemeError) → own_text (get (codes "name") d) ≡ Ok name → own_text (get (codes "author") d) ≡ Ok author → items_at d ≡ Ok ds → first_settings ds ≡ Err e → head_in d ≡ Err e
+head_refused d name author ds e a b i f = rw (a, b, i, f) refl
+
+pub without_rules : (t : Theme) → t.scopes ≡ [] → t ≡ record t { scopes = [] }
+without_rules t e = ap (λ (s : List ThemeItem). record t { scopes = s }) e

@@ -1,0 +1,59 @@
+-- Themes from bytes and from files.
+use Rattle.std.specs.Prelude.{◌≡◌, ℕ, List, [], ◌∷◌, codes, if◌then◌else◌, false, IsUtf8, Option, Some, None, option_and_then, Err}
+use Rattle.std.specs.Path.{path_extension, path_file_stem}
+use Rattle.std.specs.BTreeMap.{insert_entry}
+use Rattle.std.specs.Cmp.Lexicographic.{slice_cmp}
+use Rattle.std.specs.Ordering.{nat_cmp}
+use Rattle.std.specs.Str.{str_eq_ignore_ascii_case}
+use Rattle.std.specs.declared.io.Error.{Error}
+use Rattle.serde_json.specs.Data.{Data}
+use Rattle.serde_json.specs.Read.{read}
+use Rattle.serde_json.specs.Written.{has_float}
+use Rattle.syntect_base.specs.declared.loading.LoadingError.{LoadingError}
+use Rattle.syntect_base.specs.declared.loading.LoadingError.TheVariants.{Io, ParseTheme, ReadSettings, Memory}
+use Rattle.syntect_base.specs.declared.loading.SettingsError.TheVariants.{Json}
+use Rattle.syntect_base.specs.declared.theme.ParseThemeError.{ParseThemeError}
+use Rattle.syntect_theme_files.specs.Loading.{IsTheme, head_at}
+use Rattle.syntect_theme.specs.declared.theme.Theme.{Theme}
+
+-- ---- bytes ----
+
+-- the value that bytes are as JSON, in which no number is a float
+pub record IsSettings (bytes : List ℕ) (d : Data) : Type 0 where
+  pub text : IsUtf8 bytes
+  pub value : read bytes ≡ Some d
+  pub whole : has_float d ≡ false
+
+-- a theme of bytes, read with a repository that becomes another one
+pub record IsThemeOf (old : List (List ℕ)) (bytes : List ℕ) (new : List (List ℕ)) (theme : Theme) : Type 0 where
+  pub value : Data
+  pub settings : IsSettings bytes value
+  pub is_theme : IsTheme old value new theme
+
+-- Why bytes give no theme: they are no settings, or what stands round the rules of their settings is no theme's. A fault of
+-- reading, and want of memory, can come instead.
+pub data RefusesTheme (bytes : List ℕ) : LoadingError → Type 0 where
+  no_settings : ((d : Data) → ¬ (IsSettings bytes d)) → RefusesTheme bytes (ReadSettings Json)
+  no_theme : {d : Data} {e : ParseThemeError} → IsSettings bytes d → head_at d ≡ Err e → RefusesTheme bytes (ParseTheme e)
+  not_read : {e : Error} → RefusesTheme bytes (Io e)
+  no_memory : RefusesTheme bytes Memory
+
+-- why a file gives no theme
+abbrev pub IsThemeFault : LoadingError → Type 0
+IsThemeFault e = (bytes : List ℕ) × RefusesTheme bytes e
+
+-- ---- files ----
+
+-- the name of the theme in a file: the file's name without its extension, which is `tmTheme` in any ASCII case
+abbrev pub theme_name : List ℕ → Option (List ℕ)
+theme_name path = option_and_then (λ extension. if str_eq_ignore_ascii_case extension (codes "tmTheme") then path_file_stem path else None) (path_extension path)
+
+-- Themes of files, one after another, go into a table by their names, in place of those of the same name. A file of another
+-- kind is passed over. Of what a file holds nothing is known but that it gave a theme.
+pub data AddsThemes : List (List ℕ) → List (List ℕ) → List (List ℕ × Theme) → List (List ℕ) → List (List ℕ × Theme) → Type 0 where
+  no_more : {repo : List (List ℕ)} {themes : List (List ℕ × Theme)} → AddsThemes [] repo themes repo themes
+  other : {path : List ℕ} {paths old new : List (List ℕ)} {themes all : List (List ℕ × Theme)} → theme_name path ≡ None
+      → AddsThemes paths old themes new all → AddsThemes (path ∷ paths) old themes new all
+  theme : {path name bytes : List ℕ} {paths old left new : List (List ℕ)} {themes all : List (List ℕ × Theme)} {one : Theme} → theme_name path ≡ Some name
+      → IsThemeOf old bytes left one → AddsThemes paths left (insert_entry (slice_cmp nat_cmp) themes name one) new all
+      → AddsThemes (path ∷ paths) old themes new all

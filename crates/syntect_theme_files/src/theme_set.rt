@@ -1,0 +1,283 @@
+//! Sets of themes, and themes from readers, files and folders.
+ghost use Rattle.std.specs.Prelude.{◌≡◌, ◌≢◌, ℕ, List, [], ◌∷◌, length, take, map, is_some, IfSome, IfOk, OnOk, IfErr, OnErr};
+ghost use Rattle.std.specs.Option.{option_copied};
+ghost use Rattle.std.specs.List.{filter};
+ghost use Rattle.std.specs.Path.{path_bytes, path_buf_bytes};
+ghost use Rattle.serde_json.specs.Data.{Data};
+ghost use Rattle.serde_json.specs.View.{view};
+ghost use Rattle.syntect_base.specs.Walks.{IsWalk, IsWalkFault};
+ghost use Rattle.syntect_base.specs.declared.loading.LoadingError.TheVariants.{WalkDir};
+ghost use Rattle.syntect_base.specs.declared.loading.SettingsError.TheVariants.{Memory};
+ghost use Rattle.syntect_scope.specs.Repository.{IsRepository};
+ghost use Rattle.syntect_theme_files.specs.ThemeFiles.{IsSettings, IsThemeOf, RefusesTheme, IsThemeFault, theme_name, AddsThemes};
+
+use crate::load::holds_float;
+use syntect_theme::theme::Theme;
+use crate::theme_load::{ParseSettings, Settings};
+use serde_json::Value;
+use std::alloc::Global;
+use std::fs;
+use std::io::{BufRead, BufReader, Read};
+use std::path::{Path, PathBuf};
+use std::rt::Files;
+use syntect_base::loading::{LoadingError, SettingsError};
+use syntect_base::utils::files_below;
+use syntect_scope::repository::ScopeRepository;
+use syntect_values::table::Table;
+use syntect_values::text::Text;
+
+/// Themes by their names.
+#[derive(Debug, Drop)]
+pub struct ThemeSet {
+    /// The themes, each under its name.
+    pub themes: Table<Text, Theme>,
+}
+
+/// The value that bytes are as JSON, in which no number is a float.
+fn settings_of(alloc: Global, bytes: &[u8]) -> Result<Settings, SettingsError>
+    ensures ok { IfOk result (λ settings. IsSettings bytes.now (view settings)) }
+    ensures err { IfErr result (λ e. e ≢ Memory → (d : Data) → ¬ (IsSettings bytes.now d)) }
+{
+    match Value::from_slice(alloc, bytes) {
+        Ok(value) => {
+            if holds_float(&value) {
+                Err(SettingsError::Json)
+            } else {
+                Ok(value)
+            }
+        }
+        Err(e) => Err(if e.is_memory() {
+            SettingsError::Memory
+        } else {
+            SettingsError::Json
+        }),
+    }
+}
+
+/// The theme of bytes.
+#[tactic(auto, using(crate::proofs::FileLaws::not_settings, crate::proofs::FileLaws::not_theme))]
+fn theme_of(
+    alloc: Global,
+    bytes: &[u8],
+    repository: &mut ScopeRepository,
+) -> Result<Theme, LoadingError>
+    ensures ok { IfOk result (IsThemeOf repository.old bytes.now repository.new) }
+    ensures err { IfErr result (RefusesTheme bytes.now) }
+    ensures whole { IsRepository repository.new }
+    ensures kept { take (length repository.old) repository.new ≡ repository.old }
+{
+    repository.is_whole();
+    let settings = match settings_of(alloc, bytes) {
+        Ok(settings) => settings,
+        Err(e) => return Err(LoadingError::from(e)),
+    };
+    match Theme::parse_settings(alloc, settings, repository) {
+        Ok(theme) => Ok(theme),
+        Err(e) => Err(LoadingError::from(e)),
+    }
+}
+
+/// The name of the theme in a file: the file's name without its extension, which is `tmTheme` in any ASCII case.
+fn theme_name(path: Path<'_>) -> Option<&str>
+    ensures { option_copied result ≡ theme_name (path_bytes path.entry) }
+{
+    let extension = path.extension()?;
+    if extension.eq_ignore_ascii_case("tmTheme") {
+        path.file_stem()
+    } else {
+        None
+    }
+}
+
+impl ThemeSet {
+    /// No themes. Takes no memory.
+    pub fn new(alloc: Global) -> ThemeSet
+        ensures { result.themes ≡ [] }
+    {
+        ThemeSet {
+            themes: Table::new(alloc),
+        }
+    }
+
+    /// The same. Takes no memory.
+    pub fn default(alloc: Global) -> ThemeSet
+        ensures { result.themes ≡ [] }
+    {
+        ThemeSet::new(alloc)
+    }
+
+    /// The paths of the theme files in a folder and in the folders below it, in the order of a walk. A theme file has the
+    /// extension `tmTheme`, in any ASCII case. A fault of the walk is `WalkDir`.
+    pub fn discover_theme_paths(
+        files: &impl Files,
+        alloc: Global,
+        folder: Path<'_>,
+    ) -> Result<Vec<PathBuf>, LoadingError>
+        ensures ok { IfOk result (λ paths. (found : List (List ℕ)) × IsWalk (path_bytes folder.entry) found
+            × (map path_buf_bytes paths.items ≡ filter (λ path. is_some (theme_name path)) found)) }
+        ensures err { IfErr result IsWalkFault }
+    {
+        let found = match files_below(files, alloc, folder) {
+            Ok(found) => found,
+            Err(e) => return Err(e),
+        };
+        let mut paths = Vec::new(alloc);
+        for path in found.as_slice() {
+            if theme_name(Path::new(path.as_str())).is_some() {
+                paths.push(PathBuf::from_str(alloc, path.as_str())?)?;
+            }
+        }
+        Ok(paths)
+    }
+
+    /// The theme in a file. A fault of the file is `Io`, and what it holds is read as by `load_from_reader`.
+    #[tactic(auto, using(crate::proofs::FileLaws::not_read_from))]
+    pub fn get_theme(
+        files: &impl Files,
+        alloc: Global,
+        path: Path<'_>,
+        repository: &mut ScopeRepository,
+    ) -> Result<Theme, LoadingError>
+        ensures ok { IfOk result (λ theme. (bytes : List ℕ) × IsThemeOf repository.old bytes repository.new theme) }
+        ensures err { IfErr result IsThemeFault }
+        ensures whole { IsRepository repository.new }
+        ensures kept { take (length repository.old) repository.new ≡ repository.old }
+    {
+        repository.is_whole();
+        let file = match fs::open(files, path) {
+            Ok(file) => file,
+            Err(e) => return Err(LoadingError::from(e)),
+        };
+        let mut reader = match BufReader::new(alloc, file) {
+            Ok(reader) => reader,
+            Err(e) => return Err(LoadingError::from(e)),
+        };
+        ThemeSet::load_from_reader(alloc, &mut reader, repository)
+    }
+
+    /// The theme of what a reader has left: the JSON of a theme, in which no number is a float. A fault of reading is `Io`,
+    /// other bytes are `ReadSettings`, and a value that is no theme is `ParseTheme`.
+    #[tactic(auto, using(crate::proofs::FileLaws::not_read_from))]
+    pub fn load_from_reader<R: BufRead>(
+        alloc: Global,
+        reader: &mut R,
+        repository: &mut ScopeRepository,
+    ) -> Result<Theme, LoadingError>
+        ensures ok { IfOk result (λ theme. (bytes : List ℕ) × IfSome (R.Read.remaining reader.old) (λ left. bytes ≡ left)
+            × IsThemeOf repository.old bytes repository.new theme) }
+        ensures err { IfErr result (λ e. (bytes : List ℕ) × IfSome (R.Read.remaining reader.old) (λ left. bytes ≡ left)
+            × RefusesTheme bytes e) }
+        ensures whole { IsRepository repository.new }
+        ensures kept { take (length repository.old) repository.new ≡ repository.old }
+    {
+        repository.is_whole();
+        let mut bytes = Vec::new(alloc);
+        match reader.read_to_end(&mut bytes) {
+            Ok(_) => theme_of(alloc, bytes.as_slice(), repository),
+            Err(e) => Err(LoadingError::from(e)),
+        }
+    }
+
+    /// A set of the themes in a folder and in the folders below it, as `add_from_folder` adds them.
+    pub fn load_from_folder(
+        files: &impl Files,
+        alloc: Global,
+        folder: Path<'_>,
+        repository: &mut ScopeRepository,
+    ) -> Result<ThemeSet, LoadingError>
+        ensures ok { IfOk result (λ set. (found : List (List ℕ)) × IsWalk (path_bytes folder.entry) found
+            × AddsThemes found repository.old [] repository.new set.themes) }
+        ensures refusal { IfErr result (λ e. e ≢ WalkDir → IsThemeFault e) }
+        ensures whole { IsRepository repository.new }
+        ensures kept { take (length repository.old) repository.new ≡ repository.old }
+    {
+        let mut set = ThemeSet::new(alloc);
+        match set.add_from_folder(files, alloc, folder, repository) {
+            Ok(()) => Ok(set),
+            Err(e) => Err(e),
+        }
+    }
+
+    /// Adds the themes in a folder and in the folders below it, each under its file's name without the extension. Of two
+    /// files of one name the later in the walk stays. A fault of the walk is `WalkDir`, and the set stays as it is. A file that
+    /// gives no theme is refused as by `get_theme`, and the themes before it stay.
+    #[tactic(auto, using(crate::proofs::FileLaws::fault_of_walk, crate::proofs::FileLaws::nothing_added, crate::proofs::FileLaws::no_walk_fault))]
+    pub fn add_from_folder(
+        &mut self,
+        files: &impl Files,
+        alloc: Global,
+        folder: Path<'_>,
+        repository: &mut ScopeRepository,
+    ) -> Result<(), LoadingError>
+        ensures ok { OnOk result ((found : List (List ℕ)) × IsWalk (path_bytes folder.entry) found
+            × AddsThemes found repository.old self.old.themes repository.new self.new.themes) }
+        ensures err { OnErr result ((found : List (List ℕ)) × IsWalk (path_bytes folder.entry) found
+            × (n : ℕ) × (left : List (List ℕ)) × AddsThemes (take n found) repository.old self.old.themes left self.new.themes) }
+        ensures walk { IfErr result (λ e. e ≡ WalkDir → self.new.themes ≡ self.old.themes) }
+        ensures refusal { IfErr result (λ e. e ≢ WalkDir → IsThemeFault e) }
+        ensures whole { IsRepository repository.new }
+        ensures kept { take (length repository.old) repository.new ≡ repository.old }
+    {
+        repository.is_whole();
+        match files_below(files, alloc, folder) {
+            Ok(found) => self.add_themes(files, alloc, found.as_slice(), repository),
+            Err(e) => Err(e),
+        }
+    }
+
+    /// Adds the themes of files.
+    fn add_themes(
+        &mut self,
+        files: &impl Files,
+        alloc: Global,
+        paths: &[Text],
+        repository: &mut ScopeRepository,
+    ) -> Result<(), LoadingError>
+        ensures ok { OnOk result (AddsThemes paths.now repository.old self.old.themes repository.new self.new.themes) }
+        ensures err { OnErr result ((n : ℕ) × (left : List (List ℕ)) × AddsThemes (take n paths.now) repository.old self.old.themes left self.new.themes) }
+        ensures refusal { IfErr result IsThemeFault }
+        ensures whole { IsRepository repository.new }
+        ensures kept { take (length repository.old) repository.new ≡ repository.old }
+    {
+        repository.is_whole();
+        for path in paths {
+            match self.add_theme(files, alloc, path.as_str(), repository) {
+                Ok(()) => {}
+                Err(e) => return Err(e),
+            }
+        }
+        Ok(())
+    }
+
+    /// Adds the theme of a file, if it is a theme file.
+    #[tactic(auto, using(crate::proofs::FileLaws::fault_of_memory, crate::proofs::FileLaws::passes_over))]
+    fn add_theme(
+        &mut self,
+        files: &impl Files,
+        alloc: Global,
+        path: &str,
+        repository: &mut ScopeRepository,
+    ) -> Result<(), LoadingError>
+        ensures ok { OnOk result (AddsThemes (path.now ∷ []) repository.old self.old.themes repository.new self.new.themes) }
+        ensures err { OnErr result (self.new.themes ≡ self.old.themes) }
+        ensures refusal { IfErr result IsThemeFault }
+        ensures whole { IsRepository repository.new }
+        ensures kept { take (length repository.old) repository.new ≡ repository.old }
+    {
+        repository.is_whole();
+        let Some(name) = theme_name(Path::new(path)) else {
+            return Ok(());
+        };
+        let theme = match ThemeSet::get_theme(files, alloc, Path::new(path), repository) {
+            Ok(theme) => theme,
+            Err(e) => return Err(e),
+        };
+        let Ok(name) = Text::from_str(alloc, name) else {
+            return Err(LoadingError::Memory);
+        };
+        match self.themes.insert(name, theme) {
+            Ok(_) => Ok(()),
+            Err(_) => Err(LoadingError::Memory),
+        }
+    }
+}
