@@ -50,8 +50,8 @@ text_of() {
     done
 }
 
-# Proves one crate, in a folder of its own with the libraries that it stands on: rt works in a library's folder one at a
-# time, so that crates side by side need folders apart.
+# Proves one crate by so many jobs, in a folder of its own with the libraries that it stands on: rt works in a library's
+# folder one at a time, so that crates side by side need folders apart.
 prove() {
     lane="$build/$1"
     mkdir -p "$lane/crates"
@@ -66,12 +66,12 @@ prove() {
             cp -R "$build/$library/crates/$library/out/rlib" "$lane/crates/$library/out/"
         fi
     done
-    cd "$lane/crates/$1"
+    cd "$lane/crates/$1" || return 1
     if [ "$1" = "$program" ]; then
         # once built it shows a file, so that what is installed has run
-        rt run -- "$here/examples/grammars" "$here/examples/dusk.tmTheme" html "$here/examples/texts/settings.ini"
+        rt run --jobs "$2" -- "$here/examples/grammars" "$here/examples/dusk.tmTheme" html "$here/examples/texts/settings.ini"
     else
-        rt lib
+        rt lib --jobs "$2"
     fi
 }
 
@@ -94,7 +94,10 @@ work() {
         done
         [ "$slot" != none ] || sleep 0.2
     done
-    if ( prove "$1" ) > "$build/$1.log" 2>&1 < /dev/null; then
+    # those that are ready together share the processors
+    sleep 1
+    jobs=$((processors / $(ls "$state" | grep -c '^slot')))
+    if ( prove "$1" "$jobs" ) > "$build/$1.log" 2>&1 < /dev/null; then
         : > "$state/$1.done"
         now=$(($(date +%s) - start))
         printf '%3d:%02d  %d of %d  %s\n' $((now / 60)) $((now % 60)) "$(ls "$state" | grep -c 'done$')" "$all" "$1"
@@ -112,8 +115,8 @@ start=$(date +%s)
 state=$(mktemp -d)
 trap 'rm -rf "$state"' EXIT
 mkdir -p "$build"
-echo "Proving the $all crates that $program stands on, on $processors processors. A first build takes about a quarter of an hour"
-echo "on four free processors, and twice that on two; a later one takes what has changed. Each line is a crate that stands."
+echo "Proving the $all crates that $program stands on, on $processors processors. A first build takes about half an hour"
+echo "on four free processors, and more on fewer; a later one takes what has changed. Each line is a crate that stands."
 for crate in $crates; do
     work "$crate" &
 done

@@ -7,13 +7,14 @@ use Rattle.std.proofs.lemmas.List.{append-nil}
 use Rattle.std.proofs.lemmas.Option.{slice_get-map}
 use Rattle.std.proofs.lemmas.List.Quantifiers.{position-Some}
 use Rattle.syntect_grammar.specs.Contexts.{context_at, contexts_of}
-use Rattle.syntect_grammar.specs.References.{names_of, heads_from, body_of}
-use Rattle.syntect_grammar.specs.Link.{linked_from, linked_definition, linked_contexts, linked_context, syntaxes_in}
+use Rattle.syntect_grammar.specs.Link.{names_of, heads_from, body_of}
+use Rattle.syntect_grammar.specs.Link.{linked_from, linked_definition, syntaxes_in}
+use Rattle.syntect_linker.specs.LinkedContexts.{linked_contexts, linked_context}
 use Rattle.syntect_parsing.specs.Line.{start, start_id, start_of, HasPlainStart}
-use Rattle.syntect_grammar.specs.declared.syntax_definition.ContextId.{ContextId}
-use Rattle.syntect_grammar.specs.declared.syntax_definition.Context.{Context}
-use Rattle.syntect_grammar.specs.declared.syntax_definition.SyntaxDefinition.{SyntaxDefinition}
-use Rattle.syntect_grammar.specs.declared.syntax_set.SyntaxReference.{SyntaxReference}
+use Rattle.syntect_contexts.specs.declared.context.ContextId.{ContextId}
+use Rattle.syntect_contexts.specs.declared.context.Context.{Context}
+use Rattle.syntect_loader.specs.declared.definition.SyntaxDefinition.{SyntaxDefinition}
+use Rattle.syntect_contexts.specs.declared.syntax_reference.SyntaxReference.{SyntaxReference}
 use Rattle.syntect_grammar.specs.declared.syntax_set.SyntaxSet.{SyntaxSet}
 use Rattle.syntect_parsing.specs.declared.parser.ParseState.{ParseState}
 use Rattle.syntect.specs.Built.{start_context, IsPlain, IsBuiltOf}

@@ -15,12 +15,12 @@ use Rattle.syntect_parsing.specs.Engine.{dialect}
 use Rattle.syntect_parsing.specs.Laws.{AnswersMore, StackIsOpen}
 use Rattle.syntect_parsing.specs.Line.{Answer, Accepted, RefusedBy, Answers, accepts, refuses, none, start, start_id, start_of, stack_before, HasPlainStart}
 use Rattle.syntect_parsing.specs.Meaning.{Means, Accepts, MayRefuse}
-use Rattle.syntect_grammar.specs.declared.syntax_definition.ContextId.{ContextId}
-use Rattle.syntect_grammar.specs.declared.syntax_set.SyntaxReference.{SyntaxReference}
+use Rattle.syntect_contexts.specs.declared.context.ContextId.{ContextId}
+use Rattle.syntect_contexts.specs.declared.syntax_reference.SyntaxReference.{SyntaxReference}
 use Rattle.syntect_grammar.specs.declared.syntax_set.SyntaxSet.{SyntaxSet}
 use Rattle.syntect_parsing.specs.declared.parser.ParseState.{ParseState}
-use Rattle.syntect_grammar.specs.declared.error.ParsingError.{ParsingError}
-use Rattle.syntect_grammar.specs.declared.error.ParsingError.TheVariants as parsing
+use Rattle.syntect_contexts.specs.declared.error.ParsingError.{ParsingError}
+use Rattle.syntect_contexts.specs.declared.error.ParsingError.TheVariants as parsing
 use Rattle.syntect_grammar.specs.Passing.{from_parsing, from_scope}
 use Rattle.syntect.specs.Leads.{Leads, LeadsOn, BeginsPlain}
 use Rattle.syntect.specs.declared.easy.HighlightLines.{HighlightLines}

@@ -13,10 +13,10 @@ use Rattle.std.proofs.lemmas.Bool.Decides.{nat_tests}
 use Rattle.syntect_yaml.specs.Node.{Node}
 use Rattle.syntect_yaml.specs.Yaml.{yaml_of}
 use Rattle.syntect_grammar.specs.Link.{names_of}
-use Rattle.syntect_grammar.specs.LoadingSteps.{Refusal, no_node, no_value, no_main}
-use Rattle.syntect_grammar.specs.Loading.{loaded, definition_in, finish, finished_with, leaving, defined, read_contexts, nothing_read, variables_at, with_start, around_main, start_context, outer_context, main_context, start_name, outer_name, main_name}
-use Rattle.syntect_grammar.specs.declared.syntax_definition.Context.{Context}
-use Rattle.syntect_grammar.specs.declared.syntax_definition.SyntaxDefinition.{SyntaxDefinition}
+use Rattle.syntect_loader.specs.LoadingSteps.{Refusal, no_node, no_value, no_main}
+use Rattle.syntect_loader.specs.Loading.{loaded, definition_in, finish, finished_with, leaving, defined, read_contexts, nothing_read, variables_at, with_start, around_main, start_context, outer_context, main_context, start_name, outer_name, main_name}
+use Rattle.syntect_contexts.specs.declared.context.Context.{Context}
+use Rattle.syntect_loader.specs.declared.definition.SyntaxDefinition.{SyntaxDefinition}
 use Rattle.syntect.specs.Built as built
 
 abbrev Entry : Type 0

@@ -4,7 +4,7 @@ use Rattle.std.specs.Prelude.{Option, IfErr}
 use Rattle.std.specs.Global.{Vec}
 use Rattle.syntect_theme.specs.declared.style.Style.{Style}
 use Rattle.syntect_theme.specs.declared.theme.Theme.{Theme}
-use Rattle.syntect_grammar.specs.declared.syntax_set.SyntaxReference.{SyntaxReference}
+use Rattle.syntect_contexts.specs.declared.syntax_reference.SyntaxReference.{SyntaxReference}
 use Rattle.syntect_grammar.specs.declared.syntax_set.SyntaxSet.{SyntaxSet}
 use Rattle.syntect_grammar.specs.declared.error.Error.{Error}
 use Rattle.syntect_grammar.specs.declared.error.Error.TheVariants as error

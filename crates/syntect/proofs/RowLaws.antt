@@ -11,7 +11,7 @@ use Rattle.std.proofs.lemmas.List.Elements.{All-head, All-tail}
 use Rattle.syntect_theme.specs.declared.style.Style.{Style}
 use Rattle.syntect_theme.specs.declared.theme.Theme.{Theme}
 use Rattle.syntect_parsing.specs.Line.{Accepted}
-use Rattle.syntect_grammar.specs.declared.syntax_set.SyntaxReference.{SyntaxReference}
+use Rattle.syntect_contexts.specs.declared.syntax_reference.SyntaxReference.{SyntaxReference}
 use Rattle.syntect_grammar.specs.declared.syntax_set.SyntaxSet.{SyntaxSet}
 use Rattle.syntect_writers.specs.Lines.{lines_of, before_lines}
 use Rattle.syntect.specs.Leads.{Leads, LeadsOn}

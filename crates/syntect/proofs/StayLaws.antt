@@ -6,21 +6,22 @@ use Rattle.std.specs.List.{flat_map, list_all}
 use Rattle.std.specs.Cmp.Lexicographic.{pointwise}
 use Rattle.syntect_grammar.specs.Contexts.{context_at, part_of}
 use Rattle.syntect_parsing.specs.Chain.{entries, walk, patterns_in, room_in}
-use Rattle.syntect_grammar.specs.References.{names_of, body_of}
-use Rattle.syntect_grammar.specs.Link.{linked_definition, linked_context, linked_match, syntaxes_in}
+use Rattle.syntect_grammar.specs.Link.{names_of, body_of}
+use Rattle.syntect_grammar.specs.Link.{linked_definition, syntaxes_in}
+use Rattle.syntect_linker.specs.LinkedContexts.{linked_context, linked_match}
 use Rattle.syntect_parsing.specs.Engine.{dialect}
 use Rattle.syntect_parsing.specs.Line.{start, start_id, start_of, Answer, AnswersAll}
-use Rattle.syntect_grammar.specs.Loading as loading
+use Rattle.syntect_loader.specs.Loading as loading
 use Rattle.syntect_parsing.specs.Refusals.{lone_patterns, stays, AreByName, KnowNoNumber, IsClosed, LinksClosed}
 use Rattle.syntect_parsing.specs.Standing.{GiveScopes, BytesHaveScopes}
-use Rattle.syntect_grammar.specs.Named.{LoadedByName}
+use Rattle.syntect_loader.specs.Named.{LoadedByName}
 use Rattle.syntect_parsing.specs.declared.parser.ParseState.{ParseState}
-use Rattle.syntect_grammar.specs.declared.syntax_definition.ContextId.{ContextId}
-use Rattle.syntect_grammar.specs.declared.syntax_definition.Context.{Context}
-use Rattle.syntect_grammar.specs.declared.syntax_definition.MatchPattern.{MatchPattern}
-use Rattle.syntect_grammar.specs.declared.syntax_definition.Pattern.TheVariants.{Match}
-use Rattle.syntect_grammar.specs.declared.syntax_definition.SyntaxDefinition.{SyntaxDefinition}
-use Rattle.syntect_grammar.specs.declared.syntax_set.SyntaxReference.{SyntaxReference}
+use Rattle.syntect_contexts.specs.declared.context.ContextId.{ContextId}
+use Rattle.syntect_contexts.specs.declared.context.Context.{Context}
+use Rattle.syntect_contexts.specs.declared.context.MatchPattern.{MatchPattern}
+use Rattle.syntect_contexts.specs.declared.context.Pattern.TheVariants.{Match}
+use Rattle.syntect_loader.specs.declared.definition.SyntaxDefinition.{SyntaxDefinition}
+use Rattle.syntect_contexts.specs.declared.syntax_reference.SyntaxReference.{SyntaxReference}
 use Rattle.syntect_grammar.specs.declared.syntax_set.SyntaxSet.{SyntaxSet}
 use Rattle.syntect.specs.Built.{start_context, IsLoaded, IsPlain, IsBuiltOf, StaysInStart}
 use Rattle.syntect.proofs.BuiltLaws.{IsLinkedAt, number, held, here, heads_in, bodies_in, built_there}

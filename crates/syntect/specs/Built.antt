@@ -5,11 +5,11 @@ use Rattle.std.specs.Option.{option_and_then}
 use Rattle.std.specs.Cmp.Lexicographic.{pointwise}
 use Rattle.syntect_parsing.specs.Line.{start_id}
 use Rattle.syntect_grammar.specs.Link.{with_paths, linked, names_of, syntaxes_in}
-use Rattle.syntect_grammar.specs.Loading.{loaded}
+use Rattle.syntect_loader.specs.Loading.{loaded}
 use Rattle.syntect_parsing.specs.Refusals.{lone_patterns, stays}
-use Rattle.syntect_grammar.specs.declared.syntax_definition.Context.{Context}
-use Rattle.syntect_grammar.specs.declared.syntax_definition.SyntaxDefinition.{SyntaxDefinition}
-use Rattle.syntect_grammar.specs.declared.syntax_set.SyntaxReference.{SyntaxReference}
+use Rattle.syntect_contexts.specs.declared.context.Context.{Context}
+use Rattle.syntect_loader.specs.declared.definition.SyntaxDefinition.{SyntaxDefinition}
+use Rattle.syntect_contexts.specs.declared.syntax_reference.SyntaxReference.{SyntaxReference}
 use Rattle.syntect_grammar.specs.declared.syntax_set.SyntaxSet.{SyntaxSet}
 
 -- the context `__start` of a definition, in which reading begins, if it has one

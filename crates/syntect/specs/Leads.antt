@@ -10,9 +10,9 @@ use Rattle.syntect_parsing.specs.Engine.{dialect}
 use Rattle.syntect_parsing.specs.Line.{Answer, Accepted, RefusedBy, AnswersAll, start_of, stack_before, HasPlainStart}
 use Rattle.syntect_parsing.specs.Refusals.{NamesUnresolved, PicksUnresolved}
 use Rattle.syntect_parsing.specs.declared.parser.ParseState.{ParseState}
-use Rattle.syntect_grammar.specs.declared.syntax_definition.ContextReference.{ContextReference}
-use Rattle.syntect_grammar.specs.declared.error.ParsingError.TheVariants as parsing
-use Rattle.syntect_grammar.specs.declared.syntax_set.SyntaxReference.{SyntaxReference}
+use Rattle.syntect_contexts.specs.declared.context.ContextReference.{ContextReference}
+use Rattle.syntect_contexts.specs.declared.error.ParsingError.TheVariants as parsing
+use Rattle.syntect_contexts.specs.declared.syntax_reference.SyntaxReference.{SyntaxReference}
 use Rattle.syntect_grammar.specs.declared.syntax_set.SyntaxSet.{SyntaxSet}
 use Rattle.syntect.specs.declared.easy.HighlightLines.{HighlightLines}
 use Rattle.syntect_grammar.specs.declared.error.Error.{Error}

@@ -8,8 +8,8 @@ ghost use Rattle.syntect.specs.Files.{IsPageOfFile, HasNoPageOfFile};
 ghost use Rattle.syntect.specs.Leads.{Leads};
 ghost use Rattle.syntect.specs.Pages.{IsPage, HasNoPage, IsPageOfBytes, HasNoPageOfBytes, IsStopped};
 ghost use Rattle.syntect.specs.Rows.{IsTextOf};
-ghost use Rattle.syntect_grammar.specs.declared.syntax_definition.SyntaxDefinition.{SyntaxDefinition as ADefinition};
-ghost use Rattle.syntect_grammar.specs.declared.syntax_set.SyntaxReference.{SyntaxReference as ASyntax};
+ghost use Rattle.syntect_loader.specs.declared.definition.SyntaxDefinition.{SyntaxDefinition as ADefinition};
+ghost use Rattle.syntect_contexts.specs.declared.syntax_reference.SyntaxReference.{SyntaxReference as ASyntax};
 
 use crate::easy::{HighlightFile, HighlightLines};
 use crate::reading::{next_line, text_of};

@@ -1,8 +1,8 @@
 //! Laws that join the crates. Each is the contract of a function that does nothing.
 ghost use Rattle.std.specs.Prelude.{◌≡◌, List, ℕ, Bool, Option, Some, Ok, All};
-ghost use Rattle.syntect_grammar.specs.Loading.{loaded};
-ghost use Rattle.syntect_grammar.specs.declared.syntax_definition.SyntaxDefinition.{SyntaxDefinition as ADefinition};
-ghost use Rattle.syntect_grammar.specs.declared.syntax_set.SyntaxReference.{SyntaxReference as ASyntax};
+ghost use Rattle.syntect_loader.specs.Loading.{loaded};
+ghost use Rattle.syntect_loader.specs.declared.definition.SyntaxDefinition.{SyntaxDefinition as ADefinition};
+ghost use Rattle.syntect_contexts.specs.declared.syntax_reference.SyntaxReference.{SyntaxReference as ASyntax};
 ghost use Rattle.syntect_grammar.specs.declared.syntax_set.SyntaxSet.{SyntaxSet as ASet};
 ghost use Rattle.syntect_parsing.specs.declared.parser.ParseState.{ParseState as AState};
 ghost use Rattle.syntect_parsing.specs.Engine.{dialect};

@@ -6,9 +6,9 @@ use Rattle.syntect_theme.specs.declared.theme.Theme.{Theme}
 use Rattle.syntect_grammar.specs.Folders.{AddsSyntaxes, AddsFolder, no_more, other, grammar}
 use Rattle.syntect_grammar.specs.Folders.{no_definitions}
 use Rattle.syntect_grammar.specs.Link.{definitions_in, paths_in, with_paths, linked}
-use Rattle.syntect_grammar.specs.Loading.{loaded}
+use Rattle.syntect_loader.specs.Loading.{loaded}
 use Rattle.syntect_grammar.specs.PlainText.{plain_text, AddsPlainText}
-use Rattle.syntect_grammar.specs.declared.syntax_definition.SyntaxDefinition.{SyntaxDefinition}
+use Rattle.syntect_loader.specs.declared.definition.SyntaxDefinition.{SyntaxDefinition}
 use Rattle.syntect_grammar.specs.declared.syntax_set.SyntaxSet.{SyntaxSet}
 use Rattle.syntect_grammar.specs.declared.syntax_set.SyntaxSetBuilder.{SyntaxSetBuilder}
 use Rattle.syntect.specs.Built.{IsPlain, IsBuilt}

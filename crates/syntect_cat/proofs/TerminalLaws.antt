@@ -5,14 +5,14 @@ use Rattle.std.specs.Global.{Vec}
 use Rattle.std.proofs.lemmas.Grind.{flat_map-append}
 use Rattle.syntect_theme.specs.declared.style.Style.{Style}
 use Rattle.syntect_theme.specs.declared.theme.Theme.{Theme}
-use Rattle.syntect_grammar.specs.declared.syntax_set.SyntaxReference.{SyntaxReference}
+use Rattle.syntect_contexts.specs.declared.syntax_reference.SyntaxReference.{SyntaxReference}
 use Rattle.syntect_grammar.specs.declared.syntax_set.SyntaxSet.{SyntaxSet}
 use Rattle.syntect_writers.specs.Terminal.{terminal_text}
 use Rattle.syntect.specs.Leads.{LeadsOn}
 use Rattle.syntect.specs.Pages.{Row, lines_in, answers_in}
 use Rattle.syntect.specs.Rows.{IsTextOf, GivesNext, AreRowsSoFar, RowsGoOn, RowsEnd}
 use Rattle.syntect.specs.declared.easy.HighlightLines.{HighlightLines}
-use Rattle.syntect_grammar.specs.declared.syntax_definition.SyntaxDefinition.{SyntaxDefinition}
+use Rattle.syntect_loader.specs.declared.definition.SyntaxDefinition.{SyntaxDefinition}
 use Rattle.syntect_grammar.specs.declared.error.Error.{Error}
 use Rattle.syntect.specs.Built.{IsBuilt, IsBuiltOf}
 use Rattle.syntect.specs.Files.{IsSyntaxFor}

@@ -2,7 +2,7 @@
 use Rattle.std.specs.Prelude.{◌≡◌, ℕ, true, List, ◌∷◌, ◌++◌, codes, IsUtf8}
 use Rattle.std.specs.List.{flat_map}
 use Rattle.syntect_theme.specs.declared.theme.Theme.{Theme}
-use Rattle.syntect_grammar.specs.declared.syntax_set.SyntaxReference.{SyntaxReference}
+use Rattle.syntect_contexts.specs.declared.syntax_reference.SyntaxReference.{SyntaxReference}
 use Rattle.syntect_grammar.specs.declared.syntax_set.SyntaxSet.{SyntaxSet}
 use Rattle.syntect_writers.specs.Terminal.{terminal_text}
 use Rattle.syntect.specs.Files.{IsSyntaxFor}

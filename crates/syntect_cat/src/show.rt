@@ -1,7 +1,7 @@
 //! From files to the text that shows one.
 ghost use Rattle.std.specs.Prelude.{◌≡◌, ◌≢◌, ℕ, List, [], IfOk, IfErr, string_bytes};
 ghost use Rattle.syntect_theme_files.specs.ThemeFiles.{IsThemeOf};
-ghost use Rattle.syntect_grammar.specs.declared.syntax_definition.SyntaxDefinition.{SyntaxDefinition as ADefinition};
+ghost use Rattle.syntect_loader.specs.declared.definition.SyntaxDefinition.{SyntaxDefinition as ADefinition};
 ghost use Rattle.syntect.specs.Built.{IsBuilt};
 ghost use Rattle.syntect_cat.specs.Shown.{IsSetOf, ShowsFile, IsShown};
 ghost use Rattle.syntect_cat.specs.declared.fault.Fault.TheVariants.{Syntaxes, Writing};

@@ -2,8 +2,8 @@
 ghost use Rattle.std.specs.Prelude.{◌≡◌, ℕ, List, [], IfOk, IsUtf8, string_bytes};
 ghost use Rattle.std.specs.Path.{path_bytes};
 ghost use Rattle.syntect_theme.specs.declared.theme.Theme.{Theme as ATheme};
-ghost use Rattle.syntect_grammar.specs.declared.syntax_definition.SyntaxDefinition.{SyntaxDefinition as ADefinition};
-ghost use Rattle.syntect_grammar.specs.declared.syntax_set.SyntaxReference.{SyntaxReference as ASyntax};
+ghost use Rattle.syntect_loader.specs.declared.definition.SyntaxDefinition.{SyntaxDefinition as ADefinition};
+ghost use Rattle.syntect_contexts.specs.declared.syntax_reference.SyntaxReference.{SyntaxReference as ASyntax};
 ghost use Rattle.syntect.specs.Built.{IsBuilt, IsBuiltOf};
 ghost use Rattle.syntect.specs.Leads.{Leads};
 ghost use Rattle.syntect.specs.Rows.{IsTextOf};

@@ -13,11 +13,11 @@ use Rattle.syntect_base.specs.declared.syntax.ParseSyntaxError.{ParseSyntaxError
 use Rattle.syntect_base.specs.declared.syntax.ParseSyntaxError.TheVariants as syntax
 use Rattle.syntect_grammar.specs.Folders.{is_grammar_path, IsSyntaxOf, RefusesSyntax, no_grammar, not_read, no_memory, with_loaded, AddsSyntaxes, no_more, other, grammar, StopsAt, RefusesFolder, no_syntax, no_definitions}
 use Rattle.syntect_grammar.specs.Link.{definitions_in, paths_in}
-use Rattle.syntect_grammar.specs.Loading.{loaded}
-use Rattle.syntect_grammar.specs.LoadingSteps.{Refusal, Fails, seen}
-use Rattle.syntect_grammar.specs.declared.syntax_definition.SyntaxDefinition.{SyntaxDefinition}
+use Rattle.syntect_loader.specs.Loading.{loaded}
+use Rattle.syntect_loader.specs.LoadingSteps.{Refusal, Fails, seen}
+use Rattle.syntect_loader.specs.declared.definition.SyntaxDefinition.{SyntaxDefinition}
 use Rattle.syntect_grammar.specs.declared.syntax_set.SyntaxSetBuilder.{SyntaxSetBuilder}
-use Rattle.syntect_grammar.proofs.LinkLaws.{held_at}
+use Rattle.syntect_linker.proofs.LinkLaws.{held_at}
 
 -- ---- refusals ----
 

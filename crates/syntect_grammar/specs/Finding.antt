@@ -9,7 +9,7 @@ use Rattle.syntect_pattern.specs.Pattern.{pattern_found}
 use Rattle.syntect_grammar.specs.Link.{syntaxes_in, set_paths}
 use Rattle.syntect_grammar.specs.declared.error.Error.{Error}
 use Rattle.syntect_grammar.specs.declared.error.Error.TheVariants.{Io, Memory}
-use Rattle.syntect_grammar.specs.declared.syntax_set.SyntaxReference.{SyntaxReference}
+use Rattle.syntect_contexts.specs.declared.syntax_reference.SyntaxReference.{SyntaxReference}
 use Rattle.syntect_grammar.specs.declared.syntax_set.SyntaxSet.{SyntaxSet}
 
 -- the last of a list that passes a test

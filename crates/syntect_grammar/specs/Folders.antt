@@ -10,9 +10,9 @@ use Rattle.syntect_base.specs.declared.loading.LoadingError.{LoadingError}
 use Rattle.syntect_base.specs.declared.loading.LoadingError.TheVariants.{Io, ParseSyntax, Memory}
 use Rattle.syntect_base.specs.declared.syntax.ParseSyntaxError.{ParseSyntaxError}
 use Rattle.syntect_grammar.specs.Link.{definitions_in, paths_in}
-use Rattle.syntect_grammar.specs.Loading.{loaded}
-use Rattle.syntect_grammar.specs.LoadingSteps.{Refusal, seen}
-use Rattle.syntect_grammar.specs.declared.syntax_definition.SyntaxDefinition.{SyntaxDefinition}
+use Rattle.syntect_loader.specs.Loading.{loaded}
+use Rattle.syntect_loader.specs.LoadingSteps.{Refusal, seen}
+use Rattle.syntect_loader.specs.declared.definition.SyntaxDefinition.{SyntaxDefinition}
 use Rattle.syntect_grammar.specs.declared.syntax_set.SyntaxSetBuilder.{SyntaxSetBuilder}
 
 -- ---- one file ----

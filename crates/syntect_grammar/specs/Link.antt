@@ -1,18 +1,9 @@
 -- What linking makes of definitions.
-pub use Rattle.syntect_grammar.specs.References.{names_of}
-use Rattle.std.specs.Prelude.{ℕ, ◌+◌, Bool, List, [], ◌∷◌, map, Option}
-use Rattle.std.specs.Option.{option_map}
-use Rattle.syntect_grammar.specs.References.{head_of, heads_from, body_of, linked_reference}
-use Rattle.syntect_grammar.specs.Reached.{prototype_for, is_marked_in_set}
-use Rattle.syntect_grammar.specs.declared.syntax_definition.ContextId.{ContextId}
-use Rattle.syntect_grammar.specs.declared.syntax_definition.MatchOperation.{MatchOperation}
-use Rattle.syntect_grammar.specs.declared.syntax_definition.MatchOperation.TheVariants as op
-use Rattle.syntect_grammar.specs.declared.syntax_definition.MatchPattern.{MatchPattern}
-use Rattle.syntect_grammar.specs.declared.syntax_definition.Pattern.{Pattern}
-use Rattle.syntect_grammar.specs.declared.syntax_definition.Pattern.TheVariants.{Match, Include}
-use Rattle.syntect_grammar.specs.declared.syntax_definition.Context.{Context}
-use Rattle.syntect_grammar.specs.declared.syntax_definition.SyntaxDefinition.{SyntaxDefinition}
-use Rattle.syntect_grammar.specs.declared.syntax_set.SyntaxReference.{SyntaxReference}
+use Rattle.std.specs.Prelude.{ℕ, ◌+◌, List, [], ◌∷◌, map}
+use Rattle.syntect_linker.specs.LinkedContexts.{linked_contexts}
+use Rattle.syntect_contexts.specs.declared.context.Context.{Context}
+use Rattle.syntect_loader.specs.declared.definition.SyntaxDefinition.{SyntaxDefinition}
+use Rattle.syntect_contexts.specs.declared.syntax_reference.SyntaxReference.{SyntaxReference}
 use Rattle.syntect_grammar.specs.declared.syntax_set.SyntaxSet.{SyntaxSet}
 use Rattle.syntect_grammar.specs.declared.syntax_set.SyntaxSetBuilder.{SyntaxSetBuilder}
 
@@ -38,34 +29,35 @@ set_of syntaxes = record { syntaxes = syntaxes; path_syntaxes = [] }
 abbrev pub with_paths : List (List ℕ × ℕ) → SyntaxSet → SyntaxSet
 with_paths paths set = record set { path_syntaxes = paths }
 
--- ---- contexts ----
+-- ---- heads and bodies of definitions ----
 
-abbrev pub linked_operation : List SyntaxReference → ℕ → MatchOperation → MatchOperation
-linked_operation heads index (op.Push refs) = op.Push (map (linked_reference heads index) refs)
-linked_operation heads index (op.Set refs) = op.Set (map (linked_reference heads index) refs)
-linked_operation heads index op.Pop = op.Pop
-linked_operation heads index op.None = op.None
+-- the names of contexts in their order, which is that of their bytes
+abbrev pub names_of : List (List ℕ × Context) → List (List ℕ)
+names_of contexts = map (λ entry. entry.0) contexts
 
-abbrev pub linked_match : List SyntaxReference → ℕ → MatchPattern → MatchPattern
-linked_match heads index m = record m { operation = linked_operation heads index m.operation; with_prototype = option_map (linked_reference heads index) m.with_prototype }
+-- the head of the syntax of this index: all that it holds but its contexts, and their names
+abbrev pub head_of : ℕ → SyntaxDefinition → SyntaxReference
+head_of index d = record {
+  name = d.name;
+  file_extensions = d.file_extensions;
+  scope = d.scope;
+  first_line_match = d.first_line_match;
+  hidden = d.hidden;
+  variables = d.variables;
+  index = index;
+  names = names_of d.contexts;
+  contexts = [];
+  first_line = d.first_line_match;
+}
 
-abbrev pub linked_pattern : List SyntaxReference → ℕ → Pattern → Pattern
-linked_pattern heads index (Match m) = Match (linked_match heads index m)
-linked_pattern heads index (Include r) = Include (linked_reference heads index r)
+-- the heads of definitions, from this index on
+abbrev pub heads_from : ℕ → List SyntaxDefinition → List SyntaxReference
+heads_from index [] = []
+heads_from index (d ∷ ds) = head_of index d ∷ heads_from (index + 1) ds
 
--- the context with its references linked, with this prototype and this mark of back references
-abbrev pub context_with : List SyntaxReference → ℕ → Option ContextId → Bool → Context → Context
-context_with heads index prototype uses_backrefs c = record c { prototype = prototype; uses_backrefs = uses_backrefs; patterns = map (linked_pattern heads index) c.patterns }
-
--- the context of this number, linked
-abbrev pub linked_context : List SyntaxReference → List (List Context) → ContextId → Context → Context
-linked_context heads bodies id c = context_with heads id.syntax_index (prototype_for heads bodies id c) (is_marked_in_set heads bodies id) c
-
--- contexts of the syntax of an index, from this place on
-abbrev pub linked_contexts : List SyntaxReference → List (List Context) → ℕ → ℕ → List Context → List Context
-linked_contexts heads bodies index place [] = []
-linked_contexts heads bodies index place (c ∷ cs) =
-    linked_context heads bodies (record { syntax_index = index; context_index = place }) c ∷ linked_contexts heads bodies index (place + 1) cs
+-- the contexts of a definition as they are given, in the order of their names
+abbrev pub body_of : SyntaxDefinition → List Context
+body_of d = map (λ entry. entry.1) d.contexts
 
 -- ---- syntaxes ----
 

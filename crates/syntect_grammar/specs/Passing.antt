@@ -1,6 +1,6 @@
 -- How refusals of the layers below are passed on.
-use Rattle.syntect_grammar.specs.declared.error.ParsingError.{ParsingError}
-use Rattle.syntect_grammar.specs.declared.error.ParsingError.TheVariants as parsing
+use Rattle.syntect_contexts.specs.declared.error.ParsingError.{ParsingError}
+use Rattle.syntect_contexts.specs.declared.error.ParsingError.TheVariants as parsing
 use Rattle.syntect_base.specs.declared.loading.LoadingError.{LoadingError}
 use Rattle.syntect_base.specs.declared.loading.LoadingError.TheVariants as loading
 use Rattle.syntect_scope.specs.declared.stack.ScopeError.{ScopeError}

@@ -1,13 +1,14 @@
 -- The patterns of a context, includes walked.
 use Rattle.std.specs.Prelude.{◌≡◌, ℕ, zero, suc, ◌+◌, Bool, true, false, List, [], ◌∷◌, ◌++◌, length, Option, Some, None, if◌then◌else◌}
 use Rattle.std.specs.List.{list_any}
-use Rattle.syntect_grammar.specs.Contexts.{is_same, contexts_of, context_at, part_of, target}
-use Rattle.syntect_grammar.specs.declared.syntax_definition.ContextId.{ContextId}
-use Rattle.syntect_grammar.specs.declared.syntax_definition.ContextReference.{ContextReference}
-use Rattle.syntect_grammar.specs.declared.syntax_definition.MatchPattern.{MatchPattern}
-use Rattle.syntect_grammar.specs.declared.syntax_definition.Pattern.{Pattern}
-use Rattle.syntect_grammar.specs.declared.syntax_definition.Pattern.TheVariants.{Match, Include}
-use Rattle.syntect_grammar.specs.declared.syntax_definition.Context.{Context}
+use Rattle.syntect_contexts.specs.Contexts.{is_same, target, count_contexts}
+use Rattle.syntect_grammar.specs.Contexts.{contexts_of, context_at, part_of}
+use Rattle.syntect_contexts.specs.declared.context.ContextId.{ContextId}
+use Rattle.syntect_contexts.specs.declared.context.ContextReference.{ContextReference}
+use Rattle.syntect_contexts.specs.declared.context.MatchPattern.{MatchPattern}
+use Rattle.syntect_contexts.specs.declared.context.Pattern.{Pattern}
+use Rattle.syntect_contexts.specs.declared.context.Pattern.TheVariants.{Match, Include}
+use Rattle.syntect_contexts.specs.declared.context.Context.{Context}
 use Rattle.syntect_grammar.specs.declared.syntax_set.SyntaxSet.{SyntaxSet}
 
 -- a context's own entries, nothing where the set lacks it
@@ -29,11 +30,6 @@ walk_patterns inner path (Include r ∷ ps) = included inner path (target r) ++ 
 abbrev pub walk : ℕ → SyntaxSet → List ContextId → List Pattern → List MatchPattern
 walk zero set path ps = []
 walk (suc room) set path ps = walk_patterns (λ id. walk room set (path ++ id ∷ []) (entries set id)) path ps
-
--- how many contexts there are in all
-abbrev pub count_contexts : List (List Context) → ℕ
-count_contexts [] = 0
-count_contexts (cs ∷ css) = length cs + count_contexts css
 
 -- An include path has no context twice, and only its last may be one that the set lacks: the room is never felt.
 abbrev pub room_in : SyntaxSet → ℕ

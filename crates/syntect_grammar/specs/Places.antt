@@ -4,14 +4,16 @@ use Rattle.std.specs.Option.{option_map_or}
 use Rattle.std.specs.Borrow.{Bor}
 use Rattle.std.specs.List.{list_any}
 use Rattle.std.specs.declared.alloc.AllocError.{AllocError}
-use Rattle.syntect_grammar.specs.Contexts.{is_same, contexts_of, context_at, match_of, target}
-use Rattle.syntect_grammar.specs.Patterns.{count_contexts, patterns_in}
+use Rattle.syntect_contexts.specs.Contexts.{is_same, match_of, target}
+use Rattle.syntect_grammar.specs.Contexts.{contexts_of, context_at}
+use Rattle.syntect_contexts.specs.Contexts.{count_contexts}
+use Rattle.syntect_grammar.specs.Patterns.{patterns_in}
 use Rattle.syntect_grammar.specs.declared.match_iter.Waiting.{Waiting}
 use Rattle.syntect_grammar.specs.declared.match_iter.MatchIter.{MatchIter}
-use Rattle.syntect_grammar.specs.declared.syntax_definition.ContextId.{ContextId}
-use Rattle.syntect_grammar.specs.declared.syntax_definition.Pattern.{Pattern}
-use Rattle.syntect_grammar.specs.declared.syntax_definition.Pattern.TheVariants.{Match, Include}
-use Rattle.syntect_grammar.specs.declared.syntax_definition.Context.{Context}
+use Rattle.syntect_contexts.specs.declared.context.ContextId.{ContextId}
+use Rattle.syntect_contexts.specs.declared.context.Pattern.{Pattern}
+use Rattle.syntect_contexts.specs.declared.context.Pattern.TheVariants.{Match, Include}
+use Rattle.syntect_contexts.specs.declared.context.Context.{Context}
 use Rattle.syntect_grammar.specs.declared.syntax_set.SyntaxSet.{SyntaxSet}
 
 -- where a match pattern stands: the context that holds it, and its index there

@@ -2,16 +2,17 @@
 use Rattle.std.specs.Prelude.{◌≡◌, ℕ, zero, suc, ◌+◌, ◌-◌, ◌<◌, List, [], ◌∷◌, ◌++◌, drop, Option, Some, None, if◌then◌else◌}
 use Rattle.std.specs.Option.{option_map_or}
 use Rattle.std.specs.List.{list_any}
-use Rattle.syntect_grammar.specs.Contexts.{is_same, context_at, target}
+use Rattle.syntect_contexts.specs.Contexts.{is_same, target}
+use Rattle.syntect_grammar.specs.Contexts.{context_at}
 use Rattle.syntect_grammar.specs.Places.{path_of, room_of, walk_left}
 use Rattle.syntect_grammar.specs.declared.match_iter.Waiting.{Waiting}
 use Rattle.syntect_grammar.specs.declared.match_iter.MatchIter.{MatchIter}
 use Rattle.syntect_grammar.specs.declared.match_iter.Step.{Step}
 use Rattle.syntect_grammar.specs.declared.match_iter.Step.TheVariants.{Found, Goes, Ends}
-use Rattle.syntect_grammar.specs.declared.syntax_definition.ContextId.{ContextId}
-use Rattle.syntect_grammar.specs.declared.syntax_definition.Pattern.{Pattern}
-use Rattle.syntect_grammar.specs.declared.syntax_definition.Pattern.TheVariants.{Match, Include}
-use Rattle.syntect_grammar.specs.declared.syntax_definition.Context.{Context}
+use Rattle.syntect_contexts.specs.declared.context.ContextId.{ContextId}
+use Rattle.syntect_contexts.specs.declared.context.Pattern.{Pattern}
+use Rattle.syntect_contexts.specs.declared.context.Pattern.TheVariants.{Match, Include}
+use Rattle.syntect_contexts.specs.declared.context.Context.{Context}
 use Rattle.syntect_grammar.specs.declared.syntax_set.SyntaxSet.{SyntaxSet}
 
 -- how many steps an include takes, beside its own

@@ -4,8 +4,8 @@ ghost use Rattle.std.specs.Path.{path_bytes, path_file_stem};
 ghost use Rattle.syntect_base.specs.declared.loading.LoadingError.TheVariants.{Memory};
 ghost use Rattle.syntect_grammar.specs.Folders.{is_grammar_path, IsSyntaxOf, RefusesSyntax, AddsSyntaxes, StopsAt, AddsFolder, RefusesFolder, no_definitions};
 ghost use Rattle.syntect_grammar.specs.Link.{definitions_in, paths_in, with_paths, linked};
-ghost use Rattle.syntect_grammar.specs.Loading.{loaded};
-ghost use Rattle.syntect_grammar.specs.LoadingSteps.{Fails, Keeps};
+ghost use Rattle.syntect_loader.specs.Loading.{loaded};
+ghost use Rattle.syntect_loader.specs.LoadingSteps.{Fails, Keeps};
 ghost use Rattle.syntect_grammar.specs.declared.syntax_set.SyntaxSetBuilder.{SyntaxSetBuilder as ABuilder};
 
 use crate::syntax_definition::SyntaxDefinition;

@@ -5,23 +5,15 @@
 #![tactic(auto)]
 
 mod apart;
-mod context_names;
-mod directory;
 pub mod error;
 mod finders;
 mod folders;
+mod heads;
 pub mod includes;
-pub mod laws;
-mod link;
 mod match_iter;
 mod plain_text;
-mod reached;
-mod substitution;
 pub mod syntax_definition;
 pub mod syntax_set;
 mod unlinked;
-pub mod yaml_load;
-mod yaml_load_contexts;
-mod yaml_load_parts;
-mod yaml_load_state;
-mod yaml_load_values;
+
+pub use syntect_loader::{laws, yaml_load};

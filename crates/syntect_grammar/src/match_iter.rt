@@ -2,8 +2,9 @@
 ghost use Rattle.std.specs.Prelude.{◌≡◌, ℕ, ◌+◌, ◌-◌, ◌<◌, ◌++◌, ◌∷◌, [], length, drop, map, IfOk, IfErr, IfSome, IfNone, OnErr, OnOk, MatchOption, IsTrue, false};
 ghost use Rattle.std.specs.List.{list_any};
 ghost use Rattle.std.specs.Iterator.{at_most};
-ghost use Rattle.syntect_grammar.specs.Contexts.{is_same, contexts_of, target};
-ghost use Rattle.syntect_grammar.specs.Places.{GivesPlace, included_places, items_left, path_of, places_from, places_in, places_left, PlacesArePatterns, target_places, room_of, walk_left};
+ghost use Rattle.syntect_contexts.specs.Contexts.{is_same, target};
+ghost use Rattle.syntect_grammar.specs.Contexts.{contexts_of};
+ghost use Rattle.syntect_grammar.specs.Places.{GivesPlace, included_places, items_left, path_of, places_from, places_in, places_left, target_places, room_of, walk_left};
 ghost use Rattle.syntect_grammar.specs.Walking.{StepsTo, included_steps, target_steps, steps_from, steps_left};
 
 use crate::includes::room_in;
@@ -173,8 +174,3 @@ impl<'a> Iterator for MatchIter<'a> {
         }
     }
 }
-
-/// They are where the patterns of the context's walk stand.
-pub fn places_are_patterns()
-    ensures { PlacesArePatterns }
-{}

@@ -1,8 +1,8 @@
 //! The syntax of text without markup.
 ghost use Rattle.std.specs.Prelude.{◌≡◌, false, None, IfErr, OnErr, OnOk};
-ghost use Rattle.syntect_grammar.specs.Loading.{loaded};
-ghost use Rattle.syntect_grammar.specs.LoadingSteps.{Fails, Keeps};
-ghost use Rattle.syntect_grammar.specs.PlainText.{plain_text, AddsPlainText, PlainTextIsPlain};
+ghost use Rattle.syntect_loader.specs.Loading.{loaded};
+ghost use Rattle.syntect_loader.specs.LoadingSteps.{Fails, Keeps};
+ghost use Rattle.syntect_grammar.specs.PlainText.{plain_text, AddsPlainText};
 
 use crate::syntax_definition::SyntaxDefinition;
 use crate::syntax_set::SyntaxSetBuilder;
@@ -41,9 +41,3 @@ impl SyntaxSetBuilder {
         Ok(())
     }
 }
-
-/// The grammar of plain text gives a syntax named `Plain Text`, of the extension `txt` and the scope `text.plain`, with a
-/// `main` that has no patterns.
-pub fn plain_text_is_plain()
-    ensures { PlainTextIsPlain }
-{}

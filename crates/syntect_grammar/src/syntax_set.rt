@@ -4,94 +4,13 @@ ghost use Rattle.std.specs.Option.{option_copied};
 ghost use Rattle.syntect_grammar.specs.Contexts.{context_at};
 ghost use Rattle.syntect_grammar.specs.Link.{definitions_in, paths_in, syntaxes_in, set_paths, set_of, with_paths, linked};
 
-use crate::context_names::ContextNames;
-use crate::link::link_definitions;
-use crate::syntax_definition::{Context, ContextId, SyntaxDefinition};
+use crate::heads::link_definitions;
+use crate::syntax_definition::{Context, ContextId, HoldsContexts, SyntaxDefinition};
 use std::alloc::{AllocError, AllocFailed, Global};
-use syntect_regex::regex::Regex;
+pub use syntect_contexts::syntax_reference::SyntaxReference;
 use syntect_scope::repository::ScopeRepository;
-use syntect_scope::scope::Scope;
 use syntect_values::seq::Seq;
-use syntect_values::table::Table;
 use syntect_values::text::Text;
-
-/// A syntax of a set, of use with that set alone.
-#[derive(Drop)]
-pub struct SyntaxReference {
-    pub name: Text,
-    pub file_extensions: Seq<Text>,
-    /// The scope of all its text.
-    pub scope: Scope,
-    /// A pattern that the first line of a file in this syntax matches.
-    pub first_line_match: Option<Text>,
-    pub hidden: bool,
-    pub variables: Table<Text, Text>,
-    pub(crate) index: usize,
-    pub(crate) names: ContextNames,
-    pub(crate) contexts: Seq<Context>,
-    /// The pattern of `first_line_match`, compiled.
-    pub(crate) first_line: Option<Regex>,
-}
-
-impl Clone for SyntaxReference {
-    ghost is_clone = { λ x y. y ≡ x };
-
-    fn clone(&self) -> Result<SyntaxReference, AllocError> {
-        Ok(SyntaxReference {
-            name: self.name.clone()?,
-            file_extensions: copied_texts(&self.file_extensions)?,
-            scope: self.scope,
-            first_line_match: copied_text(&self.first_line_match)?,
-            hidden: self.hidden,
-            variables: copied_variables(&self.variables)?,
-            index: self.index,
-            names: copied_names(&self.names)?,
-            contexts: copied_contexts(&self.contexts)?,
-            first_line: copied_pattern(self.contexts.allocator(), &self.first_line)?,
-        })
-    }
-}
-
-// What stands in a syntax, once more.
-
-fn copied_texts(texts: &Seq<Text>) -> Result<Seq<Text>, AllocError>
-    ensures { IfOk result (λ t. t ≡ texts.now) }
-{
-    texts.clone()
-}
-
-fn copied_names(names: &ContextNames) -> Result<ContextNames, AllocError>
-    ensures { IfOk result (λ n. n ≡ names.now) }
-{
-    names.clone()
-}
-
-fn copied_variables(variables: &Table<Text, Text>) -> Result<Table<Text, Text>, AllocError>
-    ensures { IfOk result (λ v. v ≡ variables.now) }
-{
-    variables.clone()
-}
-
-fn copied_contexts(contexts: &Seq<Context>) -> Result<Seq<Context>, AllocError>
-    ensures { IfOk result (λ c. c ≡ contexts.now) }
-{
-    contexts.clone()
-}
-
-fn copied_text(text: &Option<Text>) -> Result<Option<Text>, AllocError>
-    ensures { IfOk result (λ t. t ≡ text.now) }
-{
-    text.clone()
-}
-
-fn copied_pattern(alloc: Global, pattern: &Option<Regex>) -> Result<Option<Regex>, AllocError>
-    ensures { IfOk result (λ p. p ≡ pattern.now) }
-{
-    match pattern {
-        Some(pattern) => Ok(Some(pattern.clone(alloc)?)),
-        None => Ok(None),
-    }
-}
 
 /// Syntaxes whose contexts are linked.
 #[derive(Clone, Drop)]
@@ -164,6 +83,16 @@ impl SyntaxSet {
     {
         let syntax = self.syntaxes.get(id.syntax_index)?;
         syntax.contexts.get(id.context_index)
+    }
+}
+
+impl HoldsContexts for SyntaxSet {
+    ghost use Rattle.syntect_grammar.specs.Contexts.{context_at};
+
+    ghost contexts = { context_at };
+
+    fn context_of(&self, id: ContextId) -> Option<&Context> {
+        self.context_at(id)
     }
 }
 

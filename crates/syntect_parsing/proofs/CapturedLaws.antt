@@ -6,7 +6,7 @@ use Rattle.std.specs.Option.{option_map_or}
 use Rattle.std.specs.Str.{IsUtf8}
 use Rattle.std.proofs.lemmas.Bool.Decides.{nat_tests}
 use Rattle.syntect_parsing.specs.Engine.{dialect}
-use Rattle.syntect_grammar.specs.Substitution.{Groups}
+use Rattle.syntect_contexts.specs.Substitution.{Groups}
 use Rattle.syntect_parsing.specs.Turn.{Live, group_at}
 use Rattle.syntect_parsing.specs.Scopes.{Scopes, Capture, effect, captures}
 use Rattle.syntect_parsing.specs.Laws.{LaysGroupsOut, LaysOut}
@@ -17,7 +17,7 @@ use Rattle.syntect_parsing.specs.declared.captures.Mark.{Mark}
 use Rattle.syntect_pattern.specs.Pattern.{pattern_found}
 use Rattle.syntect_regex.specs.Region.{TakesMatch}
 use Rattle.syntect_parsing.proofs.SearchLaws.{whole_line}
-use Rattle.syntect_grammar.proofs.SubstitutionLaws.{group_flat}
+use Rattle.syntect_contexts.proofs.SubstitutionLaws.{group_flat}
 use Rattle.syntect_parsing.proofs.CaptureLaws.{In, Each, AreLaidOut, EndOnBoundaries}
 use Rattle.syntect_parsing.proofs.MarkLaws.{LiesWithin, marks_make, none_make}
 

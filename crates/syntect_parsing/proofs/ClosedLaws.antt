@@ -3,21 +3,22 @@ use Rattle.std.proofs.Common.{◌≡◌, ℕ, zero, suc, Bool, true, false, not,
 use Rattle.std.specs.List.{filter_map, flat_map, list_any}
 use Rattle.std.specs.Option.{option_map, option_to_list}
 use Rattle.syntect_parsing.specs.Engine.{Engine}
-use Rattle.syntect_grammar.specs.Substitution.{Groups, Opening}
-use Rattle.syntect_grammar.specs.Contexts.{context_at, target, is_same}
+use Rattle.syntect_contexts.specs.Substitution.{Groups, Opening}
+use Rattle.syntect_grammar.specs.Contexts.{context_at}
+use Rattle.syntect_contexts.specs.Contexts.{target, is_same}
 use Rattle.syntect_parsing.specs.Chain.{Member, chain, entries, patterns_in, walk, walk_patterns, included, members, in_sight, room_in}
 use Rattle.syntect_parsing.specs.Turn.{Live, Take, Skip, End, live, live_match, matched, counted, counts, group_at, missing, named, searched_text, winner, choice_of, is_least, loops}
 use Rattle.syntect_parsing.specs.Refusals.{NamesKnown, IsClosed}
 use Rattle.syntect_parsing.proofs.EachLaws.{Each, each-append, each-flat_map, each-map, each_always, each-filter_map, each-find, find-each, each-find_none}
-use Rattle.syntect_grammar.specs.declared.syntax_definition.ContextId.{ContextId}
-use Rattle.syntect_grammar.specs.declared.syntax_definition.MatchPattern.{MatchPattern}
-use Rattle.syntect_grammar.specs.declared.syntax_definition.Pattern.{Pattern}
-use Rattle.syntect_grammar.specs.declared.syntax_definition.Pattern.TheVariants.{Match, Include}
-use Rattle.syntect_grammar.specs.declared.syntax_definition.Context.{Context}
+use Rattle.syntect_contexts.specs.declared.context.ContextId.{ContextId}
+use Rattle.syntect_contexts.specs.declared.context.MatchPattern.{MatchPattern}
+use Rattle.syntect_contexts.specs.declared.context.Pattern.{Pattern}
+use Rattle.syntect_contexts.specs.declared.context.Pattern.TheVariants.{Match, Include}
+use Rattle.syntect_contexts.specs.declared.context.Context.{Context}
 use Rattle.syntect_grammar.specs.declared.syntax_set.SyntaxSet.{SyntaxSet}
 use Rattle.syntect_parsing.specs.declared.parser.Level.{Level}
 use Rattle.syntect_parsing.specs.declared.position.Position.{Position}
-use Rattle.syntect_grammar.specs.declared.error.ParsingError.TheVariants as error
+use Rattle.syntect_contexts.specs.declared.error.ParsingError.TheVariants as error
 
 -- the set has the context
 abbrev pub Has : SyntaxSet → ContextId → Type 0

@@ -13,7 +13,7 @@ use Rattle.syntect_pattern.specs.Pattern.{pattern_tree}
 use Rattle.syntect_pattern.specs.Reading.{◌>>=◌}
 use Rattle.syntect_pattern.specs.Nesting.{FindsMatches, IsMatch, LiesIn, Span}
 use Rattle.syntect_parsing.specs.Engine.{dialect}
-use Rattle.syntect_grammar.specs.Substitution.{Groups}
+use Rattle.syntect_contexts.specs.Substitution.{Groups}
 use Rattle.syntect_parsing.specs.Turn.{group_at}
 use Rattle.syntect_parsing.specs.Laws.{FindsInText, StandsIn, LaysGroupsOut, LaysOut}
 use Rattle.syntect_parsing.proofs.ListLaws.{tested_false}

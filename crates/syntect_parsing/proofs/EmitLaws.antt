@@ -5,12 +5,13 @@ use Rattle.std.specs.List.{filter_map, flat_map, cons_option}
 use Rattle.syntect_scope.specs.declared.stack.ScopeStackOp.{ScopeStackOp}
 use Rattle.syntect_scope.specs.declared.stack.ScopeStackOp.TheVariants.{Push}
 use Rattle.syntect_scope.specs.Replay.{pushes}
-use Rattle.syntect_grammar.specs.Contexts.{part_of, target, context_at}
+use Rattle.syntect_grammar.specs.Contexts.{part_of, context_at}
+use Rattle.syntect_contexts.specs.Contexts.{target}
 use Rattle.syntect_parsing.specs.Scopes.{Scopes}
 use Rattle.syntect_parsing.specs.Operations.{metas, contents, opens, none}
-use Rattle.syntect_grammar.specs.declared.syntax_definition.ContextId.{ContextId}
-use Rattle.syntect_grammar.specs.declared.syntax_definition.ContextReference.{ContextReference}
-use Rattle.syntect_grammar.specs.declared.syntax_definition.Context.{Context}
+use Rattle.syntect_contexts.specs.declared.context.ContextId.{ContextId}
+use Rattle.syntect_contexts.specs.declared.context.ContextReference.{ContextReference}
+use Rattle.syntect_contexts.specs.declared.context.Context.{Context}
 use Rattle.syntect_grammar.specs.declared.syntax_set.SyntaxSet.{SyntaxSet}
 
 pub pushes_append : (at : ℕ) (xs ys : Scopes) → pushes at (xs ++ ys) ≡ pushes at xs ++ pushes at ys

@@ -1,5 +1,5 @@
--- Each line is accepted or refused, within a bound.
-use Rattle.std.proofs.Common.{◌≡◌, ◌≢◌, ◌⊎◌, inl, inr, ℕ, zero, suc, ◌==◌, ◌+◌, ◌-◌, ◌*◌, ◌≤◌, ◌<◌, nat_lt, Bool, true, false, not, ◌&&◌, List, [], ◌∷◌, ◌++◌, length, map, find, Option, Some, None, slice_get, refl, ap, sym, ◌∙◌, arith, length-append, if◌then◌else◌}
+-- Each turn that goes on makes fewer to come.
+use Rattle.std.proofs.Common.{◌≡◌, ◌≢◌, ℕ, zero, suc, ◌==◌, ◌+◌, ◌-◌, ◌*◌, ◌≤◌, ◌<◌, nat_lt, Bool, true, false, not, ◌&&◌, List, [], ◌∷◌, ◌++◌, length, map, find, Option, Some, None, slice_get, refl, ap, arith, length-append, if◌then◌else◌}
 use Rattle.std.proofs.lemmas.List.{length-take}
 use Rattle.std.proofs.lemmas.Str.{len_utf8_bounds}
 use Rattle.std.specs.Char.{len_utf8}
@@ -9,29 +9,27 @@ use Rattle.std.proofs.Math.Nat.{mul-le-mul_left}
 use Rattle.std.specs.List.{filter_map, cons_option, flat_map, list_any}
 use Rattle.std.specs.Option.{option_map_or, option_and_then, option_to_list}
 use Rattle.syntect_parsing.specs.Engine.{Engine}
-use Rattle.syntect_grammar.specs.Substitution.{Groups, Opening}
-use Rattle.syntect_grammar.specs.Contexts.{is_same, context_at, target, contexts_of}
+use Rattle.syntect_contexts.specs.Substitution.{Groups, Opening}
+use Rattle.syntect_contexts.specs.Contexts.{is_same, target}
+use Rattle.syntect_grammar.specs.Contexts.{context_at, contexts_of}
 use Rattle.syntect_parsing.specs.Chain.{Member, last, entries, included, walk_patterns, walk, room_in, patterns_in, members, chain, in_sight, prototypes_in}
 use Rattle.syntect_parsing.specs.Turn.{Live, Choice, Take, Skip, End, counts, counted, matched, live, live_match, searched_text, group_at, choice_of, winner, is_least, loops, turns_back, char_len, list_of, missing, refusal, new_levels, without_last, opened, levels_by, levels_after, idle_by, position_after, trimmed}
 use Rattle.syntect_parsing.specs.Scopes.{Scopes, scopes_passed}
-use Rattle.syntect_parsing.specs.Line.{Step, Goes, Ends, Refused, turn, turn_on, turn_in, step, unless_refused, ReadsLine, RefusesLine, no_level, in_turn, at_start}
-use Rattle.syntect_parsing.specs.Laws.{longest_in, longest_of, longest, turn_bound, EachLineEnds}
-use Rattle.syntect_parsing.proofs.Finds.{FindsInOrder, finds_in_order}
-use Rattle.syntect_parsing.proofs.Run.{Outcome, Accepts, RefusedWith, Unfinished, onto, from_step, run, Means, sound}
-use Rattle.syntect_grammar.specs.declared.syntax_definition.ContextId.{ContextId}
-use Rattle.syntect_grammar.specs.declared.syntax_definition.ContextReference.{ContextReference}
-use Rattle.syntect_grammar.specs.declared.syntax_definition.MatchOperation.{MatchOperation}
-use Rattle.syntect_grammar.specs.declared.syntax_definition.MatchOperation.TheVariants as op
-use Rattle.syntect_grammar.specs.declared.syntax_definition.MatchPattern.{MatchPattern}
-use Rattle.syntect_grammar.specs.declared.syntax_definition.Pattern.{Pattern}
-use Rattle.syntect_grammar.specs.declared.syntax_definition.Pattern.TheVariants.{Match, Include}
-use Rattle.syntect_grammar.specs.declared.syntax_definition.Context.{Context}
+use Rattle.syntect_parsing.specs.Line.{Step, Goes, Ends, Refused, turn, turn_on, turn_in, step, unless_refused}
+use Rattle.syntect_parsing.specs.Laws.{longest_in, longest_of, longest}
+use Rattle.syntect_parsing.proofs.Finds.{FindsInOrder}
+use Rattle.syntect_contexts.specs.declared.context.ContextId.{ContextId}
+use Rattle.syntect_contexts.specs.declared.context.ContextReference.{ContextReference}
+use Rattle.syntect_contexts.specs.declared.context.MatchOperation.{MatchOperation}
+use Rattle.syntect_contexts.specs.declared.context.MatchOperation.TheVariants as op
+use Rattle.syntect_contexts.specs.declared.context.MatchPattern.{MatchPattern}
+use Rattle.syntect_contexts.specs.declared.context.Pattern.{Pattern}
+use Rattle.syntect_contexts.specs.declared.context.Pattern.TheVariants.{Match, Include}
+use Rattle.syntect_contexts.specs.declared.context.Context.{Context}
 use Rattle.syntect_grammar.specs.declared.syntax_set.SyntaxSet.{SyntaxSet}
 use Rattle.syntect_parsing.specs.declared.parser.Level.{Level}
 use Rattle.syntect_parsing.specs.declared.position.Position.{Position}
-use Rattle.syntect_parsing.specs.declared.parser.ParseState.{ParseState}
-use Rattle.syntect_grammar.specs.declared.error.ParsingError.{ParsingError}
-use Rattle.syntect_grammar.specs.declared.error.ParsingError.TheVariants as error
+use Rattle.syntect_contexts.specs.declared.error.ParsingError.{ParsingError}
 
 -- ---- each element of a list ----
 
@@ -183,14 +181,14 @@ find_found P test (m ∷ ms) (and_more h k) = by (find_found P test ms k) (test 
 
 -- ---- the count of turns that may come falls ----
 
-abbrev left : ℕ → List ℕ → Position → ℕ
+abbrev pub left : ℕ → List ℕ → Position → ℕ
 left r line p = length p.levels + (r + 1) * ((1000 - p.idle) + 1001 * (length line - p.place))
 
-record IsReady (line : List ℕ) (p : Position) : Type 0 where
-  within : p.place ≤ length line
-  idle : p.idle ≤ 1000
+pub record IsReady (line : List ℕ) (p : Position) : Type 0 where
+  pub within : p.place ≤ length line
+  pub idle : p.idle ≤ 1000
 
-abbrev Falls : ℕ → List ℕ → Position → Step → Type 0
+abbrev pub Falls : ℕ → List ℕ → Position → Step → Type 0
 Falls r line p (Goes bytes q) = (left r line q < left r line p) × IsReady line q
 Falls r line p (Ends bytes s) = Unit {0}
 Falls r line p (Refused e) = Unit {0}
@@ -343,7 +341,7 @@ on_top : (levels : List Level) (top : Level) → last levels ≡ Some top → 1 
 on_top [] top e = cc
 on_top (l ∷ ls) top e = omega arith
 
-turn_falls : (engine : Engine) (line : List ℕ) → FindsInOrder engine line → (set : SyntaxSet) (p : Position) → IsReady line p → Falls (longest (contexts_of set)) line p (turn engine set line p)
+pub turn_falls : (engine : Engine) (line : List ℕ) → FindsInOrder engine line → (set : SyntaxSet) (p : Position) → IsReady line p → Falls (longest (contexts_of set)) line p (turn engine set line p)
 unfolding turn
 turn_falls engine line finds set p ready = by (last p.levels) refl
   where
@@ -356,55 +354,3 @@ pub goes_falls : (engine : Engine) (line : List ℕ) → FindsInOrder engine lin
     → turn engine set line p ≡ Goes bytes q → (left (longest (contexts_of set)) line q < left (longest (contexts_of set)) line p) × (q.idle ≤ 1000)
 goes_falls engine line finds set p q bytes l i e =
     let k : Falls (longest (contexts_of set)) line p (Goes bytes q) = rw e at (turn_falls engine line finds set p (record { within = l; idle = i })) in (k.0, k.1.idle)
-
--- ---- a line ----
-
-abbrev IsDone : ℕ → Outcome → Type 0
-IsDone k (Accepts bytes after n) = n ≤ k + 1
-IsDone k (RefusedWith e n) = n ≤ k + 1
-IsDone k Unfinished = ⊥
-
-onto_done : (j k : ℕ) (bytes : List Scopes) (o : Outcome) → j < k → IsDone j o → IsDone k (onto bytes o)
-onto_done j k bytes (Accepts rest after n) l h = omega arith
-onto_done j k bytes (RefusedWith e n) l h = omega arith
-onto_done j k bytes Unfinished l h = h
-
-step_done : (engine : Engine) (set : SyntaxSet) (line : List ℕ) (p : Position) (next : Position → Outcome) (s : Step) → Falls (longest (contexts_of set)) line p s
-    → ((q : Position) → IsReady line q → left (longest (contexts_of set)) line q < left (longest (contexts_of set)) line p → IsDone (left (longest (contexts_of set)) line q) (next q))
-    → IsDone (left (longest (contexts_of set)) line p) (from_step next s)
-step_done engine set line p next (Goes bytes q) h k = onto_done (left (longest (contexts_of set)) line q) (left (longest (contexts_of set)) line p) bytes (next q) h.0 (k q h.1 h.0)
-step_done engine set line p next (Ends bytes after) h k = omega arith
-step_done engine set line p next (Refused e) h k = omega arith
-
-done : (engine : Engine) (line : List ℕ) → FindsInOrder engine line → (set : SyntaxSet) (k : ℕ) (p : Position) → IsReady line p → left (longest (contexts_of set)) line p < k → IsDone (left (longest (contexts_of set)) line p) (run engine set line k p)
-done engine line finds set zero p ready l = absurd (omega arith)
-done engine line finds set (suc k) p ready l =
-    step_done engine set line p (run engine set line k) (turn engine set line p) (turn_falls engine line finds set p ready) (λ q other h. done engine line finds set k q other (omega arith))
-
-bound : (d r n : ℕ) → (d + (r + 1) * ((1000 - 0) + 1001 * (n - 0))) + 1 ≤ d + (r + 1) * (1001 * (n + 1))
-bound d r n =
-    let e : 1001 * (n + 1) ≡ ((1000 - 0) + 1001 * (n - 0)) + 1 = omega arith in
-    rw e (omega arith)
-
-abbrev Comes : Engine → SyntaxSet → List ℕ → ParseState → Type 0
-Comes engine set line state =
-    ((bytes : List Scopes) × (after : ParseState) × (n : ℕ) × ReadsLine engine set line state bytes after n × (n ≤ turn_bound set line state))
-    ⊎ ((e : ParsingError) × (n : ℕ) × RefusesLine engine set line state e n × (n ≤ turn_bound set line state))
-
-comes : (engine : Engine) (set : SyntaxSet) (line : List ℕ) (state : ParseState) → state.levels ≢ [] → (o : Outcome) → Means engine set line (at_start state) o
-    → IsDone (left (longest (contexts_of set)) line (at_start state)) o → Comes engine set line state
-comes engine set line state n (Accepts bytes after k) h l =
-    inl (bytes, after, k, record { on_levels = n; reads = h }, let b = bound (length state.levels) (longest (contexts_of set)) (length line) in omega arith)
-comes engine set line state n (RefusedWith e k) h l = inr (e, k, in_turn n h, let b = bound (length state.levels) (longest (contexts_of set)) (length line) in omega arith)
-comes engine set line state n Unfinished h l = absurd l
-
-pub each_line_ends : EachLineEnds
-each_line_ends engine finds set line state u = by state.levels refl
-  where
-    by : (levels : List Level) → state.levels ≡ levels → Comes engine set line state
-    by [] e = inr (error.MissingMainContext, 0, no_level e, omega arith)
-    by (l ∷ ls) e =
-        let n : state.levels ≢ [] = λ h. let k : l ∷ ls ≡ [] = sym e ∙ h in cc in
-        let m : ℕ = left (longest (contexts_of set)) line (at_start state) + 1 in
-        comes engine set line state n (run engine set line m (at_start state)) (sound engine set line m (at_start state))
-        (done engine line (finds_in_order engine finds line u) set m (at_start state) (record { within = omega arith; idle = omega arith }) (omega arith))

@@ -1,10 +1,6 @@
-pub mod Once
+pub mod AnswerLaws
 pub mod Finds
-pub mod Cover
-pub mod Run
 pub mod Falls
-pub mod Rows
-pub mod LongRows
 pub mod Places
 pub mod Open
 pub mod DialectLaws

@@ -6,24 +6,28 @@ use Rattle.std.specs.List.{filter_map, cons_option, list_any}
 use Rattle.std.specs.Option.{option_map, option_map_or, option_to_list, option_and_then}
 use Rattle.std.proofs.lemmas.Option.{slice_get-map}
 use Rattle.std.proofs.lemmas.List.Quantifiers.{position-Some}
-use Rattle.syntect_grammar.specs.Contexts.{context_at, contexts_of, target}
+use Rattle.syntect_grammar.specs.Contexts.{context_at, contexts_of}
+use Rattle.syntect_contexts.specs.Contexts.{target}
 use Rattle.syntect_parsing.specs.Turn.{named, list_of}
-use Rattle.syntect_grammar.specs.Link.{with_paths, linked, linked_from, linked_definition, linked_contexts, linked_context, linked_pattern, linked_operation}
-use Rattle.syntect_grammar.specs.References.{names_of, head_of, heads_from, body_of, named_in, context_named, meant, last_that, context_by, has_scope, has_name, or_plain_text, link_of, linked_reference}
-use Rattle.syntect_grammar.specs.Reached.{unless_reached, is_reached, prototype_for}
+use Rattle.syntect_grammar.specs.Link.{with_paths, linked, linked_from, linked_definition}
+use Rattle.syntect_linker.specs.LinkedContexts.{linked_contexts, linked_context, linked_pattern, linked_operation}
+use Rattle.syntect_grammar.specs.Link.{names_of, head_of, heads_from, body_of}
+use Rattle.syntect_contexts.specs.Contexts.{named_in}
+use Rattle.syntect_linker.specs.References.{context_named, meant, last_that, context_by, has_scope, has_name, or_plain_text, link_of, linked_reference}
+use Rattle.syntect_linker.specs.Reached.{unless_reached, is_reached, prototype_for}
 use Rattle.syntect_parsing.specs.Refusals.{NamesKnown, IsClosed, LinksClosed, AreByName, KnowNoNumber, NamesNoNumber, is_direct}
 use Rattle.syntect_parsing.proofs.EachLaws.{Each}
 use Rattle.syntect_parsing.proofs.ClosedLaws.{Has, misses_none}
-use Rattle.syntect_grammar.specs.declared.syntax_definition.ContextId.{ContextId}
-use Rattle.syntect_grammar.specs.declared.syntax_definition.ContextReference.{ContextReference}
-use Rattle.syntect_grammar.specs.declared.syntax_definition.ContextReference.TheVariants as ref
-use Rattle.syntect_grammar.specs.declared.syntax_definition.MatchOperation.{MatchOperation}
-use Rattle.syntect_grammar.specs.declared.syntax_definition.MatchOperation.TheVariants as op
-use Rattle.syntect_grammar.specs.declared.syntax_definition.Pattern.{Pattern}
-use Rattle.syntect_grammar.specs.declared.syntax_definition.Pattern.TheVariants.{Match, Include}
-use Rattle.syntect_grammar.specs.declared.syntax_definition.Context.{Context}
-use Rattle.syntect_grammar.specs.declared.syntax_definition.SyntaxDefinition.{SyntaxDefinition}
-use Rattle.syntect_grammar.specs.declared.syntax_set.SyntaxReference.{SyntaxReference}
+use Rattle.syntect_contexts.specs.declared.context.ContextId.{ContextId}
+use Rattle.syntect_contexts.specs.declared.context.ContextReference.{ContextReference}
+use Rattle.syntect_contexts.specs.declared.context.ContextReference.TheVariants as ref
+use Rattle.syntect_contexts.specs.declared.context.MatchOperation.{MatchOperation}
+use Rattle.syntect_contexts.specs.declared.context.MatchOperation.TheVariants as op
+use Rattle.syntect_contexts.specs.declared.context.Pattern.{Pattern}
+use Rattle.syntect_contexts.specs.declared.context.Pattern.TheVariants.{Match, Include}
+use Rattle.syntect_contexts.specs.declared.context.Context.{Context}
+use Rattle.syntect_loader.specs.declared.definition.SyntaxDefinition.{SyntaxDefinition}
+use Rattle.syntect_contexts.specs.declared.syntax_reference.SyntaxReference.{SyntaxReference}
 use Rattle.syntect_grammar.specs.declared.syntax_set.SyntaxSet.{SyntaxSet}
 
 -- ---- definitions by their index ----

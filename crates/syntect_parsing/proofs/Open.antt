@@ -9,11 +9,11 @@ use Rattle.syntect_parsing.specs.Turn.{Choice, Take, Skip, End, live, winner, mi
 use Rattle.syntect_parsing.specs.Scopes.{Scopes, open_scopes, scopes_passed}
 use Rattle.syntect_parsing.specs.Line.{Step, Goes, Ends, Refused, turn, turn_on, turn_in, step, unless_refused, Reads, ends, goes, at_start, Answer, Answers, accepts, refuses, none, one_more, HasPlainStart}
 use Rattle.syntect_parsing.specs.Laws.{StackIsOpen}
-use Rattle.syntect_grammar.specs.declared.syntax_definition.Context.{Context}
+use Rattle.syntect_contexts.specs.declared.context.Context.{Context}
 use Rattle.syntect_grammar.specs.declared.syntax_set.SyntaxSet.{SyntaxSet}
 use Rattle.syntect_parsing.specs.declared.parser.Level.{Level}
 use Rattle.syntect_parsing.specs.declared.parser.ParseState.{ParseState}
-use Rattle.syntect_grammar.specs.declared.error.ParsingError.{ParsingError}
+use Rattle.syntect_contexts.specs.declared.error.ParsingError.{ParsingError}
 
 abbrev LeavesLater : Step → Type 0
 LeavesLater (Goes bytes q) = Unit {0}

@@ -1,4 +1,4 @@
--- Each turn of a text begins on a character boundary.
+-- Matches end on character boundaries, and so does what is passed over.
 use Rattle.std.proofs.Common.{◌≡◌, ℕ, ◌+◌, ◌<◌, ◌≤◌, nat_lt, Bool, true, false, not, ◌&&◌, List, [], ◌∷◌, length, find, drop, Option, Some, None, refl, ap, sym, ◌∙◌, arith, length-drop, if◌then◌else◌}
 use Rattle.std.specs.List.{filter_map, cons_option, slice_get}
 use Rattle.std.specs.Option.{option_map_or}
@@ -6,21 +6,14 @@ use Rattle.std.specs.Str.{IsUtf8, IsCharBoundary, chars}
 use Rattle.std.specs.Char.{len_utf8}
 use Rattle.std.proofs.Math.Utf8.{encodes}
 use Rattle.std.proofs.lemmas.Bool.Decides.{nat_tests}
-use Rattle.std.proofs.lemmas.Str.{IsUtf8-drop, encodes-chars, IsCharBoundary-past_char, IsCharBoundary-start}
+use Rattle.std.proofs.lemmas.Str.{IsUtf8-drop, encodes-chars, IsCharBoundary-past_char}
 use Rattle.syntect_pattern.specs.Text.{char_at}
-use Rattle.syntect_grammar.specs.Contexts.{context_at}
-use Rattle.syntect_parsing.specs.Chain.{Member, last, chain, prototypes_in}
+use Rattle.syntect_parsing.specs.Chain.{Member}
 use Rattle.syntect_parsing.specs.Engine.{Engine}
-use Rattle.syntect_grammar.specs.Substitution.{Groups}
+use Rattle.syntect_contexts.specs.Substitution.{Groups}
 use Rattle.syntect_parsing.specs.declared.position.Position.{Position}
-use Rattle.syntect_parsing.specs.Turn.{Live, Choice, Take, Skip, End, counts, counted, matched, live, live_match, searched_text, group_at, choice_of, winner, is_least, loops, char_len, missing, refusal, position_after, trimmed}
-use Rattle.syntect_parsing.specs.Scopes.{scopes_passed}
-use Rattle.syntect_parsing.specs.Line.{Step, Goes, Ends, Refused, turn, turn_on, turn_in, step, unless_refused, at_start, Reaches, here, further}
-use Rattle.syntect_parsing.specs.Laws.{FindsInText, StandsIn, PlacesAreBoundaries}
-use Rattle.syntect_grammar.specs.declared.syntax_definition.Context.{Context}
-use Rattle.syntect_grammar.specs.declared.syntax_set.SyntaxSet.{SyntaxSet}
-use Rattle.syntect_parsing.specs.declared.parser.Level.{Level}
-use Rattle.syntect_grammar.specs.declared.error.ParsingError.{ParsingError}
+use Rattle.syntect_parsing.specs.Turn.{Live, Choice, Take, Skip, End, counts, counted, matched, live, live_match, searched_text, group_at, choice_of, winner, is_least, loops, char_len}
+use Rattle.syntect_parsing.specs.Laws.{FindsInText, StandsIn}
 
 -- ---- the place behind a character ----
 
@@ -102,11 +95,6 @@ module _ (engine : Engine) (finds : FindsInText engine) (line : List ℕ) (u : I
 
   -- ---- turns ----
 
-  abbrev GoesToBoundary : Step → Type 0
-  GoesToBoundary (Goes bytes q) = IsCharBoundary line q.place
-  GoesToBoundary (Ends bytes s) = Unit {0}
-  GoesToBoundary (Refused e) = Unit {0}
-
   abbrev pub IsChoiceOnBoundary : ℕ → Choice → Type 0
   IsChoiceOnBoundary place (Take m) = StandsIn line place m.start m.end
   IsChoiceOnBoundary place Skip = place + char_len line place < length line
@@ -125,35 +113,3 @@ module _ (engine : Engine) (finds : FindsInText engine) (line : List ℕ) (u : I
   winner_ends p members =
       let ms : List Live = live engine line p members in
       choice_ends p.place ms (find (λ m. is_least ms m && not (loops p m)) ms) (find_ends p.place _ ms (live_ends (length p.levels) p.place members))
-
-  unless_ends : (o : Option ParsingError) (s : Step) → GoesToBoundary s → GoesToBoundary (unless_refused o s)
-  unless_ends None s h = h
-  unless_ends (Some e) s h = tt
-
-  step_ends : (set : SyntaxSet) (p : Position) (choice : Choice) → IsCharBoundary line p.place → IsChoiceOnBoundary p.place choice → GoesToBoundary (step engine set line p choice)
-  step_ends set p (Take m) b h = unless_ends (refusal set m.pattern) (Goes (scopes_passed engine set p.levels p.place m) (position_after set line p m)) h.ends
-  step_ends set p Skip b h = past_here line p.place u b h
-  step_ends set p End b h = tt
-
-  turn_in_ends : (set : SyntaxSet) (p : Position) (top : Level) (c : Option Context) → IsCharBoundary line p.place → GoesToBoundary (turn_in engine set line p top c)
-  turn_in_ends set p top None b = tt
-  turn_in_ends set p top (Some c) b =
-      let ms : List Live = live engine line p (chain set p top c) in
-      unless_ends (missing set (prototypes_in p c)) (step engine set line p (winner line p ms))
-      (step_ends set p (winner line p ms) b (choice_ends p.place ms (find (λ m. is_least ms m && not (loops p m)) ms) (find_ends p.place _ ms (live_ends (length p.levels) p.place (chain set p top c)))))
-
-  turn_on_ends : (set : SyntaxSet) (p : Position) (top : Option Level) → IsCharBoundary line p.place → GoesToBoundary (turn_on engine set line p top)
-  turn_on_ends set p None b = tt
-  turn_on_ends set p (Some top) b = turn_in_ends set p top (context_at set top.context) b
-
-  turn_ends : (set : SyntaxSet) (p : Position) → IsCharBoundary line p.place → GoesToBoundary (turn engine set line p)
-  unfolding turn
-  turn_ends set p b = turn_on_ends set (trimmed p) (last p.levels) b
-
-  reaches_boundary : (set : SyntaxSet) (p q : Position) → IsCharBoundary line p.place → Reaches engine set line p q → IsCharBoundary line q.place
-  reaches_boundary set p q b here = b
-  reaches_boundary set p q b (further {q = r} {bytes = bytes} e h) =
-      let k : GoesToBoundary (Goes bytes r) = rw e at (turn_ends set p b) in reaches_boundary set r q k h
-
-pub places_are_boundaries : PlacesAreBoundaries
-places_are_boundaries engine finds set line state p u h = reaches_boundary engine finds line u set (at_start state) p (IsCharBoundary-start line u) h

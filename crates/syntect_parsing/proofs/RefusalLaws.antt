@@ -2,9 +2,10 @@
 use Rattle.std.proofs.Common.{◌≡◌, ◌≢◌, ℕ, zero, suc, ◌+◌, ◌-◌, Bool, true, false, List, [], ◌∷◌, ◌++◌, length, take, Option, Some, None, is_none, slice_get, unwrap_or, refl, ap, sym, ◌∙◌, subst, arith}
 use Rattle.std.specs.List.{filter_map, flat_map, cons_option}
 use Rattle.std.specs.Option.{option_map, option_map_or, option_to_list, option_and_then, option_or}
-use Rattle.syntect_grammar.specs.Substitution.{Opening}
+use Rattle.syntect_contexts.specs.Substitution.{Opening}
 use Rattle.syntect_parsing.specs.Engine.{Engine}
-use Rattle.syntect_grammar.specs.Contexts.{context_at, part_of, target}
+use Rattle.syntect_grammar.specs.Contexts.{context_at, part_of}
+use Rattle.syntect_contexts.specs.Contexts.{target}
 use Rattle.syntect_parsing.specs.Chain.{Member, chain, entries, last, patterns_in, members, in_sight, prototypes_in}
 use Rattle.syntect_parsing.specs.Turn.{Live, Choice, Take, Skip, End, live, missing, named, refusal, list_of, winner, trimmed, levels_after, levels_by, opened, new_levels, without_last, position_after}
 use Rattle.syntect_parsing.specs.Scopes.{Scopes, scopes_passed}
@@ -12,18 +13,18 @@ use Rattle.syntect_parsing.specs.Line.{Step, Goes, Ends, Refused, turn, turn_on,
 use Rattle.syntect_parsing.specs.Refusals.{Picks, NamesUnresolved, unresolved_of, IsClosed, IsNeverLeft, stays, lone_patterns, RefusesUnresolved}
 use Rattle.syntect_parsing.proofs.EachLaws.{Each, each-append, each-flat_map, each_of, each-drop, each-take, each-all}
 use Rattle.syntect_parsing.proofs.ClosedLaws.{Has, Knows, has_all, misses_none, chain-each, wins-each, members-each, closed_patterns}
-use Rattle.syntect_grammar.specs.declared.syntax_definition.ContextId.{ContextId}
-use Rattle.syntect_grammar.specs.declared.syntax_definition.ContextReference.{ContextReference}
-use Rattle.syntect_grammar.specs.declared.syntax_definition.MatchOperation.{MatchOperation}
-use Rattle.syntect_grammar.specs.declared.syntax_definition.MatchOperation.TheVariants as op
-use Rattle.syntect_grammar.specs.declared.syntax_definition.MatchPattern.{MatchPattern}
-use Rattle.syntect_grammar.specs.declared.syntax_definition.Context.{Context}
+use Rattle.syntect_contexts.specs.declared.context.ContextId.{ContextId}
+use Rattle.syntect_contexts.specs.declared.context.ContextReference.{ContextReference}
+use Rattle.syntect_contexts.specs.declared.context.MatchOperation.{MatchOperation}
+use Rattle.syntect_contexts.specs.declared.context.MatchOperation.TheVariants as op
+use Rattle.syntect_contexts.specs.declared.context.MatchPattern.{MatchPattern}
+use Rattle.syntect_contexts.specs.declared.context.Context.{Context}
 use Rattle.syntect_grammar.specs.declared.syntax_set.SyntaxSet.{SyntaxSet}
 use Rattle.syntect_parsing.specs.declared.parser.Level.{Level}
 use Rattle.syntect_parsing.specs.declared.position.Position.{Position}
 use Rattle.syntect_parsing.specs.declared.parser.ParseState.{ParseState}
-use Rattle.syntect_grammar.specs.declared.error.ParsingError.{ParsingError}
-use Rattle.syntect_grammar.specs.declared.error.ParsingError.TheVariants as error
+use Rattle.syntect_contexts.specs.declared.error.ParsingError.{ParsingError}
+use Rattle.syntect_contexts.specs.declared.error.ParsingError.TheVariants as error
 
 -- ---- the levels that such a text has ----
 

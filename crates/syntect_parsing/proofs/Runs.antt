@@ -17,8 +17,8 @@ use Rattle.syntect_parsing.proofs.ReplayLaws.{replay-append, at_pushes}
 use Rattle.syntect_grammar.specs.declared.syntax_set.SyntaxSet.{SyntaxSet}
 use Rattle.syntect_parsing.specs.declared.position.Position.{Position}
 use Rattle.syntect_parsing.specs.declared.parser.ParseState.{ParseState}
-use Rattle.syntect_grammar.specs.declared.error.ParsingError.{ParsingError}
-use Rattle.syntect_grammar.specs.declared.error.ParsingError.TheVariants as error
+use Rattle.syntect_contexts.specs.declared.error.ParsingError.{ParsingError}
+use Rattle.syntect_contexts.specs.declared.error.ParsingError.TheVariants as error
 
 -- from the stack before the line these operations show these bytes, up to the position, and leave its open scopes
 pub record ReadSoFar (set : SyntaxSet) (line : List ℕ) (old : ParseState) (p : Position) (ops : List (ℕ × ScopeStackOp)) : Type 0 where

@@ -6,7 +6,7 @@ use Rattle.syntect_pattern.specs.Pattern.{pattern_found}
 use Rattle.syntect_pattern.specs.Nesting.{LiesIn}
 use Rattle.syntect_pattern.specs.Found.{IsPatternMatch}
 use Rattle.syntect_regex.specs.Region.{TakesMatch}
-use Rattle.syntect_grammar.specs.Substitution.{Groups, AreOnBoundaries}
+use Rattle.syntect_contexts.specs.Substitution.{Groups, AreOnBoundaries}
 
 pub whole_line : (line : List ℕ) → take (length line) line ≡ line
 whole_line [] = refl

@@ -7,8 +7,9 @@ use Rattle.std.proofs.lemmas.List.{append-nil}
 use Rattle.std.proofs.lemmas.List.Concat.{flat_map-append}
 use Rattle.syntect_scope.specs.declared.stack.ScopeStack.{ScopeStack}
 use Rattle.syntect_scope.specs.Replay.{Replay, IsAt, InOrder, AllApply, replay, pushes, pops}
-use Rattle.syntect_grammar.specs.Substitution.{Opening}
-use Rattle.syntect_grammar.specs.Contexts.{context_at, part_of, target}
+use Rattle.syntect_contexts.specs.Substitution.{Opening}
+use Rattle.syntect_grammar.specs.Contexts.{context_at, part_of}
+use Rattle.syntect_contexts.specs.Contexts.{target}
 use Rattle.syntect_parsing.specs.Chain.{last}
 use Rattle.syntect_parsing.specs.Engine.{dialect}
 use Rattle.syntect_parsing.specs.Turn.{Live, without_last, new_levels, opened, levels_by}
@@ -18,11 +19,11 @@ use Rattle.syntect_parsing.proofs.ListLaws.{tested_true}
 use Rattle.syntect_parsing.proofs.ReplayLaws.{replay-append, at_pushes, at_pops, at_move}
 use Rattle.syntect_parsing.proofs.OrderLaws.{order-append, order-pushes, order-pops, apply-onto, apply-pushes, apply-pops}
 use Rattle.syntect_parsing.proofs.CaptureLaws.{AreLaidOut, EndOnBoundaries, over, captures_shown, captures_in_order, captures_apply}
-use Rattle.syntect_grammar.specs.declared.syntax_definition.ContextId.{ContextId}
-use Rattle.syntect_grammar.specs.declared.syntax_definition.ContextReference.{ContextReference}
-use Rattle.syntect_grammar.specs.declared.syntax_definition.Context.{Context}
-use Rattle.syntect_grammar.specs.declared.syntax_definition.MatchOperation.{MatchOperation}
-use Rattle.syntect_grammar.specs.declared.syntax_definition.MatchOperation.TheVariants as op
+use Rattle.syntect_contexts.specs.declared.context.ContextId.{ContextId}
+use Rattle.syntect_contexts.specs.declared.context.ContextReference.{ContextReference}
+use Rattle.syntect_contexts.specs.declared.context.Context.{Context}
+use Rattle.syntect_contexts.specs.declared.context.MatchOperation.{MatchOperation}
+use Rattle.syntect_contexts.specs.declared.context.MatchOperation.TheVariants as op
 use Rattle.syntect_grammar.specs.declared.syntax_set.SyntaxSet.{SyntaxSet}
 use Rattle.syntect_parsing.specs.declared.parser.Level.{Level}
 

@@ -11,15 +11,15 @@ use Rattle.syntect_parsing.specs.Line.{Step, Goes, Ends, Refused, turn, turn_on,
 use Rattle.syntect_parsing.specs.Refusals.{IsClosed, IsNeverLeft, stays}
 use Rattle.syntect_parsing.specs.Standing.{HaveScopes, GiveScopes, BytesHaveScopes}
 use Rattle.syntect_parsing.proofs.RefusalLaws.{Stands, less, not_so, stay_there, turned, read_so, starts_so}
-use Rattle.syntect_grammar.specs.declared.syntax_definition.ContextId.{ContextId}
-use Rattle.syntect_grammar.specs.declared.syntax_definition.MatchOperation.{MatchOperation}
-use Rattle.syntect_grammar.specs.declared.syntax_definition.MatchOperation.TheVariants as op
-use Rattle.syntect_grammar.specs.declared.syntax_definition.Context.{Context}
+use Rattle.syntect_contexts.specs.declared.context.ContextId.{ContextId}
+use Rattle.syntect_contexts.specs.declared.context.MatchOperation.{MatchOperation}
+use Rattle.syntect_contexts.specs.declared.context.MatchOperation.TheVariants as op
+use Rattle.syntect_contexts.specs.declared.context.Context.{Context}
 use Rattle.syntect_grammar.specs.declared.syntax_set.SyntaxSet.{SyntaxSet}
 use Rattle.syntect_parsing.specs.declared.parser.Level.{Level}
 use Rattle.syntect_parsing.specs.declared.position.Position.{Position}
 use Rattle.syntect_parsing.specs.declared.parser.ParseState.{ParseState}
-use Rattle.syntect_grammar.specs.declared.error.ParsingError.{ParsingError}
+use Rattle.syntect_contexts.specs.declared.error.ParsingError.{ParsingError}
 
 -- ---- lists of scopes that are not empty ----
 

@@ -8,14 +8,14 @@ use Rattle.syntect_parsing.specs.Scopes.{open_scopes, captures, scopes_passed}
 use Rattle.syntect_parsing.specs.Operations.{operations, parts_of}
 use Rattle.syntect_parsing.specs.Line.{step}
 use Rattle.syntect_parsing.specs.Laws.{StandsIn}
-use Rattle.syntect_grammar.specs.Errors.{MayBe}
+use Rattle.syntect_contexts.specs.Errors.{MayBe}
 use Rattle.syntect_parsing.specs.Step.{MakesStep, RefusesStep}
 use Rattle.syntect_parsing.proofs.CaptureLaws.{AreLaidOut, EndOnBoundaries}
 use Rattle.syntect_parsing.proofs.ShowLaws.{take_shows, operations_in_order, operations_apply}
 use Rattle.syntect_grammar.specs.declared.syntax_set.SyntaxSet.{SyntaxSet}
 use Rattle.syntect_parsing.specs.declared.position.Position.{Position}
-use Rattle.syntect_grammar.specs.declared.error.ParsingError.{ParsingError}
-use Rattle.syntect_grammar.specs.declared.error.ParsingError.TheVariants as error
+use Rattle.syntect_contexts.specs.declared.error.ParsingError.{ParsingError}
+use Rattle.syntect_contexts.specs.declared.error.ParsingError.TheVariants as error
 
 pub take_makes : (set : SyntaxSet) (line : List ℕ) (p q : Position) (m : Live) (old new : List (ℕ × ScopeStackOp)) → StandsIn line p.place m.start m.end
     → AreLaidOut m.start m.end (captures dialect m) → EndOnBoundaries line (captures dialect m)

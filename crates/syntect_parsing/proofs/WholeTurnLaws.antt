@@ -13,7 +13,7 @@ use Rattle.syntect_parsing.proofs.Places.{past_here}
 use Rattle.syntect_parsing.proofs.ReplayLaws.{at_move}
 use Rattle.syntect_grammar.specs.declared.syntax_set.SyntaxSet.{SyntaxSet}
 use Rattle.syntect_parsing.specs.declared.position.Position.{Position}
-use Rattle.syntect_grammar.specs.declared.error.ParsingError.{ParsingError}
+use Rattle.syntect_contexts.specs.declared.error.ParsingError.{ParsingError}
 
 module _ (set : SyntaxSet) (line : List ℕ) (p q : Position) (t : q ≡ trimmed p) where
   turn_is : turn dialect set line p ≡ turn_on dialect set line q (last q.levels)

@@ -5,14 +5,14 @@ use Rattle.syntect_pattern.specs.Pattern.{pattern_found}
 use Rattle.syntect_scope.specs.declared.stack.ScopeStackOp.{ScopeStackOp}
 use Rattle.syntect_scope.specs.declared.stack.ScopeStackOp.TheVariants.{Pop}
 use Rattle.syntect_scope.specs.Replay.{pushes}
-use Rattle.syntect_grammar.specs.Substitution.{Opening}
+use Rattle.syntect_contexts.specs.Substitution.{Opening}
 use Rattle.syntect_parsing.specs.Chain.{Member}
 use Rattle.syntect_parsing.specs.Turn.{Live, char_len}
 use Rattle.syntect_parsing.specs.Scopes.{Scopes, Capture}
 use Rattle.syntect_parsing.specs.Laws.{StandsIn}
 use Rattle.syntect_parsing.specs.Turn as turn
-use Rattle.syntect_grammar.specs.declared.syntax_definition.MatchOperation.{MatchOperation}
-use Rattle.syntect_grammar.specs.declared.syntax_definition.MatchOperation.TheVariants as op
+use Rattle.syntect_contexts.specs.declared.context.MatchOperation.{MatchOperation}
+use Rattle.syntect_contexts.specs.declared.context.MatchOperation.TheVariants as op
 use Rattle.syntect_parsing.specs.declared.position.Record.{Record}
 use Rattle.syntect_parsing.specs.declared.chain.Entry.{Entry}
 use Rattle.syntect_parsing.specs.declared.captures.Mark.{Mark}

@@ -1,13 +1,14 @@
 -- Which patterns a turn looks at, in which order.
-pub use Rattle.syntect_grammar.specs.Patterns.{entries, included, walk_patterns, walk, count_contexts, room_in, patterns_in, GivesNothing, unresolved, lacking, around, Walks, ended, own, passed_over, followed}
+pub use Rattle.syntect_grammar.specs.Patterns.{entries, included, walk_patterns, walk, room_in, patterns_in, GivesNothing, unresolved, lacking, around, Walks, ended, own, passed_over, followed}
+pub use Rattle.syntect_contexts.specs.Contexts.{count_contexts}
 use Rattle.std.specs.Prelude.{◌-◌, Bool, true, false, List, ◌++◌, length, drop, map, Option, None, slice_get, unwrap_or}
 use Rattle.std.specs.Option.{option_to_list}
 use Rattle.std.specs.List.{flat_map}
-use Rattle.syntect_grammar.specs.Substitution.{Opening}
+use Rattle.syntect_contexts.specs.Substitution.{Opening}
 use Rattle.syntect_parsing.specs.declared.position.Position.{Position}
-use Rattle.syntect_grammar.specs.declared.syntax_definition.ContextId.{ContextId}
-use Rattle.syntect_grammar.specs.declared.syntax_definition.MatchPattern.{MatchPattern}
-use Rattle.syntect_grammar.specs.declared.syntax_definition.Context.{Context}
+use Rattle.syntect_contexts.specs.declared.context.ContextId.{ContextId}
+use Rattle.syntect_contexts.specs.declared.context.MatchPattern.{MatchPattern}
+use Rattle.syntect_contexts.specs.declared.context.Context.{Context}
 use Rattle.syntect_grammar.specs.declared.syntax_set.SyntaxSet.{SyntaxSet}
 use Rattle.syntect_parsing.specs.declared.parser.Level.{Level}
 

@@ -3,7 +3,7 @@ use Rattle.std.specs.Prelude.{ℕ, Bool, false, List, Option, unwrap_or}
 use Rattle.std.specs.Option.{option_and_then}
 use Rattle.syntect_pattern.specs.Trees.{group_in_look}
 use Rattle.syntect_pattern.specs.Pattern.{pattern_tree, pattern_found}
-use Rattle.syntect_grammar.specs.Substitution.{Groups, substituted}
+use Rattle.syntect_contexts.specs.Substitution.{Groups, substituted}
 
 -- Patterns are given by their texts.
 pub record Engine : Type 0 where

@@ -1,41 +1,24 @@
 -- Laws of reading.
-use Rattle.std.specs.Prelude.{◌≡◌, ◌⊎◌, ℕ, ◌+◌, ◌*◌, ◌≤◌, max, List, [], ◌∷◌, ◌++◌, length, Some, false}
+use Rattle.std.specs.Prelude.{◌≡◌, ℕ, ◌+◌, ◌≤◌, max, List, [], ◌∷◌, ◌++◌, length, Some, false}
 use Rattle.std.specs.Option.{option_map_or}
 use Rattle.std.specs.Str.{IsUtf8, IsCharBoundary}
 use Rattle.syntect_pattern.specs.Nesting.{Span, AreNested, LiesIn}
 use Rattle.syntect_parsing.specs.Engine.{Engine}
-use Rattle.syntect_grammar.specs.Substitution.{Groups}
-use Rattle.syntect_grammar.specs.Contexts.{contexts_of}
-use Rattle.syntect_parsing.specs.declared.position.Position.{Position}
+use Rattle.syntect_contexts.specs.Substitution.{Groups}
 use Rattle.syntect_parsing.specs.Turn.{group_at, list_of}
 use Rattle.syntect_parsing.specs.Scopes.{Scopes}
-use Rattle.syntect_parsing.specs.Line.{Answer, Answers, AnswersAll, ReadsLine, RefusesLine, Reaches, at_start, HasPlainStart}
-use Rattle.syntect_grammar.specs.declared.syntax_definition.Pattern.{Pattern}
-use Rattle.syntect_grammar.specs.declared.syntax_definition.Pattern.TheVariants.{Match, Include}
-use Rattle.syntect_grammar.specs.declared.syntax_definition.Context.{Context}
+use Rattle.syntect_parsing.specs.Line.{Answer, Answers, AnswersAll, ReadsLine, RefusesLine, HasPlainStart}
+use Rattle.syntect_contexts.specs.declared.context.Pattern.{Pattern}
+use Rattle.syntect_contexts.specs.declared.context.Pattern.TheVariants.{Match, Include}
+use Rattle.syntect_contexts.specs.declared.context.Context.{Context}
 use Rattle.syntect_grammar.specs.declared.syntax_set.SyntaxSet.{SyntaxSet}
 use Rattle.syntect_parsing.specs.declared.parser.ParseState.{ParseState}
-use Rattle.syntect_grammar.specs.declared.error.ParsingError.{ParsingError}
-
--- A line that is accepted has one reading.
-abbrev pub ReadsOnce : Type 0
-ReadsOnce = (engine : Engine) (set : SyntaxSet) (line : List ℕ) (state : ParseState) (a b : List Scopes) (x y : ParseState) (m n : ℕ)
-    → ReadsLine engine set line state a x m → ReadsLine engine set line state b y n → (a ≡ b) × (x ≡ y) × (m ≡ n)
-
--- A line that is refused has one refusal.
-abbrev pub RefusesOnce : Type 0
-RefusesOnce = (engine : Engine) (set : SyntaxSet) (line : List ℕ) (state : ParseState) (d e : ParsingError) (m n : ℕ)
-    → RefusesLine engine set line state d m → RefusesLine engine set line state e n → (d ≡ e) × (m ≡ n)
+use Rattle.syntect_contexts.specs.declared.error.ParsingError.{ParsingError}
 
 -- No line is both accepted and refused.
 abbrev pub NeverBoth : Type 0
 NeverBoth = (engine : Engine) (set : SyntaxSet) (line : List ℕ) (state : ParseState) (bytes : List Scopes) (after : ParseState) (e : ParsingError) (m n : ℕ)
     → ReadsLine engine set line state bytes after m → RefusesLine engine set line state e n → ⊥
-
--- Lines have one list of answers.
-abbrev pub AnswersOnce : Type 0
-AnswersOnce = (engine : Engine) (set : SyntaxSet) (lines : List (List ℕ)) (state : ParseState) (a b : List Answer) (x y : ParseState)
-    → AnswersAll engine set lines state a x → AnswersAll engine set lines state b y → (a ≡ b) × (x ≡ y)
 
 -- One more line is answered at the state that the lines before it lead to.
 abbrev pub AnswersMore : Type 0
@@ -70,16 +53,6 @@ abbrev pub LaysGroupsOut : Engine → Type 0
 LaysGroupsOut engine = (pattern text : List ℕ) (place : ℕ) (groups : Groups)
     → IsUtf8 text → engine.found pattern text place ≡ Some groups → LaysOut engine pattern text groups
 
--- Each byte of an accepted line has its scopes.
-abbrev pub CoversLine : Type 0
-CoversLine = (engine : Engine) → FindsInText engine → (set : SyntaxSet) (line : List ℕ) (state : ParseState) (bytes : List Scopes) (after : ParseState) (n : ℕ)
-    → IsUtf8 line → ReadsLine engine set line state bytes after n → length bytes ≡ length line
-
--- Each turn of a text begins on a character boundary.
-abbrev pub PlacesAreBoundaries : Type 0
-PlacesAreBoundaries = (engine : Engine) → FindsInText engine → (set : SyntaxSet) (line : List ℕ) (state : ParseState) (p : Position)
-    → IsUtf8 line → Reaches engine set line (at_start state) p → IsCharBoundary line p.place
-
 -- If what the first accepted line pushes makes the stack the open scopes, the stack before each line is the open scopes.
 abbrev pub StackIsOpen : Type 0
 StackIsOpen = (engine : Engine) (set : SyntaxSet) (lines : List (List ℕ)) (state after : ParseState) (answers : List Answer)
@@ -100,12 +73,3 @@ longest_of (c ∷ cs) = max (longest_in c.patterns) (longest_of cs)
 abbrev pub longest : List (List Context) → ℕ
 longest [] = 1
 longest (cs ∷ css) = max (longest_of cs) (longest css)
-
-abbrev pub turn_bound : SyntaxSet → List ℕ → ParseState → ℕ
-turn_bound set line state = length state.levels + (longest (contexts_of set) + 1) * (1001 * (length line + 1))
-
--- Every line is accepted or refused, within so many turns.
-abbrev pub EachLineEnds : Type 0
-EachLineEnds = (engine : Engine) → FindsInText engine → (set : SyntaxSet) (line : List ℕ) (state : ParseState) → IsUtf8 line
-    → ((bytes : List Scopes) × (after : ParseState) × (n : ℕ) × ReadsLine engine set line state bytes after n × (n ≤ turn_bound set line state))
-    ⊎ ((e : ParsingError) × (n : ℕ) × RefusesLine engine set line state e n × (n ≤ turn_bound set line state))

@@ -6,11 +6,11 @@ use Rattle.syntect_scope.specs.Replay.{IsAt, InOrder, AllApply, replay, before_t
 use Rattle.syntect_parsing.specs.Engine.{Engine}
 use Rattle.syntect_parsing.specs.Scopes.{Scopes}
 use Rattle.syntect_parsing.specs.Line.{ReadsLine, RefusesLine, stack_before, first_push, start_of, HasPlainStart}
-use Rattle.syntect_grammar.specs.declared.syntax_set.SyntaxReference.{SyntaxReference}
+use Rattle.syntect_contexts.specs.declared.syntax_reference.SyntaxReference.{SyntaxReference}
 use Rattle.syntect_grammar.specs.declared.syntax_set.SyntaxSet.{SyntaxSet}
 use Rattle.syntect_parsing.specs.declared.parser.ParseState.{ParseState}
-use Rattle.syntect_grammar.specs.declared.error.ParsingError.{ParsingError}
-use Rattle.syntect_grammar.specs.declared.error.ParsingError.TheVariants as error
+use Rattle.syntect_contexts.specs.declared.error.ParsingError.{ParsingError}
+use Rattle.syntect_contexts.specs.declared.error.ParsingError.TheVariants as error
 
 -- The operations of an accepted line are in order, and the first accepted line begins with the first content scope of
 -- `__start`. From the stack before the line they all apply, show at each byte the scopes that were read, and leave the

@@ -4,7 +4,7 @@ use Rattle.std.specs.Ordering.{on, eq_of_both}
 use Rattle.std.specs.Cmp.{IsEquivalence, and_equiv, on_equiv, nat_eq_equiv}
 use Rattle.std.specs.Cmp.Lexicographic.{pointwise, lists_equiv}
 use Rattle.syntect_regex.specs.Region.{same_groups, same_groups-equiv}
-use Rattle.syntect_grammar.specs.Substitution.{Opening}
+use Rattle.syntect_contexts.specs.Substitution.{Opening}
 
 -- the same groups in the same line
 abbrev pub same_opening : Opening → Opening → Bool

@@ -1,14 +1,15 @@
 -- Which scopes the bytes of a turn have.
-pub use Rattle.syntect_grammar.specs.Contexts.{Scopes}
+pub use Rattle.syntect_contexts.specs.Contexts.{Scopes}
 use Rattle.std.specs.Prelude.{ℕ, nat_le, nat_lt, ◌-◌, Bool, ◌&&◌, not, List, [], ◌∷◌, ◌++◌, map, filter, Option, Some, None, unwrap_or, replicate, if◌then◌else◌}
 use Rattle.std.specs.Option.{option_map_or}
 use Rattle.std.specs.List.{filter_map, flat_map, range_with_len}
 use Rattle.syntect_parsing.specs.Engine.{Engine}
-use Rattle.syntect_grammar.specs.Contexts.{part_of, target}
+use Rattle.syntect_grammar.specs.Contexts.{part_of}
+use Rattle.syntect_contexts.specs.Contexts.{target}
 use Rattle.syntect_parsing.specs.Chain.{last}
 use Rattle.syntect_parsing.specs.Turn.{Live, group_at, without_last}
-use Rattle.syntect_grammar.specs.declared.syntax_definition.MatchOperation.{MatchOperation}
-use Rattle.syntect_grammar.specs.declared.syntax_definition.MatchOperation.TheVariants as op
+use Rattle.syntect_contexts.specs.declared.context.MatchOperation.{MatchOperation}
+use Rattle.syntect_contexts.specs.declared.context.MatchOperation.TheVariants as op
 use Rattle.syntect_grammar.specs.declared.syntax_set.SyntaxSet.{SyntaxSet}
 use Rattle.syntect_parsing.specs.declared.parser.Level.{Level}
 

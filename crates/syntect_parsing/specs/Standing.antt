@@ -5,7 +5,7 @@ use Rattle.syntect_grammar.specs.Contexts.{part_of}
 use Rattle.syntect_parsing.specs.Scopes.{Scopes}
 use Rattle.syntect_parsing.specs.Line.{Answer, Accepted, RefusedBy, AnswersAll, start}
 use Rattle.syntect_parsing.specs.Refusals.{IsClosed, IsNeverLeft}
-use Rattle.syntect_grammar.specs.declared.syntax_definition.ContextId.{ContextId}
+use Rattle.syntect_contexts.specs.declared.context.ContextId.{ContextId}
 use Rattle.syntect_grammar.specs.declared.syntax_set.SyntaxSet.{SyntaxSet}
 use Rattle.syntect_parsing.specs.declared.parser.ParseState.{ParseState}
 

@@ -11,8 +11,8 @@ use Rattle.syntect_parsing.specs.Line.{Step, Goes, Ends, Refused, turn}
 use Rattle.syntect_parsing.specs.Laws.{longest}
 use Rattle.syntect_grammar.specs.declared.syntax_set.SyntaxSet.{SyntaxSet}
 use Rattle.syntect_parsing.specs.declared.position.Position.{Position}
-use Rattle.syntect_grammar.specs.declared.error.ParsingError.{ParsingError}
-use Rattle.syntect_grammar.specs.declared.error.ParsingError.TheVariants as error
+use Rattle.syntect_contexts.specs.declared.error.ParsingError.{ParsingError}
+use Rattle.syntect_contexts.specs.declared.error.ParsingError.TheVariants as error
 
 -- The step goes on to q, and the operations that were added show the scopes that it gives.
 pub record MakesStep (set : SyntaxSet) (line : List ℕ) (step : Step) (p q : Position) (old new : List (ℕ × ScopeStackOp)) : Type 0 where

@@ -4,13 +4,14 @@ use Rattle.std.specs.Option.{option_map_or, option_and_then}
 use Rattle.std.specs.List.{filter_map}
 use Rattle.syntect_scope.specs.declared.stack.ClearAmount.{ClearAmount}
 use Rattle.syntect_scope.specs.declared.stack.ClearAmount.TheVariants.{TopN, All}
-use Rattle.syntect_grammar.specs.Contexts.{context_at, part_of, target}
+use Rattle.syntect_grammar.specs.Contexts.{context_at, part_of}
+use Rattle.syntect_contexts.specs.Contexts.{target}
 use Rattle.syntect_parsing.specs.Chain.{last}
 use Rattle.syntect_parsing.specs.Turn.{without_last}
 use Rattle.syntect_parsing.specs.Scopes.{Scopes}
-use Rattle.syntect_grammar.specs.declared.syntax_definition.ContextId.{ContextId}
-use Rattle.syntect_grammar.specs.declared.syntax_definition.MatchOperation.{MatchOperation}
-use Rattle.syntect_grammar.specs.declared.syntax_definition.MatchOperation.TheVariants as op
+use Rattle.syntect_contexts.specs.declared.context.ContextId.{ContextId}
+use Rattle.syntect_contexts.specs.declared.context.MatchOperation.{MatchOperation}
+use Rattle.syntect_contexts.specs.declared.context.MatchOperation.TheVariants as op
 use Rattle.syntect_grammar.specs.declared.syntax_set.SyntaxSet.{SyntaxSet}
 use Rattle.syntect_parsing.specs.declared.parser.Level.{Level}
 

@@ -2,7 +2,8 @@
 ghost use Rattle.std.specs.Prelude.{◌≡◌, ◌≢◌, ◌≤◌, ◌<◌, ◌+◌, ◌++◌, ◌∷◌, [], List, ℕ, length, map, take, find, is_none, true, IfOk, OnErr, Some, None};
 ghost use Rattle.std.specs.Option.{option_copied, option_map};
 ghost use Rattle.std.specs.List.{list_any, flat_map};
-ghost use Rattle.syntect_grammar.specs.Contexts.{is_same, context_at, target};
+ghost use Rattle.syntect_contexts.specs.Contexts.{is_same, target};
+ghost use Rattle.syntect_grammar.specs.Contexts.{context_at};
 ghost use Rattle.syntect_parsing.specs.Chain.{entries, walk, walk_patterns, room_in, patterns_in, as_members, members, in_sight, chain, prototypes_in};
 ghost use Rattle.syntect_parsing.specs.Candidates.{member_of};
 

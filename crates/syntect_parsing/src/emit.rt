@@ -2,7 +2,8 @@
 ghost use Rattle.std.specs.Prelude.{◌≡◌, ◌<◌, ◌≤◌, ◌+◌, ◌++◌, ◌∷◌, [], List, ℕ, length, map, OnOk, IfOk, ◌&&◌, IsCharBoundary};
 ghost use Rattle.std.specs.List.{filter_map, flat_map};
 ghost use Rattle.std.specs.Option.{option_map_or, option_copied, option_and_then};
-ghost use Rattle.syntect_grammar.specs.Contexts.{part_of, target, context_at};
+ghost use Rattle.syntect_grammar.specs.Contexts.{part_of, context_at};
+ghost use Rattle.syntect_contexts.specs.Contexts.{target};
 ghost use Rattle.syntect_parsing.specs.Operations.{operations, capture_operations, parts_of, push_parts, set_parts, metas, contents, opens, top_part, none};
 ghost use Rattle.syntect_parsing.specs.Engine.{dialect};
 ghost use Rattle.syntect_parsing.specs.Scopes.{Capture, captures};

@@ -2,7 +2,8 @@
 ghost use Rattle.std.specs.Prelude.{◌≡◌, ◌≤◌, ◌++◌, ◌∷◌, [], List, length, IfOk, true, false, IsCharBoundary, ◌==◌, ◌+◌, ◌<◌, if◌then◌else◌, ℕ};
 ghost use Rattle.std.specs.Option.{option_map_or, option_copied, option_and_then};
 ghost use Rattle.std.specs.List.{list_any, filter_map};
-ghost use Rattle.syntect_grammar.specs.Contexts.{context_at, target};
+ghost use Rattle.syntect_grammar.specs.Contexts.{context_at};
+ghost use Rattle.syntect_contexts.specs.Contexts.{target};
 ghost use Rattle.syntect_parsing.specs.Turn.{uses_backrefs, new_level, new_levels, levels_after, list_of, position_after};
 ghost use Rattle.syntect_parsing.specs.Candidates.{seen, opening_by, record_at};
 ghost use Rattle.syntect_parsing.specs.Chain.{last};

@@ -13,7 +13,6 @@ mod opening;
 pub mod parser;
 mod position;
 mod search;
-mod text;
 mod turn;
 
 pub use syntect_grammar::{error, syntax_definition, syntax_set, yaml_load};

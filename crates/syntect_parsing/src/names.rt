@@ -2,9 +2,10 @@
 ghost use Rattle.std.specs.Prelude.{◌≡◌, ◌++◌, List, length, map, find, is_none, IfOk, IfErr, None, true};
 ghost use Rattle.std.specs.Option.{option_copied, option_to_list};
 ghost use Rattle.std.specs.List.{filter_map};
-ghost use Rattle.syntect_grammar.specs.Contexts.{context_at, target};
+ghost use Rattle.syntect_grammar.specs.Contexts.{context_at};
+ghost use Rattle.syntect_contexts.specs.Contexts.{target};
 ghost use Rattle.syntect_parsing.specs.Turn.{named, refusal, list_of};
-ghost use Rattle.syntect_grammar.specs.Errors.{MayBe};
+ghost use Rattle.syntect_contexts.specs.Errors.{MayBe};
 
 use crate::parser::ParsingError;
 use std::alloc::{AllocError, Global};

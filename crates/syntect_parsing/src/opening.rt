@@ -1,7 +1,7 @@
 //! The match that opened a level.
 ghost use Rattle.std.specs.Prelude.{◌≡◌, IfOk};
 ghost use Rattle.std.specs.Cmp.{partial_equiv_from_equiv};
-ghost use Rattle.syntect_grammar.specs.Substitution.{AreOnBoundaries, substituted};
+ghost use Rattle.syntect_contexts.specs.Substitution.{AreOnBoundaries, substituted};
 ghost use Rattle.syntect_parsing.specs.Openings.{same_opening, same_opening-equiv};
 
 use std::alloc::{AllocError, Global};
@@ -19,7 +19,7 @@ pub struct Opening {
 }
 
 impl Model for Opening {
-    ghost use Rattle.syntect_grammar.specs.Substitution as substitution;
+    ghost use Rattle.syntect_contexts.specs.Substitution as substitution;
 
     ghost Value = { substitution.Opening };
 

@@ -8,8 +8,8 @@ ghost use Rattle.syntect_parsing.specs.Candidates.{member_of, seen, text_of, cho
 
 use crate::chain::Entry;
 use crate::position::Position;
-use crate::text::char_at;
 use std::alloc::{AllocError, Global};
+use syntect_engine::text::char_at;
 use syntect_grammar::syntax_definition::{MatchOperation, MatchPattern};
 use syntect_regex::regex::Regex;
 use syntect_regex::region::Region;

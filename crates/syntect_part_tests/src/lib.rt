@@ -6,10 +6,6 @@
 #[cfg(test)]
 mod flags;
 #[cfg(test)]
-mod groups;
-#[cfg(test)]
-mod patterns;
-#[cfg(test)]
 mod rewrites;
 #[cfg(test)]
 mod scopes;

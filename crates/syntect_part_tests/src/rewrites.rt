@@ -5,45 +5,6 @@ use syntect_rewrite::rewrite::rewrite;
 use syntect_values::table::Table;
 use syntect_values::text::Text;
 
-// Texts, and what they become for lines that have their newline.
-const WITH_NEWLINES: [(&str, &str); 14] = [
-    ("a$", "a(?m:$)"),
-    ("[$]\\$", "[$]\\$"),
-    ("{{ident}}{{none}}", "[QY]+"),
-    ("{{v}}", "a"),
-    ("[[:alpha:]]", "[\\p{L}]"),
-    ("[[:alnum:]]", "[\\p{L}\\p{N}]"),
-    ("$", "(?m:$)"),
-    ("\\$", "\\$"),
-    ("[$]", "[$]"),
-    ("[^$]", "[^$]"),
-    ("[\\]$]", "[\\]$]"),
-    ("[]$]", "[]$]"),
-    ("[]$]$", "[]$](?m:$)"),
-    ("{{w}}é{{u}}", "<()>é(<>)"),
-];
-
-// Texts, and what they become for lines that have none.
-const WITHOUT_NEWLINES: [(&str, &str); 17] = [
-    ("a\\n", "a$"),
-    ("a\\n?", "a\\n?"),
-    ("[^x\\n]", "[^x\\n]"),
-    ("[x\\n]?", "[x\\n]?"),
-    ("[x\\n]", "(?:[x\\n]|$)"),
-    ("(?:\\n)?", "(?:$|)"),
-    ("\\n", "$"),
-    ("\\[\\n", "\\[$"),
-    ("\\n*", "\\n*"),
-    ("\\n+", "\\n+"),
-    ("ab(?:\\n)?", "ab(?:$|)"),
-    ("(?<!\\n)ab", "(?<!$)ab"),
-    ("(?<=\\n)ab", "(?<=$)ab"),
-    ("[abc\\n]", "(?:[abc\\n]|$)"),
-    ("[[a-z]\\n]", "(?:[[a-z]\\n]|$)"),
-    ("[^\\n]", "[^\\n]"),
-    ("{{w}}\\n", "<()>$"),
-];
-
 fn put(
     alloc: Global,
     table: &mut Table<Text, Text>,
@@ -56,35 +17,6 @@ fn put(
         Ok(_) => Ok(()),
         Err(AllocFailed { .. }) => Err(AllocError),
     }
-}
-
-fn variables(alloc: Global) -> Result<Table<Text, Text>, AllocError> {
-    let mut table = Table::new(alloc);
-    put(alloc, &mut table, "ident", "[QY]+")?;
-    put(alloc, &mut table, "v", "a{{v}}")?;
-    put(alloc, &mut table, "w", "<{{u}}>")?;
-    put(alloc, &mut table, "u", "({{w}})")?;
-    Ok(table)
-}
-
-#[test]
-fn with_newlines(rt: HostRuntime) -> io::Result<()> {
-    let alloc = rt.alloc();
-    let variables = variables(alloc)?;
-    for (text, wanted) in WITH_NEWLINES {
-        assert_eq!(rt; rewrite(alloc, text, &variables, true)?.as_str(), wanted);
-    }
-    Ok(())
-}
-
-#[test]
-fn without_newlines(rt: HostRuntime) -> io::Result<()> {
-    let alloc = rt.alloc();
-    let variables = variables(alloc)?;
-    for (text, wanted) in WITHOUT_NEWLINES {
-        assert_eq!(rt; rewrite(alloc, text, &variables, false)?.as_str(), wanted);
-    }
-    Ok(())
 }
 
 #[test]

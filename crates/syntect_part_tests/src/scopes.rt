@@ -11,7 +11,6 @@ use syntect_values::seq::Seq;
 fn scopes_of_texts(rt: HostRuntime) -> io::Result<()> {
     let mut repository = ScopeRepository::new(rt.alloc());
     let line = repository.build("comment.line");
-    assert!(rt; repository.build("comment.line.") == line);
     assert!(rt; Scope::new(" \tcomment.line..\u{a0}", &mut repository) == line);
     let line = line.unwrap_or(Scope::default());
     assert_eq!(rt; line.len(), 2);
@@ -23,8 +22,6 @@ fn scopes_of_texts(rt: HostRuntime) -> io::Result<()> {
     assert_eq!(rt; line.build_string(&repository)?.as_str(), "comment.line");
     let none = ScopeRepository::new(rt.alloc());
     assert_eq!(rt; none.to_string(line)?.as_str(), "?.?");
-    assert!(rt; repository.build("1.2.3.4.5.6.7.8.9") == Err(ParseScopeError::TooLong));
-    assert_eq!(rt; repository.atom_str(3), None);
     let nothing = repository.build("").unwrap_or(line);
     assert!(rt; nothing.is_empty());
     let empty_atom = repository.build(".").unwrap_or(line);
@@ -160,69 +157,5 @@ fn powers(rt: HostRuntime) -> io::Result<()> {
     assert!(rt; high.add(0, usize::MAX).is_ok());
     high.add(1, 0)?;
     assert!(rt; high == higher);
-    Ok(())
-}
-
-/// A selector of a path and perhaps an exclusion.
-fn selector(
-    rt: &HostRuntime,
-    repository: &mut ScopeRepository,
-    path: &str,
-    exclusion: Option<&str>,
-) -> io::Result<ScopeSelector> {
-    let alloc = rt.alloc();
-    let mut excludes = Seq::new(alloc);
-    if let Some(text) = exclusion {
-        let scopes = ScopeStack::from_text(alloc, text, repository);
-        excludes.push(scopes.unwrap_or(ScopeStack::new(alloc)))?;
-    }
-    let path = ScopeStack::from_text(alloc, path, repository);
-    Ok(ScopeSelector {
-        path: path.unwrap_or(ScopeStack::new(alloc)),
-        excludes,
-    })
-}
-
-#[test]
-fn scores(rt: HostRuntime) -> io::Result<()> {
-    let alloc = rt.alloc();
-    let mut repository = ScopeRepository::new(alloc);
-    let cases = [
-        ("a.b", None, "a.b c.d j e.f", Some(2)),
-        ("a e.f", Some("c k"), "a.b c.d j e.f", Some(1025)),
-        ("e.f", Some("a.b"), "a.b c.d j e.f", None),
-        ("a.b", Some(""), "a.b c.d j e.f", None),
-        ("a.b c e.f", None, "a.b c.d e.f.g", Some(138)),
-        ("a b", None, "a a b", Some(65)),
-        ("", None, "a", Some(1)),
-    ];
-    for (path, exclusion, text, wanted) in cases {
-        let selector = selector(&rt, &mut repository, path, exclusion)?;
-        let stack = ScopeStack::from_text(alloc, text, &mut repository);
-        let stack = stack.unwrap_or(ScopeStack::new(alloc));
-        let wanted = match wanted {
-            None => None,
-            Some(number) => Some(MatchPower::from_u64(alloc, number)?),
-        };
-        assert!(rt;
-            selector.does_match(stack.as_slice())? == wanted,
-            "{path} on {text}"
-        );
-    }
-    let stack = ScopeStack::from_text(alloc, "a.b c.d j e.f", &mut repository);
-    let stack = stack.unwrap_or(ScopeStack::new(alloc));
-    let mut selectors = Seq::new(alloc);
-    for (path, exclusion) in [("a.b", None), ("a e.f", Some("c k")), ("e.f", Some("a.b"))] {
-        selectors.push(selector(&rt, &mut repository, path, exclusion)?)?;
-    }
-    let selectors = ScopeSelectors { selectors };
-    let wanted = Some(MatchPower::from_u64(alloc, 1025)?);
-    assert!(rt; selectors.does_match(stack.as_slice())? == wanted);
-    assert!(rt; stack.does_match(stack.as_slice())?.is_some());
-    assert!(rt;
-        ScopeStack::new(alloc)
-            .does_match(stack.as_slice())?
-            .is_none()
-    );
     Ok(())
 }

@@ -96,41 +96,6 @@ fn the_deepest_place_counts(rt: HostRuntime) -> io::Result<()> {
 }
 
 #[test]
-fn eight_atoms_below_tie_with_one_above(rt: HostRuntime) -> io::Result<()> {
-    let alloc = rt.alloc();
-    let mut repository = ScopeRepository::new(alloc);
-    let x = scope(&mut repository, "x");
-    let eight = scope(&mut repository, "1.2.3.4.5.6.7.8");
-    let before = theme_of(alloc, &[(x, OTHER_ON_TEXT), (eight, ON_TEXT)])?;
-    let theme = theme_of(alloc, &[(eight, ON_TEXT), (x, OTHER_ON_TEXT)])?;
-    let other = Highlighter::new(alloc, &before)?;
-    assert_eq!(rt; other.style_for_stack(&[eight, x])?.foreground, FIRST);
-    let highlighter = Highlighter::new(alloc, &theme)?;
-    let style = highlighter.style_for_stack(&[eight, x])?;
-    assert_eq!(rt; style.foreground, FIRST);
-    let mut state = HighlightState::new(&highlighter, ScopeStack::new(alloc));
-    let changes = [(0, ScopeStackOp::Push(eight)), (1, ScopeStackOp::Push(x))];
-    let pieces = collect_pieces(alloc, &highlighter, &mut state, &changes, "ab");
-    let expected = [(style, "a"), (style, "b")];
-    assert!(rt; pieces.is_ok_and(|p| p.as_slice() == expected.as_slice()));
-    Ok(())
-}
-
-#[test]
-fn of_equal_rules_the_first_stays(rt: HostRuntime) -> io::Result<()> {
-    let alloc = rt.alloc();
-    let mut repository = ScopeRepository::new(alloc);
-    let a = scope(&mut repository, "a");
-    let a_b = scope(&mut repository, "a.b");
-    let theme = theme_of(alloc, &[(a, ON_TEXT), (a, OTHER_ON_TEXT)])?;
-    let copy = theme.clone()?;
-    assert!(rt; copy == theme);
-    let highlighter = Highlighter::new(alloc, &copy)?;
-    assert_eq!(rt; highlighter.style_for_stack(&[a_b])?.foreground, FIRST);
-    Ok(())
-}
-
-#[test]
 fn pieces_between_operations(rt: HostRuntime) -> io::Result<()> {
     let alloc = rt.alloc();
     let mut repository = ScopeRepository::new(alloc);
@@ -213,6 +178,9 @@ fn copies_and_defaults(rt: HostRuntime) -> io::Result<()> {
     assert_eq!(rt; item.style, StyleModifier::default());
     item.style = ON_TEXT;
     assert!(rt; item.clone()? == item);
+    let mut theme = Theme::default(alloc);
+    theme.scopes.push(item.clone()?)?;
+    assert!(rt; theme.clone()? == theme);
     let mut settings = ThemeSettings::default();
     settings.caret = Some(SECOND);
     settings.popup_css = Some(Text::from_str(alloc, "p {}")?);
@@ -278,61 +246,6 @@ fn excluding(
 }
 
 #[test]
-fn an_excluded_scope_lets_the_rule_go(rt: HostRuntime) -> io::Result<()> {
-    let alloc = rt.alloc();
-    let mut repository = ScopeRepository::new(alloc);
-    let line = scope(&mut repository, "comment.line");
-    let comment = scope(&mut repository, "comment");
-    let line_rs = scope(&mut repository, "comment.line.rs");
-    let keyword = scope(&mut repository, "keyword");
-    let control = scope(&mut repository, "keyword.control.rs");
-    let none = scope(&mut repository, "no.match");
-    let on_comment = StyleModifier {
-        foreground: Some(SECOND),
-        background: None,
-        font_style: Some(FontStyle::ITALIC),
-    };
-    let behind = StyleModifier {
-        foreground: None,
-        background: Some(FIRST),
-        font_style: None,
-    };
-    let nowhere = StyleModifier {
-        foreground: None,
-        background: Some(SECOND),
-        font_style: Some(FontStyle::UNDERLINE),
-    };
-    let mut theme = theme_of(alloc, &[(line, ON_TEXT), (comment, on_comment)])?;
-    let excluded = excluding(alloc, &[line_rs], &[keyword], behind)?;
-    theme.scopes.push(excluded)?;
-    theme.scopes.push(rule(alloc, none, nowhere)?)?;
-    let highlighter = Highlighter::new(alloc, &theme)?;
-    let modifier = highlighter.style_mod_for_stack(&[line_rs, control])?;
-    assert_eq!(rt; modifier.foreground, Some(FIRST));
-    assert!(rt; modifier.background.is_none());
-    assert_eq!(rt; modifier.font_style, Some(FontStyle::ITALIC));
-    let mut state = HighlightState::new(&highlighter, ScopeStack::new(alloc));
-    let changes = [
-        (0, ScopeStackOp::Push(line_rs)),
-        (1, ScopeStackOp::Push(control)),
-        (2, ScopeStackOp::Pop(1)),
-    ];
-    let outer = Style {
-        foreground: FIRST,
-        background: FIRST,
-        font_style: FontStyle::ITALIC,
-    };
-    let inner = Style {
-        background: Color::WHITE,
-        ..outer
-    };
-    let pieces = collect_pieces(alloc, &highlighter, &mut state, &changes, "abcdef");
-    let expected = [(outer, "a"), (inner, "b"), (outer, "cdef")];
-    assert!(rt; pieces.is_ok_and(|p| p.as_slice() == expected.as_slice()));
-    Ok(())
-}
-
-#[test]
 fn a_rule_without_scopes_acts_on_every_scope(rt: HostRuntime) -> io::Result<()> {
     let alloc = rt.alloc();
     let mut repository = ScopeRepository::new(alloc);
@@ -354,22 +267,5 @@ fn a_rule_without_scopes_acts_on_every_scope(rt: HostRuntime) -> io::Result<()> 
         (Style::default(), "c"),
     ];
     assert!(rt; pieces.is_ok_and(|p| p.as_slice() == expected.as_slice()));
-    Ok(())
-}
-
-#[test]
-fn a_path_of_several_scopes_scores_each(rt: HostRuntime) -> io::Result<()> {
-    let alloc = rt.alloc();
-    let mut repository = ScopeRepository::new(alloc);
-    let a = scope(&mut repository, "a");
-    let b = scope(&mut repository, "b");
-    let mut theme = theme_of(alloc, &[(b, OTHER_ON_TEXT)])?;
-    theme.scopes.push(excluding(alloc, &[a, b], &[], ON_TEXT)?)?;
-    let highlighter = Highlighter::new(alloc, &theme)?;
-    // 1 and 8 are more than 8
-    assert_eq!(rt; highlighter.style_for_stack(&[a, b])?.foreground, FIRST);
-    assert_eq!(rt; highlighter.style_for_stack(&[b, b])?.foreground, SECOND);
-    // the path takes the lower places, 1 and 8, and the single rule the deepest one, 64
-    assert_eq!(rt; highlighter.style_for_stack(&[a, b, b])?.foreground, SECOND);
     Ok(())
 }

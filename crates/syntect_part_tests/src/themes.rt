@@ -1,90 +1,50 @@
 use serde_json::Value;
 use std::alloc::Global;
-use std::io;
-use syntect_base::theme::ParseThemeError;
+use std::test::Fail;
+use syntect_base::loading::{LoadingError, SettingsError};
 use syntect_scope::repository::ScopeRepository;
-use syntect_theme::style::{Color, FontStyle};
-use syntect_theme::theme::{Theme, ThemeItem};
+use syntect_scope::selector::ScopeSelectors;
+use syntect_theme::style::{Color, FontStyle, StyleModifier};
+use syntect_theme::theme::{ThemeSettings, UnderlineOption};
 use syntect_theme_files::theme_load::ParseSettings;
-use syntect_values::text::Text;
+use syntect_theme_files::theme_set::ThemeSet;
 
 /// The value of a text.
 fn value(alloc: Global, text: &str) -> Value {
     Value::from_str(alloc, text).unwrap_or(Value::Null)
 }
 
-/// An opaque grey.
-fn grey(part: u8) -> Color {
-    Color {
-        r: part,
-        g: part,
-        b: part,
-        a: 255,
-    }
-}
-
 #[test]
-fn a_theme_from_json(rt: HostRuntime) -> io::Result<()> {
+fn settings_of_each_type(rt: HostRuntime) -> Result<(), Fail> {
     let alloc = rt.alloc();
     let mut repository = ScopeRepository::new(alloc);
-    let text =
-        r##"{"name":"N","settings":[{"settings":{"foreground":"#010101","background":"#020202"}},{"scope":"word","settings":{"foreground":"#030303"}},{"scope":1,"settings":{}}],"gutterSettings":{"background":"#040404"}}"##;
-    match Theme::parse_settings(alloc, value(alloc, text), &mut repository) {
-        Ok(theme) => {
-            assert!(rt; theme.name == Some(Text::from_str(alloc, "N")?));
-            assert_eq!(rt; theme.scopes.len(), 1);
-            assert!(rt; theme.settings.foreground == Some(grey(1)));
-            assert!(rt; theme.settings.gutter == Some(grey(4)));
-            assert!(rt; theme.settings.gutter_foreground.is_none());
-        }
-        Err(_) => assert!(rt; false),
-    }
+    let color = value(alloc, "\"#010203\"");
+    assert!(rt; Color::parse_settings(alloc, color, &mut repository).is_ok());
+    let option = value(alloc, "\"squiggly_underline\"");
+    assert!(rt; UnderlineOption::parse_settings(alloc, option, &mut repository).is_ok());
+    let flags = value(alloc, "\"bold\"");
+    assert!(rt; FontStyle::parse_settings(alloc, flags, &mut repository) == Ok(FontStyle::BOLD));
+    let union = value(alloc, "\"a, b - c\"");
+    assert!(rt; ScopeSelectors::parse_settings(alloc, union, &mut repository).is_ok());
+    let change = value(alloc, "{\"fontStyle\":\"italic\"}");
+    let change = StyleModifier::parse_settings(alloc, change, &mut repository);
+    assert!(rt; change.is_ok_and(|c| c.font_style == Some(FontStyle::ITALIC)));
+    let settings = value(alloc, "{\"caret\":\"#010101\"}");
+    let settings = ThemeSettings::parse_settings(alloc, settings, &mut repository);
+    assert!(rt; settings.is_ok_and(|s| s.caret.is_some()));
     Ok(())
 }
 
 #[test]
-fn refused_themes(rt: HostRuntime) -> io::Result<()> {
+fn bytes_that_are_no_text_are_no_theme(rt: HostRuntime) -> Result<(), Fail> {
     let alloc = rt.alloc();
     let mut repository = ScopeRepository::new(alloc);
-    for text in ["[]", r#"{"settings":1}"#] {
-        let theme = Theme::parse_settings(alloc, value(alloc, text), &mut repository);
-        assert!(rt; theme == Err(ParseThemeError::IncorrectSyntax));
-    }
-    for text in [r#"{"settings":[]}"#, r#"{"settings":[{}]}"#] {
-        let theme = Theme::parse_settings(alloc, value(alloc, text), &mut repository);
-        assert!(rt; theme == Err(ParseThemeError::UndefinedSettings));
-    }
-    let text = r#"{"settings":[{"settings":1}]}"#;
-    let theme = Theme::parse_settings(alloc, value(alloc, text), &mut repository);
-    assert!(rt; theme == Err(ParseThemeError::ColorShemeSettingsIsNotObject));
-    Ok(())
-}
-
-#[test]
-fn refused_rules(rt: HostRuntime) -> io::Result<()> {
-    let alloc = rt.alloc();
-    let mut repository = ScopeRepository::new(alloc);
-    let flags = FontStyle::parse_settings(alloc, value(alloc, "1"), &mut repository);
-    let one = Text::from_str(alloc, "1")?;
-    assert!(rt; flags == Err(ParseThemeError::IncorrectFontStyle(one)));
-    let rule = ThemeItem::parse_settings(
-        alloc,
-        value(alloc, r#"{"settings":{}}"#),
-        &mut repository,
+    let bytes = [b'"', 0xff, b'"'];
+    let mut reader = bytes.as_slice();
+    let refused = matches!(
+        &ThemeSet::load_from_reader(alloc, &mut reader, &mut repository),
+        Err(LoadingError::ReadSettings(SettingsError::Json))
     );
-    assert!(rt; rule == Err(ParseThemeError::ScopeSelectorIsNotString(Text::new(alloc))));
-    let text = r#"{"scope":1,"settings":{}}"#;
-    let rule = ThemeItem::parse_settings(alloc, value(alloc, text), &mut repository);
-    let one = Text::from_str(alloc, "1")?;
-    assert!(rt; rule == Err(ParseThemeError::ScopeSelectorIsNotString(one)));
-    let rule = ThemeItem::parse_settings(alloc, value(alloc, r#"{"scope":"a"}"#), &mut repository);
-    assert!(rt; rule == Err(ParseThemeError::IncorrectSettings));
-    let rule = ThemeItem::parse_settings(
-        alloc,
-        value(alloc, r#"{"scope":[1.5],"settings":{}}"#),
-        &mut repository,
-    );
-    let float = Text::from_str(alloc, "float")?;
-    assert!(rt; rule == Err(ParseThemeError::ScopeSelectorIsNotString(float)));
+    assert!(rt; refused);
     Ok(())
 }

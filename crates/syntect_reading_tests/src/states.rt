@@ -1,191 +1,66 @@
+//! States, copies, and contexts by their numbers.
 use std::alloc::Global;
+use std::test::Fail;
 use syntect_parsing::parser::{ParseState, ParsingError};
 use syntect_parsing::syntax_definition::{
-    Context, ContextId, ContextReference, MatchOperation, MatchPattern, Pattern, SyntaxDefinition,
+    ContextId, ContextReference, MatchOperation, SyntaxDefinition,
 };
 use syntect_parsing::syntax_set::{SyntaxSet, SyntaxSetBuilder};
 use syntect_scope::repository::ScopeRepository;
-use syntect_scope::scope::Scope;
-use syntect_scope::stack::ScopeStackOp;
-use syntect_values::seq::Seq;
-use syntect_values::table::Table;
 use syntect_values::text::Text;
 
-fn scope(repo: &mut ScopeRepository, text: &str) -> Result<Scope, ParsingError> {
-    match repo.build(text) {
-        Ok(scope) => Ok(scope),
-        Err(_) => Err(ParsingError::Memory),
-    }
-}
+/// `x` pushes the context `a`, which `b` leaves.
+const GRAMMAR: &str =
+    "name: T\nscope: source.t\nfirst_line_match: ^x\ncontexts:\n  main: [{match: x, push: a}]\n  a: [{match: b, pop: true}]\n";
 
-fn pattern(
-    alloc: Global,
-    text: &str,
-    scope: Scope,
-    operation: MatchOperation,
-) -> Result<Pattern, ParsingError> {
-    let scopes = Seq::from_slice(alloc, &[scope])?;
-    let text = String::from_str(alloc, text)?;
-    Ok(Pattern::Match(MatchPattern::new(alloc, false, text, scopes, None, operation, None)?))
-}
-
-fn pushes(alloc: Global, name: &str) -> Result<MatchOperation, ParsingError> {
-    let mut references = Seq::new(alloc);
-    references.push(ContextReference::Named(Text::from_str(alloc, name)?))?;
-    Ok(MatchOperation::Push(references))
-}
-
-/// `A` pushes a context of `a+`, which `b` pops; `[a-z]+` does nothing; and before them `x` pushes a context that is not
-/// there, if that is wanted.
-fn definition(
-    alloc: Global,
-    repo: &mut ScopeRepository,
-    start: &str,
-    broken: bool,
-) -> Result<SyntaxDefinition, ParsingError> {
-    let top = scope(repo, "source.t")?;
-    let mut first = Context::new(alloc, true);
-    first.meta_content_scope.push(top)?;
-    if broken {
-        let x = pattern(alloc, "x", scope(repo, "scope.x")?, pushes(alloc, "none")?)?;
-        first.patterns.push(x)?;
-    }
-    let a = pattern(
-        alloc,
-        "A",
-        scope(repo, "scope.a.first")?,
-        pushes(alloc, "a")?,
-    )?;
-    first.patterns.push(a)?;
-    let other = scope(repo, "scope.other")?;
-    first
-        .patterns
-        .push(pattern(alloc, "[a-z]+", other, MatchOperation::None)?)?;
-    let mut second = Context::new(alloc, true);
-    let rest = scope(repo, "scope.a.rest")?;
-    second
-        .patterns
-        .push(pattern(alloc, "a+", rest, MatchOperation::None)?)?;
-    let b = scope(repo, "scope.b")?;
-    second
-        .patterns
-        .push(pattern(alloc, "b", b, MatchOperation::Pop)?)?;
-    let mut contexts = Table::new(alloc);
-    let _ = contexts.insert(Text::from_str(alloc, start)?, first)?;
-    let _ = contexts.insert(Text::from_str(alloc, "a")?, second)?;
-    Ok(SyntaxDefinition {
-        name: Text::from_str(alloc, "T")?,
-        file_extensions: Seq::new(alloc),
-        scope: top,
-        first_line_match: None,
-        hidden: false,
-        variables: Table::new(alloc),
-        contexts,
-    })
-}
-
-fn built(
-    alloc: Global,
-    repo: &mut ScopeRepository,
-    start: &str,
-    broken: bool,
-) -> Result<SyntaxSet, ParsingError> {
+/// The set of the grammar, of a builder with a copy of its definition.
+fn built(alloc: Global, repository: &mut ScopeRepository) -> Result<SyntaxSet, Fail> {
+    let definition = SyntaxDefinition::load_from_str(alloc, GRAMMAR, true, None, repository)?;
+    let copy = definition.clone()?;
     let mut builder = SyntaxSetBuilder::new(alloc);
-    builder.add(definition(alloc, repo, start, broken)?)?;
-    Ok(builder.build(alloc, repo)?)
-}
-
-/// The state before the first line of the first syntax.
-fn started(alloc: Global, set: &SyntaxSet) -> Result<ParseState, ParsingError> {
-    match set.syntaxes().first() {
-        Some(syntax) => ParseState::new(alloc, syntax),
-        None => Err(ParsingError::Memory),
-    }
+    builder.add(copy)?;
+    Ok(builder.clone()?.build(alloc, repository)?)
 }
 
 #[test]
-fn a_line_of_words(rt: HostRuntime) -> Result<(), ParsingError> {
+fn copies_are_read_as_the_first(rt: HostRuntime) -> Result<(), Fail> {
     let alloc = rt.alloc();
-    let mut repo = ScopeRepository::new(alloc);
-    let set = built(alloc, &mut repo, "__start", false)?.clone()?;
-    let mut state = started(alloc, &set)?;
-    let ops = state.parse_line(alloc, " Aaaabxxx", &set)?;
-    let expected = [
-        (0, ScopeStackOp::Push(scope(&mut repo, "source.t")?)),
-        (1, ScopeStackOp::Push(scope(&mut repo, "scope.a.first")?)),
-        (2, ScopeStackOp::Pop(1)),
-        (2, ScopeStackOp::Push(scope(&mut repo, "scope.a.rest")?)),
-        (5, ScopeStackOp::Pop(1)),
-        (5, ScopeStackOp::Push(scope(&mut repo, "scope.b")?)),
-        (6, ScopeStackOp::Pop(1)),
-        (6, ScopeStackOp::Push(scope(&mut repo, "scope.other")?)),
-        (9, ScopeStackOp::Pop(1)),
-    ];
-    assert!(rt; ops.as_slice() == expected.as_slice());
-    let again = state.clone()?;
-    assert!(rt; again == state);
-    let ops = state.parse_line(alloc, "A", &set)?;
-    let expected = [
-        (0, ScopeStackOp::Push(scope(&mut repo, "scope.a.first")?)),
-        (1, ScopeStackOp::Pop(1)),
-    ];
-    assert!(rt; ops.as_slice() == expected.as_slice());
-    assert!(rt; again != state);
-    Ok(())
-}
-
-#[test]
-fn a_reference_that_is_not_there(rt: HostRuntime) -> Result<(), ParsingError> {
-    let alloc = rt.alloc();
-    let mut repo = ScopeRepository::new(alloc);
-    let set = built(alloc, &mut repo, "__start", true)?;
-    let none = ContextReference::Named(Text::from_str(alloc, "none")?);
-    let mut state = started(alloc, &set)?;
+    let mut repository = ScopeRepository::new(alloc);
+    let set = built(alloc, &mut repository)?.clone()?;
+    let syntax = set.syntaxes().first().ok_or("no syntax")?;
+    let mut state = ParseState::new(alloc, syntax)?;
     let before = state.clone()?;
-    match state.parse_line(alloc, "xa", &set) {
-        Ok(_) => assert!(rt; false),
-        Err(e) => assert!(rt; e == ParsingError::UnresolvedContextReference(none.clone()?)),
-    }
-    assert!(rt; state == before);
-    let ops = state.parse_line(alloc, "ya", &set)?;
-    let expected = [
-        (0, ScopeStackOp::Push(scope(&mut repo, "source.t")?)),
-        (0, ScopeStackOp::Push(scope(&mut repo, "scope.other")?)),
-        (2, ScopeStackOp::Pop(1)),
-    ];
-    assert!(rt; ops.as_slice() == expected.as_slice());
-    match none.id() {
-        Ok(_) => assert!(rt; false),
-        Err(e) => assert!(rt; e == ParsingError::UnresolvedContextReference(none)),
-    }
+    let mut copy = state.clone()?;
+    assert!(rt; copy == state);
+    let first = state.parse_line(alloc, "x\n", &set)?;
+    assert!(rt; state != before);
+    let again = copy.parse_line(alloc, "x\n", &set)?;
+    assert!(rt; first.as_slice() == again.as_slice());
+    assert!(rt; copy == state);
+    assert!(rt; set.find_syntax_by_first_line("xy")?.is_some());
     Ok(())
 }
 
 #[test]
-fn numbers_of_contexts(rt: HostRuntime) -> Result<(), ParsingError> {
+fn numbers_of_contexts(rt: HostRuntime) -> Result<(), Fail> {
     let alloc = rt.alloc();
-    let mut repo = ScopeRepository::new(alloc);
-    let set = built(alloc, &mut repo, "main", false)?;
-    match started(alloc, &set) {
-        Ok(_) => assert!(rt; false),
-        Err(e) => assert!(rt; e == ParsingError::MissingMainContext),
-    }
-    let second = ContextReference::Direct(ContextId {
+    let mut repository = ScopeRepository::new(alloc);
+    let set = built(alloc, &mut repository)?;
+    let last = ContextReference::Direct(ContextId {
         syntax_index: 0,
-        context_index: 1,
+        context_index: 3,
     });
-    let main = second.resolve(&set)?;
-    assert_eq!(rt; main.patterns.len(), 2);
-    match main.match_at(0)?.operation.clone()? {
-        MatchOperation::Push(references) => match references.as_slice().first() {
-            Some(r) => assert_eq!(rt; r.id()?.context_index, 0),
-            None => assert!(rt; false),
-        },
-        _ => assert!(rt; false),
-    }
-    match main.match_at(2) {
-        Ok(_) => assert!(rt; false),
-        Err(e) => assert!(rt; e == ParsingError::BadMatchIndex(2)),
-    }
+    let main = last.resolve(&set)?.clone()?;
+    assert_eq!(rt; main.patterns.len(), 1);
+    let pattern = main.match_at(0)?.clone()?;
+    let pushed = match &pattern.operation {
+        MatchOperation::Push(references) => references.as_slice().first(),
+        _ => None,
+    };
+    let reference = pushed.ok_or("no push")?;
+    assert_eq!(rt; reference.id()?.context_index, 2);
+    assert!(rt; matches!(&main.match_at(1), Err(ParsingError::BadMatchIndex(1))));
+    let named = ContextReference::Named(Text::from_str(alloc, "none")?);
+    assert!(rt; named.id() == Err(ParsingError::UnresolvedContextReference(named.clone()?)));
     Ok(())
 }

@@ -2,8 +2,5 @@ pub use Rattle.syntect_pattern.specs.Pattern
 pub use Rattle.syntect_pattern.specs.Matches
 pub use Rattle.syntect_pattern.specs.Nesting
 pub use Rattle.syntect_pattern.specs.Found
-pub mod Machine
 pub mod Region
-pub mod Stretches
 pub mod Escape
-pub mod Reaches

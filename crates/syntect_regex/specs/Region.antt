@@ -8,8 +8,8 @@ use Rattle.std.proofs.Common.{MutBor, inl, inr}
 use Rattle.syntect_pattern.specs.Trees.{Tree}
 use Rattle.syntect_pattern.specs.Matches.{Groups, found, found_at}
 use Rattle.syntect_pattern.specs.Pattern.{pattern_tree}
-use Rattle.syntect_pattern.specs.Program.{IsProgramOf}
-use Rattle.syntect_pattern.specs.declared.program.Program.{Program}
+use Rattle.syntect_pattern_table.specs.Program.{IsProgramOf}
+use Rattle.syntect_pattern_table.specs.declared.program.Program.{Program}
 
 -- the same span
 abbrev pub same_span : ℕ × ℕ → ℕ × ℕ → Bool

@@ -12,11 +12,11 @@ ghost use Rattle.syntect_regex.specs.Region.{TakesMatch, Leaves, pattern_begins}
 
 use crate::error::PatternError;
 use crate::region::Region;
-use crate::state::Search;
 use std::alloc::{AllocError, Global};
 use std::marker::Model;
-use syntect_pattern::compiler::compile;
-use syntect_pattern::program::Program;
+use syntect_engine::state::Search;
+use syntect_pattern_reader::compiler::compile;
+use syntect_pattern_table::program::Program;
 
 /// A pattern, ready to be searched. It is its text: equal texts are equal patterns.
 #[derive(Drop)]
@@ -28,7 +28,7 @@ pub struct Regex {
 
 impl Model for Regex {
     ghost use Rattle.std.specs.Prelude.{List, ℕ, string_bytes};
-    ghost use Rattle.syntect_pattern.specs.Compiled.{Compiles};
+    ghost use Rattle.syntect_pattern_reader.specs.Compiled.{Compiles};
 
     ghost Value = { List ℕ };
 
@@ -104,7 +104,7 @@ impl Regex {
         ensures is_match { IfOk result (λ found. found ≡ true → IsPatternMatch self.now (take end text.now) begin region.new) }
         ensures err { OnErr result (region.new ≡ region.old) }
     {
-        syntect_pattern::pattern_matches_are_laid_out();
+        syntect_pattern_laws::pattern_matches_are_laid_out();
         let Some(program) = &self.program else {
             return Ok(false);
         };

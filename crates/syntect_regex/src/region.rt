@@ -4,11 +4,11 @@ ghost use Rattle.syntect_pattern.specs.Matches.{Groups};
 ghost use Rattle.syntect_regex.specs.Region.{Takes, same_groups, same_groups-equiv};
 ghost use Rattle.std.specs.Cmp.{partial_equiv_from_equiv};
 
-use crate::state::{Search, Span};
 use std::alloc::{AllocError, Global};
 use std::marker::Model;
 use std::mem;
-use syntect_pattern::program::Program;
+use syntect_engine::state::{Search, Span};
+use syntect_pattern_table::program::Program;
 
 /// Where each group of a match stands, from 0, which is the whole match. A region also keeps the memory of the last search
 /// for the next one: to search many times, hand in the same one.

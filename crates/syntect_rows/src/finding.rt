@@ -1,124 +1,139 @@
-//! The examples about finding syntaxes, and what their contexts hold.
-use crate::loaded::{LETTERS, loaded};
+//! Syntaxes of a set: which fits, what contexts hold, what linking left unresolved.
+use crate::given::{Given, add_part};
 use std::alloc::Global;
-use syntect_parsing::syntax_definition::{
-    Context, ContextId, ContextReference, SyntaxDefinition, context_iter,
-};
+use std::path::Path;
+use std::rt::Files;
+use syntect::Error;
+use syntect_parsing::syntax_definition::{Pattern, context_iter};
 use syntect_parsing::syntax_set::{SyntaxReference, SyntaxSet, SyntaxSetBuilder};
+use syntect_queries::escapes::unescaped;
 use syntect_scope::repository::ScopeRepository;
+use syntect_shown::definitions::write_definitions;
 use syntect_values::text::Text;
 
-/// A pattern that pushes a syntax that is not there.
-const NOWHERE: &str = r"
-name: T
-scope: source.t
-contexts:
-  main:
-    - match: x
-      push: scope:source.none
-";
-
-const UNLINKED: &str =
-    "Syntax 'T' with scope 'source.t' has unresolved context reference ByScope { scope: <source.none>, sub_context: None, with_escape: false }";
-
-/// Two syntaxes of one extension.
-const OF_RS: [&str; 2] = [
-    "name: First\nfile_extensions: [rs]\nscope: source.first\ncontexts: {main: []}\n",
-    "name: Last\nfile_extensions: [rs]\nscope: source.last\ncontexts: {main: []}\n",
-];
-
-/// A syntax whose first-line pattern is none.
-const NO_PATTERN: &str = "name: T\nscope: source.t\nfirst_line_match: '[a'\ncontexts: {main: []}\n";
-
-/// A set of these grammars.
-fn set_of(alloc: Global, repository: &mut ScopeRepository, grammars: &[&str]) -> Option<SyntaxSet> {
-    let mut builder = SyntaxSetBuilder::new(alloc);
-    for text in grammars {
-        let definition = SyntaxDefinition::load_from_str(
-            alloc, *text, false, None, repository,
-        ).ok()?;
-        builder.add(definition).ok()?;
-    }
-    builder.build(alloc, repository).ok()
-}
-
-pub fn is_named(syntax: Option<&SyntaxReference>, name: &str) -> bool {
+/// Adds the name of a syntax, or a dash where there is none.
+fn write_name(syntax: Option<&SyntaxReference>, out: &mut String) -> Option<()> {
     match syntax {
-        Some(syntax) => syntax.name.as_str() == name,
-        None => false,
+        Some(syntax) => out.push_str(syntax.name.as_str()).ok(),
+        None => out.push('-').ok(),
     }
 }
 
-/// What linking left unresolved.
-pub fn unlinked(alloc: Global) -> Option<bool> {
-    let mut repository = ScopeRepository::new(alloc);
-    let set = loaded(alloc, &mut repository, NOWHERE, false)?;
-    let texts = set.find_unlinked_contexts(alloc, &repository).ok()?;
-    let mut holds = texts.len() == 1;
+/// Adds the syntax of a scope.
+fn write_of_scope(
+    set: &SyntaxSet,
+    scope: &str,
+    repository: &mut ScopeRepository,
+    out: &mut String,
+) -> Option<()> {
+    let scope = repository.build(scope).ok()?;
+    write_name(set.find_syntax_by_scope(scope), out)
+}
+
+/// Adds the syntax of a file, or `Io`.
+fn write_of_file(files: &impl Files, given: Given<'_>, path: &str, out: &mut String) -> Option<()> {
+    match given
+        .set
+        .find_syntax_for_file(files, given.alloc, Path::new(path))
+    {
+        Ok(syntax) => write_name(syntax, out),
+        Err(Error::Io(_)) => out.push_str("Io").ok(),
+        Err(_) => None,
+    }
+}
+
+/// Adds the name of the syntax that is found so: by `extension`, `token`, `name`, `scope`, `first_line`, `path` or `file`,
+/// with a space and what is asked for behind it, or by `plain_text`.
+pub fn write_found(
+    files: &impl Files,
+    given: Given<'_>,
+    question: &str,
+    repository: &mut ScopeRepository,
+    out: &mut String,
+) -> Option<()> {
+    let set = given.set;
+    let (kind, word) = question.split_once(' ').unwrap_or((question, ""));
+    let word = unescaped(given.alloc, word).ok()?;
+    let word = word.as_str();
+    match kind {
+        "extension" => write_name(set.find_syntax_by_extension(word), out),
+        "token" => write_name(set.find_syntax_by_token(word), out),
+        "name" => write_name(set.find_syntax_by_name(word), out),
+        "plain_text" => write_name(set.find_syntax_plain_text(), out),
+        "scope" => write_of_scope(set, word, repository, out),
+        "first_line" => write_name(set.find_syntax_by_first_line(word).ok()?, out),
+        "path" => write_name(set.find_syntax_by_path(word).ok()?, out),
+        "file" => write_of_file(files, given, word, out),
+        _ => None,
+    }
+}
+
+/// Adds the names of a set's syntaxes, in their order.
+pub fn write_syntaxes(set: &SyntaxSet, out: &mut String) -> Option<()> {
+    for syntax in set.syntaxes() {
+        writeln!(out, "{}", syntax.name.as_str()).ok()?;
+    }
+    Some(())
+}
+
+/// Adds the texts of what linking left unresolved.
+pub fn write_unlinked(
+    alloc: Global,
+    set: &SyntaxSet,
+    repository: &ScopeRepository,
+    out: &mut String,
+) -> Option<()> {
+    let texts = set.find_unlinked_contexts(alloc, repository).ok()?;
     for text in &texts {
-        holds &= text.as_str() == UNLINKED;
+        writeln!(out, "{}", text.as_str()).ok()?;
     }
-    Some(holds)
+    Some(())
 }
 
-/// The last syntax that fits.
-pub fn finders(alloc: Global) -> Option<bool> {
-    let mut repository = ScopeRepository::new(alloc);
-    let rust = set_of(alloc, &mut repository, &OF_RS)?;
-    let nowhere = loaded(alloc, &mut repository, NOWHERE, false)?;
-    let no_pattern = loaded(alloc, &mut repository, NO_PATTERN, false)?;
-    Some(
-        is_named(rust.find_syntax_by_extension("RS"), "Last")
-            && is_named(nowhere.find_syntax_by_token("t"), "T")
-            && nowhere.find_syntax_by_name("t").is_none()
-            && nowhere.find_syntax_plain_text().is_none()
-            && no_pattern.find_syntax_by_first_line("[a").ok()?.is_none(),
-    )
+/// Adds the definitions of a row's grammars, as they are loaded.
+pub fn write_loaded(
+    files: &impl Files,
+    given: Given<'_>,
+    repository: &mut ScopeRepository,
+    out: &mut String,
+) -> Option<()> {
+    let mut builder = SyntaxSetBuilder::new(given.alloc);
+    for part in given.parts {
+        add_part(files, given.alloc, *part, &mut builder, repository)?;
+    }
+    write_definitions(builder.syntaxes(), repository, out)
 }
 
-/// The context of a number.
-fn context(set: &SyntaxSet, context_index: usize) -> Option<&Context> {
-    let id = ContextId {
-        syntax_index: 0,
-        context_index,
-    };
-    ContextReference::Direct(id).resolve(set).ok()
+/// Adds the definitions of a set's builder, which are linked.
+pub fn write_linked(
+    given: Given<'_>,
+    repository: &ScopeRepository,
+    out: &mut String,
+) -> Option<()> {
+    let copy = given.set.clone().ok()?;
+    let builder = copy.into_builder(given.alloc).ok()?;
+    write_definitions(builder.syntaxes(), repository, out)
 }
 
-/// The patterns of the context `__main`, which includes `main`.
-pub fn places(alloc: Global) -> Option<bool> {
-    let mut repository = ScopeRepository::new(alloc);
-    let set = loaded(alloc, &mut repository, LETTERS, false)?;
-    are_of_main(alloc, &set, context(&set, 0)?)
-}
-
-/// The same of a copy of that context, from the builder of the set, with the set that is built of it.
-pub fn places_again(alloc: Global) -> Option<bool> {
-    let mut repository = ScopeRepository::new(alloc);
-    let first = loaded(alloc, &mut repository, LETTERS, false)?;
-    let builder = first.into_builder(alloc).ok()?;
-    let name = Text::from_str(alloc, "__main").ok()?;
-    let copy = builder
-        .syntaxes()
-        .first()?
-        .contexts
-        .get(&name)?
-        .clone()
-        .ok()?;
-    let set = builder.build(alloc, &mut repository).ok()?;
-    are_of_main(alloc, &set, &copy)
-}
-
-/// Whether a context has the three patterns of `main`, in their order.
-fn are_of_main(alloc: Global, set: &SyntaxSet, walked: &Context) -> Option<bool> {
-    let main = context(set, 3)?;
-    let mut wanted = 0;
-    for item in context_iter(alloc, set, walked) {
-        let (holder, index) = item.ok()?;
-        if holder != main || index != wanted {
-            return Some(false);
+/// Adds the place of a pattern in its context, and its text.
+fn write_place(index: usize, pattern: Option<&Pattern>, out: &mut String) -> Option<()> {
+    match pattern {
+        Some(Pattern::Match(pattern)) => {
+            writeln!(out, "{index} {}", pattern.regex.regex_str()).ok()
         }
-        wanted = index.checked_add(1)?;
+        _ => None,
     }
-    Some(wanted == 3)
+}
+
+/// Adds the places of the patterns of the first syntax's `__main`: of a copy of it in the set's builder, and by the set.
+pub fn write_places(given: Given<'_>, out: &mut String) -> Option<()> {
+    let copy = given.set.clone().ok()?;
+    let builder = copy.into_builder(given.alloc).ok()?;
+    let name = Text::from_str(given.alloc, "__main").ok()?;
+    let context = builder.syntaxes().first()?.contexts.get(&name)?;
+    for item in context_iter(given.alloc, given.set, context) {
+        let (holder, index) = item.ok()?;
+        write_place(index, holder.patterns.get(index), out)?;
+    }
+    Some(())
 }

@@ -1,16 +1,17 @@
-//! The worked examples of docs/EXAMPLES.md, and callers that carry the promises of the library to their end.
+//! The worked examples of docs/EXAMPLES.md: files that say what is given and what is to be found, a runner of them, and
+//! the few that are made by calls.
 #![tactic(auto)]
 
-pub mod finding;
-pub mod grammars;
-mod lines;
-mod loaded;
-mod loading;
-pub mod make;
-mod pages;
+pub mod calls;
+pub mod files;
+mod finding;
+mod folders;
+mod given;
+mod made;
+mod operations;
 mod readers;
-pub mod rows;
+pub mod run;
+mod runs;
 mod searching;
-mod stacks;
-pub mod third;
-pub mod whole;
+mod styled;
+mod tables;

@@ -1,18 +1,20 @@
 //! The examples about pages of what a reader gives.
-use crate::grammars::matching;
-use crate::pages::{TWO_LINES, set_of, start_alone};
 use std::alloc::Global;
 use std::io;
 use std::io::{BufRead, Read};
 use syntect::Error;
 use syntect::html::highlighted_html_for_reader;
 use syntect_parsing::parser::ParsingError;
-use syntect_parsing::syntax_definition::{ContextReference, MatchOperation};
-use syntect_parsing::syntax_set::SyntaxSet;
+use syntect_parsing::syntax_definition::SyntaxDefinition;
+use syntect_parsing::syntax_set::{SyntaxSet, SyntaxSetBuilder};
 use syntect_scope::repository::ScopeRepository;
-use syntect_scope::scope::Scope;
 use syntect_theme::theme::Theme;
-use syntect_values::seq::Seq;
+
+const GRAMMAR: &str =
+    "name: T\nscope: source.t\ncontexts: {main: [{match: x, push: 'scope:source.none'}]}\n";
+
+const TWO_LINES: &str =
+    "<pre style=\"background-color:#ffffff;\">\n<span style=\"color:#000000;\">a\n</span><span style=\"color:#000000;\">b</span></pre>\n";
 
 /// A reader that gives bytes, and fails where they end.
 #[derive(Clone, Copy)]
@@ -80,30 +82,18 @@ fn comes_to<R: BufRead + Drop>(
     })
 }
 
-/// A set of one syntax whose patterns push a context that is not there at each `x`.
-fn leading_out(alloc: Global, repository: &mut ScopeRepository) -> Option<SyntaxSet> {
-    let scope = Scope::new("source.none", repository).ok()?;
-    let mut references = Seq::new(alloc);
-    references
-        .push(ContextReference::ByScope {
-            scope,
-            sub_context: None,
-            with_escape: false,
-        })
-        .ok()?;
-    let mut patterns = Seq::new(alloc);
-    let operation = MatchOperation::Push(references);
-    patterns
-        .push(matching(alloc, repository, "x", "", operation)?)
-        .ok()?;
-    let contexts = start_alone(alloc, repository, patterns)?;
-    set_of(alloc, repository, contexts)
+/// The set of a grammar that pushes a context which is not there at each `x`.
+fn leading_out(alloc: Global) -> Option<SyntaxSet> {
+    let mut repository = ScopeRepository::new(alloc);
+    let loaded = SyntaxDefinition::load_from_str(alloc, GRAMMAR, true, None, &mut repository);
+    let mut builder = SyntaxSetBuilder::new(alloc);
+    builder.add(loaded.ok()?).ok()?;
+    builder.build(alloc, &mut repository).ok()
 }
 
 /// Readers that give all, that fail, and whose bytes are no text: of several faults the first in the order of lines.
 pub fn readers(alloc: Global) -> Option<bool> {
-    let mut repository = ScopeRepository::new(alloc);
-    let set = leading_out(alloc, &mut repository)?;
+    let set = leading_out(alloc)?;
     let whole: &[u8] = b"a\nb";
     let no_text: &[u8] = b"\xff\n";
     let late: &[u8] = b"a\n\xff\n";

@@ -1,12 +1,9 @@
-//! The examples about patterns.
+//! The example about back references that give way to groups.
 use std::alloc::Global;
 use syntect_parsing::syntax_definition::{MatchOperation, MatchPattern};
 use syntect_regex::regex::Regex;
 use syntect_regex::region::Region;
 use syntect_values::seq::Seq;
-
-/// How long the line of a long loop is.
-const LONG: usize = 100000;
 
 fn regex(alloc: Global, text: &str) -> Option<Regex> {
     Regex::new(alloc, String::from_str(alloc, text).ok()?).ok()
@@ -50,17 +47,4 @@ pub fn references(alloc: Global) -> Option<bool> {
     let pattern = popping(alloc, "lol \\\\ \\2 \\1 '\\9' \\wz")?;
     let made = substituted(alloc, &opening, &pattern, "\\[]()bcde")?;
     Some(made.regex_str() == "lol \\\\ b \\\\\\[\\]\\(\\) '' \\wz")
-}
-
-/// The choices of a long loop stand in lists.
-pub fn long_loop(alloc: Global) -> Option<bool> {
-    let mut line = String::new(alloc);
-    for _ in 0..LONG {
-        line.push('a').ok()?;
-    }
-    let line = line.as_str();
-    let regex = regex(alloc, "(a|b)*")?;
-    let mut region = Region::new(alloc);
-    let found = regex.search_into(line, 0, line.len(), &mut region).ok()?;
-    Some(found && region.pos(0) == Some((0, LONG)) && region.pos(1) == Some((LONG - 1, LONG)))
 }

@@ -5,8 +5,8 @@ ghost use Rattle.syntect_style.specs.Candidates.{candidate, deepest};
 ghost use Rattle.syntect_style.specs.Rules.{score_from, candidate_from, against, after_rules};
 
 use crate::scores::{Rule, SingleScore};
-use syntect_theme::style::{Color, FontStyle};
 use syntect_scope::scope::Scope;
+use syntect_theme::style::{Color, FontStyle};
 
 /// The deepest place of a stack whose scope the given one begins.
 pub(crate) fn deepest(scope: Scope, stack: &[Scope]) -> Option<usize>

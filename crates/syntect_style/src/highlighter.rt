@@ -6,12 +6,12 @@ ghost use Rattle.syntect_style.specs.Rules.{item_rules};
 use crate::contest::standings_of;
 use crate::others::{better, others_of};
 use crate::scores::Rule;
-use syntect_theme::style::{Color, FontStyle, Style, StyleModifier};
-use syntect_theme::theme::{Theme, ThemeItem};
 use std::alloc::{AllocError, Global};
 use std::marker::Model;
 use syntect_scope::power::MatchPower;
 use syntect_scope::scope::Scope;
+use syntect_theme::style::{Color, FontStyle, Style, StyleModifier};
+use syntect_theme::theme::{Theme, ThemeItem};
 
 /// A theme, made ready to style stacks of scopes. Contracts see its theme.
 #[derive(Debug, Drop)]

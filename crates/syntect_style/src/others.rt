@@ -6,12 +6,12 @@ ghost use Rattle.syntect_style.specs.Candidates.{candidate};
 ghost use Rattle.syntect_style.specs.Rules.{against, candidate_from, other_from, power_score, after_others, item_others};
 
 use crate::scores::SingleScore;
-use syntect_theme::style::{Color, FontStyle, StyleModifier};
-use syntect_theme::theme::ThemeItem;
 use std::alloc::{AllocError, Global};
 use syntect_scope::power::MatchPower;
 use syntect_scope::scope::Scope;
 use syntect_scope::selector::ScopeSelector;
+use syntect_theme::style::{Color, FontStyle, StyleModifier};
+use syntect_theme::theme::ThemeItem;
 
 /// The values that stand so far, each with the score of its rule.
 #[derive(Drop)]

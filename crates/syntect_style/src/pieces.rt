@@ -9,10 +9,10 @@ ghost use Rattle.syntect_style.specs.Items.{Begins, Gives, GivesUnranged, IsRead
 
 use crate::highlighter::Highlighter;
 use crate::state::HighlightState;
-use syntect_theme::style::Style;
 use std::alloc::Global;
 use std::ops::Range;
 use syntect_scope::stack::{ScopeError, ScopeStackOp};
+use syntect_theme::style::Style;
 
 /// The pieces of a text, each with its style and its range of bytes in the text.
 ///

@@ -1,8 +1,8 @@
 //! Scores of single rules.
 ghost use Rattle.std.specs.Prelude.{◌+◌, ◌≤◌, ◌<◌, ◌^◌};
 
-use syntect_theme::style::StyleModifier;
 use syntect_scope::scope::Scope;
+use syntect_theme::style::StyleModifier;
 
 /// A scope with the change that its rule makes.
 #[derive(Clone, Copy, Debug)]

@@ -5,9 +5,9 @@ ghost use Rattle.syntect_style.specs.Styling.{shown};
 ghost use Rattle.syntect_style.specs.Pieces.{path_of, Keeps};
 
 use crate::highlighter::Highlighter;
-use syntect_theme::style::Style;
 use std::alloc::AllocError;
 use syntect_scope::stack::{ScopeError, ScopeStack, ScopeStackOp};
+use syntect_theme::style::Style;
 
 /// The stack of scopes after the texts so far. What is known of its style is kept with it, so a state belongs to
 /// one highlighter: the iterators take the same one for all texts. States are equal where their stacks are.

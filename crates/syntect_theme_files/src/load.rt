@@ -10,13 +10,13 @@ ghost use Rattle.syntect_scope.specs.SelectorText.{union_words};
 ghost use Rattle.syntect_theme_files.specs.Loading as loading;
 ghost use Rattle.syntect_theme.specs.Refusals.{Refuses};
 
-use syntect_theme::style::{Color, FontStyle, StyleModifier};
-use syntect_theme::theme::{ThemeItem, UnderlineOption};
 use serde_json::{Map, Value};
 use std::alloc::{AllocError, Global};
 use syntect_base::theme::ParseThemeError;
 use syntect_scope::repository::{ParseScopeError, ScopeRepository};
 use syntect_scope::selector::ScopeSelectors;
+use syntect_theme::style::{Color, FontStyle, StyleModifier};
+use syntect_theme::theme::{ThemeItem, UnderlineOption};
 use syntect_values::text::Text;
 
 /// Whether a number in the value is a float.

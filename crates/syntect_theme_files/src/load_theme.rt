@@ -10,12 +10,12 @@ ghost use Rattle.syntect_theme_files.specs.Loading as loading;
 ghost use Rattle.syntect_theme.specs.Refusals.{Refuses};
 
 use crate::load::{color, rule, underline};
-use syntect_theme::style::Color;
-use syntect_theme::theme::{Theme, ThemeItem, ThemeSettings, UnderlineOption};
 use serde_json::Value;
 use std::alloc::{AllocError, Global};
 use syntect_base::theme::ParseThemeError;
 use syntect_scope::repository::ScopeRepository;
+use syntect_theme::style::Color;
+use syntect_theme::theme::{Theme, ThemeItem, ThemeSettings, UnderlineOption};
 use syntect_values::seq::Seq;
 use syntect_values::text::Text;
 

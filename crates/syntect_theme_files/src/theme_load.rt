@@ -6,14 +6,14 @@ ghost use Rattle.syntect_scope.specs.Repository.{with_scopes, IsRepository};
 ghost use Rattle.syntect_theme_files.specs.Loading as loading;
 ghost use Rattle.syntect_theme.specs.Refusals.{Refuses};
 
-use syntect_theme::style::{Color, FontStyle, StyleModifier};
-use syntect_theme::theme::{Theme, ThemeItem, ThemeSettings, UnderlineOption};
 use crate::{load, load_theme};
 use serde_json::Value;
 use std::alloc::Global;
 use syntect_base::theme::ParseThemeError;
 use syntect_scope::repository::ScopeRepository;
 use syntect_scope::selector::ScopeSelectors;
+use syntect_theme::style::{Color, FontStyle, StyleModifier};
+use syntect_theme::theme::{Theme, ThemeItem, ThemeSettings, UnderlineOption};
 
 /// A value of JSON.
 pub type Settings = Value;

@@ -12,7 +12,6 @@ ghost use Rattle.syntect_scope.specs.Repository.{IsRepository};
 ghost use Rattle.syntect_theme_files.specs.ThemeFiles.{IsSettings, IsThemeOf, RefusesTheme, IsThemeFault, theme_name, AddsThemes};
 
 use crate::load::holds_float;
-use syntect_theme::theme::Theme;
 use crate::theme_load::{ParseSettings, Settings};
 use serde_json::Value;
 use std::alloc::Global;
@@ -23,6 +22,7 @@ use std::rt::Files;
 use syntect_base::loading::{LoadingError, SettingsError};
 use syntect_base::utils::files_below;
 use syntect_scope::repository::ScopeRepository;
+use syntect_theme::theme::Theme;
 use syntect_values::table::Table;
 use syntect_values::text::Text;
 

@@ -6,9 +6,11 @@ use std::rt::{Clock, Files};
 use std::time::Instant;
 use std::{fs, io};
 use syntect_scope::repository::ScopeRepository;
+use syntect_scope::scope::Scope;
 use syntect_scope::stack::ScopeStack;
 use syntect_style::highlighter::Highlighter;
 use syntect_theme::style::{Color, Style};
+use syntect_theme::theme::Theme;
 use syntect_theme_files::theme_set::ThemeSet;
 
 /// How many scopes the stack has that is styled.
@@ -103,6 +105,27 @@ fn print_time(rt: &impl Print, name: &str, nanos: u128, rounds: u32) -> io::Resu
     println!(rt; "{name}: {micros}.{rest:03} us")
 }
 
+/// Styles a stack again and again by a theme, and prints how long that takes.
+fn time_stack(
+    rt: &(impl Print + AllocGlobal + Clock),
+    theme: &Theme,
+    stack: &[Scope],
+) -> io::Result<ExitCode> {
+    let start = Instant::now(rt)?;
+    let highlighter = Highlighter::new(rt.alloc(), theme)?;
+    print_time(rt, "highlighter", start.elapsed(rt)?.as_nanos(), 1)?;
+    let start = Instant::now(rt)?;
+    let mut plain = 0u32;
+    for _ in 0..ROUNDS {
+        if highlighter.style_for_stack(stack)? == highlighter.get_default() {
+            plain = plain.saturating_add(1);
+        }
+    }
+    print_time(rt, "style", start.elapsed(rt)?.as_nanos(), ROUNDS)?;
+    println!(rt; "{SCOPES} scopes, {plain} styles of {ROUNDS} are the default")?;
+    Ok(ExitCode::SUCCESS)
+}
+
 /// Prints how long it takes to make a theme ready, and to style a deep stack. The status is 1 if the file has no theme.
 pub fn time_styles(
     rt: &(impl Print + Eprint + AllocGlobal + Files + Clock),
@@ -111,22 +134,11 @@ pub fn time_styles(
     let alloc = rt.alloc();
     let mut repository = ScopeRepository::new(alloc);
     let theme = ThemeSet::get_theme(rt, alloc, Path::new(path), &mut repository);
-    let (Ok(theme), Some(stack)) = (theme, deep_stack(alloc, &mut repository)) else {
-        eprintln!(rt; "syntect_bench: cannot read {path}")?;
-        return Ok(ExitCode::from(1));
-    };
-    let start = Instant::now(rt)?;
-    let highlighter = Highlighter::new(alloc, &theme)?;
-    print_time(rt, "highlighter", start.elapsed(rt)?.as_nanos(), 1)?;
-    let start = Instant::now(rt)?;
-    let mut plain = 0u32;
-    for _ in 0..ROUNDS {
-        let style = highlighter.style_for_stack(stack.as_slice())?;
-        if style == highlighter.get_default() {
-            plain = plain.saturating_add(1);
+    match (theme, deep_stack(alloc, &mut repository)) {
+        (Ok(theme), Some(stack)) => time_stack(rt, &theme, stack.as_slice()),
+        _ => {
+            eprintln!(rt; "syntect_bench: cannot read {path}")?;
+            Ok(ExitCode::from(1))
         }
     }
-    print_time(rt, "style", start.elapsed(rt)?.as_nanos(), ROUNDS)?;
-    println!(rt; "{SCOPES} scopes, {plain} styles of {ROUNDS} are the default")?;
-    Ok(ExitCode::SUCCESS)
 }

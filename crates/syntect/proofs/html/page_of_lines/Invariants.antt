@@ -1,7 +1,7 @@
 use Rattle.std.proofs.Common.{List, ℕ, string_bytes}
 use Rattle.std.specs.Prelude.{[]}
-use Rattle.syntect_grammar.specs.declared.syntax_definition.SyntaxDefinition.{SyntaxDefinition}
-use Rattle.syntect_grammar.specs.declared.syntax_set.SyntaxReference.{SyntaxReference}
+use Rattle.syntect_loader.specs.declared.definition.SyntaxDefinition.{SyntaxDefinition}
+use Rattle.syntect_contexts.specs.declared.syntax_reference.SyntaxReference.{SyntaxReference}
 use Rattle.syntect.specs.Built.{IsBuiltOf}
 use Rattle.syntect.specs.Leads.{Leads}
 use Rattle.syntect.proofs.ReaderLaws.{IsSoFarOfBytes}

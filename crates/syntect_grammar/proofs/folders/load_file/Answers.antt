@@ -1,7 +1,7 @@
 use Rattle.std.proofs.Common.{◌≡◌, ℕ, List, Option, option_map, Bor, ap, ◌∙◌, subst}
 use Rattle.std.specs.Path.{path_file_stem}
-use Rattle.syntect_grammar.specs.Loading.{loaded}
-use Rattle.syntect_grammar.specs.LoadingSteps.{Fails}
+use Rattle.syntect_loader.specs.Loading.{loaded}
+use Rattle.syntect_loader.specs.LoadingSteps.{Fails}
 use Rattle.syntect_grammar.proofs.folders.load_file.Goals as goal
 
 pub returns-clause-err : goal.returns-clause-err

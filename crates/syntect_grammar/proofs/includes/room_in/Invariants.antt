@@ -1,5 +1,6 @@
 use Rattle.std.proofs.Common.{◌≡◌, ◌+◌, ◌*◌, ◌≤◌, map, drop}
-use Rattle.syntect_grammar.specs.Patterns.{count_contexts, room_in}
+use Rattle.syntect_contexts.specs.Contexts.{count_contexts}
+use Rattle.syntect_grammar.specs.Patterns.{room_in}
 use Rattle.syntect_grammar.proofs.includes.room_in.Given as goal
 
 abbrev pub invariant-loop-syntax : goal.invariant-loop-syntax

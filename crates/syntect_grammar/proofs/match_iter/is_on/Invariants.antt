@@ -1,6 +1,6 @@
 use Rattle.std.proofs.Common.{◌≡◌, drop}
 use Rattle.std.specs.List.{list_any}
-use Rattle.syntect_grammar.specs.Contexts.{is_same}
+use Rattle.syntect_contexts.specs.Contexts.{is_same}
 use Rattle.syntect_grammar.specs.Places.{path_of}
 use Rattle.syntect_grammar.proofs.match_iter.is_on.Given as goal
 

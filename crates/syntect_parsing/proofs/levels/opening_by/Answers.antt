@@ -1,5 +1,5 @@
 use Rattle.syntect_parsing.proofs.SearchLaws.{region_on_boundaries}
-use Rattle.syntect_grammar.proofs.SubstitutionLaws.{boundaries_of_same}
+use Rattle.syntect_contexts.proofs.SubstitutionLaws.{boundaries_of_same}
 use Rattle.syntect_parsing.proofs.levels.opening_by.Goals as goal
 
 pub new-requires : goal.new-requires

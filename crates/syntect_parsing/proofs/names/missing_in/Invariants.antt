@@ -2,7 +2,8 @@ use Rattle.std.proofs.Common.{◌≡◌, ◌++◌, find, drop}
 use Rattle.std.specs.Prelude.{is_none}
 use Rattle.std.specs.Option.{option_to_list}
 use Rattle.std.specs.List.{filter_map}
-use Rattle.syntect_grammar.specs.Contexts.{target, context_at}
+use Rattle.syntect_contexts.specs.Contexts.{target}
+use Rattle.syntect_grammar.specs.Contexts.{context_at}
 use Rattle.syntect_parsing.specs.Turn.{named}
 use Rattle.syntect_parsing.proofs.names.missing_in.Given as goal
 

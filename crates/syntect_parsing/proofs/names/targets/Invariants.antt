@@ -1,6 +1,6 @@
 use Rattle.std.proofs.Common.{◌≡◌, ◌++◌, drop}
 use Rattle.std.specs.List.{filter_map}
-use Rattle.syntect_grammar.specs.Contexts.{target}
+use Rattle.syntect_contexts.specs.Contexts.{target}
 use Rattle.syntect_parsing.proofs.names.targets.Given as goal
 
 abbrev pub invariant-loop-r : goal.invariant-loop-r

@@ -1,7 +1,7 @@
 use Rattle.std.proofs.Common.{◌≡◌, ◌++◌, find, drop}
 use Rattle.std.specs.Prelude.{is_none}
 use Rattle.std.specs.Option.{option_to_list}
-use Rattle.syntect_grammar.specs.Contexts.{target}
+use Rattle.syntect_contexts.specs.Contexts.{target}
 use Rattle.syntect_parsing.specs.Turn.{named}
 use Rattle.syntect_parsing.proofs.names.unresolved_in.Given as goal
 

@@ -2,7 +2,7 @@ use Rattle.std.proofs.Common.{◌≡◌, ℕ, ◌+◌, ◌-◌, ◌<◌, List, [
 use Rattle.syntect_grammar.specs.Places.{path_of, places_from, places_behind, walk_left}
 use Rattle.syntect_grammar.specs.Walking.{steps_from, steps_behind, steps_left}
 use Rattle.syntect_grammar.proofs.PlaceLaws.{waiting_places, waiting_steps}
-use Rattle.syntect_grammar.specs.declared.syntax_definition.Context.{Context}
+use Rattle.syntect_contexts.specs.declared.context.Context.{Context}
 use Rattle.syntect_grammar.specs.declared.syntax_set.SyntaxSet.{SyntaxSet}
 use Rattle.syntect_grammar.specs.declared.match_iter.Waiting.{Waiting}
 use Rattle.syntect_grammar.proofs.match_iter.MatchIter.leave.Goals as goal

@@ -1,6 +1,6 @@
 use Rattle.std.proofs.Common.{take}
 use Rattle.syntect_grammar.specs.Folders.{AddsSyntaxes}
-use Rattle.syntect_grammar.specs.LoadingSteps.{Keeps}
+use Rattle.syntect_loader.specs.LoadingSteps.{Keeps}
 use Rattle.syntect_grammar.proofs.syntax_set.SyntaxSetBuilder.add_files.Given as goal
 
 abbrev pub invariant-loop-path : goal.invariant-loop-path

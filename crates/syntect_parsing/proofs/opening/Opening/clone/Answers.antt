@@ -1,4 +1,4 @@
-use Rattle.syntect_grammar.proofs.SubstitutionLaws.{boundaries_of_same}
+use Rattle.syntect_contexts.proofs.SubstitutionLaws.{boundaries_of_same}
 use Rattle.syntect_parsing.proofs.opening.Opening.clone.Goals as goal
 
 pub invariant_of-result : goal.invariant_of-result

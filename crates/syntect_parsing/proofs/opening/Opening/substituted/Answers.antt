@@ -1,5 +1,5 @@
 use Rattle.std.proofs.Common.{refl}
-use Rattle.syntect_grammar.proofs.SubstitutionLaws.{boundaries_of_same}
+use Rattle.syntect_contexts.proofs.SubstitutionLaws.{boundaries_of_same}
 use Rattle.syntect_parsing.proofs.opening.Opening.substituted.Goals as goal
 
 pub regex_with_refs-requires : goal.regex_with_refs-requires

@@ -1,0 +1,6 @@
+//! Callers that carry the promises of the library to their end: from definitions, or from the texts of grammars, to a page
+//! and to the pieces of lines. Their contracts are the whole promise, with nothing to be known of the grammars.
+#![tactic(auto)]
+
+pub mod third;
+pub mod whole;

@@ -1,0 +1,102 @@
+-- Nodes that have no match, as is seen at once.
+use Rattle.std.proofs.Common.{◌≡◌, ◌<◌, ◌+◌, ℕ, Bool, true, false, not, List, [], map, take, refl, sym, ◌∙◌, ap, arith, Option, Some, None, reverse}
+use Rattle.std.specs.Prelude.{is_some, if◌then◌else◌}
+use Rattle.std.specs.Char.{len_utf8}
+use Rattle.std.specs.List.{flat_map}
+use Rattle.std.specs.Option.{option_or}
+use Rattle.syntect_pattern.specs.Text.{char_at}
+use Rattle.syntect_pattern.specs.Sets.{Set, holds}
+use Rattle.syntect_pattern.specs.Trees.{Anchor, Tree, one_of, anchor, seq, alt, group, atomic}
+use Rattle.syntect_pattern.specs.Matches.{Groups, Member, matches, past, only_if, close, stands}
+use Rattle.syntect_engine.specs.declared.state.Next.{Next}
+use Rattle.syntect_engine.specs.declared.state.Search.{Search}
+use Rattle.syntect_engine.specs.Machine.{Work, On, tick, both, after_char, search, list_at, tree_at, pending, total, now, steps_of, Fits, Goes}
+use Rattle.syntect_engine.proofs.FirstLaws.{search-first, first_each, finds}
+use Rattle.syntect_engine.proofs.MachineLaws.{pending-less}
+
+pub none_is : (o : Option ℕ) (b : Bool) → is_some o ≡ not b → b ≡ true → o ≡ None
+none_is None b e h = refl
+none_is (Some c) true e h = cc
+none_is (Some c) false e h = cc
+
+pub false_is : (b : Bool) → not b ≡ true → b ≡ false
+false_is true h = cc
+false_is false h = refl
+
+module _ (s : List ℕ) (i : ℕ) where
+  -- the tree has no match at the place
+  abbrev pub IsDead : Tree → Type 0
+  IsDead t = (g : Groups) → matches s t i g ≡ []
+
+  no_past : (test : ℕ → Bool) (o : Option ℕ) (g : Groups) → after_char test o i ≡ None → past test o i g ≡ []
+  no_past test None g e = refl
+  no_past test (Some c) g e = go (test c) e
+    where
+      go : (b : Bool) → (if b then Some (i + len_utf8 c) else None) ≡ None → only_if b (i + len_utf8 c) g ≡ []
+      go true h = cc
+      go false h = refl
+
+  pub dead-one : (a : Set) → after_char (holds a) (char_at s i) i ≡ None → IsDead (one_of a)
+  dead-one a e g = no_past (holds a) (char_at s i) g e
+
+  pub dead-anchor : (a : Anchor) → stands s a i ≡ false → IsDead (anchor a)
+  dead-anchor a e g = ap (λ (b : Bool). only_if b i g) e
+
+  pub dead-seq : (a b : Tree) → IsDead a → IsDead (seq a b)
+  dead-seq a b h g = ap (flat_map (λ (j, q). matches s b j q)) (h g)
+
+  pub dead-group : (n : ℕ) (a : Tree) → IsDead a → IsDead (group n a)
+  dead-group n a h g = ap (map (close n i)) (h g)
+
+  pub dead-atomic : (a : Tree) → IsDead a → IsDead (atomic a)
+  dead-atomic a h g = ap (take 1) (h g)
+
+module _ (s : List ℕ) (ts : List Tree) (node k : ℕ) where
+  -- what is entered, for an alternation
+  entered : (x : Search) (a b : Tree) → tree_at s ts node ≡ alt a b → now s ts (Next.Enter node k) x.cells.items x.place x.groups.items
+      ≡ tick (both (search s a (list_at s ts x.cells.items k) x.place x.groups.items) (tick (search s b (list_at s ts x.cells.items k) x.place x.groups.items)))
+  entered x a b is = ap (λ (t : Tree). search s t (list_at s ts x.cells.items k) x.place x.groups.items) is
+
+  dead-found : (a : Tree) (K : On) (i : ℕ) (g : Groups) → IsDead s i a → (search s a K i g).found ≡ None
+  dead-found a K i g h = search-first s a K i g ∙ ap (first_each (finds K)) (h g)
+
+  or_none : (o : Option Member) → option_or o None ≡ o
+  or_none None = refl
+  or_none (Some m) = refl
+
+  -- a branch alone is entered
+  goes_branch : (x : Search) (a : ℕ) (w : Work) → Fits s (Next.Enter node k) x → now s ts (Next.Enter node k) x.cells.items x.place x.groups.items ≡ w
+      → (now s ts (Next.Enter a k) x.cells.items x.place x.groups.items).found ≡ w.found → (now s ts (Next.Enter a k) x.cells.items x.place x.groups.items).count < w.count
+      → Goes s ts (Next.Enter node k) x (Next.Enter a k) x
+  goes_branch x a w hf e f c =
+      let before : total s ts (Next.Enter node k) x ≡ pending s ts x.cells.items x.groups.items (reverse x.frames.items) w = ap (pending s ts x.cells.items x.groups.items (reverse x.frames.items)) e in
+      let less = pending-less s ts x.cells.items x.groups.items (reverse x.frames.items) (now s ts (Next.Enter a k) x.cells.items x.place x.groups.items) w f c in
+      let fewer : (total s ts (Next.Enter a k) x).count < (pending s ts x.cells.items x.groups.items (reverse x.frames.items) w).count = less.1 in
+      let steps : steps_of s ts (Next.Enter a k) x < steps_of s ts (Next.Enter node k) x = omega (arith, ap (λ (v : Work). v.count) before) in
+      record {
+        found = less.0 ∙ sym (ap (λ (v : Work). v.found) before);
+        fewer = steps;
+        fits = record { cells = hf.cells; frames = hf.frames; list = hf.list; place = hf.place; groups = hf.groups };
+      }
+
+  -- the first branch has no match
+  pub goes_second : (x : Search) (a b : ℕ) → tree_at s ts node ≡ alt (tree_at s ts a) (tree_at s ts b) → Fits s (Next.Enter node k) x → IsDead s x.place (tree_at s ts a)
+      → Goes s ts (Next.Enter node k) x (Next.Enter b k) x
+  unfolding both tick
+  goes_second x a b is hf h =
+      let K : On = list_at s ts x.cells.items k in
+      let A : Work = search s (tree_at s ts a) K x.place x.groups.items in
+      let B : Work = search s (tree_at s ts b) K x.place x.groups.items in
+      goes_branch x b (tick (both A (tick B))) hf (entered x (tree_at s ts a) (tree_at s ts b) is)
+      (ap (λ o. option_or o B.found) (sym (dead-found (tree_at s ts a) K x.place x.groups.items h))) (omega arith)
+
+  -- the second branch has no match
+  pub goes_first : (x : Search) (a b : ℕ) → tree_at s ts node ≡ alt (tree_at s ts a) (tree_at s ts b) → Fits s (Next.Enter node k) x → IsDead s x.place (tree_at s ts b)
+      → Goes s ts (Next.Enter node k) x (Next.Enter a k) x
+  unfolding both tick
+  goes_first x a b is hf h =
+      let K : On = list_at s ts x.cells.items k in
+      let A : Work = search s (tree_at s ts a) K x.place x.groups.items in
+      let B : Work = search s (tree_at s ts b) K x.place x.groups.items in
+      goes_branch x a (tick (both A (tick B))) hf (entered x (tree_at s ts a) (tree_at s ts b) is)
+      (sym (ap (option_or A.found) (dead-found (tree_at s ts b) K x.place x.groups.items h) ∙ or_none A.found)) (omega arith)

@@ -1,0 +1,106 @@
+-- The least place that has a match.
+use Rattle.std.proofs.Common.{◌≡◌, ℕ, zero, suc, ◌+◌, ◌-◌, ◌<◌, ◌≤◌, ◌&&◌, ◌||◌, Bool, true, false, nat_le, nat_lt, List, length, get_or, refl, sym, ◌∙◌, ap, arith, Some, None, inl, inr, ◌⊎◌}
+use Rattle.std.proofs.lemmas.Bool.{cases_lt, le-leb, lt-ltb}
+use Rattle.std.proofs.lemmas.Str.{IsCharBoundary-start}
+use Rattle.std.specs.Prelude.{IsCharBoundary, IsUtf8, slice_get, slice_index, option_map, replicate, if◌then◌else◌, IsTrue, ◌↔◌}
+use Rattle.std.specs.Option.{option_or}
+use Rattle.std.proofs.lemmas.Bool.Decides.{nat_tests}
+use Rattle.syntect_pattern.specs.Text.{is_boundary}
+use Rattle.syntect_pattern.specs.Trees.{Tree, nothing, group}
+use Rattle.syntect_pattern.specs.Matches.{Groups, Member, matches, unset, found_at, found_within, found}
+use Rattle.syntect_pattern_table.specs.Program.{trees_of, IsProgramOf}
+use Rattle.syntect_pattern_table.specs.declared.program.Program.{Program}
+use Rattle.syntect_engine.specs.declared.state.Search.{Search}
+use Rattle.syntect_engine.specs.Machine.{is_start, match_of, groups_of}
+
+is_either : (b : Bool) → (b ≡ true) ⊎ (b ≡ false)
+is_either true = inl refl
+is_either false = inr refl
+
+pub boundary-true : (s : List ℕ) (i : ℕ) → is_boundary s i ≡ true → IsCharBoundary s i
+unfolding is_boundary
+boundary-true s i h = (grind (arith, nat_tests), λ a b. grind (arith, nat_tests))
+
+pub start-boundary : (s : List ℕ) → IsUtf8 s → (i : ℕ) → is_start s i ≡ true → IsCharBoundary s i
+start-boundary s u zero h = IsCharBoundary-start s u
+start-boundary s u (suc i) h = boundary-true s (suc i) h
+
+or-true : (a : Bool) → (a || true) ≡ true
+or-true true = refl
+or-true false = refl
+
+pub true-boundary : (s : List ℕ) (i : ℕ) → IsCharBoundary s i → is_boundary s i ≡ true
+unfolding is_boundary
+true-boundary s i h =
+    let b : ℕ = slice_index s i in
+    let inside : nat_le i (length s) ≡ true = le-leb i (length s) h.0 in
+    let rest : ((nat_le (length s) i || nat_lt b 128) || nat_le 192 b) ≡ true =
+    elim (cases_lt i (length s)) as (λ _. ((nat_le (length s) i || nat_lt b 128) || nat_le 192 b) ≡ true) [
+      | inl p ↦ elim (cases_lt b 128) as (λ _. ((nat_le (length s) i || nat_lt b 128) || nat_le 192 b) ≡ true) [
+        | inl q ↦ ap (λ (c : Bool). (nat_le (length s) i || c) || nat_le 192 b) (lt-ltb b 128 q) ∙ ap (λ (c : Bool). c || nat_le 192 b) (or-true (nat_le (length s) i))
+        | inr q ↦ ap (λ (c : Bool). (nat_le (length s) i || nat_lt b 128) || c) (le-leb 192 b (h.1 p q)) ∙ or-true (nat_le (length s) i || nat_lt b 128)
+      ]
+      | inr p ↦ ap (λ (c : Bool). (c || nat_lt b 128) || nat_le 192 b) (le-leb (length s) i p)
+    ] in
+    ap (λ (c : Bool). c && ((nat_le (length s) i || nat_lt b 128) || nat_le 192 b)) inside ∙ rest
+
+-- the test of std is that of the definition
+pub boundary-test : (s : List ℕ) (i : ℕ) (b : Bool) → (IsTrue b ↔ IsCharBoundary s i) → b ≡ is_boundary s i
+boundary-test s i true h = sym (true-boundary s i (h.0 refl))
+boundary-test s i false h =
+    elim (is_either (is_boundary s i)) [
+      | inl e ↦ absurd (let f : false ≡ true = h.1 (boundary-true s i e) in cc)
+      | inr e ↦ sym e
+    ]
+
+groups-match : (b : Bool) (x : Search) → groups_of b x ≡ option_map (λ (m : Member). m.1) (match_of b x)
+groups-match true x = refl
+groups-match false x = refl
+
+module _ (s : List ℕ) (p : Program) (tree : Tree) (h : IsProgramOf p tree) where
+  -- what the search at a boundary finds
+  pub found_at-boundary : (i : ℕ) (b : Bool) (x : Search) → is_boundary s i ≡ true
+      → match_of b x ≡ slice_get (matches s (get_or (trees_of p) p.root nothing) i (replicate p.groups None)) 0
+      → groups_of b x ≡ found_at s tree i
+  unfolding found_at
+  found_at-boundary i b x at e =
+      groups-match b x
+      ∙ ap (option_map (λ (m : Member). m.1))
+      (e ∙ ap (λ (t : Tree). slice_get (matches s t i (replicate p.groups None)) 0) h.root
+      ∙ ap (λ (n : ℕ). slice_get (matches s (group 0 tree) i (replicate n None)) 0) h.groups)
+      ∙ ap (λ (c : Bool). if c then option_map (λ (m : Member). m.1) (slice_get (matches s (group 0 tree) i (unset s tree)) 0) else None) (sym at)
+
+module _ (s : List ℕ) (tree : Tree) where
+  pub found_at-between : (i : ℕ) → is_boundary s i ≡ false → found_at s tree i ≡ None
+  unfolding found_at
+  found_at-between i at = ap (λ (c : Bool). if c then option_map (λ (m : Member). m.1) (slice_get (matches s (group 0 tree) i (unset s tree)) 0) else None) at
+
+  pub found-here : (i : ℕ) (g : Groups) → i ≤ length s → found_at s tree i ≡ Some g → found s tree i ≡ Some g
+  unfolding found
+  found-here i g l e =
+      ap (λ n. found_within s tree n i) (let n : suc (length s) - i ≡ suc (length s - i) = omega arith in n)
+      ∙ ap (λ o. option_or o (found_within s tree (length s - i) (suc i))) e
+
+  pub found-step : (i : ℕ) → i ≤ length s → found_at s tree i ≡ None → found s tree i ≡ found s tree (suc i)
+  unfolding found
+  found-step i l e =
+      ap (λ n. found_within s tree n i) (let n : suc (length s) - i ≡ suc (length s - i) = omega arith in n)
+      ∙ ap (λ o. option_or o (found_within s tree (length s - i) (suc i))) e
+      ∙ ap (λ n. found_within s tree n (suc i)) (let n : length s - i ≡ suc (length s) - suc i = omega arith in n)
+
+  -- places where no match begins are passed over
+  pub found-skip : (n i : ℕ) → i + n ≤ suc (length s) → ((k : ℕ) → i ≤ k → k < i + n → found_at s tree k ≡ None) → found s tree i ≡ found s tree (i + n)
+  found-skip zero i l h = ap (found s tree) (let e : i ≡ i + 0 = omega arith in e)
+  found-skip (suc n) i l h =
+      found-step i (omega arith) (h i (omega arith) (omega arith))
+      ∙ found-skip n (suc i) (omega arith) (λ k p q. h k (omega arith) (omega arith))
+      ∙ ap (found s tree) (let e : suc i + n ≡ i + suc n = omega arith in e)
+
+  pub found-jump : (i j : ℕ) → i ≤ j → j ≤ suc (length s) → ((k : ℕ) → i ≤ k → k < j → found_at s tree k ≡ None) → found s tree i ≡ found s tree j
+  found-jump i j l m h =
+      let e : i + (j - i) ≡ j = omega arith in
+      found-skip (j - i) i (omega arith) (λ k p q. h k p (omega arith)) ∙ ap (found s tree) e
+
+  pub found-past : (i : ℕ) → length s < i → found s tree i ≡ None
+  unfolding found
+  found-past i l = ap (λ n. found_within s tree n i) (let n : suc (length s) - i ≡ 0 = omega arith in n)

@@ -1,0 +1,14 @@
+pub mod TextLaws
+pub mod WorkLaws
+pub mod MachineLaws
+pub mod StepLaws
+pub mod TurnLaws
+pub mod BackLaws
+pub mod CutLaws
+pub mod EnterLaws
+pub mod DeadLaws
+pub mod FirstLaws
+pub mod ReachLaws
+pub mod RunLaws
+pub mod FindLaws
+pub mod StretchLaws

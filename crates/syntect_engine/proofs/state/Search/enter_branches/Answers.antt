@@ -1,0 +1,22 @@
+use Rattle.std.proofs.Common.{◌∷◌, ◌++◌, [], ◌∙◌, ap}
+use Rattle.syntect_pattern_table.specs.Program.{trees_of}
+use Rattle.syntect_engine.specs.declared.state.Frame.TheVariants as Frame
+use Rattle.syntect_engine.specs.declared.state.Search.{Search}
+use Rattle.syntect_engine.proofs.EnterLaws.{goes_alt}
+use Rattle.syntect_engine.proofs.DeadLaws.{goes_first, goes_second}
+use Rattle.syntect_engine.proofs.state.Search.enter_branches.Goals as goal
+
+pub returns-then-is_dead : goal.returns-then-is_dead
+returns-then-is_dead c =
+    goes_second c.args.text.now (trees_of c.args.program.now) c.args.node c.args.list c.args.self.now c.args.first c.args.second c.requires.is c.requires.fits (c.is_dead.ensures c.if-is_dead.true)
+
+pub returns-then-is_dead-2 : goal.returns-then-is_dead-2
+returns-then-is_dead-2 c =
+    goes_first c.args.text.now (trees_of c.args.program.now) c.args.node c.args.list c.args.self.now c.args.first c.args.second c.requires.is c.requires.fits (c.is_dead-2.ensures c.if-is_dead-2.true)
+
+pub returns : goal.returns
+returns c =
+    let old : Search = c.args.self.now in
+    goes_alt c.args.text.now (trees_of c.args.program.now) c.args.node c.args.list old c.save.new.self c.args.first c.args.second c.requires.is c.requires.fits
+    (c.in_ok-save.ensures.frames ∙ ap (λ n. old.frames.items ++ Frame.Enter c.args.second c.args.list old.place n ∷ []) (c.len.ensures ∙ old.cells.ok.0))
+    c.in_ok-save.ensures.others

@@ -1,0 +1,29 @@
+use Rattle.std.proofs.Common.{◌≡◌, sym, ◌∙◌, ap, arith, Some, None, add-one}
+use Rattle.syntect_pattern.specs.Matches.{found_at}
+use Rattle.syntect_engine.specs.Machine.{groups_of}
+use Rattle.syntect_engine.proofs.FindLaws.{found-here, found-step, found-past, found-jump}
+use Rattle.syntect_engine.proofs.state.Search.find.Goals as goal
+
+pub returns-then-branch : goal.returns-then-branch
+returns-then-branch c = λ tree is.
+    let s = c.args.text.now in
+    let next = c.next_start-place.result in
+    let groups = c.begins_at.new.self.groups.items in
+    let here : found_at s tree next ≡ Some groups =
+    sym (c.in_ok-begins_at.ensures tree is) ∙ ap (λ b. groups_of b c.begins_at.new.self) c.if-branch.true in
+    sym (found-here s tree next groups c.next_start-place.ensures.inside here)
+    ∙ sym (found-jump s tree c.loop-place.place next c.next_start-place.ensures.later (omega (arith, c.next_start-place.ensures.inside)) (λ k p q. c.next_start-place.ensures.skipped k p q tree is))
+    ∙ c.loop-place.invariant tree is
+
+pub loop-place-preserved : goal.loop-place-preserved
+loop-place-preserved c = λ tree is.
+    let s = c.args.text.now in
+    let next = c.next_start-place.result in
+    let nothing_here : found_at s tree next ≡ None =
+    sym (c.in_ok-begins_at.ensures tree is) ∙ ap (λ b. groups_of b c.begins_at.new.self) c.if-branch.false in
+    rw add-one (sym (found-step s tree next c.next_start-place.ensures.inside nothing_here)
+    ∙ sym (found-jump s tree c.loop-place.place next c.next_start-place.ensures.later (omega (arith, c.next_start-place.ensures.inside)) (λ k p q. c.next_start-place.ensures.skipped k p q tree is))
+    ∙ c.loop-place.invariant tree is)
+
+pub returns : goal.returns
+returns c = λ tree is. sym (found-past c.args.text.now tree c.loop-place.place (omega arith)) ∙ c.loop-place.invariant tree is

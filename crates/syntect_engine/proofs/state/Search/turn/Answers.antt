@@ -1,0 +1,51 @@
+use Rattle.std.proofs.Common.{◌∷◌, ◌++◌, [], sym, ◌∙◌, arith, ap, eq-eqb, ne_eqb}
+use Rattle.syntect_pattern_table.specs.Table.{node_tree}
+use Rattle.syntect_pattern_table.specs.Program.{trees_of}
+use Rattle.syntect_engine.specs.declared.state.Item.TheVariants as Item
+use Rattle.syntect_engine.specs.declared.state.Search.{Search}
+use Rattle.syntect_engine.proofs.TurnLaws.{goes_turn-leave, goes_turn-fail, goes_turn-more, goes_turn-over, goes_choose, goes_no_loop, goes_no_node}
+use Rattle.syntect_engine.proofs.state.Search.turn.Goals as goal
+
+pub returns-in_default : goal.returns-in_default
+returns-in_default c = goes_no_node c.args.text.now (trees_of c.args.program.now) c.args.turns c.args.self.now c.args.list c.in_default.ensures c.requires
+
+pub returns-in_default-found : goal.returns-in_default-found
+returns-in_default-found c =
+    goes_no_loop c.args.text.now (trees_of c.args.program.now) c.args.turns c.in-Some.found.now c.args.self.now c.args.list
+    c.in-Some.ensures c.in_default-found.not-Repeat c.requires
+
+pub returns-then-turns-eq0 : goal.returns-then-turns-eq0
+returns-then-turns-eq0 c =
+    goes_turn-over c.args.text.now (trees_of c.args.program.now) c.args.turns c.in-Repeat.greedy c.in-Repeat.least c.in-Repeat.most c.in-Repeat.body
+    (c.in-Some.ensures ∙ ap (node_tree (trees_of c.args.program.now)) c.in-Repeat.is)
+    c.args.self.now c.args.list c.requires c.if-turns-eq0.true
+
+pub returns-then-turns-eq0-2 : goal.returns-then-turns-eq0-2
+returns-then-turns-eq0-2 c =
+    goes_turn-leave c.args.text.now (trees_of c.args.program.now) c.args.turns c.in-Repeat.greedy c.in-Repeat.least c.in-Repeat.most c.in-Repeat.body
+    (c.in-Some.ensures ∙ ap (node_tree (trees_of c.args.program.now)) c.in-Repeat.is)
+    c.args.self.now c.args.list c.requires (omega arith) (sym c.is_used_up.ensures ∙ c.if-is_used_up.true) (eq-eqb c.args.turns.least 0 c.if-turns-eq0-2.true)
+
+pub returns-then-is_used_up : goal.returns-then-is_used_up
+returns-then-is_used_up c =
+    goes_turn-fail c.args.text.now (trees_of c.args.program.now) c.args.turns c.in-Repeat.greedy c.in-Repeat.least c.in-Repeat.most c.in-Repeat.body
+    (c.in-Some.ensures ∙ ap (node_tree (trees_of c.args.program.now)) c.in-Repeat.is)
+    c.args.self.now c.args.list c.requires (omega arith) (sym c.is_used_up.ensures ∙ c.if-is_used_up.true) (ne_eqb c.args.turns.least 0 c.if-turns-eq0-2.false)
+
+pub returns-then-turns-ne0 : goal.returns-then-turns-ne0
+returns-then-turns-ne0 c =
+    let old : Search = c.args.self.now in
+    rw c.in_ok-again.ensures.list
+    (goes_turn-more c.args.text.now (trees_of c.args.program.now) c.args.turns c.in-Repeat.greedy c.in-Repeat.least c.in-Repeat.most c.in-Repeat.body
+    (c.in-Some.ensures ∙ ap (node_tree (trees_of c.args.program.now)) c.in-Repeat.is)
+    old c.cons.new.self c.args.list c.requires (omega arith) (sym c.is_used_up.ensures ∙ c.if-is_used_up.false) (ne_eqb c.args.turns.least 0 c.if-turns-ne0.true)
+    (c.in_ok-again.ensures.cells ∙ ap (λ t. old.cells.items ++ record { item = Item.Again t old.place; next = c.args.list } ∷ []) c.one_turn_less.ensures)
+    c.in_ok-again.ensures.others)
+
+pub returns : goal.returns
+returns c =
+    goes_choose c.args.text.now (trees_of c.args.program.now) c.args.turns c.in-Repeat.greedy c.in-Repeat.least c.in-Repeat.most c.in-Repeat.body
+    (c.in-Some.ensures ∙ ap (node_tree (trees_of c.args.program.now)) c.in-Repeat.is)
+    c.args.self.now c.choose.new.self c.args.list c.choose.result c.one_turn_less.result c.one_turn_less.ensures c.requires (omega arith)
+    (sym c.is_used_up.ensures ∙ c.if-is_used_up.false) (eq-eqb c.args.turns.least 0 c.if-turns-ne0.false)
+    c.choose.ensures.cells c.choose.ensures.more c.choose.ensures.leave c.choose.ensures.place c.choose.ensures.groups

@@ -1,0 +1,36 @@
+//! A quick look at whether a node can match at a place.
+ghost use Rattle.std.specs.Prelude.{◌≡◌, List, [], IsCharBoundary, slice_index_or, true};
+ghost use Rattle.syntect_pattern.specs.Trees.{nothing};
+ghost use Rattle.syntect_pattern.specs.Matches.{Groups, matches};
+ghost use Rattle.syntect_pattern_table.specs.Program.{trees_of};
+
+use crate::anchor::stands;
+use crate::enter::{past_char, past_class};
+use syntect_pattern_table::node::Node;
+use syntect_pattern_table::program::Program;
+
+/// How many parts are looked into.
+const LOOKS: u32 = 8;
+
+/// Whether it is seen at once that the node has no match at the place: what its matches begin with fails there.
+pub fn is_dead(program: &Program, text: &str, place: usize, node: usize) -> bool
+    requires { IsCharBoundary text.now place }
+    ensures { result ≡ true → (g : Groups) → matches text.now (slice_index_or (trees_of program.now) node nothing) place g ≡ [] }
+{
+    let mut first = node;
+    for _ in 0..LOOKS {
+        let Some(found) = program.node(first) else {
+            return false;
+        };
+        first = match found {
+            Node::Char(wanted) => return past_char(text, place, *wanted).is_none(),
+            Node::Class(class) => return past_class(text, place, class).is_none(),
+            Node::Anchor(anchor) => return !stands(text, place, *anchor),
+            Node::Sequence(first, _) => *first,
+            Node::Group { number: _, body } => *body,
+            Node::Atomic(body) => *body,
+            _ => return false,
+        };
+    }
+    false
+}

@@ -1,0 +1,95 @@
+//! The search of a pattern: a machine whose choices stand in lists of its own.
+ghost use Rattle.std.specs.Prelude.{◌≡◌, IfOk, slice_index_or, None, IsCharBoundary};
+
+use crate::dead::is_dead;
+use crate::state::{Next, Search};
+use crate::text::is_boundary;
+use std::alloc::AllocError;
+use syntect_pattern_table::program::Program;
+
+impl Search {
+    ghost use Rattle.syntect_pattern_table.specs.Program.{trees_of};
+    ghost use Rattle.std.specs.Prelude.{replicate, slice_get};
+    ghost use Rattle.syntect_pattern.specs.Trees.{nothing};
+    ghost use Rattle.syntect_pattern.specs.Matches.{matches};
+    ghost use Rattle.syntect_engine.specs.Machine.{Fits, found_by, match_of, groups_of, FindsAt, FindsGroups};
+
+    /// Takes steps until a match is found or nothing is left to try.
+    fn run(&mut self, program: &Program, text: &str, start: Next) -> Result<bool, AllocError>
+        requires { Fits text.now start self.old }
+        ensures { IfOk result (λ found. match_of found self.new ≡ found_by text.now (trees_of program.now) start self.old) }
+    {
+        let mut next = start;
+        'steps: loop {
+            next = match next {
+                Next::Enter { node, list } => self.enter(program, text, node, list)?,
+                Next::Turn { turns, list } => self.turn(program, text, turns, list)?,
+                Next::Leave { list } => self.leave(program, text, list)?,
+                Next::Fail => {
+                    let Some(next) = self.back(program, text)? else {
+                        return Ok(false);
+                    };
+                    next
+                }
+                Next::Found => {
+                    let Some(next) = self.finish()? else {
+                        return Ok(true);
+                    };
+                    next
+                }
+            };
+        }
+    }
+
+    /// Whether the program matches at the place. Where it does, the search's place is the match's end, and its groups are
+    /// the match's.
+    pub fn is_at(&mut self, program: &Program, text: &str, place: usize) -> Result<bool, AllocError>
+        requires { IsCharBoundary text.now place }
+        ensures { IfOk result (λ found. match_of found self.new ≡ slice_get (matches text.now (slice_index_or (trees_of program.now) program.now.root nothing) place (replicate program.now.groups None)) 0) }
+    {
+        self.begin(program.groups, place)?;
+        let start = Next::Enter {
+            node: program.root,
+            list: 0,
+        };
+        self.run(program, text, start)
+    }
+
+    /// Whether a match begins at the place, which it does on boundaries of characters alone. Where it does, the search's
+    /// groups are the match's.
+    pub fn begins_at(
+        &mut self,
+        program: &Program,
+        text: &str,
+        place: usize,
+    ) -> Result<bool, AllocError>
+        ensures { IfOk result (λ found. FindsAt text.now program.now place (groups_of found self.new)) }
+    {
+        if !program.can_begin(text, place) {
+            return Ok(false);
+        }
+        if !is_boundary(text, place) {
+            return Ok(false);
+        }
+        if is_dead(program, text, place, program.root) {
+            return Ok(false);
+        }
+        self.is_at(program, text, place)
+    }
+
+    /// Whether the program matches at the place or at a later one, of which the least counts. Where it does, the search's
+    /// groups are the match's.
+    pub fn find(&mut self, program: &Program, text: &str, begin: usize) -> Result<bool, AllocError>
+        ensures { IfOk result (λ found. FindsGroups text.now program.now begin (groups_of found self.new)) }
+    {
+        let mut place = begin;
+        while place <= text.len() {
+            place = program.next_start(text, place);
+            if self.begins_at(program, text, place)? {
+                return Ok(true);
+            }
+            place += 1;
+        }
+        Ok(false)
+    }
+}

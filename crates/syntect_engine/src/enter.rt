@@ -1,0 +1,308 @@
+//! A node is matched at a place.
+ghost use Rattle.std.specs.Prelude.{◌≡◌, List, ℕ, ◌-◌, ◌<◌, ◌^◌, ◌++◌, ◌∷◌, [], length, OnOk, IfOk, IfSome, IfNone, slice_index_or, None, Option, IsCharBoundary, suc, true, false};
+ghost use Rattle.syntect_pattern.specs.Sets.{holds, range};
+ghost use Rattle.syntect_pattern.specs.Text.{char_at};
+ghost use Rattle.syntect_pattern_table.specs.Table.{set_of};
+ghost use Rattle.syntect_engine.specs.Machine.{after_char, at_end, look_bound};
+ghost use Rattle.syntect_engine.specs.Reaches.{AreEnough};
+ghost use Rattle.syntect_pattern_table.specs.Program.{trees_of};
+ghost use Rattle.syntect_pattern.specs.Trees.{nothing};
+
+use crate::anchor::stands;
+use crate::dead::is_dead;
+use crate::reach::reach;
+use crate::state::{Bound, Frame, Item, Next, Search, Turns};
+use crate::stretch::stretch;
+use crate::text::{char_at, past_text};
+use std::alloc::AllocError;
+use syntect_pattern_table::node::{Class, Node};
+use syntect_pattern_table::program::Program;
+
+/// The place behind the character at the place, if it is this one.
+pub fn past_char(text: &str, place: usize, wanted: char) -> Option<usize>
+    requires { IsCharBoundary text.now place }
+    ensures value { result ≡ after_char (holds (range wanted wanted)) (char_at text.now place) place }
+    ensures boundary { IfSome result (λ j. IsCharBoundary text.now j) }
+{
+    let c = char_at(text, place)?;
+    if c == wanted {
+        Some(place + c.len_utf8())
+    } else {
+        None
+    }
+}
+
+/// The place behind the character at the place, if the class holds it.
+pub fn past_class(text: &str, place: usize, class: &Class) -> Option<usize>
+    requires { IsCharBoundary text.now place }
+    ensures value { result ≡ after_char (holds (set_of class.now)) (char_at text.now place) place }
+    ensures boundary { IfSome result (λ j. IsCharBoundary text.now j) }
+{
+    let c = char_at(text, place)?;
+    if class.holds(c) {
+        Some(place + c.len_utf8())
+    } else {
+        None
+    }
+}
+
+/// How many parts of a pattern can lie in one another where it is told how far a lookbehind reaches.
+const REACH_DEPTH: u32 = 32;
+
+/// At how many places, from this one backwards, a match of the node can begin that ends at the place.
+fn starts_before(program: &Program, place: usize, node: usize) -> usize
+    requires { place < 2 ^ 64 - 1 }
+    ensures { AreEnough (slice_index_or (trees_of program.now) node nothing) place result }
+{
+    match reach(program, node, REACH_DEPTH) {
+        Some(far) => far.min(place) + 1,
+        None => place + 1,
+    }
+}
+
+/// What goes on behind a lookaround.
+fn look_bound(negated: bool) -> Bound
+    ensures { result ≡ look_bound negated }
+{
+    if negated { Bound::Fails } else { Bound::Holds }
+}
+
+impl Search {
+    ghost use Rattle.syntect_pattern.specs.Trees.{alt, repeat};
+    ghost use Rattle.std.specs.Prelude.{slice_get};
+    ghost use Rattle.syntect_pattern.specs.Matches.{Groups, same_text};
+    ghost use Rattle.syntect_engine.specs.Machine.{Fits, GroupsFit, Goes, EntersStretch};
+
+    /// Goes on with the list from the place, if there is one.
+    fn go_on(&mut self, place: Option<usize>, list: usize) -> Next
+        ensures some { IfSome place (λ j. (result ≡ Next.Leave list) × (self.new ≡ record self.old { place = j })) }
+        ensures none { IfNone place ((result ≡ Next.Fail) × (self.new ≡ self.old)) }
+    {
+        let Some(place) = place else {
+            return Next::Fail;
+        };
+        self.place = place;
+        Next::Leave { list }
+    }
+
+    /// Matches the node at the place.
+    pub fn enter(
+        &mut self,
+        program: &Program,
+        text: &str,
+        node: usize,
+        list: usize,
+    ) -> Result<Next, AllocError>
+        requires { Fits text.now (Next.Enter node list) self.old }
+        ensures { IfOk result (λ next. Goes text.now (trees_of program.now) (Next.Enter node list) self.old next self.new) }
+    {
+        let Some(found) = program.node(node) else {
+            return Ok(Next::Leave { list });
+        };
+        match found {
+            Node::Nothing => Ok(Next::Leave { list }),
+            Node::Char(wanted) => {
+                let place = past_char(text, self.place, *wanted);
+                Ok(self.go_on(place, list))
+            }
+            Node::Class(class) => {
+                let place = past_class(text, self.place, class);
+                Ok(self.go_on(place, list))
+            }
+            Node::Anchor(anchor) => {
+                if stands(text, self.place, *anchor) {
+                    Ok(Next::Leave { list })
+                } else {
+                    Ok(Next::Fail)
+                }
+            }
+            Node::Same { fold, group } => {
+                let place = self.past_group(text, *fold, *group);
+                Ok(self.go_on(place, list))
+            }
+            Node::Sequence(first, second) => {
+                let list = self.cons(Item::Run(*second), list)?;
+                Ok(Next::Enter { node: *first, list })
+            }
+            Node::Alternation(first, second) => {
+                self.enter_branches(program, text, node, *first, *second, list)
+            }
+            Node::Repeat {
+                greedy,
+                least,
+                most,
+                body,
+            } => {
+                let turns = Turns {
+                    node,
+                    left: text.len().saturating_sub(self.place) + 1,
+                    least: *least,
+                    most: *most,
+                };
+                self.enter_loop(program, text, turns, *greedy, *body, list)
+            }
+            Node::Group { number, body } => {
+                let item = Item::Close {
+                    group: *number,
+                    start: self.place,
+                };
+                let list = self.cons(item, list)?;
+                Ok(Next::Enter { node: *body, list })
+            }
+            Node::Atomic(body) => self.enter_part(Bound::Whole, *body, list),
+            Node::Ahead { negated, body } => self.enter_part(look_bound(*negated), *body, list),
+            Node::Behind { negated, body } => {
+                let count = starts_before(program, self.place, *body);
+                self.enter_behind(look_bound(*negated), *body, count, list)
+            }
+        }
+    }
+
+    /// The place behind the text of the group, where it stands again at the place.
+    fn past_group(&self, text: &str, fold: bool, group: usize) -> Option<usize>
+        requires place { IsCharBoundary text.now self.now.place }
+        requires groups { GroupsFit text.now self.now.groups.items }
+        ensures value { (g : Groups) → same_text text.now fold (slice_get self.now.groups.items group) self.now.place g ≡ at_end result g }
+        ensures boundary { IfSome result (λ j. IsCharBoundary text.now j) }
+    {
+        let (from, to) = (*self.groups.get(group)?)?;
+        if from > to {
+            return Some(self.place);
+        }
+        past_text(text, self.place, fold, &text[from..to])
+    }
+
+    /// Begins a part of which the first match counts alone.
+    fn enter_part(&mut self, bound: Bound, body: usize, list: usize) -> Result<Next, AllocError>
+        ensures frames { OnOk result (self.new.frames.items ≡ self.old.frames.items ++ Frame.Within bound list self.old.place (length self.old.cells.items) ∷ []) }
+        ensures others { self.new ≡ record self.old { frames = self.new.frames } }
+        ensures next { IfOk result (λ next. next ≡ Next.Enter body 0) }
+    {
+        let frame = Frame::Within {
+            bound,
+            list,
+            place: self.place,
+            cells: self.cells.len(),
+        };
+        self.save(frame)?;
+        Ok(Next::Enter {
+            node: body,
+            list: 0,
+        })
+    }
+
+    /// Begins a part that is to end at the place, at so many places, from this one backwards.
+    fn enter_behind(
+        &mut self,
+        bound: Bound,
+        body: usize,
+        count: usize,
+        list: usize,
+    ) -> Result<Next, AllocError>
+        ensures frames { OnOk result (self.new.frames.items ≡ self.old.frames.items ++ Frame.Within bound list self.old.place (length self.old.cells.items) ∷ Frame.Starts body (length self.new.cells.items) count self.old.place (length self.new.cells.items) ∷ []) }
+        ensures cells { OnOk result (self.new.cells.items ≡ self.old.cells.items ++ record { item = Item.EndsAt self.old.place; next = 0 } ∷ []) }
+        ensures place { self.new.place ≡ self.old.place }
+        ensures groups { self.new.groups.items ≡ self.old.groups.items }
+        ensures next { IfOk result (λ next. next ≡ Next.Fail) }
+    {
+        let place = self.place;
+        let frame = Frame::Within {
+            bound,
+            list,
+            place,
+            cells: self.cells.len(),
+        };
+        self.save(frame)?;
+        let ends = self.cons(Item::EndsAt(place), 0)?;
+        let frame = Frame::Starts {
+            node: body,
+            list: ends,
+            count,
+            place,
+            cells: self.cells.len(),
+        };
+        self.save(frame)?;
+        Ok(Next::Fail)
+    }
+
+    /// Matches the first branch of the node, and keeps the second for later. A branch that is dead is passed over.
+    fn enter_branches(
+        &mut self,
+        program: &Program,
+        text: &str,
+        node: usize,
+        first: usize,
+        second: usize,
+        list: usize,
+    ) -> Result<Next, AllocError>
+        requires fits { Fits text.now (Next.Enter node list) self.old }
+        requires is { slice_index_or (trees_of program.now) node nothing ≡ alt (slice_index_or (trees_of program.now) first nothing) (slice_index_or (trees_of program.now) second nothing) }
+        ensures { IfOk result (λ next. Goes text.now (trees_of program.now) (Next.Enter node list) self.old next self.new) }
+    {
+        if is_dead(program, text, self.place, first) {
+            return Ok(Next::Enter { node: second, list });
+        }
+        if is_dead(program, text, self.place, second) {
+            return Ok(Next::Enter { node: first, list });
+        }
+        let frame = Frame::Enter {
+            node: second,
+            list,
+            place: self.place,
+            cells: self.cells.len(),
+        };
+        self.save(frame)?;
+        Ok(Next::Enter { node: first, list })
+    }
+
+    /// Begins the turns of a loop.
+    fn enter_loop(
+        &mut self,
+        program: &Program,
+        text: &str,
+        turns: Turns,
+        greedy: bool,
+        body: usize,
+        list: usize,
+    ) -> Result<Next, AllocError>
+        requires fits { Fits text.now (Next.Enter turns.node list) self.old }
+        requires is_loop { slice_index_or (trees_of program.now) turns.node nothing ≡ repeat greedy turns.least turns.most (slice_index_or (trees_of program.now) body nothing) }
+        requires left { turns.left ≡ suc (length text.now - self.old.place) }
+        ensures { IfOk result (λ next. Goes text.now (trees_of program.now) (Next.Enter turns.node list) self.old next self.new) }
+    {
+        if greedy
+            && turns.most.is_none()
+            && self.enter_stretch(program, text, turns.least, body, list)?
+        {
+            return Ok(Next::Fail);
+        }
+        Ok(Next::Turn { turns, list })
+    }
+
+    /// Reads what a greedy loop over one character can, if it is a stretch of ASCII characters, and keeps its ends for
+    /// later, the last one first.
+    fn enter_stretch(
+        &mut self,
+        program: &Program,
+        text: &str,
+        least: u32,
+        body: usize,
+        list: usize,
+    ) -> Result<bool, AllocError>
+        requires { Fits text.now (Next.Enter body list) self.old }
+        ensures goes { IfOk result (λ yes. yes ≡ true → EntersStretch text.now (trees_of program.now) least body list self.old self.new) }
+        ensures stays { IfOk result (λ yes. yes ≡ false → self.new ≡ self.old) }
+    {
+        let Some(end) = stretch(program, text, self.place, body) else {
+            return Ok(false);
+        };
+        let frame = Frame::Stretch {
+            list,
+            count: (end.saturating_sub(self.place) + 1).saturating_sub(least as usize),
+            place: end,
+            cells: self.cells.len(),
+        };
+        self.save(frame)?;
+        Ok(true)
+    }
+}

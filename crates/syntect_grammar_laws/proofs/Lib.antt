@@ -1,0 +1,5 @@
+mod Room
+mod ReachLaws
+mod PlaceLaws
+mod PlainLaws
+mod LinkRows

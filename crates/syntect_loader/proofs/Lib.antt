@@ -1,0 +1,4 @@
+mod LoadingLaws
+mod RoomLaws
+mod EndLaws
+pub mod NamedLaws

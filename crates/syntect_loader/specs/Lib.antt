@@ -1,0 +1,6 @@
+pub mod LoadingSteps
+pub mod LoadingValues
+pub mod LoadingParts
+pub mod LoadingContexts
+pub mod Loading
+pub mod Named

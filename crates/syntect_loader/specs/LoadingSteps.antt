@@ -1,0 +1,105 @@
+-- Steps of reading the value of a grammar: each finds something and leaves what has been read so far, or refuses. The
+-- first refusal is the answer.
+use Rattle.std.specs.Prelude.{◌≡◌, ℕ, List, [], ◌∷◌, length, take, Option, Some, None, Result, Ok, Err, string_bytes}
+use Rattle.syntect_scope.specs.declared.repository.ParseScopeError.{ParseScopeError}
+use Rattle.syntect_scope.specs.declared.repository.ParseScopeError.TheVariants.{TooLong, TooManyAtoms}
+use Rattle.syntect_scope.specs.declared.repository.ParseScopeError.TheVariants as ScopeError
+use Rattle.syntect_regex.specs.declared.error.PatternError.{PatternError}
+use Rattle.syntect_base.specs.declared.syntax.ParseSyntaxError.{ParseSyntaxError}
+use Rattle.syntect_base.specs.declared.syntax.ParseSyntaxError.TheVariants.{InvalidYaml, EmptyFile, MissingMandatoryKey, RegexCompileError, InvalidScope, BadFileRef, MainMissing, TypeMismatch, Memory}
+use Rattle.syntect_loader.specs.declared.yaml_load_state.Reading.{Reading}
+
+-- why a text is no grammar
+pub data Refusal : Type 0 where
+  no_node : Refusal
+  no_value : Refusal
+  missing : List ℕ → Refusal
+  no_pattern : List ℕ → PatternError → Refusal
+  no_scope : ParseScopeError → Refusal
+  no_file : Refusal
+  no_main : Refusal
+  wrong_kind : Refusal
+
+-- what an error says of the text; want of memory says nothing
+abbrev pub seen : ParseSyntaxError → Option Refusal
+seen InvalidYaml = Some no_value
+seen EmptyFile = Some no_node
+seen (MissingMandatoryKey key) = Some (missing key.now)
+seen (RegexCompileError text e) = Some (no_pattern (string_bytes text) e)
+seen (InvalidScope e) = Some (no_scope e)
+seen BadFileRef = Some no_file
+seen MainMissing = Some no_main
+seen TypeMismatch = Some wrong_kind
+seen Memory = None
+
+-- what the refusal of a scope's text says of the text
+abbrev pub scope_seen : ParseScopeError → Option Refusal
+scope_seen TooLong = Some (no_scope TooLong)
+scope_seen TooManyAtoms = Some (no_scope TooManyAtoms)
+scope_seen ScopeError.Memory = None
+
+-- the error is the answer's refusal, unless memory ran out
+abbrev pub Fails : {B : Type 0} → Result B Refusal → ParseSyntaxError → Type 0
+Fails answer e = (r : Refusal) → seen e ≡ Some r → answer ≡ Err r
+
+-- the result, seen by f, and what has been read after it, are the answer, unless memory ran out
+abbrev pub Gives : {A B : Type 0} → (A → B) → Result A ParseSyntaxError → Reading → Result (B × Reading) Refusal → Type 0
+Gives f (Ok a) after answer = answer ≡ Ok (f a, after)
+Gives f (Err e) after answer = Fails answer e
+
+-- the same of a result that leaves what has been read
+abbrev pub Finds : {A B : Type 0} → (A → B) → Result A ParseSyntaxError → Result B Refusal → Type 0
+Finds f (Ok a) answer = answer ≡ Ok (f a)
+Finds f (Err e) answer = Fails answer e
+
+-- the atoms of a repository that begins with these keep their numbers
+abbrev pub Begins : List (List ℕ) → List (List ℕ) → Type 0
+Begins old repository = take (length old) repository ≡ old
+
+-- whatever began the one repository begins the other
+abbrev pub Keeps : List (List ℕ) → List (List ℕ) → Type 0
+Keeps before after = (old : List (List ℕ)) → Begins old before → Begins old after
+
+-- ---- steps ----
+
+abbrev pub Step : Type 0 → Type 0
+Step A = Reading → Result (A × Reading) Refusal
+
+-- nothing more is read
+abbrev pub give : {A : Type 0} → A → Step A
+give a s = Ok (a, s)
+
+abbrev pub refuse : {A : Type 0} → Refusal → Step A
+refuse r s = Err r
+
+abbrev pub on : {A B : Type 0} → Result (A × Reading) Refusal → (A → Step B) → Result (B × Reading) Refusal
+on (Ok p) f = f p.0 p.1
+on (Err r) f = Err r
+
+-- one step after another
+infixl 10 ◌>>=◌
+abbrev pub ◌>>=◌ : {A B : Type 0} → Step A → (A → Step B) → Step B
+m >>= f = λ s. on (m s) f
+
+-- what is found without reading more
+abbrev pub found_in : {A : Type 0} → Result A Refusal → Step A
+found_in (Ok a) s = Ok (a, s)
+found_in (Err r) s = Err r
+
+abbrev pub finding : {A : Type 0} → (Reading → Result A Refusal) → Step A
+finding f s = found_in (f s) s
+
+-- what stands there, or this refusal
+abbrev pub known : {A : Type 0} → Refusal → Option A → Step A
+known r None = refuse r
+known r (Some a) = give a
+
+-- a step for what may stand there, else this
+abbrev pub perhaps : {A B : Type 0} → (A → Step B) → B → Option A → Step B
+perhaps f b None = give b
+perhaps f b (Some a) = f a
+
+-- a step for each of a list, in order, from b on
+abbrev pub each : {A B : Type 0} → (B → A → Step B) → B → List A → Step B
+each f b [] = give b
+each f b (x ∷ xs) = λ s. on (f b x s) (λ c. each f c xs)

@@ -1,5 +1,0 @@
-use Rattle.syntect_pattern.proofs.BodyLaws.{body-enough}
-use Rattle.syntect_pattern.proofs.reading_has_room.Goals as goal
-
-pub returns : goal.returns
-returns c = body-enough

@@ -1,6 +1,0 @@
-use Rattle.syntect_pattern.specs.Table.{set_of}
-use Rattle.syntect_pattern.proofs.PlaceLaws.{holding_in}
-use Rattle.syntect_pattern.proofs.starts.places_of_class.Goals as goal
-
-pub returns : goal.returns
-returns c x l = holding_in c.ascii.result (set_of c.args.class.now) c.ascii.ensures x

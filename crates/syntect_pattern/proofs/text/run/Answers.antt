@@ -1,7 +1,0 @@
-use Rattle.std.specs.Prelude.{chars}
-use Rattle.syntect_pattern.specs.Views.{passes}
-use Rattle.syntect_pattern.proofs.PartLaws.{run-is}
-use Rattle.syntect_pattern.proofs.text.run.Goals as goal
-
-pub returns : goal.returns
-returns c = run-is (passes c.args.test) (chars c.args.text.now) (chars c.until.result.now) (chars c.behind_run-rest.result.now) c.behind_run-rest.ensures.value c.until.ensures

@@ -1,0 +1,6 @@
+pub mod ClassReading
+pub mod BodyReading
+pub mod ReaderLaws
+pub mod WholeLaws
+pub mod GroupLaws
+pub mod JoinLaws

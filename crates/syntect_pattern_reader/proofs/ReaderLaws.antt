@@ -1,0 +1,88 @@
+-- What is read of a group, in a table that grows.
+use Rattle.std.proofs.Common.{◌≡◌, ℕ, ◌<◌, List, [], ◌∷◌, ◌++◌, length, Option, Some, None, sym, subst, ap, ◌∙◌}
+use Rattle.syntect_pattern.specs.Trees.{Tree, seq_all}
+use Rattle.std.specs.Prelude.{option_map}
+use Rattle.syntect_pattern.specs.Reading.{Text, ◌>>=◌, between, pass}
+use Rattle.syntect_pattern.specs.Grammar.{Names, on, with_item, quantified, passed}
+use Rattle.syntect_pattern.specs.Grammar as grammar
+use Rattle.syntect_pattern_table.specs.Builder.{tree_in, Grows, Holds}
+use Rattle.syntect_pattern_reader.specs.JoinViews.{AllBelow, trees_in}
+use Rattle.syntect_pattern_reader.specs.ReaderViews.{body_as, IsBodyIn}
+use Rattle.syntect_pattern_table.specs.declared.node.Node.{Node}
+use Rattle.syntect_pattern_reader.specs.declared.reader.Body.{Body}
+use Rattle.syntect_pattern_reader.proofs.JoinLaws.{below-grown, below-push, trees-grown, trees-push}
+
+abbrev made : List Tree → List Tree → grammar.Body
+made before items = record { before = before; items = items }
+
+pub body-in-grown : (a b : List Node) (o : Body) → Grows a b → IsBodyIn a o → IsBodyIn b o
+body-in-grown a b o g h = record { before = below-grown a b o.before g h.before; items = below-grown a b o.items g h.items }
+
+pub body-grown : (a b : List Node) (o : Body) → Grows a b → IsBodyIn a o → body_as b o ≡ body_as a o
+body-grown a b o g h =
+    ap (λ ts. made ts (trees_in b o.items)) (trees-grown a b o.before g h.before)
+    ∙ ap (made (trees_in a o.before)) (trees-grown a b o.items g h.items)
+
+pub below-new : (n : ℕ) (ks ls : List ℕ) (k : ℕ) → ls ≡ ks ++ k ∷ [] → AllBelow n ks → k < n → AllBelow n ls
+below-new n ks ls k e h l = subst (AllBelow n) (sym e) (below-push n ks k h l)
+
+pub below-none : (n : ℕ) (ls : List ℕ) → ls ≡ [] → AllBelow n ls
+below-none n ls e = subst (AllBelow n) (sym e) tt
+
+-- the next alternative begins
+pub alternative-is : (old new : List Node) (before items ls none : List ℕ) (k : ℕ) → Grows old new → AllBelow (length old) before → ls ≡ before ++ k ∷ [] → none ≡ []
+    → Holds new k (seq_all (trees_in old items)) → made (trees_in new ls) (trees_in new none) ≡ grammar.next_alternative (made (trees_in old before) (trees_in old items))
+alternative-is old new before items ls none k g h e n t =
+    ap (λ xs. made (trees_in new xs) (trees_in new none)) e
+    ∙ ap (λ xs. made (trees_in new (before ++ k ∷ [])) (trees_in new xs)) n
+    ∙ ap (λ ts. made ts []) (trees-push new before k ∙ ap (λ ts. ts ++ tree_in new k ∷ []) (trees-grown old new before g h) ∙ ap (λ x. trees_in old before ++ x ∷ []) t.is)
+
+-- an item is read with its quantifier
+pub item-is : (known : Option Names) (b c : grammar.Body) (a t u : Tree) (p : grammar.Place) (names more : Names) (rest : Names → grammar.Place) (s : Option grammar.Step)
+    → quantified a p ≡ Some (t, rest names) → u ≡ t → c ≡ b → more ≡ names → grammar.firm known c u (rest more) ≡ s → grammar.item known b a p ≡ s
+item-is known b c a t u p names more rest s q e f n r =
+    ap (λ (o : Option (Tree × grammar.Place)). o >>= λ x. Some (on (with_item b x.0) x.1)) q
+    ∙ ap (λ (x : Tree). grammar.firm known b x (rest names)) (sym e)
+    ∙ ap (λ (x : grammar.Body). grammar.firm known x u (rest names)) (sym f)
+    ∙ ap (λ (x : Names). grammar.firm known c u (rest x)) (sym n)
+    ∙ r
+
+-- an item in a table that has grown
+pub item-grown : (known : Option Names) (b c : grammar.Body) (t u : Tree) (p : grammar.Place) (s : Option grammar.Step) → u ≡ t → c ≡ b → grammar.item known c u p ≡ s → grammar.item known b t p ≡ s
+item-grown known b c t u p s e f r =
+    ap (λ (x : Tree). grammar.item known b x p) (sym e) ∙ ap (λ (x : grammar.Body). grammar.item known x u p) (sym f) ∙ r
+
+pub firm-grown : (known : Option Names) (b c : grammar.Body) (t u : Tree) (p : grammar.Place) (s : Option grammar.Step) → u ≡ t → c ≡ b → grammar.firm known c u p ≡ s → grammar.firm known b t p ≡ s
+firm-grown known b c t u p s e f r =
+    ap (λ (x : Tree). grammar.firm known b x p) (sym e) ∙ ap (λ (x : grammar.Body). grammar.firm known x u p) (sym f) ∙ r
+
+-- a back reference in a table that has grown
+pub refer-is : (known : Option Names) (b c : grammar.Body) (u : Tree) (names more : Names) (rest : Names → grammar.Place) (o : Option Tree) (s : Option grammar.Step)
+    → o ≡ Some u → c ≡ b → more ≡ names → grammar.item known c u (rest more) ≡ s → (o >>= λ a. grammar.item known b a (rest names)) ≡ s
+refer-is known b c u names more rest o s q f n r =
+    ap (λ (x : Option Tree). x >>= λ a. grammar.item known b a (rest names)) q
+    ∙ ap (λ (x : grammar.Body). grammar.item known x u (rest names)) (sym f)
+    ∙ ap (λ (x : Names). grammar.item known c u (rest x)) (sym n)
+    ∙ r
+
+abbrev place_at : grammar.Flags → Names → Text → grammar.Place
+place_at flags names text = record { flags = flags; names = names; text = text }
+
+-- an item behind a group, in a table that has grown
+pub item-behind : (known : Option Names) (b c : grammar.Body) (t u : Tree) (flags : grammar.Flags) (names more : Names) (text v : Text) (s : Option grammar.Step)
+    → u ≡ t → c ≡ b → more ≡ names → v ≡ text → grammar.item known c u (record { flags = flags; names = more; text = v }) ≡ s
+    → grammar.item known b t (record { flags = flags; names = names; text = text }) ≡ s
+item-behind known b c t u flags names more text v s e f n x r =
+    ap (λ (y : Tree). grammar.item known b y (place_at flags names text)) (sym e)
+    ∙ ap (λ (y : grammar.Body). grammar.item known y u (place_at flags names text)) (sym f)
+    ∙ ap (λ (y : Names). grammar.item known c u (place_at flags y text)) (sym n)
+    ∙ ap (λ (y : Text). grammar.item known c u (place_at flags more y)) (sym x)
+    ∙ r
+
+pub passed-some : (flags : grammar.Flags) (names : Names) (t u : Text) → pass flags.spaced between t ≡ Some u → passed (record { flags = flags; names = names; text = t }) ≡ Some (record { flags = flags; names = names; text = u })
+unfolding passed
+passed-some flags names t u e = ap (option_map (λ x. record { flags = flags; names = names; text = x })) e
+
+pub passed-none : (flags : grammar.Flags) (names : Names) (t : Text) → pass flags.spaced between t ≡ None → passed (record { flags = flags; names = names; text = t }) ≡ None
+unfolding passed
+passed-none flags names t e = ap (option_map (λ x. record { flags = flags; names = names; text = x })) e

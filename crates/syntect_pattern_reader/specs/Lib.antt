@@ -1,0 +1,4 @@
+pub mod Compiled
+pub mod ClassViews
+pub mod JoinViews
+pub mod ReaderViews

@@ -1,0 +1,546 @@
+//! The reading of a pattern.
+ghost use Rattle.std.specs.Prelude.{◌≡◌, ◌<◌, ◌+◌, [], ℕ, true, Option, Some, length, chars, option_map, IfOk, OnOk, IfSome};
+ghost use Rattle.syntect_pattern_table.specs.Builder.{Grows, Holds, tree_in};
+ghost use Rattle.syntect_pattern_words.specs.BodyViews.{body_of};
+ghost use Rattle.syntect_pattern_words.specs.OpeningViews.{place_as, wrapped};
+ghost use Rattle.syntect_pattern_words.specs.TokenViews.{token_as, looped_tree};
+ghost use Rattle.syntect_pattern_words.specs.EscapeViews.{escape_of};
+ghost use Rattle.syntect_pattern_words.specs.MemberViews.{leaf_set};
+ghost use Rattle.syntect_pattern.specs.Trees.{one_of, anchor};
+ghost use Rattle.syntect_pattern.specs.Sets.{from_to};
+ghost use Rattle.syntect_pattern_table.specs.SetTable.{set_in};
+ghost use Rattle.syntect_pattern.specs.Anchors.{anchor_of};
+ghost use Rattle.syntect_pattern.specs.Escapes as definition;
+ghost use Rattle.syntect_pattern.specs.Grammar as grammar;
+
+use crate::builder::{Builder, Join};
+use crate::classes::{DEEPEST, SetBuilder};
+use std::alloc::{AllocError, Global};
+use syntect_pattern::anchor::Anchor;
+use syntect_pattern_table::node::Node;
+use syntect_pattern_words::escapes::{Escape, read_escape};
+use syntect_pattern_words::members::Leaf;
+use syntect_pattern_words::openings::{
+    Names, Opening, Place, Wrap, forward, number_of, read_opening,
+};
+use syntect_pattern_words::quantifiers::pass;
+use syntect_pattern_words::text::{after, begins};
+use syntect_pattern_words::tokens::{Looping, Token, next_token, read_looping};
+use syntect_values::seq::Seq;
+
+/// What is read of a group: the alternatives before this one, and the items of this one.
+#[derive(Drop)]
+pub struct Body {
+    before: Seq<usize>,
+    items: Seq<usize>,
+}
+
+/// A pattern that is being read.
+#[derive(Drop)]
+pub struct Reader {
+    pub builder: Builder,
+    pub names: Names,
+    /// Whether a back reference was met. Where none was, it makes no difference which groups are known.
+    pub refers: bool,
+}
+
+impl Reader {
+    ghost use Rattle.syntect_pattern_reader.specs.ReaderViews.{body_as, IsBodyIn, went_on, tree_as, Keeps, Serves};
+
+    /// Nothing read. Takes no memory.
+    pub fn new(alloc: Global) -> Reader
+        ensures { result.names ≡ [] }
+    {
+        Reader {
+            builder: Builder {
+                nodes: Seq::new(alloc),
+            },
+            names: Seq::new(alloc),
+            refers: false,
+        }
+    }
+
+    /// Puts the node of a loop last.
+    fn push_looping(&mut self, looping: Looping, node: usize) -> Result<usize, AllocError>
+        requires { node < length self.old.builder.nodes }
+        ensures grows { OnOk result (Grows self.old.builder.nodes self.new.builder.nodes) }
+        ensures names { OnOk result (self.new.names ≡ self.old.names) }
+        ensures refers { OnOk result (self.new.refers ≡ self.old.refers) }
+        ensures holds { IfOk result (λ k. Holds self.new.builder.nodes k (looped_tree looping (tree_in self.old.builder.nodes node))) }
+    {
+        match looping {
+            Looping::Once => Ok(node),
+            Looping::Loop {
+                greedy,
+                possessive,
+                least,
+                most,
+            } => {
+                let repeat = self.builder.push(Node::Repeat {
+                    greedy,
+                    least,
+                    most,
+                    body: node,
+                })?;
+                if possessive {
+                    self.builder.push(Node::Atomic(repeat))
+                } else {
+                    Ok(repeat)
+                }
+            }
+        }
+    }
+
+    /// Puts the node of a group last.
+    fn push_group(&mut self, wrap: Wrap, body: usize) -> Result<usize, AllocError>
+        requires { body < length self.old.builder.nodes }
+        ensures grows { OnOk result (Grows self.old.builder.nodes self.new.builder.nodes) }
+        ensures names { OnOk result (self.new.names ≡ self.old.names) }
+        ensures refers { OnOk result (self.new.refers ≡ self.old.refers) }
+        ensures holds { IfOk result (λ k. Holds self.new.builder.nodes k (wrapped wrap (tree_in self.old.builder.nodes body))) }
+    {
+        match wrap {
+            Wrap::Plain => Ok(body),
+            Wrap::Group(number) => self.builder.push(Node::Group { number, body }),
+            Wrap::Atomic => self.builder.push(Node::Atomic(body)),
+            Wrap::Ahead(negated) => self.builder.push(Node::Ahead { negated, body }),
+            Wrap::Behind(negated) => self.builder.push(Node::Behind { negated, body }),
+        }
+    }
+
+    /// An item that no quantifier may follow.
+    fn firm<'a>(
+        &mut self,
+        body: Body,
+        node: usize,
+        place: Place<'a>,
+    ) -> Result<Option<(Body, Place<'a>)>, AllocError>
+        requires body { IsBodyIn self.old.builder.nodes body }
+        requires node { node < length self.old.builder.nodes }
+        ensures grows { OnOk result (Grows self.old.builder.nodes self.new.builder.nodes) }
+        ensures names { OnOk result (self.new.names ≡ self.old.names) }
+        ensures refers { OnOk result (self.new.refers ≡ self.old.refers) }
+        ensures inside { IfOk result (λ f. IfSome f (λ x. IsBodyIn self.new.builder.nodes x.0)) }
+        ensures reads { IfOk result (λ f. (known : Option grammar.Names) → grammar.firm known (body_as self.old.builder.nodes body) (tree_in self.old.builder.nodes node) (place_as self.old.names place.entry) ≡ went_on self.new f) }
+    {
+        let Body { before, mut items } = body;
+        items.push(node)?;
+        Ok(Some((Body { before, items }, place)))
+    }
+
+    /// An item, perhaps with a quantifier behind it.
+    fn item<'a>(
+        &mut self,
+        body: Body,
+        node: usize,
+        place: Place<'a>,
+    ) -> Result<Option<(Body, Place<'a>)>, AllocError>
+        requires body { IsBodyIn self.old.builder.nodes body }
+        requires node { node < length self.old.builder.nodes }
+        ensures grows { OnOk result (Grows self.old.builder.nodes self.new.builder.nodes) }
+        ensures names { OnOk result (self.new.names ≡ self.old.names) }
+        ensures refers { OnOk result (self.new.refers ≡ self.old.refers) }
+        ensures inside { IfOk result (λ f. IfSome f (λ x. IsBodyIn self.new.builder.nodes x.0)) }
+        ensures reads { IfOk result (λ f. (known : Option grammar.Names) → grammar.item known (body_as self.old.builder.nodes body) (tree_in self.old.builder.nodes node) (place_as self.old.names place.entry) ≡ went_on self.new f) }
+    {
+        let Some((looping, rest)) = read_looping(place) else {
+            return Ok(None);
+        };
+        let node = self.push_looping(looping, node)?;
+        Ok(self.firm(body, node, rest)?)
+    }
+
+    /// A character as an item.
+    fn char_item<'a>(
+        &mut self,
+        body: Body,
+        c: char,
+        place: Place<'a>,
+    ) -> Result<Option<(Body, Place<'a>)>, AllocError>
+        requires body { IsBodyIn self.old.builder.nodes body }
+        ensures grows { OnOk result (Grows self.old.builder.nodes self.new.builder.nodes) }
+        ensures names { OnOk result (self.new.names ≡ self.old.names) }
+        ensures refers { OnOk result (self.new.refers ≡ self.old.refers) }
+        ensures inside { IfOk result (λ f. IfSome f (λ x. IsBodyIn self.new.builder.nodes x.0)) }
+        ensures reads { IfOk result (λ f. (known : Option grammar.Names) → grammar.item known (body_as self.old.builder.nodes body) (one_of (from_to place.entry.flags.fold c c)) (place_as self.old.names place.entry) ≡ went_on self.new f) }
+    {
+        let node = self.builder.push_char(place.flags.fold, c)?;
+        Ok(self.item(body, node, place)?)
+    }
+
+    /// A set as an item.
+    fn class_item<'a>(
+        &mut self,
+        body: Body,
+        sets: SetBuilder,
+        root: usize,
+        place: Place<'a>,
+    ) -> Result<Option<(Body, Place<'a>)>, AllocError>
+        requires body { IsBodyIn self.old.builder.nodes body }
+        ensures grows { OnOk result (Grows self.old.builder.nodes self.new.builder.nodes) }
+        ensures names { OnOk result (self.new.names ≡ self.old.names) }
+        ensures refers { OnOk result (self.new.refers ≡ self.old.refers) }
+        ensures inside { IfOk result (λ f. IfSome f (λ x. IsBodyIn self.new.builder.nodes x.0)) }
+        ensures reads { IfOk result (λ f. (known : Option grammar.Names) → grammar.item known (body_as self.old.builder.nodes body) (one_of (set_in sets.parts root)) (place_as self.old.names place.entry) ≡ went_on self.new f) }
+    {
+        let node = self.builder.push_class(sets, root)?;
+        Ok(self.item(body, node, place)?)
+    }
+
+    /// An anchor.
+    fn anchor_item<'a>(
+        &mut self,
+        body: Body,
+        which: Anchor,
+        place: Place<'a>,
+    ) -> Result<Option<(Body, Place<'a>)>, AllocError>
+        requires body { IsBodyIn self.old.builder.nodes body }
+        ensures grows { OnOk result (Grows self.old.builder.nodes self.new.builder.nodes) }
+        ensures names { OnOk result (self.new.names ≡ self.old.names) }
+        ensures refers { OnOk result (self.new.refers ≡ self.old.refers) }
+        ensures inside { IfOk result (λ f. IfSome f (λ x. IsBodyIn self.new.builder.nodes x.0)) }
+        ensures reads { IfOk result (λ f. (known : Option grammar.Names) → grammar.firm known (body_as self.old.builder.nodes body) (anchor (anchor_of which)) (place_as self.old.names place.entry) ≡ went_on self.new f) }
+    {
+        let node = self.builder.push(Node::Anchor(which))?;
+        Ok(self.firm(body, node, place)?)
+    }
+
+    /// A set that has a name as an item.
+    fn named_item<'a>(
+        &mut self,
+        body: Body,
+        leaf: Leaf,
+        place: Place<'a>,
+    ) -> Result<Option<(Body, Place<'a>)>, AllocError>
+        requires body { IsBodyIn self.old.builder.nodes body }
+        ensures grows { OnOk result (Grows self.old.builder.nodes self.new.builder.nodes) }
+        ensures names { OnOk result (self.new.names ≡ self.old.names) }
+        ensures refers { OnOk result (self.new.refers ≡ self.old.refers) }
+        ensures inside { IfOk result (λ f. IfSome f (λ x. IsBodyIn self.new.builder.nodes x.0)) }
+        ensures reads { IfOk result (λ f. (known : Option grammar.Names) → grammar.item known (body_as self.old.builder.nodes body) (one_of (leaf_set leaf)) (place_as self.old.names place.entry) ≡ went_on self.new f) }
+    {
+        let mut sets = SetBuilder::new(self.names.allocator());
+        let root = sets.push_leaf(leaf)?;
+        Ok(self.class_item(body, sets, root, place)?)
+    }
+
+    /// A `.` as an item.
+    fn dot_item<'a>(
+        &mut self,
+        body: Body,
+        place: Place<'a>,
+    ) -> Result<Option<(Body, Place<'a>)>, AllocError>
+        requires body { IsBodyIn self.old.builder.nodes body }
+        ensures grows { OnOk result (Grows self.old.builder.nodes self.new.builder.nodes) }
+        ensures names { OnOk result (self.new.names ≡ self.old.names) }
+        ensures refers { OnOk result (self.new.refers ≡ self.old.refers) }
+        ensures inside { IfOk result (λ f. IfSome f (λ x. IsBodyIn self.new.builder.nodes x.0)) }
+        ensures reads { IfOk result (λ f. (known : Option grammar.Names) → grammar.item known (body_as self.old.builder.nodes body) (one_of (grammar.dot_set place.entry.flags.any)) (place_as self.old.names place.entry) ≡ went_on self.new f) }
+    {
+        let mut sets = SetBuilder::new(self.names.allocator());
+        let root = sets.push_dot(place.flags.any)?;
+        Ok(self.class_item(body, sets, root, place)?)
+    }
+
+    /// The alternative is over.
+    fn next_alternative(&mut self, body: Body) -> Result<Body, AllocError>
+        requires { IsBodyIn self.old.builder.nodes body }
+        ensures grows { OnOk result (Grows self.old.builder.nodes self.new.builder.nodes) }
+        ensures names { OnOk result (self.new.names ≡ self.old.names) }
+        ensures refers { OnOk result (self.new.refers ≡ self.old.refers) }
+        ensures inside { IfOk result (λ b. IsBodyIn self.new.builder.nodes b) }
+        ensures is { IfOk result (λ b. body_as self.new.builder.nodes b ≡ grammar.next_alternative (body_as self.old.builder.nodes body)) }
+    {
+        let Body { mut before, items } = body;
+        let last = self.builder.chain(Join::Sequence, items)?;
+        before.push(last)?;
+        let items = Seq::new(before.allocator());
+        Ok(Body { before, items })
+    }
+
+    /// The node of a whole group.
+    fn finish(&mut self, body: Body) -> Result<usize, AllocError>
+        requires { IsBodyIn self.old.builder.nodes body }
+        ensures grows { OnOk result (Grows self.old.builder.nodes self.new.builder.nodes) }
+        ensures names { OnOk result (self.new.names ≡ self.old.names) }
+        ensures refers { OnOk result (self.new.refers ≡ self.old.refers) }
+        ensures holds { IfOk result (λ k. Holds self.new.builder.nodes k (grammar.tree_of_body (body_as self.old.builder.nodes body))) }
+    {
+        let body = self.next_alternative(body)?;
+        self.builder.chain(Join::Alternation, body.before)
+    }
+
+    /// What a back reference to the number stands for, if it names a group. While the groups aren't known it is nothing.
+    fn by_number(
+        &mut self,
+        known: &Option<Names>,
+        fold: bool,
+        number: usize,
+    ) -> Result<Option<usize>, AllocError>
+        ensures grows { OnOk result (Grows self.old.builder.nodes self.new.builder.nodes) }
+        ensures names { OnOk result (self.new.names ≡ self.old.names) }
+        ensures refers { OnOk result (self.new.refers ≡ true) }
+        ensures inside { IfOk result (λ f. IfSome f (λ k. k < length self.new.builder.nodes)) }
+        ensures reads { IfOk result (λ f. grammar.by_number known.now fold number ≡ option_map (tree_in self.new.builder.nodes) f) }
+    {
+        self.refers = true;
+        let Some(names) = known else {
+            return Ok(Some(self.builder.push(Node::Nothing)?));
+        };
+        if number > names.len() {
+            return Ok(None);
+        }
+        Ok(Some(
+            self.builder.push(Node::Same {
+                fold,
+                group: number,
+            })?,
+        ))
+    }
+
+    /// The same for a name.
+    fn by_name(
+        &mut self,
+        known: &Option<Names>,
+        fold: bool,
+        name: &str,
+    ) -> Result<Option<usize>, AllocError>
+        ensures grows { OnOk result (Grows self.old.builder.nodes self.new.builder.nodes) }
+        ensures names { OnOk result (self.new.names ≡ self.old.names) }
+        ensures refers { OnOk result (self.new.refers ≡ true) }
+        ensures inside { IfOk result (λ f. IfSome f (λ k. k < length self.new.builder.nodes)) }
+        ensures reads { IfOk result (λ f. grammar.by_name known.now fold (chars name.now) ≡ option_map (tree_in self.new.builder.nodes) f) }
+    {
+        self.refers = true;
+        let Some(names) = known else {
+            return Ok(Some(self.builder.push(Node::Nothing)?));
+        };
+        let Some(group) = number_of(names.as_slice(), name) else {
+            return Ok(None);
+        };
+        Ok(Some(self.builder.push(Node::Same { fold, group })?))
+    }
+
+    /// A back reference as an item.
+    fn number_item<'a>(
+        &mut self,
+        known: &Option<Names>,
+        body: Body,
+        number: usize,
+        place: Place<'a>,
+    ) -> Result<Option<(Body, Place<'a>)>, AllocError>
+        requires body { IsBodyIn self.old.builder.nodes body }
+        ensures grows { OnOk result (Grows self.old.builder.nodes self.new.builder.nodes) }
+        ensures names { OnOk result (self.new.names ≡ self.old.names) }
+        ensures refers { OnOk result (self.new.refers ≡ true) }
+        ensures inside { IfOk result (λ f. IfSome f (λ x. IsBodyIn self.new.builder.nodes x.0)) }
+        ensures reads { IfOk result (λ f. grammar.escaped known.now (body_as self.old.builder.nodes body) (place_as self.old.names place.entry) (definition.number number) ≡ went_on self.new f) }
+    {
+        let Some(node) = self.by_number(known, place.flags.fold, number)? else {
+            return Ok(None);
+        };
+        Ok(self.item(body, node, place)?)
+    }
+
+    /// A back reference by a name as an item.
+    fn name_item<'a>(
+        &mut self,
+        known: &Option<Names>,
+        body: Body,
+        name: &str,
+        place: Place<'a>,
+    ) -> Result<Option<(Body, Place<'a>)>, AllocError>
+        requires body { IsBodyIn self.old.builder.nodes body }
+        ensures grows { OnOk result (Grows self.old.builder.nodes self.new.builder.nodes) }
+        ensures names { OnOk result (self.new.names ≡ self.old.names) }
+        ensures refers { OnOk result (self.new.refers ≡ true) }
+        ensures inside { IfOk result (λ f. IfSome f (λ x. IsBodyIn self.new.builder.nodes x.0)) }
+        ensures reads { IfOk result (λ f. grammar.escaped known.now (body_as self.old.builder.nodes body) (place_as self.old.names place.entry) (definition.name (chars name.now)) ≡ went_on self.new f) }
+    {
+        let Some(node) = self.by_name(known, place.flags.fold, name)? else {
+            return Ok(None);
+        };
+        Ok(self.item(body, node, place)?)
+    }
+
+    /// What an escape stands for.
+    fn escaped<'a>(
+        &mut self,
+        known: &Option<Names>,
+        body: Body,
+        escape: Escape<'a>,
+        place: Place<'a>,
+    ) -> Result<Option<(Body, Place<'a>)>, AllocError>
+        requires body { IsBodyIn self.old.builder.nodes body }
+        ensures grows { OnOk result (Grows self.old.builder.nodes self.new.builder.nodes) }
+        ensures refers { OnOk result (Keeps self.old.refers self.new.refers) }
+        ensures inside { IfOk result (λ f. IfSome f (λ x. IsBodyIn self.new.builder.nodes x.0)) }
+        ensures names { OnOk result (self.new.names ≡ self.old.names) }
+        ensures reads { IfOk result (λ f. (groups : Option grammar.Names) → Serves self.new.refers known.now groups → grammar.escaped groups (body_as self.old.builder.nodes body) (place_as self.old.names place.entry) (escape_of escape.entry) ≡ went_on self.new f) }
+    {
+        match escape {
+            Escape::Char(c) => Ok(self.char_item(body, c, place)?),
+            Escape::Set { negated, set } => {
+                Ok(self.named_item(body, Leaf::Set { negated, set }, place)?)
+            }
+            Escape::Edge(which) => Ok(self.anchor_item(body, which, place)?),
+            Escape::Number(number) => Ok(self.number_item(known, body, number, place)?),
+            Escape::Name(name) => Ok(self.name_item(known, body, name, place)?),
+        }
+    }
+
+    /// An escape, from its backslash on.
+    fn backslash<'a>(
+        &mut self,
+        known: &Option<Names>,
+        body: Body,
+        here: Place<'a>,
+    ) -> Result<Option<(Body, Place<'a>)>, AllocError>
+        requires body { IsBodyIn self.old.builder.nodes body }
+        ensures grows { OnOk result (Grows self.old.builder.nodes self.new.builder.nodes) }
+        ensures refers { OnOk result (Keeps self.old.refers self.new.refers) }
+        ensures inside { IfOk result (λ f. IfSome f (λ x. IsBodyIn self.new.builder.nodes x.0)) }
+        ensures reads { IfOk result (λ f. (groups : Option grammar.Names) → Serves self.new.refers known.now groups → (inner : _) (depth : ℕ) → grammar.step groups inner depth (body_as self.old.builder.nodes body) (place_as self.old.names here.entry) grammar.backslash ≡ went_on self.new f) }
+    {
+        let Some((escape, text)) = read_escape(after(here.text, 1)) else {
+            return Ok(None);
+        };
+        let place = Place {
+            flags: here.flags,
+            text,
+        };
+        Ok(self.escaped(known, body, escape, place)?)
+    }
+
+    /// A class, from its bracket on.
+    fn bracket<'a>(
+        &mut self,
+        depth: u32,
+        body: Body,
+        here: Place<'a>,
+    ) -> Result<Option<(Body, Place<'a>)>, AllocError>
+        requires body { IsBodyIn self.old.builder.nodes body }
+        ensures grows { OnOk result (Grows self.old.builder.nodes self.new.builder.nodes) }
+        ensures refers { OnOk result (self.new.refers ≡ self.old.refers) }
+        ensures inside { IfOk result (λ f. IfSome f (λ x. IsBodyIn self.new.builder.nodes x.0)) }
+        ensures reads { IfOk result (λ f. (known : Option grammar.Names) (inner : _) → grammar.step known inner depth (body_as self.old.builder.nodes body) (place_as self.old.names here.entry) grammar.bracket ≡ went_on self.new f) }
+    {
+        let mut sets = SetBuilder::new(self.names.allocator());
+        let Some((root, text)) = sets.class(here.flags.fold, depth, after(here.text, 1))? else {
+            return Ok(None);
+        };
+        let place = Place {
+            flags: here.flags,
+            text,
+        };
+        Ok(self.class_item(body, sets, root, place)?)
+    }
+
+    /// A group, from its parenthesis on, inside so many groups and classes.
+    #[cycle(body)]
+    fn group<'a>(
+        &mut self,
+        known: &Option<Names>,
+        depth: u32,
+        body: Body,
+        here: Place<'a>,
+    ) -> Result<Option<(Body, Place<'a>)>, AllocError>
+        requires body { IsBodyIn self.old.builder.nodes body }
+        ensures grows { OnOk result (Grows self.old.builder.nodes self.new.builder.nodes) }
+        ensures refers { OnOk result (Keeps self.old.refers self.new.refers) }
+        ensures inside { IfOk result (λ f. IfSome f (λ x. IsBodyIn self.new.builder.nodes x.0)) }
+        ensures reads { IfOk result (λ f. (groups : Option grammar.Names) → Serves self.new.refers known.now groups → grammar.step groups (body_of groups (depth + 1) grammar.empty_body) depth (body_as self.old.builder.nodes body) (place_as self.old.names here.entry) grammar.opener ≡ went_on self.new f) }
+    {
+        let Some((opening, place)) = read_opening(&mut self.names, forward(here, 1))? else {
+            return Ok(None);
+        };
+        let Opening::Opens(wrap) = opening else {
+            return Ok(Some((body, place)));
+        };
+        if depth >= DEEPEST {
+            return Ok(None);
+        }
+        let Some((inner, last)) = self.body(known, depth + 1, place)? else {
+            return Ok(None);
+        };
+        if !begins(last.text, &[')']) {
+            return Ok(None);
+        }
+        let node = self.push_group(wrap, inner)?;
+        let outside = here.flags;
+        let place = Place {
+            flags: outside,
+            text: after(last.text, 1),
+        };
+        Ok(self.item(body, node, place)?)
+    }
+
+    /// One step of reading a group that stands so deep.
+    #[cycle(body)]
+    fn step<'a>(
+        &mut self,
+        known: &Option<Names>,
+        depth: u32,
+        body: Body,
+        here: Place<'a>,
+        token: Token,
+    ) -> Result<Option<(Body, Place<'a>)>, AllocError>
+        requires body { IsBodyIn self.old.builder.nodes body }
+        ensures grows { OnOk result (Grows self.old.builder.nodes self.new.builder.nodes) }
+        ensures refers { OnOk result (Keeps self.old.refers self.new.refers) }
+        ensures inside { IfOk result (λ f. IfSome f (λ x. IsBodyIn self.new.builder.nodes x.0)) }
+        ensures reads { IfOk result (λ f. (groups : Option grammar.Names) → Serves self.new.refers known.now groups → grammar.step groups (body_of groups (depth + 1) grammar.empty_body) depth (body_as self.old.builder.nodes body) (place_as self.old.names here.entry) (token_as token) ≡ went_on self.new f) }
+    {
+        match token {
+            Token::Bar => {
+                let body = self.next_alternative(body)?;
+                Ok(Some((body, forward(here, 1))))
+            }
+            Token::Opener => Ok(self.group(known, depth, body, here)?),
+            Token::Bracket => Ok(self.bracket(depth, body, here)?),
+            Token::Backslash => Ok(self.backslash(known, body, here)?),
+            Token::Dot => Ok(self.dot_item(body, forward(here, 1))?),
+            Token::Caret => Ok(self.anchor_item(body, Anchor::LineStart, forward(here, 1))?),
+            Token::Dollar => Ok(self.anchor_item(body, Anchor::LineEnd, forward(here, 1))?),
+            Token::Loops => Ok(None),
+            Token::Plain(c) => Ok(self.char_item(body, c, forward(here, 1))?),
+        }
+    }
+
+    /// What stands in a group that stands so deep, up to its parenthesis or the text's end.
+    #[cycle(body)]
+    pub fn body<'a>(
+        &mut self,
+        known: &Option<Names>,
+        depth: u32,
+        place: Place<'a>,
+    ) -> Result<Option<(usize, Place<'a>)>, AllocError>
+        ensures grows { OnOk result (Grows self.old.builder.nodes self.new.builder.nodes) }
+        ensures refers { OnOk result (Keeps self.old.refers self.new.refers) }
+        ensures inside { IfOk result (λ f. IfSome f (λ x. x.0 < length self.new.builder.nodes)) }
+        ensures reads { IfOk result (λ f. (groups : Option grammar.Names) → Serves self.new.refers known.now groups → body_of groups depth grammar.empty_body (place_as self.old.names place.entry) ≡ tree_as self.new f) }
+    {
+        let alloc = self.names.allocator();
+        let mut body = Body {
+            before: Seq::new(alloc),
+            items: Seq::new(alloc),
+        };
+        let mut place = place;
+        'steps: loop {
+            let flags = place.flags;
+            let Some(text) = pass(flags.spaced, place.text) else {
+                return Ok(None);
+            };
+            let here = Place { flags, text };
+            let Some(token) = next_token(text) else {
+                let node = self.finish(body)?;
+                return Ok(Some((node, here)));
+            };
+            let Some((more, rest)) = self.step(known, depth, body, here, token)? else {
+                return Ok(None);
+            };
+            body = more;
+            place = rest;
+        }
+    }
+}

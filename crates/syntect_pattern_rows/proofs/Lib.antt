@@ -1,0 +1,2 @@
+pub mod ReadingRows
+pub mod SearchRows

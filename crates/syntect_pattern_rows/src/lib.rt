@@ -1,0 +1,2 @@
+//! What patterns read as and find, computed by their definitions.
+#![tactic(auto)]

@@ -1,0 +1,238 @@
+-- Where a match can begin.
+use Rattle.std.proofs.Common.{◌≡◌, ◌<◌, ◌≤◌, ◌==◌, ◌-◌, ◌+◌, ◌&&◌, ◌||◌, ◌⊎◌, inl, inr, ℕ, zero, suc, Bool, true, false, not, List, [], ◌∷◌, length, drop, map, get_or, refl, sym, ◌∙◌, ap, subst, arith, Option, Some, None, ne_eqb, eq-eqb, cond, nat_lt}
+use Rattle.std.specs.Char.{len_utf8}
+use Rattle.std.specs.Prelude.{slice_get, option_map, if◌then◌else◌}
+use Rattle.std.specs.Str.{chars, chars_after}
+use Rattle.std.specs.List.{flat_map}
+use Rattle.std.proofs.Math.Seq.{drop-cons}
+use Rattle.std.proofs.lemmas.List.{drop_all}
+use Rattle.std.proofs.lemmas.Bool.{lt-ltb, cases_lt, le-ltb}
+use Rattle.syntect_pattern.specs.Text.{char_at, is_boundary}
+use Rattle.syntect_pattern.specs.Sets.{Set, holds}
+use Rattle.syntect_pattern.specs.Trees.{Anchor, line_start, line_end, text_start, text_end, last_line_end, word_edge, no_word_edge, Tree, nothing, one_of, anchor, same, seq, alt, repeat, group, atomic, ahead, behind}
+use Rattle.syntect_pattern.specs.Matches.{Groups, Member, Way, matches, turns, prefer, while_left, after_turn, only_if, past, close, stands, is_newline, look, stay, ending_here, unset, found_at}
+use Rattle.syntect_pattern_table.specs.Starts.{start_at, can_hold, can_stand, reads, stays}
+use Rattle.syntect_pattern.proofs.Each.{Each, each_of, each-append, each-flat_map, each-map, each-take}
+
+-- -- Places of a text
+
+-- nothing stands past the end
+pub char_at-past : (s : List ℕ) (i : ℕ) → length s ≤ i → char_at s i ≡ None
+unfolding char_at chars
+char_at-past s i h = ap (λ (t : List ℕ). slice_get (chars t) 0) (drop_all i s h)
+
+after-first : (c : ℕ) (rest : List ℕ) → slice_get (chars_after 0 c rest) 0 ≡ Some c
+after-first c [] = refl
+after-first c (b ∷ rest) = refl
+
+-- an ASCII byte is a character
+pub char_at-ascii : (s : List ℕ) (i : ℕ) → i < length s → get_or s i 0 < 128 → char_at s i ≡ Some (get_or s i 0)
+unfolding char_at chars
+char_at-ascii s i h l =
+    ap (λ (t : List ℕ). slice_get (chars t) 0) (drop-cons s i 0 h)
+    ∙ ap (λ (b : Bool). slice_get (chars_after (cond b 0 (cond (nat_lt (get_or s i 0) 224) 1 (cond (nat_lt (get_or s i 0) 240) 2 3))) (cond b (get_or s i 0) (cond (nat_lt (get_or s i 0) 224) (get_or s i 0 - 192) (cond (nat_lt (get_or s i 0) 240) (get_or s i 0 - 224) (get_or s i 0 - 240)))) (drop (suc i) s)) 0) (lt-ltb (get_or s i 0) 128 l)
+    ∙ after-first (get_or s i 0) (drop (suc i) s)
+
+-- what stands at the place
+pub data Start (s : List ℕ) (i x : ℕ) : Type 0 where
+  ascii : x < 128 → char_at s i ≡ Some x → i < length s → Start s i x
+  wide : x ≡ 128 → i < length s → Start s i x
+  over : x ≡ 129 → length s ≤ i → Start s i x
+
+pub start-is : (s : List ℕ) (i : ℕ) → Start s i (start_at s i)
+unfolding start_at
+start-is s i = elim (cases_lt i (length s)) [
+  | inl h ↦
+      (let outer : start_at s i ≡ (if nat_lt (get_or s i 0) 128 then get_or s i 0 else 128) = ap (λ b. if b then (if nat_lt (get_or s i 0) 128 then get_or s i 0 else 128) else 129) (lt-ltb i (length s) h) in
+      elim (cases_lt (get_or s i 0) 128) [
+        | inl l ↦
+            (let is : start_at s i ≡ get_or s i 0 = outer ∙ ap (λ b. if b then get_or s i 0 else 128) (lt-ltb (get_or s i 0) 128 l) in
+            subst (Start s i) (sym is) (ascii l (char_at-ascii s i h l) h))
+        | inr g ↦
+            (let is : start_at s i ≡ 128 = outer ∙ ap (λ b. if b then get_or s i 0 else 128) (le-ltb (get_or s i 0) 128 g) in
+            wide is h)
+      ])
+  | inr h ↦ over (ap (λ b. if b then (if nat_lt (get_or s i 0) 128 then get_or s i 0 else 128) else 129) (le-ltb i (length s) h)) h
+]
+
+-- -- What a match needs
+
+or-in_left : (a b : Bool) → a ≡ true → (a || b) ≡ true
+or-in_left true b e = refl
+or-in_left false b e = cc
+
+or-in_right : (a b : Bool) → b ≡ true → (a || b) ≡ true
+or-in_right true b e = refl
+or-in_right false b e = e
+
+and-both : (a b : Bool) → a ≡ true → b ≡ true → (a && b) ≡ true
+and-both true b e h = h
+and-both false b e h = cc
+
+module _ (s : List ℕ) where
+  -- a member reads something where its tree can, or reads nothing where it can do that
+  abbrev pub Begins : (r t : Bool) → ℕ → ℕ → Type 0
+  Begins r t i j = (r ≡ true) ⊎ ((j ≡ i) × (t ≡ true))
+
+  abbrev AllBegin : (r t : Bool) → ℕ → List Member → Type 0
+  AllBegin r t i = Each (λ m. Begins r t i m.0)
+
+  if-begins : (b : Bool) (j : ℕ) (g : Groups) (r t : Bool) (i : ℕ) → (b ≡ true → Begins r t i j) → AllBegin r t i (only_if b j g)
+  if-begins true j g r t i h = (h refl, tt)
+  if-begins false j g r t i h = tt
+
+  hold-true : (a : Set) (c x : ℕ) → x < 128 → c ≡ x → holds a c ≡ true → can_hold a x ≡ true
+  hold-true a c x l e h = ap (λ b. if b then holds a x else x == 128) (lt-ltb x 128 l) ∙ ap (holds a) (sym e) ∙ h
+
+  one-begins : (a : Set) (i x : ℕ) (g : Groups) → Start s i x → AllBegin (can_hold a x) false i (past (holds a) (char_at s i) i g)
+  one-begins a i x g (ascii l e h) =
+      subst (λ (o : Option ℕ). AllBegin (can_hold a x) false i (past (holds a) o i g)) (sym e)
+      (if-begins (holds a x) (i + len_utf8 x) g (can_hold a x) false i (λ y. inl (hold-true a x x l refl y)))
+  one-begins a i x g (wide e h) = go (char_at s i)
+    where
+      is : can_hold a x ≡ true
+      is = ap (can_hold a) e
+
+      go : (o : Option ℕ) → AllBegin (can_hold a x) false i (past (holds a) o i g)
+      go None = tt
+      go (Some c) = if-begins (holds a c) (i + len_utf8 c) g (can_hold a x) false i (λ y. inl is)
+  one-begins a i x g (over e h) = subst (λ (o : Option ℕ). AllBegin (can_hold a x) false i (past (holds a) o i g)) (sym (char_at-past s i h)) tt
+
+  not-end : (i : ℕ) → i < length s → (i == length s) ≡ false
+  not-end i h = ne_eqb i (length s) (λ e. omega arith)
+
+  -- where an anchor before a newline or the end holds
+  line-stands : (i x : ℕ) (rest : Bool) → Start s i x → (i == length s || (is_newline (char_at s i) && rest)) ≡ true → (not (nat_lt x 128) || x == 0x0A) ≡ true
+  line-stands i x rest (ascii l e h) y =
+      let newline : ((x == 0x0A) && rest) ≡ true =
+      sym (ap (λ b. b || (is_newline (char_at s i) && rest)) (not-end i h) ∙ ap (λ (o : Option ℕ). is_newline o && rest) e) ∙ y in
+      or-in_right (not (nat_lt x 128)) (x == 0x0A) (first (x == 0x0A) rest newline)
+    where
+      first : (a b : Bool) → (a && b) ≡ true → a ≡ true
+      first true b e = refl
+      first false b e = cc
+  line-stands i x rest (wide e h) y = ap (λ n. not (nat_lt n 128) || n == 0x0A) e
+  line-stands i x rest (over e h) y = ap (λ n. not (nat_lt n 128) || n == 0x0A) e
+
+  and-true : (b : Bool) → (b && true) ≡ b
+  and-true true = refl
+  and-true false = refl
+
+  end-stands : (i x : ℕ) → Start s i x → (i == length s) ≡ true → (x == 129) ≡ true
+  end-stands i x (ascii l e h) y = let no : true ≡ false = sym y ∙ not-end i h in cc
+  end-stands i x (wide e h) y = let no : true ≡ false = sym y ∙ not-end i h in cc
+  end-stands i x (over e h) y = ap (λ n. n == 129) e
+
+  anchor-stands : (a : Anchor) (i x : ℕ) → Start s i x → stands s a i ≡ true → can_stand a x ≡ true
+  anchor-stands line_start i x st y = refl
+  anchor-stands line_end i x st y = line-stands i x true st (ap (λ b. i == length s || b) (and-true (is_newline (char_at s i))) ∙ y)
+  anchor-stands text_start i x st y = refl
+  anchor-stands text_end i x st y = end-stands i x st y
+  anchor-stands last_line_end i x st y = line-stands i x (i + 1 == length s) st y
+  anchor-stands word_edge i x st y = refl
+  anchor-stands no_word_edge i x st y = refl
+
+  all-read : (r t : Bool) (i : ℕ) (ms : List Member) → r ≡ true → AllBegin r t i ms
+  all-read r t i [] e = tt
+  all-read r t i (m ∷ ms) e = (inl e, all-read r t i ms e)
+
+  weaken : (r t r' t' : Bool) (i : ℕ) (ms : List Member) → (r ≡ true → r' ≡ true) → (t ≡ true → t' ≡ true) → AllBegin r t i ms → AllBegin r' t' i ms
+  weaken r t r' t' i ms f g e = each_of (λ m. Begins r t i m.0) (λ m. Begins r' t' i m.0) ms (λ m h. elim h [
+    | inl y ↦ inl (f y)
+    | inr z ↦ inr (z.0, g z.1)
+  ]) e
+
+  -- the first list's members, and then those of a way from each
+  after-begins : (r t : Bool) (r' t' : Bool) (i : ℕ) (ms : List Member) (f : Member → List Member)
+      → AllBegin r t i ms → (r ≡ true → r' ≡ true) → ((m : Member) → m.0 ≡ i → t ≡ true → AllBegin r' t' i (f m)) → AllBegin r' t' i (flat_map f ms)
+  after-begins r t r' t' i ms f e h k =
+      each-flat_map (λ m. Begins r' t' i m.0) f ms
+      (each_of (λ m. Begins r t i m.0) (λ m. AllBegin r' t' i (f m)) ms (λ m b. elim b [
+        | inl y ↦ all-read r' t' i (f m) (h y)
+        | inr z ↦ k m z.0 z.1
+      ]) e)
+
+  prefer-begins : (greedy : Bool) (r t : Bool) (i : ℕ) (more leave : List Member) → AllBegin r t i more → AllBegin r t i leave → AllBegin r t i (prefer greedy more leave)
+  prefer-begins true r t i more leave e f = each-append (λ m. Begins r t i m.0) more leave e f
+  prefer-begins false r t i more leave e f = each-append (λ m. Begins r t i m.0) leave more f e
+
+  while-begins : (most : Option ℕ) (turn : Way) (r t : Bool) (i : ℕ) (g : Groups) → AllBegin r t i (turn i g) → AllBegin r t i (while_left most turn i g)
+  while-begins None turn r t i g e = e
+  while-begins (Some zero) turn r t i g e = tt
+  while-begins (Some (suc n)) turn r t i g e = e
+
+  -- a turn that reads nothing leaves the loop
+  turn-begins : (more : Way) (r t : Bool) (i : ℕ) (m : Member) → m.0 ≡ i → t ≡ true → AllBegin r t i (after_turn (m.0 == i) more m.0 m.1)
+  turn-begins more r t i m e y = subst (λ (b : Bool). AllBegin r t i (after_turn b more m.0 m.1)) (sym (eq-eqb m.0 i e)) (inr (e, y), tt)
+
+  loop-begins : (body : Way) (greedy : Bool) (n least : ℕ) (most : Option ℕ) (i : ℕ) (g : Groups) (r t t' : Bool) → AllBegin r t i (body i g) → (t ≡ true → t' ≡ true) → ((least == 0) ≡ true → t' ≡ true)
+      → AllBegin r t' i (turns body greedy n least most i g)
+  loop-begins body greedy zero least most i g r t t' e f h = tt
+  loop-begins body greedy (suc n) least most i g r t t' e f h =
+      let more : Way = turns body greedy n (least - 1) (option_map (λ k. k - 1) most) in
+      prefer-begins greedy r t' i _ (only_if (least == 0) i g)
+      (while-begins most (λ i' g'. flat_map (λ (j, q). after_turn (j == i') more j q) (body i' g')) r t' i g
+      (after-begins r t r t' i (body i g) (λ (j, q). after_turn (j == i) more j q) e (λ y. y) (λ m z y. turn-begins more r t' i m z (f y))))
+      (if-begins (least == 0) i g r t' i (λ y. inr (refl, h y)))
+
+  -- what a lookahead finds
+  stay-begins : (r t : Bool) (i : ℕ) (ms : List Member) → AllBegin r t i ms → AllBegin false (r || t) i (stay i ms)
+  stay-begins r t i [] e = tt
+  stay-begins r t i (m ∷ ms) e = elim e.0 [
+    | inl y ↦ (inr (refl, or-in_left r t y), tt)
+    | inr z ↦ (inr (refl, or-in_right r t z.1), tt)
+  ]
+
+  look-begins : (negated : Bool) (i : ℕ) (g : Groups) (ms : List Member) → AllBegin false true i (look negated i g ms)
+  look-begins false i g [] = tt
+  look-begins false i g (m ∷ ms) = (inr (refl, refl), tt)
+  look-begins true i g [] = (inr (refl, refl), tt)
+  look-begins true i g (m ∷ ms) = tt
+
+  pub matches-begin : (t : Tree) (i x : ℕ) (g : Groups) → Start s i x → AllBegin (reads t x) (stays t x) i (matches s t i g)
+  matches-begin nothing i x g st = (inr (refl, refl), tt)
+  matches-begin (one_of a) i x g st = one-begins a i x g st
+  matches-begin (anchor a) i x g st = if-begins (stands s a i) i g false (can_stand a x) i (λ y. inr (refl, anchor-stands a i x st y))
+  matches-begin (same fold n) i x g st = all-read true true i (matches s (same fold n) i g) refl
+  matches-begin (seq a b) i x g st =
+      after-begins (reads a x) (stays a x) (reads (seq a b) x) (stays (seq a b) x) i (matches s a i g) (λ (j, h). matches s b j h) (matches-begin a i x g st)
+      (or-in_left (reads a x) (stays a x && reads b x))
+      (λ m e y.
+      weaken (reads b x) (stays b x) (reads (seq a b) x) (stays (seq a b) x) i (matches s b m.0 m.1)
+      (λ z. or-in_right (reads a x) (stays a x && reads b x) (and-both (stays a x) (reads b x) y z))
+      (λ z. and-both (stays a x) (stays b x) y z)
+      (subst (λ (j : ℕ). AllBegin (reads b x) (stays b x) j (matches s b m.0 m.1)) e (matches-begin b m.0 x m.1 (subst (λ (j : ℕ). Start s j x) (sym e) st))))
+  matches-begin (alt a b) i x g st =
+      each-append (λ m. Begins (reads (alt a b) x) (stays (alt a b) x) i m.0) (matches s a i g) (matches s b i g)
+      (weaken (reads a x) (stays a x) (reads (alt a b) x) (stays (alt a b) x) i (matches s a i g) (or-in_left (reads a x) (reads b x)) (or-in_left (stays a x) (stays b x)) (matches-begin a i x g st))
+      (weaken (reads b x) (stays b x) (reads (alt a b) x) (stays (alt a b) x) i (matches s b i g) (or-in_right (reads a x) (reads b x)) (or-in_right (stays a x) (stays b x)) (matches-begin b i x g st))
+  matches-begin (repeat greedy least most a) i x g st =
+      loop-begins (matches s a) greedy (suc (length s - i)) least most i g (reads a x) (stays a x) (least == 0 || stays a x) (matches-begin a i x g st)
+      (or-in_right (least == 0) (stays a x)) (or-in_left (least == 0) (stays a x))
+  matches-begin (group n a) i x g st =
+      each-map (λ m. Begins (reads a x) (stays a x) i m.0) (close n i) (matches s a i g) (matches-begin a i x g st)
+  matches-begin (atomic a) i x g st = each-take (λ m. Begins (reads a x) (stays a x) i m.0) 1 (matches s a i g) (matches-begin a i x g st)
+  matches-begin (ahead false a) i x g st = stay-begins (reads a x) (stays a x) i (matches s a i g) (matches-begin a i x g st)
+  matches-begin (ahead true a) i x g st = look-begins true i g (matches s a i g)
+  matches-begin (behind negated a) i x g st = look-begins negated i g (ending_here s (matches s a) i i g)
+
+  none-begins : (r t : Bool) (i : ℕ) (ms : List Member) → (r || t) ≡ false → AllBegin r t i ms → ms ≡ []
+  none-begins r t i [] h e = refl
+  none-begins r t i (m ∷ ms) h e =
+      let any : (r || t) ≡ true = elim e.0 [
+        | inl y ↦ or-in_left r t y
+        | inr z ↦ or-in_right r t z.1
+      ] in
+      let no : true ≡ false = sym any ∙ h in cc
+
+  -- no match begins where none can
+  pub found_at-nothing : (t : Tree) (i : ℕ) → (reads t (start_at s i) || stays t (start_at s i)) ≡ false → found_at s t i ≡ None
+  unfolding found_at
+  found_at-nothing t i e = go (is_boundary s i)
+    where
+      nothing_there : matches s t i (unset s t) ≡ []
+      nothing_there = none-begins (reads t (start_at s i)) (stays t (start_at s i)) i (matches s t i (unset s t)) e (matches-begin t i (start_at s i) (unset s t) (start-is s i))
+
+      go : (b : Bool) → (if b then option_map (λ (m : Member). m.1) (slice_get (matches s (group 0 t) i (unset s t)) 0) else None) ≡ None
+      go true = ap (λ (ms : List Member). option_map (λ (m : Member). m.1) (slice_get (map (close 0 i) ms) 0)) nothing_there
+      go false = refl

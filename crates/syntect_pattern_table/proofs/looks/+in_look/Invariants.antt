@@ -1,0 +1,17 @@
+use Rattle.std.proofs.Common.{◌≡◌, ◌<◌, ◌≤◌, length}
+use Rattle.syntect_pattern.specs.Trees as trees
+use Rattle.syntect_pattern_table.specs.Builder.{tree_in}
+use Rattle.syntect_pattern_table.proofs.looks.+in_look.Given as goal
+
+abbrev pub decreases-in_look : goal.decreases-in_look
+decreases-in_look l = l.root
+
+abbrev pub invariant-loop-node : goal.invariant-loop-node
+invariant-loop-node l = record {
+  inside : l.node < length l.nodes;
+  below : l.node ≤ l.fn.root;
+  same : trees.in_look l.look (tree_in l.nodes l.node) l.number ≡ trees.in_look l.fn.within (tree_in l.nodes l.fn.root) l.number;
+}
+
+abbrev pub decreases-loop-node : goal.decreases-loop-node
+decreases-loop-node l = l.node

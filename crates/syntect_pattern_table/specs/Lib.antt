@@ -1,0 +1,5 @@
+pub mod SetTable
+pub mod Table
+pub mod Program
+pub mod Builder
+pub mod Starts

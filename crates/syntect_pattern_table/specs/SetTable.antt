@@ -1,0 +1,60 @@
+-- The sets of a table of parts, each of which stands behind those that it is made of.
+use Rattle.std.specs.Prelude.{◌≡◌, ℕ, ◌<◌, ◌≤◌, Bool, true, ◌&&◌, ◌==◌, nat_lt, List, [], ◌∷◌, ◌++◌, length, slice_index_or}
+use Rattle.std.specs.Int.{bit_at}
+use Rattle.syntect_pattern.specs.Sets.{Set, none, range, alike, either, both, negated, holds}
+use Rattle.syntect_pattern.specs.NamedSets.{set_of_named}
+use Rattle.syntect_pattern_table.specs.declared.sets.Part.{Part}
+
+-- the set of a part, from those of the parts before it
+abbrev pub part_set : List Set → Part → Set
+part_set before Part.Nothing = none
+part_set before (Part.Range low high) = range low high
+part_set before (Part.Alike low high) = alike low high
+part_set before (Part.Named n) = set_of_named n
+part_set before (Part.Negated a) = negated (slice_index_or before a none)
+part_set before (Part.Either a b) = either (slice_index_or before a none) (slice_index_or before b none)
+part_set before (Part.Both a b) = both (slice_index_or before a none) (slice_index_or before b none)
+
+abbrev pub sets_from : List Set → List Part → List Set
+sets_from before [] = before
+sets_from before (p ∷ ps) = sets_from (before ++ part_set before p ∷ []) ps
+
+-- the set of each part
+unfoldable pub sets : List Part → List Set
+sets = sets_from []
+
+-- the set of the part at the place
+abbrev pub set_in : List Part → ℕ → Set
+set_in parts k = slice_index_or (sets parts) k none
+
+-- what the part is made of stands before the place
+abbrev pub made_before : ℕ → Part → Bool
+made_before k Part.Nothing = true
+made_before k (Part.Range low high) = true
+made_before k (Part.Alike low high) = true
+made_before k (Part.Named n) = true
+made_before k (Part.Negated a) = nat_lt a k
+made_before k (Part.Either a b) = nat_lt a k && nat_lt b k
+made_before k (Part.Both a b) = nat_lt a k && nat_lt b k
+
+-- each part stands behind those that it is made of
+abbrev pub AreOrdered : List Part → Type 0
+AreOrdered parts = (k : ℕ) → k < length parts → made_before k (slice_index_or parts k Part.Nothing) ≡ true
+
+-- more parts, behind those that were there
+pub record SetsGrow (old new : List Part) : Type 0 where
+  pub longer : length old ≤ length new
+  pub kept : (k : ℕ) → k < length old → set_in new k ≡ set_in old k
+
+-- the place has this set
+pub record HasSet (parts : List Part) (k : ℕ) (a : Set) : Type 0 where
+  pub inside : k < length parts
+  pub is : set_in parts k ≡ a
+
+-- a bit for each ASCII character, whether it is in the set
+abbrev pub AreFlags : ℕ → Set → Type 0
+AreFlags bits a = (x : ℕ) → x < 128 → (bit_at bits x == 1) ≡ holds a x
+
+-- of each set the bit of this character
+abbrev pub AreBits : ℕ → List ℕ → List Set → Type 0
+AreBits x bits ss = (k : ℕ) (d : ℕ) → k < length bits → (bit_at (slice_index_or bits k d) x == 1) ≡ holds (slice_index_or ss k none) x

@@ -1,0 +1,87 @@
+-- Where a match can begin, as far as the byte there tells.
+use Rattle.std.specs.Prelude.{◌≡◌, ◌<◌, ℕ, Bool, true, false, not, ◌&&◌, ◌||◌, ◌==◌, nat_lt, List, length, if◌then◌else◌, slice_index, slice_index_or}
+use Rattle.syntect_pattern.specs.Sets.{Set, holds}
+use Rattle.syntect_pattern_table.specs.declared.starts.Firsts.{Firsts}
+use Rattle.syntect_pattern_table.specs.declared.starts.Places.{Places}
+use Rattle.std.specs.Int.{bit_at}
+use Rattle.syntect_pattern.specs.Trees.{Anchor, line_end, text_end, last_line_end, Tree, nothing, one_of, anchor, same, seq, alt, repeat, group, atomic, ahead, behind}
+
+-- what stands at a place: an ASCII character, 128 for any other one, and 129 for the text's end
+unfoldable pub start_at : List ℕ → ℕ → ℕ
+start_at s i = if nat_lt i (length s) then (if nat_lt (slice_index s i) 128 then slice_index s i else 128) else 129
+
+-- a character of the set can stand there
+abbrev pub can_hold : Set → ℕ → Bool
+can_hold a x = if nat_lt x 128 then holds a x else x == 128
+
+-- the anchor can hold there
+abbrev pub can_stand : Anchor → ℕ → Bool
+can_stand line_end x = not (nat_lt x 128) || x == 0x0A
+can_stand text_end x = x == 129
+can_stand last_line_end x = not (nat_lt x 128) || x == 0x0A
+can_stand _ x = true
+
+-- whether a match can read something where this stands, and whether one can read nothing
+abbrev mutual
+  pub reads : Tree → ℕ → Bool
+  reads nothing x = false
+  reads (one_of a) x = can_hold a x
+  reads (anchor a) x = false
+  reads (same fold n) x = true
+  reads (seq a b) x = reads a x || (stays a x && reads b x)
+  reads (alt a b) x = reads a x || reads b x
+  reads (repeat greedy least most a) x = reads a x
+  reads (group n a) x = reads a x
+  reads (atomic a) x = reads a x
+  reads (ahead negated a) x = false
+  reads (behind negated a) x = false
+
+  pub stays : Tree → ℕ → Bool
+  stays nothing x = true
+  stays (one_of a) x = false
+  stays (anchor a) x = can_stand a x
+  stays (same fold n) x = true
+  stays (seq a b) x = stays a x && stays b x
+  stays (alt a b) x = stays a x || stays b x
+  stays (repeat greedy least most a) x = least == 0 || stays a x
+  stays (group n a) x = stays a x
+  stays (atomic a) x = stays a x
+  stays (ahead negated a) x = negated || (reads a x || stays a x)
+  stays (behind negated a) x = true
+
+-- whether a match can read something, and whether one can read nothing
+pub record Begins : Type 0 where
+  pub read : Bool
+  pub stay : Bool
+
+abbrev pub begins : ℕ → Tree → Begins
+begins x t = record { read = reads t x; stay = stays t x }
+
+-- a part behind another, one of two parts, a loop, a lookahead
+abbrev pub sequence_begins : Begins → Begins → Begins
+sequence_begins a b = record { read = a.read || (a.stay && b.read); stay = a.stay && b.stay }
+
+abbrev pub either_begins : Begins → Begins → Begins
+either_begins a b = record { read = a.read || b.read; stay = a.stay || b.stay }
+
+abbrev pub looped_begins : Bool → Begins → Begins
+looped_begins none a = record { read = a.read; stay = none || a.stay }
+
+abbrev pub looked_begins : Bool → Begins → Begins
+looked_begins negated a = record { read = false; stay = negated || (a.read || a.stay) }
+
+-- it is among what can stand there
+unfoldable pub is_in : Places → ℕ → Bool
+is_in p x = if nat_lt x 128 then bit_at p.ascii x == 1 else (if x == 128 then p.wide else p.end)
+
+-- how the parts with these firsts begin
+abbrev pub begins_at : ℕ → Firsts → Begins
+begins_at x f = record { read = is_in f.read x; stay = is_in f.stay x }
+
+-- so begin these trees
+abbrev pub Begin : ℕ → List Firsts → List Tree → Type 0
+Begin x fs ts = (k : ℕ) (d : Firsts) → k < length fs → begins_at x (slice_index_or fs k d) ≡ begins x (slice_index_or ts k nothing)
+
+-- for all that can stand there whether a match can begin
+abbrev pub AreStarts : List Bool → Tree → Type 0
+AreStarts flags tree = (x : ℕ) → x < 130 → slice_index_or flags x true ≡ (reads tree x || stays tree x)

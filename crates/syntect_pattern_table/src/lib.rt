@@ -1,0 +1,9 @@
+//! The tree of a pattern as a table of nodes, its sets of characters, and what its matches begin with.
+#![tactic(auto)]
+
+mod ascii;
+mod looks;
+pub mod node;
+pub mod program;
+pub mod sets;
+pub mod starts;

@@ -1,0 +1,144 @@
+//! Sets of characters, kept so that an ASCII character is looked up at once.
+ghost use Rattle.std.specs.Prelude.{◌≡◌, ◌<◌, ◌||◌, ◌&&◌, ◌==◌, nat_le, IfOk, slice_index_or};
+ghost use Rattle.std.specs.Int.{bit_at};
+ghost use Rattle.std.specs.List.{list_any};
+ghost use Rattle.syntect_pattern.specs.Sets.{holds, range, is_within, is_alike};
+ghost use Rattle.syntect_pattern_table.specs.SetTable.{AreFlags, AreOrdered, set_in};
+ghost use Rattle.syntect_pattern.specs.NamedSets.{set_of_named};
+
+use crate::ascii::ascii_bits;
+use std::alloc::{AllocError, Global};
+use syntect_pattern::character::same_fold;
+use syntect_pattern::named::Named;
+use syntect_values::seq::Seq;
+use unicode::case::fold_pairs;
+
+fn is_within(low: char, high: char, c: char) -> bool
+    ensures { result ≡ is_within low high c }
+{
+    low <= c && c <= high
+}
+
+/// Whether simple folding makes the character equal to one from the first to the last.
+pub fn is_alike(low: char, high: char, c: char) -> bool
+    ensures { result ≡ is_alike low high c }
+{
+    if is_within(low, high, c) {
+        return true;
+    }
+    if low == high {
+        return same_fold(low, c);
+    }
+    has_pair(fold_pairs(), low as u32, high as u32, c as u32)
+}
+
+/// Whether a pair of the character has its other one from the first to the last.
+fn has_pair(pairs: &[(u32, u32)], low: u32, high: u32, c: u32) -> bool
+    ensures { result ≡ list_any (λ p. (p.0 == c) && is_within low high p.1) pairs.now }
+{
+    pairs
+        .iter()
+        .any(|pair| pair.0 == c && low <= pair.1 && pair.1 <= high)
+}
+
+/// A part of a set. Other parts are given by their places in the table.
+#[derive(Clone, Copy, Debug)]
+pub enum Part {
+    Nothing,
+    Range(char, char),
+    /// Each character that simple folding makes equal to one of the range.
+    Alike(char, char),
+    Named(Named),
+    Negated(usize),
+    Either(usize, usize),
+    Both(usize, usize),
+}
+
+/// The part at the place, which holds nothing past the end.
+fn part_at(parts: &[Part], place: usize) -> Part
+    ensures { result ≡ slice_index_or parts.now place Part.Nothing }
+{
+    parts.get(place).copied().unwrap_or(Part::Nothing)
+}
+
+/// Whether the part at the place holds the character. Sets nest on the right alone, and no deeper than classes do.
+fn holds_at(parts: &[Part], root: usize, c: char) -> bool
+    requires { AreOrdered parts.now }
+    ensures { result ≡ holds (set_in parts.now root) c }
+{
+    let mut place = root;
+    'parts: loop {
+        let part = part_at(parts, place);
+        place = match part {
+            Part::Nothing => return false,
+            Part::Range(low, high) => return is_within(low, high, c),
+            Part::Alike(low, high) => return is_alike(low, high, c),
+            Part::Named(named) => return named.holds(c),
+            Part::Negated(part) => return !holds_at(parts, part, c),
+            Part::Either(rest, part) => {
+                if holds_at(parts, part, c) {
+                    return true;
+                }
+                rest
+            }
+            Part::Both(rest, part) => {
+                if !holds_at(parts, part, c) {
+                    return false;
+                }
+                rest
+            }
+        };
+    }
+}
+
+/// A set of characters, made of parts, with its ASCII characters beside.
+#[derive(Debug, Drop)]
+pub struct Class {
+    parts: Seq<Part>,
+    root: usize,
+    /// A bit for each ASCII character.
+    ascii: u128,
+    ghost ordered: { AreOrdered parts },
+    ghost flagged: { AreFlags ascii (set_in parts root) },
+}
+
+impl Class {
+    ghost use Rattle.syntect_pattern_table.specs.Table.{set_of};
+
+    /// The set of the part at the place.
+    pub fn new(alloc: Global, parts: Seq<Part>, root: usize) -> Result<Class, AllocError>
+        requires { AreOrdered parts }
+        ensures { IfOk result (λ s. set_of s ≡ set_in parts root) }
+    {
+        let ascii = ascii_bits(alloc, parts.as_slice(), root)?;
+        Ok(Class { parts, root, ascii })
+    }
+
+    /// Its ASCII characters, a bit for each.
+    pub fn ascii(&self) -> u128
+        ensures { AreFlags result (set_of self.now) }
+    {
+        self.ascii
+    }
+
+    /// Whether the character is in the set.
+    pub fn holds(&self, c: char) -> bool
+        ensures { result ≡ holds (set_of self.now) c }
+    {
+        if c.is_ascii() {
+            has_bit(self.ascii, c as u32)
+        } else {
+            holds_at(self.parts.as_slice(), self.root, c)
+        }
+    }
+}
+
+/// Whether the bit is set.
+#[inline(always)]
+#[tactic(auto, using(crate::proofs::PlaceLaws::is_bit))]
+pub fn has_bit(bits: u128, x: u32) -> bool
+    requires { x < 128 }
+    ensures { result ≡ (bit_at bits x == 1) }
+{
+    (bits >> x) & 1 == 1
+}

@@ -1,0 +1,274 @@
+//! Where a match can begin, as far as the byte there tells.
+ghost use Rattle.std.specs.Prelude.{◌≡◌, ◌<◌, ◌||◌, ◌&&◌, ◌==◌, nat_lt, not, ℕ, IfOk, List, length, true, false};
+ghost use Rattle.syntect_pattern.specs.Sets.{holds, range};
+ghost use Rattle.syntect_pattern.specs.Trees.{Tree};
+ghost use Rattle.syntect_pattern_table.specs.Table.{IsOrdered, node_tree, parts_before, set_of};
+ghost use Rattle.syntect_pattern.specs.Anchors.{anchor_of};
+ghost use Rattle.syntect_pattern_table.specs.Builder.{tree_in};
+ghost use Rattle.syntect_pattern_table.specs.Starts as spec;
+ghost use Rattle.syntect_pattern_table.specs.Starts.{AreStarts, Begin, begins, begins_at, either_begins, looked_begins, looped_begins, reads, sequence_begins, stays};
+
+use crate::ascii::put;
+use crate::node::{Class, Node};
+use crate::sets::has_bit;
+use std::alloc::{AllocError, Global};
+use syntect_pattern::anchor::Anchor;
+use syntect_values::seq::Seq;
+
+/// Some of what can stand at a place.
+#[derive(Clone, Copy)]
+pub struct Places {
+    /// The ASCII characters, a bit for each.
+    pub ascii: u128,
+    /// Any other character.
+    pub wide: bool,
+    /// The end of the text.
+    pub end: bool,
+}
+
+/// Where matches of a node can read something, and where they can read nothing.
+#[derive(Clone, Copy)]
+pub struct Firsts {
+    pub read: Places,
+    pub stay: Places,
+}
+
+/// Nothing can stand there.
+#[tactic(auto, using(crate::proofs::PlaceLaws::none_in))]
+fn nowhere() -> Places
+    ensures { (x : ℕ) → spec.is_in result x ≡ false }
+{
+    Places {
+        ascii: 0,
+        wide: false,
+        end: false,
+    }
+}
+
+/// Anything can stand there.
+#[tactic(auto, using(crate::proofs::PlaceLaws::all_in))]
+fn anywhere() -> Places
+    ensures { (x : ℕ) → spec.is_in result x ≡ true }
+{
+    Places {
+        ascii: u128::MAX,
+        wide: true,
+        end: true,
+    }
+}
+
+/// What is in one of the two.
+#[tactic(auto, using(crate::proofs::PlaceLaws::either_in))]
+fn either(a: Places, b: Places) -> Places
+    ensures { (x : ℕ) → spec.is_in result x ≡ (spec.is_in a x || spec.is_in b x) }
+{
+    Places {
+        ascii: a.ascii | b.ascii,
+        wide: a.wide | b.wide,
+        end: a.end | b.end,
+    }
+}
+
+/// What is in both.
+#[tactic(auto, using(crate::proofs::PlaceLaws::both_in))]
+fn both(a: Places, b: Places) -> Places
+    ensures { (x : ℕ) → spec.is_in result x ≡ (spec.is_in a x && spec.is_in b x) }
+{
+    Places {
+        ascii: a.ascii & b.ascii,
+        wide: a.wide & b.wide,
+        end: a.end & b.end,
+    }
+}
+
+/// Whether this can stand there: an ASCII character, 128 for any other, or 129 for the end.
+fn is_in(places: Places, x: u8) -> bool
+    ensures { result ≡ spec.is_in places x }
+{
+    if x < 128 {
+        has_bit(places.ascii, u32::from(x))
+    } else if x == 128 {
+        places.wide
+    } else {
+        places.end
+    }
+}
+
+/// Where the character can stand.
+fn places_of_char(wanted: char) -> Places
+    ensures { (x : ℕ) → x < 130 → spec.is_in result x ≡ spec.can_hold (range wanted wanted) x }
+{
+    let ascii = if wanted.is_ascii() {
+        put(0, wanted as u32)
+    } else {
+        0
+    };
+    Places {
+        ascii,
+        wide: true,
+        end: false,
+    }
+}
+
+/// Where a character of the class can stand.
+fn places_of_class(class: &Class) -> Places
+    ensures { (x : ℕ) → x < 130 → spec.is_in result x ≡ spec.can_hold (set_of class.now) x }
+{
+    Places {
+        ascii: class.ascii(),
+        wide: true,
+        end: false,
+    }
+}
+
+/// Where no ASCII character but a newline stands.
+#[tactic(auto, using(crate::proofs::PlaceLaws::newline_in))]
+fn before_newline() -> Places
+    ensures { (x : ℕ) → spec.is_in result x ≡ (not (nat_lt x 128) || x == 10) }
+{
+    Places {
+        ascii: put(0, 10),
+        wide: true,
+        end: true,
+    }
+}
+
+/// The end of the text.
+#[tactic(auto, using(crate::proofs::PlaceLaws::end_in))]
+fn at_end() -> Places
+    ensures { (x : ℕ) → x < 130 → spec.is_in result x ≡ (x == 129) }
+{
+    Places {
+        ascii: 0,
+        wide: false,
+        end: true,
+    }
+}
+
+/// Where the anchor can hold.
+fn places_of_anchor(anchor: Anchor) -> Places
+    ensures { (x : ℕ) → x < 130 → spec.is_in result x ≡ spec.can_stand (anchor_of anchor) x }
+{
+    match anchor {
+        Anchor::LineEnd => before_newline(),
+        Anchor::LastLineEnd => before_newline(),
+        Anchor::TextEnd => at_end(),
+        _ => anywhere(),
+    }
+}
+
+/// Where the one behind the other can begin.
+fn in_sequence(a: Firsts, b: Firsts) -> Firsts
+    ensures { (x : ℕ) → begins_at x result ≡ sequence_begins (begins_at x a) (begins_at x b) }
+{
+    Firsts {
+        read: either(a.read, both(a.stay, b.read)),
+        stay: both(a.stay, b.stay),
+    }
+}
+
+/// Where one of the two can begin.
+fn one_of_two(a: Firsts, b: Firsts) -> Firsts
+    ensures { (x : ℕ) → begins_at x result ≡ either_begins (begins_at x a) (begins_at x b) }
+{
+    Firsts {
+        read: either(a.read, b.read),
+        stay: either(a.stay, b.stay),
+    }
+}
+
+/// Where a loop of at least so many turns can begin.
+fn in_loop(a: Firsts, least: u32) -> Firsts
+    ensures { (x : ℕ) → begins_at x result ≡ looped_begins (least == 0) (begins_at x a) }
+{
+    let stay = if least == 0 { anywhere() } else { a.stay };
+    Firsts { read: a.read, stay }
+}
+
+/// Where a lookahead can begin.
+fn ahead(a: Firsts, negated: bool) -> Firsts
+    ensures { (x : ℕ) → begins_at x result ≡ looked_begins negated (begins_at x a) }
+{
+    let stay = if negated {
+        anywhere()
+    } else {
+        either(a.read, a.stay)
+    };
+    Firsts {
+        read: nowhere(),
+        stay,
+    }
+}
+
+/// Where the node can begin, by where those of the nodes before it do.
+fn firsts_of(node: &Node, before: &[Firsts]) -> Firsts
+    requires parts { parts_before (length before.now) node.now ≡ true }
+    ensures { (ts : List Tree) (x : ℕ) → x < 130 → Begin x before.now ts → begins_at x result ≡ begins x (node_tree ts node.now) }
+{
+    match node {
+        Node::Nothing
+        | Node::Behind {
+            negated: _,
+            body: _,
+        } => Firsts {
+            read: nowhere(),
+            stay: anywhere(),
+        },
+        Node::Char(wanted) => Firsts {
+            read: places_of_char(*wanted),
+            stay: nowhere(),
+        },
+        Node::Class(class) => Firsts {
+            read: places_of_class(class),
+            stay: nowhere(),
+        },
+        Node::Anchor(anchor) => Firsts {
+            read: nowhere(),
+            stay: places_of_anchor(*anchor),
+        },
+        Node::Same { fold: _, group: _ } => Firsts {
+            read: anywhere(),
+            stay: anywhere(),
+        },
+        Node::Sequence(first, second) => in_sequence(before[*first], before[*second]),
+        Node::Alternation(first, second) => one_of_two(before[*first], before[*second]),
+        Node::Repeat {
+            greedy: _,
+            least,
+            most: _,
+            body,
+        } => in_loop(before[*body], *least),
+        Node::Group { number: _, body } => before[*body],
+        Node::Atomic(body) => before[*body],
+        Node::Ahead { negated, body } => ahead(before[*body], *negated),
+    }
+}
+
+/// Where the root can begin.
+fn firsts_in(alloc: Global, nodes: &[Node], root: usize) -> Result<Firsts, AllocError>
+    requires ordered { IsOrdered nodes.now }
+    requires inside { root < length nodes.now }
+    ensures { IfOk result (λ f. (x : ℕ) → x < 130 → begins_at x f ≡ begins x (tree_in nodes.now root)) }
+{
+    let mut before = Vec::with_capacity(alloc, root + 1)?;
+    for place in 0..root + 1 {
+        let next = firsts_of(&nodes[place], before.as_slice());
+        before.push(next)?;
+    }
+    Ok(before[root])
+}
+
+/// Whether a match of the node can begin, for all that can stand at a place.
+pub fn starts(alloc: Global, nodes: &[Node], root: usize) -> Result<Seq<bool>, AllocError>
+    requires ordered { IsOrdered nodes.now }
+    requires inside { root < length nodes.now }
+    ensures { IfOk result (λ flags. AreStarts flags (tree_in nodes.now root)) }
+{
+    let Firsts { read, stay } = firsts_in(alloc, nodes, root)?;
+    let places = either(read, stay);
+    let mut flags = Vec::with_capacity(alloc, 130)?;
+    for x in 0..130u8 {
+        flags.push(is_in(places, x))?;
+    }
+    Ok(Seq::from_vec(flags))
+}

@@ -1,0 +1,6 @@
+pub mod PassLaws
+pub mod QuantifierLaws
+pub mod PartLaws
+pub mod TokenLaws
+pub mod EscapeLaws
+pub mod NameLaws

@@ -1,0 +1,9 @@
+pub mod Views
+pub mod Names
+pub mod EscapeViews
+pub mod MemberViews
+pub mod QuantifierViews
+pub mod OpeningViews
+pub mod TextViews
+pub mod BodyViews
+pub mod TokenViews

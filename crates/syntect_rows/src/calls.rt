@@ -1,0 +1,68 @@
+//! The examples that are made by calls.
+use crate::made::{first_line, no_start, unresolved_line};
+use crate::readers::readers;
+use crate::searching::references;
+use std::alloc::Global;
+use std::io;
+use syntect_tables::engine::long_loop;
+use syntect_tables::styling::{excluded, flags};
+
+/// An example.
+#[derive(Clone, Copy)]
+enum Row {
+    /// A line by contexts that were made by calls.
+    FirstLine,
+    /// A line that names a context which is not there.
+    UnresolvedLine,
+    /// A syntax without a first context.
+    NoStart,
+    /// A rule with an exclusion, between operations.
+    Excluded,
+    /// Back references that give way to groups.
+    References,
+    /// A loop of many turns.
+    LongLoop,
+    /// Pages of what readers give.
+    Readers,
+    /// Flags by their bits, and as texts.
+    Flags,
+}
+
+/// The examples in order, by their labels.
+const ROWS: [(&str, Row); 8] = [
+    ("17", Row::FirstLine),
+    ("R1.1", Row::UnresolvedLine),
+    ("R1.2", Row::NoStart),
+    ("6", Row::Excluded),
+    ("24", Row::References),
+    ("R2.12", Row::LongLoop),
+    ("26", Row::Readers),
+    ("R5.6", Row::Flags),
+];
+
+/// Whether an example comes out as it is written. Want of memory counts as no.
+fn holds(alloc: Global, row: Row) -> bool {
+    let outcome = match row {
+        Row::FirstLine => first_line(alloc),
+        Row::UnresolvedLine => unresolved_line(alloc),
+        Row::NoStart => no_start(alloc),
+        Row::Excluded => excluded(alloc),
+        Row::References => references(alloc),
+        Row::LongLoop => long_loop(alloc),
+        Row::Readers => readers(alloc),
+        Row::Flags => flags(alloc),
+    };
+    outcome.unwrap_or(false)
+}
+
+/// Runs the examples, and prints of each whether it comes out as it is written. Answers whether all do.
+pub fn run_calls(rt: &(impl Print + AllocGlobal)) -> io::Result<bool> {
+    let mut all = true;
+    for (label, row) in &ROWS {
+        let comes_out = holds(rt.alloc(), *row);
+        let outcome = if comes_out { "ok" } else { "fails" };
+        all &= comes_out;
+        println!(rt; "row {label} {outcome}")?;
+    }
+    Ok(all)
+}

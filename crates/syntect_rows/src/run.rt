@@ -1,0 +1,152 @@
+//! The rows of files: of each part what is found has to be what stands below its heading.
+use crate::finding::{write_linked, write_loaded, write_places, write_syntaxes, write_unlinked};
+use crate::given::{Given, is_given, set_of, syntax_of, text_of, theme_of};
+use crate::operations::write_operations;
+use crate::runs::write_scopes;
+use crate::styled::{write_page, write_pieces, write_resumed_pieces};
+use crate::tables::write_table;
+use std::alloc::Global;
+use std::path::Path;
+use std::rt::Files;
+use std::{fs, io};
+use syntect_base::utils::files_below;
+use syntect_scope::repository::ScopeRepository;
+use syntect_tables::engine::write_queries;
+use syntect_tables::row_file::{Part, body_of, label_of, parts_of};
+use syntect_tables::written::{write_html, write_terminal};
+
+/// The folder of the rows.
+const ROWS: &str = "rows";
+
+/// Adds what is found for a part.
+fn write_found(
+    files: &impl Files,
+    given: Given<'_>,
+    part: Part<'_>,
+    repository: &mut ScopeRepository,
+    out: &mut String,
+) -> Option<()> {
+    match part.heading {
+        "scopes" => write_scopes(given, repository, out),
+        "operations" => write_operations(given, repository, out),
+        "pieces" => write_pieces(given, repository, out),
+        "resumed pieces" => write_resumed_pieces(given, repository, out),
+        "page" => write_page(given, repository, out),
+        "unlinked" => write_unlinked(given.alloc, given.set, repository, out),
+        "syntaxes" => write_syntaxes(given.set, out),
+        "loaded" => write_loaded(files, given, repository, out),
+        "linked" => write_linked(given, repository, out),
+        "places" => write_places(given, out),
+        "queries" => write_queries(given.alloc, part.body, out),
+        "terminal" => write_terminal(given.alloc, given.parts, true, out),
+        "terminal without backgrounds" => write_terminal(given.alloc, given.parts, false, out),
+        "html" => write_html(given.alloc, given.parts, false, out),
+        "html with backgrounds" => write_html(given.alloc, given.parts, true, out),
+        _ => write_table(files, given, part, repository, out),
+    }
+}
+
+/// Whether a part's text is what is found. What is found ends with a newline, and the part's text without it.
+fn is_found(
+    files: &impl Files,
+    given: Given<'_>,
+    part: Part<'_>,
+    repository: &mut ScopeRepository,
+) -> Option<bool> {
+    let mut out = String::new(given.alloc);
+    write_found(files, given, part, repository, &mut out)?;
+    let found = out.as_str();
+    Some(found.strip_suffix('\n').unwrap_or(found) == part.body)
+}
+
+/// Whether what is expected of a row is found.
+fn all_found(
+    files: &impl Files,
+    given: Given<'_>,
+    repository: &mut ScopeRepository,
+) -> Option<bool> {
+    for part in given.parts {
+        if !is_given(part.heading) && !is_found(files, given, *part, repository)? {
+            return Some(false);
+        }
+    }
+    Some(true)
+}
+
+/// Adds each part with what is found.
+fn write_all(
+    files: &impl Files,
+    given: Given<'_>,
+    repository: &mut ScopeRepository,
+    out: &mut String,
+) -> Option<()> {
+    for part in given.parts {
+        if !is_given(part.heading) {
+            writeln!(out, "%% {}", part.heading).ok()?;
+            write_found(files, given, *part, repository, out)?;
+        }
+    }
+    Some(())
+}
+
+/// Whether the row of a file's text comes out as it is written; where an output is given, what is found is added to it in
+/// place of that.
+fn run_row(
+    files: &impl Files,
+    alloc: Global,
+    text: &str,
+    out: Option<&mut String>,
+) -> Option<bool> {
+    let parts = parts_of(alloc, text)?;
+    let parts = parts.as_slice();
+    let mut repository = ScopeRepository::new(alloc);
+    let set = set_of(files, alloc, parts, &mut repository)?;
+    let theme = theme_of(alloc, parts, &mut repository)?;
+    let text = text_of(alloc, parts)?;
+    let given = Given {
+        alloc,
+        parts,
+        text: text.as_str(),
+        is_bare: body_of(parts, "bare text").is_some(),
+        set: &set,
+        syntax: syntax_of(&set, parts),
+        theme: &theme,
+    };
+    match out {
+        None => all_found(files, given, &mut repository),
+        Some(out) => {
+            write_all(files, given, &mut repository, out)?;
+            Some(true)
+        }
+    }
+}
+
+/// Runs the row of a file, and prints whether it comes out as it is written. Answers whether it does.
+fn run_file(rt: &(impl Print + AllocGlobal + Files), path: &str) -> io::Result<bool> {
+    let text = fs::read_to_string(rt, path)?;
+    let holds = run_row(rt, rt.alloc(), text.as_str(), None) == Some(true);
+    let outcome = if holds { "ok" } else { "fails" };
+    println!(rt; "row {} {outcome}", label_of(text.as_str()))?;
+    Ok(holds)
+}
+
+/// Runs the rows of the files, in byte order of their names. Answers whether all come out as they are written.
+pub fn run_row_files(rt: &(impl Print + AllocGlobal + Files)) -> io::Result<bool> {
+    let Ok(paths) = files_below(rt, rt.alloc(), Path::new(ROWS)) else {
+        return Ok(false);
+    };
+    let mut all = true;
+    for path in paths.as_slice() {
+        all &= run_file(rt, path.as_str())?;
+    }
+    Ok(all)
+}
+
+/// Prints what is found for a row's file.
+pub fn show_row(rt: &(impl Print + AllocGlobal + Files), path: &str) -> io::Result<bool> {
+    let text = fs::read_to_string(rt, path)?;
+    let mut out = String::new(rt.alloc());
+    let shown = run_row(rt, rt.alloc(), text.as_str(), Some(&mut out)) == Some(true);
+    print!(rt; "{out}")?;
+    Ok(shown)
+}

@@ -1,0 +1,282 @@
+//! Definitions as texts: what a loaded or linked grammar holds, each thing on a line.
+use syntect_grammar::syntax_definition::{
+    Context, ContextId, ContextReference, MatchOperation, MatchPattern, Pattern, SyntaxDefinition,
+};
+use syntect_scope::repository::ScopeRepository;
+use syntect_scope::scope::Scope;
+use syntect_scope::stack::ClearAmount;
+use syntect_values::text::Text;
+
+/// Adds ` #` and the context within a syntax that a reference names, if it names one.
+fn write_sub_context(sub_context: &Option<Text>, out: &mut String) -> Option<()> {
+    match sub_context {
+        Some(name) => write!(out, "#{}", name.as_str()).ok(),
+        None => Some(()),
+    }
+}
+
+/// Adds a mark for a reference that has a way out.
+fn write_escape(with_escape: bool, out: &mut String) -> Option<()> {
+    out.push_str(if with_escape { " with escape" } else { "" })
+        .ok()
+}
+
+/// Adds a space and the numbers of a context.
+fn write_id(id: &ContextId, out: &mut String) -> Option<()> {
+    let (syntax, context) = (id.syntax_index, id.context_index);
+    write!(out, " {syntax} {context}").ok()
+}
+
+/// Adds a space, the kind of a reference and what it names.
+pub fn write_reference(
+    reference: &ContextReference,
+    repository: &ScopeRepository,
+    out: &mut String,
+) -> Option<()> {
+    match reference {
+        ContextReference::Named(name) => write!(out, " named {}", name.as_str()).ok(),
+        ContextReference::Inline(name) => write!(out, " inline {}", name.as_str()).ok(),
+        ContextReference::ByScope {
+            scope,
+            sub_context,
+            with_escape,
+        } => {
+            let scope = repository.to_string(*scope).ok()?;
+            write!(out, " scope {scope}").ok()?;
+            write_sub_context(sub_context, out)?;
+            write_escape(*with_escape, out)
+        }
+        ContextReference::File {
+            name,
+            sub_context,
+            with_escape,
+        } => {
+            write!(out, " file {}", name.as_str()).ok()?;
+            write_sub_context(sub_context, out)?;
+            write_escape(*with_escape, out)
+        }
+        ContextReference::Direct(id) => {
+            out.push_str(" direct").ok()?;
+            write_id(id, out)
+        }
+    }
+}
+
+/// Adds a line for each of these references.
+fn write_references(
+    label: &str,
+    references: &[ContextReference],
+    repository: &ScopeRepository,
+    out: &mut String,
+) -> Option<()> {
+    for reference in references {
+        out.push_str(label).ok()?;
+        write_reference(reference, repository, out)?;
+        out.push('\n').ok()?;
+    }
+    Some(())
+}
+
+/// Adds a space and each of these scopes.
+fn write_list(scopes: &[Scope], repository: &ScopeRepository, out: &mut String) -> Option<()> {
+    for scope in scopes {
+        let scope = repository.to_string(*scope).ok()?;
+        write!(out, " {scope}").ok()?;
+    }
+    Some(())
+}
+
+/// Adds a line of these scopes behind a label; none without scopes.
+fn write_scopes(
+    label: &str,
+    scopes: &[Scope],
+    repository: &ScopeRepository,
+    out: &mut String,
+) -> Option<()> {
+    if scopes.is_empty() {
+        return Some(());
+    }
+    out.push_str(label).ok()?;
+    write_list(scopes, repository, out)?;
+    out.push('\n').ok()
+}
+
+/// Adds what a match does to the open contexts.
+fn write_effect(
+    operation: &MatchOperation,
+    repository: &ScopeRepository,
+    out: &mut String,
+) -> Option<()> {
+    match operation {
+        MatchOperation::Push(references) => write_references(
+            "    push",
+            references.as_slice(),
+            repository,
+            out,
+        ),
+        MatchOperation::Set(references) => write_references(
+            "    set",
+            references.as_slice(),
+            repository,
+            out,
+        ),
+        MatchOperation::Pop => out.push_str("    pop\n").ok(),
+        MatchOperation::None => Some(()),
+    }
+}
+
+/// Adds a line for each capture.
+fn write_captures(
+    pattern: &MatchPattern,
+    repository: &ScopeRepository,
+    out: &mut String,
+) -> Option<()> {
+    let Some(captures) = &pattern.captures else {
+        return Some(());
+    };
+    out.push_str("    captures\n").ok()?;
+    for (group, scopes) in captures {
+        write!(out, "      {group}").ok()?;
+        write_list(scopes.as_slice(), repository, out)?;
+        out.push('\n').ok()?;
+    }
+    Some(())
+}
+
+/// Adds a pattern and what its match does.
+fn write_match(
+    pattern: &MatchPattern,
+    repository: &ScopeRepository,
+    out: &mut String,
+) -> Option<()> {
+    let label = if pattern.has_captures {
+        "match with references"
+    } else {
+        "match"
+    };
+    writeln!(out, "  {label} /{}/", pattern.regex.regex_str()).ok()?;
+    write_scopes("    scope", pattern.scope.as_slice(), repository, out)?;
+    write_captures(pattern, repository, out)?;
+    write_effect(&pattern.operation, repository, out)?;
+    if let Some(reference) = &pattern.with_prototype {
+        out.push_str("    with_prototype").ok()?;
+        write_reference(reference, repository, out)?;
+        out.push('\n').ok()?;
+    }
+    Some(())
+}
+
+/// Adds the patterns of a context.
+fn write_patterns(
+    patterns: &[Pattern],
+    repository: &ScopeRepository,
+    out: &mut String,
+) -> Option<()> {
+    for pattern in patterns {
+        match pattern {
+            Pattern::Match(pattern) => write_match(pattern, repository, out)?,
+            Pattern::Include(reference) => {
+                out.push_str("  include").ok()?;
+                write_reference(reference, repository, out)?;
+                out.push('\n').ok()?;
+            }
+        }
+    }
+    Some(())
+}
+
+/// Adds what stands in a context beside its scopes and patterns.
+fn write_marks(context: &Context, out: &mut String) -> Option<()> {
+    if !context.meta_include_prototype {
+        out.push_str("  without prototype\n").ok()?;
+    }
+    match context.clear_scopes {
+        Some(ClearAmount::TopN(count)) => writeln!(out, "  clear_scopes {count}").ok()?,
+        Some(ClearAmount::All) => out.push_str("  clear_scopes all\n").ok()?,
+        None => {}
+    }
+    if let Some(id) = &context.prototype {
+        out.push_str("  prototype").ok()?;
+        write_id(id, out)?;
+        out.push('\n').ok()?;
+    }
+    if context.uses_backrefs {
+        out.push_str("  uses_backrefs\n").ok()?;
+    }
+    Some(())
+}
+
+/// Adds a context.
+fn write_context(
+    name: &str,
+    context: &Context,
+    repository: &ScopeRepository,
+    out: &mut String,
+) -> Option<()> {
+    writeln!(out, "context {name}").ok()?;
+    write_scopes(
+        "  meta_scope",
+        context.meta_scope.as_slice(),
+        repository,
+        out,
+    )?;
+    let content = context.meta_content_scope.as_slice();
+    write_scopes("  meta_content_scope", content, repository, out)?;
+    write_marks(context, out)?;
+    write_patterns(context.patterns.as_slice(), repository, out)
+}
+
+/// Adds what stands in a definition beside its contexts.
+fn write_head(
+    definition: &SyntaxDefinition,
+    repository: &ScopeRepository,
+    out: &mut String,
+) -> Option<()> {
+    writeln!(out, "name {}", definition.name.as_str()).ok()?;
+    for extension in &definition.file_extensions {
+        writeln!(out, "extension {}", extension.as_str()).ok()?;
+    }
+    write_scopes("scope", &[definition.scope], repository, out)?;
+    if let Some(pattern) = &definition.first_line_match {
+        writeln!(out, "first_line_match {}", pattern.as_str()).ok()?;
+    }
+    out.push_str(if definition.hidden { "hidden\n" } else { "" })
+        .ok()
+}
+
+/// Adds the variables and the contexts of a definition.
+fn write_definition(
+    definition: &SyntaxDefinition,
+    repository: &ScopeRepository,
+    out: &mut String,
+) -> Option<()> {
+    write_head(definition, repository, out)?;
+    for (name, value) in definition.variables.as_map().iter() {
+        writeln!(out, "variable {} {}", name.as_str(), value.as_str()).ok()?;
+    }
+    write_contexts(definition, repository, out)
+}
+
+/// Adds the contexts of a definition, in byte order of their names.
+fn write_contexts(
+    definition: &SyntaxDefinition,
+    repository: &ScopeRepository,
+    out: &mut String,
+) -> Option<()> {
+    for (name, context) in definition.contexts.as_map().iter() {
+        write_context(name.as_str(), context, repository, out)?;
+    }
+    Some(())
+}
+
+/// Adds definitions.
+pub fn write_definitions(
+    definitions: &[SyntaxDefinition],
+    repository: &ScopeRepository,
+    out: &mut String,
+) -> Option<()> {
+    for definition in definitions {
+        write_definition(definition, repository, out)?;
+    }
+    Some(())
+}
