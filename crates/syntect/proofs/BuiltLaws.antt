@@ -3,7 +3,6 @@ use Rattle.std.proofs.Common.{◌≡◌, ◌==◌, ℕ, zero, suc, ◌+◌, ◌�
 use Rattle.std.specs.Prelude.{position, codes, IfSome, All, slice_get}
 use Rattle.std.specs.Option.{option_map, option_and_then}
 use Rattle.std.specs.Cmp.Lexicographic.{pointwise}
-use Rattle.std.proofs.lemmas.List.{append-nil}
 use Rattle.std.proofs.lemmas.Option.{slice_get-map}
 use Rattle.std.proofs.lemmas.List.Quantifiers.{position-Some}
 use Rattle.syntect_grammar.specs.Contexts.{context_at, contexts_of}
@@ -16,7 +15,7 @@ use Rattle.syntect_contexts.specs.declared.context.Context.{Context}
 use Rattle.syntect_loader.specs.declared.definition.SyntaxDefinition.{SyntaxDefinition}
 use Rattle.syntect_contexts.specs.declared.syntax_reference.SyntaxReference.{SyntaxReference}
 use Rattle.syntect_grammar.specs.declared.syntax_set.SyntaxSet.{SyntaxSet}
-use Rattle.syntect_parsing.specs.declared.parser.ParseState.{ParseState}
+use Rattle.syntect_parsing.specs.declared.parser.Standing.{Standing}
 use Rattle.syntect.specs.Built.{start_context, IsPlain, IsBuiltOf}
 use Rattle.syntect.specs.Leads.{BeginsPlain}
 
@@ -93,7 +92,7 @@ short (x ∷ y ∷ xs) l = absurd (omega arith)
 -- reading from a context that is plain
 starts_plain : (set : SyntaxSet) (id : ContextId) (o : Option Context) → context_at set id ≡ o → IfSome o (λ c. (c.meta_scope ≡ []) × (length c.meta_content_scope ≤ 1)) → HasPlainStart set (start id)
 starts_plain set id None e h = rw e refl
-starts_plain set id (Some c) e h = rw (e, h.0, short c.meta_content_scope h.1, append-nil c.meta_content_scope) refl
+starts_plain set id (Some c) e h = rw (e, h.0, short c.meta_content_scope h.1) refl
 
 -- a context of a syntax that stands at this place
 context_here : (set : SyntaxSet) (place k : ℕ) (syntax : SyntaxReference) → slice_get (syntaxes_in set) place ≡ Some syntax → context_at set (record { syntax_index = place; context_index = k }) ≡ slice_get syntax.contexts k
@@ -115,7 +114,7 @@ module _ (heads : List SyntaxReference) (bodies : List (List Context)) (set : Sy
   held k = context_here set place k syntax at ∙ ap (λ (x : SyntaxReference). slice_get x.contexts k) is ∙ in_body heads bodies place (body_of d) k
 
   starts_at : IsPlain d → (o : Option ℕ) → position (pointwise ◌==◌ (codes "__start")) (names_of d.contexts) ≡ o
-      → (s : ParseState) → option_map start (option_map (λ i. record { syntax_index = place; context_index = i }) o) ≡ Some s → HasPlainStart set s
+      → (s : Standing) → option_map start (option_map (λ i. record { syntax_index = place; context_index = i }) o) ≡ Some s → HasPlainStart set s
   starts_at plain None p s e = cc
   starts_at plain (Some k) p s e =
       let f : start (number place k) ≡ s = cc in
@@ -147,7 +146,7 @@ module _ (set : SyntaxSet) (syntax : SyntaxReference) (definitions : List Syntax
 
   pub here : IsLinkedAt heads_in bodies_in definitions h.place h.place syntax
   here =
-      let at : slice_get (linked_from heads_in bodies_in 0 definitions) h.place ≡ Some syntax = rw h.set_is at h.among in
+      let at : slice_get (linked_from heads_in bodies_in 0 definitions) h.place ≡ Some syntax = rw h.links at h.among in
       linked_at heads_in bodies_in definitions h.place syntax at
 
   pub built_begins_plain : BeginsPlain set syntax

@@ -22,12 +22,13 @@ use Rattle.syntect_contexts.specs.declared.context.ContextReference.{ContextRefe
 use Rattle.syntect_loader.specs.declared.definition.SyntaxDefinition.{SyntaxDefinition}
 use Rattle.syntect_contexts.specs.declared.syntax_reference.SyntaxReference.{SyntaxReference}
 use Rattle.syntect_grammar.specs.declared.syntax_set.SyntaxSet.{SyntaxSet}
-use Rattle.syntect_parsing.specs.declared.parser.ParseState.{ParseState}
+use Rattle.syntect_parsing.specs.declared.parser.Standing.{Standing}
+use Rattle.syntect_parsing.specs.States.{standing}
 use Rattle.syntect_contexts.specs.declared.error.ParsingError.{ParsingError}
 use Rattle.syntect_contexts.specs.declared.error.ParsingError.TheVariants as parsing
 use Rattle.syntect.specs.Built.{IsBuiltOf, StaysInStart}
 use Rattle.syntect_grammar.specs.Passing.{from_parsing, from_scope}
-use Rattle.syntect.specs.Leads.{Leads, RefusedExactly}
+use Rattle.syntect.specs.Leads.{reader_of, styles_of, Leads, RefusedExactly}
 use Rattle.syntect.specs.declared.easy.HighlightLines.{HighlightLines}
 use Rattle.syntect.proofs.BuiltLaws.{built_there, built_begins_plain}
 use Rattle.syntect.proofs.LeadLaws.{lead_unshown}
@@ -41,26 +42,26 @@ pub record Premises (set : SyntaxSet) (theme : Theme) (syntax : SyntaxReference)
   pub stays_in : StaysInStart set syntax
   pub leads : Leads set theme syntax lines answers h
 
-record BeginsIn (set : SyntaxSet) (state : ParseState) : Type 0 where
+record BeginsIn (set : SyntaxSet) (state : Standing) : Type 0 where
   pub id : ContextId
   pub is : start id ≡ state
   pub never : IsNeverLeft set id
 
-begins_in : (set : SyntaxSet) (o : Option ContextId) (state : ParseState) → ((id : ContextId) → o ≡ Some id → is_none (context_at set id) ≡ false)
+begins_in : (set : SyntaxSet) (o : Option ContextId) (state : Standing) → ((id : ContextId) → o ≡ Some id → is_none (context_at set id) ≡ false)
     → IfSome o (λ id. list_all (λ m. stays m.operation) (lone_patterns set id) ≡ true) → option_map start o ≡ Some state → BeginsIn set state
 begins_in set None state h s e = cc
 begins_in set (Some id) state h s e = record { id = id; is = cc; never = record { there = h id refl; stay = s } }
 
 exactly : {set : SyntaxSet} {theme : Theme} {syntax : SyntaxReference} {definitions : List SyntaxDefinition} {lines : List (List ℕ)} {answers : List Answer} {h : HighlightLines} → Premises set theme syntax definitions lines answers h → (line : List ℕ)
-    → ((e : ParsingError) (turns : ℕ) → RefusesLine dialect set line h.parse_state e turns → NamesUnresolved dialect set line h.parse_state e)
-    × ((r : ContextReference) → PicksUnresolved dialect set line h.parse_state r → (turns : ℕ) × RefusesLine dialect set line h.parse_state (parsing.UnresolvedContextReference r) turns)
+    → ((e : ParsingError) (turns : ℕ) → RefusesLine dialect set line (standing (reader_of h)) e turns → NamesUnresolved dialect set line (standing (reader_of h)) e)
+    × ((r : ContextReference) → PicksUnresolved dialect set line (standing (reader_of h)) r → (turns : ℕ) × RefusesLine dialect set line (standing (reader_of h)) (parsing.UnresolvedContextReference r) turns)
 exactly {set} {theme} {syntax} {definitions} {lines} {answers} {h} p line =
-    let closed : IsClosed set = subst IsClosed (sym p.built.set_is) (p.links p.built.paths definitions p.by_name) in
+    let closed : IsClosed set = p.links set definitions p.built.links p.by_name in
     let b : BeginsIn set p.leads.start = begins_in set (start_id syntax) p.leads.start (built_there set syntax definitions p.built) p.stays_in p.leads.begins in
-    p.refuses dialect set b.id lines answers h.parse_state line closed b.never (subst (λ (s : ParseState). AnswersAll dialect set lines s answers h.parse_state) (sym b.is) p.leads.run)
+    p.refuses dialect set b.id lines answers (standing (reader_of h)) line closed b.never (subst (λ (s : Standing). AnswersAll dialect set lines s answers (standing (reader_of h))) (sym b.is) p.leads.run)
 
 pub exact_refused : {set : SyntaxSet} {theme : Theme} {syntax : SyntaxReference} {definitions : List SyntaxDefinition} {lines : List (List ℕ)} {answers : List Answer} {h : HighlightLines} → Premises set theme syntax definitions lines answers h → (line : List ℕ)
-    → (e : ParsingError) → MayRefuse dialect set line h.parse_state e → RefusedExactly set line h (Err (from_parsing e))
+    → (e : ParsingError) → MayRefuse dialect set line (standing (reader_of h)) e → RefusedExactly set line h (Err (from_parsing e))
 exact_refused p line parsing.Memory m = tt
 exact_refused p line parsing.MissingMainContext m = (exactly p line).0 parsing.MissingMainContext m.0 m.1
 exact_refused p line (parsing.MissingContext id) m = (exactly p line).0 (parsing.MissingContext id) m.0 m.1
@@ -68,14 +69,14 @@ exact_refused p line (parsing.BadMatchIndex i) m = (exactly p line).0 (parsing.B
 exact_refused p line (parsing.UnresolvedContextReference r) m = (exactly p line).0 (parsing.UnresolvedContextReference r) m.0 m.1
 
 pub exact_accepted : {set : SyntaxSet} {theme : Theme} {syntax : SyntaxReference} {definitions : List SyntaxDefinition} {lines : List (List ℕ)} {answers : List Answer} {h : HighlightLines} → Premises set theme syntax definitions lines answers h → (line : List ℕ) → NeverBoth
-    → (new : ParseState) (ops : List (ℕ × ScopeStackOp)) (pieces : Vec (Style × Bor (List ℕ))) → Accepts dialect set line h.parse_state new ops → RefusedExactly set line h (Ok pieces)
+    → (new : Standing) (ops : List (ℕ × ScopeStackOp)) (pieces : Vec (Style × Bor (List ℕ))) → Accepts dialect set line (standing (reader_of h)) new ops → RefusedExactly set line h (Ok pieces)
 exact_accepted {set} {h = h} p line never new ops pieces a = λ r k.
-    let x : (turns : ℕ) × RefusesLine dialect set line h.parse_state (parsing.UnresolvedContextReference r) turns = (exactly p line).1 r k in
-    never dialect set line h.parse_state a.bytes new (parsing.UnresolvedContextReference r) a.turns x.0 a.reads x.1
+    let x : (turns : ℕ) × RefusesLine dialect set line (standing (reader_of h)) (parsing.UnresolvedContextReference r) turns = (exactly p line).1 r k in
+    never dialect set line (standing (reader_of h)) a.bytes new (parsing.UnresolvedContextReference r) a.turns x.0 a.reads x.1
 
 pub exact_unshown : {set : SyntaxSet} {theme : Theme} {syntax : SyntaxReference} {definitions : List SyntaxDefinition} {lines : List (List ℕ)} {answers : List Answer} {h : HighlightLines} → Premises set theme syntax definitions lines answers h → (line : Bor (List ℕ)) → StackIsOpen
-    → (new : ParseState) (ops : List (ℕ × ScopeStackOp)) (e : ScopeError) → Accepts dialect set line.now h.parse_state new ops
-    → (e ≡ scope.NoClearedScopesToRestore → ¬ AllApply (path_of h.highlight_state) ops) → RefusedExactly set line.now h (Err (from_scope e))
+    → (new : Standing) (ops : List (ℕ × ScopeStackOp)) (e : ScopeError) → Accepts dialect set line.now (standing (reader_of h)) new ops
+    → (e ≡ scope.NoClearedScopesToRestore → ¬ AllApply (path_of (styles_of h)) ops) → RefusedExactly set line.now h (Err (from_scope e))
 exact_unshown p line opens new ops scope.Memory a n = tt
 exact_unshown {set} {theme} {syntax} {definitions} {lines} {answers} {h} p line opens new ops scope.NoClearedScopesToRestore a n =
     lead_unshown set theme syntax lines answers line h new ops scope.NoClearedScopesToRestore opens (built_begins_plain set syntax definitions p.built) p.leads a n

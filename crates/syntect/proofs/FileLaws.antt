@@ -4,8 +4,9 @@ use Rattle.std.specs.Prelude.{Option, Some, None, IfOk, IfErr, IsUtf8, slice_get
 use Rattle.std.specs.Option.{option_or, option_copied}
 use Rattle.std.proofs.lemmas.Bool.{cases_Bool}
 use Rattle.std.proofs.lemmas.List.{reverse-append}
+use Rattle.std.proofs.lemmas.Str.{IsUtf8-nil}
 use Rattle.syntect_theme.specs.declared.theme.Theme.{Theme}
-use Rattle.syntect_grammar.specs.Finding.{found_for_file, found_plain_text, found_by_file_name, found_by_first_line, NotFoundFor}
+use Rattle.syntect_grammar.specs.Finding.{found_for_file, found_plain_text, found_by_file_name, found_by_first_line}
 use Rattle.syntect_grammar.specs.Link.{syntaxes_in}
 use Rattle.syntect_contexts.specs.declared.syntax_reference.SyntaxReference.{SyntaxReference}
 use Rattle.syntect_grammar.specs.declared.syntax_set.SyntaxSet.{SyntaxSet}
@@ -79,25 +80,26 @@ is_syntax set path line syntax u e =
     let p = place_among set path line syntax e in
     record { line = line; text = u; found = e; place = p.0; among = p.1 }
 
-pub found_syntax : (set : SyntaxSet) (path line : List ℕ) (syntax : SyntaxReference) → IsUtf8 line → Some syntax ≡ found_for_file set path line → IsSyntaxFor set path syntax
-found_syntax set path line syntax u e = is_syntax set path line syntax u (ap (λ found. option_or found (found_plain_text set)) (sym e))
+-- its path tells it
+pub named_syntax : (set : SyntaxSet) (path : List ℕ) (syntax : SyntaxReference) → Some syntax ≡ found_by_file_name set path → IsSyntaxFor set path syntax
+named_syntax set path syntax e = is_syntax set path [] syntax IsUtf8-nil (ap (λ found. option_or (option_or found (found_by_first_line set [])) (found_plain_text set)) (sym e))
 
-pub plain_syntax : (set : SyntaxSet) (path line : List ℕ) (syntax : SyntaxReference) → IsUtf8 line → None ≡ found_for_file set path line → Some syntax ≡ found_plain_text set → IsSyntaxFor set path syntax
-plain_syntax set path line syntax u e f = is_syntax set path line syntax u (ap (λ found. option_or found (found_plain_text set)) (sym e) ∙ sym f)
+-- its first line does
+pub found_syntax : (set : SyntaxSet) (path line : List ℕ) (syntax : SyntaxReference) → IsUtf8 line → None ≡ found_by_file_name set path → Some syntax ≡ found_by_first_line set line → IsSyntaxFor set path syntax
+found_syntax set path line syntax u e f =
+    is_syntax set path line syntax u (ap (λ found. option_or (option_or found (found_by_first_line set line)) (found_plain_text set)) (sym e) ∙ ap (λ found. option_or found (found_plain_text set)) (sym f))
 
-pub no_syntax : (set : SyntaxSet) (path line : List ℕ) → IsUtf8 line → None ≡ found_for_file set path line → None ≡ found_plain_text set → HasNoLines set path error.NoSyntax
-no_syntax set path line u e f = (line, u, ap (λ found. option_or found (found_plain_text set)) (sym e) ∙ sym f)
+-- neither the path nor the first line tells a syntax
+none_told : (set : SyntaxSet) (path line : List ℕ) → None ≡ found_by_file_name set path → None ≡ found_by_first_line set line → None ≡ found_for_file set path line
+none_told set path line e f = f ∙ ap (λ found. option_or found (found_by_first_line set line)) e
+
+pub plain_syntax : (set : SyntaxSet) (path line : List ℕ) (syntax : SyntaxReference) → IsUtf8 line → None ≡ found_by_file_name set path → None ≡ found_by_first_line set line → Some syntax ≡ found_plain_text set → IsSyntaxFor set path syntax
+plain_syntax set path line syntax u n e f = is_syntax set path line syntax u (ap (λ found. option_or found (found_plain_text set)) (sym (none_told set path line n e)) ∙ sym f)
+
+pub no_syntax : (set : SyntaxSet) (path line : List ℕ) → IsUtf8 line → None ≡ found_by_file_name set path → None ≡ found_by_first_line set line → None ≡ found_plain_text set → HasNoLines set path error.NoSyntax
+no_syntax set path line u n e f = (line, u, ap (λ found. option_or found (found_plain_text set)) (sym (none_told set path line n e)) ∙ sym f)
 
 -- ---- no lines ----
-
-pub not_found : (set : SyntaxSet) (path : List ℕ) (e : Error) → NotFoundFor set path e → HasNoLines set path e
-not_found set path (error.Io e) n = tt
-not_found set path error.Memory n = tt
-not_found set path (error.ParsingError e) n = absurd n
-not_found set path (error.ScopeError e) n = absurd n
-not_found set path (error.LoadingError e) n = absurd n
-not_found set path (error.Fmt e) n = absurd n
-not_found set path error.NoSyntax n = absurd n
 
 pub not_read : (set : SyntaxSet) (path : List ℕ) (e : Error) → IsReadFault e → HasNoLines set path e
 not_read set path (error.Io e) n = tt
@@ -120,7 +122,7 @@ no_start_for set path syntax error.NoSyntax s l = absurd l
 -- ---- pages ----
 
 pub built_of : (set : SyntaxSet) (path : List ℕ) (syntax : SyntaxReference) (definitions : List SyntaxDefinition) → IsBuilt set definitions → IsSyntaxFor set path syntax → IsBuiltOf set syntax definitions
-built_of set path syntax definitions b s = record { paths = b.paths; set_is = b.set_is; place = s.place; among = s.among; plain = b.plain }
+built_of set path syntax definitions b s = record { links = b.links; place = s.place; among = s.among; plain = b.plain }
 
 pub page_of_file : {A : Type 0} (view : A → List ℕ) (set : SyntaxSet) (theme : Theme) (path : List ℕ) (syntax : SyntaxReference) (P : List ℕ → Type 0) (result : Result A Error) → IsSyntaxFor set path syntax
     → IfOk result (λ page. (text : List ℕ) × P text × IsPageOfBytes set theme syntax text (view page)) → IfOk result (λ page. IsPageOfFile set theme path (view page))

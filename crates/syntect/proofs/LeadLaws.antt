@@ -1,9 +1,10 @@
 -- One line more.
-use Rattle.std.proofs.Common.{◌≡◌, ℕ, List, [], ◌∷◌, ◌++◌, length, refl, ◌∙◌, Option, Some, None, Ok, Err, Bor}
+use Rattle.std.proofs.Common.{◌≡◌, ℕ, List, [], ◌∷◌, ◌++◌, length, refl, ◌∙◌, Option, Some, None, Result, Ok, Err, Bor}
 use Rattle.std.specs.Global.{Vec}
 use Rattle.std.specs.Option.{option_map}
 use Rattle.syntect_scope.specs.Stack.{plain}
-use Rattle.syntect_scope.specs.Replay.{IsAt, AllApply, before_text, replay, bytes_to}
+use Rattle.syntect_scope.specs.Replay.{AllApply, before_text, replay, bytes_to}
+use Rattle.syntect_parsing.specs.Stacks.{IsAt}
 use Rattle.syntect_scope.specs.declared.stack.ScopeStackOp.{ScopeStackOp}
 use Rattle.syntect_scope.specs.declared.stack.ScopeError.{ScopeError}
 use Rattle.syntect_scope.specs.declared.stack.ScopeError.TheVariants as scope
@@ -18,34 +19,46 @@ use Rattle.syntect_parsing.specs.Meaning.{Means, Accepts, MayRefuse}
 use Rattle.syntect_contexts.specs.declared.context.ContextId.{ContextId}
 use Rattle.syntect_contexts.specs.declared.syntax_reference.SyntaxReference.{SyntaxReference}
 use Rattle.syntect_grammar.specs.declared.syntax_set.SyntaxSet.{SyntaxSet}
+use Rattle.syntect_parsing.specs.declared.parser.Standing.{Standing}
+use Rattle.syntect_parsing.specs.States.{standing}
 use Rattle.syntect_parsing.specs.declared.parser.ParseState.{ParseState}
 use Rattle.syntect_contexts.specs.declared.error.ParsingError.{ParsingError}
 use Rattle.syntect_contexts.specs.declared.error.ParsingError.TheVariants as parsing
 use Rattle.syntect_grammar.specs.Passing.{from_parsing, from_scope}
-use Rattle.syntect.specs.Leads.{Leads, LeadsOn, BeginsPlain}
+use Rattle.syntect.specs.Leads.{theme_of, styles_of, reader_of, OnlyParsing, Leads, Past, IsPast, Continues, BeginsPlain}
+use Rattle.syntect.specs.Built.{IsBuiltOf}
+use Rattle.syntect_grammar.specs.declared.error.Error.{Error}
+use Rattle.syntect_grammar.specs.declared.error.Error.TheVariants as error
 use Rattle.syntect.specs.declared.easy.HighlightLines.{HighlightLines}
+
+-- what `Continues` says, without the definitions
+abbrev pub LeadsOn : SyntaxSet → Theme → SyntaxReference → List (List ℕ) → List Answer → Bor (List ℕ) → HighlightLines → Result (Vec (Style × Bor (List ℕ))) Error → Type 0
+LeadsOn set theme syntax lines answers line h (Ok pieces) =
+    (bytes : List (List (List ℕ))) × Leads set theme syntax (lines ++ line.now ∷ []) (answers ++ Accepted bytes ∷ []) h
+    × Joins line.now pieces.items × IsStyled theme bytes pieces.items
+LeadsOn set theme syntax lines answers line h (Err e) = OnlyParsing (λ e. Leads set theme syntax (lines ++ line.now ∷ []) (answers ++ RefusedBy e ∷ []) h) e
 
 -- ---- before the first line ----
 
 -- at the start the stack is empty
-starts_empty : (set : SyntaxSet) (id : Option ContextId) (state : ParseState) → option_map start id ≡ Some state → stack_before set state ≡ []
+starts_empty : (set : SyntaxSet) (id : Option ContextId) (state : Standing) → option_map start id ≡ Some state → stack_before set state ≡ plain []
 starts_empty set None state e = cc
 starts_empty set (Some id) state e = let f : start id ≡ state = cc in rw (← f) refl
 
-pub leads-none : (set : SyntaxSet) (theme : Theme) (syntax : SyntaxReference) (h : HighlightLines) → start_of syntax ≡ Some h.parse_state → path_of h.highlight_state ≡ plain [] → h.highlighter ≡ theme → Keeps theme h.highlight_state
+pub leads-none : (set : SyntaxSet) (theme : Theme) (syntax : SyntaxReference) (h : HighlightLines) → start_of syntax ≡ Some (standing (reader_of h)) → path_of (styles_of h) ≡ plain [] → theme_of h ≡ theme → Keeps theme (styles_of h)
     → Leads set theme syntax [] [] h
 leads-none set theme syntax h b p t k = record {
-  start = h.parse_state;
+  start = standing (reader_of h);
   begins = b;
   run = none;
-  path = rw (starts_empty set (start_id syntax) h.parse_state b) p;
+  path = rw (starts_empty set (start_id syntax) (standing (reader_of h)) b) p;
   theme_is = t;
   keeps = k;
 }
 
 -- what led to these states leads to the highlighter of the theme that holds them
 pub leads-resumed : (set : SyntaxSet) (theme : Theme) (syntax : SyntaxReference) (lines : List (List ℕ)) (answers : List Answer) (h new : HighlightLines)
-    → h.highlight_state ≡ new.highlight_state → h.parse_state ≡ new.parse_state → new.highlighter ≡ theme → Leads set theme syntax lines answers h → Leads set theme syntax lines answers new
+    → styles_of h ≡ styles_of new → standing (reader_of h) ≡ standing (reader_of new) → theme_of new ≡ theme → Leads set theme syntax lines answers h → Leads set theme syntax lines answers new
 leads-resumed set theme syntax lines answers h new e f t l = record {
   start = l.start;
   begins = l.begins;
@@ -59,23 +72,23 @@ leads-resumed set theme syntax lines answers h new e f t l = record {
 
 -- with one more answer, what is held leads on
 leads-more : (set : SyntaxSet) (theme : Theme) (syntax : SyntaxReference) (lines : List (List ℕ)) (answers : List Answer) (line : List ℕ) (h new : HighlightLines) (a : Answer) → AnswersMore
-    → Leads set theme syntax lines answers h → Answers dialect set line h.parse_state a new.parse_state → path_of new.highlight_state ≡ plain (stack_before set new.parse_state) → new.highlighter ≡ theme → Keeps theme new.highlight_state
+    → Leads set theme syntax lines answers h → Answers dialect set line (standing (reader_of h)) a (standing (reader_of new)) → path_of (styles_of new) ≡ stack_before set (standing (reader_of new)) → theme_of new ≡ theme → Keeps theme (styles_of new)
     → Leads set theme syntax (lines ++ line ∷ []) (answers ++ a ∷ []) new
 leads-more set theme syntax lines answers line h new a more l r p t k = record {
   start = l.start;
   begins = l.begins;
-  run = more dialect set lines line l.start h.parse_state new.parse_state answers a l.run r;
+  run = more dialect set lines line l.start (standing (reader_of h)) (standing (reader_of new)) answers a l.run r;
   path = p;
   theme_is = t;
   keeps = k;
 }
 
 leads-refused : (set : SyntaxSet) (theme : Theme) (syntax : SyntaxReference) (lines : List (List ℕ)) (answers : List Answer) (line : List ℕ) (h : HighlightLines) (e : ParsingError) → AnswersMore
-    → Leads set theme syntax lines answers h → Answers dialect set line h.parse_state (RefusedBy e) h.parse_state → Leads set theme syntax (lines ++ line ∷ []) (answers ++ RefusedBy e ∷ []) h
+    → Leads set theme syntax lines answers h → Answers dialect set line (standing (reader_of h)) (RefusedBy e) (standing (reader_of h)) → Leads set theme syntax (lines ++ line ∷ []) (answers ++ RefusedBy e ∷ []) h
 leads-refused set theme syntax lines answers line h e more l r = leads-more set theme syntax lines answers line h h (RefusedBy e) more l r l.path l.theme_is l.keeps
 
 pub lead_refused : (set : SyntaxSet) (theme : Theme) (syntax : SyntaxReference) (lines : List (List ℕ)) (answers : List Answer) (line : Bor (List ℕ)) (h : HighlightLines) (e : ParsingError) → AnswersMore
-    → Leads set theme syntax lines answers h → MayRefuse dialect set line.now h.parse_state e → LeadsOn set theme syntax lines answers line h (Err (from_parsing e))
+    → Leads set theme syntax lines answers h → MayRefuse dialect set line.now (standing (reader_of h)) e → LeadsOn set theme syntax lines answers line h (Err (from_parsing e))
 lead_refused set theme syntax lines answers line h parsing.Memory more l r = tt
 lead_refused set theme syntax lines answers line h parsing.MissingMainContext more l r = leads-refused set theme syntax lines answers line.now h parsing.MissingMainContext more l (refuses r.1)
 lead_refused set theme syntax lines answers line h (parsing.MissingContext id) more l r = leads-refused set theme syntax lines answers line.now h (parsing.MissingContext id) more l (refuses r.1)
@@ -85,13 +98,13 @@ lead_refused set theme syntax lines answers line h (parsing.UnresolvedContextRef
 
 -- the stack before the line is the open scopes, or empty before the first
 plain_here : (set : SyntaxSet) (theme : Theme) (syntax : SyntaxReference) (lines : List (List ℕ)) (answers : List Answer) (h : HighlightLines) → StackIsOpen → BeginsPlain set syntax → Leads set theme syntax lines answers h
-    → HasPlainStart set h.parse_state
-plain_here set theme syntax lines answers h opens b l = opens dialect set lines l.start h.parse_state answers (b l.start l.begins) l.run
+    → HasPlainStart set (standing (reader_of h))
+plain_here set theme syntax lines answers h opens b l = opens dialect set lines l.start (standing (reader_of h)) answers (b l.start l.begins) l.run
 
 -- operations of an accepted line are never refused
-pub lead_unshown : (set : SyntaxSet) (theme : Theme) (syntax : SyntaxReference) (lines : List (List ℕ)) (answers : List Answer) (line : Bor (List ℕ)) (h : HighlightLines) (new : ParseState) (ops : List (ℕ × ScopeStackOp)) (e : ScopeError)
-    → StackIsOpen → BeginsPlain set syntax → Leads set theme syntax lines answers h → Accepts dialect set line.now h.parse_state new ops
-    → (e ≡ scope.NoClearedScopesToRestore → ¬ AllApply (path_of h.highlight_state) ops) → LeadsOn set theme syntax lines answers line h (Err (from_scope e))
+pub lead_unshown : (set : SyntaxSet) (theme : Theme) (syntax : SyntaxReference) (lines : List (List ℕ)) (answers : List Answer) (line : Bor (List ℕ)) (h : HighlightLines) (new : Standing) (ops : List (ℕ × ScopeStackOp)) (e : ScopeError)
+    → StackIsOpen → BeginsPlain set syntax → Leads set theme syntax lines answers h → Accepts dialect set line.now (standing (reader_of h)) new ops
+    → (e ≡ scope.NoClearedScopesToRestore → ¬ AllApply (path_of (styles_of h)) ops) → LeadsOn set theme syntax lines answers line h (Err (from_scope e))
 lead_unshown set theme syntax lines answers line h new ops scope.Memory opens b l a n = tt
 lead_unshown set theme syntax lines answers line h new ops scope.NoClearedScopesToRestore opens b l a n =
     n refl (rw l.path (a.means.apply (plain_here set theme syntax lines answers h opens b l)))
@@ -104,19 +117,33 @@ pub record Shown (theme : Theme) (line : List ℕ) (old new : HighlightState) (o
   pub keeps : Keeps theme old → Keeps theme new
 
 pub lead_accepted : (set : SyntaxSet) (theme : Theme) (syntax : SyntaxReference) (lines : List (List ℕ)) (answers : List Answer) (line : Bor (List ℕ)) (h : HighlightLines) (new : ParseState) (state : HighlightState)
-    (ops : List (ℕ × ScopeStackOp)) (pieces : Vec (Style × Bor (List ℕ))) → AnswersMore → StackIsOpen → BeginsPlain set syntax → Leads set theme syntax lines answers h → Accepts dialect set line.now h.parse_state new ops
-    → Shown h.highlighter line.now h.highlight_state state ops pieces.items
+    (ops : List (ℕ × ScopeStackOp)) (pieces : Vec (Style × Bor (List ℕ))) → AnswersMore → StackIsOpen → BeginsPlain set syntax → Leads set theme syntax lines answers h → Accepts dialect set line.now (standing (reader_of h)) (standing new) ops
+    → Shown (theme_of h) line.now (styles_of h) state ops pieces.items
     → LeadsOn set theme syntax lines answers line (record { highlighter = h.highlighter; parse_state = new; highlight_state = state }) (Ok pieces)
 lead_accepted set theme syntax lines answers line h new state ops pieces more opens b l a w =
-    let m : Means set line.now h.parse_state new a.bytes ops = a.means in
-    let at : IsAt (replay ops (before_text (plain (stack_before set h.parse_state)))) (length line.now) a.bytes (stack_before set new) = m.shows (plain_here set theme syntax lines answers h opens b l) in
-    let x : Shown theme line.now h.highlight_state state ops pieces.items = rw l.theme_is at w in (
+    let m : Means set line.now (standing (reader_of h)) (standing new) a.bytes ops = a.means in
+    let at : IsAt (replay ops (before_text (stack_before set (standing (reader_of h))))) (length line.now) a.bytes (stack_before set (standing new)) = m.shows (plain_here set theme syntax lines answers h opens b l) in
+    let x : Shown theme line.now (styles_of h) state ops pieces.items = rw l.theme_is at w in (
       a.bytes,
       leads-more set theme syntax lines answers line.now h (record { highlighter = h.highlighter; parse_state = new; highlight_state = state }) (Accepted a.bytes) more l (accepts a.reads)
           (rw l.path at x.path ∙ at.stack) l.theme_is (x.keeps l.keeps),
       w.joins,
       (
-          let y : IsStyled theme (bytes_to (replay ops (before_text (path_of h.highlight_state))) (length line.now)) pieces.items = x.styled l.keeps in
+          let y : IsStyled theme (bytes_to (replay ops (before_text (path_of (styles_of h)))) (length line.now)) pieces.items = x.styled l.keeps in
           rw at.before at (rw l.path at y)
           ),
     )
+
+-- ---- with the past ----
+
+-- the past goes on as the lines do
+pub continues : (past : Past) (set : SyntaxSet) (line : Bor (List ℕ)) (h : HighlightLines) (r : Result (Vec (Style × Bor (List ℕ))) Error) → IsBuiltOf set past.syntax past.definitions
+    → LeadsOn set past.theme past.syntax past.lines past.answers line h r → Continues past set line h r
+continues past set line h (Ok pieces) b l = (l.0, record { built = b; leads = l.1 }, l.2, l.3)
+continues past set line h (Err (error.ParsingError e)) b l = record { built = b; leads = l }
+continues past set line h (Err error.Memory) b l = tt
+continues past set line h (Err (error.ScopeError e)) b l = absurd l
+continues past set line h (Err (error.LoadingError e)) b l = absurd l
+continues past set line h (Err (error.Fmt e)) b l = absurd l
+continues past set line h (Err (error.Io e)) b l = absurd l
+continues past set line h (Err error.NoSyntax) b l = absurd l

@@ -1,4 +1,5 @@
 pub mod BuiltLaws
+pub mod ClassedLaws
 pub mod LeadLaws
 pub mod ExactLaws
 pub mod PageLaws

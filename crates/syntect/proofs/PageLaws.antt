@@ -10,8 +10,10 @@ use Rattle.syntect_grammar.specs.declared.syntax_set.SyntaxSet.{SyntaxSet}
 use Rattle.syntect_writers.specs.Lines.{lines_of}
 use Rattle.syntect_writers.specs.Spans.{line_text, opening, closing, background_of}
 use Rattle.syntect_writers.specs.declared.html.IncludeBackground.TheVariants.{IfDifferent}
-use Rattle.syntect.specs.Leads.{Leads, LeadsOn, LacksStart}
-use Rattle.syntect.specs.Pages.{Row, IsShown, AreShown, lines_in, answers_in, body_text, IsPage, HasNoPage}
+use Rattle.syntect_parsing.specs.States.{standing}
+use Rattle.syntect.specs.Leads.{reader_of, Leads, Continues, LacksStart}
+use Rattle.syntect_loader.specs.declared.definition.SyntaxDefinition.{SyntaxDefinition}
+use Rattle.syntect.specs.Pages.{Row, IsShown, AreShown, lines_in, answers_in, past_of, body_text, IsPage, HasNoPage}
 use Rattle.syntect.specs.declared.easy.HighlightLines.{HighlightLines}
 use Rattle.syntect_grammar.specs.declared.error.Error.{Error}
 use Rattle.syntect_grammar.specs.declared.error.Error.TheVariants as error
@@ -51,18 +53,18 @@ written_last theme rows row page next e f =
     (ap (λ (xs : List ℕ). body_text theme rows ++ xs) (sym (append-nil (line_text (IfDifferent (background_of theme)) row.pieces)))
     ∙ sym (flat_map-append (λ (r : Row). line_text (IfDifferent (background_of theme)) r.pieces) rows (row ∷ [])))
 
-unfoldable pub so_far_more : (set : SyntaxSet) (theme : Theme) (syntax : SyntaxReference) (text left rest page next : List ℕ) (line : Bor (List ℕ)) (h new : HighlightLines) (pieces : Vec (Style × Bor (List ℕ)))
+unfoldable pub so_far_more : (set : SyntaxSet) (definitions : List SyntaxDefinition) (theme : Theme) (syntax : SyntaxReference) (text left rest page next : List ℕ) (line : Bor (List ℕ)) (h new : HighlightLines) (pieces : Vec (Style × Bor (List ℕ)))
     (s : IsSoFar set theme syntax text left page h)
-    → LeadsOn set theme syntax (lines_in s.rows) (answers_in s.rows) line new (Ok pieces)
+    → Continues (past_of definitions theme syntax s.rows) set line new (Ok pieces)
     → lines_of left ≡ line.now ∷ lines_of rest
     → next ≡ page ++ line_text (IfDifferent (background_of theme)) pieces.items
     → IsSoFar set theme syntax text rest next new
-so_far_more set theme syntax text left rest page next line h new pieces s l e f =
+so_far_more set definitions theme syntax text left rest page next line h new pieces s l e f =
     let row : Row = record { line = line.now; scopes = l.0; pieces = pieces.items } in
     let some : List Row = s.rows ++ row ∷ [] in
     record {
       rows = some;
-      leads = rw (map_last (λ (r : Row). r.line) s.rows row, map_last (λ (r : Row). Accepted r.scopes) s.rows row) l.1;
+      leads = rw (map_last (λ (r : Row). r.line) s.rows row, map_last (λ (r : Row). Accepted r.scopes) s.rows row) l.1.leads;
       lines =
           ap (λ xs. xs ++ lines_of rest) (map_last (λ (r : Row). r.line) s.rows row)
           ∙ append_assoc (lines_in s.rows) (line.now ∷ []) (lines_of rest)
@@ -77,7 +79,7 @@ pub page_whole : (set : SyntaxSet) (theme : Theme) (syntax : SyntaxReference) (t
 page_whole set theme syntax text left page whole h s e f = record {
   rows = s.rows;
   start = s.leads.start;
-  after = h.parse_state;
+  after = standing (reader_of h);
   begins = s.leads.begins;
   lines = sym (append-nil (lines_in s.rows)) ∙ ap (λ xs. lines_in s.rows ++ xs) (sym e) ∙ s.lines;
   run = s.leads.run;
@@ -85,27 +87,27 @@ page_whole set theme syntax text left page whole h s e f = record {
   written = f ∙ ap (λ (xs : List ℕ). xs ++ closing) s.written ∙ append_assoc (opening theme) (body_text theme s.rows) closing;
 }
 
-pub no_page : (set : SyntaxSet) (theme : Theme) (syntax : SyntaxReference) (text left page : List ℕ) (line : Bor (List ℕ)) (rest : List (List ℕ)) (h new : HighlightLines) (e : Error)
+pub no_page : (set : SyntaxSet) (definitions : List SyntaxDefinition) (theme : Theme) (syntax : SyntaxReference) (text left page : List ℕ) (line : Bor (List ℕ)) (rest : List (List ℕ)) (h new : HighlightLines) (e : Error)
     (s : IsSoFar set theme syntax text left page h)
-    → LeadsOn set theme syntax (lines_in s.rows) (answers_in s.rows) line new (Err e)
+    → Continues (past_of definitions theme syntax s.rows) set line new (Err e)
     → lines_of left ≡ line.now ∷ rest → HasNoPage set syntax text e
-no_page set theme syntax text left page line rest h new (error.ParsingError e) s l f =
+no_page set definitions theme syntax text left page line rest h new (error.ParsingError e) s l f =
     inr (record {
       rows = s.rows;
       line = line.now;
       rest = rest;
-      start = l.start;
-      after = new.parse_state;
-      begins = l.begins;
+      start = l.leads.start;
+      after = standing (reader_of new);
+      begins = l.leads.begins;
       lines = ap (λ xs. lines_in s.rows ++ xs) (sym f) ∙ s.lines;
-      run = l.run;
+      run = l.leads.run;
     })
-no_page set theme syntax text left page line rest h new error.Memory s l f = tt
-no_page set theme syntax text left page line rest h new (error.ScopeError e) s l f = absurd l
-no_page set theme syntax text left page line rest h new (error.LoadingError e) s l f = absurd l
-no_page set theme syntax text left page line rest h new (error.Fmt e) s l f = absurd l
-no_page set theme syntax text left page line rest h new (error.Io e) s l f = absurd l
-no_page set theme syntax text left page line rest h new error.NoSyntax s l f = absurd l
+no_page set definitions theme syntax text left page line rest h new error.Memory s l f = tt
+no_page set definitions theme syntax text left page line rest h new (error.ScopeError e) s l f = absurd l
+no_page set definitions theme syntax text left page line rest h new (error.LoadingError e) s l f = absurd l
+no_page set definitions theme syntax text left page line rest h new (error.Fmt e) s l f = absurd l
+no_page set definitions theme syntax text left page line rest h new (error.Io e) s l f = absurd l
+no_page set definitions theme syntax text left page line rest h new error.NoSyntax s l f = absurd l
 
 pub no_start : (set : SyntaxSet) (syntax : SyntaxReference) (text : List ℕ) (e : Error) → LacksStart syntax e → HasNoPage set syntax text e
 no_start set syntax text (error.ParsingError e) l = inl l

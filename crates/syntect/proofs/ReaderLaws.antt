@@ -11,8 +11,10 @@ use Rattle.syntect_grammar.specs.declared.error.Error.TheVariants as error
 use Rattle.syntect_writers.specs.Lines.{lines_of}
 use Rattle.syntect_writers.specs.Spans.{line_text, opening, closing, background_of}
 use Rattle.syntect_writers.specs.declared.html.IncludeBackground.TheVariants.{IfDifferent}
-use Rattle.syntect.specs.Leads.{LeadsOn, LacksStart}
-use Rattle.syntect.specs.Pages.{Row, lines_in, answers_in, body_text, IsPage, IsPageOfBytes, IsRefusedAtALine, HasNoPageOfBytes, IsStopped, IsReadFault}
+use Rattle.syntect_parsing.specs.States.{standing}
+use Rattle.syntect.specs.Leads.{reader_of, Continues, LacksStart}
+use Rattle.syntect_loader.specs.declared.definition.SyntaxDefinition.{SyntaxDefinition}
+use Rattle.syntect.specs.Pages.{Row, lines_in, answers_in, past_of, body_text, IsPage, IsPageOfBytes, IsRefusedAtALine, HasNoPageOfBytes, IsStopped, IsReadFault}
 use Rattle.syntect.specs.Rows.{IsTextOf, GivesNext, AreRowsSoFar}
 use Rattle.syntect.specs.declared.easy.HighlightLines.{HighlightLines}
 use Rattle.syntect.proofs.PageLaws.{written_last}
@@ -33,17 +35,17 @@ pub record IsSoFarOfBytes (set : SyntaxSet) (theme : Theme) (syntax : SyntaxRefe
   pub read : AreRowsSoFar set theme syntax had left last rows h
   pub written : page ≡ opening theme ++ body_text theme rows
 
-pub bytes_more : (set : SyntaxSet) (theme : Theme) (syntax : SyntaxReference) (had left after : Option (List ℕ)) (last page next bytes : List ℕ) (line : Bor (List ℕ)) (h new : HighlightLines) (pieces : Vec (Style × Bor (List ℕ)))
+pub bytes_more : (set : SyntaxSet) (definitions : List SyntaxDefinition) (theme : Theme) (syntax : SyntaxReference) (had left after : Option (List ℕ)) (last page next bytes : List ℕ) (line : Bor (List ℕ)) (h new : HighlightLines) (pieces : Vec (Style × Bor (List ℕ)))
     (s : IsSoFarOfBytes set theme syntax had left last page h)
-    → LeadsOn set theme syntax (lines_in s.rows) (answers_in s.rows) line new (Ok pieces)
+    → Continues (past_of definitions theme syntax s.rows) set line new (Ok pieces)
     → GivesNext left last after bytes true → line.now ≡ bytes → IsUtf8 bytes
     → next ≡ page ++ line_text (IfDifferent (background_of theme)) pieces.items
     → IsSoFarOfBytes set theme syntax had after bytes next new
-bytes_more set theme syntax had left after last page next bytes line h new pieces s l g e u f =
+bytes_more set definitions theme syntax had left after last page next bytes line h new pieces s l g e u f =
     let row : Row = record { line = line.now; scopes = l.0; pieces = pieces.items } in
     record {
       rows = s.rows ++ row ∷ [];
-      read = rows_go_on set theme syntax had left after last bytes s.rows line h new pieces s.read l g e u;
+      read = rows_go_on set definitions theme syntax had left after last bytes s.rows line h new pieces s.read l g e u;
       written = written_last theme s.rows row page next s.written f;
     }
 
@@ -70,29 +72,29 @@ bytes_whole set theme syntax had left after last page whole bytes h s g f =
 abbrev pub HasStopped : SyntaxSet → SyntaxReference → Option (List ℕ) → Error → Type 0
 HasStopped set syntax had e = (text : List ℕ) × IsTextOf had text × IsStopped set syntax text e
 
-pub stopped_at_line : (set : SyntaxSet) (theme : Theme) (syntax : SyntaxReference) (had left after : Option (List ℕ)) (last bytes : List ℕ) (rows : List Row) (line : Bor (List ℕ)) (h new : HighlightLines) (e : Error)
+pub stopped_at_line : (set : SyntaxSet) (definitions : List SyntaxDefinition) (theme : Theme) (syntax : SyntaxReference) (had left after : Option (List ℕ)) (last bytes : List ℕ) (rows : List Row) (line : Bor (List ℕ)) (h new : HighlightLines) (e : Error)
     (s : AreRowsSoFar set theme syntax had left last rows h)
-    → LeadsOn set theme syntax (lines_in rows) (answers_in rows) line new (Err e)
+    → Continues (past_of definitions theme syntax rows) set line new (Err e)
     → GivesNext left last after bytes true → line.now ≡ bytes → IsUtf8 bytes → HasStopped set syntax had e
-stopped_at_line set theme syntax had left after last bytes rows line h new (error.ParsingError e) s l g k u =
+stopped_at_line set definitions theme syntax had left after last bytes rows line h new (error.ParsingError e) s l g k u =
     let t = text_with_rest had after (s.done ++ bytes) bytes (less_left had left after s.done last bytes s.is_left g) in
     let refused : IsRefusedAtALine set syntax ((s.done ++ bytes) ++ t.0) e = record {
       rows = rows;
       line = line.now;
       rest = lines_of t.0;
-      start = l.start;
-      after = new.parse_state;
-      begins = l.begins;
+      start = l.leads.start;
+      after = standing (reader_of new);
+      begins = l.leads.begins;
       lines = lines_more s.done last bytes line.now t.0 (lines_in rows) s.lines g.0 g.1 g.2 k t.1;
-      run = l.run;
+      run = l.leads.run;
     } in
     ((s.done ++ bytes) ++ t.0, t.2, (refused, s.lines_valid, rw (k) u))
-stopped_at_line set theme syntax had left after last bytes rows line h new error.Memory s l g k u = let t = some_text had in (t.0, t.1, tt)
-stopped_at_line set theme syntax had left after last bytes rows line h new (error.ScopeError e) s l g k u = absurd l
-stopped_at_line set theme syntax had left after last bytes rows line h new (error.Fmt e) s l g k u = absurd l
-stopped_at_line set theme syntax had left after last bytes rows line h new (error.Io e) s l g k u = absurd l
-stopped_at_line set theme syntax had left after last bytes rows line h new (error.LoadingError e) s l g k u = absurd l
-stopped_at_line set theme syntax had left after last bytes rows line h new error.NoSyntax s l g k u = absurd l
+stopped_at_line set definitions theme syntax had left after last bytes rows line h new error.Memory s l g k u = let t = some_text had in (t.0, t.1, tt)
+stopped_at_line set definitions theme syntax had left after last bytes rows line h new (error.ScopeError e) s l g k u = absurd l
+stopped_at_line set definitions theme syntax had left after last bytes rows line h new (error.Fmt e) s l g k u = absurd l
+stopped_at_line set definitions theme syntax had left after last bytes rows line h new (error.Io e) s l g k u = absurd l
+stopped_at_line set definitions theme syntax had left after last bytes rows line h new (error.LoadingError e) s l g k u = absurd l
+stopped_at_line set definitions theme syntax had left after last bytes rows line h new error.NoSyntax s l g k u = absurd l
 
 pub stopped_by_fault : (set : SyntaxSet) (syntax : SyntaxReference) (had : Option (List ℕ)) (e : Error) → IsReadFault e → HasStopped set syntax had e
 stopped_by_fault set syntax had (error.ParsingError e) f = absurd f

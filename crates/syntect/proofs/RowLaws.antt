@@ -14,7 +14,8 @@ use Rattle.syntect_parsing.specs.Line.{Accepted}
 use Rattle.syntect_contexts.specs.declared.syntax_reference.SyntaxReference.{SyntaxReference}
 use Rattle.syntect_grammar.specs.declared.syntax_set.SyntaxSet.{SyntaxSet}
 use Rattle.syntect_writers.specs.Lines.{lines_of, before_lines}
-use Rattle.syntect.specs.Leads.{Leads, LeadsOn}
+use Rattle.syntect_parsing.specs.States.{standing}
+use Rattle.syntect.specs.Leads.{reader_of, Leads, Continues}
 use Rattle.syntect.specs.Pages.{Row, AreUtf8, lines_in, answers_in}
 use Rattle.syntect.specs.Rows.{IsTextOf, can_go_on, CanFollow, GivesNext, IsLeft, AreRowsSoFar, AreRowsOf, RowsBegin, RowsGoOn, RowsEnd}
 use Rattle.syntect.specs.declared.easy.HighlightLines.{HighlightLines}
@@ -214,12 +215,12 @@ rows_begin set theme syntax had last h l e = record {
 }
 
 pub rows_go_on : RowsGoOn
-rows_go_on set theme syntax had left after last bytes rows line h new pieces s l g e u =
+rows_go_on set definitions theme syntax had left after last bytes rows line h new pieces s l g e u =
     let row : Row = record { line = line.now; scopes = l.0; pieces = pieces.items } in
     record {
       done = s.done ++ bytes;
       valid = IsUtf8-append s.done bytes s.valid u;
-      leads = rw (map_last (λ (r : Row). r.line) rows row, map_last (λ (r : Row). Accepted r.scopes) rows row) l.1;
+      leads = rw (map_last (λ (r : Row). r.line) rows row, map_last (λ (r : Row). Accepted r.scopes) rows row) l.1.leads;
       lines = λ rest can.
           ap (λ xs. xs ++ lines_of rest) (map_last (λ (r : Row). r.line) rows row)
           ∙ append_assoc (lines_in rows) (line.now ∷ []) (lines_of rest)
@@ -237,7 +238,7 @@ rows_end set theme syntax had left after last bytes rows h s g = (
   s.valid,
   record {
     start = s.leads.start;
-    after = h.parse_state;
+    after = standing (reader_of h);
     begins = s.leads.begins;
     lines = sym (append-nil (lines_in rows)) ∙ s.lines [] (λ _. refl) ∙ ap lines_of (append-nil s.done);
     run = s.leads.run;

@@ -5,7 +5,7 @@ use Rattle.std.specs.Option.{option_map, option_and_then, option_to_list}
 use Rattle.std.specs.List.{flat_map, list_all}
 use Rattle.std.specs.Cmp.Lexicographic.{pointwise}
 use Rattle.syntect_grammar.specs.Contexts.{context_at, part_of}
-use Rattle.syntect_parsing.specs.Chain.{entries, walk, patterns_in, room_in}
+use Rattle.syntect_parsing.specs.Chain.{entries, walk, room_in}
 use Rattle.syntect_grammar.specs.Link.{names_of, body_of}
 use Rattle.syntect_grammar.specs.Link.{linked_definition, syntaxes_in}
 use Rattle.syntect_linker.specs.LinkedContexts.{linked_context, linked_match}
@@ -15,7 +15,7 @@ use Rattle.syntect_loader.specs.Loading as loading
 use Rattle.syntect_parsing.specs.Refusals.{lone_patterns, stays, AreByName, KnowNoNumber, IsClosed, LinksClosed}
 use Rattle.syntect_parsing.specs.Standing.{GiveScopes, BytesHaveScopes}
 use Rattle.syntect_loader.specs.Named.{LoadedByName}
-use Rattle.syntect_parsing.specs.declared.parser.ParseState.{ParseState}
+use Rattle.syntect_parsing.specs.declared.parser.Standing.{Standing}
 use Rattle.syntect_contexts.specs.declared.context.ContextId.{ContextId}
 use Rattle.syntect_contexts.specs.declared.context.Context.{Context}
 use Rattle.syntect_contexts.specs.declared.context.MatchPattern.{MatchPattern}
@@ -59,17 +59,17 @@ linked_lone heads bodies id (Some c) h =
 abbrev all_stay : List MatchPattern → Bool
 all_stay ms = list_all (λ m. stays m.operation) ms
 
-walks_lone : (room : ℕ) (set : SyntaxSet) (m : MatchPattern) → stays m.operation ≡ true → all_stay (walk room set [] (Match m ∷ [])) ≡ true
-walks_lone zero set m e = refl
-walks_lone (suc room) set m e = rw e refl
+walks_lone : (room : ℕ) (set : SyntaxSet) (path : List ContextId) (m : MatchPattern) → stays m.operation ≡ true → all_stay (walk room set path (Match m ∷ [])) ≡ true
+walks_lone zero set path m e = refl
+walks_lone (suc room) set path m e = rw e refl
 
-walks_none : (room : ℕ) (set : SyntaxSet) → all_stay (walk room set [] []) ≡ true
-walks_none zero set = refl
-walks_none (suc room) set = refl
+walks_none : (room : ℕ) (set : SyntaxSet) (path : List ContextId) → all_stay (walk room set path []) ≡ true
+walks_none zero set path = refl
+walks_none (suc room) set path = refl
 
 lone : (set : SyntaxSet) (id : ContextId) (o : Option Context) → context_at set id ≡ o → IfSome o Lone → all_stay (lone_patterns set id) ≡ true
-lone set id None e h = rw e (walks_none (room_in set) set)
-lone set id (Some c) e h = rw e (rw (h.0, h.2) (walks_lone (room_in set) set h.1 h.3))
+lone set id None e h = rw e (walks_none (room_in set) set (id ∷ []))
+lone set id (Some c) e h = rw e (rw (h.0, h.2) (walks_lone (room_in set) set (id ∷ []) h.1 h.3))
 
 module _ (heads : List SyntaxReference) (bodies : List (List Context)) (set : SyntaxSet) (place : ℕ) (syntax : SyntaxReference) (d : SyntaxDefinition)
     (at : slice_get (syntaxes_in set) place ≡ Some syntax) (is : syntax ≡ linked_definition heads bodies place d) (begins : BeginsAtStart d) where
@@ -141,16 +141,16 @@ module _ (set : SyntaxSet) (syntax : SyntaxReference) (definitions : List Syntax
       let b : BeginsAtStart r.definition = begins_at r.definition (loaded_at definitions h.place r.definition l r.at) in
       scoped_at heads bodies set h.place syntax r.definition h.among r.is b _ refl id (sym (ap start_id r.is) ∙ e) (built_there set syntax definitions h id e)
 
-  from_start : (o : Option ContextId) → start_id syntax ≡ o → (begin after : ParseState) (lines : List (List ℕ)) (answers : List Answer) → BytesHaveScopes → LinksClosed → LoadedByName
+  from_start : (o : Option ContextId) → start_id syntax ≡ o → (begin after : Standing) (lines : List (List ℕ)) (answers : List Answer) → BytesHaveScopes → LinksClosed → LoadedByName
       → option_map start o ≡ Some begin → AnswersAll dialect set lines begin answers after → GiveScopes answers
   from_start None e begin after lines answers give closed by_name f run = cc
   from_start (Some id) e begin after lines answers give closed by_name f run =
       let same : start id ≡ begin = cc in
       let stays_in : list_all (λ m. stays m.operation) (lone_patterns set id) ≡ true = rw e at (loaded_stay set syntax definitions h l) in
-      let in_set : IsClosed set = rw (← h.set_is) at (closed h.paths definitions (loaded_are_named by_name definitions l)) in
+      let in_set : IsClosed set = closed set definitions h.links (loaded_are_named by_name definitions l) in
       let from : AnswersAll dialect set lines (start id) answers after = rw (← same) at run in
       give dialect set id lines answers after in_set (record { there = built_there set syntax definitions h id e; stay = stays_in }) (start_scoped id e) from
 
-pub loaded_give_scopes : (set : SyntaxSet) (syntax : SyntaxReference) (definitions : List SyntaxDefinition) (begin after : ParseState) (lines : List (List ℕ)) (answers : List Answer) → BytesHaveScopes → LinksClosed → LoadedByName
+pub loaded_give_scopes : (set : SyntaxSet) (syntax : SyntaxReference) (definitions : List SyntaxDefinition) (begin after : Standing) (lines : List (List ℕ)) (answers : List Answer) → BytesHaveScopes → LinksClosed → LoadedByName
     → IsBuiltOf set syntax definitions → All IsLoaded definitions → start_of syntax ≡ Some begin → AnswersAll dialect set lines begin answers after → GiveScopes answers
 loaded_give_scopes set syntax definitions begin after lines answers give closed by_name h l e run = from_start set syntax definitions h l (start_id syntax) refl begin after lines answers give closed by_name e run

@@ -4,7 +4,7 @@ use Rattle.std.specs.List.{list_all}
 use Rattle.std.specs.Option.{option_and_then}
 use Rattle.std.specs.Cmp.Lexicographic.{pointwise}
 use Rattle.syntect_parsing.specs.Line.{start_id}
-use Rattle.syntect_grammar.specs.Link.{with_paths, linked, names_of, syntaxes_in}
+use Rattle.syntect_grammar.specs.Link.{linked, names_of, syntaxes_in}
 use Rattle.syntect_loader.specs.Loading.{loaded}
 use Rattle.syntect_parsing.specs.Refusals.{lone_patterns, stays}
 use Rattle.syntect_contexts.specs.declared.context.Context.{Context}
@@ -20,10 +20,9 @@ start_context d = option_and_then (slice_get (map (λ entry. entry.1) d.contexts
 abbrev pub IsPlain : SyntaxDefinition → Type 0
 IsPlain d = IfSome (start_context d) (λ c. (c.meta_scope ≡ []) × (length c.meta_content_scope ≤ 1))
 
--- the set was built once, of these definitions, which are plain and perhaps from files, and the syntax is one of it
+-- the set was built once, of these definitions, which are plain, and the syntax is one of it
 pub record IsBuiltOf (set : SyntaxSet) (syntax : SyntaxReference) (definitions : List SyntaxDefinition) : Type 0 where
-  pub paths : List (List ℕ × ℕ)
-  pub set_is : set ≡ with_paths paths (linked definitions)
+  pub links : syntaxes_in set ≡ linked definitions
   pub place : ℕ
   pub among : slice_get (syntaxes_in set) place ≡ Some syntax
   pub plain : All IsPlain definitions
@@ -37,10 +36,9 @@ pub record IsLoaded (d : SyntaxDefinition) : Type 0 where
   pub left : List (List ℕ)
   pub loads : loaded text lines_include_newline fallback repository ≡ Ok (d, left)
 
--- the same of the set alone
+-- the set was built once, of these definitions, which are plain
 pub record IsBuilt (set : SyntaxSet) (definitions : List SyntaxDefinition) : Type 0 where
-  pub paths : List (List ℕ × ℕ)
-  pub set_is : set ≡ with_paths paths (linked definitions)
+  pub links : syntaxes_in set ≡ linked definitions
   pub plain : All IsPlain definitions
 
 -- Nothing that is looked at in `__start` alone pops it or sets another context in its place: a text never leaves it.

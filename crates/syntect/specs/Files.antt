@@ -8,7 +8,7 @@ use Rattle.syntect_contexts.specs.declared.syntax_reference.SyntaxReference.{Syn
 use Rattle.syntect_grammar.specs.declared.syntax_set.SyntaxSet.{SyntaxSet}
 use Rattle.syntect_grammar.specs.declared.error.Error.{Error}
 use Rattle.syntect_grammar.specs.declared.error.Error.TheVariants as error
-use Rattle.syntect.specs.Leads.{LacksStart}
+use Rattle.syntect.specs.Leads.{LacksStart, OnlyParsing}
 use Rattle.syntect.specs.Pages.{IsPageOfBytes, IsStopped}
 
 -- the syntax of the set that the path of a file tells, or else its first line, or else that of plain text
@@ -23,12 +23,8 @@ pub record IsSyntaxFor (set : SyntaxSet) (path : List ℕ) (syntax : SyntaxRefer
 -- no memory
 abbrev pub HasNoLines : SyntaxSet → List ℕ → Error → Type 0
 HasNoLines set path error.NoSyntax = (line : List ℕ) × IsUtf8 line × (option_or (found_for_file set path line) (found_plain_text set) ≡ None)
-HasNoLines set path (error.ParsingError e) = (syntax : SyntaxReference) × IsSyntaxFor set path syntax × LacksStart syntax (error.ParsingError e)
 HasNoLines set path (error.Io e) = Unit {0}
-HasNoLines set path error.Memory = Unit {0}
-HasNoLines set path (error.ScopeError e) = ⊥
-HasNoLines set path (error.LoadingError e) = ⊥
-HasNoLines set path (error.Fmt e) = ⊥
+HasNoLines set path e = OnlyParsing (λ e. (syntax : SyntaxReference) × IsSyntaxFor set path syntax × LacksStart syntax (error.ParsingError e)) e
 
 -- the page shows some text in the syntax of the file
 abbrev pub IsPageOfFile : SyntaxSet → Theme → List ℕ → List ℕ → Type 0

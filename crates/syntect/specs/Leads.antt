@@ -2,14 +2,19 @@
 use Rattle.std.specs.Prelude.{◌≡◌, ℕ, List, [], ◌∷◌, ◌++◌, Some, None, Result, Ok, Err}
 use Rattle.std.specs.Borrow.{Bor}
 use Rattle.std.specs.Global.{Vec}
-use Rattle.syntect_scope.specs.Stack.{plain}
 use Rattle.syntect_style.specs.Pieces.{Joins, IsStyled, Keeps, path_of}
 use Rattle.syntect_theme.specs.declared.style.Style.{Style}
 use Rattle.syntect_theme.specs.declared.theme.Theme.{Theme}
 use Rattle.syntect_parsing.specs.Engine.{dialect}
 use Rattle.syntect_parsing.specs.Line.{Answer, Accepted, RefusedBy, AnswersAll, start_of, stack_before, HasPlainStart}
 use Rattle.syntect_parsing.specs.Refusals.{NamesUnresolved, PicksUnresolved}
+use Rattle.syntect_parsing.specs.declared.parser.Standing.{Standing}
+use Rattle.syntect_parsing.specs.States.{standing}
 use Rattle.syntect_parsing.specs.declared.parser.ParseState.{ParseState}
+use Rattle.syntect_style.specs.declared.state.HighlightState.{HighlightState}
+use Rattle.syntect_loader.specs.declared.definition.SyntaxDefinition.{SyntaxDefinition}
+use Rattle.syntect.specs.Built.{IsBuiltOf}
+use Rattle.syntect_contexts.specs.declared.error.ParsingError.{ParsingError}
 use Rattle.syntect_contexts.specs.declared.context.ContextReference.{ContextReference}
 use Rattle.syntect_contexts.specs.declared.error.ParsingError.TheVariants as parsing
 use Rattle.syntect_contexts.specs.declared.syntax_reference.SyntaxReference.{SyntaxReference}
@@ -17,6 +22,32 @@ use Rattle.syntect_grammar.specs.declared.syntax_set.SyntaxSet.{SyntaxSet}
 use Rattle.syntect.specs.declared.easy.HighlightLines.{HighlightLines}
 use Rattle.syntect_grammar.specs.declared.error.Error.{Error}
 use Rattle.syntect_grammar.specs.declared.error.Error.TheVariants as error
+
+-- ---- what a highlighter holds ----
+
+-- its theme, its styles and its reader of lines
+abbrev pub theme_of : HighlightLines → Theme
+theme_of h = h.highlighter
+
+abbrev pub styles_of : HighlightLines → HighlightState
+styles_of h = h.highlight_state
+
+abbrev pub reader_of : HighlightLines → ParseState
+reader_of h = h.parse_state
+
+-- two highlighters stand at the same place of a text, with the same styles and theme
+pub record HoldsSame (h k : HighlightLines) : Type 0 where
+  pub reader : standing (reader_of k) ≡ standing (reader_of h)
+  pub styles : styles_of k ≡ styles_of h
+  pub theme : theme_of k ≡ theme_of h
+
+-- ---- refusals ----
+
+-- the refusal is a parsing error for which this holds, or memory ran out
+abbrev pub OnlyParsing : (ParsingError → Type 0) → Error → Type 0
+OnlyParsing P (error.ParsingError e) = P e
+OnlyParsing P error.Memory = Unit {0}
+OnlyParsing P e = ⊥
 
 -- the syntax has no `__start`, unless memory ran out
 abbrev pub LacksStart : SyntaxReference → Error → Type 0
@@ -26,41 +57,51 @@ LacksStart syntax e = ⊥
 
 -- The syntax's `__start` has no `meta_scope` and at most one content scope in the set, as loaded grammars have it.
 abbrev pub BeginsPlain : SyntaxSet → SyntaxReference → Type 0
-BeginsPlain set syntax = (start : ParseState) → start_of syntax ≡ Some start → HasPlainStart set start
+BeginsPlain set syntax = (start : Standing) → start_of syntax ≡ Some start → HasPlainStart set start
+
+-- ---- lines one after another ----
 
 -- These are the answers to these lines, read one after another from the start of the syntax, and h is what a
 -- highlighter of this theme then holds.
 pub record Leads (set : SyntaxSet) (theme : Theme) (syntax : SyntaxReference) (lines : List (List ℕ)) (answers : List Answer) (h : HighlightLines) : Type 0 where
-  pub start : ParseState
+  pub start : Standing
   pub begins : start_of syntax ≡ Some start
-  pub run : AnswersAll dialect set lines start answers h.parse_state
-  pub path : path_of h.highlight_state ≡ plain (stack_before set h.parse_state)
-  pub theme_is : h.highlighter ≡ theme
-  pub keeps : Keeps theme h.highlight_state
+  pub run : AnswersAll dialect set lines start answers (standing (reader_of h))
+  pub path : path_of (styles_of h) ≡ stack_before set (standing (reader_of h))
+  pub theme_is : theme_of h ≡ theme
+  pub keeps : Keeps theme (styles_of h)
 
--- The answer to one more line, unless memory ran out: pieces that are not empty and join to it, each byte in the
--- theme's style for its scopes, where the line is read; the refusal of its reading, where it is refused. Either way h
--- is what is held after that line.
-abbrev pub LeadsOn : SyntaxSet → Theme → SyntaxReference → List (List ℕ) → List Answer → Bor (List ℕ) → HighlightLines → Result (Vec (Style × Bor (List ℕ))) Error → Type 0
-LeadsOn set theme syntax lines answers line h (Ok pieces) =
-    (bytes : List (List (List ℕ))) × Leads set theme syntax (lines ++ line.now ∷ []) (answers ++ Accepted bytes ∷ []) h
-    × Joins line.now pieces.items × IsStyled theme bytes pieces.items
-LeadsOn set theme syntax lines answers line h (Err (error.ParsingError e)) = Leads set theme syntax (lines ++ line.now ∷ []) (answers ++ RefusedBy e ∷ []) h
-LeadsOn set theme syntax lines answers line h (Err error.Memory) = Unit {0}
-LeadsOn set theme syntax lines answers line h (Err (error.ScopeError e)) = ⊥
-LeadsOn set theme syntax lines answers line h (Err (error.LoadingError e)) = ⊥
-LeadsOn set theme syntax lines answers line h (Err (error.Fmt e)) = ⊥
-LeadsOn set theme syntax lines answers line h (Err (error.Io e)) = ⊥
-LeadsOn set theme syntax lines answers line h (Err error.NoSyntax) = ⊥
+-- ---- the past of a highlighter ----
+
+-- what a highlighter comes from: definitions, a theme, a syntax, and the lines it was given, with their answers
+pub record Past : Type 0 where
+  pub definitions : List SyntaxDefinition
+  pub theme : Theme
+  pub syntax : SyntaxReference
+  pub lines : List (List ℕ)
+  pub answers : List Answer
+
+-- The set was built of the past's definitions, and its syntax is one of the set. Its lines, read one after another from
+-- the start of that syntax, have its answers, and h is what a highlighter of its theme then holds.
+pub record IsPast (past : Past) (set : SyntaxSet) (h : HighlightLines) : Type 0 where
+  pub built : IsBuiltOf set past.syntax past.definitions
+  pub leads : Leads set past.theme past.syntax past.lines past.answers h
+
+-- the past with one line and its answer more
+abbrev pub and_then : Past → List ℕ → Answer → Past
+and_then past line answer = record past { lines = past.lines ++ line ∷ []; answers = past.answers ++ answer ∷ [] }
+
+-- The line is answered behind this past, and h is what is held then: an accepted line gives pieces that are not empty
+-- and join to it, each byte in the theme's style for its scopes; a refused one has the refusal of its reading, unless
+-- memory ran out.
+abbrev pub Continues : Past → SyntaxSet → Bor (List ℕ) → HighlightLines → Result (Vec (Style × Bor (List ℕ))) Error → Type 0
+Continues past set line h (Ok pieces) =
+    (bytes : List (List (List ℕ))) × IsPast (and_then past line.now (Accepted bytes)) set h
+    × Joins line.now pieces.items × IsStyled past.theme bytes pieces.items
+Continues past set line h (Err e) = OnlyParsing (λ e. IsPast (and_then past line.now (RefusedBy e)) set h) e
 
 -- The line is refused exactly where a turn of its reading picks a match that names a reference without target, and with
 -- that reference, unless memory ran out. h is what is held before the line.
 abbrev pub RefusedExactly : SyntaxSet → List ℕ → HighlightLines → Result (Vec (Style × Bor (List ℕ))) Error → Type 0
-RefusedExactly set line h (Ok pieces) = (r : ContextReference) → PicksUnresolved dialect set line h.parse_state r → ⊥
-RefusedExactly set line h (Err (error.ParsingError e)) = NamesUnresolved dialect set line h.parse_state e
-RefusedExactly set line h (Err error.Memory) = Unit {0}
-RefusedExactly set line h (Err (error.ScopeError e)) = ⊥
-RefusedExactly set line h (Err (error.LoadingError e)) = ⊥
-RefusedExactly set line h (Err (error.Fmt e)) = ⊥
-RefusedExactly set line h (Err (error.Io e)) = ⊥
-RefusedExactly set line h (Err error.NoSyntax) = ⊥
+RefusedExactly set line h (Ok pieces) = (r : ContextReference) → PicksUnresolved dialect set line (standing (reader_of h)) r → ⊥
+RefusedExactly set line h (Err e) = OnlyParsing (NamesUnresolved dialect set line (standing (reader_of h))) e

@@ -1,4 +1,5 @@
 pub mod Built
+pub mod Classed
 pub mod Files
 pub mod Leads
 pub mod Pages

@@ -8,14 +8,15 @@ use Rattle.syntect_theme.specs.declared.style.Style.{Style}
 use Rattle.syntect_theme.specs.declared.theme.Theme.{Theme}
 use Rattle.syntect_parsing.specs.Engine.{dialect}
 use Rattle.syntect_parsing.specs.Line.{Answer, Accepted, RefusedBy, AnswersAll, start_of}
-use Rattle.syntect_parsing.specs.declared.parser.ParseState.{ParseState}
+use Rattle.syntect_parsing.specs.declared.parser.Standing.{Standing}
 use Rattle.syntect_contexts.specs.declared.error.ParsingError.{ParsingError}
 use Rattle.syntect_contexts.specs.declared.syntax_reference.SyntaxReference.{SyntaxReference}
 use Rattle.syntect_grammar.specs.declared.syntax_set.SyntaxSet.{SyntaxSet}
 use Rattle.syntect_writers.specs.Lines.{lines_of}
 use Rattle.syntect_writers.specs.Spans.{line_text, opening, closing, background_of}
 use Rattle.syntect_writers.specs.declared.html.IncludeBackground.TheVariants.{IfDifferent}
-use Rattle.syntect.specs.Leads.{LacksStart}
+use Rattle.syntect.specs.Leads.{LacksStart, OnlyParsing, Past}
+use Rattle.syntect_loader.specs.declared.definition.SyntaxDefinition.{SyntaxDefinition}
 use Rattle.syntect_grammar.specs.declared.error.Error.{Error}
 use Rattle.syntect_grammar.specs.declared.error.Error.TheVariants as error
 
@@ -39,6 +40,10 @@ lines_in rows = map (λ row. row.line) rows
 abbrev pub answers_in : List Row → List Answer
 answers_in rows = map (λ row. Accepted row.scopes) rows
 
+-- the past in which these rows were shown
+abbrev pub past_of : List SyntaxDefinition → Theme → SyntaxReference → List Row → Past
+past_of definitions theme syntax rows = record { definitions = definitions; theme = theme; syntax = syntax; lines = lines_in rows; answers = answers_in rows }
+
 -- the lines of rows as HTML: the colour behind the theme's text is not told again
 abbrev pub body_text : Theme → List Row → List ℕ
 body_text theme rows = flat_map (λ row. line_text (IfDifferent (background_of theme)) row.pieces) rows
@@ -46,8 +51,8 @@ body_text theme rows = flat_map (λ row. line_text (IfDifferent (background_of t
 -- The page shows the text's lines, each read from the state that the lines before it leave, between the theme's frame.
 pub record IsPage (set : SyntaxSet) (theme : Theme) (syntax : SyntaxReference) (text page : List ℕ) : Type 0 where
   pub rows : List Row
-  pub start : ParseState
-  pub after : ParseState
+  pub start : Standing
+  pub after : Standing
   pub begins : start_of syntax ≡ Some start
   pub lines : lines_in rows ≡ lines_of text
   pub run : AnswersAll dialect set (lines_in rows) start (answers_in rows) after
@@ -59,21 +64,15 @@ pub record IsRefusedAtALine (set : SyntaxSet) (syntax : SyntaxReference) (text :
   pub rows : List Row
   pub line : List ℕ
   pub rest : List (List ℕ)
-  pub start : ParseState
-  pub after : ParseState
+  pub start : Standing
+  pub after : Standing
   pub begins : start_of syntax ≡ Some start
   pub lines : lines_in rows ++ line ∷ rest ≡ lines_of text
   pub run : AnswersAll dialect set (lines_in rows ++ line ∷ []) start (answers_in rows ++ RefusedBy e ∷ []) after
 
 -- there is no page: the syntax has no `__start`, or a line is refused, or there was no memory
 abbrev pub HasNoPage : SyntaxSet → SyntaxReference → List ℕ → Error → Type 0
-HasNoPage set syntax text (error.ParsingError e) = LacksStart syntax (error.ParsingError e) ⊎ IsRefusedAtALine set syntax text e
-HasNoPage set syntax text error.Memory = Unit {0}
-HasNoPage set syntax text (error.ScopeError e) = ⊥
-HasNoPage set syntax text (error.LoadingError e) = ⊥
-HasNoPage set syntax text (error.Fmt e) = ⊥
-HasNoPage set syntax text (error.Io e) = ⊥
-HasNoPage set syntax text error.NoSyntax = ⊥
+HasNoPage set syntax text = OnlyParsing (λ e. LacksStart syntax (error.ParsingError e) ⊎ IsRefusedAtALine set syntax text e)
 
 -- ---- the text of a reader ----
 
@@ -99,13 +98,8 @@ IsRefusedAtALineOfBytes set syntax text e = (r : IsRefusedAtALine set syntax tex
 -- There is no page: a line is refused before one that is not UTF-8 and before a fault of the reader, or such a fault comes
 -- first, or there was no memory.
 abbrev pub IsStopped : SyntaxSet → SyntaxReference → List ℕ → Error → Type 0
-IsStopped set syntax text (error.ParsingError e) = IsRefusedAtALineOfBytes set syntax text e
 IsStopped set syntax text (error.Io e) = Unit {0}
-IsStopped set syntax text error.Memory = Unit {0}
-IsStopped set syntax text (error.ScopeError e) = ⊥
-IsStopped set syntax text (error.LoadingError e) = ⊥
-IsStopped set syntax text (error.Fmt e) = ⊥
-IsStopped set syntax text error.NoSyntax = ⊥
+IsStopped set syntax text e = OnlyParsing (IsRefusedAtALineOfBytes set syntax text) e
 
 -- The same, where the syntax is looked at first.
 abbrev pub HasNoPageOfBytes : SyntaxSet → SyntaxReference → List ℕ → Error → Type 0

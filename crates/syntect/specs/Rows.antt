@@ -7,12 +7,13 @@ use Rattle.syntect_theme.specs.declared.style.Style.{Style}
 use Rattle.syntect_theme.specs.declared.theme.Theme.{Theme}
 use Rattle.syntect_parsing.specs.Engine.{dialect}
 use Rattle.syntect_parsing.specs.Line.{AnswersAll, start_of}
-use Rattle.syntect_parsing.specs.declared.parser.ParseState.{ParseState}
+use Rattle.syntect_parsing.specs.declared.parser.Standing.{Standing}
 use Rattle.syntect_contexts.specs.declared.syntax_reference.SyntaxReference.{SyntaxReference}
 use Rattle.syntect_grammar.specs.declared.syntax_set.SyntaxSet.{SyntaxSet}
 use Rattle.syntect_writers.specs.Lines.{lines_of}
-use Rattle.syntect.specs.Leads.{Leads, LeadsOn}
-use Rattle.syntect.specs.Pages.{Row, AreShown, AreUtf8, lines_in, answers_in}
+use Rattle.syntect.specs.Leads.{Leads, Continues}
+use Rattle.syntect_loader.specs.declared.definition.SyntaxDefinition.{SyntaxDefinition}
+use Rattle.syntect.specs.Pages.{Row, AreShown, AreUtf8, lines_in, answers_in, past_of}
 use Rattle.syntect.specs.declared.easy.HighlightLines.{HighlightLines}
 
 -- ---- a reader ----
@@ -46,8 +47,8 @@ IsLeft had left done last = IfSome had (λ text. (rest : List ℕ) × (left ≡ 
 
 -- The rows are the text's lines, each read from the state that the lines before it leave, in the theme's styles.
 pub record AreRowsOf (set : SyntaxSet) (theme : Theme) (syntax : SyntaxReference) (text : List ℕ) (rows : List Row) : Type 0 where
-  pub start : ParseState
-  pub after : ParseState
+  pub start : Standing
+  pub after : Standing
   pub begins : start_of syntax ≡ Some start
   pub lines : lines_in rows ≡ lines_of text
   pub run : AnswersAll dialect set (lines_in rows) start (answers_in rows) after
@@ -72,10 +73,10 @@ RowsBegin = (set : SyntaxSet) (theme : Theme) (syntax : SyntaxReference) (had : 
 
 -- the next line, in the pieces that it is shown in, is a row more
 abbrev pub RowsGoOn : Type 0
-RowsGoOn = (set : SyntaxSet) (theme : Theme) (syntax : SyntaxReference) (had left after : Option (List ℕ)) (last bytes : List ℕ) (rows : List Row)
+RowsGoOn = (set : SyntaxSet) (definitions : List SyntaxDefinition) (theme : Theme) (syntax : SyntaxReference) (had left after : Option (List ℕ)) (last bytes : List ℕ) (rows : List Row)
     (line : Bor (List ℕ)) (h new : HighlightLines) (pieces : Vec (Style × Bor (List ℕ)))
     → AreRowsSoFar set theme syntax had left last rows h
-    → (l : LeadsOn set theme syntax (lines_in rows) (answers_in rows) line new (Ok pieces))
+    → (l : Continues (past_of definitions theme syntax rows) set line new (Ok pieces))
     → GivesNext left last after bytes true → line.now ≡ bytes → IsUtf8 bytes
     → AreRowsSoFar set theme syntax had after bytes (rows ++ record { line = line.now; scopes = l.0; pieces = pieces.items } ∷ []) new
 

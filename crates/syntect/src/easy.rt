@@ -3,18 +3,17 @@ ghost use Rattle.std.specs.Prelude.{◌≡◌, ◌++◌, ◌∷◌, [], List, �
 ghost use Rattle.std.specs.Path.{path_bytes};
 ghost use Rattle.syntect.specs.Files.{IsSyntaxFor, HasNoLines};
 ghost use Rattle.syntect.specs.Leads.{Leads};
-ghost use Rattle.syntect_parsing.specs.Line.{Answer};
-ghost use Rattle.syntect_loader.specs.declared.definition.SyntaxDefinition.{SyntaxDefinition as ADefinition};
 ghost use Rattle.syntect_contexts.specs.declared.syntax_reference.SyntaxReference.{SyntaxReference as ASyntax};
 ghost use Rattle.syntect_grammar.specs.declared.syntax_set.SyntaxSet.{SyntaxSet as ASet};
-ghost use Rattle.syntect_theme.specs.declared.theme.Theme.{Theme as ATheme};
 ghost use Rattle.syntect.specs.declared.easy.HighlightLines.{HighlightLines as ALines};
 
+use crate::reading::first_line;
 use std::alloc::{AllocError, Global};
 use std::fs;
-use std::io::{BufReader, Read};
+use std::io::{BufRead, BufReader, Read};
 use std::path::Path;
 use std::rt::Files;
+pub use syntect_operations::ranges::{ScopeRangeIterator, ScopeRegionIterator};
 use syntect_parsing::error::Error;
 use syntect_parsing::laws::{
     answers_more, links_closed, never_both, refuses_unresolved, stack_is_open,
@@ -37,9 +36,10 @@ pub struct HighlightLines<'a> {
 }
 
 impl<'a> HighlightLines<'a> {
-    ghost use Rattle.syntect.specs.Leads.{LeadsOn, LacksStart, RefusedExactly};
-    ghost use Rattle.syntect.specs.Built.{IsBuiltOf, StaysInStart};
+    ghost use Rattle.syntect.specs.Leads.{Past, IsPast, Continues, HoldsSame, LacksStart, RefusedExactly, reader_of, styles_of};
+    ghost use Rattle.syntect.specs.Built.{StaysInStart};
     ghost use Rattle.syntect_parsing.specs.Refusals.{AreByName};
+    ghost use Rattle.syntect_parsing.specs.States.{standing};
 
     /// The state before the first line of a text in this syntax, under this theme. `MissingMainContext` where the
     /// syntax has no context `__start`.
@@ -69,11 +69,11 @@ impl<'a> HighlightLines<'a> {
         highlight_state: HighlightState,
         parse_state: ParseState,
     ) -> Result<HighlightLines<'a>, AllocError>
-        ensures holds { IfOk result (λ h. h ≡ record { highlighter = theme.now; parse_state = parse_state; highlight_state = highlight_state }) }
-        // what led to those states leads to the highlighter
-        ensures leads { (set : ASet) (syntax : ASyntax) (lines : List (List ℕ)) (answers : List Answer) (h : ALines)
-            → h.highlight_state ≡ highlight_state → h.parse_state ≡ parse_state → Leads set theme.now syntax lines answers h
-            → IfOk result (Leads set theme.now syntax lines answers) }
+        // the past of a highlighter that holds those states is the past of this one
+        ensures leads { (past : Past) (set : ASet) (h : ALines) → past.theme ≡ theme.now
+            → IsPast past set h
+            → styles_of h ≡ highlight_state → standing (reader_of h) ≡ standing parse_state
+            → IfOk result (IsPast past set) }
     {
         let ready = Highlighter::new(alloc, theme)?;
         Ok(HighlightLines {
@@ -85,29 +85,28 @@ impl<'a> HighlightLines<'a> {
 
     /// The states of the highlighter and of the reader of lines, to go on from. Takes no memory.
     pub fn state(self) -> (HighlightState, ParseState)
-        ensures highlight { result.0 ≡ self.entry.highlight_state }
-        ensures parse { result.1 ≡ self.entry.parse_state }
+        ensures highlight { result.0 ≡ styles_of self.entry }
+        ensures parse { result.1 ≡ reader_of self.entry }
     {
         (self.highlight_state, self.parse_state)
     }
 
-    /// The styled pieces of the next line, which join to it. The set has to be that of the syntax. A refusal changes
-    /// nothing.
+    /// The styled pieces of the next line, which join to it. The set has to be that of the syntax. A refusal, that of
+    /// the line's reading or want of memory, changes nothing.
     pub fn highlight_line<'b>(
         &mut self,
         alloc: Global,
         line: &'b str,
         syntax_set: &SyntaxSet,
     ) -> Result<Vec<(Style, &'b str)>, Error>
-        // the set was built of plain definitions, and the state is what these lines lead to
-        ensures answered { (theme : ATheme) (definitions : List ADefinition) (syntax : ASyntax) (lines : List (List ℕ)) (answers : List Answer)
-            → IsBuiltOf syntax_set.now syntax definitions → Leads syntax_set.now theme syntax lines answers self.old
-            → LeadsOn syntax_set.now theme syntax lines answers line.entry self.new result }
-        // where besides the definitions' references are all by name, and no pattern leaves `__start`
-        ensures refused { (theme : ATheme) (definitions : List ADefinition) (syntax : ASyntax) (lines : List (List ℕ)) (answers : List Answer)
-            → IsBuiltOf syntax_set.now syntax definitions → AreByName definitions → StaysInStart syntax_set.now syntax
-            → Leads syntax_set.now theme syntax lines answers self.old → RefusedExactly syntax_set.now line.entry.now self.old result }
-        ensures err { OnErr result (self.new ≡ self.old) }
+        // whatever lines it was given before, in a set that was built of plain definitions, this one is answered behind them
+        ensures answered { (past : Past) → IsPast past syntax_set.now self.old
+            → Continues past syntax_set.now line.entry self.new result }
+        // where the definitions' references are all by name, and no pattern leaves `__start`
+        ensures refused { (past : Past) → IsPast past syntax_set.now self.old
+            → AreByName past.definitions → StaysInStart syntax_set.now past.syntax
+            → RefusedExactly syntax_set.now line.entry.now self.old result }
+        ensures err { OnErr result (HoldsSame self.old self.new) }
     {
         answers_more();
         stack_is_open();
@@ -139,7 +138,8 @@ pub struct HighlightFile<'a, F> {
 
 impl<'a, F: Read + Drop> HighlightFile<'a, F> {
     /// Opens a file, at its first line, and the state before that line under this theme. Its syntax is the one that
-    /// `SyntaxSet::find_syntax_for_file` finds, or else plain text.
+    /// `SyntaxSet::find_syntax_for_file` finds, or else plain text; of a first line that is longer than the reader's buffer
+    /// the front that stands there is looked at. The file is opened once, so that it may be a pipe.
     ///
     /// `Io` where the file is not opened, or not read to find the syntax; `NoSyntax` where no syntax fits and the set has no
     /// `Plain Text`; `MissingMainContext` where the syntax has no context `__start`.
@@ -158,11 +158,11 @@ impl<'a, F: Read + Drop> HighlightFile<'a, F> {
             Ok(file) => file,
             Err(e) => return Err(Error::from(e)),
         };
-        let reader = match BufReader::new(alloc, file) {
+        let mut reader = match BufReader::new(alloc, file) {
             Ok(reader) => reader,
             Err(e) => return Err(Error::from(e)),
         };
-        let syntax = match syntax_for(files, alloc, path, ss) {
+        let syntax = match syntax_for(&mut reader, path, ss) {
             Ok(syntax) => syntax,
             Err(e) => return Err(e),
         };
@@ -176,29 +176,35 @@ impl<'a, F: Read + Drop> HighlightFile<'a, F> {
     }
 }
 
-/// The syntax of a file, or else plain text.
-#[tactic(auto, using(crate::proofs::FileLaws::found_syntax, crate::proofs::FileLaws::plain_syntax, crate::proofs::FileLaws::no_syntax, crate::proofs::FileLaws::not_found))]
-fn syntax_for<'s>(
-    files: &impl Files,
-    alloc: Global,
+/// The syntax of a file that a reader has opened, or else plain text. The reader's bytes stay.
+#[tactic(auto, using(crate::proofs::FileLaws::named_syntax, crate::proofs::FileLaws::found_syntax, crate::proofs::FileLaws::plain_syntax, crate::proofs::FileLaws::no_syntax, crate::proofs::FileLaws::not_read))]
+fn syntax_for<'s, R: BufRead>(
+    reader: &mut R,
     path: Path<'_>,
     ss: &'s SyntaxSet,
 ) -> Result<&'s SyntaxReference, Error>
     ensures found { IfOk result (λ syntax. IsSyntaxFor ss.now (path_bytes path.entry) syntax.now) }
     ensures refused { IfErr result (HasNoLines ss.now (path_bytes path.entry)) }
 {
-    match ss.find_syntax_for_file(files, alloc, path) {
+    if let Some(syntax) = ss.find_syntax_by_file_name(path) {
+        return Ok(syntax);
+    }
+    let line = match first_line(reader) {
+        Ok(line) => line,
+        Err(e) => return Err(e),
+    };
+    match ss.find_syntax_by_first_line(line) {
         Ok(Some(syntax)) => Ok(syntax),
         Ok(None) => match ss.find_syntax_plain_text() {
             Some(syntax) => Ok(syntax),
             None => Err(Error::NoSyntax),
         },
-        Err(e) => Err(e),
+        Err(_) => Err(Error::Memory),
     }
 }
 
 /// The same state once more.
-fn copied(state: &ParseState) -> Result<ParseState, AllocError>
+pub(crate) fn copied(state: &ParseState) -> Result<ParseState, AllocError>
     ensures { IfOk result (λ s. s ≡ state.now) }
 {
     state.clone()

@@ -11,12 +11,14 @@ ghost use Rattle.syntect.specs.Rows.{IsTextOf};
 ghost use Rattle.syntect_loader.specs.declared.definition.SyntaxDefinition.{SyntaxDefinition as ADefinition};
 ghost use Rattle.syntect_contexts.specs.declared.syntax_reference.SyntaxReference.{SyntaxReference as ASyntax};
 
+pub use crate::classed::{ClassStyle, ClassedHTMLGenerator, line_tokens_to_classed_spans};
 use crate::easy::{HighlightFile, HighlightLines};
 use crate::reading::{next_line, text_of};
 use std::alloc::Global;
 use std::io::{BufRead, Error as IoError, ErrorKind};
 use std::path::Path;
 use std::rt::Files;
+pub use syntect_css::sheet::css_for_theme_with_class_style;
 use syntect_parsing::error::Error;
 use syntect_parsing::syntax_set::{SyntaxReference, SyntaxSet};
 use syntect_theme::theme::Theme;

@@ -4,7 +4,7 @@ ghost use Rattle.syntect_loader.specs.Loading.{loaded};
 ghost use Rattle.syntect_loader.specs.declared.definition.SyntaxDefinition.{SyntaxDefinition as ADefinition};
 ghost use Rattle.syntect_contexts.specs.declared.syntax_reference.SyntaxReference.{SyntaxReference as ASyntax};
 ghost use Rattle.syntect_grammar.specs.declared.syntax_set.SyntaxSet.{SyntaxSet as ASet};
-ghost use Rattle.syntect_parsing.specs.declared.parser.ParseState.{ParseState as AState};
+ghost use Rattle.syntect_parsing.specs.declared.parser.Standing.{Standing as AStanding};
 ghost use Rattle.syntect_parsing.specs.Engine.{dialect};
 ghost use Rattle.syntect_parsing.specs.Line.{Answer, AnswersAll, start_of};
 ghost use Rattle.syntect_parsing.specs.Refusals.{AreByName};
@@ -33,7 +33,8 @@ pub fn loaded_sets_stay()
 
 /// In a set that was built of loaded definitions, each byte of each line that is accepted has a scope.
 pub fn loaded_sets_give_scopes()
-    ensures { (set : ASet) (syntax : ASyntax) (definitions : List ADefinition) (start after : AState) (lines : List (List ℕ)) (answers : List Answer)
+    ensures { (set : ASet) (syntax : ASyntax) (definitions : List ADefinition)
+        (start after : AStanding) (lines : List (List ℕ)) (answers : List Answer)
         → IsBuiltOf set syntax definitions → All IsLoaded definitions → start_of syntax ≡ Some start → AnswersAll dialect set lines start answers after → GiveScopes answers }
 {
     syntect_parsing::laws::bytes_have_scopes();

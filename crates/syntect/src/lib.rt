@@ -5,6 +5,7 @@
 //! `highlighting` have the parts that it is made of.
 #![tactic(auto)]
 
+mod classed;
 pub mod easy;
 pub mod highlighting;
 pub mod html;

@@ -5,7 +5,7 @@ pub use syntect_parsing::syntax_definition;
 pub use syntect_parsing::syntax_definition::SyntaxDefinition;
 pub use syntect_parsing::syntax_set::{SyntaxReference, SyntaxSet, SyntaxSetBuilder};
 pub use syntect_regex::error::PatternError;
-pub use syntect_regex::regex::Regex;
+pub use syntect_regex::regex::{Regex, escape};
 pub use syntect_regex::region::Region;
 pub use syntect_scope::power::MatchPower;
 pub use syntect_scope::repository::{ParseScopeError, ScopeRepository};

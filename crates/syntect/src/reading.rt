@@ -46,3 +46,37 @@ pub fn text_of(bytes: &[u8]) -> Result<&str, Error>
         ))),
     }
 }
+
+/// The bytes up to and with the first newline, or all of them.
+fn up_to_newline(bytes: &[u8]) -> &[u8] {
+    match bytes.iter().position(|b| *b == b'\n') {
+        Some(at) => bytes.split_at(at + 1).0,
+        None => bytes,
+    }
+}
+
+/// Bytes without their last character, if that isn't whole. Bytes that are no UTF-8 elsewhere stay as they are.
+fn whole_characters(bytes: &[u8]) -> &[u8] {
+    match str::from_utf8(bytes) {
+        Ok(_) => bytes,
+        Err(e) => match e.error_len() {
+            Some(_) => bytes,
+            None => bytes.split_at(e.valid_up_to()).0,
+        },
+    }
+}
+
+/// The first line of what a reader has left, as far as it stands in its buffer, which is filled where it is empty. The
+/// bytes stay in the reader. `Io` where reading fails, or the line is not UTF-8.
+pub fn first_line<R: BufRead>(reader: &mut R) -> Result<&str, Error>
+    ensures line { IfOk result (λ line. IsUtf8 line.now) }
+    ensures err { IfErr result (IsReadFault) }
+{
+    let bytes = reader.fill_buf()?;
+    let line = up_to_newline(bytes);
+    if line.len() < bytes.len() {
+        text_of(line)
+    } else {
+        text_of(whole_characters(line))
+    }
+}

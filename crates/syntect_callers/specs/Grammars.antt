@@ -4,9 +4,10 @@ use Rattle.std.specs.Borrow.{Bor}
 use Rattle.syntect_theme.specs.declared.style.Style.{Style}
 use Rattle.syntect_grammar.specs.declared.error.Error.{Error}
 use Rattle.syntect_grammar.specs.declared.error.Error.TheVariants as error
-use Rattle.syntect_callers.specs.Third.{IsThirdLine, IsRefusal}
+use Rattle.syntect_callers.specs.Third.{IsOf, IsThirdLine, IsRefusal}
 use Rattle.syntect_theme.specs.declared.theme.Theme.{Theme}
-use Rattle.syntect_grammar.specs.Link.{linked, syntaxes_in}
+use Rattle.syntect_grammar.specs.Link.{syntaxes_in}
+use Rattle.syntect_grammar.specs.declared.syntax_set.SyntaxSet.{SyntaxSet}
 use Rattle.syntect_loader.specs.Loading.{loaded}
 use Rattle.syntect_loader.specs.declared.definition.SyntaxDefinition.{SyntaxDefinition}
 use Rattle.syntect_contexts.specs.declared.syntax_reference.SyntaxReference.{SyntaxReference}
@@ -19,9 +20,11 @@ pub record IsPageOf (repository : List (List ℕ)) (grammar : List ℕ) (theme :
   pub definition : SyntaxDefinition
   pub left : List (List ℕ)
   pub loads : loaded grammar true None repository ≡ Ok (definition, left)
+  pub set : SyntaxSet
+  pub is_of : IsOf (definition ∷ []) set
   pub syntax : SyntaxReference
-  pub among : slice_get (syntaxes_in (linked (definition ∷ []))) 0 ≡ Some syntax
-  pub shows : IsPage (linked (definition ∷ [])) theme syntax text page
+  pub among : slice_get (syntaxes_in set) 0 ≡ Some syntax
+  pub shows : IsPage set theme syntax text page
 
 -- Both grammars' texts have definitions in the repository, one after the other.
 pub record Load (repository : List (List ℕ)) (first second : List ℕ) : Type 0 where
@@ -35,9 +38,9 @@ pub record Load (repository : List (List ℕ)) (first second : List ℕ) : Type 
 -- The lines were read one after another from the start of the first grammar's syntax, in the set that was built of both;
 -- the pieces join to the third, and each of its bytes has the theme's style for its scopes.
 abbrev pub IsThirdOf : List (List ℕ) → List ℕ → List ℕ → Theme → List ℕ → List ℕ → List ℕ → List (Style × Bor (List ℕ)) → Type 0
-IsThirdOf repository first second theme x y z pieces = (l : Load repository first second) × IsThirdLine [] (l.one ∷ l.two ∷ []) theme x y z pieces
+IsThirdOf repository first second theme x y z pieces = (l : Load repository first second) × IsThirdLine (l.one ∷ l.two ∷ []) theme x y z pieces
 
 -- why there are no pieces: a line's reading picks a match that names a reference without target, or memory ran out
 abbrev pub IsRefusalOf : List (List ℕ) → List ℕ → List ℕ → List (List ℕ) → Error → Type 0
 IsRefusalOf repository first second lines error.Memory = Unit {0}
-IsRefusalOf repository first second lines e = (l : Load repository first second) × IsRefusal [] (l.one ∷ l.two ∷ []) lines e
+IsRefusalOf repository first second lines e = (l : Load repository first second) × IsRefusal (l.one ∷ l.two ∷ []) lines e

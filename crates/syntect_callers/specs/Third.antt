@@ -6,10 +6,11 @@ use Rattle.syntect_style.specs.Pieces.{Joins, IsStyled}
 use Rattle.syntect_theme.specs.declared.style.Style.{Style}
 use Rattle.syntect_theme.specs.declared.theme.Theme.{Theme}
 use Rattle.syntect_parsing.specs.Engine.{dialect}
-use Rattle.syntect_grammar.specs.Link.{with_paths, linked, syntaxes_in}
+use Rattle.syntect_grammar.specs.Link.{linked, syntaxes_in}
+use Rattle.syntect_grammar.specs.declared.syntax_set.SyntaxSet.{SyntaxSet}
 use Rattle.syntect_parsing.specs.Line.{Accepted, AnswersAll, start_of}
 use Rattle.syntect_parsing.specs.Refusals.{NamesUnresolved}
-use Rattle.syntect_parsing.specs.declared.parser.ParseState.{ParseState}
+use Rattle.syntect_parsing.specs.declared.parser.Standing.{Standing}
 use Rattle.syntect_loader.specs.declared.definition.SyntaxDefinition.{SyntaxDefinition}
 use Rattle.syntect_contexts.specs.declared.error.ParsingError.{ParsingError}
 use Rattle.syntect_contexts.specs.declared.error.ParsingError.TheVariants as parsing
@@ -18,55 +19,66 @@ use Rattle.syntect.specs.Built.{StaysInStart}
 use Rattle.syntect_grammar.specs.declared.error.Error.{Error}
 use Rattle.syntect_grammar.specs.declared.error.Error.TheVariants as error
 
--- The lines were read one after another from the start of the set's first syntax, all accepted; the pieces join to the
--- third, and each of its bytes has the theme's style for its scopes.
-pub record IsThirdLine (paths : List (List ℕ × ℕ)) (definitions : List SyntaxDefinition) (theme : Theme) (first second third : List ℕ) (pieces : List (Style × Bor (List ℕ))) : Type 0 where
+-- the set was built of these definitions
+abbrev pub IsOf : List SyntaxDefinition → SyntaxSet → Type 0
+IsOf definitions set = syntaxes_in set ≡ linked definitions
+
+-- The lines were read one after another from the start of the first syntax of a set that was built of the definitions,
+-- all accepted; the pieces join to the third, and each of its bytes has the theme's style for its scopes.
+pub record IsThirdLine (definitions : List SyntaxDefinition) (theme : Theme) (first second third : List ℕ) (pieces : List (Style × Bor (List ℕ))) : Type 0 where
+  pub set : SyntaxSet
+  pub is_of : IsOf definitions set
   pub syntax : SyntaxReference
-  pub among : slice_get (syntaxes_in (with_paths paths (linked definitions))) 0 ≡ Some syntax
-  pub start : ParseState
-  pub after : ParseState
+  pub among : slice_get (syntaxes_in set) 0 ≡ Some syntax
+  pub start : Standing
+  pub after : Standing
   pub bytes_first : List (List (List ℕ))
   pub bytes_second : List (List (List ℕ))
   pub bytes : List (List (List ℕ))
   pub begins : start_of syntax ≡ Some start
-  pub answers : AnswersAll dialect (with_paths paths (linked definitions)) (first ∷ second ∷ third ∷ []) start (Accepted bytes_first ∷ Accepted bytes_second ∷ Accepted bytes ∷ []) after
+  pub answers : AnswersAll dialect set (first ∷ second ∷ third ∷ []) start (Accepted bytes_first ∷ Accepted bytes_second ∷ Accepted bytes ∷ []) after
   pub joins : Joins third pieces
   pub styled : IsStyled theme bytes pieces
 
 -- or the set has no syntax
-abbrev pub IsThird : List (List ℕ × ℕ) → List SyntaxDefinition → Theme → List ℕ → List ℕ → List ℕ → Option (Vec (Style × Bor (List ℕ))) → Type 0
-IsThird paths definitions theme first second third None = definitions ≡ []
-IsThird paths definitions theme first second third (Some pieces) = IsThirdLine paths definitions theme first second third pieces.items
+abbrev pub IsThird : List SyntaxDefinition → Theme → List ℕ → List ℕ → List ℕ → Option (Vec (Style × Bor (List ℕ))) → Type 0
+IsThird definitions theme first second third None = definitions ≡ []
+IsThird definitions theme first second third (Some pieces) = IsThirdLine definitions theme first second third pieces.items
 
 -- the first syntax is never left
-abbrev pub FirstStays : List (List ℕ × ℕ) → List SyntaxDefinition → Type 0
-FirstStays paths definitions = (syntax : SyntaxReference) → slice_get (syntaxes_in (with_paths paths (linked definitions))) 0 ≡ Some syntax → StaysInStart (with_paths paths (linked definitions)) syntax
+abbrev pub FirstStays : List SyntaxDefinition → Type 0
+FirstStays definitions = (set : SyntaxSet) (syntax : SyntaxReference) → IsOf definitions set → slice_get (syntaxes_in set) 0 ≡ Some syntax → StaysInStart set syntax
 
--- One of the lines is refused: those before it were accepted, from the start of the set's first syntax on, and a turn of
+-- One of the lines is refused, in a set that was built of the definitions: those before it were accepted, from the start of
+-- its first syntax on, and a turn of
 -- its reading picks a match that names a reference without target, which the refusal has.
-pub record IsRefusedLine (paths : List (List ℕ × ℕ)) (definitions : List SyntaxDefinition) (lines : List (List ℕ)) (e : ParsingError) : Type 0 where
+pub record IsRefusedLine (definitions : List SyntaxDefinition) (lines : List (List ℕ)) (e : ParsingError) : Type 0 where
+  pub set : SyntaxSet
+  pub is_of : IsOf definitions set
   pub syntax : SyntaxReference
-  pub among : slice_get (syntaxes_in (with_paths paths (linked definitions))) 0 ≡ Some syntax
-  pub start : ParseState
-  pub state : ParseState
+  pub among : slice_get (syntaxes_in set) 0 ≡ Some syntax
+  pub start : Standing
+  pub state : Standing
   pub before : List (List ℕ)
   pub line : List ℕ
   pub behind : List (List ℕ)
   pub bytes : List (List (List (List ℕ)))
   pub begins : start_of syntax ≡ Some start
   pub splits : before ++ line ∷ behind ≡ lines
-  pub run : AnswersAll dialect (with_paths paths (linked definitions)) before start (map Accepted bytes) state
-  pub names : NamesUnresolved dialect (with_paths paths (linked definitions)) line state e
+  pub run : AnswersAll dialect set before start (map Accepted bytes) state
+  pub names : NamesUnresolved dialect set line state e
 
 -- the first syntax has no `__start`
-pub record LacksFirst (paths : List (List ℕ × ℕ)) (definitions : List SyntaxDefinition) : Type 0 where
+pub record LacksFirst (definitions : List SyntaxDefinition) : Type 0 where
+  pub set : SyntaxSet
+  pub is_of : IsOf definitions set
   pub syntax : SyntaxReference
-  pub among : slice_get (syntaxes_in (with_paths paths (linked definitions))) 0 ≡ Some syntax
+  pub among : slice_get (syntaxes_in set) 0 ≡ Some syntax
   pub lacks : start_of syntax ≡ None
 
 -- why the third line has no pieces, unless memory ran out
-abbrev pub IsRefusal : List (List ℕ × ℕ) → List SyntaxDefinition → List (List ℕ) → Error → Type 0
-IsRefusal paths definitions lines (error.ParsingError parsing.MissingMainContext) = LacksFirst paths definitions
-IsRefusal paths definitions lines (error.ParsingError e) = IsRefusedLine paths definitions lines e
-IsRefusal paths definitions lines error.Memory = Unit {0}
-IsRefusal paths definitions lines e = ⊥
+abbrev pub IsRefusal : List SyntaxDefinition → List (List ℕ) → Error → Type 0
+IsRefusal definitions lines (error.ParsingError parsing.MissingMainContext) = LacksFirst definitions
+IsRefusal definitions lines (error.ParsingError e) = IsRefusedLine definitions lines e
+IsRefusal definitions lines error.Memory = Unit {0}
+IsRefusal definitions lines e = ⊥

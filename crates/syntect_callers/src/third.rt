@@ -1,6 +1,6 @@
 //! A caller of the highlighter, from definitions to the pieces of lines.
 ghost use Rattle.std.specs.Prelude.{◌≡◌, All, IfOk, IfErr, List, ℕ, [], ◌∷◌};
-ghost use Rattle.syntect_grammar.specs.Link.{definitions_in, paths_in};
+ghost use Rattle.syntect_grammar.specs.Link.{definitions_in};
 ghost use Rattle.syntect.specs.Built.{IsPlain};
 ghost use Rattle.syntect_parsing.specs.Refusals.{AreByName};
 ghost use Rattle.syntect_callers.specs.Third.{IsThird, FirstStays, IsRefusal};
@@ -26,9 +26,11 @@ pub fn third_line<'b>(
     third: &'b str,
 ) -> Result<Option<Vec<(Style, &'b str)>>, Error>
     ensures pieces { All IsPlain (definitions_in builder)
-        → IfOk result (λ pieces. IsThird (paths_in builder) (definitions_in builder) theme.now first.now second.now third.now pieces) }
-    ensures refused { All IsPlain (definitions_in builder) → AreByName (definitions_in builder) → FirstStays (paths_in builder) (definitions_in builder)
-        → IfErr result (IsRefusal (paths_in builder) (definitions_in builder) (first.now ∷ second.now ∷ third.now ∷ [])) }
+        → IfOk result (λ pieces. IsThird (definitions_in builder) theme.now first.now second.now third.now pieces) }
+    ensures refused { All IsPlain (definitions_in builder) → AreByName (definitions_in builder)
+        → FirstStays (definitions_in builder)
+        → IfErr result (
+        IsRefusal (definitions_in builder) (first.now ∷ second.now ∷ third.now ∷ [])) }
 {
     let set = builder.build(alloc, repository)?;
     let Some(syntax) = set.syntaxes().first() else {

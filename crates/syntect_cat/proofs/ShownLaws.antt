@@ -5,7 +5,7 @@ use Rattle.std.proofs.lemmas.List.Elements.{All-append, All-cons, All-nil}
 use Rattle.syntect_theme.specs.declared.theme.Theme.{Theme}
 use Rattle.syntect_grammar.specs.Folders.{AddsSyntaxes, AddsFolder, no_more, other, grammar}
 use Rattle.syntect_grammar.specs.Folders.{no_definitions}
-use Rattle.syntect_grammar.specs.Link.{definitions_in, paths_in, with_paths, linked}
+use Rattle.syntect_grammar.specs.Link.{definitions_in, paths_in, syntaxes_in, set_paths, linked}
 use Rattle.syntect_loader.specs.Loading.{loaded}
 use Rattle.syntect_grammar.specs.PlainText.{plain_text, AddsPlainText}
 use Rattle.syntect_loader.specs.declared.definition.SyntaxDefinition.{SyntaxDefinition}
@@ -47,8 +47,7 @@ pub set_built : LoadsPlain → (folder : List ℕ) (repository : List (List ℕ)
 set_built law folder repository set s = (
   definitions_in s.all,
   record {
-    paths = paths_in s.all;
-    set_is = s.set_is;
+    links = s.syntaxes;
     plain =
         plain_more law true s.adds_folder.files s.left repository s.plain s.all
         (plain_first law no_definitions s.plain [] s.left s.adds_plain refl) s.adds_folder.adds;
@@ -56,8 +55,8 @@ set_built law folder repository set s = (
 )
 
 pub set_of : (folder : List ℕ) (start plain all : SyntaxSetBuilder) (before left after : List (List ℕ)) (set : SyntaxSet) → before ≡ [] → definitions_in start ≡ [] → paths_in start ≡ []
-    → AddsPlainText start plain before left → AddsFolder true folder left plain after all → set ≡ with_paths (paths_in all) (linked (definitions_in all)) → IsSetOf folder after set
-set_of folder start plain all before left after set e d p a b f = record {
+    → AddsPlainText start plain before left → AddsFolder true folder left plain after all → syntaxes_in set ≡ linked (definitions_in all) → set_paths set ≡ paths_in all → IsSetOf folder after set
+set_of folder start plain all before left after set e d p a b f g = record {
   plain = plain;
   all = all;
   left = left;
@@ -68,7 +67,8 @@ set_of folder start plain all before left after set e d p a b f = record {
     paths = a.paths ∙ p;
   };
   adds_folder = b;
-  set_is = f;
+  syntaxes = f;
+  paths = g;
 }
 
 -- ---- the text of a format ----

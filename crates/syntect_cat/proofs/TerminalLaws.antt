@@ -8,8 +8,8 @@ use Rattle.syntect_theme.specs.declared.theme.Theme.{Theme}
 use Rattle.syntect_contexts.specs.declared.syntax_reference.SyntaxReference.{SyntaxReference}
 use Rattle.syntect_grammar.specs.declared.syntax_set.SyntaxSet.{SyntaxSet}
 use Rattle.syntect_writers.specs.Terminal.{terminal_text}
-use Rattle.syntect.specs.Leads.{LeadsOn}
-use Rattle.syntect.specs.Pages.{Row, lines_in, answers_in}
+use Rattle.syntect.specs.Leads.{Continues}
+use Rattle.syntect.specs.Pages.{Row, past_of}
 use Rattle.syntect.specs.Rows.{IsTextOf, GivesNext, AreRowsSoFar, RowsGoOn, RowsEnd}
 use Rattle.syntect.specs.declared.easy.HighlightLines.{HighlightLines}
 use Rattle.syntect_loader.specs.declared.definition.SyntaxDefinition.{SyntaxDefinition}
@@ -39,17 +39,17 @@ written_last rows row text next e f =
     ∙ ap (λ (xs : List ℕ). rows_text rows ++ xs) (sym (append-nil (terminal_text true row.pieces)))
     ∙ sym (flat_map-append (λ (r : Row). terminal_text true r.pieces) rows (row ∷ []))
 
-pub line_more : RowsGoOn → (set : SyntaxSet) (theme : Theme) (syntax : SyntaxReference) (had left after : Option (List ℕ)) (last text next bytes : List ℕ) (line : Bor (List ℕ)) (h new : HighlightLines) (pieces : Vec (Style × Bor (List ℕ)))
+pub line_more : RowsGoOn → (set : SyntaxSet) (definitions : List SyntaxDefinition) (theme : Theme) (syntax : SyntaxReference) (had left after : Option (List ℕ)) (last text next bytes : List ℕ) (line : Bor (List ℕ)) (h new : HighlightLines) (pieces : Vec (Style × Bor (List ℕ)))
     (s : IsSoFar set theme syntax had left last text h)
-    → LeadsOn set theme syntax (lines_in s.rows) (answers_in s.rows) line new (Ok pieces)
+    → Continues (past_of definitions theme syntax s.rows) set line new (Ok pieces)
     → GivesNext left last after bytes true → line.now ≡ bytes → IsUtf8 bytes
     → next ≡ text ++ terminal_text true pieces.items
     → IsSoFar set theme syntax had after bytes next new
-line_more law set theme syntax had left after last text next bytes line h new pieces s l g e u f =
+line_more law set definitions theme syntax had left after last text next bytes line h new pieces s l g e u f =
     let row : Row = record { line = line.now; scopes = l.0; pieces = pieces.items } in
     record {
       rows = s.rows ++ row ∷ [];
-      read = law set theme syntax had left after last bytes s.rows line h new pieces s.read l g e u;
+      read = law set definitions theme syntax had left after last bytes s.rows line h new pieces s.read l g e u;
       written = written_last s.rows row text next s.written f;
     }
 
@@ -63,7 +63,7 @@ text_whole law set theme syntax had left after last text whole bytes h s g f =
 -- ---- files ----
 
 pub built_of : (set : SyntaxSet) (path : List ℕ) (syntax : SyntaxReference) (definitions : List SyntaxDefinition) → IsBuilt set definitions → IsSyntaxFor set path syntax → IsBuiltOf set syntax definitions
-built_of set path syntax definitions b s = record { paths = b.paths; set_is = b.set_is; place = s.place; among = s.among; plain = b.plain }
+built_of set path syntax definitions b s = record { links = b.links; place = s.place; among = s.among; plain = b.plain }
 
 pub text_of_file : {A : Type 0} (view : A → List ℕ) (set : SyntaxSet) (theme : Theme) (path : List ℕ) (syntax : SyntaxReference) (P : List ℕ → Type 0) (result : Result A Error) → IsSyntaxFor set path syntax
     → IfOk result (λ all. (text : List ℕ) × P text × IsUtf8 text × IsTerminalText set theme syntax text (view all)) → IfOk result (λ all. IsTerminalTextOfFile set theme path (view all))

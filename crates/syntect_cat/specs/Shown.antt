@@ -4,7 +4,7 @@ use Rattle.syntect_theme_files.specs.ThemeFiles.{IsThemeOf}
 use Rattle.syntect_theme.specs.declared.theme.Theme.{Theme}
 use Rattle.syntect_grammar.specs.Folders.{AddsFolder}
 use Rattle.syntect_grammar.specs.Folders.{no_definitions}
-use Rattle.syntect_grammar.specs.Link.{definitions_in, paths_in, with_paths, linked}
+use Rattle.syntect_grammar.specs.Link.{definitions_in, paths_in, syntaxes_in, set_paths, linked}
 use Rattle.syntect_grammar.specs.PlainText.{AddsPlainText}
 use Rattle.syntect_grammar.specs.declared.syntax_set.SyntaxSet.{SyntaxSet}
 use Rattle.syntect_grammar.specs.declared.syntax_set.SyntaxSetBuilder.{SyntaxSetBuilder}
@@ -22,7 +22,8 @@ pub record IsSetOf (folder : List ℕ) (repository : List (List ℕ)) (set : Syn
   pub left : List (List ℕ)
   pub adds_plain : AddsPlainText no_definitions plain [] left
   pub adds_folder : AddsFolder true folder left plain repository all
-  pub set_is : set ≡ with_paths (paths_in all) (linked (definitions_in all))
+  pub syntaxes : syntaxes_in set ≡ linked (definitions_in all)
+  pub paths : set_paths set ≡ paths_in all
 
 -- the text of a format shows what some file of this path holds
 abbrev pub ShowsFile : Format → SyntaxSet → Theme → List ℕ → List ℕ → Type 0

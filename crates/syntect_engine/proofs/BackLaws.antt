@@ -34,7 +34,7 @@ GroupsFit-set s g n x h hx m = slot-set s g n x m (h m) hx
 
 module _ (s : List ℕ) (ts : List Tree) where
   -- the list of a cell's others is there
-  next-fits : (xs : List Cell) (c : Cell) (list : ℕ) → list ≢ 0 → CellsFit s xs → list ≤ length xs → get_or xs (list - 1) c ≡ c → c.next ≤ length xs
+  pub next-fits : (xs : List Cell) (c : Cell) (list : ℕ) → list ≢ 0 → CellsFit s xs → list ≤ length xs → get_or xs (list - 1) c ≡ c → c.next ≤ length xs
   next-fits xs c list ne hc hl e =
       let h : c.next ≤ list - 1 = subst (λ (d : Cell). d.next ≤ list - 1) e (hc (list - 1) c (omega arith)).0 in omega arith
 
@@ -42,7 +42,7 @@ module _ (s : List ℕ) (ts : List Tree) where
   item-fits xs c list ne hc hl e = subst (λ (d : Cell). ItemFits s d.item) e (hc (list - 1) c (omega arith)).1
 
   -- a list that isn't empty goes on with its cell
-  leave-cell : (xs : List Cell) (c : Cell) (list : ℕ) → list ≢ 0 → CellsFit s xs → list ≤ length xs → get_or xs (list - 1) c ≡ c
+  pub leave-cell : (xs : List Cell) (c : Cell) (list : ℕ) → list ≢ 0 → CellsFit s xs → list ≤ length xs → get_or xs (list - 1) c ≡ c
       → list_at s ts xs list ≡ on_item s ts c.item (list_at s ts xs c.next)
   leave-cell xs c list ne hc hl e =
       ap (list_at s ts xs) (let h : list ≡ suc (list - 1) = omega arith in h)

@@ -27,7 +27,7 @@ module _ (s : List ℕ) (ts : List Tree) where
       ap (λ zs. pending s ts zs g fs w) (sym (take-append-drop len xs))
       ∙ pending-append s ts (take len xs) (drop len xs) g fs w (rw (length-take-le len xs hl) hf)
 
-  list_at-take : (xs : List Cell) (len k : ℕ) → len ≤ length xs → k ≤ len → list_at s ts xs k ≡ list_at s ts (take len xs) k
+  pub list_at-take : (xs : List Cell) (len k : ℕ) → len ≤ length xs → k ≤ len → list_at s ts xs k ≡ list_at s ts (take len xs) k
   list_at-take xs len k hl hk =
       ap (λ zs. list_at s ts zs k) (sym (take-append-drop len xs))
       ∙ list_at-append s ts (take len xs) (drop len xs) k (rw (length-take-le len xs hl) hk)

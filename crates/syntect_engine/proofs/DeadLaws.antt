@@ -1,5 +1,5 @@
 -- Nodes that have no match, as is seen at once.
-use Rattle.std.proofs.Common.{◌≡◌, ◌<◌, ◌+◌, ℕ, Bool, true, false, not, List, [], map, take, refl, sym, ◌∙◌, ap, arith, Option, Some, None, reverse}
+use Rattle.std.proofs.Common.{◌≡◌, ◌<◌, ◌+◌, ℕ, Bool, true, false, not, List, [], length, map, take, refl, sym, ◌∙◌, ap, arith, Option, Some, None, reverse}
 use Rattle.std.specs.Prelude.{is_some, if◌then◌else◌}
 use Rattle.std.specs.Char.{len_utf8}
 use Rattle.std.specs.List.{flat_map}
@@ -10,7 +10,7 @@ use Rattle.syntect_pattern.specs.Trees.{Anchor, Tree, one_of, anchor, seq, alt, 
 use Rattle.syntect_pattern.specs.Matches.{Groups, Member, matches, past, only_if, close, stands}
 use Rattle.syntect_engine.specs.declared.state.Next.{Next}
 use Rattle.syntect_engine.specs.declared.state.Search.{Search}
-use Rattle.syntect_engine.specs.Machine.{Work, On, tick, both, after_char, search, list_at, tree_at, pending, total, now, steps_of, Fits, Goes}
+use Rattle.syntect_engine.specs.Machine.{Work, On, tick, both, after_char, search, list_at, tree_at, now, ListFits, Fits, Goes}
 use Rattle.syntect_engine.proofs.FirstLaws.{search-first, first_each, finds}
 use Rattle.syntect_engine.proofs.MachineLaws.{pending-less}
 
@@ -51,14 +51,29 @@ module _ (s : List ℕ) (i : ℕ) where
   pub dead-atomic : (a : Tree) → IsDead a → IsDead (atomic a)
   dead-atomic a h g = ap (take 1) (h g)
 
+module _ (s : List ℕ) (ts : List Tree) where
+  -- what comes next finds the same in fewer steps
+  pub goes_less : (next next' : Next) (x : Search) → Fits s next x
+      → (now s ts next' x.cells.items x.place x.groups.items).found ≡ (now s ts next x.cells.items x.place x.groups.items).found
+      → (now s ts next' x.cells.items x.place x.groups.items).count < (now s ts next x.cells.items x.place x.groups.items).count
+      → ListFits next' (length x.cells.items)
+      → Goes s ts next x next' x
+  goes_less next next' x hf f c hl =
+      let less = pending-less s ts x.cells.items x.groups.items (reverse x.frames.items) (now s ts next' x.cells.items x.place x.groups.items) (now s ts next x.cells.items x.place x.groups.items) f c in
+      record {
+        found = less.0;
+        fewer = less.1;
+        fits = record { cells = hf.cells; frames = hf.frames; list = hl; place = hf.place; groups = hf.groups };
+      }
+
+  pub dead-found : (a : Tree) (K : On) (i : ℕ) (g : Groups) → IsDead s i a → (search s a K i g).found ≡ None
+  dead-found a K i g h = search-first s a K i g ∙ ap (first_each (finds K)) (h g)
+
 module _ (s : List ℕ) (ts : List Tree) (node k : ℕ) where
   -- what is entered, for an alternation
   entered : (x : Search) (a b : Tree) → tree_at s ts node ≡ alt a b → now s ts (Next.Enter node k) x.cells.items x.place x.groups.items
       ≡ tick (both (search s a (list_at s ts x.cells.items k) x.place x.groups.items) (tick (search s b (list_at s ts x.cells.items k) x.place x.groups.items)))
   entered x a b is = ap (λ (t : Tree). search s t (list_at s ts x.cells.items k) x.place x.groups.items) is
-
-  dead-found : (a : Tree) (K : On) (i : ℕ) (g : Groups) → IsDead s i a → (search s a K i g).found ≡ None
-  dead-found a K i g h = search-first s a K i g ∙ ap (first_each (finds K)) (h g)
 
   or_none : (o : Option Member) → option_or o None ≡ o
   or_none None = refl
@@ -69,15 +84,7 @@ module _ (s : List ℕ) (ts : List Tree) (node k : ℕ) where
       → (now s ts (Next.Enter a k) x.cells.items x.place x.groups.items).found ≡ w.found → (now s ts (Next.Enter a k) x.cells.items x.place x.groups.items).count < w.count
       → Goes s ts (Next.Enter node k) x (Next.Enter a k) x
   goes_branch x a w hf e f c =
-      let before : total s ts (Next.Enter node k) x ≡ pending s ts x.cells.items x.groups.items (reverse x.frames.items) w = ap (pending s ts x.cells.items x.groups.items (reverse x.frames.items)) e in
-      let less = pending-less s ts x.cells.items x.groups.items (reverse x.frames.items) (now s ts (Next.Enter a k) x.cells.items x.place x.groups.items) w f c in
-      let fewer : (total s ts (Next.Enter a k) x).count < (pending s ts x.cells.items x.groups.items (reverse x.frames.items) w).count = less.1 in
-      let steps : steps_of s ts (Next.Enter a k) x < steps_of s ts (Next.Enter node k) x = omega (arith, ap (λ (v : Work). v.count) before) in
-      record {
-        found = less.0 ∙ sym (ap (λ (v : Work). v.found) before);
-        fewer = steps;
-        fits = record { cells = hf.cells; frames = hf.frames; list = hf.list; place = hf.place; groups = hf.groups };
-      }
+      goes_less s ts (Next.Enter node k) (Next.Enter a k) x hf (f ∙ sym (ap (λ (v : Work). v.found) e)) (omega (arith, ap (λ (v : Work). v.count) e, c)) hf.list
 
   -- the first branch has no match
   pub goes_second : (x : Search) (a b : ℕ) → tree_at s ts node ≡ alt (tree_at s ts a) (tree_at s ts b) → Fits s (Next.Enter node k) x → IsDead s x.place (tree_at s ts a)
@@ -88,7 +95,7 @@ module _ (s : List ℕ) (ts : List Tree) (node k : ℕ) where
       let A : Work = search s (tree_at s ts a) K x.place x.groups.items in
       let B : Work = search s (tree_at s ts b) K x.place x.groups.items in
       goes_branch x b (tick (both A (tick B))) hf (entered x (tree_at s ts a) (tree_at s ts b) is)
-      (ap (λ o. option_or o B.found) (sym (dead-found (tree_at s ts a) K x.place x.groups.items h))) (omega arith)
+      (ap (λ o. option_or o B.found) (sym (dead-found s ts (tree_at s ts a) K x.place x.groups.items h))) (omega arith)
 
   -- the second branch has no match
   pub goes_first : (x : Search) (a b : ℕ) → tree_at s ts node ≡ alt (tree_at s ts a) (tree_at s ts b) → Fits s (Next.Enter node k) x → IsDead s x.place (tree_at s ts b)
@@ -99,4 +106,4 @@ module _ (s : List ℕ) (ts : List Tree) (node k : ℕ) where
       let A : Work = search s (tree_at s ts a) K x.place x.groups.items in
       let B : Work = search s (tree_at s ts b) K x.place x.groups.items in
       goes_branch x a (tick (both A (tick B))) hf (entered x (tree_at s ts a) (tree_at s ts b) is)
-      (sym (ap (option_or A.found) (dead-found (tree_at s ts b) K x.place x.groups.items h) ∙ or_none A.found)) (omega arith)
+      (sym (ap (option_or A.found) (dead-found s ts (tree_at s ts b) K x.place x.groups.items h) ∙ or_none A.found)) (omega arith)

@@ -12,3 +12,4 @@ pub mod ReachLaws
 pub mod RunLaws
 pub mod FindLaws
 pub mod StretchLaws
+pub mod PassLaws

@@ -42,7 +42,7 @@ while-used None w e = cc
 while-used (Some zero) w e = refl
 while-used (Some (suc n)) w e = let h : true ≡ false = sym e ∙ suc_is n in cc
 
-while-unused : (most : Option ℕ) (w : Work) → is_used_up most ≡ false → while_left most w ≡ w
+pub while-unused : (most : Option ℕ) (w : Work) → is_used_up most ≡ false → while_left most w ≡ w
 while-unused None w e = refl
 while-unused (Some zero) w e = cc
 while-unused (Some (suc n)) w e = refl

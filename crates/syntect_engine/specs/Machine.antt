@@ -268,6 +268,19 @@ module _ (s : List ℕ) (ts : List Tree) where
     pub fewer : steps_of next' new < steps_of next old
     pub fits : Fits s next' new
 
+-- a frame of a stretch without the ends at which its list finds nothing
+pub record IsShorter (s : List ℕ) (ts : List Tree) (xs : List Cell) (frame shorter : Frame) : Type 0 where
+  pub list : ℕ
+  pub count : ℕ
+  pub place : ℕ
+  pub cells : ℕ
+  pub ends : ℕ
+  pub was : frame ≡ Stretch list count place cells
+  pub is : shorter ≡ Stretch list (count - ends) (place - ends) cells
+  pub some : 0 < ends
+  pub inside : ends ≤ count
+  pub dead : (m : ℕ) → m < ends → (g : Groups) → (list_at s ts xs list (place - m) g).found ≡ None
+
 -- the place and the cells are those that a frame kept
 pub record ReturnsTo (i len : ℕ) (old new : Search) : Type 0 where
   pub place : new.place ≡ i

@@ -196,6 +196,10 @@ impl Search {
         let Some(frame) = self.frames.pop() else {
             return Ok(None);
         };
+        if let Some(shorter) = self.shortened(program, text, frame) {
+            self.save(shorter)?;
+            return Ok(Some(Next::Fail));
+        }
         let next = self.resume(text, frame)?;
         Ok(Some(next))
     }

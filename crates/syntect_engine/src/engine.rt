@@ -65,10 +65,10 @@ impl Search {
     ) -> Result<bool, AllocError>
         ensures { IfOk result (λ found. FindsAt text.now program.now place (groups_of found self.new)) }
     {
-        if !program.can_begin(text, place) {
+        if !is_boundary(text, place) {
             return Ok(false);
         }
-        if !is_boundary(text, place) {
+        if program.is_dead(text, place, program.root) {
             return Ok(false);
         }
         if is_dead(program, text, place, program.root) {
@@ -82,9 +82,22 @@ impl Search {
     pub fn find(&mut self, program: &Program, text: &str, begin: usize) -> Result<bool, AllocError>
         ensures { IfOk result (λ found. FindsGroups text.now program.now begin (groups_of found self.new)) }
     {
+        if begin > text.len() {
+            return Ok(false);
+        }
+        let Some(first) = program.behind_needed(text, begin) else {
+            return Ok(false);
+        };
         let mut place = begin;
+        let mut behind = first;
         while place <= text.len() {
             place = program.next_start(text, place);
+            if place >= behind {
+                let Some(next) = program.behind_needed(text, place) else {
+                    return Ok(false);
+                };
+                behind = next;
+            }
             if self.begins_at(program, text, place)? {
                 return Ok(true);
             }

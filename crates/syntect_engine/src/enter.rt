@@ -9,7 +9,6 @@ ghost use Rattle.syntect_pattern_table.specs.Program.{trees_of};
 ghost use Rattle.syntect_pattern.specs.Trees.{nothing};
 
 use crate::anchor::stands;
-use crate::dead::is_dead;
 use crate::reach::reach;
 use crate::state::{Bound, Frame, Item, Next, Search, Turns};
 use crate::stretch::stretch;
@@ -239,10 +238,10 @@ impl Search {
         requires is { slice_index_or (trees_of program.now) node nothing ≡ alt (slice_index_or (trees_of program.now) first nothing) (slice_index_or (trees_of program.now) second nothing) }
         ensures { IfOk result (λ next. Goes text.now (trees_of program.now) (Next.Enter node list) self.old next self.new) }
     {
-        if is_dead(program, text, self.place, first) {
+        if program.is_dead(text, self.place, first) {
             return Ok(Next::Enter { node: second, list });
         }
-        if is_dead(program, text, self.place, second) {
+        if program.is_dead(text, self.place, second) {
             return Ok(Next::Enter { node: first, list });
         }
         let frame = Frame::Enter {

@@ -6,6 +6,7 @@ mod back;
 mod dead;
 mod engine;
 mod enter;
+mod pass;
 mod reach;
 pub mod state;
 mod stretch;

@@ -1,5 +1,5 @@
 //! The turns of a loop.
-ghost use Rattle.std.specs.Prelude.{◌≡◌, ℕ, ◌+◌, ◌++◌, ◌∷◌, [], length, IfOk, OnOk, Option, suc, true, false};
+ghost use Rattle.std.specs.Prelude.{◌≡◌, ◌==◌, if◌then◌else◌, ℕ, ◌+◌, ◌++◌, ◌∷◌, [], length, IfOk, OnOk, Option, suc, true, false};
 ghost use Rattle.syntect_engine.specs.Machine.{is_used_up, one_turn_less};
 
 use crate::state::{Frame, Item, Next, Search, Turns};
@@ -30,6 +30,17 @@ fn one_turn_less(turns: Turns) -> Turns
         left: turns.left.saturating_sub(1),
         least: turns.least.saturating_sub(1),
         most,
+    }
+}
+
+/// Leaves the loop, if its least number of turns is reached.
+fn leave_after(least: u32, list: usize) -> Next
+    ensures { result ≡ (if least == 0 then Next.Leave list else Next.Fail) }
+{
+    if least == 0 {
+        Next::Leave { list }
+    } else {
+        Next::Fail
     }
 }
 
@@ -69,18 +80,35 @@ impl Search {
             }
             return Ok(Next::Fail);
         }
+        if program.is_dead(text, self.place, *body) {
+            return Ok(leave_after(turns.least, list));
+        }
         let item = Item::Again {
             turns: one_turn_less(turns),
             start: self.place,
         };
         if turns.least != 0 {
-            let again = self.cons(item, list)?;
-            return Ok(Next::Enter {
-                node: *body,
-                list: again,
-            });
+            return self.take_turn(*body, item, list);
+        }
+        if self.dead_ends(program, text, list, 1, self.place) != 0 {
+            return self.take_turn(*body, item, list);
         }
         self.choose(*greedy, *body, item, list)
+    }
+
+    /// Takes another turn, and nothing else is left to try.
+    fn take_turn(&mut self, body: usize, item: Item, list: usize) -> Result<Next, AllocError>
+        ensures cells { OnOk result (self.new.cells.items ≡ self.old.cells.items
+            ++ record { item = item; next = list } ∷ []) }
+        ensures next { IfOk result (λ next. next
+            ≡ Next.Enter body (length self.old.cells.items + 1)) }
+        ensures others { self.new ≡ record self.old { cells = self.new.cells } }
+    {
+        let again = self.cons(item, list)?;
+        Ok(Next::Enter {
+            node: body,
+            list: again,
+        })
     }
 
     /// Takes another turn or leaves, and keeps the other for later.
@@ -91,7 +119,8 @@ impl Search {
         item: Item,
         list: usize,
     ) -> Result<Next, AllocError>
-        ensures cells { OnOk result (self.new.cells.items ≡ self.old.cells.items ++ record { item = item; next = list } ∷ []) }
+        ensures cells { OnOk result (self.new.cells.items ≡ self.old.cells.items
+            ++ record { item = item; next = list } ∷ []) }
         ensures more { greedy ≡ true → IfOk result (λ next. (next ≡ Next.Enter body (length self.old.cells.items + 1)) × (self.new.frames.items ≡ self.old.frames.items ++ Frame.Leave list self.old.place (length self.old.cells.items) ∷ [])) }
         ensures leave { greedy ≡ false → IfOk result (λ next. (next ≡ Next.Leave list) × (self.new.frames.items ≡ self.old.frames.items ++ Frame.Enter body (suc (length self.old.cells.items)) self.old.place (length self.new.cells.items) ∷ [])) }
         ensures place { self.new.place ≡ self.old.place }

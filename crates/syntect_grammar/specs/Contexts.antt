@@ -1,13 +1,22 @@
--- The contexts of a set.
-use Rattle.std.specs.Prelude.{List, [], map, Option, slice_get}
+-- What a set holds, and its contexts.
+use Rattle.std.specs.Prelude.{ℕ, List, [], map, Option, slice_get}
 use Rattle.std.specs.Option.{option_map_or, option_and_then}
 use Rattle.syntect_contexts.specs.declared.context.ContextId.{ContextId}
 use Rattle.syntect_contexts.specs.declared.context.Context.{Context}
+use Rattle.syntect_contexts.specs.declared.syntax_reference.SyntaxReference.{SyntaxReference}
 use Rattle.syntect_grammar.specs.declared.syntax_set.SyntaxSet.{SyntaxSet}
+
+-- the syntaxes of a set
+abbrev pub syntaxes_in : SyntaxSet → List SyntaxReference
+syntaxes_in set = set.syntaxes
+
+-- the paths of the files from which some of them were loaded, each with the place of its syntax
+abbrev pub set_paths : SyntaxSet → List (List ℕ × ℕ)
+set_paths set = set.path_syntaxes
 
 -- the contexts of each syntax of a set
 abbrev pub contexts_of : SyntaxSet → List (List Context)
-contexts_of set = map (λ s. s.contexts) set.syntaxes
+contexts_of set = map (λ s. s.contexts) (syntaxes_in set)
 
 -- the context of a number, if the set has it
 abbrev pub context_at : SyntaxSet → ContextId → Option Context

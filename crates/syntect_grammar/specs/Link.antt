@@ -1,33 +1,19 @@
 -- What linking makes of definitions.
+pub use Rattle.syntect_grammar.specs.Contexts.{syntaxes_in, set_paths}
 use Rattle.std.specs.Prelude.{ℕ, ◌+◌, List, [], ◌∷◌, map}
 use Rattle.syntect_linker.specs.LinkedContexts.{linked_contexts}
 use Rattle.syntect_contexts.specs.declared.context.Context.{Context}
 use Rattle.syntect_loader.specs.declared.definition.SyntaxDefinition.{SyntaxDefinition}
 use Rattle.syntect_contexts.specs.declared.syntax_reference.SyntaxReference.{SyntaxReference}
-use Rattle.syntect_grammar.specs.declared.syntax_set.SyntaxSet.{SyntaxSet}
 use Rattle.syntect_grammar.specs.declared.syntax_set.SyntaxSetBuilder.{SyntaxSetBuilder}
 
--- the definitions that a builder holds, and the syntaxes of a set
+-- the definitions that a builder holds
 abbrev pub definitions_in : SyntaxSetBuilder → List SyntaxDefinition
 definitions_in builder = builder.syntaxes
 
-abbrev pub syntaxes_in : SyntaxSet → List SyntaxReference
-syntaxes_in set = set.syntaxes
-
--- the paths of the files from which some of them were loaded, each with the place of its definition or syntax
+-- the paths of the files from which some of them were loaded, each with the place of its definition
 abbrev pub paths_in : SyntaxSetBuilder → List (List ℕ × ℕ)
 paths_in builder = builder.path_syntaxes
-
-abbrev pub set_paths : SyntaxSet → List (List ℕ × ℕ)
-set_paths set = set.path_syntaxes
-
--- a set of these syntaxes, none of them from a file
-abbrev pub set_of : List SyntaxReference → SyntaxSet
-set_of syntaxes = record { syntaxes = syntaxes; path_syntaxes = [] }
-
--- the set with these paths
-abbrev pub with_paths : List (List ℕ × ℕ) → SyntaxSet → SyntaxSet
-with_paths paths set = record set { path_syntaxes = paths }
 
 -- ---- heads and bodies of definitions ----
 
@@ -71,5 +57,6 @@ abbrev pub linked_from : List SyntaxReference → List (List Context) → ℕ �
 linked_from heads bodies index [] = []
 linked_from heads bodies index (d ∷ ds) = linked_definition heads bodies index d ∷ linked_from heads bodies (index + 1) ds
 
-abbrev pub linked : List SyntaxDefinition → SyntaxSet
-linked definitions = set_of (linked_from (heads_from 0 definitions) (map body_of definitions) 0 definitions)
+-- all of them, linked to one another
+abbrev pub linked : List SyntaxDefinition → List SyntaxReference
+linked definitions = linked_from (heads_from 0 definitions) (map body_of definitions) 0 definitions

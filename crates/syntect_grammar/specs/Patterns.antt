@@ -35,9 +35,13 @@ walk (suc room) set path ps = walk_patterns (λ id. walk room set (path ++ id �
 abbrev pub room_in : SyntaxSet → ℕ
 room_in set = count_contexts (contexts_of set) + 1
 
--- the patterns of a context with these entries
+-- the patterns of a context with these entries, which may be one that the set doesn't hold
 abbrev pub patterns_in : SyntaxSet → List Pattern → List MatchPattern
 patterns_in set ps = walk (room_in set) set [] ps
+
+-- the patterns of the context of this number, which stands on its own include path
+abbrev pub patterns_of : SyntaxSet → ContextId → List MatchPattern
+patterns_of set id = walk (room_in set) set (id ∷ []) (entries set id)
 
 -- ---- the same walk as a relation ----
 
@@ -61,3 +65,8 @@ pub data Walks (set : SyntaxSet) : List ContextId → List Pattern → List Matc
 abbrev pub RoomIsNotFelt : Type 0
 RoomIsNotFelt = (set : SyntaxSet) (entries : List Pattern)
     → Walks set [] entries (patterns_in set entries) × ((patterns : List MatchPattern) → Walks set [] entries patterns → patterns ≡ patterns_in set entries)
+
+-- Nor has that of a context on its own include path.
+abbrev pub RoomIsNotFeltAt : Type 0
+RoomIsNotFeltAt = (set : SyntaxSet) (id : ContextId)
+    → Walks set (id ∷ []) (entries set id) (patterns_of set id) × ((patterns : List MatchPattern) → Walks set (id ∷ []) (entries set id) patterns → patterns ≡ patterns_of set id)

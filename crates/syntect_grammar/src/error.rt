@@ -114,3 +114,15 @@ impl From<io::Error> for Error {
         }
     }
 }
+
+/// A text that could not be formatted.
+impl From<fmt::Error> for Error {
+    ghost use Rattle.std.specs.Prelude.{◌≡◌};
+    ghost use Rattle.syntect_grammar.specs.declared.error.Error.TheVariants.{Fmt};
+
+    ghost from_gives = { λ e r. r ≡ Fmt e };
+
+    fn from(e: fmt::Error) -> Error {
+        Error::Fmt(e)
+    }
+}

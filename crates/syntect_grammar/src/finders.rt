@@ -178,8 +178,9 @@ impl SyntaxSet {
         }
     }
 
-    /// What the path of a file tells: the last syntax that has its whole name as extension, or else its extension.
-    fn find_by_file_name(&self, path: Path<'_>) -> Option<&SyntaxReference>
+    /// What the path of a file tells: the last syntax that has its whole name as extension, or else its extension. No file
+    /// is opened, and no memory taken.
+    pub fn find_syntax_by_file_name(&self, path: Path<'_>) -> Option<&SyntaxReference>
         ensures { option_copied result ≡ found_by_file_name self.now (path_bytes path.entry) }
     {
         match self.find_syntax_by_extension(path.file_name().unwrap_or("")) {
@@ -201,7 +202,7 @@ impl SyntaxSet {
         ensures found { IfOk result (λ found. (line : List ℕ) × IsUtf8 line × (option_copied found ≡ found_for_file self.now (path_bytes path.entry) line)) }
         ensures refused { IfErr result (NotFoundFor self.now (path_bytes path.entry)) }
     {
-        if let Some(syntax) = self.find_by_file_name(path) {
+        if let Some(syntax) = self.find_syntax_by_file_name(path) {
             return Ok(Some(syntax));
         }
         let line = match first_line(files, alloc, path) {

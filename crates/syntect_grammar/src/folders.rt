@@ -3,7 +3,7 @@ ghost use Rattle.std.specs.Prelude.{◌≡◌, ◌≢◌, ℕ, Bool, true, false
 ghost use Rattle.std.specs.Path.{path_bytes, path_file_stem};
 ghost use Rattle.syntect_base.specs.declared.loading.LoadingError.TheVariants.{Memory};
 ghost use Rattle.syntect_grammar.specs.Folders.{is_grammar_path, IsSyntaxOf, RefusesSyntax, AddsSyntaxes, StopsAt, AddsFolder, RefusesFolder, no_definitions};
-ghost use Rattle.syntect_grammar.specs.Link.{definitions_in, paths_in, with_paths, linked};
+ghost use Rattle.syntect_grammar.specs.Link.{definitions_in, paths_in, syntaxes_in, set_paths, linked};
 ghost use Rattle.syntect_loader.specs.Loading.{loaded};
 ghost use Rattle.syntect_loader.specs.LoadingSteps.{Fails, Keeps};
 ghost use Rattle.syntect_grammar.specs.declared.syntax_set.SyntaxSetBuilder.{SyntaxSetBuilder as ABuilder};
@@ -177,7 +177,7 @@ impl SyntaxSet {
         repository: &mut ScopeRepository,
     ) -> Result<SyntaxSet, LoadingError>
         ensures ok { IfOk result (λ set. (builder : ABuilder) × AddsFolder false (path_bytes folder.entry) repository.old no_definitions repository.new builder
-            × (set ≡ with_paths (paths_in builder) (linked (definitions_in builder)))) }
+            × (syntaxes_in set ≡ linked (definitions_in builder)) × (set_paths set ≡ paths_in builder)) }
         ensures err { IfErr result (λ e. e ≢ Memory → (builder : ABuilder) × RefusesFolder false (path_bytes folder.entry) repository.old no_definitions e builder) }
         ensures kept { Keeps repository.old repository.new }
     {

@@ -14,6 +14,7 @@ mod match_iter;
 mod plain_text;
 pub mod syntax_definition;
 pub mod syntax_set;
+mod syntaxes;
 mod unlinked;
 
 pub use syntect_loader::{laws, yaml_load};

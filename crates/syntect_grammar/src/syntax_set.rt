@@ -2,10 +2,11 @@
 ghost use Rattle.std.specs.Prelude.{◌≡◌, [], ◌∷◌, ◌++◌, length, IfOk, OnOk, OnErr};
 ghost use Rattle.std.specs.Option.{option_copied};
 ghost use Rattle.syntect_grammar.specs.Contexts.{context_at};
-ghost use Rattle.syntect_grammar.specs.Link.{definitions_in, paths_in, syntaxes_in, set_paths, set_of, with_paths, linked};
+ghost use Rattle.syntect_grammar.specs.Link.{definitions_in, paths_in, syntaxes_in, set_paths, linked};
 
 use crate::heads::link_definitions;
 use crate::syntax_definition::{Context, ContextId, HoldsContexts, SyntaxDefinition};
+use crate::syntaxes::Syntaxes;
 use std::alloc::{AllocError, AllocFailed, Global};
 pub use syntect_contexts::syntax_reference::SyntaxReference;
 use syntect_scope::repository::ScopeRepository;
@@ -15,7 +16,7 @@ use syntect_values::text::Text;
 /// Syntaxes whose contexts are linked.
 #[derive(Clone, Drop)]
 pub struct SyntaxSet {
-    syntaxes: Seq<SyntaxReference>,
+    syntaxes: Syntaxes,
     /// The paths of files that were loaded, each with the place of its syntax.
     path_syntaxes: Seq<(Text, usize)>,
 }
@@ -31,17 +32,19 @@ pub struct SyntaxSetBuilder {
 impl SyntaxSet {
     /// A set of no syntaxes. Takes no memory.
     pub fn new(alloc: Global) -> SyntaxSet
-        ensures { result ≡ set_of [] }
+        ensures syntaxes { syntaxes_in result ≡ [] }
+        ensures paths { set_paths result ≡ [] }
     {
         SyntaxSet {
-            syntaxes: Seq::new(alloc),
+            syntaxes: Syntaxes::new(alloc),
             path_syntaxes: Seq::new(alloc),
         }
     }
 
     /// The same. Takes no memory.
     pub fn default(alloc: Global) -> SyntaxSet
-        ensures { result ≡ set_of [] }
+        ensures syntaxes { syntaxes_in result ≡ [] }
+        ensures paths { set_paths result ≡ [] }
     {
         SyntaxSet::new(alloc)
     }
@@ -74,15 +77,14 @@ impl SyntaxSet {
             syntaxes,
             path_syntaxes,
         } = self;
-        (syntaxes, path_syntaxes)
+        (syntaxes.into_seq(), path_syntaxes)
     }
 
     /// The context of a number, if the set has it.
     pub fn context_at(&self, id: ContextId) -> Option<&Context>
         ensures { option_copied result ≡ context_at self.now id }
     {
-        let syntax = self.syntaxes.get(id.syntax_index)?;
-        syntax.contexts.get(id.context_index)
+        self.syntaxes.context_at(id)
     }
 }
 
@@ -185,7 +187,8 @@ impl SyntaxSetBuilder {
         alloc: Global,
         scope_repo: &mut ScopeRepository,
     ) -> Result<SyntaxSet, AllocError>
-        ensures linked { IfOk result (λ set. set ≡ with_paths (paths_in self) (linked (definitions_in self))) }
+        ensures linked { IfOk result (λ set. syntaxes_in set ≡ linked (definitions_in self)) }
+        ensures paths { IfOk result (λ set. set_paths set ≡ paths_in self) }
         ensures repository { scope_repo.new ≡ scope_repo.old }
     {
         let _ = scope_repo;
@@ -194,7 +197,7 @@ impl SyntaxSetBuilder {
             path_syntaxes,
         } = self;
         Ok(SyntaxSet {
-            syntaxes: link_definitions(alloc, syntaxes)?,
+            syntaxes: Syntaxes::from_linked(link_definitions(alloc, syntaxes)?),
             path_syntaxes,
         })
     }

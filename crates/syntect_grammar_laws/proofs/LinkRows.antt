@@ -4,7 +4,7 @@ use Rattle.std.specs.Prelude.{codes}
 use Rattle.std.specs.List.{flat_map}
 use Rattle.syntect_grammar.specs.Link.{heads_from}
 use Rattle.syntect_linker.specs.References.{linked_reference}
-use Rattle.syntect_grammar.specs.Link.{linked, syntaxes_in}
+use Rattle.syntect_grammar.specs.Link.{linked}
 use Rattle.syntect_contexts.specs.declared.context.ContextId.{ContextId}
 use Rattle.syntect_contexts.specs.declared.context.ContextReference.{ContextReference}
 use Rattle.syntect_contexts.specs.declared.context.ContextReference.TheVariants.{Named, Inline, ByScope, File, Direct}
@@ -33,7 +33,7 @@ abbrev id : ℕ → ℕ → ContextId
 id i j = record { syntax_index = i; context_index = j }
 
 abbrev contexts_in : List SyntaxDefinition → List Context
-contexts_in ds = flat_map (λ s. s.contexts) (syntaxes_in (linked ds))
+contexts_in ds = flat_map (λ s. s.contexts) (linked ds)
 
 -- ---- prototypes ----
 

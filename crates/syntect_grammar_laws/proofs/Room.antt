@@ -3,7 +3,7 @@ use Rattle.std.proofs.Common.{◌≡◌, ℕ, zero, suc, ◌+◌, ◌≤◌, ◌
 use Rattle.std.specs.List.{list_any}
 use Rattle.syntect_contexts.specs.Contexts.{is_same, target}
 use Rattle.syntect_grammar.specs.Contexts.{context_at, contexts_of}
-use Rattle.syntect_grammar.specs.Patterns.{entries, included, walk_patterns, walk, room_in, GivesNothing, unresolved, lacking, around, Walks, ended, own, passed_over, followed}
+use Rattle.syntect_grammar.specs.Patterns.{patterns_of, RoomIsNotFeltAt, entries, included, walk_patterns, walk, room_in, GivesNothing, unresolved, lacking, around, Walks, ended, own, passed_over, followed}
 use Rattle.syntect_grammar.specs.Patterns.{RoomIsNotFelt}
 use Rattle.syntect_contexts.specs.declared.context.ContextId.{ContextId}
 use Rattle.syntect_contexts.specs.declared.context.ContextReference.{ContextReference}
@@ -153,3 +153,8 @@ pub room_is_not_felt : RoomIsNotFelt
 room_is_not_felt set ps =
     let l : count (is_free []) (numbers_from 0 (contexts_of set)) < room_in set = omega (arith, count_le_length (is_free []) (numbers_from 0 (contexts_of set)), length_from 0 (contexts_of set)) in
     (walks (room_in set) set [] l ps, λ ms w. walked set [] ps ms w (room_in set) l)
+
+pub room_is_not_felt_at : RoomIsNotFeltAt
+room_is_not_felt_at set id =
+    let l : count (is_free (id ∷ [])) (numbers_from 0 (contexts_of set)) < room_in set = omega (arith, count_le_length (is_free (id ∷ [])) (numbers_from 0 (contexts_of set)), length_from 0 (contexts_of set)) in
+    (walks (room_in set) set (id ∷ []) l (entries set id), λ ms w. walked set (id ∷ []) (entries set id) ms w (room_in set) l)

@@ -1,12 +1,13 @@
 //! Laws of sets and of what they are linked from.
-ghost use Rattle.syntect_grammar.specs.Patterns.{RoomIsNotFelt};
+ghost use Rattle.syntect_grammar.specs.Patterns.{RoomIsNotFelt, RoomIsNotFeltAt};
 ghost use Rattle.syntect_grammar.specs.Places.{PlacesArePatterns};
 ghost use Rattle.syntect_grammar.specs.PlainText.{PlainTextIsPlain};
 ghost use Rattle.syntect_linker.specs.Reached.{PrototypesReach, MarksReach};
 
 /// The room for includes is never felt.
 pub fn room_is_not_felt()
-    ensures { RoomIsNotFelt }
+    ensures alone { RoomIsNotFelt }
+    ensures held { RoomIsNotFeltAt }
 {}
 
 /// As many steps as there are contexts reach from a prototype what any number of steps reach.

@@ -9,13 +9,13 @@ use Rattle.syntect_scope.specs.declared.stack.ScopeStackOp.{ScopeStackOp}
 use Rattle.syntect_scope.specs.declared.stack.ScopeStackOp.TheVariants.{Pop}
 use Rattle.syntect_scope.specs.Stack.{applied, plain}
 use Rattle.syntect_scope.specs.declared.stack.ScopeStack.{ScopeStack}
-use Rattle.syntect_scope.specs.Replay.{Replay, IsAt, InOrder, AllApply, replay, replayed, pushes}
+use Rattle.syntect_scope.specs.Replay.{Replay, InOrder, AllApply, replay, replayed, pushes}
 use Rattle.syntect_pattern.specs.Nesting.{AreNested, is_before, is_after, is_around, is_inside}
 use Rattle.syntect_parsing.specs.Scopes.{Scopes, Capture, covers, is_longer, put, longer_first}
 use Rattle.syntect_parsing.specs.Operations.{captures_at, capture_operations}
 use Rattle.syntect_parsing.proofs.ListLaws.{tested_true}
 use Rattle.syntect_parsing.proofs.OrderLaws.{order-append, order-pushes, apply-onto, apply-pushes}
-use Rattle.syntect_parsing.proofs.ReplayLaws.{replay-append, at_op, at_pushes, at_move}
+use Rattle.syntect_parsing.proofs.ReplayLaws.{At, replay-append, at_op, at_pushes, at_move}
 
 -- ---- members of a list ----
 
@@ -156,14 +156,14 @@ take_less n (u ∷ us) ws l =
 length_left : (n : ℕ) (ws : Scopes) → n ≤ length ws → length (take (length ws - n) ws) ≡ length ws - n
 length_left n ws l = grind (arith, common_steps)
 
-at_pop_each : (r : Replay) (i : ℕ) (b : List Scopes) (cs : List Capture) (us ws : Scopes) → length ws ≡ length (scopes_of cs) → IsAt r i b (us ++ ws) → IsAt (replay (popped_each i cs) r) i b us
-at_pop_each r i b [] us [] e h = rw (append-nil us) at h
-at_pop_each r i b [] us (w ∷ ws) e h = absurd (omega (arith, e))
-at_pop_each r i b (c ∷ cs) us ws e h =
+at_pop_each : (mem : List (List (List ℕ))) (r : Replay) (i : ℕ) (b : List Scopes) (cs : List Capture) (us ws : Scopes) → length ws ≡ length (scopes_of cs) → At mem r i b (us ++ ws) → At mem (replay (popped_each i cs) r) i b us
+at_pop_each mem r i b [] us [] e h = rw (append-nil us) at h
+at_pop_each mem r i b [] us (w ∷ ws) e h = absurd (omega (arith, e))
+at_pop_each mem r i b (c ∷ cs) us ws e h =
     let l : length ws ≡ length c.scopes + length (scopes_of cs) = e ∙ length-append c.scopes (scopes_of cs) in
     let left = take (length ws - length c.scopes) ws in
-    at_pop_each (replayed r (i, Pop (length c.scopes))) i b cs us left (length_left (length c.scopes) ws (omega (arith, l)) ∙ omega (arith, l))
-    (at_op r i b (us ++ ws) (us ++ left) (Pop (length c.scopes)) (ap plain (take_less (length c.scopes) us ws (omega (arith, l)))) h)
+    at_pop_each mem (replayed r (i, Pop (length c.scopes))) i b cs us left (length_left (length c.scopes) ws (omega (arith, l)) ∙ omega (arith, l))
+    (at_op mem r i b (us ++ ws) (us ++ left) (Pop (length c.scopes)) (ap (λ (l : Scopes). record { clear_stack = mem; scopes = l }) (take_less (length c.scopes) us ws (omega (arith, l)))) h)
 
 -- which captures began before a place and don't end before it, and which of them end or begin there
 abbrev pub entered : ℕ → Capture → Bool
@@ -236,13 +236,13 @@ module _ (s e : ℕ) (cs : List Capture) (laid : AreLaidOut s e cs) where
       ∙ scopes_append (longer_first (filter (around i) cs)) (longer_first (filter (starts_at i) cs))
 
   -- at a place the captures that end there give way to those that begin there
-  at_place : (r : Replay) (i : ℕ) (b : List Scopes) (below : Scopes) → IsAt r i b (below ++ over (entered i) cs) → IsAt (replay (captures_at cs i) r) i b (below ++ over (covers i) cs)
-  at_place r i b below h =
-      let h1 : IsAt r i b ((below ++ over (around i) cs) ++ over (ends_at i) cs) =
+  at_place : (mem : List (List (List ℕ))) (r : Replay) (i : ℕ) (b : List Scopes) (below : Scopes) → At mem r i b (below ++ over (entered i) cs) → At mem (replay (captures_at cs i) r) i b (below ++ over (covers i) cs)
+  at_place mem r i b below h =
+      let h1 : At mem r i b ((below ++ over (around i) cs) ++ over (ends_at i) cs) =
       rw (append_assoc below (over (around i) cs) (over (ends_at i) cs)) (rw (entered_splits i) at h)
       in
-      let h2 = at_pop_each r i b (filter (ends_at i) cs) (below ++ over (around i) cs) (over (ends_at i) cs) (order_length (filter (ends_at i) cs)) h1 in
-      let h3 = at_pushes (replay (popped_each i (filter (ends_at i) cs)) r) i b (below ++ over (around i) cs) (over (starts_at i) cs) h2 in
+      let h2 = at_pop_each mem r i b (filter (ends_at i) cs) (below ++ over (around i) cs) (over (ends_at i) cs) (order_length (filter (ends_at i) cs)) h1 in
+      let h3 = at_pushes mem (replay (popped_each i (filter (ends_at i) cs)) r) i b (below ++ over (around i) cs) (over (starts_at i) cs) h2 in
       rw (replay-append (popped_each i (filter (ends_at i) cs)) (pushes i (over (starts_at i) cs)) r, covers_splits i, ← append_assoc below (over (around i) cs) (over (starts_at i) cs)) h3
 
   covers_next : (i : ℕ) → over (covers i) cs ≡ over (entered (i + 1)) cs
@@ -252,22 +252,22 @@ module _ (s e : ℕ) (cs : List Capture) (laid : AreLaidOut s e cs) where
       same c = grind (arith, nat_tests)
 
   -- from a place on over n bytes
-  walk : (n : ℕ) (r : Replay) (i : ℕ) (b : List Scopes) (below : Scopes) → IsAt r i b (below ++ over (entered i) cs)
-      → IsAt (replay (flat_map (captures_at cs) (range_with_len i (suc n))) r) (i + n) (b ++ map (λ k. below ++ over (covers k) cs) (range_with_len i n)) (below ++ over (covers (i + n)) cs)
-  walk zero r i b below h =
+  walk : (mem : List (List (List ℕ))) (n : ℕ) (r : Replay) (i : ℕ) (b : List Scopes) (below : Scopes) → At mem r i b (below ++ over (entered i) cs)
+      → At mem (replay (flat_map (captures_at cs) (range_with_len i (suc n))) r) (i + n) (b ++ map (λ k. below ++ over (covers k) cs) (range_with_len i n)) (below ++ over (covers (i + n)) cs)
+  walk mem zero r i b below h =
       let z : i + 0 ≡ i = omega arith in
-      rw (z, append-nil (captures_at cs i), append-nil b) (at_place r i b below h)
-  walk (suc n) r i b below h =
+      rw (z, append-nil (captures_at cs i), append-nil b) (at_place mem r i b below h)
+  walk mem (suc n) r i b below h =
       let z : i + suc n ≡ (i + 1) + n = omega arith in
       let one : (i + 1) - i ≡ 1 = omega arith in
-      let h1 = at_place r i b below h in
-      let h2 : IsAt (replay (captures_at cs i) r) (i + 1) (b ++ (below ++ over (covers i) cs) ∷ []) (below ++ over (covers i) cs) =
-      rw one at (at_move (replay (captures_at cs i) r) i (i + 1) b (below ++ over (covers i) cs) (omega arith) h1)
+      let h1 = at_place mem r i b below h in
+      let h2 : At mem (replay (captures_at cs i) r) (i + 1) (b ++ (below ++ over (covers i) cs) ∷ []) (below ++ over (covers i) cs) =
+      rw one at (at_move mem (replay (captures_at cs i) r) i (i + 1) b (below ++ over (covers i) cs) (omega arith) h1)
       in
-      let h3 : IsAt (replay (captures_at cs i) r) (i + 1) (b ++ (below ++ over (covers i) cs) ∷ []) (below ++ over (entered (i + 1)) cs) =
-      subst (λ (x : Scopes). IsAt (replay (captures_at cs i) r) (i + 1) (b ++ (below ++ over (covers i) cs) ∷ []) (below ++ x)) (covers_next i) h2
+      let h3 : At mem (replay (captures_at cs i) r) (i + 1) (b ++ (below ++ over (covers i) cs) ∷ []) (below ++ over (entered (i + 1)) cs) =
+      subst (λ (x : Scopes). At mem (replay (captures_at cs i) r) (i + 1) (b ++ (below ++ over (covers i) cs) ∷ []) (below ++ x)) (covers_next i) h2
       in
-      let h4 = walk n (replay (captures_at cs i) r) (i + 1) (b ++ (below ++ over (covers i) cs) ∷ []) below h3 in
+      let h4 = walk mem n (replay (captures_at cs i) r) (i + 1) (b ++ (below ++ over (covers i) cs) ∷ []) below h3 in
       rw (
         z,
         replay-append (captures_at cs i) (flat_map (captures_at cs) (range_with_len (i + 1) (suc n))) r,
@@ -287,13 +287,13 @@ module _ (s e : ℕ) (cs : List Capture) (laid : AreLaidOut s e cs) where
       no c l = grind (arith, nat_tests)
 
   -- from the start of the match to its end
-  pub captures_shown : (r : Replay) (b : List Scopes) (below : Scopes) → s ≤ e → IsAt r s b below
-      → IsAt (replay (capture_operations s e cs) r) e (b ++ map (λ k. below ++ over (covers k) cs) (range_with_len s (e - s))) below
-  captures_shown r b below l h =
+  pub captures_shown : (mem : List (List (List ℕ))) (r : Replay) (b : List Scopes) (below : Scopes) → s ≤ e → At mem r s b below
+      → At mem (replay (capture_operations s e cs) r) e (b ++ map (λ k. below ++ over (covers k) cs) (range_with_len s (e - s))) below
+  captures_shown mem r b below l h =
       let n : e - s + 1 ≡ suc (e - s) = omega arith in
       let z : s + (e - s) ≡ e = omega arith in
-      let h1 : IsAt r s b (below ++ over (entered s) cs) = rw (none_before, append-nil below) h in
-      let h2 = walk (e - s) r s b below h1 in
+      let h1 : At mem r s b (below ++ over (entered s) cs) = rw (none_before, append-nil below) h in
+      let h2 = walk mem (e - s) r s b below h1 in
       rw n (rw (z, none_after, append-nil below) at h2)
 
 -- ---- the order of the operations ----

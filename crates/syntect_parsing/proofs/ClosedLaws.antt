@@ -6,7 +6,7 @@ use Rattle.syntect_parsing.specs.Engine.{Engine}
 use Rattle.syntect_contexts.specs.Substitution.{Groups, Opening}
 use Rattle.syntect_grammar.specs.Contexts.{context_at}
 use Rattle.syntect_contexts.specs.Contexts.{target, is_same}
-use Rattle.syntect_parsing.specs.Chain.{Member, chain, entries, patterns_in, walk, walk_patterns, included, members, in_sight, room_in}
+use Rattle.syntect_parsing.specs.Chain.{Member, chain, entries, patterns_of, walk, walk_patterns, included, members, in_sight, room_in}
 use Rattle.syntect_parsing.specs.Turn.{Live, Take, Skip, End, live, live_match, matched, counted, counts, group_at, missing, named, searched_text, winner, choice_of, is_least, loops}
 use Rattle.syntect_parsing.specs.Refusals.{NamesKnown, IsClosed}
 use Rattle.syntect_parsing.proofs.EachLaws.{Each, each-append, each-flat_map, each-map, each_always, each-filter_map, each-find, find-each, each-find_none}
@@ -16,7 +16,7 @@ use Rattle.syntect_contexts.specs.declared.context.Pattern.{Pattern}
 use Rattle.syntect_contexts.specs.declared.context.Pattern.TheVariants.{Match, Include}
 use Rattle.syntect_contexts.specs.declared.context.Context.{Context}
 use Rattle.syntect_grammar.specs.declared.syntax_set.SyntaxSet.{SyntaxSet}
-use Rattle.syntect_parsing.specs.declared.parser.Level.{Level}
+use Rattle.syntect_parsing.specs.States.{Level}
 use Rattle.syntect_parsing.specs.declared.position.Position.{Position}
 use Rattle.syntect_contexts.specs.declared.error.ParsingError.TheVariants as error
 
@@ -66,17 +66,17 @@ module _ (P : MatchPattern → Type 0) where
   walk-each (suc room) set path ps h o =
       walk_patterns-each (λ id. walk room set (path ++ id ∷ []) (entries set id)) path ps (λ id. walk-each room set (path ++ id ∷ []) (entries set id) h (h id)) o
 
-  pub patterns-each : (set : SyntaxSet) (id : ContextId) → ((id : ContextId) → Own (entries set id)) → Each P (patterns_in set (entries set id))
-  patterns-each set id h = walk-each (room_in set) set [] (entries set id) h (h id)
+  pub patterns-each : (set : SyntaxSet) (id : ContextId) → ((id : ContextId) → Own (entries set id)) → Each P (patterns_of set id)
+  patterns-each set id h = walk-each (room_in set) set (id ∷ []) (entries set id) h (h id)
 
   abbrev pub OfMember : Member → Type 0
   OfMember m = P m.pattern
 
   -- as members of a chain
-  pub members-each : (set : SyntaxSet) (from : Bool) (opening : Option Opening) (id : ContextId) → Each P (patterns_in set (entries set id)) → Each OfMember (members set from opening id)
-  members-each set from opening id e = each-map OfMember (λ m. record { pattern = m; opening = opening; from_with_prototype = from }) (patterns_in set (entries set id)) e
+  pub members-each : (set : SyntaxSet) (from : Bool) (opening : Option Opening) (id : ContextId) → Each P (patterns_of set id) → Each OfMember (members set from opening id)
+  members-each set from opening id e = each-map OfMember (λ m. record { pattern = m; opening = opening; from_with_prototype = from }) (patterns_of set id) e
 
-  pub chain-each : (set : SyntaxSet) (p : Position) (top : Level) (c : Context) → ((id : ContextId) → Each P (patterns_in set (entries set id))) → Each OfMember (chain set p top c)
+  pub chain-each : (set : SyntaxSet) (p : Position) (top : Level) (c : Context) → ((id : ContextId) → Each P (patterns_of set id)) → Each OfMember (chain set p top c)
   chain-each set p top c h =
       each-append OfMember _ (members set false top.opening top.context)
       (each-append OfMember (flat_map (λ l. flat_map (members set true l.opening) l.prototypes) (in_sight p)) (flat_map (members set false None) (option_to_list c.prototype))
@@ -130,5 +130,5 @@ entries_known : (set : SyntaxSet) (id : ContextId) (o : Option Context) → cont
 entries_known set id None e h = rw e tt
 entries_known set id (Some c) e h = rw e (own_known set c.patterns (h.names id c e))
 
-pub closed_patterns : (set : SyntaxSet) → IsClosed set → (id : ContextId) → Each (Knows set) (patterns_in set (entries set id))
+pub closed_patterns : (set : SyntaxSet) → IsClosed set → (id : ContextId) → Each (Knows set) (patterns_of set id)
 closed_patterns set h id = patterns-each (Knows set) set id (λ id. entries_known set id (context_at set id) refl h)

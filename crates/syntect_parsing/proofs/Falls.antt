@@ -12,7 +12,7 @@ use Rattle.syntect_parsing.specs.Engine.{Engine}
 use Rattle.syntect_contexts.specs.Substitution.{Groups, Opening}
 use Rattle.syntect_contexts.specs.Contexts.{is_same, target}
 use Rattle.syntect_grammar.specs.Contexts.{context_at, contexts_of}
-use Rattle.syntect_parsing.specs.Chain.{Member, last, entries, included, walk_patterns, walk, room_in, patterns_in, members, chain, in_sight, prototypes_in}
+use Rattle.syntect_parsing.specs.Chain.{Member, last, entries, included, walk_patterns, walk, room_in, patterns_of, members, chain, in_sight, prototypes_in}
 use Rattle.syntect_parsing.specs.Turn.{Live, Choice, Take, Skip, End, counts, counted, matched, live, live_match, searched_text, group_at, choice_of, winner, is_least, loops, turns_back, char_len, list_of, missing, refusal, new_levels, without_last, opened, levels_by, levels_after, idle_by, position_after, trimmed}
 use Rattle.syntect_parsing.specs.Scopes.{Scopes, scopes_passed}
 use Rattle.syntect_parsing.specs.Line.{Step, Goes, Ends, Refused, turn, turn_on, turn_in, step, unless_refused}
@@ -27,7 +27,7 @@ use Rattle.syntect_contexts.specs.declared.context.Pattern.{Pattern}
 use Rattle.syntect_contexts.specs.declared.context.Pattern.TheVariants.{Match, Include}
 use Rattle.syntect_contexts.specs.declared.context.Context.{Context}
 use Rattle.syntect_grammar.specs.declared.syntax_set.SyntaxSet.{SyntaxSet}
-use Rattle.syntect_parsing.specs.declared.parser.Level.{Level}
+use Rattle.syntect_parsing.specs.States.{Level}
 use Rattle.syntect_parsing.specs.declared.position.Position.{Position}
 use Rattle.syntect_contexts.specs.declared.error.ParsingError.{ParsingError}
 
@@ -107,7 +107,7 @@ of_patterns r from opening [] no_more = no_more
 of_patterns r from opening (m ∷ ms) (and_more h k) = and_more h (of_patterns r from opening ms k)
 
 members_up_to : (set : SyntaxSet) (from : Bool) (opening : Option Opening) (id : ContextId) → Each (IsMemberUpTo (longest (contexts_of set))) (members set from opening id)
-members_up_to set from opening id = of_patterns (longest (contexts_of set)) from opening (patterns_in set (entries set id)) (walk_up_to set (room_in set) [] (entries set id) (entries_up_to set id))
+members_up_to set from opening id = of_patterns (longest (contexts_of set)) from opening (patterns_of set id) (walk_up_to set (room_in set) (id ∷ []) (entries set id) (entries_up_to set id))
 
 chain_up_to : (set : SyntaxSet) (p : Position) (top : Level) (c : Context) → Each (IsMemberUpTo (longest (contexts_of set))) (chain set p top c)
 chain_up_to set p top c =

@@ -23,4 +23,5 @@ pub mod EachLaws
 pub mod ClosedLaws
 pub mod RefusalLaws
 pub mod StandingLaws
+pub mod StateLaws
 pub mod LinkedLaws

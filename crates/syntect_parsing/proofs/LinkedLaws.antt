@@ -9,7 +9,7 @@ use Rattle.std.proofs.lemmas.List.Quantifiers.{position-Some}
 use Rattle.syntect_grammar.specs.Contexts.{context_at, contexts_of}
 use Rattle.syntect_contexts.specs.Contexts.{target}
 use Rattle.syntect_parsing.specs.Turn.{named, list_of}
-use Rattle.syntect_grammar.specs.Link.{with_paths, linked, linked_from, linked_definition}
+use Rattle.syntect_grammar.specs.Link.{syntaxes_in, linked, linked_from, linked_definition}
 use Rattle.syntect_linker.specs.LinkedContexts.{linked_contexts, linked_context, linked_pattern, linked_operation}
 use Rattle.syntect_grammar.specs.Link.{names_of, head_of, heads_from, body_of}
 use Rattle.syntect_contexts.specs.Contexts.{named_in}
@@ -80,23 +80,24 @@ entry_at (x ∷ entries) (suc k) entry h e = entry_at entries k entry h.2 e
 
 -- ---- contexts of the set ----
 
-module _ (ds : List SyntaxDefinition) where
+module _ (set : SyntaxSet) (ds : List SyntaxDefinition) (built : syntaxes_in set ≡ linked ds) where
   abbrev heads : List SyntaxReference
   heads = heads_from 0 ds
 
   abbrev bodies : List (List Context)
   bodies = map body_of ds
 
-  contexts_at : (i : ℕ) → slice_get (contexts_of (linked ds)) i ≡ option_map (λ (d : SyntaxDefinition). linked_contexts heads bodies i 0 (body_of d)) (slice_get ds i)
+  contexts_at : (i : ℕ) → slice_get (contexts_of set) i ≡ option_map (λ (d : SyntaxDefinition). linked_contexts heads bodies i 0 (body_of d)) (slice_get ds i)
   contexts_at i =
       let z : 0 + i ≡ i = omega arith in
       let h : slice_get (linked_from heads bodies 0 ds) i ≡ option_map (linked_definition heads bodies (0 + i)) (slice_get ds i) = linked_at heads bodies 0 ds i in
       let g : slice_get (linked_from heads bodies 0 ds) i ≡ option_map (linked_definition heads bodies i) (slice_get ds i) = rw z at h in
-      slice_get-map (λ (s : SyntaxReference). s.contexts) (linked_from heads bodies 0 ds) i ∙ ap (option_map (λ (s : SyntaxReference). s.contexts)) g
+      slice_get-map (λ (s : SyntaxReference). s.contexts) (syntaxes_in set) i ∙ ap (λ (l : List SyntaxReference). option_map (λ (s : SyntaxReference). s.contexts) (slice_get l i)) built
+      ∙ ap (option_map (λ (s : SyntaxReference). s.contexts)) g
       ∙ map_twice (λ (s : SyntaxReference). s.contexts) (linked_definition heads bodies i) (slice_get ds i)
 
   there : (i j : ℕ) (d : SyntaxDefinition) → slice_get ds i ≡ Some d
-      → context_at (linked ds) (number i j) ≡ option_map (λ (entry : List ℕ × Context). linked_context heads bodies (number i j) entry.1) (slice_get d.contexts j)
+      → context_at set (number i j) ≡ option_map (λ (entry : List ℕ × Context). linked_context heads bodies (number i j) entry.1) (slice_get d.contexts j)
   there i j d e =
       let y : 0 + j ≡ j = omega arith in
       let r : slice_get (linked_contexts heads bodies i 0 (body_of d)) j ≡ option_map (linked_context heads bodies (number i (0 + j))) (slice_get (body_of d) j) = in_row heads bodies i 0 (body_of d) j in
@@ -113,9 +114,9 @@ module _ (ds : List SyntaxDefinition) where
     pub among : slice_get definition.contexts id.context_index ≡ Some entry
     pub is : linked_context heads bodies id entry.1 ≡ c
 
-  is_of : (id : ContextId) (c : Context) (o : Option SyntaxDefinition) → slice_get ds id.syntax_index ≡ o → context_at (linked ds) id ≡ Some c → IsOf id c
+  is_of : (id : ContextId) (c : Context) (o : Option SyntaxDefinition) → slice_get ds id.syntax_index ≡ o → context_at set id ≡ Some c → IsOf id c
   is_of id c None e f =
-      let k : context_at (linked ds) id ≡ None = ap (option_and_then (λ (cs : List Context). slice_get cs id.context_index)) (contexts_at id.syntax_index ∙ ap (option_map (λ (d : SyntaxDefinition). linked_contexts heads bodies id.syntax_index 0 (body_of d))) e) in
+      let k : context_at set id ≡ None = ap (option_and_then (λ (cs : List Context). slice_get cs id.context_index)) (contexts_at id.syntax_index ∙ ap (option_map (λ (d : SyntaxDefinition). linked_contexts heads bodies id.syntax_index 0 (body_of d))) e) in
       let h : None ≡ Some c = sym k ∙ f in
       cc
   is_of id c (Some d) e f = by (slice_get d.contexts id.context_index) refl
@@ -139,7 +140,7 @@ some_there : {A : Type 0} (o : Option A) (x : A) → o ≡ Some x → is_none o 
 some_there None x e = cc
 some_there (Some y) x e = refl
 
-module _ (ds : List SyntaxDefinition) where
+module _ (set : SyntaxSet) (ds : List SyntaxDefinition) (built : syntaxes_in set ≡ linked ds) where
   abbrev set_heads : List SyntaxReference
   set_heads = heads_from 0 ds
 
@@ -147,23 +148,23 @@ module _ (ds : List SyntaxDefinition) where
   set_bodies = map body_of ds
 
   has_position : (i : ℕ) (d : SyntaxDefinition) → slice_get ds i ≡ Some d → (name : List ℕ) (o : Option ℕ) → position (pointwise ◌==◌ name) (names_of d.contexts) ≡ o
-      → (id : ContextId) → option_map (λ k. record { syntax_index = i; context_index = k }) o ≡ Some id → Has (linked ds) id
+      → (id : ContextId) → option_map (λ k. record { syntax_index = i; context_index = k }) o ≡ Some id → Has set id
   has_position i d at name None e id f = cc
   has_position i d at name (Some k) e id f =
       let n : (k < length (names_of d.contexts)) × (pointwise ◌==◌ name (get_or (names_of d.contexts) k []) ≡ true) × ((j : ℕ) → j < k → pointwise ◌==◌ name (get_or (names_of d.contexts) j []) ≡ false)
       = position-Some (pointwise ◌==◌ name) (names_of d.contexts) k [] e in
       let x : (entry : List ℕ × Context) × (slice_get d.contexts k ≡ Some entry) = entry_there d.contexts k n.0 in
       let s : record { syntax_index = i; context_index = k } ≡ id = cc in
-      rw (← s) (some_there (context_at (linked ds) (number i k)) (linked_context set_heads set_bodies (number i k) x.0.1)
-      (there ds i k d at ∙ ap (option_map (λ (entry : List ℕ × Context). linked_context set_heads set_bodies (number i k) entry.1)) x.1))
+      rw (← s) (some_there (context_at set (number i k)) (linked_context set_heads set_bodies (number i k) x.0.1)
+      (there set ds built i k d at ∙ ap (option_map (λ (entry : List ℕ × Context). linked_context set_heads set_bodies (number i k) entry.1)) x.1))
 
-  has_context : (i : ℕ) (name : List ℕ) (id : ContextId) → context_named set_heads i name ≡ Some id → Has (linked ds) id
+  has_context : (i : ℕ) (name : List ℕ) (id : ContextId) → context_named set_heads i name ≡ Some id → Has set id
   has_context i name id e = by (slice_get ds i) refl
     where
       head : slice_get set_heads i ≡ option_map (head_of (0 + i)) (slice_get ds i)
       head = head_at 0 ds i
 
-      by : (o : Option SyntaxDefinition) → slice_get ds i ≡ o → Has (linked ds) id
+      by : (o : Option SyntaxDefinition) → slice_get ds i ≡ o → Has set id
       by None g =
           let k : context_named set_heads i name ≡ None = ap (option_and_then (λ (s : SyntaxReference). named_in i s.names name)) (head ∙ ap (option_map (head_of (0 + i))) g) in
           let h : None ≡ Some id = sym k ∙ e in
@@ -172,19 +173,19 @@ module _ (ds : List SyntaxDefinition) where
           let k : context_named set_heads i name ≡ named_in i (names_of d.contexts) name = ap (option_and_then (λ (s : SyntaxReference). named_in i s.names name)) (head ∙ ap (option_map (head_of (0 + i))) g) in
           has_position i d g name (position (pointwise ◌==◌ name) (names_of d.contexts)) refl id (sym k ∙ e)
 
-  has_by : (test : SyntaxReference → Bool) (sub : Option (List ℕ)) (id : ContextId) → context_by test set_heads sub ≡ Some id → Has (linked ds) id
+  has_by : (test : SyntaxReference → Bool) (sub : Option (List ℕ)) (id : ContextId) → context_by test set_heads sub ≡ Some id → Has set id
   has_by test sub id e = by (last_that test set_heads) e
     where
-      by : (o : Option ℕ) → option_and_then (λ index. context_named set_heads index (unwrap_or sub (codes "main"))) o ≡ Some id → Has (linked ds) id
+      by : (o : Option ℕ) → option_and_then (λ index. context_named set_heads index (unwrap_or sub (codes "main"))) o ≡ Some id → Has set id
       by None f = cc
       by (Some k) f = has_context k (unwrap_or sub (codes "main")) id f
 
-  has_or_plain : (escape : Bool) (o : Option ContextId) → ((id : ContextId) → o ≡ Some id → Has (linked ds) id) → (id : ContextId) → or_plain_text set_heads escape o ≡ Some id → Has (linked ds) id
+  has_or_plain : (escape : Bool) (o : Option ContextId) → ((id : ContextId) → o ≡ Some id → Has set id) → (id : ContextId) → or_plain_text set_heads escape o ≡ Some id → Has set id
   has_or_plain escape (Some x) h id e = h id e
   has_or_plain true None h id e = has_by (has_name (codes "Plain Text")) None id e
   has_or_plain false None h id e = cc
 
-  has_link : (i : ℕ) (r : ContextReference) → is_direct r ≡ false → (id : ContextId) → link_of set_heads i r ≡ Some id → Has (linked ds) id
+  has_link : (i : ℕ) (r : ContextReference) → is_direct r ≡ false → (id : ContextId) → link_of set_heads i r ≡ Some id → Has set id
   has_link i (ref.Named name) e id f = has_context i (meant name) id f
   has_link i (ref.Inline name) e id f = has_context i (meant name) id f
   has_link i (ref.ByScope scope sub escape) e id f = has_or_plain escape (context_by (has_scope scope) set_heads sub) (has_by (has_scope scope) sub) id f
@@ -193,7 +194,7 @@ module _ (ds : List SyntaxDefinition) where
 
   abbrev HasTarget : Option ContextId → Type 0
   HasTarget None = Unit {0}
-  HasTarget (Some id) = Has (linked ds) id
+  HasTarget (Some id) = Has set id
 
   unlinked : (r : ContextReference) → is_direct r ≡ false → target r ≡ None
   unlinked (ref.Named name) e = refl
@@ -205,11 +206,11 @@ module _ (ds : List SyntaxDefinition) where
   reference_target : (i : ℕ) (r : ContextReference) → is_direct r ≡ false → HasTarget (target (linked_reference set_heads i r))
   reference_target i r e = by (link_of set_heads i r) (has_link i r e)
     where
-      by : (o : Option ContextId) → ((id : ContextId) → o ≡ Some id → Has (linked ds) id) → HasTarget (target (unwrap_or (option_map ref.Direct o) r))
+      by : (o : Option ContextId) → ((id : ContextId) → o ≡ Some id → Has set id) → HasTarget (target (unwrap_or (option_map ref.Direct o) r))
       by None h = rw (unlinked r e) tt
       by (Some id) h = h id refl
 
-  targets-cons : (o : Option ContextId) (ids : List ContextId) → HasTarget o → Each (Has (linked ds)) ids → Each (Has (linked ds)) (cons_option o ids)
+  targets-cons : (o : Option ContextId) (ids : List ContextId) → HasTarget o → Each (Has set) ids → Each (Has set) (cons_option o ids)
   targets-cons None ids h e = e
   targets-cons (Some id) ids h e = (h, e)
 
@@ -218,7 +219,7 @@ module _ (ds : List SyntaxDefinition) where
   neither false b e = (refl, e)
 
   module _ (i : ℕ) where
-    targets : (refs : List ContextReference) → list_any is_direct refs ≡ false → Each (Has (linked ds)) (filter_map target (map (linked_reference set_heads i) refs))
+    targets : (refs : List ContextReference) → list_any is_direct refs ≡ false → Each (Has set) (filter_map target (map (linked_reference set_heads i) refs))
     targets [] e = tt
     targets (r ∷ refs) e =
         let k : (is_direct r ≡ false) × (list_any is_direct refs ≡ false) = neither (is_direct r) (list_any is_direct refs) e in
@@ -238,48 +239,34 @@ module _ (ds : List SyntaxDefinition) where
     named_linked op.Pop w = refl
     named_linked op.None w = refl
 
-    patterns_known : (ps : List Pattern) → NamesNoNumber ps → NamesKnown (linked ds) (map (linked_pattern set_heads i) ps)
+    patterns_known : (ps : List Pattern) → NamesNoNumber ps → NamesKnown set (map (linked_pattern set_heads i) ps)
     patterns_known [] h = tt
     patterns_known (Match m ∷ ps) h =
-        (misses_none (linked ds) _ (rw (named_linked m.operation m.with_prototype) (targets (named m) h.0)), patterns_known ps h.1)
+        (misses_none set _ (rw (named_linked m.operation m.with_prototype) (targets (named m) h.0)), patterns_known ps h.1)
     patterns_known (Include r ∷ ps) h = patterns_known ps h
 
   -- the prototype that a context is given is in the set
-  prototype_there : (id : ContextId) (c : Context) → c.prototype ≡ None → Each (Has (linked ds)) (option_to_list (prototype_for set_heads set_bodies id c))
+  prototype_there : (id : ContextId) (c : Context) → c.prototype ≡ None → Each (Has set) (option_to_list (prototype_for set_heads set_bodies id c))
   prototype_there id c e =
       rw e (by c.meta_include_prototype (context_named set_heads id.syntax_index (codes "prototype")) (has_context id.syntax_index (codes "prototype")))
     where
-      unless : (p : ContextId) (b : Bool) → Has (linked ds) p → Each (Has (linked ds)) (option_to_list (if b then None else Some p))
+      unless : (p : ContextId) (b : Bool) → Has set p → Each (Has set) (option_to_list (if b then None else Some p))
       unless p true h = tt
       unless p false h = (h, tt)
 
-      by : (b : Bool) (o : Option ContextId) → ((p : ContextId) → o ≡ Some p → Has (linked ds) p) → Each (Has (linked ds)) (option_to_list (if b then unless_reached set_heads set_bodies id o else None))
+      by : (b : Bool) (o : Option ContextId) → ((p : ContextId) → o ≡ Some p → Has set p) → Each (Has set) (option_to_list (if b then unless_reached set_heads set_bodies id o else None))
       by false o h = tt
       by true None h = tt
       by true (Some p) h = unless p (is_reached set_heads set_bodies p id) (h p refl)
 
-closed_set : (ds : List SyntaxDefinition) → AreByName ds → IsClosed (linked ds)
-closed_set ds h = record {
-  names = λ id c e.
-      let o : IsOf ds id c = is_of ds id c (slice_get ds id.syntax_index) refl e in
-      let x : OfEntry o.entry.1 = entry_at o.definition.contexts id.context_index o.entry (by_name_at ds id.syntax_index o.definition h o.at) o.among in
-      rw (← o.is) (patterns_known ds id.syntax_index o.entry.1.patterns x.1);
-  prototypes = λ id c e.
-      let o : IsOf ds id c = is_of ds id c (slice_get ds id.syntax_index) refl e in
-      let x : OfEntry o.entry.1 = entry_at o.definition.contexts id.context_index o.entry (by_name_at ds id.syntax_index o.definition h o.at) o.among in
-      rw (← o.is) (misses_none (linked ds) _ (prototype_there ds id o.entry.1 x.0));
-}
-
--- the paths of files don't count
-still_known : (paths : List (List ℕ × ℕ)) (set : SyntaxSet) (ps : List Pattern) → NamesKnown set ps → NamesKnown (with_paths paths set) ps
-still_known paths set [] h = h
-still_known paths set (Match m ∷ ps) h = (h.0, still_known paths set ps h.1)
-still_known paths set (Include r ∷ ps) h = still_known paths set ps h
-
 pub links_closed : LinksClosed
-links_closed paths ds h =
-    let closed : IsClosed (linked ds) = closed_set ds h in
-    record {
-      names = λ id c e. still_known paths (linked ds) c.patterns (closed.names id c e);
-      prototypes = λ id c e. closed.prototypes id c e;
-    }
+links_closed set ds built h = record {
+  names = λ id c e.
+      let o : IsOf set ds built id c = is_of set ds built id c (slice_get ds id.syntax_index) refl e in
+      let x : OfEntry o.entry.1 = entry_at o.definition.contexts id.context_index o.entry (by_name_at ds id.syntax_index o.definition h o.at) o.among in
+      rw (← o.is) (patterns_known set ds built id.syntax_index o.entry.1.patterns x.1);
+  prototypes = λ id c e.
+      let o : IsOf set ds built id c = is_of set ds built id c (slice_get ds id.syntax_index) refl e in
+      let x : OfEntry o.entry.1 = entry_at o.definition.contexts id.context_index o.entry (by_name_at ds id.syntax_index o.definition h o.at) o.among in
+      rw (← o.is) (misses_none set _ (prototype_there set ds built id o.entry.1 x.0));
+}

@@ -1,18 +1,18 @@
 -- The stack before each line is the open scopes.
-use Rattle.std.proofs.Common.{◌≡◌, ℕ, false, List, Option, Some, None, refl}
+use Rattle.std.proofs.Common.{◌≡◌, ℕ, false, List, Option, Some, None, refl, ap}
 use Rattle.std.proofs.lemmas.List.{append-nil}
 use Rattle.syntect_grammar.specs.Contexts.{context_at}
 use Rattle.syntect_parsing.specs.Chain.{last, chain, prototypes_in}
 use Rattle.syntect_parsing.specs.Engine.{Engine}
 use Rattle.syntect_parsing.specs.declared.position.Position.{Position}
 use Rattle.syntect_parsing.specs.Turn.{Choice, Take, Skip, End, live, winner, missing, refusal, position_after, trimmed}
-use Rattle.syntect_parsing.specs.Scopes.{Scopes, open_scopes, scopes_passed}
+use Rattle.syntect_parsing.specs.Scopes.{Scopes, scopes_passed}
+use Rattle.syntect_parsing.specs.Stacks.{stack_of}
 use Rattle.syntect_parsing.specs.Line.{Step, Goes, Ends, Refused, turn, turn_on, turn_in, step, unless_refused, Reads, ends, goes, at_start, Answer, Answers, accepts, refuses, none, one_more, HasPlainStart}
 use Rattle.syntect_parsing.specs.Laws.{StackIsOpen}
 use Rattle.syntect_contexts.specs.declared.context.Context.{Context}
 use Rattle.syntect_grammar.specs.declared.syntax_set.SyntaxSet.{SyntaxSet}
-use Rattle.syntect_parsing.specs.declared.parser.Level.{Level}
-use Rattle.syntect_parsing.specs.declared.parser.ParseState.{ParseState}
+use Rattle.syntect_parsing.specs.States.{Level, Standing}
 use Rattle.syntect_contexts.specs.declared.error.ParsingError.{ParsingError}
 
 abbrev LeavesLater : Step → Type 0
@@ -44,14 +44,14 @@ module _ (engine : Engine) (set : SyntaxSet) (line : List ℕ) where
   unfolding turn
   turn_later p = turn_on_later (trimmed p) (last p.levels)
 
-  pub reads_later : (p : Position) (bytes : List Scopes) (after : ParseState) (n : ℕ) → Reads engine set line p bytes after n → after.first_line ≡ false
+  pub reads_later : (p : Position) (bytes : List Scopes) (after : Standing) (n : ℕ) → Reads engine set line p bytes after n → after.first_line ≡ false
   reads_later p bytes after n (ends e) = let k : LeavesLater (Ends bytes after) = rw e at (turn_later p) in k
   reads_later p bytes after n (goes {q = q} {rest = rest} {n = m} e r) = reads_later q rest after m r
 
-later_open : (set : SyntaxSet) (state : ParseState) → state.first_line ≡ false → HasPlainStart set state
-later_open set state e = rw e (append-nil (open_scopes set state.levels))
+later_open : (set : SyntaxSet) (state : Standing) → state.first_line ≡ false → HasPlainStart set state
+later_open set state e = rw e (ap (λ (l : Scopes). record { clear_stack = (stack_of set state.levels).clear_stack; scopes = l }) (append-nil (stack_of set state.levels).scopes))
 
-answer_open : (engine : Engine) (set : SyntaxSet) (line : List ℕ) (state after : ParseState) (answer : Answer)
+answer_open : (engine : Engine) (set : SyntaxSet) (line : List ℕ) (state after : Standing) (answer : Answer)
     → HasPlainStart set state → Answers engine set line state answer after → HasPlainStart set after
 answer_open engine set line state after answer h (accepts {bytes = bytes} {turns = n} r) = later_open set after (reads_later engine set line (at_start state) bytes after n r.reads)
 answer_open engine set line state after answer h (refuses r) = h

@@ -6,7 +6,7 @@ use Rattle.syntect_contexts.specs.Substitution.{Opening}
 use Rattle.syntect_parsing.specs.Engine.{Engine}
 use Rattle.syntect_grammar.specs.Contexts.{context_at, part_of}
 use Rattle.syntect_contexts.specs.Contexts.{target}
-use Rattle.syntect_parsing.specs.Chain.{Member, chain, entries, last, patterns_in, members, in_sight, prototypes_in}
+use Rattle.syntect_parsing.specs.Chain.{Member, chain, entries, last, patterns_of, members, in_sight, prototypes_in}
 use Rattle.syntect_parsing.specs.Turn.{Live, Choice, Take, Skip, End, live, missing, named, refusal, list_of, winner, trimmed, levels_after, levels_by, opened, new_levels, without_last, position_after}
 use Rattle.syntect_parsing.specs.Scopes.{Scopes, scopes_passed}
 use Rattle.syntect_parsing.specs.Line.{Step, Goes, Ends, Refused, turn, turn_on, turn_in, step, unless_refused, Reads, ends, goes, Refuses, now, later, Reaches, here, further, RefusesLine, no_level, in_turn, Answer, Answers, accepts, refuses, AnswersAll, none, one_more, at_start, start}
@@ -20,9 +20,8 @@ use Rattle.syntect_contexts.specs.declared.context.MatchOperation.TheVariants as
 use Rattle.syntect_contexts.specs.declared.context.MatchPattern.{MatchPattern}
 use Rattle.syntect_contexts.specs.declared.context.Context.{Context}
 use Rattle.syntect_grammar.specs.declared.syntax_set.SyntaxSet.{SyntaxSet}
-use Rattle.syntect_parsing.specs.declared.parser.Level.{Level}
+use Rattle.syntect_parsing.specs.States.{Level, Standing}
 use Rattle.syntect_parsing.specs.declared.position.Position.{Position}
-use Rattle.syntect_parsing.specs.declared.parser.ParseState.{ParseState}
 use Rattle.syntect_contexts.specs.declared.error.ParsingError.{ParsingError}
 use Rattle.syntect_contexts.specs.declared.error.ParsingError.TheVariants as error
 
@@ -152,16 +151,16 @@ bare_members set l ids e = rw e tt
 lone-chain : (set : SyntaxSet) (p : Position) (top : Level) (c : Context) → IsNeverLeft set top.context → context_at set top.context ≡ Some c → Each (λ (l : Level). l.prototypes ≡ []) p.levels → Each StaysMember (chain set p top c)
 lone-chain set p top c n e b =
     let all : Each Stays (lone_patterns set top.context) = each-all (λ m. stays m.operation) (lone_patterns set top.context) n.stay in
-    let two : Each Stays (flat_map (λ q. patterns_in set (entries set q)) (part_of (λ c. option_to_list c.prototype) set top.context)) × Each Stays (patterns_in set (entries set top.context))
-    = each-left Stays (flat_map (λ q. patterns_in set (entries set q)) (part_of (λ c. option_to_list c.prototype) set top.context)) (patterns_in set (entries set top.context)) all in
-    let own : Each Stays (flat_map (λ q. patterns_in set (entries set q)) (option_to_list c.prototype)) = rw e at two.0 in
-    let each : Each (λ q. Each Stays (patterns_in set (entries set q))) (option_to_list c.prototype) = each-flat Stays (λ q. patterns_in set (entries set q)) (option_to_list c.prototype) own in
+    let two : Each Stays (flat_map (λ q. patterns_of set q) (part_of (λ c. option_to_list c.prototype) set top.context)) × Each Stays (patterns_of set top.context)
+    = each-left Stays (flat_map (λ q. patterns_of set q) (part_of (λ c. option_to_list c.prototype) set top.context)) (patterns_of set top.context) all in
+    let own : Each Stays (flat_map (λ q. patterns_of set q) (option_to_list c.prototype)) = rw e at two.0 in
+    let each : Each (λ q. Each Stays (patterns_of set q)) (option_to_list c.prototype) = each-flat Stays (λ q. patterns_of set q) (option_to_list c.prototype) own in
     each-append StaysMember _ (members set false top.opening top.context)
     (each-append StaysMember (flat_map (λ l. flat_map (members set true l.opening) l.prototypes) (in_sight p)) (flat_map (members set false None) (option_to_list c.prototype))
     (each-flat_map StaysMember (λ l. flat_map (members set true l.opening) l.prototypes) (in_sight p)
     (each_of (λ (l : Level). l.prototypes ≡ []) _ (in_sight p) (λ l k. bare_members set l l.prototypes k) (each-drop (λ (l : Level). l.prototypes ≡ []) (unwrap_or (last p.cuts) 0) p.levels b)))
     (each-flat_map StaysMember (members set false None) (option_to_list c.prototype)
-    (each_of (λ q. Each Stays (patterns_in set (entries set q))) _ (option_to_list c.prototype) (λ q k. members-each Stays set false None q k) each)))
+    (each_of (λ q. Each Stays (patterns_of set q)) _ (option_to_list c.prototype) (λ q k. members-each Stays set false None q k) each)))
     (members-each Stays set false top.opening top.context two.1)
 
 -- ---- a turn ----
@@ -249,7 +248,7 @@ module _ (engine : Engine) (set : SyntaxSet) (id : ContextId) (closed : IsClosed
       let k : Came q e = came q e i t h in
       (k.0, k.1, k.2, further f k.3, k.4, k.5, k.6)
 
-  pub read_so : (p : Position) (bytes : List Scopes) (after : ParseState) (n : ℕ) → Stands set id p.levels → Reads engine set line p bytes after n → Stands set id after.levels
+  pub read_so : (p : Position) (bytes : List Scopes) (after : Standing) (n : ℕ) → Stands set id p.levels → Reads engine set line p bytes after n → Stands set id after.levels
   read_so p bytes after n s (ends f) = rw f at (turned p s)
   read_so p bytes after n s (goes {q = q} {rest = rest} {n = i} f h) = let t : Stands set id q.levels = rw f at (turned p s) in read_so q rest after i t h
 
@@ -272,13 +271,13 @@ module _ (engine : Engine) (set : SyntaxSet) (id : ContextId) (closed : IsClosed
 some_levels : (set : SyntaxSet) (id : ContextId) (levels : List Level) → Stands set id levels → levels ≢ []
 some_levels set id levels s e = let k : s.first ∷ s.rest ≡ [] = sym s.are ∙ e in cc
 
-answered_so : (engine : Engine) (set : SyntaxSet) (id : ContextId) → IsClosed set → IsNeverLeft set id → (lines : List (List ℕ)) (state after : ParseState) (answers : List Answer)
+answered_so : (engine : Engine) (set : SyntaxSet) (id : ContextId) → IsClosed set → IsNeverLeft set id → (lines : List (List ℕ)) (state after : Standing) (answers : List Answer)
     → Stands set id state.levels → AnswersAll engine set lines state answers after → Stands set id after.levels
 answered_so engine set id c l lines state after answers s none = s
 answered_so engine set id c l lines state after answers s (one_more {line = line} {lines = rest} {next = next} {answer = answer} {answers = others} a r) =
     answered_so engine set id c l rest next after others (one state next answer line s a) r
   where
-    one : (state next : ParseState) (answer : Answer) (line : List ℕ) → Stands set id state.levels → Answers engine set line state answer next → Stands set id next.levels
+    one : (state next : Standing) (answer : Answer) (line : List ℕ) → Stands set id state.levels → Answers engine set line state answer next → Stands set id next.levels
     one state next answer line s (accepts {bytes = bytes} {turns = n} h) = read_so engine set id c l line (at_start state) bytes next n s h.reads
     one state next answer line s (refuses h) = s
 

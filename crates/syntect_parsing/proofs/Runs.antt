@@ -4,36 +4,35 @@ use Rattle.std.specs.Str.{IsUtf8, IsCharBoundary}
 use Rattle.std.proofs.lemmas.Str.{IsCharBoundary-start}
 use Rattle.std.proofs.lemmas.List.{append-nil}
 use Rattle.syntect_scope.specs.declared.stack.ScopeStackOp.{ScopeStackOp}
-use Rattle.syntect_scope.specs.Stack.{plain}
-use Rattle.syntect_scope.specs.Replay.{IsAt, InOrder, AllApply, before_text, replay, pushes}
+use Rattle.syntect_scope.specs.Replay.{InOrder, AllApply, before_text, replay, pushes}
 use Rattle.syntect_parsing.specs.Engine.{dialect}
-use Rattle.syntect_parsing.specs.Scopes.{Scopes, open_scopes}
+use Rattle.syntect_parsing.specs.Scopes.{Scopes}
+use Rattle.syntect_parsing.specs.Stacks.{IsAt, onto, stack_of}
 use Rattle.syntect_parsing.specs.Line.{turn, Reads, ends, goes, Refuses, now, later, in_turn, at_start, stack_before, first_push, HasPlainStart}
 use Rattle.syntect_parsing.specs.Meaning.{Accepts, MayRefuse}
 use Rattle.syntect_parsing.specs.Step.{MakesStep, EndsLine, RefusesTurn}
-use Rattle.syntect_parsing.proofs.ShowLaws.{at_same}
 use Rattle.syntect_parsing.proofs.OrderLaws.{order-append, order-pushes, apply-append, apply-pushes}
-use Rattle.syntect_parsing.proofs.ReplayLaws.{replay-append, at_pushes}
+use Rattle.syntect_parsing.proofs.ReplayLaws.{replay-append, at_onto}
 use Rattle.syntect_grammar.specs.declared.syntax_set.SyntaxSet.{SyntaxSet}
 use Rattle.syntect_parsing.specs.declared.position.Position.{Position}
-use Rattle.syntect_parsing.specs.declared.parser.ParseState.{ParseState}
+use Rattle.syntect_parsing.specs.States.{Standing}
 use Rattle.syntect_contexts.specs.declared.error.ParsingError.{ParsingError}
 use Rattle.syntect_contexts.specs.declared.error.ParsingError.TheVariants as error
 
 -- from the stack before the line these operations show these bytes, up to the position, and leave its open scopes
-pub record ReadSoFar (set : SyntaxSet) (line : List ℕ) (old : ParseState) (p : Position) (ops : List (ℕ × ScopeStackOp)) : Type 0 where
+pub record ReadSoFar (set : SyntaxSet) (line : List ℕ) (old : Standing) (p : Position) (ops : List (ℕ × ScopeStackOp)) : Type 0 where
   pub bytes : List Scopes
   pub few : p.idle ≤ 1000
   pub within : p.place ≤ length line
   pub boundary : IsCharBoundary line p.place
   pub order : InOrder line 0 ops p.place
   pub begins : (rest : List (ℕ × ScopeStackOp)) × (ops ≡ pushes 0 (first_push set old) ++ rest)
-  pub apply : HasPlainStart set old → AllApply (plain (stack_before set old)) ops
-  pub shown : HasPlainStart set old → IsAt (replay ops (before_text (plain (stack_before set old)))) p.place bytes (open_scopes set p.levels)
-  pub reads : (rest : List Scopes) (after : ParseState) (n : ℕ) → Reads dialect set line p rest after n → (m : ℕ) × Reads dialect set line (at_start old) (bytes ++ rest) after m
+  pub apply : HasPlainStart set old → AllApply (stack_before set old) ops
+  pub shown : HasPlainStart set old → IsAt (replay ops (before_text (stack_before set old))) p.place bytes (stack_of set p.levels)
+  pub reads : (rest : List Scopes) (after : Standing) (n : ℕ) → Reads dialect set line p rest after n → (m : ℕ) × Reads dialect set line (at_start old) (bytes ++ rest) after m
   pub refuses : (e : ParsingError) (n : ℕ) → Refuses dialect set line p e n → (m : ℕ) × Refuses dialect set line (at_start old) e m
 
-pub so_far-start : (set : SyntaxSet) (line : List ℕ) (state : ParseState) → IsUtf8 line → ReadSoFar set line state (at_start state) (pushes 0 (first_push set state))
+pub so_far-start : (set : SyntaxSet) (line : List ℕ) (state : Standing) → IsUtf8 line → ReadSoFar set line state (at_start state) (pushes 0 (first_push set state))
 so_far-start set line state u = record {
   bytes = [];
   few = omega arith;
@@ -41,13 +40,16 @@ so_far-start set line state u = record {
   boundary = IsCharBoundary-start line u;
   order = order-pushes line 0 (first_push set state) (IsCharBoundary-start line u);
   begins = ([], sym (append-nil (pushes 0 (first_push set state))));
-  apply = λ h. apply-pushes 0 (first_push set state) (plain (stack_before set state));
-  shown = λ h. at_same _ 0 [] (stack_before set state ++ first_push set state) (open_scopes set state.levels) h (at_pushes (before_text (plain (stack_before set state))) 0 [] (stack_before set state) (first_push set state) (record { before = refl; stack = refl; count = refl }));
+  apply = λ h. apply-pushes 0 (first_push set state) (stack_before set state);
+  shown = λ h.
+      let k : IsAt (replay (pushes 0 (first_push set state)) (before_text (stack_before set state))) 0 [] (onto (stack_before set state) (first_push set state))
+      = at_onto (before_text (stack_before set state)) 0 [] (stack_before set state) (first_push set state) (record { before = refl; stack = refl; count = refl }) in
+      rw h at k;
   reads = λ rest after n h. (n, h);
   refuses = λ e n h. (n, h);
 }
 
-pub so_far-more : {set : SyntaxSet} {line : List ℕ} {state : ParseState} {p q : Position} {old new : List (ℕ × ScopeStackOp)}
+pub so_far-more : {set : SyntaxSet} {line : List ℕ} {state : Standing} {p q : Position} {old new : List (ℕ × ScopeStackOp)}
     → ReadSoFar set line state p old → MakesStep set line (turn dialect set line p) p q old new → q.idle ≤ 1000 → ReadSoFar set line state q new
 so_far-more {set} {line} {state} {p} {q} {old} {new} s t few = record {
   bytes = s.bytes ++ t.bytes;
@@ -56,13 +58,13 @@ so_far-more {set} {line} {state} {p} {q} {old} {new} s t few = record {
   boundary = t.boundary;
   order = rw t.added (order-append line 0 p.place q.place old t.made s.order t.order);
   begins = (s.begins.0 ++ t.made, t.added ∙ ap (λ (l : List (ℕ × ScopeStackOp)). l ++ t.made) s.begins.1 ∙ append_assoc (pushes 0 (first_push set state)) s.begins.0 t.made);
-  apply = λ h. rw t.added (apply-append old t.made (before_text (plain (stack_before set state))) (s.apply h) (rw (s.shown h).stack t.apply));
-  shown = λ h. rw (t.added, replay-append old t.made) (t.shows (replay old (before_text (plain (stack_before set state)))) s.bytes (s.shown h));
+  apply = λ h. rw t.added (apply-append old t.made (before_text (stack_before set state)) (s.apply h) (rw (s.shown h).stack t.apply));
+  shown = λ h. rw (t.added, replay-append old t.made) (t.shows (replay old (before_text (stack_before set state))) s.bytes (s.shown h));
   reads = λ rest after n h. rw append_assoc (s.reads (t.bytes ++ rest) after (n + 1) (goes t.goes h));
   refuses = λ e n h. s.refuses e (n + 1) (later t.goes h);
 }
 
-pub so_far-end : {set : SyntaxSet} {line : List ℕ} {state : ParseState} {p q : Position} {old new : List (ℕ × ScopeStackOp)}
+pub so_far-end : {set : SyntaxSet} {line : List ℕ} {state : Standing} {p q : Position} {old new : List (ℕ × ScopeStackOp)}
     → ReadSoFar set line state p old → EndsLine dialect set line p q old new → state.levels ≢ []
     → Accepts dialect set line state (record { levels = q.levels; cuts = q.cuts; first_line = false }) new
 so_far-end {set} {line} {state} {p} {q} {old} {new} s t n =
@@ -75,12 +77,12 @@ so_far-end {set} {line} {state} {p} {q} {old} {new} s t n =
         order = rw t.unchanged (rw (append-nil old) at (order-append line 0 p.place (length line) old [] s.order s.within));
         begins = rw t.unchanged s.begins;
         apply = λ h. rw t.unchanged (s.apply h);
-        shows = λ h. rw (t.unchanged, t.same) (t.shows (replay old (before_text (plain (stack_before set state)))) s.bytes (s.shown h));
+        shows = λ h. rw (t.unchanged, t.same) (t.shows (replay old (before_text (stack_before set state))) s.bytes (s.shown h));
         begun = refl;
       };
     }
 
-pub so_far-refused : {set : SyntaxSet} {line : List ℕ} {state : ParseState} {p : Position} {ops : List (ℕ × ScopeStackOp)}
+pub so_far-refused : {set : SyntaxSet} {line : List ℕ} {state : Standing} {p : Position} {ops : List (ℕ × ScopeStackOp)}
     → ReadSoFar set line state p ops → (e : ParsingError) → RefusesTurn dialect set line p e → state.levels ≢ [] → MayRefuse dialect set line state e
 so_far-refused s error.Memory h n = tt
 so_far-refused s error.MissingMainContext h n = let r = s.refuses error.MissingMainContext 1 (now h) in (r.0, in_turn n r.1)

@@ -16,9 +16,8 @@ use Rattle.syntect_contexts.specs.declared.context.MatchOperation.{MatchOperatio
 use Rattle.syntect_contexts.specs.declared.context.MatchOperation.TheVariants as op
 use Rattle.syntect_contexts.specs.declared.context.Context.{Context}
 use Rattle.syntect_grammar.specs.declared.syntax_set.SyntaxSet.{SyntaxSet}
-use Rattle.syntect_parsing.specs.declared.parser.Level.{Level}
+use Rattle.syntect_parsing.specs.States.{Level, Standing}
 use Rattle.syntect_parsing.specs.declared.position.Position.{Position}
-use Rattle.syntect_parsing.specs.declared.parser.ParseState.{ParseState}
 use Rattle.syntect_contexts.specs.declared.error.ParsingError.{ParsingError}
 
 -- ---- lists of scopes that are not empty ----
@@ -86,7 +85,7 @@ module _ (engine : Engine) (set : SyntaxSet) (id : ContextId) (closed : IsClosed
   unfolding turn
   shows_turn p s = shows_on p (last p.levels) s refl
 
-  have_read : (p : Position) (bytes : List Scopes) (after : ParseState) (n : ℕ) → Stands set id p.levels → Reads engine set line p bytes after n → HaveScopes bytes
+  have_read : (p : Position) (bytes : List Scopes) (after : Standing) (n : ℕ) → Stands set id p.levels → Reads engine set line p bytes after n → HaveScopes bytes
   have_read p bytes after n s (ends f) = rw f at (shows_turn p s)
   have_read p bytes after n s (goes {q = q} {bytes = here} {rest = rest} {n = i} f h) =
       let t : Stands set id q.levels = rw f at (turned engine set id closed left line p s) in
@@ -95,13 +94,13 @@ module _ (engine : Engine) (set : SyntaxSet) (id : ContextId) (closed : IsClosed
 
 module _ (engine : Engine) (set : SyntaxSet) (id : ContextId) (closed : IsClosed set) (left : IsNeverLeft set id)
     (some : part_of (λ c. c.meta_scope ++ c.meta_content_scope) set id ≢ []) where
-  give_one : (line : List ℕ) (state next : ParseState) (answer : Answer) (others : List Answer) → Answers engine set line state answer next → Stands set id state.levels
+  give_one : (line : List ℕ) (state next : Standing) (answer : Answer) (others : List Answer) → Answers engine set line state answer next → Stands set id state.levels
       → (Stands set id next.levels → GiveScopes others) → GiveScopes (answer ∷ others)
   give_one line state next answer others (accepts {bytes = bytes} {turns = n} h) s more =
       (have_read engine set id closed left some line (at_start state) bytes next n s h.reads, more (read_so engine set id closed left line (at_start state) bytes next n s h.reads))
   give_one line state next answer others (refuses h) s more = more s
 
-  give_all : (lines : List (List ℕ)) (state after : ParseState) (answers : List Answer) → Stands set id state.levels → AnswersAll engine set lines state answers after → GiveScopes answers
+  give_all : (lines : List (List ℕ)) (state after : Standing) (answers : List Answer) → Stands set id state.levels → AnswersAll engine set lines state answers after → GiveScopes answers
   give_all lines state after answers s none = tt
   give_all lines state after answers s (one_more {line = line} {lines = rest} {next = next} {answer = answer} {answers = others} a r) =
       give_one line state next answer others a s (λ t. give_all rest next after others t r)

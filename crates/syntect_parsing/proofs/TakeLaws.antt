@@ -1,10 +1,10 @@
 -- What a match that is taken makes.
 use Rattle.std.proofs.Common.{◌≡◌, ℕ, List, ◌++◌, None, refl}
 use Rattle.syntect_scope.specs.declared.stack.ScopeStackOp.{ScopeStackOp}
-use Rattle.syntect_scope.specs.Stack.{plain}
+use Rattle.syntect_parsing.specs.Stacks.{stack_of}
 use Rattle.syntect_parsing.specs.Engine.{dialect}
 use Rattle.syntect_parsing.specs.Turn.{Live, Take, refusal, position_after}
-use Rattle.syntect_parsing.specs.Scopes.{open_scopes, captures, scopes_passed}
+use Rattle.syntect_parsing.specs.Scopes.{captures, scopes_passed}
 use Rattle.syntect_parsing.specs.Operations.{operations, parts_of}
 use Rattle.syntect_parsing.specs.Line.{step}
 use Rattle.syntect_parsing.specs.Laws.{StandsIn}
@@ -28,7 +28,7 @@ take_makes set line p q m old new s laid on e f g = rw g (record {
   added = f;
   shows = λ r before h. take_shows set line p.levels p.place m r before laid s.from s.ordered h;
   order = operations_in_order line p.place m.start m.end m.pattern.scope (captures dialect m) (parts_of set p.levels m.pattern.operation) s.from s.ordered s.starts s.ends on;
-  apply = operations_apply m.start m.end m.pattern.scope (captures dialect m) (parts_of set p.levels m.pattern.operation) (plain (open_scopes set p.levels));
+  apply = operations_apply m.start m.end m.pattern.scope (captures dialect m) (parts_of set p.levels m.pattern.operation) (stack_of set p.levels);
   within = s.within;
   boundary = s.ends;
 })

@@ -10,7 +10,7 @@ use Rattle.syntect_parsing.specs.Scopes.{open_scopes}
 use Rattle.syntect_parsing.specs.Line.{Step, step, turn, turn_on}
 use Rattle.syntect_parsing.specs.Step.{MakesStep, EndsLine, Turns, RefusesStep, RefusesTurn}
 use Rattle.syntect_parsing.proofs.Places.{past_here}
-use Rattle.syntect_parsing.proofs.ReplayLaws.{at_move}
+use Rattle.syntect_parsing.proofs.ShowLaws.{moves_on}
 use Rattle.syntect_grammar.specs.declared.syntax_set.SyntaxSet.{SyntaxSet}
 use Rattle.syntect_parsing.specs.declared.position.Position.{Position}
 use Rattle.syntect_contexts.specs.declared.error.ParsingError.{ParsingError}
@@ -47,7 +47,7 @@ module _ (set : SyntaxSet) (line : List ℕ) (p q : Position) (t : q ≡ trimmed
     ends = turn_is ∙ k;
     same = ap (λ (x : Position). x.levels) t;
     unchanged = refl;
-    shows = λ r before h. rw t (at_move r p.place (length line) before (open_scopes set p.levels) l h);
+    shows = λ r before h. rw t (moves_on set p.levels r p.place (length line) before l h);
   }
 
 pub skip_makes : (set : SyntaxSet) (line : List ℕ) (p : Position) (ops : List (ℕ × ScopeStackOp)) → IsUtf8 line → IsCharBoundary line p.place → p.place + char_len line p.place < length line
@@ -57,7 +57,7 @@ skip_makes set line p ops u b l = record {
   made = [];
   goes = refl;
   added = sym (append-nil ops);
-  shows = λ r before h. rw same at (at_move r p.place (p.place + char_len line p.place) before (open_scopes set p.levels) (omega arith) h);
+  shows = λ r before h. rw same at (moves_on set p.levels r p.place (p.place + char_len line p.place) before (omega arith) h);
   order = omega arith;
   apply = tt;
   within = omega arith;

@@ -1,5 +1,5 @@
 -- Which patterns a turn looks at, in which order.
-pub use Rattle.syntect_grammar.specs.Patterns.{entries, included, walk_patterns, walk, room_in, patterns_in, GivesNothing, unresolved, lacking, around, Walks, ended, own, passed_over, followed}
+pub use Rattle.syntect_grammar.specs.Patterns.{entries, included, walk_patterns, walk, room_in, patterns_in, patterns_of, GivesNothing, unresolved, lacking, around, Walks, ended, own, passed_over, followed}
 pub use Rattle.syntect_contexts.specs.Contexts.{count_contexts}
 use Rattle.std.specs.Prelude.{◌-◌, Bool, true, false, List, ◌++◌, length, drop, map, Option, None, slice_get, unwrap_or}
 use Rattle.std.specs.Option.{option_to_list}
@@ -10,7 +10,7 @@ use Rattle.syntect_contexts.specs.declared.context.ContextId.{ContextId}
 use Rattle.syntect_contexts.specs.declared.context.MatchPattern.{MatchPattern}
 use Rattle.syntect_contexts.specs.declared.context.Context.{Context}
 use Rattle.syntect_grammar.specs.declared.syntax_set.SyntaxSet.{SyntaxSet}
-use Rattle.syntect_parsing.specs.declared.parser.Level.{Level}
+use Rattle.syntect_parsing.specs.States.{Level}
 
 -- ---- the chain of a turn ----
 
@@ -26,7 +26,7 @@ as_members from opening ms = map (λ m. record { pattern = m; opening = opening;
 
 -- those of a context
 abbrev pub members : SyntaxSet → Bool → Option Opening → ContextId → List Member
-members set from opening id = as_members from opening (patterns_in set (entries set id))
+members set from opening id = as_members from opening (patterns_of set id)
 
 abbrev pub last : {X : Type 0} → List X → Option X
 last xs = slice_get xs (length xs - 1)

@@ -6,24 +6,38 @@ use Rattle.syntect_pattern.specs.Nesting.{Span, AreNested, LiesIn}
 use Rattle.syntect_parsing.specs.Engine.{Engine}
 use Rattle.syntect_contexts.specs.Substitution.{Groups}
 use Rattle.syntect_parsing.specs.Turn.{group_at, list_of}
-use Rattle.syntect_parsing.specs.Scopes.{Scopes}
+use Rattle.syntect_scope.specs.Stack.{plain}
+use Rattle.syntect_parsing.specs.Scopes.{Scopes, open_scopes}
+use Rattle.syntect_parsing.specs.Stacks.{stack_of}
 use Rattle.syntect_parsing.specs.Line.{Answer, Answers, AnswersAll, ReadsLine, RefusesLine, HasPlainStart}
 use Rattle.syntect_contexts.specs.declared.context.Pattern.{Pattern}
 use Rattle.syntect_contexts.specs.declared.context.Pattern.TheVariants.{Match, Include}
 use Rattle.syntect_contexts.specs.declared.context.Context.{Context}
 use Rattle.syntect_grammar.specs.declared.syntax_set.SyntaxSet.{SyntaxSet}
-use Rattle.syntect_parsing.specs.declared.parser.ParseState.{ParseState}
+use Rattle.syntect_parsing.specs.States.{Level, Standing}
 use Rattle.syntect_contexts.specs.declared.error.ParsingError.{ParsingError}
 
 -- No line is both accepted and refused.
 abbrev pub NeverBoth : Type 0
-NeverBoth = (engine : Engine) (set : SyntaxSet) (line : List ℕ) (state : ParseState) (bytes : List Scopes) (after : ParseState) (e : ParsingError) (m n : ℕ)
+NeverBoth = (engine : Engine) (set : SyntaxSet) (line : List ℕ) (state : Standing) (bytes : List Scopes) (after : Standing) (e : ParsingError) (m n : ℕ)
     → ReadsLine engine set line state bytes after m → RefusesLine engine set line state e n → ⊥
 
 -- One more line is answered at the state that the lines before it lead to.
 abbrev pub AnswersMore : Type 0
-AnswersMore = (engine : Engine) (set : SyntaxSet) (lines : List (List ℕ)) (line : List ℕ) (state next after : ParseState) (answers : List Answer) (answer : Answer)
+AnswersMore = (engine : Engine) (set : SyntaxSet) (lines : List (List ℕ)) (line : List ℕ) (state next after : Standing) (answers : List Answer) (answer : Answer)
     → AnswersAll engine set lines state answers next → Answers engine set line next answer after → AnswersAll engine set (lines ++ line ∷ []) state (answers ++ answer ∷ []) after
+
+-- The answers to some lines and those to more lines behind them are the answers to all of them,
+abbrev pub AnswersJoin : Type 0
+AnswersJoin = (engine : Engine) (set : SyntaxSet) (lines more : List (List ℕ)) (state between after : Standing) (answers others : List Answer)
+    → AnswersAll engine set lines state answers between → AnswersAll engine set more between others after → AnswersAll engine set (lines ++ more) state (answers ++ others) after
+
+-- and lines can be parted anywhere.
+abbrev pub AnswersPart : Type 0
+AnswersPart = (engine : Engine) (set : SyntaxSet) (lines more : List (List ℕ)) (state after : Standing) (all : List Answer)
+    → AnswersAll engine set (lines ++ more) state all after
+    → (answers : List Answer) × (others : List Answer) × (between : Standing) × (all ≡ answers ++ others)
+    × AnswersAll engine set lines state answers between × AnswersAll engine set more between others after
 
 -- a match at these ends stands in the text, not before the place, and on character boundaries
 pub record StandsIn (text : List ℕ) (place start end : ℕ) : Type 0 where
@@ -53,10 +67,14 @@ abbrev pub LaysGroupsOut : Engine → Type 0
 LaysGroupsOut engine = (pattern text : List ℕ) (place : ℕ) (groups : Groups)
     → IsUtf8 text → engine.found pattern text place ≡ Some groups → LaysOut engine pattern text groups
 
--- If what the first accepted line pushes makes the stack the open scopes, the stack before each line is the open scopes.
+-- If what the first accepted line pushes makes the stack that of the levels, that holds before each line.
 abbrev pub StackIsOpen : Type 0
-StackIsOpen = (engine : Engine) (set : SyntaxSet) (lines : List (List ℕ)) (state after : ParseState) (answers : List Answer)
+StackIsOpen = (engine : Engine) (set : SyntaxSet) (lines : List (List ℕ)) (state after : Standing) (answers : List Answer)
     → HasPlainStart set state → AnswersAll engine set lines state answers after → HasPlainStart set after
+
+-- The stack of levels has their open scopes, and remembers nothing.
+abbrev pub StackHasOpen : Type 0
+StackHasOpen = (set : SyntaxSet) (levels : List Level) → stack_of set levels ≡ plain (open_scopes set levels)
 
 -- ---- how many turns a line takes ----
 

@@ -1,8 +1,10 @@
+pub mod States
 pub mod Openings
 pub mod Engine
 pub mod Chain
 pub mod Turn
 pub mod Scopes
+pub mod Stacks
 pub mod Visible
 pub mod Line
 pub mod Meaning

@@ -7,28 +7,30 @@ use Rattle.syntect_grammar.specs.Contexts.{context_at, part_of}
 use Rattle.syntect_parsing.specs.Chain.{chain, prototypes_in, last}
 use Rattle.syntect_parsing.specs.Turn.{Choice, Take, Skip, End, live, winner, missing, refusal, position_after, skipped, trimmed, char_len}
 use Rattle.syntect_parsing.specs.Scopes.{Scopes, open_scopes, scopes_passed}
+use Rattle.syntect_parsing.specs.Stacks.{onto, stack_of}
+use Rattle.syntect_scope.specs.Stack.{plain}
+use Rattle.syntect_scope.specs.declared.stack.ScopeStack.{ScopeStack}
 use Rattle.syntect_contexts.specs.declared.context.ContextId.{ContextId}
 use Rattle.syntect_contexts.specs.declared.context.Context.{Context}
 use Rattle.syntect_contexts.specs.declared.syntax_reference.SyntaxReference.{SyntaxReference}
 use Rattle.syntect_grammar.specs.declared.syntax_set.SyntaxSet.{SyntaxSet}
-use Rattle.syntect_parsing.specs.declared.parser.Level.{Level}
+use Rattle.syntect_parsing.specs.States.{Level, Standing}
 use Rattle.syntect_parsing.specs.declared.position.Position.{Position}
-use Rattle.syntect_parsing.specs.declared.parser.ParseState.{ParseState}
 use Rattle.syntect_contexts.specs.declared.error.ParsingError.{ParsingError}
 use Rattle.syntect_contexts.specs.declared.error.ParsingError.TheVariants as error
 
 -- What a turn makes: the scopes of the bytes that it passed, and how it goes on. Or the line is refused.
 pub data Step : Type 0 where
   Goes : List Scopes → Position → Step
-  Ends : List Scopes → ParseState → Step
+  Ends : List Scopes → Standing → Step
   Refused : ParsingError → Step
 
 -- the state that a line leaves
-abbrev pub state_left : Position → ParseState
+abbrev pub state_left : Position → Standing
 state_left p = record { levels = p.levels; cuts = p.cuts; first_line = false }
 
 -- the first turn of a line
-abbrev pub at_start : ParseState → Position
+abbrev pub at_start : Standing → Position
 at_start s = record { levels = s.levels; cuts = s.cuts; place = 0; last = None; idle = 0 }
 
 -- the line ends, the bytes left have the open scopes
@@ -69,9 +71,9 @@ module _ (engine : Engine) where
   turn set line p = turn_on set line (trimmed p) (last p.levels)
 
   -- The turns from a position on up to the end: the scopes of each byte, the state left, and how many turns.
-  pub data Reads (set : SyntaxSet) (line : List ℕ) : Position → List Scopes → ParseState → ℕ → Type 0 where
-    ends : {p : Position} {bytes : List Scopes} {after : ParseState} → turn set line p ≡ Ends bytes after → Reads set line p bytes after 1
-    goes : {p q : Position} {bytes rest : List Scopes} {after : ParseState} {n : ℕ}
+  pub data Reads (set : SyntaxSet) (line : List ℕ) : Position → List Scopes → Standing → ℕ → Type 0 where
+    ends : {p : Position} {bytes : List Scopes} {after : Standing} → turn set line p ≡ Ends bytes after → Reads set line p bytes after 1
+    goes : {p q : Position} {bytes rest : List Scopes} {after : Standing} {n : ℕ}
         → turn set line p ≡ Goes bytes q → Reads set line q rest after n → Reads set line p (bytes ++ rest) after (n + 1)
 
   -- The turns from a position on up to a refusal, and how many.
@@ -86,47 +88,47 @@ module _ (engine : Engine) where
     further : {p q r : Position} {bytes : List Scopes} → turn set line p ≡ Goes bytes q → Reaches set line q r → Reaches set line p r
 
   -- a line read from a state
-  pub record ReadsLine (set : SyntaxSet) (line : List ℕ) (state : ParseState) (bytes : List Scopes) (after : ParseState) (turns : ℕ) : Type 0 where
+  pub record ReadsLine (set : SyntaxSet) (line : List ℕ) (state : Standing) (bytes : List Scopes) (after : Standing) (turns : ℕ) : Type 0 where
     pub on_levels : state.levels ≢ []
     pub reads : Reads set line (at_start state) bytes after turns
 
   -- a line refused at a state
-  pub data RefusesLine (set : SyntaxSet) (line : List ℕ) (state : ParseState) : ParsingError → ℕ → Type 0 where
+  pub data RefusesLine (set : SyntaxSet) (line : List ℕ) (state : Standing) : ParsingError → ℕ → Type 0 where
     no_level : state.levels ≡ [] → RefusesLine set line state error.MissingMainContext 0
     in_turn : {e : ParsingError} {n : ℕ} → state.levels ≢ [] → Refuses set line (at_start state) e n → RefusesLine set line state e n
 
   -- the answer to a line and the state after it: a refused line leaves the state
-  pub data Answers (set : SyntaxSet) (line : List ℕ) (state : ParseState) : Answer → ParseState → Type 0 where
-    accepts : {bytes : List Scopes} {after : ParseState} {turns : ℕ} → ReadsLine set line state bytes after turns → Answers set line state (Accepted bytes) after
+  pub data Answers (set : SyntaxSet) (line : List ℕ) (state : Standing) : Answer → Standing → Type 0 where
+    accepts : {bytes : List Scopes} {after : Standing} {turns : ℕ} → ReadsLine set line state bytes after turns → Answers set line state (Accepted bytes) after
     refuses : {e : ParsingError} {turns : ℕ} → RefusesLine set line state e turns → Answers set line state (RefusedBy e) state
 
   -- the answers to lines one after the other
-  pub data AnswersAll (set : SyntaxSet) : List (List ℕ) → ParseState → List Answer → ParseState → Type 0 where
-    none : {state : ParseState} → AnswersAll set [] state [] state
-    one_more : {line : List ℕ} {lines : List (List ℕ)} {state next after : ParseState} {answer : Answer} {answers : List Answer}
+  pub data AnswersAll (set : SyntaxSet) : List (List ℕ) → Standing → List Answer → Standing → Type 0 where
+    none : {state : Standing} → AnswersAll set [] state [] state
+    one_more : {line : List ℕ} {lines : List (List ℕ)} {state next after : Standing} {answer : Answer} {answers : List Answer}
         → Answers set line state answer next → AnswersAll set lines next answers after → AnswersAll set (line ∷ lines) state (answer ∷ answers) after
 
 -- a syntax's first state: the one level `__start`
-abbrev pub start : ContextId → ParseState
+abbrev pub start : ContextId → Standing
 start id = record { levels = record { context = id; prototypes = []; opening = None } ∷ []; cuts = []; first_line = true }
 
 -- the number of a syntax's `__start`, if it has one, and the state that reading it begins with
 abbrev pub start_id : SyntaxReference → Option ContextId
 start_id syntax = named_in syntax.index syntax.names (codes "__start")
 
-abbrev pub start_of : SyntaxReference → Option ParseState
+abbrev pub start_of : SyntaxReference → Option Standing
 start_of syntax = option_map start (start_id syntax)
 
 -- ---- the stack that a line's operations are applied to ----
 
--- before the first accepted line it is empty, and then holds the open scopes
-abbrev pub stack_before : SyntaxSet → ParseState → Scopes
-stack_before set state = if state.first_line then [] else open_scopes set state.levels
+-- before the first accepted line it is empty, and then that of the levels
+abbrev pub stack_before : SyntaxSet → Standing → ScopeStack
+stack_before set state = if state.first_line then plain [] else stack_of set state.levels
 
 -- what the first accepted line pushes at 0: the first `meta_content_scope` scope of the top context
-abbrev pub first_push : SyntaxSet → ParseState → Scopes
+abbrev pub first_push : SyntaxSet → Standing → Scopes
 first_push set state = if state.first_line then take 1 (option_map_or (λ l. part_of (λ c. c.meta_content_scope) set l.context) (last state.levels) []) else []
 
 -- what has to hold for the operations to show the open scopes on a first line: `__start` has no `meta_scope` and at most one content scope
-abbrev pub HasPlainStart : SyntaxSet → ParseState → Type 0
-HasPlainStart set state = stack_before set state ++ first_push set state ≡ open_scopes set state.levels
+abbrev pub HasPlainStart : SyntaxSet → Standing → Type 0
+HasPlainStart set state = onto (stack_before set state) (first_push set state) ≡ stack_of set state.levels

@@ -1,36 +1,36 @@
 -- What a call that reads a line promises.
 use Rattle.std.specs.Prelude.{◌≡◌, ℕ, false, List, ◌++◌, length, None}
 use Rattle.syntect_scope.specs.declared.stack.ScopeStackOp.{ScopeStackOp}
-use Rattle.syntect_scope.specs.Stack.{plain}
-use Rattle.syntect_scope.specs.Replay.{IsAt, InOrder, AllApply, replay, before_text, pushes}
+use Rattle.syntect_parsing.specs.Stacks.{IsAt}
+use Rattle.syntect_scope.specs.Replay.{InOrder, AllApply, replay, before_text, pushes}
 use Rattle.syntect_parsing.specs.Engine.{Engine}
 use Rattle.syntect_parsing.specs.Scopes.{Scopes}
 use Rattle.syntect_parsing.specs.Line.{ReadsLine, RefusesLine, stack_before, first_push, start_of, HasPlainStart}
 use Rattle.syntect_contexts.specs.declared.syntax_reference.SyntaxReference.{SyntaxReference}
 use Rattle.syntect_grammar.specs.declared.syntax_set.SyntaxSet.{SyntaxSet}
-use Rattle.syntect_parsing.specs.declared.parser.ParseState.{ParseState}
+use Rattle.syntect_parsing.specs.States.{Standing}
 use Rattle.syntect_contexts.specs.declared.error.ParsingError.{ParsingError}
 use Rattle.syntect_contexts.specs.declared.error.ParsingError.TheVariants as error
 
 -- The operations of an accepted line are in order, and the first accepted line begins with the first content scope of
--- `__start`. From the stack before the line they all apply, show at each byte the scopes that were read, and leave the
--- stack before the next line, which is that of the open scopes.
-pub record Means (set : SyntaxSet) (line : List ℕ) (old new : ParseState) (bytes : List Scopes) (ops : List (ℕ × ScopeStackOp)) : Type 0 where
+-- `__start`. Where that push makes the stack that of the levels, from the stack before the line they all apply, show at each byte the scopes that were read, and leave the
+-- stack before the next line, which is that of its levels.
+pub record Means (set : SyntaxSet) (line : List ℕ) (old new : Standing) (bytes : List Scopes) (ops : List (ℕ × ScopeStackOp)) : Type 0 where
   pub order : InOrder line 0 ops (length line)
   pub begins : (rest : List (ℕ × ScopeStackOp)) × (ops ≡ pushes 0 (first_push set old) ++ rest)
-  pub apply : HasPlainStart set old → AllApply (plain (stack_before set old)) ops
-  pub shows : HasPlainStart set old → IsAt (replay ops (before_text (plain (stack_before set old)))) (length line) bytes (stack_before set new)
+  pub apply : HasPlainStart set old → AllApply (stack_before set old) ops
+  pub shows : HasPlainStart set old → IsAt (replay ops (before_text (stack_before set old))) (length line) bytes (stack_before set new)
   pub begun : new.first_line ≡ false
 
 -- the line is read, and the operations mean what was read
-pub record Accepts (engine : Engine) (set : SyntaxSet) (line : List ℕ) (old new : ParseState) (ops : List (ℕ × ScopeStackOp)) : Type 0 where
+pub record Accepts (engine : Engine) (set : SyntaxSet) (line : List ℕ) (old new : Standing) (ops : List (ℕ × ScopeStackOp)) : Type 0 where
   pub bytes : List Scopes
   pub turns : ℕ
   pub reads : ReadsLine engine set line old bytes new turns
   pub means : Means set line old new bytes ops
 
 -- want of memory, or the refusal that the reading comes to
-abbrev pub MayRefuse : Engine → SyntaxSet → List ℕ → ParseState → ParsingError → Type 0
+abbrev pub MayRefuse : Engine → SyntaxSet → List ℕ → Standing → ParsingError → Type 0
 MayRefuse engine set line state error.Memory = Unit {0}
 MayRefuse engine set line state e = (turns : ℕ) × RefusesLine engine set line state e turns
 

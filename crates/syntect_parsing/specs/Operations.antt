@@ -14,7 +14,7 @@ use Rattle.syntect_contexts.specs.declared.context.ContextReference.{ContextRefe
 use Rattle.syntect_contexts.specs.declared.context.MatchOperation.{MatchOperation}
 use Rattle.syntect_contexts.specs.declared.context.MatchOperation.TheVariants as op
 use Rattle.syntect_grammar.specs.declared.syntax_set.SyntaxSet.{SyntaxSet}
-use Rattle.syntect_parsing.specs.declared.parser.Level.{Level}
+use Rattle.syntect_parsing.specs.States.{Level}
 
 -- what a match does to the open scopes: at its start so many are popped and these pushed, at its end the same
 pub record Parts : Type 0 where

@@ -6,10 +6,10 @@ use Rattle.std.specs.Option.{option_to_list}
 use Rattle.syntect_parsing.specs.Engine.{Engine}
 use Rattle.syntect_grammar.specs.Contexts.{context_at, part_of}
 use Rattle.syntect_contexts.specs.Contexts.{target}
-use Rattle.syntect_parsing.specs.Chain.{chain, entries, last, patterns_in}
+use Rattle.syntect_parsing.specs.Chain.{chain, entries, last, patterns_of}
 use Rattle.syntect_parsing.specs.Turn.{Live, Take, live, missing, named, trimmed, winner}
 use Rattle.syntect_parsing.specs.Line.{AnswersAll, Answer, Reaches, RefusesLine, at_start, start}
-use Rattle.syntect_grammar.specs.Link.{with_paths, linked}
+use Rattle.syntect_grammar.specs.Link.{syntaxes_in, linked}
 use Rattle.syntect_contexts.specs.declared.context.ContextId.{ContextId}
 use Rattle.syntect_contexts.specs.declared.context.ContextReference.{ContextReference}
 use Rattle.syntect_contexts.specs.declared.context.MatchOperation.{MatchOperation}
@@ -20,9 +20,8 @@ use Rattle.syntect_contexts.specs.declared.context.Pattern.TheVariants.{Match, I
 use Rattle.syntect_contexts.specs.declared.context.Context.{Context}
 use Rattle.syntect_loader.specs.declared.definition.SyntaxDefinition.{SyntaxDefinition}
 use Rattle.syntect_grammar.specs.declared.syntax_set.SyntaxSet.{SyntaxSet}
-use Rattle.syntect_parsing.specs.declared.parser.Level.{Level}
+use Rattle.syntect_parsing.specs.States.{Level, Standing}
 use Rattle.syntect_parsing.specs.declared.position.Position.{Position}
-use Rattle.syntect_parsing.specs.declared.parser.ParseState.{ParseState}
 use Rattle.syntect_contexts.specs.declared.error.ParsingError.{ParsingError}
 use Rattle.syntect_contexts.specs.declared.error.ParsingError.TheVariants as error
 
@@ -41,7 +40,7 @@ abbrev pub unresolved_of : MatchPattern → Option ContextReference
 unresolved_of m = find (λ r. is_none (target r)) (named m)
 
 -- A turn of the line picks a match that names this reference, the first of its references that have no target.
-pub record PicksUnresolved (engine : Engine) (set : SyntaxSet) (line : List ℕ) (state : ParseState) (r : ContextReference) : Type 0 where
+pub record PicksUnresolved (engine : Engine) (set : SyntaxSet) (line : List ℕ) (state : Standing) (r : ContextReference) : Type 0 where
   pub at : Position
   pub reached : Reaches engine set line (at_start state) at
   pub picked : Live
@@ -49,7 +48,7 @@ pub record PicksUnresolved (engine : Engine) (set : SyntaxSet) (line : List ℕ)
   pub names : unresolved_of picked.pattern ≡ Some r
 
 -- the refusal is that of such a reference
-abbrev pub NamesUnresolved : Engine → SyntaxSet → List ℕ → ParseState → ParsingError → Type 0
+abbrev pub NamesUnresolved : Engine → SyntaxSet → List ℕ → Standing → ParsingError → Type 0
 NamesUnresolved engine set line state e = (r : ContextReference) × (e ≡ error.UnresolvedContextReference r) × PicksUnresolved engine set line state r
 
 -- ---- sets in which nothing else refuses ----
@@ -74,7 +73,7 @@ stays op.None = true
 
 -- the patterns that are looked at where only the context of this number is open
 abbrev pub lone_patterns : SyntaxSet → ContextId → List MatchPattern
-lone_patterns set id = flat_map (λ q. patterns_in set (entries set q)) (part_of (λ c. option_to_list c.prototype) set id) ++ patterns_in set (entries set id)
+lone_patterns set id = flat_map (λ q. patterns_of set q) (part_of (λ c. option_to_list c.prototype) set id) ++ patterns_of set id
 
 -- The set has the context of this number, and nothing that is looked at in it alone pops it or sets another in its place:
 -- a text that begins in it never leaves it.
@@ -85,13 +84,13 @@ pub record IsNeverLeft (set : SyntaxSet) (id : ContextId) : Type 0 where
 -- From the start in a context that is never left, a line is refused exactly where a picked match names a reference
 -- without target, with the refusal of that reference.
 abbrev pub RefusesUnresolved : Type 0
-RefusesUnresolved = (engine : Engine) (set : SyntaxSet) (id : ContextId) (lines : List (List ℕ)) (answers : List Answer) (state : ParseState) (line : List ℕ)
+RefusesUnresolved = (engine : Engine) (set : SyntaxSet) (id : ContextId) (lines : List (List ℕ)) (answers : List Answer) (state : Standing) (line : List ℕ)
     → IsClosed set → IsNeverLeft set id → AnswersAll engine set lines (start id) answers state
     → ((e : ParsingError) (turns : ℕ) → RefusesLine engine set line state e turns → NamesUnresolved engine set line state e)
     × ((r : ContextReference) → PicksUnresolved engine set line state r → (turns : ℕ) × RefusesLine engine set line state (error.UnresolvedContextReference r) turns)
 
 -- ---- definitions whose sets are so ----
 
--- What they are linked to is closed, whatever files they are from.
+-- A set whose syntaxes are definitions linked to one another, all of whose references are by name, is closed.
 abbrev pub LinksClosed : Type 0
-LinksClosed = (paths : List (List ℕ × ℕ)) (definitions : List SyntaxDefinition) → AreByName definitions → IsClosed (with_paths paths (linked definitions))
+LinksClosed = (set : SyntaxSet) (definitions : List SyntaxDefinition) → syntaxes_in set ≡ linked definitions → AreByName definitions → IsClosed set

@@ -11,7 +11,7 @@ use Rattle.syntect_parsing.specs.Turn.{Live, group_at, without_last}
 use Rattle.syntect_contexts.specs.declared.context.MatchOperation.{MatchOperation}
 use Rattle.syntect_contexts.specs.declared.context.MatchOperation.TheVariants as op
 use Rattle.syntect_grammar.specs.declared.syntax_set.SyntaxSet.{SyntaxSet}
-use Rattle.syntect_parsing.specs.declared.parser.Level.{Level}
+use Rattle.syntect_parsing.specs.States.{Level}
 
 -- the scopes that are open at rest: of each level its `meta_scope`, then its `meta_content_scope`
 abbrev pub open_scopes : SyntaxSet → List Level → Scopes

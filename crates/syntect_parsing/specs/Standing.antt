@@ -7,7 +7,7 @@ use Rattle.syntect_parsing.specs.Line.{Answer, Accepted, RefusedBy, AnswersAll, 
 use Rattle.syntect_parsing.specs.Refusals.{IsClosed, IsNeverLeft}
 use Rattle.syntect_contexts.specs.declared.context.ContextId.{ContextId}
 use Rattle.syntect_grammar.specs.declared.syntax_set.SyntaxSet.{SyntaxSet}
-use Rattle.syntect_parsing.specs.declared.parser.ParseState.{ParseState}
+use Rattle.syntect_parsing.specs.States.{Standing}
 
 -- each byte of a line has a scope
 abbrev pub HaveScopes : List Scopes → Type 0
@@ -23,5 +23,5 @@ GiveScopes (RefusedBy e ∷ answers) = GiveScopes answers
 -- From the start in a context that is never left and has a scope of its own, each byte of each line that is accepted has
 -- a scope.
 abbrev pub BytesHaveScopes : Type 0
-BytesHaveScopes = (engine : Engine) (set : SyntaxSet) (id : ContextId) (lines : List (List ℕ)) (answers : List Answer) (state : ParseState)
+BytesHaveScopes = (engine : Engine) (set : SyntaxSet) (id : ContextId) (lines : List (List ℕ)) (answers : List Answer) (state : Standing)
     → IsClosed set → IsNeverLeft set id → part_of (λ c. c.meta_scope ++ c.meta_content_scope) set id ≢ [] → AnswersAll engine set lines (start id) answers state → GiveScopes answers

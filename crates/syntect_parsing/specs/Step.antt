@@ -2,14 +2,15 @@
 use Rattle.std.specs.Prelude.{◌≡◌, ℕ, ◌-◌, ◌+◌, ◌*◌, ◌≤◌, Bool, true, false, List, ◌++◌, length}
 use Rattle.syntect_scope.specs.declared.stack.ScopeStackOp.{ScopeStackOp}
 use Rattle.std.specs.Str.{IsCharBoundary}
-use Rattle.syntect_scope.specs.Stack.{plain}
-use Rattle.syntect_scope.specs.Replay.{Replay, IsAt, InOrder, AllApply, replay}
+use Rattle.syntect_scope.specs.Replay.{Replay, InOrder, AllApply, replay}
 use Rattle.syntect_grammar.specs.Contexts.{contexts_of}
 use Rattle.syntect_parsing.specs.Engine.{Engine}
-use Rattle.syntect_parsing.specs.Scopes.{Scopes, open_scopes}
+use Rattle.syntect_parsing.specs.Scopes.{Scopes}
+use Rattle.syntect_parsing.specs.Stacks.{IsAt, stack_of}
 use Rattle.syntect_parsing.specs.Line.{Step, Goes, Ends, Refused, turn}
 use Rattle.syntect_parsing.specs.Laws.{longest}
 use Rattle.syntect_grammar.specs.declared.syntax_set.SyntaxSet.{SyntaxSet}
+use Rattle.syntect_parsing.specs.declared.position.TheConstants.{MOST_IDLE}
 use Rattle.syntect_parsing.specs.declared.position.Position.{Position}
 use Rattle.syntect_contexts.specs.declared.error.ParsingError.{ParsingError}
 use Rattle.syntect_contexts.specs.declared.error.ParsingError.TheVariants as error
@@ -20,10 +21,10 @@ pub record MakesStep (set : SyntaxSet) (line : List ℕ) (step : Step) (p q : Po
   pub made : List (ℕ × ScopeStackOp)
   pub goes : step ≡ Goes bytes q
   pub added : new ≡ old ++ made
-  pub shows : (r : Replay) (before : List Scopes) → IsAt r p.place before (open_scopes set p.levels)
-      → IsAt (replay made r) q.place (before ++ bytes) (open_scopes set q.levels)
+  pub shows : (r : Replay) (before : List Scopes) → IsAt r p.place before (stack_of set p.levels)
+      → IsAt (replay made r) q.place (before ++ bytes) (stack_of set q.levels)
   pub order : InOrder line p.place made q.place
-  pub apply : AllApply (plain (open_scopes set p.levels)) made
+  pub apply : AllApply (stack_of set p.levels) made
   pub within : q.place ≤ length line
   pub boundary : IsCharBoundary line q.place
 
@@ -33,8 +34,8 @@ pub record EndsLine (engine : Engine) (set : SyntaxSet) (line : List ℕ) (p q :
   pub ends : turn engine set line p ≡ Ends bytes (record { levels = q.levels; cuts = q.cuts; first_line = false })
   pub same : q.levels ≡ p.levels
   pub unchanged : new ≡ old
-  pub shows : (r : Replay) (before : List Scopes) → IsAt r p.place before (open_scopes set p.levels)
-      → IsAt r (length line) (before ++ bytes) (open_scopes set p.levels)
+  pub shows : (r : Replay) (before : List Scopes) → IsAt r p.place before (stack_of set p.levels)
+      → IsAt r (length line) (before ++ bytes) (stack_of set p.levels)
 
 abbrev pub Turns : Engine → SyntaxSet → List ℕ → Position → Position → List (ℕ × ScopeStackOp) → List (ℕ × ScopeStackOp) → Bool → Type 0
 Turns engine set line p q old new true = MakesStep set line (turn engine set line p) p q old new
@@ -50,4 +51,4 @@ RefusesTurn engine set line p e = RefusesStep (turn engine set line p) e
 
 -- how many turns may still come
 abbrev pub turns_left : SyntaxSet → List ℕ → Position → ℕ
-turns_left set line p = length p.levels + (longest (contexts_of set) + 1) * ((1000 - p.idle) + 1001 * (length line - p.place))
+turns_left set line p = length p.levels + (longest (contexts_of set) + 1) * ((MOST_IDLE - p.idle) + (MOST_IDLE + 1) * (length line - p.place))

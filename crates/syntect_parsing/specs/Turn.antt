@@ -17,7 +17,8 @@ use Rattle.syntect_contexts.specs.declared.context.MatchOperation.{MatchOperatio
 use Rattle.syntect_contexts.specs.declared.context.MatchOperation.TheVariants as op
 use Rattle.syntect_contexts.specs.declared.context.MatchPattern.{MatchPattern}
 use Rattle.syntect_grammar.specs.declared.syntax_set.SyntaxSet.{SyntaxSet}
-use Rattle.syntect_parsing.specs.declared.parser.Level.{Level}
+use Rattle.syntect_parsing.specs.States.{Level}
+use Rattle.syntect_parsing.specs.declared.position.TheConstants.{MOST_LEVELS, MOST_IDLE}
 use Rattle.syntect_parsing.specs.declared.position.Record.{Record}
 use Rattle.syntect_parsing.specs.declared.position.Position.{Position}
 use Rattle.syntect_contexts.specs.declared.error.ParsingError.{ParsingError}
@@ -39,9 +40,10 @@ pub record Live : Type 0 where
 abbrev pub group_at : Groups → ℕ → Option (ℕ × ℕ)
 group_at groups n = option_flatten (slice_get groups n)
 
--- whether a match counts: one that reads nothing and does nothing is passed over, and so is a push once 100 levels are open
+-- whether a match counts: one that reads nothing and does nothing is passed over, and so is a push once
+-- as many levels are open as there may be
 abbrev pub counts : ℕ → MatchOperation → ℕ → ℕ → Bool
-counts height (op.Push refs) start end = nat_lt height 100
+counts height (op.Push refs) start end = nat_lt height MOST_LEVELS
 counts height (op.Set refs) start end = true
 counts height op.Pop start end = true
 counts height op.None start end = not (start == end)
@@ -81,8 +83,8 @@ is_at_record p (Some r) = (r.place == p.place) && (r.height == length p.levels)
 
 -- a match with this operation would go round in circles at the place itself
 abbrev pub turns_back : Position → MatchOperation → Bool
-turns_back p (op.Push refs) = p.idle == 1000
-turns_back p (op.Set refs) = p.idle == 1000
+turns_back p (op.Push refs) = p.idle == MOST_IDLE
+turns_back p (op.Set refs) = p.idle == MOST_IDLE
 turns_back p op.Pop = is_at_record p p.last
 turns_back p op.None = false
 

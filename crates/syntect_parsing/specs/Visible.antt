@@ -13,7 +13,7 @@ use Rattle.syntect_contexts.specs.declared.context.ContextId.{ContextId}
 use Rattle.syntect_contexts.specs.declared.context.MatchOperation.{MatchOperation}
 use Rattle.syntect_contexts.specs.declared.context.MatchOperation.TheVariants as op
 use Rattle.syntect_grammar.specs.declared.syntax_set.SyntaxSet.{SyntaxSet}
-use Rattle.syntect_parsing.specs.declared.parser.Level.{Level}
+use Rattle.syntect_parsing.specs.States.{Level}
 
 -- what an amount leaves
 abbrev pub left_by : Option ClearAmount → Scopes → Scopes

@@ -4,7 +4,7 @@ ghost use Rattle.std.specs.Option.{option_copied, option_map};
 ghost use Rattle.std.specs.List.{list_any, flat_map};
 ghost use Rattle.syntect_contexts.specs.Contexts.{is_same, target};
 ghost use Rattle.syntect_grammar.specs.Contexts.{context_at};
-ghost use Rattle.syntect_parsing.specs.Chain.{entries, walk, walk_patterns, room_in, patterns_in, as_members, members, in_sight, chain, prototypes_in};
+ghost use Rattle.syntect_parsing.specs.Chain.{entries, walk, walk_patterns, room_in, patterns_of, as_members, members, in_sight, chain, prototypes_in};
 ghost use Rattle.syntect_parsing.specs.Candidates.{member_of};
 
 use crate::opening::Opening;
@@ -78,7 +78,7 @@ fn walk<'s>(
     Ok(())
 }
 
-/// Adds the patterns of a context to a chain.
+/// Adds the patterns of a context, which stands on its own include path, to a chain.
 fn add_context<'s, 'p>(
     alloc: Global,
     set: &'s SyntaxSet,
@@ -93,7 +93,7 @@ fn add_context<'s, 'p>(
         ≡ map member_of chain.old.items ++ members set.now from_with_prototype (option_copied opening.entry) id) }
 {
     let mut patterns = Vec::new(alloc);
-    walk(alloc, set, room, &[], entries(set, id), &mut patterns)?;
+    walk(alloc, set, room, &[id], entries(set, id), &mut patterns)?;
     for pattern in patterns {
         chain.push(Entry {
             pattern,

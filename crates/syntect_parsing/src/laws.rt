@@ -1,8 +1,16 @@
 //! Laws of reading.
-ghost use Rattle.syntect_parsing.specs.Laws.{NeverBoth, AnswersMore, StackIsOpen, FindsInText, LaysGroupsOut};
+ghost use Rattle.syntect_parsing.specs.Laws.{NeverBoth, AnswersMore, AnswersJoin, AnswersPart, StackIsOpen, StackHasOpen, FindsInText, LaysGroupsOut};
 ghost use Rattle.syntect_parsing.specs.Refusals.{RefusesUnresolved, LinksClosed};
 ghost use Rattle.syntect_parsing.specs.Standing.{BytesHaveScopes};
 ghost use Rattle.syntect_parsing.specs.Engine.{dialect};
+ghost use Rattle.syntect_parsing.specs.declared.position.TheConstants.{MOST_LEVELS, MOST_IDLE};
+ghost use Rattle.std.specs.Prelude.{◌≡◌};
+
+/// A push is passed over once a hundred levels are open, and at one place a thousand empty pushes and sets are made at most.
+pub fn limits_of_reading()
+    ensures levels { MOST_LEVELS ≡ 100 }
+    ensures idle { MOST_IDLE ≡ 1000 }
+{}
 
 /// No line is both accepted and refused.
 #[tactic(auto, using(crate::proofs::AnswerLaws::never_both))]
@@ -16,7 +24,21 @@ pub fn answers_more()
     ensures { AnswersMore }
 {}
 
-/// The stack before each line is the open scopes, if the first accepted line makes it so.
+/// The answers to a list of lines are those to its first lines and then those to the others, from the state that these lead
+/// to.
+#[tactic(auto, using(crate::proofs::AnswerLaws::answers_join, crate::proofs::AnswerLaws::answers_part))]
+pub fn answers_join_and_part()
+    ensures join { AnswersJoin }
+    ensures part { AnswersPart }
+{}
+
+/// The stack that the levels make has their open scopes, and remembers nothing.
+#[tactic(auto, using(crate::proofs::ShowLaws::stack_is_plain))]
+pub fn stack_has_open_scopes()
+    ensures { StackHasOpen }
+{}
+
+/// If what the first accepted line pushes makes the stack that of the levels, it is so before each line.
 #[tactic(auto, using(crate::proofs::Open::stack_is_open))]
 pub fn stack_is_open()
     ensures { StackIsOpen }

@@ -11,7 +11,7 @@ ghost use Rattle.syntect_parsing.specs.Chain.{last};
 use crate::names::targets;
 use crate::opening::Opening;
 use crate::parser::Level;
-use crate::position::{Position, Record};
+use crate::position::{MOST_IDLE, Position, Record};
 use crate::search::Candidate;
 use std::alloc::{AllocError, Global};
 use std::mem;
@@ -177,7 +177,7 @@ fn prototypes_of_last(alloc: Global, levels: &[Level]) -> Result<Seq<ContextId>,
 
 /// The record of a match, and how many empty pushes and sets were made at its end.
 fn count_idle(p: &mut Position, height: usize, m: &Candidate<'_>)
-    requires few { p.old.idle ≤ 1000 }
+    requires few { p.old.idle ≤ MOST_IDLE }
     requires low { height < 9223372036854775808 }
     ensures last { p.new.last ≡ (if m.now.end == p.old.place then record_at p.old.place height p.old.last m.now.pattern.now.operation else p.old.last) }
     ensures idle { p.new.idle ≡ (if m.now.end == p.old.place then p.old.idle + option_map_or (λ refs. 1) (list_of m.now.pattern.now.operation) 0 else 0) }
@@ -213,7 +213,7 @@ pub fn apply(
 ) -> Result<(), AllocError>
     requires within { p.old.place ≤ length line.now }
     requires boundary { IsCharBoundary line.now p.old.place }
-    requires few { p.old.idle ≤ 1000 }
+    requires few { p.old.idle ≤ MOST_IDLE }
     ensures { IfOk result (λ _. p.new ≡ position_after set.now line.now p.old (seen line.now p.old.place m.now)) }
 {
     let height = p.levels.as_slice().len();

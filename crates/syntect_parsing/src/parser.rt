@@ -1,5 +1,5 @@
 //! Reading a line.
-ghost use Rattle.std.specs.Prelude.{◌≡◌, ◌≢◌, [], take, Some, codes, IfOk, IfErr, OnErr};
+ghost use Rattle.std.specs.Prelude.{◌≡◌, ◌≢◌, ◌↔◌, [], take, Some, codes, IfOk, IfErr, OnErr, IsTrue};
 ghost use Rattle.std.specs.Option.{option_to_list, option_map_or};
 ghost use Rattle.syntect_scope.specs.Replay.{pushes};
 ghost use Rattle.syntect_grammar.specs.Contexts.{part_of};
@@ -7,6 +7,7 @@ ghost use Rattle.syntect_parsing.specs.Chain.{last};
 ghost use Rattle.syntect_parsing.specs.Engine.{dialect};
 ghost use Rattle.syntect_parsing.specs.Line.{start_id, start_of, at_start, first_push};
 ghost use Rattle.syntect_parsing.specs.Meaning.{MayLackStart, Accepts, MayRefuse};
+ghost use Rattle.syntect_parsing.specs.States.{standing};
 
 use crate::laws::dialect_finds_in_text;
 use crate::opening::Opening;
@@ -46,15 +47,22 @@ impl Clone for Level {
     }
 }
 
-/// What is kept between two lines: the open levels, lowest first, the cuts, and a mark that no line was read yet.
+/// Where a reader of lines stands between two of them: the open levels, lowest first, the cuts, and a mark that no line was
+/// accepted yet.
 ///
 /// A cut is the height at which a match from a `with_prototype` found the levels; prototypes of the levels below the
 /// last cut are out of sight.
 #[derive(Clone, Drop, PartialEq, Eq)]
+pub struct Standing {
+    pub levels: Seq<Level>,
+    pub cuts: Seq<usize>,
+    pub first_line: bool,
+}
+
+/// What is kept between two lines: where the reader stands.
+#[derive(Clone, Drop, PartialEq, Eq)]
 pub struct ParseState {
-    pub(crate) levels: Seq<Level>,
-    pub(crate) cuts: Seq<usize>,
-    pub(crate) first_line: bool,
+    standing: Standing,
 }
 
 /// The number of a syntax's `__start`.
@@ -67,7 +75,7 @@ fn start_id(syntax: &SyntaxReference) -> Option<ContextId>
 impl ParseState {
     /// The state before the first line of a syntax. `MissingMainContext` where it has no context `__start`.
     pub fn new(alloc: Global, syntax: &SyntaxReference) -> Result<ParseState, ParsingError>
-        ensures found { IfOk result (λ state. start_of syntax.now ≡ Some state) }
+        ensures found { IfOk result (λ state. start_of syntax.now ≡ Some (standing state)) }
         ensures refused { IfErr result (MayLackStart syntax.now) }
     {
         let Some(context) = start_id(syntax) else {
@@ -80,35 +88,39 @@ impl ParseState {
             opening: None,
         })?;
         Ok(ParseState {
-            levels,
-            cuts: Seq::new(alloc),
-            first_line: true,
+            standing: Standing {
+                levels,
+                cuts: Seq::new(alloc),
+                first_line: true,
+            },
         })
     }
 
     /// Reads the next line, with its line feed if it has one. The operations, at byte positions in order, give the scopes
     /// of the line when they are applied to the stack that the lines before it left; the first accepted line begins on an
     /// empty stack. A refusal leaves the state as it was: `MissingMainContext` where no context is open any more,
-    /// `UnresolvedContextReference` and `MissingContext` where a match that was picked names what isn't linked or what the
-    /// set lacks.
+    /// `UnresolvedContextReference` where a match that was picked names what isn't linked, `MissingContext` where the set lacks
+    /// what it names, the open context or a prototype that is to be looked at, and `Memory`.
     pub fn parse_line(
         &mut self,
         alloc: Global,
         line: &str,
         syntax_set: &SyntaxSet,
     ) -> Result<Vec<(usize, ScopeStackOp)>, ParsingError>
-        ensures accepted { IfOk result (λ ops. Accepts dialect syntax_set.now line.now self.old self.new ops.items) }
-        ensures refused { IfErr result (MayRefuse dialect syntax_set.now line.now self.old) }
-        ensures err { OnErr result (self.new ≡ self.old) }
+        ensures accepted { IfOk result (λ ops.
+            Accepts dialect syntax_set.now line.now (standing self.old) (standing self.new) ops.items) }
+        ensures refused { IfErr result (
+            MayRefuse dialect syntax_set.now line.now (standing self.old)) }
+        ensures err { OnErr result (standing self.new ≡ standing self.old) }
     {
-        if self.levels.is_empty() {
+        if self.standing.levels.is_empty() {
             return Err(ParsingError::MissingMainContext);
         }
-        let (state, ops) = match read_line(alloc, syntax_set, line, self) {
+        let (standing, ops) = match read_line(alloc, syntax_set, line, &self.standing) {
             Ok(read) => read,
             Err(e) => return Err(e),
         };
-        *self = state;
+        self.standing = standing;
         Ok(ops)
     }
 }
@@ -126,7 +138,7 @@ fn first_content(set: &SyntaxSet, levels: &[Level]) -> Option<Scope>
 fn first_operations(
     alloc: Global,
     set: &SyntaxSet,
-    state: &ParseState,
+    state: &Standing,
 ) -> Result<Vec<(usize, ScopeStackOp)>, AllocError>
     ensures { IfOk result (λ ops. ops.items ≡ pushes 0 (first_push set.now state.now)) }
 {
@@ -140,14 +152,14 @@ fn first_operations(
 }
 
 /// Where the reader stands at the start of a line.
-fn at_start(state: &ParseState) -> Result<Position, AllocError>
+fn at_start(state: &Standing) -> Result<Position, AllocError>
     ensures { IfOk result (λ p. p ≡ at_start state.now) }
 {
-    let ParseState {
+    let Standing {
         levels,
         cuts,
         first_line: _,
-    } = copied_state(state)?;
+    } = copied(state)?;
     Ok(Position {
         levels,
         cuts,
@@ -162,8 +174,8 @@ fn read_line(
     alloc: Global,
     set: &SyntaxSet,
     line: &str,
-    state: &ParseState,
-) -> Result<(ParseState, Vec<(usize, ScopeStackOp)>), ParsingError>
+    state: &Standing,
+) -> Result<(Standing, Vec<(usize, ScopeStackOp)>), ParsingError>
     requires { state.now.levels ≢ [] }
     ensures accepted { IfOk result (λ r. Accepts dialect set.now line.now state.now r.0 r.1.items) }
     ensures refused { IfErr result (MayRefuse dialect set.now line.now state.now) }
@@ -193,17 +205,24 @@ fn read_line(
         last: _,
         idle: _,
     } = p;
-    let state = ParseState {
+    let left = Standing {
         levels,
         cuts,
         first_line: false,
     };
-    Ok((state, ops))
+    Ok((left, ops))
 }
 
-/// The same state once more.
-fn copied_state(state: &ParseState) -> Result<ParseState, AllocError>
+/// The same standing once more.
+fn copied(state: &Standing) -> Result<Standing, AllocError>
     ensures { IfOk result (λ s. s ≡ state.now) }
 {
     state.clone()
+}
+
+/// Whether two states are equal: exactly where they stand alike.
+pub fn is_same_state(a: &ParseState, b: &ParseState) -> bool
+    ensures { IsTrue result ↔ (standing a.now ≡ standing b.now) }
+{
+    a == b
 }

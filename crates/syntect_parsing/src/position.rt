@@ -2,6 +2,12 @@
 use crate::parser::Level;
 use syntect_values::seq::Seq;
 
+/// The number of open levels at which a push is passed over.
+pub const MOST_LEVELS: usize = 100;
+
+/// The greatest number of empty pushes and sets at one place.
+pub const MOST_IDLE: usize = 1000;
+
 /// The last empty push of a line: where it was, and how many levels there were before it, and one.
 #[derive(Clone, Copy, Debug, PartialEq, Eq)]
 pub struct Record {

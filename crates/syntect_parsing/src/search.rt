@@ -7,7 +7,7 @@ ghost use Rattle.syntect_parsing.specs.Turn.{live, live_match, searched_text, lo
 ghost use Rattle.syntect_parsing.specs.Candidates.{member_of, seen, text_of, chosen};
 
 use crate::chain::Entry;
-use crate::position::Position;
+use crate::position::{MOST_IDLE, MOST_LEVELS, Position};
 use std::alloc::{AllocError, Global};
 use syntect_engine::text::char_at;
 use syntect_grammar::syntax_definition::{MatchOperation, MatchPattern};
@@ -57,7 +57,7 @@ fn counts(height: usize, operation: &MatchOperation, start: usize, end: usize) -
     ensures { result ≡ counts height operation.now start end }
 {
     match operation {
-        MatchOperation::Push(_) => height < 100,
+        MatchOperation::Push(_) => height < MOST_LEVELS,
         MatchOperation::Set(_) => true,
         MatchOperation::Pop => true,
         MatchOperation::None => start != end,
@@ -138,8 +138,8 @@ fn turns_back(p: &Position, operation: &MatchOperation) -> bool
     ensures { result ≡ turns_back p.now operation.now }
 {
     match operation {
-        MatchOperation::Push(_) => p.idle == 1000,
-        MatchOperation::Set(_) => p.idle == 1000,
+        MatchOperation::Push(_) => p.idle == MOST_IDLE,
+        MatchOperation::Set(_) => p.idle == MOST_IDLE,
         MatchOperation::Pop => match p.last {
             None => false,
             Some(r) => r.place == p.place && r.height == p.levels.len(),

@@ -14,7 +14,7 @@ use crate::laws::{dialect_finds_in_text, dialect_lays_groups_out};
 use crate::levels::apply;
 use crate::names::check_names;
 use crate::parser::ParsingError;
-use crate::position::Position;
+use crate::position::{MOST_IDLE, Position};
 use crate::search::{Candidate, Choice, char_len, live, winner};
 use std::alloc::Global;
 use std::mem;
@@ -81,7 +81,7 @@ fn take(
 ) -> Result<(), ParsingError>
     requires within { p.old.place ≤ length line.now }
     requires boundary { IsCharBoundary line.now p.old.place }
-    requires few { p.old.idle ≤ 1000 }
+    requires few { p.old.idle ≤ MOST_IDLE }
     requires stands { StandsIn line.now p.old.place m.now.start m.now.end }
     ensures makes { IfOk result (λ _. MakesStep set.now line.now
         (step dialect set.now line.now p.old (Take (seen line.now p.old.place m.now))) p.old p.new ops.old.items ops.new.items) }
@@ -118,7 +118,7 @@ pub fn turn(
     requires room { room ≡ room_in set.now }
     requires within { p.old.place ≤ length line.now }
     requires boundary { IsCharBoundary line.now p.old.place }
-    requires few { p.old.idle ≤ 1000 }
+    requires few { p.old.idle ≤ MOST_IDLE }
     ensures turns { IfOk result (Turns dialect set.now line.now p.old p.new ops.old.items ops.new.items) }
     ensures refused { IfErr result (RefusesTurn dialect set.now line.now p.old) }
 {

@@ -1,7 +1,9 @@
 -- What follows a backslash.
 use Rattle.std.specs.Prelude.{ℕ, ◌-◌, Bool, not, ◌&&◌, ◌||◌, ◌==◌, nat_le, List, [], ◌∷◌, length, take, drop, Option, Some, None, option_map, if◌then◌else◌, find}
 use Rattle.std.specs.List.{list_all}
-use Rattle.std.specs.Char.{is_digit, is_ascii_alphanumeric, is_ascii_uppercase}
+use Rattle.std.specs.Char.{is_digit, is_ascii_uppercase}
+use Rattle.unicode.specs.GeneralCategory.{general_category, general_category_eq}
+use Rattle.unicode.specs.GeneralCategoryGroup.{in_group}
 use Rattle.ucd_category.specs.declared.GeneralCategory.TheVariants.{UppercaseLetter, LowercaseLetter, TitlecaseLetter, ModifierLetter, OtherLetter, NonspacingMark, SpacingMark, EnclosingMark, DecimalNumber, LetterNumber, OtherNumber, ConnectorPunctuation, DashPunctuation, OpenPunctuation, ClosePunctuation, InitialPunctuation, FinalPunctuation, OtherPunctuation, MathSymbol, CurrencySymbol, ModifierSymbol, OtherSymbol, SpaceSeparator, LineSeparator, ParagraphSeparator, Control, Format, Surrogate, PrivateUse, Unassigned}
 use Rattle.ucd_category.specs.declared.GeneralCategoryGroup.TheVariants.{Other, Letter, Mark, Number, Punctuation, Symbol, Separator}
 use Rattle.syntect_pattern.specs.Sets.{Set, category, categories, word, space, digit, hex_digit, negate_if}
@@ -77,11 +79,14 @@ name_escape t = do
 abbrev pub set_letter : ℕ → Set → Option Escape
 set_letter c found = Some (set (negate_if (is_ascii_uppercase c) found))
 
--- an escape of one character: a character that is no letter or digit is itself
+-- a letter or digit of any script: the categories L and Nd
+abbrev pub is_letter_or_digit : ℕ → Bool
+is_letter_or_digit c = in_group Letter (general_category c) || general_category_eq (general_category c) DecimalNumber
+
+-- an escape of one character: but for these a letter or digit has none, and any other character is itself
 unfoldable pub one_letter : ℕ → Option Escape
 one_letter c =
-    if not (is_ascii_alphanumeric c) then Some (char c)
-    else if c ∈ "wW" then set_letter c word
+    if c ∈ "wW" then set_letter c word
     else if c ∈ "dD" then set_letter c digit
     else if c ∈ "sS" then set_letter c space
     else if c ∈ "hH" then set_letter c hex_digit
@@ -98,7 +103,8 @@ one_letter c =
     else if c ∈ "a" then Some (char 0x07)
     else if c ∈ "e" then Some (char 0x1B)
     else if c ∈ "123456789" then Some (number (c - 0x30))
-    else None
+    else if is_letter_or_digit c then None
+    else Some (char c)
 
 -- from the character after the backslash on
 unfoldable pub escape : Text → Option (Escape × Text)

@@ -1,6 +1,7 @@
 //! Tests of a character.
 ghost use Rattle.std.specs.Prelude.{◌≡◌};
 ghost use Rattle.syntect_pattern.specs.Sets as sets;
+ghost use Rattle.syntect_pattern.specs.Escapes as escapes;
 
 use ucd_case::simple_fold;
 use ucd_category::{GeneralCategory, GeneralCategoryGroup};
@@ -23,4 +24,12 @@ pub fn same_fold(c: char, d: char) -> bool
     ensures { result ≡ sets.same_fold c d }
 {
     simple_fold(c) == simple_fold(d)
+}
+
+/// Whether the character is a letter or a decimal digit, of any script.
+pub fn is_letter_or_digit(c: char) -> bool
+    ensures { result ≡ escapes.is_letter_or_digit c }
+{
+    let category = GeneralCategory::for_char(c);
+    GeneralCategoryGroup::Letter.contains(category) || category == GeneralCategory::DecimalNumber
 }

@@ -4,3 +4,4 @@ pub mod ReaderLaws
 pub mod WholeLaws
 pub mod GroupLaws
 pub mod JoinLaws
+pub mod NeedLaws

@@ -2,10 +2,9 @@
 ghost use Rattle.syntect_pattern_table.specs.Table.{IsOrdered};
 
 use crate::classes::SetBuilder;
-use std::alloc::{AllocError, Global};
+use std::alloc::AllocError;
 use syntect_pattern_table::node::Node;
 use syntect_pattern_table::sets::Class;
-use syntect_pattern_table::starts::starts;
 use syntect_pattern_words::members::Leaf;
 use syntect_values::seq::Seq;
 
@@ -30,7 +29,6 @@ impl Builder {
     ghost use Rattle.syntect_pattern_words.specs.MemberViews.{leaf_set};
     ghost use Rattle.syntect_pattern.specs.Trees.{one_of};
     ghost use Rattle.syntect_pattern_table.specs.Table.{node_tree, parts_before, trees};
-    ghost use Rattle.syntect_pattern_table.specs.Starts.{AreStarts};
     ghost use Rattle.syntect_pattern_table.specs.Builder.{Grows, Holds, tree_in};
     ghost use Rattle.syntect_pattern_reader.specs.JoinViews.{AllBelow, trees_in, joined, chained};
 
@@ -109,13 +107,5 @@ impl Builder {
         } else {
             self.push(Node::Char(c))
         }
-    }
-
-    /// Whether a match of the node can begin, for all that can stand at a place.
-    pub fn starts(&self, alloc: Global, root: usize) -> Result<Seq<bool>, AllocError>
-        requires { root < length self.now.nodes }
-        ensures { IfOk result (λ flags. AreStarts flags (tree_in self.now.nodes root)) }
-    {
-        starts(alloc, self.nodes.as_slice(), root)
     }
 }

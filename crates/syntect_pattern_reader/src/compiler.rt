@@ -7,6 +7,7 @@ ghost use Rattle.syntect_pattern.specs.Grammar.{tree_of, whole};
 ghost use Rattle.syntect_pattern.specs.Grammar as grammar;
 ghost use Rattle.syntect_pattern_reader.specs.Compiled.{Compiles, whole_as, tree_read};
 
+use crate::needs::need_in;
 use crate::reader::Reader;
 use std::alloc::{AllocError, Global};
 use syntect_pattern_table::node::Node;
@@ -77,12 +78,7 @@ fn program_of(alloc: Global, reader: Reader, body: usize) -> Result<Program, All
         names,
         ..
     } = reader;
-    let starts = builder.starts(alloc, body)?;
+    let needed = need_in(alloc, builder.nodes.as_slice(), body)?;
     let root = builder.push(Node::Group { number: 0, body })?;
-    Ok(Program {
-        nodes: builder.nodes,
-        root,
-        groups: names.len() + 1,
-        starts,
-    })
+    Program::new(alloc, builder.nodes, root, names.len() + 1, needed)
 }

@@ -4,4 +4,5 @@
 mod builder;
 mod classes;
 pub mod compiler;
+mod needs;
 mod reader;

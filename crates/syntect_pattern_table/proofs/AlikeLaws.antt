@@ -21,7 +21,7 @@ any_from test low zero d a b e = absurd (omega arith)
 any_from test low (suc n) d a b e =
     or_true (test low) _ (λ no. let ne = differs test low d no e in any_from test (suc low) n d (omega arith) (omega arith) e)
 
-or_cases : (a b : Bool) → (a || b) ≡ true → (a ≡ true) ⊎ (b ≡ true)
+pub or_cases : (a b : Bool) → (a || b) ≡ true → (a ≡ true) ⊎ (b ≡ true)
 or_cases true b e = inl refl
 or_cases false b e = inr e
 
@@ -101,3 +101,19 @@ alike_one low c =
     let one : suc low - low ≡ 1 = omega arith in
     let last : (b : Bool) → b ≡ (b || false) = λ b. elim b as (λ x. x ≡ (x || false)) [ true ↦ refl | false ↦ refl ] in
     last (same_fold low c) ∙ sym (ap (λ n. list_any (λ d. same_fold d c) (numbers_from low n)) one)
+
+-- a character beside one alone, by the folding of the one
+pub folds_alike : (low c folded lower : ℕ) → folded ≡ simple_fold low → simple_fold c ≡ lower → (folded == lower) ≡ is_alike low low c
+unfolding same_fold
+folds_alike low c folded lower e h = ap (λ n. n == lower) e ∙ ap (λ n. simple_fold low == n) (sym h) ∙ alike_one low c
+
+-- a character in the range, or in a pair with one in the range
+pub alike_pairs : (low high c : ℕ) (ps : List (ℕ × ℕ)) → IsFoldPairs ps → (is_within low high c || list_any (joins low high c) ps) ≡ is_alike low high c
+alike_pairs low high c ps are = go (is_within low high c) refl
+  where
+    go : (b : Bool) → is_within low high c ≡ b → (b || list_any (joins low high c) ps) ≡ is_alike low high c
+    go true h = sym (alike_within low high c h)
+    go false h = alike_outside low high c h ps are
+
+pub or_same : (t a b c d : Bool) → t ≡ (a || b) → a ≡ c → b ≡ d → t ≡ (c || d)
+or_same t a b c d e h k = e ∙ ap (λ x. x || b) h ∙ ap (λ x. c || x) k

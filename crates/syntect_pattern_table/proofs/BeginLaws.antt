@@ -1,20 +1,25 @@
 -- Where no match can begin.
-use Rattle.std.proofs.Common.{◌≡◌, ◌<◌, ◌≤◌, ◌||◌, ℕ, true, false, List, length, get_or, sym, ◌∙◌, ap, arith, inl, inr, min, below_more, length-append, [], ◌∷◌, ◌++◌}
-use Rattle.std.specs.Prelude.{if◌then◌else◌, nat_lt}
+use Rattle.std.proofs.Common.{◌≡◌, ◌<◌, ◌≤◌, ◌||◌, ℕ, zero, suc, Bool, true, false, not, Some, List, length, get_or, sym, ◌∙◌, ap, arith, inl, inr, min, below_more, length-append, [], ◌∷◌, ◌++◌, ◌+◌, ◌-◌, None, drop, subst, eq-eqb, length-drop, refl, Option}
+use Rattle.memchr.specs.Find.{IsFirstByte, is_byte}
+use Rattle.std.proofs.lemmas.List.{get_or-drop}
+use Rattle.syntect_pattern_table.specs.Needs.{IsAbsent}
+use Rattle.std.specs.Prelude.{if◌then◌else◌, nat_lt, IsUtf8, IsCharBoundary, slice_get}
 use Rattle.std.proofs.lemmas.Bool.{lt-ltb, le-ltb, cases_lt}
 use Rattle.std.proofs.Math.ListN.{get_or-append}
 use Rattle.std.proofs.Math.Seq.{get_or-append_seam}
 use Rattle.syntect_pattern.specs.Trees.{Tree, nothing}
-use Rattle.syntect_pattern_table.specs.Starts.{start_at, Begin, begins, begins_at, reads, stays}
+use Rattle.syntect_pattern_table.specs.Starts.{start_at, AreFirsts, Begin, begins, begins_at, is_in, reads, stays}
 use Rattle.syntect_pattern_table.specs.declared.starts.Firsts.{Firsts}
+use Rattle.syntect_pattern_table.specs.declared.starts.Places.{Places}
+use Rattle.syntect_pattern.specs.Matches.{Groups, matches}
 use Rattle.syntect_pattern_table.specs.Program.{CannotBegin}
 use Rattle.syntect_pattern_table.specs.declared.program.Program.{Program}
-use Rattle.syntect_pattern_table.proofs.StartLaws.{found_at-nothing}
+use Rattle.syntect_pattern_table.proofs.StartLaws.{dead-at, found_at-nothing}
 
 -- the flag of what stands at the place tells
-pub cannot_begin : (s : List ℕ) (p : Program) (i x : ℕ) → start_at s i ≡ x → x < 130 → get_or p.starts x true ≡ false → CannotBegin s p i
-cannot_begin s p i x h l f tree is =
-    found_at-nothing s tree i (ap (λ y. reads tree y || stays tree y) h ∙ sym (is.starts x l) ∙ f)
+pub cannot_begin : (s : List ℕ) → IsUtf8 s → (p : Program) (i x : ℕ) → start_at s i ≡ x → x < 130 → get_or p.starts x true ≡ false → CannotBegin s p i
+cannot_begin s u p i x h l f tree is =
+    found_at-nothing s u tree i (ap (λ y. reads tree y || stays tree y) h ∙ sym (is.starts x l) ∙ f)
 
 -- what stands at the place
 pub start-past : (s : List ℕ) (i : ℕ) → length s ≤ i → start_at s i ≡ 129
@@ -33,12 +38,47 @@ start-wide s i h l =
     ap (λ b. if b then (if nat_lt (get_or s i 0) 128 then get_or s i 0 else 128) else 129) (lt-ltb i (length s) h)
     ∙ ap (λ b. if b then get_or s i 0 else 128) (le-ltb (get_or s i 0) 128 l)
 
--- the flag of a byte tells
-pub cannot_begin-at : (s : List ℕ) (p : Program) (i m : ℕ) → i < length s → m ≡ min (get_or s i 0) 128 → get_or p.starts m true ≡ false → CannotBegin s p i
-cannot_begin-at s p i m h is f = elim (cases_lt (get_or s i 0) 128) [
-  | inl l ↦ cannot_begin s p i m (start-ascii s i h l ∙ (let b : get_or s i 0 ≡ m = omega (arith, is) in b)) (omega (arith, is)) f
-  | inr g ↦ cannot_begin s p i m (start-wide s i h g ∙ (let b : 128 ≡ m = omega (arith, is) in b)) (omega (arith, is)) f
+pub start-min : (s : List ℕ) (i m : ℕ) → i < length s → m ≡ min (get_or s i 0) 128 → m ≡ start_at s i
+start-min s i m h is = elim (cases_lt (get_or s i 0) 128) [
+  | inl l ↦ sym (start-ascii s i h l ∙ (let b : get_or s i 0 ≡ m = omega (arith, is) in b))
+  | inr g ↦ sym (start-wide s i h g ∙ (let b : 128 ≡ m = omega (arith, is) in b))
 ]
+
+-- the flag of a byte tells
+pub cannot_begin-at : (s : List ℕ) → IsUtf8 s → (p : Program) (i m : ℕ) → i < length s → m ≡ min (get_or s i 0) 128 → get_or p.starts m true ≡ false → CannotBegin s p i
+cannot_begin-at s u p i m h is f = cannot_begin s u p i m (sym (start-min s i m h is)) (omega (arith, is)) f
+
+-- a byte that isn't found behind a place is absent from there on
+pub absent-behind : (s rest : List ℕ) (b place : ℕ) → rest ≡ drop place s → (r : Option ℕ) → r ≡ None → IsFirstByte (is_byte b) rest r → (i : ℕ) → place ≤ i → IsAbsent s b i
+absent-behind s rest b place is r none first i l k m n e =
+    let nowhere : IsFirstByte (is_byte b) rest None = subst (λ (o : Option ℕ). IsFirstByte (is_byte b) rest o) none first in
+    let here : get_or rest (k - place) 0 ≡ b =
+    ap (λ (t : List ℕ). get_or t (k - place) 0) is ∙ get_or-drop place s (k - place) 0 ∙ ap (λ j. get_or s j 0) (let j : place + (k - place) ≡ k = omega arith in j) ∙ e in
+    nowhere (k - place) (omega arith) (omega (arith, ap length is, length-drop place s)) (eq-eqb (get_or rest (k - place) 0) b here)
+
+-- -- The places of each node
+
+some_got : (ps : List Places) (k : ℕ) (p : Places) → Some p ≡ slice_get ps k → (k < length ps) × (get_or ps k p ≡ p)
+some_got [] zero p e = cc
+some_got [] (suc k) p e = cc
+some_got (x ∷ ps) zero p e = let h : Some p ≡ Some x = e in (omega arith, cc)
+some_got (x ∷ ps) (suc k) p e = let r = some_got ps k p e in (omega (arith, r.0), r.1)
+
+-- a node that can't begin where this stands has no match
+pub dead-known : (s : List ℕ) → IsUtf8 s → (i : ℕ) → IsCharBoundary s i → (ps : List Places) (ts : List Tree) → AreFirsts ps ts → (k : ℕ) (p : Places) → Some p ≡ slice_get ps k
+    → (x : ℕ) → x ≡ start_at s i → x < 130 → (b : Bool) → b ≡ is_in p x → not b ≡ true → (g : Groups) → matches s (get_or ts k nothing) i g ≡ []
+dead-known s u i at ps ts known k p got x is l false e h =
+    let r = some_got ps k p got in
+    dead-at s u (get_or ts k nothing) i
+    (ap (λ y. reads (get_or ts k nothing) y || stays (get_or ts k nothing) y) (sym is) ∙ sym (known k x p r.0 l) ∙ ap (λ (q : Places). is_in q x) r.1 ∙ sym e) at
+dead-known s u i at ps ts known k p got x is l true e h = cc
+
+pub AreFirsts-push : (ps : List Places) (ts : List Tree) (p : Places) (k : ℕ) → AreFirsts ps ts → length ps ≡ k
+    → ((x : ℕ) → x < 130 → is_in p x ≡ (reads (get_or ts k nothing) x || stays (get_or ts k nothing) x)) → AreFirsts (ps ++ p ∷ []) ts
+AreFirsts-push ps ts p k h e is j x d l m =
+    below_more (λ n. (c : Places) → is_in (get_or (ps ++ p ∷ []) n c) x ≡ (reads (get_or ts n nothing) x || stays (get_or ts n nothing) x)) (length ps)
+    (λ n q c. ap (λ (y : Places). is_in y x) (get_or-append ps (p ∷ []) c n q) ∙ h n x c q m)
+    (λ c. ap (λ (y : Places). is_in y x) (get_or-append_seam ps p [] c) ∙ is x m ∙ ap (λ n. reads (get_or ts n nothing) x || stays (get_or ts n nothing) x) (sym e)) j (omega (arith, length-append ps (p ∷ []))) d
 
 -- one more node's beginning
 pub Begin-push : (x : ℕ) (fs : List Firsts) (ts : List Tree) (f : Firsts) (k : ℕ) → Begin x fs ts → length fs ≡ k → begins_at x f ≡ begins x (get_or ts k nothing) → Begin x (fs ++ f ∷ []) ts

@@ -1,4 +1,5 @@
 pub mod AlikeLaws
+pub mod AsciiLaws
 pub mod TableLaws
 pub mod SetLaws
 pub mod BuilderLaws

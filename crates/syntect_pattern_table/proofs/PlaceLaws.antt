@@ -6,7 +6,7 @@ use Rattle.std.proofs.lemmas.Bool.{lt-ltb, le-ltb, cases_lt}
 use Rattle.std.proofs.lemmas.Bool.Decides.{nat_tests, eqb_tells}
 use Rattle.std.proofs.lemmas.Nat.Bits.{bit_at_or, bit_at_and, bit_at-lt, bit_at-zero, bit_at_ones, bit_at_set_same, bit_at_set_other, shr_and_one}
 use Rattle.syntect_pattern.specs.Sets.{Set, none, range, holds}
-use Rattle.syntect_pattern_table.specs.SetTable.{AreBits, sets, set_in}
+use Rattle.syntect_pattern_table.specs.SetTable.{AreBits, is_wide, sets, set_in}
 use Rattle.syntect_pattern_table.specs.declared.sets.Part.{Part}
 use Rattle.syntect_pattern_table.proofs.SetLaws.{get_or-past, length-sets}
 use Rattle.std.proofs.Math.ListN.{get_or-append}
@@ -106,15 +106,15 @@ or_false : (b : Bool) → (b || false) ≡ b
 or_false true = refl
 or_false false = refl
 
-as_test : (b : Bool) → (if b then true else false) ≡ b
-as_test true = refl
-as_test false = refl
+as_and : (b w : Bool) → (if b then w else false) ≡ (b && w)
+as_and true w = refl
+as_and false w = refl
 
-pub holding_in : (n : ℕ) (a : Set) → ((x : ℕ) → x < 128 → (bit_at n x == 1) ≡ holds a x) → (x : ℕ) → is_in (record { ascii = n; wide = true; end = false }) x ≡ can_hold a x
+pub holding_in : (n : ℕ) (a : Set) (w : Bool) → ((x : ℕ) → x < 128 → (bit_at n x == 1) ≡ holds a x) → w ≡ is_wide a → (x : ℕ) → is_in (record { ascii = n; wide = w; end = false }) x ≡ can_hold a x
 unfolding is_in
-holding_in n a h x = elim (cases_lt x 128) [
+holding_in n a w h e x = elim (cases_lt x 128) [
   | inl l ↦ rw (lt-ltb x 128 l) (h x l)
-  | inr l ↦ rw (le-ltb x 128 l) (as_test (x == 128))
+  | inr l ↦ rw (le-ltb x 128 l) (as_and (x == 128) w ∙ ap (λ b. x == 128 && b) e)
 ]
 
 is_one : (w x : ℕ) → (x == w) ≡ holds (range w w) x
@@ -123,11 +123,12 @@ is_one w x = elim (eqb_tells x w) [
   | inr f ↦ f.0 ∙ sym (grind (arith, nat_tests))
 ]
 
-pub char_in : (w n : ℕ) → ((x : ℕ) → (bit_at n x == 1) ≡ ((x == w) || (bit_at 0 x == 1))) → (x : ℕ) → is_in (record { ascii = n; wide = true; end = false }) x ≡ can_hold (range w w) x
-char_in w n h = holding_in n (range w w) (λ x l. h x ∙ ap (λ b. (x == w) || b) (no_bit x) ∙ or_false (x == w) ∙ is_one w x)
+pub char_in : (w : ℕ) → w < 128 → (n : ℕ) → ((x : ℕ) → (bit_at n x == 1) ≡ ((x == w) || (bit_at 0 x == 1))) → (x : ℕ) → is_in (record { ascii = n; wide = false; end = false }) x ≡ can_hold (range w w) x
+char_in w near n h =
+    holding_in n (range w w) false (λ x l. h x ∙ ap (λ b. (x == w) || b) (no_bit x) ∙ or_false (x == w) ∙ is_one w x) (grind (arith, nat_tests))
 
 pub wide_in : (w : ℕ) → 128 ≤ w → (x : ℕ) → is_in (record { ascii = 0; wide = true; end = false }) x ≡ can_hold (range w w) x
-wide_in w far = holding_in 0 (range w w) (λ x l. no_bit x ∙ sym (ne_eqb x w (λ e. omega (arith, e, l, far))) ∙ is_one w x)
+wide_in w far = holding_in 0 (range w w) true (λ x l. no_bit x ∙ sym (ne_eqb x w (λ e. omega (arith, e, l, far))) ∙ is_one w x) (grind (arith, nat_tests))
 
 pub newline_in : (n : ℕ) → ((x : ℕ) → (bit_at n x == 1) ≡ ((x == 10) || (bit_at 0 x == 1))) → (x : ℕ) → is_in (record { ascii = n; wide = true; end = true }) x ≡ (not (nat_lt x 128) || x == 10)
 unfolding is_in

@@ -5,7 +5,7 @@ use Rattle.std.proofs.Math.Seq.{get_or-append_seam}
 use Rattle.std.proofs.lemmas.Bool.{ltb-true, lt-ltb, and_parts}
 use Rattle.std.proofs.lemmas.Bool.Decides.{nat_tests}
 use Rattle.syntect_pattern.specs.Sets.{Set, none, negated, either, both, holds}
-use Rattle.syntect_pattern_table.specs.SetTable.{part_set, sets_from, sets, set_in, made_before, AreOrdered, SetsGrow, HasSet}
+use Rattle.syntect_pattern_table.specs.SetTable.{is_wide, part_set, sets_from, sets, set_in, made_before, AreOrdered, SetsGrow, HasSet}
 use Rattle.syntect_pattern_table.specs.declared.sets.Part.{Part}
 
 get_or-sets_from : (ts : List Set) (ps : List Part) (n : ℕ) → n < length ts → get_or (sets_from ts ps) n none ≡ get_or ts n none
@@ -124,6 +124,10 @@ and_yes false b e = refl
 -- what holds of the set at a place, from its part
 pub holds-of : (ps : List Part) → AreOrdered ps → (k : ℕ) (p : Part) → p ≡ get_or ps k Part.Nothing → (c : ℕ) → holds (part_set (sets ps) p) c ≡ holds (set_in ps k) c
 holds-of ps h k p e c = sym (ap (λ (s : Set). holds s c) ((set-at ps h k p e).is))
+
+-- whether the set at a place can hold a character beyond ASCII, from its part
+pub wide-of : (ps : List Part) → AreOrdered ps → (k : ℕ) (p : Part) → p ≡ get_or ps k Part.Nothing → is_wide (part_set (sets ps) p) ≡ is_wide (set_in ps k)
+wide-of ps h k p e = sym (ap is_wide ((set-at ps h k p e).is))
 
 -- -- A table grows
 

@@ -1,16 +1,22 @@
 -- Where a match can begin.
-use Rattle.std.proofs.Common.{◌≡◌, ◌<◌, ◌≤◌, ◌==◌, ◌-◌, ◌+◌, ◌&&◌, ◌||◌, ◌⊎◌, inl, inr, ℕ, zero, suc, Bool, true, false, not, List, [], ◌∷◌, length, drop, map, get_or, refl, sym, ◌∙◌, ap, subst, arith, Option, Some, None, ne_eqb, eq-eqb, cond, nat_lt}
+use Rattle.std.proofs.Common.{◌≡◌, ◌<◌, ◌≤◌, ◌==◌, ◌-◌, ◌+◌, ◌&&◌, ◌||◌, ◌⊎◌, inl, inr, ℕ, zero, suc, Bool, true, false, not, List, [], ◌∷◌, length, drop, map, get_or, refl, sym, ◌∙◌, ap, subst, arith, Option, Some, None, ne_eqb, eq-eqb, cond, nat_lt, leb-true}
 use Rattle.std.specs.Char.{len_utf8}
-use Rattle.std.specs.Prelude.{slice_get, option_map, if◌then◌else◌}
+use Rattle.std.specs.Prelude.{slice_get, option_map, if◌then◌else◌, IsUtf8, IsCharBoundary, nat_le}
 use Rattle.std.specs.Str.{chars, chars_after}
 use Rattle.std.specs.List.{flat_map}
 use Rattle.std.proofs.Math.Seq.{drop-cons}
-use Rattle.std.proofs.lemmas.List.{drop_all}
-use Rattle.std.proofs.lemmas.Bool.{lt-ltb, cases_lt, le-ltb}
+use Rattle.std.proofs.lemmas.List.{drop_all, get_or-drop}
+use Rattle.std.proofs.lemmas.Bool.{lt-ltb, cases_lt, le-ltb, le-leb, and_parts}
+use Rattle.std.proofs.lemmas.Bool.Decides.{nat_tests}
+use Rattle.std.proofs.lemmas.Str.{IsUtf8-drop, chars-encodes, byte_from_char}
+use Rattle.std.proofs.Math.Utf8.{encodes}
 use Rattle.syntect_pattern.specs.Text.{char_at, is_boundary}
-use Rattle.syntect_pattern.specs.Sets.{Set, holds}
+use Rattle.syntect_pattern.specs.Sets.{Set, none, range, alike, category, categories, word, space, either, both, negated, holds}
 use Rattle.syntect_pattern.specs.Trees.{Anchor, line_start, line_end, text_start, text_end, last_line_end, word_edge, no_word_edge, Tree, nothing, one_of, anchor, same, seq, alt, repeat, group, atomic, ahead, behind}
 use Rattle.syntect_pattern.specs.Matches.{Groups, Member, Way, matches, turns, prefer, while_left, after_turn, only_if, past, close, stands, is_newline, look, stay, ending_here, unset, found_at}
+use Rattle.syntect_pattern_table.specs.SetTable.{is_wide}
+use Rattle.syntect_pattern_table.proofs.AlikeLaws.{or_cases}
+use Rattle.syntect_pattern_table.specs.Needs.{Needs, IsAbsent}
 use Rattle.syntect_pattern_table.specs.Starts.{start_at, can_hold, can_stand, reads, stays}
 use Rattle.syntect_pattern.proofs.Each.{Each, each_of, each-append, each-flat_map, each-map, each-take}
 
@@ -33,15 +39,31 @@ char_at-ascii s i h l =
     ∙ ap (λ (b : Bool). slice_get (chars_after (cond b 0 (cond (nat_lt (get_or s i 0) 224) 1 (cond (nat_lt (get_or s i 0) 240) 2 3))) (cond b (get_or s i 0) (cond (nat_lt (get_or s i 0) 224) (get_or s i 0 - 192) (cond (nat_lt (get_or s i 0) 240) (get_or s i 0 - 224) (get_or s i 0 - 240)))) (drop (suc i) s)) 0) (lt-ltb (get_or s i 0) 128 l)
     ∙ after-first (get_or s i 0) (drop (suc i) s)
 
+-- a character that begins with a byte beyond ASCII is beyond ASCII
+lead-wide : (cs bs : List ℕ) (c : ℕ) → encodes cs ≡ bs → slice_get cs 0 ≡ Some c → 128 ≤ get_or bs 0 0 → 128 ≤ c
+lead-wide [] bs c e h l = cc
+lead-wide (d ∷ ds) bs c e h l = elim (cases_lt d 128) [
+  | inl p ↦ absurd (omega (arith, byte_from_char bs (encodes ds) d (sym e) p, p, l))
+  | inr p ↦ (let k : Some d ≡ Some c = h in let same : d ≡ c = cc in omega (arith, p, same))
+]
+
+pub char_at-wide : (s : List ℕ) → IsUtf8 s → (i : ℕ) → IsCharBoundary s i → 128 ≤ get_or s i 0 → (c : ℕ) → char_at s i ≡ Some c → 128 ≤ c
+unfolding char_at
+char_at-wide s u i b l c e =
+    let rest = IsUtf8-drop s i u b in
+    let same : chars (drop i s) ≡ rest.0 = ap chars (sym rest.1.1) ∙ chars-encodes rest.0 rest.1.0 in
+    lead-wide rest.0 (drop i s) c rest.1.1 (ap (λ (cs : List ℕ). slice_get cs 0) (sym same) ∙ e)
+    (let k : get_or (drop i s) 0 0 ≡ get_or s i 0 = get_or-drop i s 0 0 ∙ ap (λ n. get_or s n 0) (omega arith) in omega (arith, k, l))
+
 -- what stands at the place
 pub data Start (s : List ℕ) (i x : ℕ) : Type 0 where
   ascii : x < 128 → char_at s i ≡ Some x → i < length s → Start s i x
-  wide : x ≡ 128 → i < length s → Start s i x
+  wide : x ≡ 128 → i < length s → ((c : ℕ) → char_at s i ≡ Some c → 128 ≤ c) → Start s i x
   over : x ≡ 129 → length s ≤ i → Start s i x
 
-pub start-is : (s : List ℕ) (i : ℕ) → Start s i (start_at s i)
+pub start-is : (s : List ℕ) → IsUtf8 s → (i : ℕ) → IsCharBoundary s i → Start s i (start_at s i)
 unfolding start_at
-start-is s i = elim (cases_lt i (length s)) [
+start-is s u i b = elim (cases_lt i (length s)) [
   | inl h ↦
       (let outer : start_at s i ≡ (if nat_lt (get_or s i 0) 128 then get_or s i 0 else 128) = ap (λ b. if b then (if nat_lt (get_or s i 0) 128 then get_or s i 0 else 128) else 129) (lt-ltb i (length s) h) in
       elim (cases_lt (get_or s i 0) 128) [
@@ -50,10 +72,14 @@ start-is s i = elim (cases_lt i (length s)) [
             subst (Start s i) (sym is) (ascii l (char_at-ascii s i h l) h))
         | inr g ↦
             (let is : start_at s i ≡ 128 = outer ∙ ap (λ b. if b then get_or s i 0 else 128) (le-ltb (get_or s i 0) 128 g) in
-            wide is h)
+            wide is h (char_at-wide s u i b g))
       ])
   | inr h ↦ over (ap (λ b. if b then (if nat_lt (get_or s i 0) 128 then get_or s i 0 else 128) else 129) (le-ltb i (length s) h)) h
 ]
+
+pub boundary-true : (s : List ℕ) (i : ℕ) → is_boundary s i ≡ true → IsCharBoundary s i
+unfolding is_boundary
+boundary-true s i h = (grind (arith, nat_tests), λ a b. grind (arith, nat_tests))
 
 -- -- What a match needs
 
@@ -69,6 +95,27 @@ and-both : (a b : Bool) → a ≡ true → b ≡ true → (a && b) ≡ true
 and-both true b e h = h
 and-both false b e h = cc
 
+-- a set that holds a character beyond ASCII can do so
+wide-holds : (a : Set) (c : ℕ) → 128 ≤ c → holds a c ≡ true → is_wide a ≡ true
+wide-holds none c l e = cc
+wide-holds (range low high) c l e =
+    let p = and_parts (nat_le low c) (nat_le c high) e in
+    let q : c ≤ high = leb-true c high p.1 in
+    le-leb 128 high (omega arith)
+wide-holds (alike low high) c l e = refl
+wide-holds (category k) c l e = refl
+wide-holds (categories k) c l e = refl
+wide-holds word c l e = refl
+wide-holds space c l e = refl
+wide-holds (either a b) c l e = elim (or_cases (holds a c) (holds b c) e) [
+  | inl p ↦ or-in_left (is_wide a) (is_wide b) (wide-holds a c l p)
+  | inr p ↦ or-in_right (is_wide a) (is_wide b) (wide-holds b c l p)
+]
+wide-holds (both a b) c l e =
+    let p = and_parts (holds a c) (holds b c) e in
+    and-both (is_wide a) (is_wide b) (wide-holds a c l p.0) (wide-holds b c l p.1)
+wide-holds (negated a) c l e = refl
+
 module _ (s : List ℕ) where
   -- a member reads something where its tree can, or reads nothing where it can do that
   abbrev pub Begins : (r t : Bool) → ℕ → ℕ → Type 0
@@ -82,20 +129,17 @@ module _ (s : List ℕ) where
   if-begins false j g r t i h = tt
 
   hold-true : (a : Set) (c x : ℕ) → x < 128 → c ≡ x → holds a c ≡ true → can_hold a x ≡ true
-  hold-true a c x l e h = ap (λ b. if b then holds a x else x == 128) (lt-ltb x 128 l) ∙ ap (holds a) (sym e) ∙ h
+  hold-true a c x l e h = ap (λ b. if b then holds a x else (x == 128 && is_wide a)) (lt-ltb x 128 l) ∙ ap (holds a) (sym e) ∙ h
 
   one-begins : (a : Set) (i x : ℕ) (g : Groups) → Start s i x → AllBegin (can_hold a x) false i (past (holds a) (char_at s i) i g)
   one-begins a i x g (ascii l e h) =
       subst (λ (o : Option ℕ). AllBegin (can_hold a x) false i (past (holds a) o i g)) (sym e)
       (if-begins (holds a x) (i + len_utf8 x) g (can_hold a x) false i (λ y. inl (hold-true a x x l refl y)))
-  one-begins a i x g (wide e h) = go (char_at s i)
+  one-begins a i x g (wide e h f) = go (char_at s i) refl
     where
-      is : can_hold a x ≡ true
-      is = ap (can_hold a) e
-
-      go : (o : Option ℕ) → AllBegin (can_hold a x) false i (past (holds a) o i g)
-      go None = tt
-      go (Some c) = if-begins (holds a c) (i + len_utf8 c) g (can_hold a x) false i (λ y. inl is)
+      go : (o : Option ℕ) → char_at s i ≡ o → AllBegin (can_hold a x) false i (past (holds a) o i g)
+      go None k = tt
+      go (Some c) k = if-begins (holds a c) (i + len_utf8 c) g (can_hold a x) false i (λ y. inl (ap (can_hold a) e ∙ wide-holds a c (f c k) y))
   one-begins a i x g (over e h) = subst (λ (o : Option ℕ). AllBegin (can_hold a x) false i (past (holds a) o i g)) (sym (char_at-past s i h)) tt
 
   not-end : (i : ℕ) → i < length s → (i == length s) ≡ false
@@ -111,7 +155,7 @@ module _ (s : List ℕ) where
       first : (a b : Bool) → (a && b) ≡ true → a ≡ true
       first true b e = refl
       first false b e = cc
-  line-stands i x rest (wide e h) y = ap (λ n. not (nat_lt n 128) || n == 0x0A) e
+  line-stands i x rest (wide e h f) y = ap (λ n. not (nat_lt n 128) || n == 0x0A) e
   line-stands i x rest (over e h) y = ap (λ n. not (nat_lt n 128) || n == 0x0A) e
 
   and-true : (b : Bool) → (b && true) ≡ b
@@ -120,7 +164,7 @@ module _ (s : List ℕ) where
 
   end-stands : (i x : ℕ) → Start s i x → (i == length s) ≡ true → (x == 129) ≡ true
   end-stands i x (ascii l e h) y = let no : true ≡ false = sym y ∙ not-end i h in cc
-  end-stands i x (wide e h) y = let no : true ≡ false = sym y ∙ not-end i h in cc
+  end-stands i x (wide e h f) y = let no : true ≡ false = sym y ∙ not-end i h in cc
   end-stands i x (over e h) y = ap (λ n. n == 129) e
 
   anchor-stands : (a : Anchor) (i x : ℕ) → Start s i x → stands s a i ≡ true → can_stand a x ≡ true
@@ -183,7 +227,7 @@ module _ (s : List ℕ) where
     | inr z ↦ (inr (refl, or-in_right r t z.1), tt)
   ]
 
-  look-begins : (negated : Bool) (i : ℕ) (g : Groups) (ms : List Member) → AllBegin false true i (look negated i g ms)
+  look-begins : (n : Bool) (i : ℕ) (g : Groups) (ms : List Member) → AllBegin false true i (look n i g ms)
   look-begins false i g [] = tt
   look-begins false i g (m ∷ ms) = (inr (refl, refl), tt)
   look-begins true i g [] = (inr (refl, refl), tt)
@@ -214,7 +258,7 @@ module _ (s : List ℕ) where
   matches-begin (atomic a) i x g st = each-take (λ m. Begins (reads a x) (stays a x) i m.0) 1 (matches s a i g) (matches-begin a i x g st)
   matches-begin (ahead false a) i x g st = stay-begins (reads a x) (stays a x) i (matches s a i g) (matches-begin a i x g st)
   matches-begin (ahead true a) i x g st = look-begins true i g (matches s a i g)
-  matches-begin (behind negated a) i x g st = look-begins negated i g (ending_here s (matches s a) i i g)
+  matches-begin (behind n a) i x g st = look-begins n i g (ending_here s (matches s a) i i g)
 
   none-begins : (r t : Bool) (i : ℕ) (ms : List Member) → (r || t) ≡ false → AllBegin r t i ms → ms ≡ []
   none-begins r t i [] h e = refl
@@ -225,14 +269,24 @@ module _ (s : List ℕ) where
       ] in
       let no : true ≡ false = sym any ∙ h in cc
 
-  -- no match begins where none can
-  pub found_at-nothing : (t : Tree) (i : ℕ) → (reads t (start_at s i) || stays t (start_at s i)) ≡ false → found_at s t i ≡ None
-  unfolding found_at
-  found_at-nothing t i e = go (is_boundary s i)
-    where
-      nothing_there : matches s t i (unset s t) ≡ []
-      nothing_there = none-begins (reads t (start_at s i)) (stays t (start_at s i)) i (matches s t i (unset s t)) e (matches-begin t i (start_at s i) (unset s t) (start-is s i))
+  module _ (u : IsUtf8 s) (t : Tree) (i : ℕ) (e : (reads t (start_at s i) || stays t (start_at s i)) ≡ false) where
+    -- no match begins where none can
+    pub dead-at : IsCharBoundary s i → (g : Groups) → matches s t i g ≡ []
+    dead-at b g = none-begins (reads t (start_at s i)) (stays t (start_at s i)) i (matches s t i g) e (matches-begin t i (start_at s i) g (start-is s u i b))
 
-      go : (b : Bool) → (if b then option_map (λ (m : Member). m.1) (slice_get (matches s (group 0 t) i (unset s t)) 0) else None) ≡ None
-      go true = ap (λ (ms : List Member). option_map (λ (m : Member). m.1) (slice_get (map (close 0 i) ms) 0)) nothing_there
-      go false = refl
+    pub found_at-nothing : found_at s t i ≡ None
+    unfolding found_at
+    found_at-nothing = go (is_boundary s i) refl
+      where
+        go : (b : Bool) → is_boundary s i ≡ b → (if b then option_map (λ (m : Member). m.1) (slice_get (matches s (group 0 t) i (unset s t)) 0) else None) ≡ None
+        go true h = ap (λ (ms : List Member). option_map (λ (m : Member). m.1) (slice_get (map (close 0 i) ms) 0)) (dead-at (boundary-true s i h) (unset s t))
+        go false h = refl
+
+  -- no match begins where a byte that it needs is absent
+  pub found_at-absent : (u : IsUtf8 s) (t : Tree) (b i : ℕ) → Needs b t → IsAbsent s b i → found_at s t i ≡ None
+  unfolding found_at
+  found_at-absent u t b i needs absent = go (is_boundary s i) refl
+    where
+      go : (c : Bool) → is_boundary s i ≡ c → (if c then option_map (λ (m : Member). m.1) (slice_get (matches s (group 0 t) i (unset s t)) 0) else None) ≡ None
+      go true h = ap (λ (ms : List Member). option_map (λ (m : Member). m.1) (slice_get (map (close 0 i) ms) 0)) (needs s i (unset s t) u (boundary-true s i h) absent)
+      go false h = refl

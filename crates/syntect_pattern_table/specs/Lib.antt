@@ -3,3 +3,4 @@ pub mod Table
 pub mod Program
 pub mod Builder
 pub mod Starts
+pub mod Needs

@@ -1,5 +1,5 @@
 -- The sets of a table of parts, each of which stands behind those that it is made of.
-use Rattle.std.specs.Prelude.{◌≡◌, ℕ, ◌<◌, ◌≤◌, Bool, true, ◌&&◌, ◌==◌, nat_lt, List, [], ◌∷◌, ◌++◌, length, slice_index_or}
+use Rattle.std.specs.Prelude.{◌≡◌, ℕ, ◌<◌, ◌≤◌, Bool, true, false, ◌&&◌, ◌||◌, ◌==◌, nat_le, nat_lt, List, [], ◌∷◌, ◌++◌, length, slice_index_or}
 use Rattle.std.specs.Int.{bit_at}
 use Rattle.syntect_pattern.specs.Sets.{Set, none, range, alike, either, both, negated, holds}
 use Rattle.syntect_pattern.specs.NamedSets.{set_of_named}
@@ -54,6 +54,14 @@ pub record HasSet (parts : List Part) (k : ℕ) (a : Set) : Type 0 where
 -- a bit for each ASCII character, whether it is in the set
 abbrev pub AreFlags : ℕ → Set → Type 0
 AreFlags bits a = (x : ℕ) → x < 128 → (bit_at bits x == 1) ≡ holds a x
+
+-- whether the set can hold a character beyond ASCII, as far as its form tells
+abbrev pub is_wide : Set → Bool
+is_wide none = false
+is_wide (range low high) = nat_le 128 high
+is_wide (either a b) = is_wide a || is_wide b
+is_wide (both a b) = is_wide a && is_wide b
+is_wide a = true
 
 -- of each set the bit of this character
 abbrev pub AreBits : ℕ → List ℕ → List Set → Type 0

@@ -1,6 +1,7 @@
 -- Where a match can begin, as far as the byte there tells.
 use Rattle.std.specs.Prelude.{◌≡◌, ◌<◌, ℕ, Bool, true, false, not, ◌&&◌, ◌||◌, ◌==◌, nat_lt, List, length, if◌then◌else◌, slice_index, slice_index_or}
 use Rattle.syntect_pattern.specs.Sets.{Set, holds}
+use Rattle.syntect_pattern_table.specs.SetTable.{is_wide}
 use Rattle.syntect_pattern_table.specs.declared.starts.Firsts.{Firsts}
 use Rattle.syntect_pattern_table.specs.declared.starts.Places.{Places}
 use Rattle.std.specs.Int.{bit_at}
@@ -12,7 +13,7 @@ start_at s i = if nat_lt i (length s) then (if nat_lt (slice_index s i) 128 then
 
 -- a character of the set can stand there
 abbrev pub can_hold : Set → ℕ → Bool
-can_hold a x = if nat_lt x 128 then holds a x else x == 128
+can_hold a x = if nat_lt x 128 then holds a x else (x == 128 && is_wide a)
 
 -- the anchor can hold there
 abbrev pub can_stand : Anchor → ℕ → Bool
@@ -85,3 +86,7 @@ Begin x fs ts = (k : ℕ) (d : Firsts) → k < length fs → begins_at x (slice_
 -- for all that can stand there whether a match can begin
 abbrev pub AreStarts : List Bool → Tree → Type 0
 AreStarts flags tree = (x : ℕ) → x < 130 → slice_index_or flags x true ≡ (reads tree x || stays tree x)
+
+-- where matches of each of these trees can begin
+abbrev pub AreFirsts : List Places → List Tree → Type 0
+AreFirsts ps ts = (k x : ℕ) (d : Places) → k < length ps → x < 130 → is_in (slice_index_or ps k d) x ≡ (reads (slice_index_or ts k nothing) x || stays (slice_index_or ts k nothing) x)

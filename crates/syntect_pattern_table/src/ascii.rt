@@ -1,13 +1,20 @@
 //! The ASCII characters of sets, a bit for each.
 ghost use Rattle.std.specs.Prelude.{◌≡◌, ◌<◌, ◌≤◌, ◌||◌, ◌&&◌, ◌==◌, nat_le, nat_lt, not, ℕ, IfOk, List, length, true};
 ghost use Rattle.std.specs.Int.{bit_at};
+ghost use Rattle.std.specs.List.{list_any};
+ghost use Rattle.std.specs.Char.{to_ascii_lowercase};
+ghost use Rattle.unicode.specs.GeneralCategory.{general_category, general_category_eq};
+ghost use Rattle.unicode.specs.GeneralCategoryGroup.{in_group};
 ghost use Rattle.syntect_pattern.specs.Sets.{Set, holds, is_within, is_alike};
 ghost use Rattle.syntect_pattern_table.specs.SetTable.{AreBits, AreOrdered, made_before, part_set, set_in};
 ghost use Rattle.syntect_pattern.specs.NamedSets.{set_of_named};
 
-use crate::sets::{Part, is_alike};
+use crate::sets::Part;
 use std::alloc::{AllocError, Global};
 use syntect_pattern::named::Named;
+use ucd_case::simple_fold;
+use unicode::case::fold_pairs;
+use unicode::properties::{GeneralCategory, GeneralCategoryGroup};
 
 /// The ASCII characters and one more.
 #[tactic(auto, using(crate::proofs::PlaceLaws::put_in))]
@@ -18,8 +25,59 @@ pub fn put(ascii: u128, c: u32) -> u128
     ascii | 1 << c
 }
 
+/// The ASCII characters of sets that are met often.
+const WORD: u128 = 0x07ff_fffe_87ff_fffe_03ff_0000_0000_0000;
+
+const LETTERS: u128 = 0x07ff_fffe_07ff_fffe_0000_0000_0000_0000;
+
+const CAPITALS: u128 = 0x07ff_fffe_0000_0000_0000_0000;
+
+const SMALL: u128 = 0x07ff_fffe_0000_0000_0000_0000_0000_0000;
+
+const DIGITS: u128 = 0x03ff_0000_0000_0000;
+
+const SPACES: u128 = 0x0001_0000_3e00;
+
 /// The characters of a named set.
 fn named_bits(named: Named) -> u128
+    ensures { (x : ℕ) → x < 128 → (bit_at result x == 1) ≡ holds (set_of_named named) x }
+{
+    match named {
+        Named::Word => WORD,
+        Named::Space => SPACES,
+        Named::Category(category) => category_bits(category),
+        Named::Categories(group) => group_bits(group),
+        Named::LetterOrNumber => LETTERS | DIGITS,
+        other => tested_bits(other),
+    }
+}
+
+/// The characters of a category.
+fn category_bits(category: GeneralCategory) -> u128
+    ensures { (x : ℕ) → x < 128 → (bit_at result x == 1)
+        ≡ general_category_eq category (general_category x) }
+{
+    match category {
+        GeneralCategory::UppercaseLetter => CAPITALS,
+        GeneralCategory::LowercaseLetter => SMALL,
+        GeneralCategory::DecimalNumber => DIGITS,
+        other => tested_bits(Named::Category(other)),
+    }
+}
+
+/// The characters of the categories of one letter.
+fn group_bits(group: GeneralCategoryGroup) -> u128
+    ensures { (x : ℕ) → x < 128 → (bit_at result x == 1) ≡ in_group group (general_category x) }
+{
+    match group {
+        GeneralCategoryGroup::Letter => LETTERS,
+        GeneralCategoryGroup::Number => DIGITS,
+        other => tested_bits(Named::Categories(other)),
+    }
+}
+
+/// The characters of a named set, each of which is tested.
+fn tested_bits(named: Named) -> u128
     ensures { (x : ℕ) → x < 128 → (bit_at result x == 1) ≡ holds (set_of_named named) x }
 {
     let mut ascii = 0;
@@ -31,17 +89,54 @@ fn named_bits(named: Named) -> u128
     ascii
 }
 
+/// The characters whose simple folding is this one: it alone, or two letters of which the second is small.
+fn folded_bits(folded: u32) -> u128
+    ensures { (x : ℕ) → x < 128 → (bit_at result x == 1) ≡ (folded == to_ascii_lowercase x) }
+{
+    if folded >= 128 {
+        return 0;
+    }
+    match folded {
+        0x41..=0x5A => 0,
+        0x61..=0x7A => put(put(0, folded - 32), folded),
+        _ => put(0, folded),
+    }
+}
+
+/// These characters, and that of a pair whose other one lies from the first to the last.
+fn paired(ascii: u128, pair: (u32, u32), low: u32, high: u32) -> u128
+    ensures { (x : ℕ) → x < 128 → (bit_at result x == 1) ≡ ((bit_at ascii x == 1)
+        || ((pair.0 == x) && is_within low high pair.1)) }
+{
+    let (c, other) = pair;
+    if c < 128 && low <= other && other <= high {
+        put(ascii, c)
+    } else {
+        ascii
+    }
+}
+
+/// The characters that have a pair whose other one lies from the first to the last.
+fn paired_bits(pairs: &[(u32, u32)], low: u32, high: u32) -> u128
+    ensures { (x : ℕ) → x < 128 → (bit_at result x == 1)
+        ≡ list_any (λ p. (p.0 == x) && is_within low high p.1) pairs.now }
+{
+    let mut ascii = 0;
+    for pair in pairs {
+        ascii = paired(ascii, *pair, low, high);
+    }
+    ascii
+}
+
 /// The characters that simple folding makes equal to one from the first to the last.
 fn alike_bits(low: char, high: char) -> u128
     ensures { (x : ℕ) → x < 128 → (bit_at result x == 1) ≡ is_alike low high x }
 {
-    let mut ascii = 0;
-    for c in 0..128u8 {
-        if is_alike(low, high, c as char) {
-            ascii = put(ascii, u32::from(c));
-        }
+    if low == high {
+        return folded_bits(simple_fold(low) as u32);
     }
-    ascii
+    let paired = paired_bits(fold_pairs(), low as u32, high as u32);
+    either(range_bits(low, high), paired)
 }
 
 /// The characters from the first on, up to the end.

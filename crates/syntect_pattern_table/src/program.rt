@@ -1,9 +1,14 @@
 //! A pattern that is ready to be searched.
-ghost use Rattle.std.specs.Prelude.{◌≡◌, ◌≤◌, ◌<◌, ℕ, length, min, slice_index, slice_index_or, true, false};
-ghost use Rattle.syntect_pattern_table.specs.Table.{IsOrdered};
+ghost use Rattle.std.specs.Prelude.{◌≡◌, ◌≤◌, ◌<◌, ◌-◌, ℕ, [], List, IfOk, IfNone, IsCharBoundary, length, min, slice_index, slice_index_or, true, false};
+ghost use Rattle.syntect_pattern_table.specs.Table.{IsOrdered, trees};
+ghost use Rattle.syntect_pattern_table.specs.Builder.{tree_in};
+ghost use Rattle.syntect_pattern_table.specs.Starts.{AreFirsts, AreStarts};
 
 use crate::looks::{has_group, in_look};
 use crate::node::Node;
+use crate::starts::{Places, flags_of, is_in, places_of, start_at};
+use memchr::memchr;
+use std::alloc::{AllocError, Global};
 use syntect_values::seq::Seq;
 
 /// The tree of a pattern as a table of nodes, each of which stands behind its parts.
@@ -17,7 +22,12 @@ pub struct Program {
     /// Whether a match can begin at a place where this stands: an ASCII character, 128 for any other one, 129 for the text's
     /// end.
     pub starts: Seq<bool>,
+    /// Where matches of each node can begin.
+    pub firsts: Seq<Places>,
+    /// A byte that stands at the place of each match or behind it, if one is known.
+    pub needed: Option<u8>,
     pub ghost ordered: { IsOrdered nodes },
+    pub ghost begun: { AreFirsts firsts (trees nodes) },
 }
 
 impl Program {
@@ -25,6 +35,35 @@ impl Program {
     ghost use Rattle.syntect_pattern.specs.Trees.{Tree, nothing, group_in_look};
     ghost use Rattle.syntect_pattern_table.specs.Table.{node_tree};
     ghost use Rattle.syntect_pattern_table.specs.Program.{trees_of, IsProgramOf, CannotBegin};
+    ghost use Rattle.syntect_pattern.specs.Matches.{Groups, matches};
+
+    /// The program whose whole match is the node at the root.
+    pub fn new(
+        alloc: Global,
+        nodes: Seq<Node>,
+        root: usize,
+        groups: usize,
+        needed: Option<u8>,
+    ) -> Result<Program, AllocError>
+        requires ordered { IsOrdered nodes }
+        requires inside { root < length nodes }
+        ensures nodes { IfOk result (λ p. p.nodes ≡ nodes) }
+        ensures root { IfOk result (λ p. p.root ≡ root) }
+        ensures groups { IfOk result (λ p. p.groups ≡ groups) }
+        ensures starts { IfOk result (λ p. AreStarts p.starts (tree_in nodes root)) }
+        ensures needed { IfOk result (λ p. p.needed ≡ needed) }
+    {
+        let firsts = places_of(alloc, nodes.as_slice())?;
+        let starts = flags_of(alloc, firsts.as_slice()[root])?;
+        Ok(Program {
+            nodes,
+            root,
+            groups,
+            starts,
+            firsts,
+            needed,
+        })
+    }
 
     /// The node at the place: its tree is made of those of its parts. There is none past the end.
     pub fn node(&self, place: usize) -> Option<&Node>
@@ -51,16 +90,48 @@ impl Program {
         }
     }
 
-    /// Whether a match can begin at the place, as far as the byte there tells.
-    pub fn can_begin(&self, text: &str, place: usize) -> bool
-        ensures { result ≡ false → CannotBegin text.now self.now place }
+    /// Whether no match of the node begins at the place, as what stands there tells.
+    #[inline]
+    pub fn is_dead(&self, text: &str, place: usize, node: usize) -> bool
+        requires { IsCharBoundary text.now place }
+        ensures { result ≡ true → (g : Groups)
+            → matches text.now (slice_index_or (trees_of self.now) node nothing) place g ≡ [] }
     {
-        let flags = self.starts.as_slice();
-        let bytes = text.as_bytes();
-        if place < bytes.len() {
-            flag_at(flags, bytes[place].min(128))
-        } else {
-            flag_at(flags, 129)
+        match self.firsts.get(node) {
+            Some(places) => !is_in(*places, start_at(text, place)),
+            None => false,
+        }
+    }
+
+    /// How many of these places, this one and those right before it, are passed over, the last one first, until the node
+    /// may have a match, as what stands there tells.
+    pub fn dead_ends(&self, text: &str, place: usize, count: usize, node: usize) -> usize
+        requires { (m : ℕ) → m < count → IsCharBoundary text.now (place - m) }
+        ensures inside { result ≤ count }
+        ensures dead { (m : ℕ) → m < result → (g : Groups)
+            → matches text.now (slice_index_or (trees_of self.now) node nothing) (place - m) g
+            ≡ [] }
+    {
+        let mut ends = 0;
+        while ends < count && self.is_dead(text, place.saturating_sub(ends), node) {
+            ends += 1;
+        }
+        ends
+    }
+
+    /// The place behind the next byte that matches need, from the place on, or the greatest number if none is known. None
+    /// where that byte is absent, so that no match begins at the place or behind it.
+    pub fn behind_needed(&self, text: &str, place: usize) -> Option<usize>
+        requires { place ≤ length text.now }
+        ensures { IfNone result ((k : ℕ) → place ≤ k → CannotBegin text.now self.now k) }
+    {
+        let Some(byte) = self.needed else {
+            return Some(usize::MAX);
+        };
+        let rest = text.as_bytes().split_at(place).1;
+        match memchr(byte, rest) {
+            Some(next) => Some(place + next + 1),
+            None => None,
         }
     }
 

@@ -3,7 +3,7 @@ ghost use Rattle.std.specs.Prelude.{◌≡◌, ◌<◌, ◌||◌, ◌&&◌, ◌=
 ghost use Rattle.std.specs.Int.{bit_at};
 ghost use Rattle.std.specs.List.{list_any};
 ghost use Rattle.syntect_pattern.specs.Sets.{holds, range, is_within, is_alike};
-ghost use Rattle.syntect_pattern_table.specs.SetTable.{AreFlags, AreOrdered, set_in};
+ghost use Rattle.syntect_pattern_table.specs.SetTable.{AreFlags, AreOrdered, is_wide, set_in};
 ghost use Rattle.syntect_pattern.specs.NamedSets.{set_of_named};
 
 use crate::ascii::ascii_bits;
@@ -91,6 +91,53 @@ fn holds_at(parts: &[Part], root: usize, c: char) -> bool
     }
 }
 
+/// Whether the character is beyond ASCII.
+fn is_beyond(c: char) -> bool
+    ensures { result ≡ nat_le 128 c }
+{
+    c as u32 >= 128
+}
+
+/// Whether the named set can hold a character beyond ASCII, as far as its form tells.
+fn is_named_wide(named: Named) -> bool
+    ensures { result ≡ is_wide (set_of_named named) }
+{
+    match named {
+        Named::HexDigit | Named::Blank | Named::Ascii => false,
+        _ => true,
+    }
+}
+
+/// Whether the part at the place can hold a character beyond ASCII, as far as its form tells.
+fn is_wide_at(parts: &[Part], root: usize) -> bool
+    requires { AreOrdered parts.now }
+    ensures { result ≡ is_wide (set_in parts.now root) }
+{
+    let mut place = root;
+    'parts: loop {
+        let part = part_at(parts, place);
+        place = match part {
+            Part::Nothing => return false,
+            Part::Range(_, high) => return is_beyond(high),
+            Part::Alike(_, _) => return true,
+            Part::Named(named) => return is_named_wide(named),
+            Part::Negated(_) => return true,
+            Part::Either(rest, part) => {
+                if is_wide_at(parts, part) {
+                    return true;
+                }
+                rest
+            }
+            Part::Both(rest, part) => {
+                if !is_wide_at(parts, part) {
+                    return false;
+                }
+                rest
+            }
+        };
+    }
+}
+
 /// A set of characters, made of parts, with its ASCII characters beside.
 #[derive(Debug, Drop)]
 pub struct Class {
@@ -98,8 +145,11 @@ pub struct Class {
     root: usize,
     /// A bit for each ASCII character.
     ascii: u128,
+    /// Whether it can hold a character beyond ASCII, as far as its form tells.
+    wide: bool,
     ghost ordered: { AreOrdered parts },
     ghost flagged: { AreFlags ascii (set_in parts root) },
+    ghost widened: { wide ≡ is_wide (set_in parts root) },
 }
 
 impl Class {
@@ -111,7 +161,13 @@ impl Class {
         ensures { IfOk result (λ s. set_of s ≡ set_in parts root) }
     {
         let ascii = ascii_bits(alloc, parts.as_slice(), root)?;
-        Ok(Class { parts, root, ascii })
+        let wide = is_wide_at(parts.as_slice(), root);
+        Ok(Class {
+            parts,
+            root,
+            ascii,
+            wide,
+        })
     }
 
     /// Its ASCII characters, a bit for each.
@@ -119,6 +175,13 @@ impl Class {
         ensures { AreFlags result (set_of self.now) }
     {
         self.ascii
+    }
+
+    /// Whether it can hold a character beyond ASCII, as far as its form tells.
+    pub fn is_wide(&self) -> bool
+        ensures { result ≡ is_wide (set_of self.now) }
+    {
+        self.wide
     }
 
     /// Whether the character is in the set.

@@ -1,12 +1,11 @@
 //! Where a match can begin, as far as the byte there tells.
-ghost use Rattle.std.specs.Prelude.{◌≡◌, ◌<◌, ◌||◌, ◌&&◌, ◌==◌, nat_lt, not, ℕ, IfOk, List, length, true, false};
+ghost use Rattle.std.specs.Prelude.{◌≡◌, ◌<◌, ◌||◌, ◌&&◌, ◌==◌, nat_lt, not, ℕ, IfOk, List, length, slice_index_or, true, false};
 ghost use Rattle.syntect_pattern.specs.Sets.{holds, range};
 ghost use Rattle.syntect_pattern.specs.Trees.{Tree};
-ghost use Rattle.syntect_pattern_table.specs.Table.{IsOrdered, node_tree, parts_before, set_of};
+ghost use Rattle.syntect_pattern_table.specs.Table.{IsOrdered, node_tree, parts_before, set_of, trees};
 ghost use Rattle.syntect_pattern.specs.Anchors.{anchor_of};
-ghost use Rattle.syntect_pattern_table.specs.Builder.{tree_in};
 ghost use Rattle.syntect_pattern_table.specs.Starts as spec;
-ghost use Rattle.syntect_pattern_table.specs.Starts.{AreStarts, Begin, begins, begins_at, either_begins, looked_begins, looped_begins, reads, sequence_begins, stays};
+ghost use Rattle.syntect_pattern_table.specs.Starts.{AreFirsts, Begin, begins, begins_at, either_begins, looked_begins, looped_begins, reads, sequence_begins, stays};
 
 use crate::ascii::put;
 use crate::node::{Class, Node};
@@ -82,7 +81,7 @@ fn both(a: Places, b: Places) -> Places
 }
 
 /// Whether this can stand there: an ASCII character, 128 for any other, or 129 for the end.
-fn is_in(places: Places, x: u8) -> bool
+pub fn is_in(places: Places, x: u8) -> bool
     ensures { result ≡ spec.is_in places x }
 {
     if x < 128 {
@@ -98,15 +97,18 @@ fn is_in(places: Places, x: u8) -> bool
 fn places_of_char(wanted: char) -> Places
     ensures { (x : ℕ) → x < 130 → spec.is_in result x ≡ spec.can_hold (range wanted wanted) x }
 {
-    let ascii = if wanted.is_ascii() {
-        put(0, wanted as u32)
+    if wanted.is_ascii() {
+        Places {
+            ascii: put(0, wanted as u32),
+            wide: false,
+            end: false,
+        }
     } else {
-        0
-    };
-    Places {
-        ascii,
-        wide: true,
-        end: false,
+        Places {
+            ascii: 0,
+            wide: true,
+            end: false,
+        }
     }
 }
 
@@ -116,7 +118,7 @@ fn places_of_class(class: &Class) -> Places
 {
     Places {
         ascii: class.ascii(),
-        wide: true,
+        wide: class.is_wide(),
         end: false,
     }
 }
@@ -244,28 +246,48 @@ fn firsts_of(node: &Node, before: &[Firsts]) -> Firsts
     }
 }
 
-/// Where the root can begin.
-fn firsts_in(alloc: Global, nodes: &[Node], root: usize) -> Result<Firsts, AllocError>
-    requires ordered { IsOrdered nodes.now }
-    requires inside { root < length nodes.now }
-    ensures { IfOk result (λ f. (x : ℕ) → x < 130 → begins_at x f ≡ begins x (tree_in nodes.now root)) }
+/// What stands at the place: an ASCII character, 128 for any other, or 129 for the end.
+pub fn start_at(text: &str, place: usize) -> u8
+    ensures value { result ≡ spec.start_at text.now place }
+    ensures bound { result < 130 }
 {
-    let mut before = Vec::with_capacity(alloc, root + 1)?;
-    for place in 0..root + 1 {
-        let next = firsts_of(&nodes[place], before.as_slice());
-        before.push(next)?;
+    let bytes = text.as_bytes();
+    if place < bytes.len() {
+        bytes[place].min(128)
+    } else {
+        129
     }
-    Ok(before[root])
 }
 
-/// Whether a match of the node can begin, for all that can stand at a place.
-pub fn starts(alloc: Global, nodes: &[Node], root: usize) -> Result<Seq<bool>, AllocError>
-    requires ordered { IsOrdered nodes.now }
-    requires inside { root < length nodes.now }
-    ensures { IfOk result (λ flags. AreStarts flags (tree_in nodes.now root)) }
+/// Where a match can begin that reads something or that reads nothing.
+fn begun(firsts: Firsts) -> Places
+    ensures { (x : ℕ) → spec.is_in result x ≡ (spec.is_in firsts.read x
+        || spec.is_in firsts.stay x) }
 {
-    let Firsts { read, stay } = firsts_in(alloc, nodes, root)?;
-    let places = either(read, stay);
+    either(firsts.read, firsts.stay)
+}
+
+/// Where matches of each node can begin.
+pub fn places_of(alloc: Global, nodes: &[Node]) -> Result<Seq<Places>, AllocError>
+    requires { IsOrdered nodes.now }
+    ensures count { IfOk result (λ ps. length ps ≡ length nodes.now) }
+    ensures firsts { IfOk result (λ ps. AreFirsts ps (trees nodes.now)) }
+{
+    let mut before = Vec::with_capacity(alloc, nodes.len())?;
+    let mut places = Vec::with_capacity(alloc, nodes.len())?;
+    for place in 0..nodes.len() {
+        let next = firsts_of(&nodes[place], before.as_slice());
+        places.push(begun(next))?;
+        before.push(next)?;
+    }
+    Ok(Seq::from_vec(places))
+}
+
+/// For all that can stand at a place whether it is one of these.
+pub fn flags_of(alloc: Global, places: Places) -> Result<Seq<bool>, AllocError>
+    ensures { IfOk result (λ flags. (x : ℕ) → x < 130 → slice_index_or flags x true
+        ≡ spec.is_in places x) }
+{
     let mut flags = Vec::with_capacity(alloc, 130)?;
     for x in 0..130u8 {
         flags.push(is_in(places, x))?;

@@ -11,6 +11,7 @@ ghost use Rattle.syntect_pattern.specs.Escapes as definition;
 use crate::names::category_named;
 use crate::text::{Test, after, before, begins, count_of, head, is_empty, number, run};
 use syntect_pattern::anchor::Anchor;
+use syntect_pattern::character::is_letter_or_digit;
 use syntect_pattern::named::Named;
 use unicode::properties::GeneralCategory;
 
@@ -151,16 +152,20 @@ fn char_escape(c: char) -> Option<Escape<'static>>
 fn one_letter(c: char) -> Option<Escape<'static>>
     ensures { one_letter c ≡ option_map escape_of result }
 {
-    if !c.is_ascii_alphanumeric() {
-        return Some(Escape::Char(c));
-    }
     if let Some(escape) = set_escape(c) {
         return Some(escape);
     }
     if let Some(escape) = edge_escape(c) {
         return Some(escape);
     }
-    char_escape(c)
+    if let Some(escape) = char_escape(c) {
+        return Some(escape);
+    }
+    if is_letter_or_digit(c) {
+        None
+    } else {
+        Some(Escape::Char(c))
+    }
 }
 
 /// Whether the text is a name of a group.

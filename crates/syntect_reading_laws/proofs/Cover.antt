@@ -15,8 +15,8 @@ use Rattle.syntect_parsing.proofs.Finds.{FindsInOrder, finds_in_order}
 use Rattle.syntect_contexts.specs.declared.context.Context.{Context}
 use Rattle.syntect_grammar.specs.declared.syntax_set.SyntaxSet.{SyntaxSet}
 use Rattle.syntect_parsing.specs.declared.parser.Level.{Level}
+use Rattle.syntect_parsing.specs.declared.parser.Standing.{Standing}
 use Rattle.syntect_parsing.specs.declared.position.Position.{Position}
-use Rattle.syntect_parsing.specs.declared.parser.ParseState.{ParseState}
 use Rattle.syntect_contexts.specs.declared.error.ParsingError.{ParsingError}
 
 length_range : (n from : ℕ) → length (range_with_len from n) ≡ n
@@ -135,7 +135,7 @@ turn_in_order : (engine : Engine) (line : List ℕ) → FindsInOrder engine line
 unfolding turn
 turn_in_order engine line finds set p l = turn_on_in_order engine line finds set (trimmed p) (last p.levels) l
 
-along : (engine : Engine) (line : List ℕ) → FindsInOrder engine line → (set : SyntaxSet) (p : Position) (bytes : List Scopes) (after : ParseState) (n : ℕ)
+along : (engine : Engine) (line : List ℕ) → FindsInOrder engine line → (set : SyntaxSet) (p : Position) (bytes : List Scopes) (after : Standing) (n : ℕ)
     → p.place ≤ length line → Reads engine set line p bytes after n → p.place + length bytes ≡ length line
 along engine line finds set p bytes after n l (ends e) =
     let k : InOrder line p.place (Ends bytes after) = rw e at (turn_in_order engine line finds set p l) in k

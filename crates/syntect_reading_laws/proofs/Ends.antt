@@ -11,8 +11,8 @@ use Rattle.syntect_parsing.proofs.Finds.{FindsInOrder, finds_in_order}
 use Rattle.syntect_reading_laws.proofs.Run.{Outcome, Accepts, RefusedWith, Unfinished, onto, from_step, run, Means, sound}
 use Rattle.syntect_grammar.specs.declared.syntax_set.SyntaxSet.{SyntaxSet}
 use Rattle.syntect_parsing.specs.declared.parser.Level.{Level}
+use Rattle.syntect_parsing.specs.declared.parser.Standing.{Standing}
 use Rattle.syntect_parsing.specs.declared.position.Position.{Position}
-use Rattle.syntect_parsing.specs.declared.parser.ParseState.{ParseState}
 use Rattle.syntect_contexts.specs.declared.error.ParsingError.{ParsingError}
 use Rattle.syntect_contexts.specs.declared.error.ParsingError.TheVariants as error
 
@@ -45,12 +45,12 @@ bound d r n =
     let e : 1001 * (n + 1) ≡ ((1000 - 0) + 1001 * (n - 0)) + 1 = omega arith in
     rw e (omega arith)
 
-abbrev Comes : Engine → SyntaxSet → List ℕ → ParseState → Type 0
+abbrev Comes : Engine → SyntaxSet → List ℕ → Standing → Type 0
 Comes engine set line state =
-    ((bytes : List Scopes) × (after : ParseState) × (n : ℕ) × ReadsLine engine set line state bytes after n × (n ≤ turn_bound set line state))
+    ((bytes : List Scopes) × (after : Standing) × (n : ℕ) × ReadsLine engine set line state bytes after n × (n ≤ turn_bound set line state))
     ⊎ ((e : ParsingError) × (n : ℕ) × RefusesLine engine set line state e n × (n ≤ turn_bound set line state))
 
-comes : (engine : Engine) (set : SyntaxSet) (line : List ℕ) (state : ParseState) → state.levels ≢ [] → (o : Outcome) → Means engine set line (at_start state) o
+comes : (engine : Engine) (set : SyntaxSet) (line : List ℕ) (state : Standing) → state.levels ≢ [] → (o : Outcome) → Means engine set line (at_start state) o
     → IsDone (left (longest (contexts_of set)) line (at_start state)) o → Comes engine set line state
 comes engine set line state n (Accepts bytes after k) h l =
     inl (bytes, after, k, record { on_levels = n; reads = h }, let b = bound (length state.levels) (longest (contexts_of set)) (length line) in omega arith)

@@ -1,5 +1,5 @@
 -- Readings of small grammars, computed.
-use Rattle.std.proofs.Common.{◌≡◌, ℕ, ◌≤◌, true, false, List, [], ◌∷◌, ◌++◌, length, map, take, replicate, Some, None, refl, arith}
+use Rattle.std.proofs.Common.{ap, ◌≡◌, ℕ, ◌≤◌, true, false, List, [], ◌∷◌, ◌++◌, length, map, take, replicate, Some, None, refl, arith}
 use Rattle.std.specs.Prelude.{codes}
 use Rattle.unicode.specs.GeneralCategory.{general_category}
 use Rattle.ucd_category.specs.GeneralCategoryRows.{general_category_rows}
@@ -16,7 +16,7 @@ use Rattle.syntect_pattern.specs.Grammar.{tree_of, whole, body, passed, quantifi
 use Rattle.std.specs.Str.{chars}
 use Rattle.syntect_regex.specs.Escape.{is_special}
 use Rattle.syntect_grammar.specs.Contexts.{context_at}
-use Rattle.syntect_parsing.specs.Chain.{patterns_in}
+use Rattle.syntect_parsing.specs.Chain.{patterns_in, patterns_of}
 use Rattle.syntect_parsing.specs.Scopes.{Scopes, open_scopes}
 use Rattle.syntect_parsing.specs.Line.{turn, Reads, Refuses, at_start, start, Accepted, RefusedBy, accepts, refuses, no_level, in_turn, AnswersAll, none, one_more, stack_before, first_push, HasPlainStart}
 use Rattle.syntect_parsing.specs.Visible.{visible, visible_base}
@@ -36,8 +36,10 @@ use Rattle.syntect_contexts.specs.declared.context.Pattern.{Pattern}
 use Rattle.syntect_contexts.specs.declared.context.Pattern.TheVariants.{Match, Include}
 use Rattle.syntect_contexts.specs.declared.context.Context.{Context}
 use Rattle.syntect_grammar.specs.declared.syntax_set.SyntaxSet.{SyntaxSet}
+use Rattle.syntect_parsing.specs.Stacks.{onto}
+use Rattle.syntect_scope.specs.Stack.{plain as bare}
 use Rattle.syntect_parsing.specs.declared.parser.Level.{Level}
-use Rattle.syntect_parsing.specs.declared.parser.ParseState.{ParseState}
+use Rattle.syntect_parsing.specs.declared.parser.Standing.{Standing}
 use Rattle.syntect_contexts.specs.declared.error.ParsingError.TheVariants as error
 
 -- patterns by their texts
@@ -109,14 +111,14 @@ grammar main others = set_of (
 abbrev pub level : ℕ → Level
 level n = record { context = id n; prototypes = []; opening = None }
 
-abbrev pub on : List Level → ParseState
+abbrev pub on : List Level → Standing
 on levels = record { levels = levels; cuts = []; first_line = false }
 
 -- bytes that all have the top scope, and these
 abbrev pub tops : List Scopes → List Scopes
 tops bytes = map (λ b. t ∷ b) bytes
 
-abbrev pub at_first : ParseState
+abbrev pub at_first : Standing
 at_first = start (id 0)
 
 -- ---- a push, a pop, and words ----
@@ -192,7 +194,7 @@ doc = grammar (pattern heredoc [] (op.Push (to 3)) ∷ [])
 abbrev pub newline : List ℕ
 newline = 10 ∷ []
 
-abbrev pub in_doc : ParseState
+abbrev pub in_doc : Standing
 in_doc = on (level 0 ∷ level 1 ∷ record (level 3) { opening = Some (record { region = Some (0, 5) ∷ Some (2, 5) ∷ []; line = codes "<<EOT" ++ newline }) } ∷ [])
 
 reads_open : Reads dialect doc (codes "<<EOT" ++ newline) (at_start at_first) (tops (replicate 6 (s 2 ∷ []))) in_doc 3
@@ -360,7 +362,7 @@ answers_doc =
 abbrev pub two : SyntaxSet
 two = set_of (context [] (t ∷ s 2 ∷ []) [] ∷ [])
 
-pushed_of_two : stack_before two at_first ++ first_push two at_first ≡ t ∷ []
+pushed_of_two : onto (stack_before two at_first) (first_push two at_first) ≡ bare (t ∷ [])
 pushed_of_two = refl
 
 open_of_two : open_scopes two at_first.levels ≡ t ∷ s 2 ∷ []
@@ -368,21 +370,25 @@ open_of_two = refl
 
 -- with at most one content scope and no `meta_scope` the open scopes are pushed
 plain_start : (set : SyntaxSet) (id : ContextId) (c : Context) → context_at set id ≡ Some c → c.meta_scope ≡ [] → length c.meta_content_scope ≤ 1 → HasPlainStart set (start id)
-plain_start set id c e m l = rw e (rw m (all_of_it c.meta_content_scope l))
+plain_start set id c e m l = rw e (rw m (ap (λ (xs : Scopes). bare xs) (all_of_it c.meta_content_scope l)))
   where
-    all_of_it : (xs : Scopes) → length xs ≤ 1 → take 1 xs ≡ xs ++ []
+    all_of_it : (xs : Scopes) → length xs ≤ 1 → take 1 xs ≡ xs
     all_of_it [] l = refl
     all_of_it (x ∷ []) l = refl
     all_of_it (x ∷ y ∷ xs) l = absurd (omega arith)
 
 -- ---- includes ----
 
--- A context that includes itself: that include is followed once, and then on its own include path.
+-- A context that includes itself: one that the set doesn't hold is followed once, and is then on its own include path,
 abbrev pub around : Context
 around = context [] [] (pattern (codes "x") [] op.None ∷ Include (Direct (id 0)) ∷ Include (Direct (id 9)) ∷ Include nowhere ∷ [])
 
 walked_around : patterns_in (set_of (around ∷ [])) around.patterns ≡ plain (codes "x") [] op.None ∷ plain (codes "x") [] op.None ∷ []
 walked_around = refl
+
+-- where the set holds it, it stands on its include path from the first on
+walked_at : patterns_of (set_of (around ∷ [])) (id 0) ≡ plain (codes "x") [] op.None ∷ []
+walked_at = refl
 
 -- ---- the order of the chain ----
 

@@ -5,11 +5,11 @@ use Rattle.syntect_parsing.specs.Scopes.{Scopes}
 use Rattle.syntect_parsing.specs.Line.{Step, Goes, Ends, Refused, turn, Reads, ends, goes, Refuses, now, later}
 use Rattle.syntect_grammar.specs.declared.syntax_set.SyntaxSet.{SyntaxSet}
 use Rattle.syntect_parsing.specs.declared.position.Position.{Position}
-use Rattle.syntect_parsing.specs.declared.parser.ParseState.{ParseState}
+use Rattle.syntect_parsing.specs.declared.parser.Standing.{Standing}
 use Rattle.syntect_contexts.specs.declared.error.ParsingError.{ParsingError}
 
 pub data Outcome : Type 0 where
-  Accepts : List Scopes → ParseState → ℕ → Outcome
+  Accepts : List Scopes → Standing → ℕ → Outcome
   RefusedWith : ParsingError → ℕ → Outcome
   Unfinished : Outcome
 

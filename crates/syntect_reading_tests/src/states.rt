@@ -3,7 +3,7 @@ use std::alloc::Global;
 use std::test::Fail;
 use syntect_parsing::parser::{ParseState, ParsingError};
 use syntect_parsing::syntax_definition::{
-    ContextId, ContextReference, MatchOperation, SyntaxDefinition,
+    Context, ContextId, ContextReference, MatchOperation, SyntaxDefinition,
 };
 use syntect_parsing::syntax_set::{SyntaxSet, SyntaxSetBuilder};
 use syntect_scope::repository::ScopeRepository;
@@ -41,16 +41,21 @@ fn copies_are_read_as_the_first(rt: HostRuntime) -> Result<(), Fail> {
     Ok(())
 }
 
+/// The last context of the set, `main`.
+fn last_context(set: &SyntaxSet) -> Result<Context, Fail> {
+    let last = ContextReference::Direct(ContextId {
+        syntax_index: 0,
+        context_index: 3,
+    });
+    Ok(last.resolve(set)?.clone()?)
+}
+
 #[test]
 fn numbers_of_contexts(rt: HostRuntime) -> Result<(), Fail> {
     let alloc = rt.alloc();
     let mut repository = ScopeRepository::new(alloc);
     let set = built(alloc, &mut repository)?;
-    let last = ContextReference::Direct(ContextId {
-        syntax_index: 0,
-        context_index: 3,
-    });
-    let main = last.resolve(&set)?.clone()?;
+    let main = last_context(&set)?;
     assert_eq!(rt; main.patterns.len(), 1);
     let pattern = main.match_at(0)?.clone()?;
     let pushed = match &pattern.operation {
@@ -60,6 +65,13 @@ fn numbers_of_contexts(rt: HostRuntime) -> Result<(), Fail> {
     let reference = pushed.ok_or("no push")?;
     assert_eq!(rt; reference.id()?.context_index, 2);
     assert!(rt; matches!(&main.match_at(1), Err(ParsingError::BadMatchIndex(1))));
+    Ok(())
+}
+
+/// A reference by name has no number of its own.
+#[test]
+fn a_name_has_no_number(rt: HostRuntime) -> Result<(), Fail> {
+    let alloc = rt.alloc();
     let named = ContextReference::Named(Text::from_str(alloc, "none")?);
     assert!(rt; named.id() == Err(ParsingError::UnresolvedContextReference(named.clone()?)));
     Ok(())

@@ -1,11 +1,11 @@
 -- The ends of lines, a token at a time.
 use Rattle.std.proofs.Common.{◌≡◌, ℕ, ◌<◌, Bool, true, false, List, [], ◌∷◌, ◌++◌, length, get_or, take, drop, refl, sym, ap, ◌∙◌, inl, inr, arith}
 use Rattle.std.proofs.lemmas.Bool.Decides.{eqb_tells}
-use Rattle.std.specs.Prelude.{flat_map}
+use Rattle.std.specs.Prelude.{flat_map, codes, if◌then◌else◌}
 use Rattle.syntect_rewrite.specs.Cutting.{sign}
-use Rattle.syntect_rewrite.specs.Tokens.{plain, class, opening_len, class_len, takes_newline, class_takes_newline, token_len, token, tokens, text}
-use Rattle.syntect_rewrite.specs.Newlines.{anchored_token, anchored, next, ended_token, ended_tokens}
-use Rattle.syntect_rewrite.specs.Views.{token_of}
+use Rattle.syntect_rewrite.specs.Tokens.{plain, class, opening_len, class_len, takes_newline, class_takes_newline, token_len, token, text}
+use Rattle.syntect_rewrite.specs.Newlines.{anchored_token, anchored, begins_optional, line_token_len, line_token, line_tokens, next, ended_token, ended_tokens, ended}
+use Rattle.syntect_rewrite.specs.Views.{token_of, IsLineToken}
 use Rattle.syntect_rewrite.proofs.CuttingLaws.{parts-cons, parts-none, flat-cons, sign_some, first-take}
 
 opening_some : (t : List ℕ) → 0 < opening_len t
@@ -54,21 +54,6 @@ text_is : (t : List ℕ) → text (token t) ≡ take (token_len t) t
 unfolding token token_len sign
 text_is t = elim (eqb_tells (get_or t 0 0) 91) [ inl e ↦ rw e.0 refl | inr e ↦ rw e.0 refl ]
 
-none_left : (t : List ℕ) → length t ≡ 0 → get_or t 0 0 ≡ 0
-none_left [] e = refl
-none_left (c ∷ t) e = absurd (omega arith)
-
-tokens-cons : (t : List ℕ) → 0 < length t → tokens t ≡ token t ∷ tokens (drop (token_len t) t)
-tokens-cons t some = parts-cons token_len token t some (token_some t some)
-
-next_some : (t : List ℕ) → 0 < length t → next (tokens t) ≡ get_or t 0 0
-next_some t some =
-    ap next (tokens-cons t some) ∙ ap (λ (x : List ℕ). get_or x 0 0) (text_is t) ∙ first-take (token_len t) t (token_some t some)
-
-next_is : (t : List ℕ) → next (tokens t) ≡ get_or t 0 0
-next_is [] = ap next (parts-none token_len token [] refl)
-next_is (c ∷ t) = next_some (c ∷ t) (omega arith)
-
 -- the first token, as the code has it
 pub record IsToken (t s : List ℕ) (n : ℕ) : Type 0 where
   pub some : 0 < length t
@@ -89,15 +74,52 @@ pub anchored-none : (t : List ℕ) → length t ≡ 0 → anchored t ≡ []
 unfolding anchored
 anchored-none t none = ap (flat_map anchored_token) (parts-none token_len token t none)
 
-abbrev pub ended_text : List ℕ → List ℕ
-ended_text t = ended_tokens (tokens t)
+-- ---- for lines that have no newline ----
 
-pub ended-turn : (t s : List ℕ) (n after : ℕ) (b : Bool) → IsToken t s n → b ≡ class_takes_newline t → after ≡ get_or (drop n t) 0 0 → ended_text t ≡ ended_token (token_of b s) after ++ ended_text (drop n t)
-ended-turn t s n after b h e f =
-    ap ended_tokens (tokens-cons t h.some)
-    ∙ ap (λ (k : ℕ). ended_token (token t) (next (tokens (drop k t))) ++ ended_text (drop k t)) (sym h.len)
-    ∙ ap (λ (k : ℕ). ended_token (token t) k ++ ended_text (drop n t)) (next_is (drop n t) ∙ sym f)
-    ∙ ap (λ (x : List ℕ). x ++ ended_text (drop n t)) (ended_is t after ∙ ap (λ (x : List ℕ). ended_token (token_of (class_takes_newline t) x) after) (token_is t s n h) ∙ ap (λ (x : Bool). ended_token (token_of x s) after) (sym e))
+starts_so : (t : List ℕ) → begins_optional t ≡ true → get_or t 0 0 ≡ 40
+starts_so [] e = cc
+starts_so (c ∷ t) e =
+    elim (eqb_tells 40 c) [
+      | inl f ↦ sym f.1
+      | inr f ↦ absurd (let q : false ≡ true = rw f.0 at e in cc)
+    ]
 
-pub ended-none : (t : List ℕ) → length t ≡ 0 → ended_text t ≡ []
-ended-none t none = ap ended_tokens (parts-none token_len token t none)
+line_some : (t : List ℕ) → 0 < length t → 0 < line_token_len t
+line_some t some = by (begins_optional t)
+  where
+    by : (b : Bool) → 0 < (if b then 7 else token_len t)
+    by true = omega arith
+    by false = token_some t some
+
+line_text : (t : List ℕ) → 0 < length t → get_or (text (line_token t)) 0 0 ≡ get_or t 0 0
+line_text t some = by (begins_optional t) refl
+  where
+    by : (b : Bool) → begins_optional t ≡ b → get_or (text (if b then plain (codes "(?:$|)") else token t)) 0 0 ≡ get_or t 0 0
+    by true e = sym (starts_so t e)
+    by false e = ap (λ (x : List ℕ). get_or x 0 0) (text_is t) ∙ first-take (token_len t) t (token_some t some)
+
+line_tokens-cons : (t : List ℕ) → 0 < length t → line_tokens t ≡ line_token t ∷ line_tokens (drop (line_token_len t) t)
+line_tokens-cons t some = parts-cons line_token_len line_token t some (line_some t some)
+
+next_is : (t : List ℕ) → next (line_tokens t) ≡ get_or t 0 0
+next_is [] = ap next (parts-none line_token_len line_token [] refl)
+next_is (c ∷ t) = let some : 0 < length (c ∷ t) = omega arith in ap next (line_tokens-cons (c ∷ t) some) ∙ line_text (c ∷ t) some
+
+-- what the code cuts off
+pub optional_token : (t : List ℕ) → begins_optional t ≡ true → IsLineToken t (codes "(?:$|)") false
+optional_token t e = λ after. rw e refl
+
+pub other_token : (t s : List ℕ) (n : ℕ) (b : Bool) → begins_optional t ≡ false → IsToken t s n → b ≡ class_takes_newline t → IsLineToken t s b
+other_token t s n b e h f = λ after.
+    rw e (ended_is t after ∙ ap (λ (x : List ℕ). ended_token (token_of (class_takes_newline t) x) after) (token_is t s n h) ∙ ap (λ (x : Bool). ended_token (token_of x s) after) (sym f))
+
+pub ended-turn : (t s : List ℕ) (after : ℕ) (b : Bool) → 0 < length t → IsLineToken t s b → after ≡ get_or (drop (line_token_len t) t) 0 0 → ended t ≡ ended_token (token_of b s) after ++ ended (drop (line_token_len t) t)
+unfolding ended
+ended-turn t s after b some h f =
+    ap ended_tokens (line_tokens-cons t some)
+    ∙ ap (λ (k : ℕ). ended_token (line_token t) k ++ ended_tokens (line_tokens (drop (line_token_len t) t))) (next_is (drop (line_token_len t) t) ∙ sym f)
+    ∙ ap (λ (x : List ℕ). x ++ ended_tokens (line_tokens (drop (line_token_len t) t))) (h after)
+
+pub ended-none : (t : List ℕ) → length t ≡ 0 → ended t ≡ []
+unfolding ended
+ended-none t none = ap ended_tokens (parts-none line_token_len line_token t none)

@@ -27,7 +27,7 @@ with_newlines = refl
 
 pub without_newlines : rows (rewritten variables false)
     (("a\\n", "a$") ∷ ("a\\n?", "a\\n?") ∷ ("\\n+\\n*", "\\n+\\n*") ∷ ("[^x\\n]", "[^x\\n]") ∷ ("[x\\n]?", "[x\\n]?") ∷ ("[x\\n]", "(?:[x\\n]|$)")
-    ∷ ("(?:\\n)?", "(?:$|)") ∷ ("a$", "a$") ∷ ("[x[\\n]]", "[x[\\n]]") ∷ ("\\\\n", "\\\\n") ∷ ("[\\\\n]", "[\\\\n]") ∷ ("[]\\n]", "(?:[]\\n]|$)") ∷ ("[\\]\\n]", "(?:[\\]\\n]|$)") ∷ ("[\\n", "(?:[\\n|$)") ∷ []) ≡ true
+    ∷ ("(?:\\n)?", "(?:$|)") ∷ ("[(?:\\n)?]", "(?:[(?:\\n)?]|$)") ∷ ("a\\(?:\\n)?", "a\\(?:$)?") ∷ ("a$", "a$") ∷ ("[x[\\n]]", "[x[\\n]]") ∷ ("\\\\n", "\\\\n") ∷ ("[\\\\n]", "[\\\\n]") ∷ ("[]\\n]", "(?:[]\\n]|$)") ∷ ("[\\]\\n]", "(?:[\\]\\n]|$)") ∷ ("[\\n", "(?:[\\n|$)") ∷ []) ≡ true
 unfolding parts sign_len sign is_use expanded replaced class_len takes_newline token_len token anchored ended rewritten
 without_newlines = refl
 

@@ -1,8 +1,8 @@
 -- The ends of lines, in patterns for lines that have their newline and for lines that have none.
-use Rattle.std.specs.Prelude.{ℕ, true, false, not, ◌&&◌, if◌then◌else◌, List, [], ◌∷◌, ◌++◌, flat_map, codes}
-use Rattle.syntect_rewrite.specs.Cutting.{◌∈◌, first}
-use Rattle.syntect_rewrite.specs.Tokens.{Token, plain, class, is_newline, tokens, text}
-use Rattle.syntect_rewrite.specs.Replacing.{replaced, optional_newlines}
+use Rattle.std.specs.Prelude.{ℕ, true, false, not, ◌&&◌, ◌==◌, if◌then◌else◌, Bool, List, [], ◌∷◌, ◌++◌, flat_map, codes}
+use Rattle.std.specs.List.{starts_with}
+use Rattle.syntect_rewrite.specs.Cutting.{◌∈◌, first, parts}
+use Rattle.syntect_rewrite.specs.Tokens.{Token, plain, class, is_newline, token_len, token, tokens, text}
 
 -- a token `$` matches at the end of each line, which stands before the newline
 abbrev pub anchored_token : Token → List ℕ
@@ -12,6 +12,21 @@ anchored_token (class newline s) = s
 -- a text for lines that have their newline
 unfoldable pub anchored : List ℕ → List ℕ
 anchored t = flat_map anchored_token (tokens t)
+
+-- the text begins with a newline that may be missing
+abbrev pub begins_optional : List ℕ → Bool
+begins_optional t = starts_with ◌==◌ t (codes "(?:\\n)?")
+
+-- The tokens of a text for lines that have no newline: a newline that may be missing is one, and is the end of the text
+-- that may be missing.
+abbrev pub line_token_len : List ℕ → ℕ
+line_token_len t = if begins_optional t then 7 else token_len t
+
+abbrev pub line_token : List ℕ → Token
+line_token t = if begins_optional t then plain (codes "(?:$|)") else token t
+
+abbrev pub line_tokens : List ℕ → List Token
+line_tokens t = parts line_token_len line_token t
 
 -- the first byte of the tokens, and 0 where there are none
 abbrev pub next : List Token → ℕ
@@ -31,4 +46,4 @@ ended_tokens (k ∷ ks) = ended_token k (next ks) ++ ended_tokens ks
 
 -- a text for lines that have no newline; one without `\n` stays
 unfoldable pub ended : List ℕ → List ℕ
-ended t = ended_tokens (tokens (replaced optional_newlines t))
+ended t = ended_tokens (line_tokens t)

@@ -26,7 +26,3 @@ abbrev pub brackets : Words
 brackets =
     (codes "[:alpha:]", codes "\\p{L}") ∷ (codes "[:alnum:]", codes "\\p{L}\\p{N}") ∷ (codes "[:lower:]", codes "\\p{Ll}")
     ∷ (codes "[:upper:]", codes "\\p{Lu}") ∷ (codes "[:digit:]", codes "\\p{Nd}") ∷ []
-
--- a newline that may be missing by the line's end that may be missing
-abbrev pub optional_newlines : Words
-optional_newlines = (codes "(?:\\n)?", codes "(?:$|)") ∷ []

@@ -4,12 +4,7 @@ use Rattle.syntect_rewrite.specs.Cutting.{char_len}
 use Rattle.syntect_rewrite.specs.Replacing as replacing
 use Rattle.syntect_rewrite.specs.Replacing.{word_len, replacement}
 use Rattle.syntect_rewrite.specs.Tokens.{Token, plain, class}
-use Rattle.syntect_rewrite.specs.declared.replace.Words.{Words}
-use Rattle.syntect_rewrite.specs.declared.replace.Words.TheVariants.{Brackets, OptionalNewlines}
-
-abbrev pub words_of : Words → replacing.Words
-words_of Brackets = replacing.brackets
-words_of OptionalNewlines = replacing.optional_newlines
+use Rattle.syntect_rewrite.specs.Newlines.{line_token, ended_token}
 
 -- no word is at the front
 pub record IsNoWord (words : replacing.Words) (t : List ℕ) : Type 0 where
@@ -26,3 +21,7 @@ pub record IsWord (words : replacing.Words) (t : List ℕ) (n : ℕ) (new : List
 abbrev pub token_of : Bool → List ℕ → Token
 token_of true s = class true s
 token_of false s = plain s
+
+-- the first token of a text for lines that have no newline, by its text and by whether it is a class that takes one
+abbrev pub IsLineToken : List ℕ → List ℕ → Bool → Type 0
+IsLineToken t s takes = (after : ℕ) → ended_token (line_token t) after ≡ ended_token (token_of takes s) after

@@ -1,12 +1,12 @@
 //! The ends of lines in a pattern's text.
-ghost use Rattle.std.specs.Prelude.{◌≡◌, ◌++◌, IfOk, OnOk, string_bytes};
+ghost use Rattle.std.specs.Prelude.{◌≡◌, ◌++◌, ◌<◌, IfOk, OnOk, string_bytes, length, drop};
 ghost use Rattle.syntect_rewrite.specs.Newlines as newlines;
-ghost use Rattle.syntect_rewrite.specs.Tokens.{plain, tokens};
-ghost use Rattle.syntect_rewrite.specs.Views.{token_of};
+ghost use Rattle.syntect_rewrite.specs.Tokens.{plain};
+ghost use Rattle.syntect_rewrite.specs.Views.{token_of, IsLineToken};
 
 use crate::classes::{Token, is_newline, token_at};
-use crate::replace::{Words, replaced};
-use crate::signs::first;
+use crate::replace::begins;
+use crate::signs::{first, skip};
 use std::alloc::{AllocError, Global};
 
 /// Adds a token as it is written for lines that have their newline.
@@ -57,26 +57,33 @@ fn push_ended(
     }
 }
 
-/// The tokens of a text, as they are written for lines that have no newline.
-fn ended_tokens(alloc: Global, text: &str) -> Result<String, AllocError>
-    ensures { IfOk result (λ s. string_bytes s ≡ newlines.ended_tokens (tokens text.now)) }
+/// The first token of a text for lines that have no newline, whether it is a class that takes a newline, and what follows
+/// it. `(?:\n)?` is one token, and is the end of the text that may be missing.
+#[tactic(auto, using(crate::proofs::NewlineLaws::optional_token, crate::proofs::NewlineLaws::other_token))]
+fn line_token(text: &str) -> (&str, bool, &str)
+    requires { 0 < length text.now }
+    ensures token { IsLineToken text.now result.0.now result.1 }
+    ensures rest { result.2.now ≡ drop (newlines.line_token_len text.now) text.now }
+    ensures shorter { length result.2.now < length text.now }
+{
+    if begins(text, "(?:\\n)?") {
+        return ("(?:$|)", false, skip(text, 7));
+    }
+    let Token { len, takes_newline } = token_at(text);
+    let (token, after) = text.split_at(len);
+    (token, takes_newline, after)
+}
+
+/// A text for lines that have no newline.
+pub(crate) fn ended(alloc: Global, text: &str) -> Result<String, AllocError>
+    ensures { IfOk result (λ s. string_bytes s ≡ newlines.ended text.now) }
 {
     let mut out = String::new(alloc);
     let mut rest = text;
     'tokens: while !rest.is_empty() {
-        let Token { len, takes_newline } = token_at(rest);
-        let (token, after) = rest.split_at(len);
+        let (token, takes_newline, after) = line_token(rest);
         push_ended(&mut out, token, takes_newline, first(after))?;
         rest = after;
     }
     Ok(out)
-}
-
-/// A text for lines that have no newline.
-#[tactic(auto, unfolding(crate::specs::Newlines::ended))]
-pub(crate) fn ended(alloc: Global, text: &str) -> Result<String, AllocError>
-    ensures { IfOk result (λ s. string_bytes s ≡ newlines.ended text.now) }
-{
-    let text = replaced(alloc, text, Words::OptionalNewlines)?;
-    ended_tokens(alloc, text.as_str())
 }

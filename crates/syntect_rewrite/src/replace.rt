@@ -1,24 +1,15 @@
-//! Words of a text, each replaced by another.
+//! The names of brackets in a text, each replaced by the categories that it stands for.
 ghost use Rattle.std.specs.Prelude.{◌≡◌, ◌<◌, ◌==◌, ◌++◌, IfOk, MatchOption, IfSome, string_bytes, length, drop, slice_index, ◌-◌};
 ghost use Rattle.std.specs.List.{starts_with};
 ghost use Rattle.syntect_rewrite.specs.Replacing as replacing;
-ghost use Rattle.syntect_rewrite.specs.Views.{words_of, IsWord, IsNoWord};
+ghost use Rattle.syntect_rewrite.specs.Views.{IsWord, IsNoWord};
 
 use crate::signs::{char_len, skip};
 use std::alloc::{AllocError, Global};
 
-/// The words that are replaced.
-#[derive(Clone, Copy)]
-pub(crate) enum Words {
-    /// `[:alpha:]` and its like, by categories.
-    Brackets,
-    /// `(?:\n)?`, by the end of the text that may be missing.
-    OptionalNewlines,
-}
-
 /// Whether the text begins with a word.
 #[inline]
-fn begins(text: &str, word: &str) -> bool
+pub(crate) fn begins(text: &str, word: &str) -> bool
     ensures { result ≡ starts_with ◌==◌ text.now word.now }
 {
     text.as_bytes().starts_with(word.as_bytes())
@@ -44,46 +35,37 @@ fn bracket(text: &str) -> Option<&'static str>
     }
 }
 
-/// What replaces the word at the front of a text, and what follows that word.
-fn word(text: &str, words: Words) -> Option<(&'static str, &str)>
-    ensures cases { MatchOption result (IsNoWord (words_of words) text.now) (λ w. IsWord (words_of words) text.now (length text.now - length w.1.now) w.0.now) }
+/// What replaces the bracket's name at the front of a text, and what follows that name.
+fn word(text: &str) -> Option<(&'static str, &str)>
+    ensures cases { MatchOption result (IsNoWord replacing.brackets text.now) (λ w.
+        IsWord replacing.brackets text.now (length text.now - length w.1.now) w.0.now) }
     ensures rest { IfSome result (λ w. w.1.now ≡ drop (length text.now - length w.1.now) text.now) }
 {
-    match words {
-        Words::Brackets => {
-            let written = bracket(text)?;
-            Some((written, skip(text, 9)))
-        }
-        Words::OptionalNewlines => {
-            if begins(text, "(?:\\n)?") {
-                Some(("(?:$|)", skip(text, 7)))
-            } else {
-                None
-            }
-        }
-    }
+    let written = bracket(text)?;
+    Some((written, skip(text, 9)))
 }
 
-/// What is written for the word at the front of a text, or else the first character, and what follows that.
-fn next_part(text: &str, words: Words) -> (&str, &str)
+/// What is written for the name at the front of a text, or else the first character, and what follows that.
+fn next_part(text: &str) -> (&str, &str)
     requires { 0 < length text.now }
-    ensures turn { replacing.replaced (words_of words) text.now ≡ result.0.now ++ replacing.replaced (words_of words) result.1.now }
+    ensures turn { replacing.replaced replacing.brackets text.now ≡ result.0.now
+        ++ replacing.replaced replacing.brackets result.1.now }
     ensures shorter { length result.1.now < length text.now }
 {
-    match word(text, words) {
+    match word(text) {
         Some(found) => found,
         None => text.split_at(char_len(text)),
     }
 }
 
-/// The text with each of the words replaced.
-pub(crate) fn replaced(alloc: Global, text: &str, words: Words) -> Result<String, AllocError>
-    ensures { IfOk result (λ s. string_bytes s ≡ replacing.replaced (words_of words) text.now) }
+/// The text with the name of each bracket replaced.
+pub(crate) fn replaced(alloc: Global, text: &str) -> Result<String, AllocError>
+    ensures { IfOk result (λ s. string_bytes s ≡ replacing.replaced replacing.brackets text.now) }
 {
     let mut out = String::new(alloc);
     let mut rest = text;
     'words: while !rest.is_empty() {
-        let (written, after) = next_part(rest, words);
+        let (written, after) = next_part(rest);
         out.push_str(written)?;
         rest = after;
     }

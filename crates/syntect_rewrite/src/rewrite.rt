@@ -4,7 +4,7 @@ ghost use Rattle.syntect_rewrite.specs.Rewriting as rewriting;
 
 use crate::expand::expand;
 use crate::newlines::{anchored, ended};
-use crate::replace::{Words, replaced};
+use crate::replace::replaced;
 use std::alloc::{AllocError, Global};
 use syntect_values::table::Table;
 use syntect_values::text::Text;
@@ -21,7 +21,7 @@ pub fn rewrite(
     ensures { IfOk result (λ s. string_bytes s ≡ rewriting.rewritten variables.now lines_include_newline text.now) }
 {
     let expanded = expand(alloc, text, variables)?;
-    let named = replaced(alloc, expanded.as_str(), Words::Brackets)?;
+    let named = replaced(alloc, expanded.as_str())?;
     if lines_include_newline {
         anchored(alloc, named.as_str())
     } else {

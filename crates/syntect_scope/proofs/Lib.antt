@@ -6,3 +6,4 @@ pub mod RepositoryLaws
 pub mod WordLaws
 pub mod TextLaws
 pub mod ReadingLaws
+pub mod HookLaws

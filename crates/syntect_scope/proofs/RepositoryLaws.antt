@@ -340,3 +340,19 @@ pub refused_full : (d : Bor (List ℕ)) (self : List (List ℕ)) (parts : List (
 refused_full d self [] i l s h = absurd (omega arith)
 refused_full d self (p ∷ parts) zero l s h = let k : nat_lt 65534 (length (with_atoms self (atom_texts p.now))) ≡ true = grind (arith, nat_tests) in rw (short_test p.now s, k) refl
 refused_full d self (p ∷ parts) (suc i) l s h = refused_full d self parts i (omega arith) s h
+
+-- ---- a text among those before it ----
+
+any_at : (p : List ℕ → Bool) (xs : List (List ℕ)) (i : ℕ) (d : List ℕ) → i < length xs → list_any p xs ≡ false → p (get_or xs i d) ≡ false
+any_at p [] i d h e = absurd (omega arith)
+any_at p (x ∷ xs) zero d h e = (or_both _ _ e).0
+any_at p (x ∷ xs) (suc i) d h e = any_at p xs i d (omega arith) (or_both _ _ e).1
+
+none_before : (xs : List (List ℕ)) (i : ℕ) (d : List ℕ) → IsDistinct xs → i < length xs → list_any (bytes_eq (get_or xs i d)) (take i xs) ≡ false
+none_before [] i d k h = absurd (omega arith)
+none_before (x ∷ xs) zero d k h = refl
+none_before (x ∷ xs) (suc i) d k h = or_neither _ _ (bytes_eq_sym (get_or xs i d) x ∙ any_at (bytes_eq x) xs i d (omega arith) k.0) (none_before xs i d k.1 (omega arith))
+
+-- a text is not among those before it
+pub new_at : (xs : List (List ℕ)) (i : ℕ) (d : List ℕ) → IsDistinct xs → i < length xs → place_in (take i xs) (get_or xs i d) ≡ None
+new_at xs i d k h = absent_place (get_or xs i d) (take i xs) 0 (none_before xs i d k h)

@@ -4,6 +4,7 @@ pub mod Replay
 pub mod Digits
 pub mod Choice
 pub mod Greedy
+pub mod Hook
 pub mod Repository
 pub mod Words
 pub mod Laws

@@ -1,7 +1,7 @@
 -- What operations on a text mean: the scopes of each byte.
 use Rattle.std.specs.Prelude.{◌≡◌, ℕ, zero, suc, ◌-◌, ◌≤◌, false, List, [], ◌∷◌, ◌++◌, length, replicate, map}
 use Rattle.std.specs.Str.{IsCharBoundary}
-use Rattle.syntect_scope.specs.Stack.{applied, is_refused, plain}
+use Rattle.syntect_scope.specs.Stack.{applied, is_refused}
 use Rattle.syntect_scope.specs.declared.stack.ScopeStack.{ScopeStack}
 use Rattle.syntect_scope.specs.declared.stack.ScopeStackOp.{ScopeStackOp}
 use Rattle.syntect_scope.specs.declared.stack.ScopeStackOp.TheVariants.{Push, Pop}
@@ -41,12 +41,6 @@ replay (o ∷ os) r = replay os (replayed r o)
 -- before the first byte, on a stack
 abbrev pub before_text : ScopeStack → Replay
 before_text s = record { bytes = []; stack = s }
-
--- at a place the bytes before it have these scopes, and these stand on the stack, which remembers nothing
-pub record IsAt (r : Replay) (place : ℕ) (bytes : List (List (List ℕ))) (scopes : List (List ℕ)) : Type 0 where
-  pub before : bytes_to r place ≡ bytes
-  pub stack : r.stack ≡ plain scopes
-  pub count : length bytes ≡ place
 
 -- ---- runs of operations at one place ----
 

@@ -4,9 +4,11 @@
 //! particular. A repository numbers the atoms, so that a scope is a short list of numbers.
 #![tactic(auto)]
 
+pub mod hook;
 pub mod laws;
 mod matching;
 pub mod power;
+mod print;
 mod reading;
 pub mod repository;
 pub mod scope;

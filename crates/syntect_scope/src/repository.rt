@@ -11,7 +11,7 @@ ghost use Rattle.syntect_scope.specs.declared.repository.ParseScopeError.TheVari
 use crate::scope::Scope;
 use crate::stack::ScopeStack;
 use std::alloc::{AllocError, AllocFailed, Global};
-use std::collections::HashMap;
+use std::collections::BTreeMap;
 use std::marker::Model;
 use syntect_values::text::Text;
 use thiserror::Error;
@@ -53,13 +53,13 @@ const MAX_ATOMS: usize = 65534;
 #[derive(Debug, Drop)]
 pub struct ScopeRepository {
     atoms: Vec<Text>,
-    numbers: HashMap<String, u16>,
+    numbers: BTreeMap<String, u16>,
 }
 
 impl Model for ScopeRepository {
     ghost use Rattle.std.specs.Prelude.{List, ℕ, length, ◌≤◌, ◌≡◌, ◌+◌};
     ghost use Rattle.std.specs.Option.{option_map};
-    ghost use Rattle.std.specs.HashMap.{get_by_text};
+    ghost use Rattle.std.specs.BTreeMap.{get_by_text};
     ghost use Rattle.syntect_scope.specs.Repository.{IsRepository, place_in};
 
     ghost Value = { List (List ℕ) };
@@ -105,8 +105,21 @@ impl ScopeRepository {
     {
         ScopeRepository {
             atoms: Vec::new(alloc),
-            numbers: HashMap::new(alloc),
+            numbers: BTreeMap::new(alloc),
         }
+    }
+
+    /// The same atoms with the same numbers once more.
+    pub fn clone(&self) -> Result<ScopeRepository, AllocError>
+        ensures { IfOk result (λ copy. copy ≡ self.now) }
+    {
+        let mut copy = ScopeRepository::new(*self.atoms.allocator());
+        for text in &self.atoms {
+            if copy.add(text.as_str()).is_err() {
+                return Err(AllocError);
+            }
+        }
+        Ok(copy)
     }
 
     /// The text of an atom number, if the repository has it. Numbers begin at 1.
@@ -248,7 +261,7 @@ impl ScopeRepository {
     }
 
     /// The text of an atom number, and `?` for one that the repository does not have.
-    fn atom_or_mark(&self, number: u16) -> &str
+    pub fn atom_or_mark(&self, number: u16) -> &str
         ensures { result.now ≡ atom_text self.now number }
     {
         match self.atom_str(number) {

@@ -46,9 +46,9 @@ impl Scope {
         Scope { atoms: [0; 8] }
     }
 
-    /// The atoms that are used.
+    /// The numbers of its atoms.
     #[tactic(auto, using(crate::proofs::AtomLaws::atoms_found))]
-    pub(crate) fn as_slice(&self) -> &[u16]
+    pub fn as_slice(&self) -> &[u16]
         ensures atoms { result.now ≡ self.now }
         ensures within { length self.now ≤ 8 }
     {

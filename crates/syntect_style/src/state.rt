@@ -94,8 +94,8 @@ impl Clone for HighlightState {
     }
 }
 
-/// States are equal exactly where their stacks are.
-fn same(a: &HighlightState, b: &HighlightState) -> bool
+/// Whether two states are equal: exactly where their stacks are.
+pub fn is_same_state(a: &HighlightState, b: &HighlightState) -> bool
     ensures { IsTrue result ↔ (path_of a.now ≡ path_of b.now) }
 {
     a == b

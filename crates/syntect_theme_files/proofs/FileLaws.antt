@@ -1,14 +1,14 @@
 -- Themes of bytes and of files.
-use Rattle.std.proofs.Common.{◌≡◌, ◌≢◌, ◌<◌, ◌≤◌, ◌+◌, ℕ, suc, List, [], ◌∷◌, ◌++◌, length, take, drop, get_or, sym, refl, ap, ◌∙◌, subst, arith, Option, Some, None, Err}
+use Rattle.std.proofs.Common.{◌≡◌, ◌≢◌, ◌<◌, ◌≤◌, ◌+◌, ℕ, zero, suc, List, [], ◌∷◌, ◌++◌, length, take, drop, get_or, sym, refl, ap, ◌∙◌, subst, arith, Option, Some, None, Err}
 use Rattle.std.proofs.Math.Seq.{take-suc}
 use Rattle.std.specs.BTreeMap.{insert_entry}
 use Rattle.std.specs.Cmp.Lexicographic.{slice_cmp}
 use Rattle.std.specs.Ordering.{nat_cmp}
-use Rattle.std.specs.Prelude.{IfSome, IfErr, Result, Ok}
+use Rattle.std.specs.Prelude.{IfSome, IfErr, Result, Ok, is_some, slice_get, true}
 use Rattle.std.proofs.lemmas.List.{take_all, take-append-le, take-append-drop, length-take}
 use Rattle.std.specs.declared.io.Error.{Error}
 use Rattle.serde_json.specs.Data.{Data}
-use Rattle.syntect_base.specs.Walks.{InByteOrder, IsWalk, IsWalkFault, ended}
+use Rattle.syntect_base.specs.Walks.{IsWalk}
 use Rattle.syntect_base.specs.Refusals.{IsReadFault, from_theme, from_settings}
 use Rattle.syntect_base.specs.declared.theme.ParseThemeError.{ParseThemeError}
 use Rattle.syntect_base.specs.declared.theme.ParseThemeError.TheVariants as error
@@ -18,7 +18,7 @@ use Rattle.syntect_base.specs.declared.loading.LoadingError.{LoadingError}
 use Rattle.syntect_base.specs.declared.loading.LoadingError.TheVariants as loading
 use Rattle.syntect_theme_files.specs.Loading.{head_at}
 use Rattle.syntect_theme.specs.Refusals.{Refuses}
-use Rattle.syntect_theme_files.specs.ThemeFiles.{IsSettings, IsThemeOf, RefusesTheme, IsThemeFault, theme_name, AddsThemes, no_settings, no_theme, not_read, no_memory, no_more, other, theme}
+use Rattle.syntect_theme_files.specs.ThemeFiles.{IsSettings, IsThemeOf, RefusesTheme, IsThemeFault, theme_name, AddsThemes, StopsAtTheme, RefusesThemes, no_settings, no_theme, not_read, no_memory, no_more, other, theme, stopped}
 use Rattle.syntect_theme.specs.declared.theme.Theme.{Theme}
 
 pub not_settings : (bytes : List ℕ) (e : SettingsError) → (e ≢ settings.Memory → (d : Data) → ¬ (IsSettings bytes d)) → RefusesTheme bytes (from_settings e)
@@ -61,18 +61,6 @@ not_read_of left e r f = let s = some_bytes left in (s.0, s.1, not_read_from s.0
 pub fault_of_memory : IsThemeFault loading.Memory
 fault_of_memory = ([], no_memory)
 
-pub fault_of_walk : (e : LoadingError) → IsWalkFault e → e ≢ loading.WalkDir → IsThemeFault e
-fault_of_walk e f n = subst IsThemeFault (sym (f n)) fault_of_memory
-
-no_walk : {bytes : List ℕ} {e : LoadingError} → RefusesTheme bytes e → e ≢ loading.WalkDir
-no_walk (no_settings h) q = cc
-no_walk (no_theme s h) q = cc
-no_walk not_read q = cc
-no_walk no_memory q = cc
-
-pub no_fault_of_walk : (e : LoadingError) → IsThemeFault e → e ≢ loading.WalkDir
-no_fault_of_walk e f = no_walk f.1
-
 -- ---- files added ----
 
 adds_more : {paths old left new : List (List ℕ)} {themes some all : List (List ℕ × Theme)} (path : List ℕ) → AddsThemes paths old themes left some
@@ -100,17 +88,31 @@ adds_one path name key bytes old new themes all one n t k e =
     let w : all ≡ insert_entry (slice_cmp nat_cmp) themes name one = e ∙ ap (λ x. insert_entry (slice_cmp nat_cmp) themes x one) k in
     subst (λ xs. AddsThemes (path ∷ []) old themes new xs) (sym w) (theme n t no_more)
 
--- a walk that was refused adds nothing
-none_in_order : InByteOrder []
-none_in_order k d a b = let x : ⊥ = omega arith in absurd x
+-- ---- files that stop it ----
 
-pub nothing_added : (folder : List ℕ) (repo : List (List ℕ)) (themes : List (List ℕ × Theme))
-    → (found : List (List ℕ)) × IsWalk folder found × (n : ℕ) × (left : List (List ℕ)) × AddsThemes (take n found) repo themes left themes
-nothing_added folder repo themes = ([], ([], none_in_order, ended), 0, repo, no_more)
+held_at : (xs : List (List ℕ)) (i : ℕ) (x : List ℕ) → i < length xs → slice_get xs i ≡ Some (get_or xs i x)
+held_at [] i x l = absurd (omega arith)
+held_at (y ∷ ys) zero x l = refl
+held_at (y ∷ ys) (suc i) x l = held_at ys i x (omega arith)
 
-pub no_walk_fault : {A : Type 0} (P : Type 0) (r : Result A LoadingError) → IfErr r IsThemeFault → IfErr r (λ e. e ≡ loading.WalkDir → P)
-no_walk_fault P (Ok x) f = tt
-no_walk_fault P (Err e) f = λ q. absurd (no_fault_of_walk e f q)
+-- a file that gives no theme stops it
+pub stops_at : (paths : List (List ℕ)) (i : ℕ) (path text : List ℕ) (old left : List (List ℕ)) (themes some all : List (List ℕ × Theme)) (e : LoadingError) → i < length paths
+    → path ≡ get_or paths i path → text ≡ path → AddsThemes (take i paths) old themes left some → all ≡ some → is_some (theme_name text) ≡ true → IsThemeFault e
+    → StopsAtTheme paths old themes e all
+stops_at paths i path text old left themes some all e l at same before kept g r = record {
+  place = i;
+  path = path;
+  left = left;
+  before = subst (λ (ts : List (List ℕ × Theme)). AddsThemes (take i paths) old themes left ts) (sym kept) before;
+  there = held_at paths i path l ∙ ap Some (sym at);
+  is_theme = ap (λ (p : List ℕ). is_some (theme_name p)) (sym same) ∙ g;
+  refuses = r;
+}
+
+pub refused_in : {A : Type 0} (r : Result A LoadingError) (folder : List ℕ) (files paths : List (List ℕ)) (old : List (List ℕ)) (themes all : List (List ℕ × Theme)) → IsWalk folder files → paths ≡ files
+    → IfErr r (λ e. StopsAtTheme paths old themes e all) → IfErr r (λ e. RefusesThemes folder old themes e all)
+refused_in (Ok x) folder files paths old themes all w s h = tt
+refused_in (Err e) folder files paths old themes all w s h = stopped w (subst (λ (xs : List (List ℕ)). StopsAtTheme xs old themes e all) s h)
 
 -- ---- repositories ----
 

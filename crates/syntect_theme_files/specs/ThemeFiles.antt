@@ -1,5 +1,5 @@
 -- Themes from bytes and from files.
-use Rattle.std.specs.Prelude.{◌≡◌, ℕ, List, [], ◌∷◌, codes, if◌then◌else◌, false, IsUtf8, Option, Some, None, option_and_then, Err}
+use Rattle.std.specs.Prelude.{◌≡◌, ℕ, List, [], ◌∷◌, codes, if◌then◌else◌, true, false, IsUtf8, Option, Some, None, option_and_then, is_some, slice_get, take, Err}
 use Rattle.std.specs.Path.{path_extension, path_file_stem}
 use Rattle.std.specs.BTreeMap.{insert_entry}
 use Rattle.std.specs.Cmp.Lexicographic.{slice_cmp}
@@ -9,6 +9,7 @@ use Rattle.std.specs.declared.io.Error.{Error}
 use Rattle.serde_json.specs.Data.{Data}
 use Rattle.serde_json.specs.Read.{read}
 use Rattle.serde_json.specs.Written.{has_float}
+use Rattle.syntect_base.specs.Walks.{IsWalk, IsWalkFault}
 use Rattle.syntect_base.specs.declared.loading.LoadingError.{LoadingError}
 use Rattle.syntect_base.specs.declared.loading.LoadingError.TheVariants.{Io, ParseTheme, ReadSettings, Memory}
 use Rattle.syntect_base.specs.declared.loading.SettingsError.TheVariants.{Json}
@@ -57,3 +58,20 @@ pub data AddsThemes : List (List ℕ) → List (List ℕ) → List (List ℕ × 
   theme : {path name bytes : List ℕ} {paths old left new : List (List ℕ)} {themes all : List (List ℕ × Theme)} {one : Theme} → theme_name path ≡ Some name
       → IsThemeOf old bytes left one → AddsThemes paths left (insert_entry (slice_cmp nat_cmp) themes name one) new all
       → AddsThemes (path ∷ paths) old themes new all
+
+-- The themes of these files are added up to one, which gives no theme, for this cause.
+pub record StopsAtTheme (files : List (List ℕ)) (old : List (List ℕ)) (themes : List (List ℕ × Theme)) (e : LoadingError) (all : List (List ℕ × Theme)) : Type 0 where
+  pub place : ℕ
+  pub path : List ℕ
+  pub left : List (List ℕ)
+  pub before : AddsThemes (take place files) old themes left all
+  pub there : slice_get files place ≡ Some path
+  pub is_theme : is_some (theme_name path) ≡ true
+  pub refuses : IsThemeFault e
+
+-- Why the themes of a folder are not added, and what is added then: nothing where the walk has a fault, or those before a
+-- file that gives no theme.
+pub data RefusesThemes (folder : List ℕ) (old : List (List ℕ)) (themes : List (List ℕ × Theme)) : LoadingError → List (List ℕ × Theme) → Type 0 where
+  no_walk : {e : LoadingError} → IsWalkFault e → RefusesThemes folder old themes e themes
+  stopped : {e : LoadingError} {files : List (List ℕ)} {all : List (List ℕ × Theme)} → IsWalk folder files → StopsAtTheme files old themes e all
+      → RefusesThemes folder old themes e all

@@ -1,15 +1,15 @@
 //! Sets of themes, and themes from readers, files and folders.
-ghost use Rattle.std.specs.Prelude.{◌≡◌, ◌≢◌, ℕ, List, [], ◌∷◌, length, take, map, is_some, IfSome, IfOk, OnOk, IfErr, OnErr};
+ghost use Rattle.std.specs.Prelude.{◌≡◌, ◌≢◌, ℕ, List, [], ◌∷◌, true, length, take, map, is_some, IfSome, IfOk, OnOk, IfErr, OnErr};
 ghost use Rattle.std.specs.Option.{option_copied};
 ghost use Rattle.std.specs.List.{filter};
 ghost use Rattle.std.specs.Path.{path_bytes, path_buf_bytes};
 ghost use Rattle.serde_json.specs.Data.{Data};
 ghost use Rattle.serde_json.specs.View.{view};
 ghost use Rattle.syntect_base.specs.Walks.{IsWalk, IsWalkFault};
-ghost use Rattle.syntect_base.specs.declared.loading.LoadingError.TheVariants.{WalkDir};
 ghost use Rattle.syntect_base.specs.declared.loading.SettingsError.TheVariants.{Memory};
 ghost use Rattle.syntect_scope.specs.Repository.{IsRepository};
-ghost use Rattle.syntect_theme_files.specs.ThemeFiles.{IsSettings, IsThemeOf, RefusesTheme, IsThemeFault, theme_name, AddsThemes};
+ghost use Rattle.syntect_theme.specs.declared.theme.Theme.{Theme as ATheme};
+ghost use Rattle.syntect_theme_files.specs.ThemeFiles.{IsSettings, IsThemeOf, RefusesTheme, IsThemeFault, theme_name, AddsThemes, StopsAtTheme, RefusesThemes};
 
 use crate::load::holds_float;
 use crate::theme_load::{ParseSettings, Settings};
@@ -187,7 +187,8 @@ impl ThemeSet {
     ) -> Result<ThemeSet, LoadingError>
         ensures ok { IfOk result (λ set. (found : List (List ℕ)) × IsWalk (path_bytes folder.entry) found
             × AddsThemes found repository.old [] repository.new set.themes) }
-        ensures refusal { IfErr result (λ e. e ≢ WalkDir → IsThemeFault e) }
+        ensures refusal { IfErr result (λ e. (all : List (List ℕ × ATheme))
+            × RefusesThemes (path_bytes folder.entry) repository.old [] e all) }
         ensures whole { IsRepository repository.new }
         ensures kept { take (length repository.old) repository.new ≡ repository.old }
     {
@@ -201,7 +202,6 @@ impl ThemeSet {
     /// Adds the themes in a folder and in the folders below it, each under its file's name without the extension. Of two
     /// files of one name the later in the walk stays. A fault of the walk is `WalkDir`, and the set stays as it is. A file that
     /// gives no theme is refused as by `get_theme`, and the themes before it stay.
-    #[tactic(auto, using(crate::proofs::FileLaws::fault_of_walk, crate::proofs::FileLaws::nothing_added, crate::proofs::FileLaws::no_walk_fault))]
     pub fn add_from_folder(
         &mut self,
         files: &impl Files,
@@ -211,10 +211,8 @@ impl ThemeSet {
     ) -> Result<(), LoadingError>
         ensures ok { OnOk result ((found : List (List ℕ)) × IsWalk (path_bytes folder.entry) found
             × AddsThemes found repository.old self.old.themes repository.new self.new.themes) }
-        ensures err { OnErr result ((found : List (List ℕ)) × IsWalk (path_bytes folder.entry) found
-            × (n : ℕ) × (left : List (List ℕ)) × AddsThemes (take n found) repository.old self.old.themes left self.new.themes) }
-        ensures walk { IfErr result (λ e. e ≡ WalkDir → self.new.themes ≡ self.old.themes) }
-        ensures refusal { IfErr result (λ e. e ≢ WalkDir → IsThemeFault e) }
+        ensures err { IfErr result (λ e.
+            RefusesThemes (path_bytes folder.entry) repository.old self.old.themes e self.new.themes) }
         ensures whole { IsRepository repository.new }
         ensures kept { take (length repository.old) repository.new ≡ repository.old }
     {
@@ -234,8 +232,8 @@ impl ThemeSet {
         repository: &mut ScopeRepository,
     ) -> Result<(), LoadingError>
         ensures ok { OnOk result (AddsThemes paths.now repository.old self.old.themes repository.new self.new.themes) }
-        ensures err { OnErr result ((n : ℕ) × (left : List (List ℕ)) × AddsThemes (take n paths.now) repository.old self.old.themes left self.new.themes) }
-        ensures refusal { IfErr result IsThemeFault }
+        ensures err { IfErr result (λ e.
+            StopsAtTheme paths.now repository.old self.old.themes e self.new.themes) }
         ensures whole { IsRepository repository.new }
         ensures kept { take (length repository.old) repository.new ≡ repository.old }
     {
@@ -260,6 +258,7 @@ impl ThemeSet {
     ) -> Result<(), LoadingError>
         ensures ok { OnOk result (AddsThemes (path.now ∷ []) repository.old self.old.themes repository.new self.new.themes) }
         ensures err { OnErr result (self.new.themes ≡ self.old.themes) }
+        ensures theme { OnErr result (is_some (theme_name path.now) ≡ true) }
         ensures refusal { IfErr result IsThemeFault }
         ensures whole { IsRepository repository.new }
         ensures kept { take (length repository.old) repository.new ≡ repository.old }

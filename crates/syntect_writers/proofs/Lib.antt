@@ -1,3 +1,4 @@
 pub mod TextLaws
 pub mod SpanLaws
 pub mod OutcomeLaws
+pub mod CharLaws

@@ -1,4 +1,5 @@
 pub mod Entities
+pub mod Latex
 pub mod Lines
 pub mod Names
 pub mod Opened

@@ -42,8 +42,8 @@ fn push_hex(out: &mut String, byte: u8) -> Result<(), AllocError>
     out.push(hex_digit(byte % 16))
 }
 
-/// Puts a colour last, without how opaque it is.
-fn push_rgb(out: &mut String, color: Color) -> Result<(), AllocError>
+/// Puts a colour last as CSS has it, without how opaque it is. Without memory a part of it may have been put there.
+pub fn push_rgb(out: &mut String, color: Color) -> Result<(), AllocError>
     ensures { OnOk result (string_bytes out.new ≡ string_bytes out.old ++ rgb_text color) }
 {
     out.push('#')?;
@@ -71,7 +71,7 @@ fn same_color(left: Color, right: Color) -> bool
 }
 
 /// Whether two styles are the same.
-fn same_style(left: Style, right: Style) -> bool
+pub(crate) fn same_style(left: Style, right: Style) -> bool
     ensures { result ≡ same_style left right }
 {
     same_color(left.foreground, right.foreground)

@@ -1,10 +1,11 @@
-//! Styled pieces as text: HTML with inline styles, and text for terminals.
+//! Styled pieces as text: HTML with inline styles, text for terminals, and LaTeX.
 //!
 //! Pieces are pairs of a style and a part of a line, as the highlighters give them.
 #![tactic(auto)]
 
 pub mod escape;
 pub mod html;
+pub mod latex;
 pub mod laws;
 pub mod lines;
 pub mod terminal;

@@ -5,7 +5,7 @@ use Rattle.syntect_theme.specs.declared.style.Color.{Color}
 use Rattle.syntect_writers.specs.Lines.{text_left}
 use Rattle.syntect_writers.specs.Spans.{line_text, background_of}
 use Rattle.syntect_writers.specs.declared.html.IncludeBackground.TheVariants.{IfDifferent}
-use Rattle.syntect.specs.Pages.{lines_in, answers_in}
+use Rattle.syntect.specs.Pages.{past_of}
 use Rattle.syntect.proofs.PageLaws.{so_far_none, so_far_more, page_whole, no_page}
 use Rattle.syntect.proofs.html.highlighted_html_for_string.Goals as goal
 
@@ -17,14 +17,14 @@ pub returns-in_err-pieces-clause-refused : goal.returns-in_err-pieces-clause-ref
 returns-in_err-pieces-clause-refused c = λ definitions b.
     let s = c.loop-line.invariant definitions b in
     let p = err_from_is_err_and c.from_residual-in_err-pieces.result c.from_residual-in_err-pieces.ensures.1 in
-    let l = c.in_err-pieces.ensures.answered c.args.theme.now definitions c.args.syntax.now (lines_in s.rows) (answers_in s.rows) b s.leads in
-    rw (p.1, p.2) (no_page c.args.ss.now c.args.theme.now c.args.syntax.now c.args.s.now _ _ c.in-Some.line _ _ c.highlight_line.new.self c.in_err-pieces.field-0.0 s l c.in-Some.ensures.steps)
+    let l = c.in_err-pieces.ensures.answered (past_of definitions c.args.theme.now c.args.syntax.now s.rows) (record { built = b; leads = s.leads }) in
+    rw (p.1, p.2) (no_page c.args.ss.now definitions c.args.theme.now c.args.syntax.now c.args.s.now _ _ c.in-Some.line _ _ c.highlight_line.new.self c.in_err-pieces.field-0.0 s l c.in-Some.ensures.steps)
 
 pub loop-line-preserved : goal.loop-line-preserved
 loop-line-preserved c = λ definitions b.
     let s = c.loop-line.invariant definitions b in
-    let l = c.in_ok-pieces.ensures.answered c.args.theme.now definitions c.args.syntax.now (lines_in s.rows) (answers_in s.rows) b s.leads in
-    so_far_more c.args.ss.now c.args.theme.now c.args.syntax.now c.args.s.now _ _ _ _ c.in-Some.line _ c.highlight_line.new.self c.in_ok-pieces.pieces s l c.in-Some.ensures.steps
+    let l = c.in_ok-pieces.ensures.answered (past_of definitions c.args.theme.now c.args.syntax.now s.rows) (record { built = b; leads = s.leads }) in
+    so_far_more c.args.ss.now definitions c.args.theme.now c.args.syntax.now c.args.s.now _ _ _ _ c.in-Some.line _ c.highlight_line.new.self c.in_ok-pieces.pieces s l c.in-Some.ensures.steps
     (c.in_ok-append_highlighted_html_for_styled_line.ensures.ok
     ∙ ap (λ (color : Color). string_bytes c.loop-line.page ++ line_text (IfDifferent color) c.as_slice.result.now) c.in_ok-page.ensures.color
     ∙ ap (λ (ps : List (Style × Bor (List ℕ))). string_bytes c.loop-line.page ++ line_text (IfDifferent (background_of c.args.theme.now)) ps) c.as_slice.ensures.value)

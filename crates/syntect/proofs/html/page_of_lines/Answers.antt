@@ -4,7 +4,7 @@ use Rattle.syntect_theme.specs.declared.style.Style.{Style}
 use Rattle.syntect_theme.specs.declared.style.Color.{Color}
 use Rattle.syntect_writers.specs.Spans.{line_text, opening, background_of}
 use Rattle.syntect_writers.specs.declared.html.IncludeBackground.TheVariants.{IfDifferent}
-use Rattle.syntect.specs.Pages.{lines_in, answers_in}
+use Rattle.syntect.specs.Pages.{past_of}
 use Rattle.syntect.proofs.ReaderLaws.{gives_more, gives_nothing, bytes_more, bytes_whole, stopped_at_line, any_fault}
 use Rattle.syntect.proofs.RowLaws.{rows_begin, some_text}
 use Rattle.syntect.proofs.html.page_of_lines.Goals as goal
@@ -34,8 +34,8 @@ returns-in_err-pieces-clause-refused g c = λ definitions syntax b l.
     let bytes = c.next_line.new.line.items in
     let p = err_from_is_err_and c.from_residual-in_err-pieces.result c.from_residual-in_err-pieces.ensures.1 in
     let s = c.loop.invariant definitions syntax b l in
-    rw (p.1, p.2) (stopped_at_line c.args.ss.now c.args.theme.now syntax (g.R.Read.remaining c.args.reader) left after last bytes s.rows c.in_ok-line.line c.loop.highlighter c.highlight_line.new.self c.in_err-pieces.field-0.0 s.read
-    (c.in_err-pieces.ensures.answered c.args.theme.now definitions syntax (lines_in s.rows) (answers_in s.rows) b s.read.leads)
+    rw (p.1, p.2) (stopped_at_line c.args.ss.now definitions c.args.theme.now syntax (g.R.Read.remaining c.args.reader) left after last bytes s.rows c.in_ok-line.line c.loop.highlighter c.highlight_line.new.self c.in_err-pieces.field-0.0 s.read
+    (c.in_err-pieces.ensures.answered (past_of definitions c.args.theme.now syntax s.rows) (record { built = b; leads = s.read.leads }))
     (gives_more left after last bytes _ c.if-not-branch.false c.in_ok-next_line.ensures.next)
     (c.in_ok-line.ensures.ok.0 ∙ c.as_slice.ensures.value) (rw c.as_slice.ensures.value at c.in_ok-line.ensures.ok.1))
 
@@ -46,9 +46,9 @@ loop-preserved g c = λ definitions syntax b l.
     let last = c.loop.bytes.items in
     let bytes = c.next_line.new.line.items in
     let s = c.loop.invariant definitions syntax b l in
-    bytes_more c.args.ss.now c.args.theme.now syntax (g.R.Read.remaining c.args.reader) left after last (string_bytes c.loop.page) (string_bytes c.append_highlighted_html_for_styled_line.new.s) bytes
+    bytes_more c.args.ss.now definitions c.args.theme.now syntax (g.R.Read.remaining c.args.reader) left after last (string_bytes c.loop.page) (string_bytes c.append_highlighted_html_for_styled_line.new.s) bytes
     c.in_ok-line.line c.loop.highlighter c.highlight_line.new.self c.in_ok-pieces.pieces s
-    (c.in_ok-pieces.ensures.answered c.args.theme.now definitions syntax (lines_in s.rows) (answers_in s.rows) b s.read.leads)
+    (c.in_ok-pieces.ensures.answered (past_of definitions c.args.theme.now syntax s.rows) (record { built = b; leads = s.read.leads }))
     (gives_more left after last bytes _ c.if-not-branch.false c.in_ok-next_line.ensures.next)
     (c.in_ok-line.ensures.ok.0 ∙ c.as_slice.ensures.value) (rw c.as_slice.ensures.value at c.in_ok-line.ensures.ok.1)
     (c.in_ok-append_highlighted_html_for_styled_line.ensures.ok

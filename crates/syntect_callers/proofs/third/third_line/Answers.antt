@@ -7,16 +7,17 @@ use Rattle.syntect_parsing.specs.Engine.{dialect}
 use Rattle.syntect_parsing.specs.Line.{Accepted, AnswersAll}
 use Rattle.syntect_parsing.specs.Refusals.{NamesUnresolved}
 use Rattle.syntect_grammar.specs.declared.syntax_set.SyntaxSet.{SyntaxSet}
-use Rattle.syntect_grammar.specs.Link.{definitions_in, paths_in, with_paths, linked, syntaxes_in}
+use Rattle.syntect_grammar.specs.Link.{definitions_in, linked, syntaxes_in}
 use Rattle.syntect_loader.specs.declared.definition.SyntaxDefinition.{SyntaxDefinition}
 use Rattle.syntect_contexts.specs.declared.syntax_reference.SyntaxReference.{SyntaxReference}
-use Rattle.syntect_parsing.specs.declared.parser.ParseState.{ParseState}
+use Rattle.syntect_parsing.specs.declared.parser.Standing.{Standing}
+use Rattle.syntect_parsing.specs.States.{standing}
 use Rattle.syntect_contexts.specs.declared.error.ParsingError.{ParsingError}
 use Rattle.syntect_contexts.specs.declared.error.ParsingError.TheVariants as parsing
 use Rattle.syntect_theme.specs.declared.style.Style.{Style}
 use Rattle.syntect_theme.specs.declared.theme.Theme.{Theme}
 use Rattle.syntect.specs.Built.{IsBuiltOf, StaysInStart}
-use Rattle.syntect.specs.Leads.{Leads, RefusedExactly}
+use Rattle.syntect.specs.Leads.{Past, reader_of, Leads, RefusedExactly}
 use Rattle.syntect.specs.declared.easy.HighlightLines.{HighlightLines}
 use Rattle.syntect_grammar.specs.declared.error.Error.{Error}
 use Rattle.syntect_grammar.specs.declared.error.Error.TheVariants as error
@@ -28,14 +29,18 @@ none_first None [] e n = refl
 none_first None (x ∷ xs) e n = cc
 none_first (Some b) xs e n = absurd (n b refl)
 
-no_definitions : (definitions : List SyntaxDefinition) → syntaxes_in (linked definitions) ≡ [] → definitions ≡ []
+no_definitions : (definitions : List SyntaxDefinition) → linked definitions ≡ [] → definitions ≡ []
 no_definitions [] e = refl
 no_definitions (d ∷ ds) e = cc
+
+-- before the first line
+abbrev none : List SyntaxDefinition → Theme → SyntaxReference → Past
+none definitions theme syntax = record { definitions = definitions; theme = theme; syntax = syntax; lines = []; answers = [] }
 
 pub returns-in_default-clause-pieces : goal.returns-in_default-clause-pieces
 returns-in_default-clause-pieces c = λ plain.
     let e = none_first c.first.result c.syntaxes.result.now c.first.ensures.value c.in_default.not-Some in
-    no_definitions (definitions_in c.args.builder) (ap syntaxes_in (sym c.in_ok-set.ensures.linked) ∙ sym c.syntaxes.ensures ∙ e)
+    no_definitions (definitions_in c.args.builder) (sym c.in_ok-set.ensures.linked ∙ sym c.syntaxes.ensures ∙ e)
 
 pub returns-clause-pieces : goal.returns-clause-pieces
 returns-clause-pieces c = λ plain.
@@ -43,51 +48,54 @@ returns-clause-pieces c = λ plain.
     let definitions : List SyntaxDefinition = definitions_in c.args.builder in
     let syntax = c.in-Some.syntax.now in
     let built : IsBuiltOf c.in_ok-set.set syntax definitions = record {
-      paths = paths_in c.args.builder;
-      set_is = c.in_ok-set.ensures.linked;
+      links = c.in_ok-set.ensures.linked;
       place = 0;
       among = sym (c.in-Some.ensures.value ∙ ap (λ xs. slice_get xs 0) c.syntaxes.ensures);
       plain = plain;
     } in
-    let one = c.in_ok-highlight_line.ensures.answered theme definitions syntax [] [] built (c.in_ok-lines.ensures.leads c.in_ok-set.set) in
-    let two = c.in_ok-highlight_line-2.ensures.answered theme definitions syntax _ _ built one.1 in
-    let three = c.in_ok-highlight_line-3.ensures.answered theme definitions syntax _ _ built two.1 in
+    let one = c.in_ok-highlight_line.ensures.answered (none definitions theme syntax) (record { built = built; leads = c.in_ok-lines.ensures.leads c.in_ok-set.set }) in
+    let two = c.in_ok-highlight_line-2.ensures.answered _ one.1 in
+    let three = c.in_ok-highlight_line-3.ensures.answered _ two.1 in
     record {
+      set = c.in_ok-set.set;
+      is_of = c.in_ok-set.ensures.linked;
       syntax = syntax;
-      among = sym (ap (λ (s : SyntaxSet). slice_get (syntaxes_in s) 0) c.in_ok-set.ensures.linked) ∙ built.among;
-      start = three.1.start;
-      after = c.highlight_line-3.new.self.parse_state;
+      among = built.among;
+      start = three.1.leads.start;
+      after = standing (reader_of c.highlight_line-3.new.self);
       bytes_first = one.0;
       bytes_second = two.0;
       bytes = three.0;
-      begins = three.1.begins;
-      answers = subst (λ (s : SyntaxSet). AnswersAll dialect s (c.args.first.now ∷ c.args.second.now ∷ c.args.third.now ∷ []) three.1.start (Accepted one.0 ∷ Accepted two.0 ∷ Accepted three.0 ∷ []) c.highlight_line-3.new.self.parse_state) c.in_ok-set.ensures.linked three.1.run;
+      begins = three.1.leads.begins;
+      answers = three.1.leads.run;
       joins = three.2;
       styled = three.3;
     }
 
 -- a refused line, after those that were accepted
-module _ (paths : List (List ℕ × ℕ)) (definitions : List SyntaxDefinition) (set : SyntaxSet) (theme : Theme) (syntax : SyntaxReference) (before : List (List ℕ)) (bytes : List (List (List (List ℕ)))) (h : HighlightLines) (line : List ℕ) (behind all : List (List ℕ)) where
-  refused_line : set ≡ with_paths paths (linked definitions) → slice_get (syntaxes_in set) 0 ≡ Some syntax → Leads set theme syntax before (map Accepted bytes) h → before ++ line ∷ behind ≡ all → (e : ParsingError) → NamesUnresolved dialect set line h.parse_state e → IsRefusedLine paths definitions all e
+module _ (definitions : List SyntaxDefinition) (set : SyntaxSet) (theme : Theme) (syntax : SyntaxReference) (before : List (List ℕ)) (bytes : List (List (List (List ℕ)))) (h : HighlightLines) (line : List ℕ) (behind all : List (List ℕ)) where
+  refused_line : syntaxes_in set ≡ linked definitions → slice_get (syntaxes_in set) 0 ≡ Some syntax → Leads set theme syntax before (map Accepted bytes) h → before ++ line ∷ behind ≡ all → (e : ParsingError) → NamesUnresolved dialect set line (standing (reader_of h)) e → IsRefusedLine definitions all e
   refused_line is m l s e n = record {
+    set = set;
+    is_of = is;
     syntax = syntax;
-    among = sym (ap (λ (s : SyntaxSet). slice_get (syntaxes_in s) 0) is) ∙ m;
+    among = m;
     start = l.start;
-    state = h.parse_state;
+    state = standing (reader_of h);
     before = before;
     line = line;
     behind = behind;
     bytes = bytes;
     begins = l.begins;
     splits = s;
-    run = subst (λ (x : SyntaxSet). AnswersAll dialect x before l.start (map Accepted bytes) h.parse_state) is l.run;
-    names = subst (λ (x : SyntaxSet). NamesUnresolved dialect x line h.parse_state e) is n;
+    run = l.run;
+    names = n;
   }
 
   another : (r : _) → parsing.MissingMainContext ≡ parsing.UnresolvedContextReference r → ⊥
   another r e = cc
 
-  refusal_of : set ≡ with_paths paths (linked definitions) → slice_get (syntaxes_in set) 0 ≡ Some syntax → Leads set theme syntax before (map Accepted bytes) h → before ++ line ∷ behind ≡ all → (e : Error) → RefusedExactly set line h (Err e) → IsRefusal paths definitions all e
+  refusal_of : syntaxes_in set ≡ linked definitions → slice_get (syntaxes_in set) 0 ≡ Some syntax → Leads set theme syntax before (map Accepted bytes) h → before ++ line ∷ behind ≡ all → (e : Error) → RefusedExactly set line h (Err e) → IsRefusal definitions all e
   refusal_of is m l s error.Memory r = tt
   refusal_of is m l s (error.ParsingError parsing.MissingMainContext) r = absurd (another r.0 r.1)
   refusal_of is m l s (error.ParsingError parsing.Memory) r = refused_line is m l s parsing.Memory r
@@ -106,12 +114,12 @@ returns-in_err-highlight_line-clause-refused c = λ plain names stays.
     let definitions : List SyntaxDefinition = definitions_in c.args.builder in
     let syntax = c.in-Some.syntax.now in
     let among : slice_get (syntaxes_in c.in_ok-set.set) 0 ≡ Some syntax = sym (c.in-Some.ensures.value ∙ ap (λ xs. slice_get xs 0) c.syntaxes.ensures) in
-    let built : IsBuiltOf c.in_ok-set.set syntax definitions = record { paths = paths_in c.args.builder; set_is = c.in_ok-set.ensures.linked; place = 0; among = among; plain = plain } in
-    let stay : StaysInStart c.in_ok-set.set syntax = subst (λ (s : SyntaxSet). StaysInStart s syntax) (sym c.in_ok-set.ensures.linked) (stays syntax (sym (ap (λ (s : SyntaxSet). slice_get (syntaxes_in s) 0) c.in_ok-set.ensures.linked) ∙ among)) in
+    let built : IsBuiltOf c.in_ok-set.set syntax definitions = record { links = c.in_ok-set.ensures.linked; place = 0; among = among; plain = plain } in
+    let stay : StaysInStart c.in_ok-set.set syntax = stays c.in_ok-set.set syntax c.in_ok-set.ensures.linked among in
     let l = c.in_ok-lines.ensures.leads c.in_ok-set.set in
     let p = err_from_is_err_and c.from_residual-in_err-highlight_line.result c.from_residual-in_err-highlight_line.ensures.1 in
-    rw (p.1, p.2) (refusal_of (paths_in c.args.builder) definitions c.in_ok-set.set theme syntax [] [] _ c.args.first.now (c.args.second.now ∷ c.args.third.now ∷ []) (c.args.first.now ∷ c.args.second.now ∷ c.args.third.now ∷ []) c.in_ok-set.ensures.linked among l refl _
-    (c.in_err-highlight_line.ensures.refused theme definitions syntax [] [] built names stay l))
+    rw (p.1, p.2) (refusal_of definitions c.in_ok-set.set theme syntax [] [] _ c.args.first.now (c.args.second.now ∷ c.args.third.now ∷ []) (c.args.first.now ∷ c.args.second.now ∷ c.args.third.now ∷ []) c.in_ok-set.ensures.linked among l refl _
+    (c.in_err-highlight_line.ensures.refused (none definitions theme syntax) (record { built = built; leads = l }) names stay))
 
 pub returns-in_err-highlight_line-2-clause-refused : goal.returns-in_err-highlight_line-2-clause-refused
 returns-in_err-highlight_line-2-clause-refused c = λ plain names stays.
@@ -119,12 +127,12 @@ returns-in_err-highlight_line-2-clause-refused c = λ plain names stays.
     let definitions : List SyntaxDefinition = definitions_in c.args.builder in
     let syntax = c.in-Some.syntax.now in
     let among : slice_get (syntaxes_in c.in_ok-set.set) 0 ≡ Some syntax = sym (c.in-Some.ensures.value ∙ ap (λ xs. slice_get xs 0) c.syntaxes.ensures) in
-    let built : IsBuiltOf c.in_ok-set.set syntax definitions = record { paths = paths_in c.args.builder; set_is = c.in_ok-set.ensures.linked; place = 0; among = among; plain = plain } in
-    let stay : StaysInStart c.in_ok-set.set syntax = subst (λ (s : SyntaxSet). StaysInStart s syntax) (sym c.in_ok-set.ensures.linked) (stays syntax (sym (ap (λ (s : SyntaxSet). slice_get (syntaxes_in s) 0) c.in_ok-set.ensures.linked) ∙ among)) in
-    let one = c.in_ok-highlight_line.ensures.answered theme definitions syntax [] [] built (c.in_ok-lines.ensures.leads c.in_ok-set.set) in
+    let built : IsBuiltOf c.in_ok-set.set syntax definitions = record { links = c.in_ok-set.ensures.linked; place = 0; among = among; plain = plain } in
+    let stay : StaysInStart c.in_ok-set.set syntax = stays c.in_ok-set.set syntax c.in_ok-set.ensures.linked among in
+    let one = c.in_ok-highlight_line.ensures.answered (none definitions theme syntax) (record { built = built; leads = c.in_ok-lines.ensures.leads c.in_ok-set.set }) in
     let p = err_from_is_err_and c.from_residual-in_err-highlight_line-2.result c.from_residual-in_err-highlight_line-2.ensures.1 in
-    rw (p.1, p.2) (refusal_of (paths_in c.args.builder) definitions c.in_ok-set.set theme syntax (c.args.first.now ∷ []) (one.0 ∷ []) _ c.args.second.now (c.args.third.now ∷ []) (c.args.first.now ∷ c.args.second.now ∷ c.args.third.now ∷ []) c.in_ok-set.ensures.linked among one.1 refl _
-    (c.in_err-highlight_line-2.ensures.refused theme definitions syntax _ _ built names stay one.1))
+    rw (p.1, p.2) (refusal_of definitions c.in_ok-set.set theme syntax (c.args.first.now ∷ []) (one.0 ∷ []) _ c.args.second.now (c.args.third.now ∷ []) (c.args.first.now ∷ c.args.second.now ∷ c.args.third.now ∷ []) c.in_ok-set.ensures.linked among one.1.leads refl _
+    (c.in_err-highlight_line-2.ensures.refused _ one.1 names stay))
 
 pub returns-in_err-highlight_line-3-clause-refused : goal.returns-in_err-highlight_line-3-clause-refused
 returns-in_err-highlight_line-3-clause-refused c = λ plain names stays.
@@ -132,10 +140,10 @@ returns-in_err-highlight_line-3-clause-refused c = λ plain names stays.
     let definitions : List SyntaxDefinition = definitions_in c.args.builder in
     let syntax = c.in-Some.syntax.now in
     let among : slice_get (syntaxes_in c.in_ok-set.set) 0 ≡ Some syntax = sym (c.in-Some.ensures.value ∙ ap (λ xs. slice_get xs 0) c.syntaxes.ensures) in
-    let built : IsBuiltOf c.in_ok-set.set syntax definitions = record { paths = paths_in c.args.builder; set_is = c.in_ok-set.ensures.linked; place = 0; among = among; plain = plain } in
-    let stay : StaysInStart c.in_ok-set.set syntax = subst (λ (s : SyntaxSet). StaysInStart s syntax) (sym c.in_ok-set.ensures.linked) (stays syntax (sym (ap (λ (s : SyntaxSet). slice_get (syntaxes_in s) 0) c.in_ok-set.ensures.linked) ∙ among)) in
-    let one = c.in_ok-highlight_line.ensures.answered theme definitions syntax [] [] built (c.in_ok-lines.ensures.leads c.in_ok-set.set) in
-    let two = c.in_ok-highlight_line-2.ensures.answered theme definitions syntax _ _ built one.1 in
+    let built : IsBuiltOf c.in_ok-set.set syntax definitions = record { links = c.in_ok-set.ensures.linked; place = 0; among = among; plain = plain } in
+    let stay : StaysInStart c.in_ok-set.set syntax = stays c.in_ok-set.set syntax c.in_ok-set.ensures.linked among in
+    let one = c.in_ok-highlight_line.ensures.answered (none definitions theme syntax) (record { built = built; leads = c.in_ok-lines.ensures.leads c.in_ok-set.set }) in
+    let two = c.in_ok-highlight_line-2.ensures.answered _ one.1 in
     let p = err_from_is_err_and c.from_residual-in_err-highlight_line-3.result c.from_residual-in_err-highlight_line-3.ensures.1 in
-    rw (p.1, p.2) (refusal_of (paths_in c.args.builder) definitions c.in_ok-set.set theme syntax (c.args.first.now ∷ c.args.second.now ∷ []) (one.0 ∷ two.0 ∷ []) _ c.args.third.now [] (c.args.first.now ∷ c.args.second.now ∷ c.args.third.now ∷ []) c.in_ok-set.ensures.linked among two.1 refl _
-    (c.in_err-highlight_line-3.ensures.refused theme definitions syntax _ _ built names stay two.1))
+    rw (p.1, p.2) (refusal_of definitions c.in_ok-set.set theme syntax (c.args.first.now ∷ c.args.second.now ∷ []) (one.0 ∷ two.0 ∷ []) _ c.args.third.now [] (c.args.first.now ∷ c.args.second.now ∷ c.args.third.now ∷ []) c.in_ok-set.ensures.linked among two.1.leads refl _
+    (c.in_err-highlight_line-3.ensures.refused _ two.1 names stay))

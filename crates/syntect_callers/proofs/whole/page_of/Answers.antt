@@ -1,6 +1,6 @@
 use Rattle.std.proofs.Common.{◌≡◌, ℕ, zero, suc, ◌<◌, true, [], ◌∷◌, ◌++◌, List, Option, None, Ok, length, sym, ap, subst, ◌∙◌, arith, string_bytes}
 use Rattle.std.specs.Prelude.{slice_get, All}
-use Rattle.syntect_grammar.specs.Link.{definitions_in, paths_in, with_paths, linked, syntaxes_in}
+use Rattle.syntect_grammar.specs.Link.{definitions_in, linked, syntaxes_in}
 use Rattle.syntect_loader.specs.Loading.{loaded}
 use Rattle.syntect_grammar.specs.declared.syntax_set.SyntaxSet.{SyntaxSet}
 use Rattle.syntect_loader.specs.declared.definition.SyntaxDefinition.{SyntaxDefinition}
@@ -19,11 +19,9 @@ returns c =
     let left = c.load_from_str-loaded.new.repository in
     let loads : loaded c.args.grammar.now true None c.args.repository.now ≡ Ok (d, left) = c.in-Ok.ensures.value in
     let held : definitions_in c.add.new.self ≡ d ∷ [] = c.in_ok-add.ensures.ok ∙ ap (λ (ds : List SyntaxDefinition). ds ++ d ∷ []) c.new-builder.ensures.definitions in
-    let none : paths_in c.add.new.self ≡ [] = c.add.ensures.paths ∙ c.new-builder.ensures.paths in
-    let is : c.in_ok-set.set ≡ linked (d ∷ []) = c.in_ok-set.ensures.linked ∙ ap (λ (ps : List (List ℕ × ℕ)). with_paths ps (linked (definitions_in c.add.new.self))) none ∙ ap (λ (ds : List SyntaxDefinition). with_paths [] (linked ds)) held in
+    let is : syntaxes_in c.in_ok-set.set ≡ linked (d ∷ []) = c.in_ok-set.ensures.linked ∙ ap linked held in
     let built : IsBuiltOf c.in_ok-set.set syntax (d ∷ []) = record {
-      paths = [];
-      set_is = is;
+      links = is;
       place = 0;
       among = sym (c.in-Some.ensures.value ∙ ap (λ xs. slice_get xs 0) c.syntaxes.ensures);
       plain = one_plain d (c.loaded_is_plain.ensures c.args.grammar.now true None c.args.repository.now d left loads);
@@ -32,7 +30,9 @@ returns c =
       definition = d;
       left = left;
       loads = loads;
+      set = c.in_ok-set.set;
+      is_of = is;
       syntax = syntax;
-      among = sym (ap (λ (s : SyntaxSet). slice_get (syntaxes_in s) 0) is) ∙ built.among;
-      shows = subst (λ (s : SyntaxSet). IsPage s c.args.theme.now syntax c.args.text.now (string_bytes c.in_ok-page.page)) is (c.in_ok-page.ensures.page (d ∷ []) built);
+      among = built.among;
+      shows = c.in_ok-page.ensures.page (d ∷ []) built;
     }

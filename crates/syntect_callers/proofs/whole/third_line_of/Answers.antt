@@ -1,7 +1,7 @@
 use Rattle.std.proofs.Common.{◌≡◌, ℕ, zero, suc, ◌<◌, true, [], ◌∷◌, ◌++◌, List, Option, Some, None, Ok, Err, Result, Bor, length, refl, sym, ap, subst, ◌∙◌, arith}
 use Rattle.std.specs.Global.{Vec}
 use Rattle.std.specs.Prelude.{slice_get, All, IfOk, IfErr, IfSome}
-use Rattle.syntect_grammar.specs.Link.{definitions_in, paths_in, with_paths, linked, syntaxes_in}
+use Rattle.syntect_grammar.specs.Link.{definitions_in, linked, syntaxes_in}
 use Rattle.syntect_loader.specs.Loading.{loaded}
 use Rattle.syntect_parsing.specs.Refusals.{AreByName}
 use Rattle.syntect_loader.specs.declared.definition.SyntaxDefinition.{SyntaxDefinition}
@@ -29,20 +29,19 @@ module _ (repository : List (List ℕ)) (g h : List ℕ) (l : Load repository g 
   two_loaded (suc (suc n)) y k = absurd (omega arith)
 
   module _ (theme : Theme) (x y z : List ℕ) where
-    shown : (r : Pieces) → IfOk r (λ pieces. IsThird [] both theme x y z pieces) → IfOk r (λ o. IfSome o (λ pieces. IsThirdOf repository g h theme x y z pieces.items))
+    shown : (r : Pieces) → IfOk r (λ pieces. IsThird both theme x y z pieces) → IfOk r (λ o. IfSome o (λ pieces. IsThirdOf repository g h theme x y z pieces.items))
     shown (Ok (Some pieces)) k = (l, k)
     shown (Ok None) k = tt
     shown (Err e) k = tt
 
-    shown_of : (ps : List (List ℕ × ℕ)) (ds : List SyntaxDefinition) (r : Pieces) → ps ≡ [] → ds ≡ both → All IsPlain both
-        → (All IsPlain ds → IfOk r (λ pieces. IsThird ps ds theme x y z pieces)) → IfOk r (λ o. IfSome o (λ pieces. IsThirdOf repository g h theme x y z pieces.items))
-    shown_of ps ds r e f plain k =
-        let there : IfOk r (λ pieces. IsThird ps ds theme x y z pieces) = k (subst (All IsPlain) (sym f) plain) in
-        let one : IfOk r (λ pieces. IsThird [] ds theme x y z pieces) = subst (λ (qs : List (List ℕ × ℕ)). IfOk r (λ pieces. IsThird qs ds theme x y z pieces)) e there in
-        shown r (subst (λ (es : List SyntaxDefinition). IfOk r (λ pieces. IsThird [] es theme x y z pieces)) f one)
+    shown_of : (ds : List SyntaxDefinition) (r : Pieces) → ds ≡ both → All IsPlain both → (All IsPlain ds → IfOk r (λ pieces. IsThird ds theme x y z pieces))
+        → IfOk r (λ o. IfSome o (λ pieces. IsThirdOf repository g h theme x y z pieces.items))
+    shown_of ds r f plain k =
+        let there : IfOk r (λ pieces. IsThird ds theme x y z pieces) = k (subst (All IsPlain) (sym f) plain) in
+        shown r (subst (λ (es : List SyntaxDefinition). IfOk r (λ pieces. IsThird es theme x y z pieces)) f there)
 
   module _ (lines : List (List ℕ)) where
-    named : (e : Error) → IsRefusal [] both lines e → IsRefusalOf repository g h lines e
+    named : (e : Error) → IsRefusal both lines e → IsRefusalOf repository g h lines e
     named (error.LoadingError x) k = (l, k)
     named (error.ParsingError x) k = (l, k)
     named (error.ScopeError x) k = (l, k)
@@ -51,21 +50,19 @@ module _ (repository : List (List ℕ)) (g h : List ℕ) (l : Load repository g 
     named error.NoSyntax k = (l, k)
     named error.Memory k = tt
 
-    refused : (r : Pieces) → IfErr r (IsRefusal [] both lines) → IfErr r (IsRefusalOf repository g h lines)
+    refused : (r : Pieces) → IfErr r (IsRefusal both lines) → IfErr r (IsRefusalOf repository g h lines)
     refused (Ok o) k = tt
     refused (Err e) k = named e k
 
-    refused_of : (ps : List (List ℕ × ℕ)) (ds : List SyntaxDefinition) (r : Pieces) → ps ≡ [] → ds ≡ both → All IsPlain both → AreByName both → FirstStays [] both
-        → (All IsPlain ds → AreByName ds → FirstStays ps ds → IfErr r (IsRefusal ps ds lines)) → IfErr r (IsRefusalOf repository g h lines)
-    refused_of ps ds r e f plain by_name stays k =
-        let one : All IsPlain ds → AreByName ds → FirstStays [] ds → IfErr r (IsRefusal [] ds lines)
-        = subst (λ (qs : List (List ℕ × ℕ)). All IsPlain ds → AreByName ds → FirstStays qs ds → IfErr r (IsRefusal qs ds lines)) e k in
-        let two : All IsPlain both → AreByName both → FirstStays [] both → IfErr r (IsRefusal [] both lines)
-        = subst (λ (es : List SyntaxDefinition). All IsPlain es → AreByName es → FirstStays [] es → IfErr r (IsRefusal [] es lines)) f one in
+    refused_of : (ds : List SyntaxDefinition) (r : Pieces) → ds ≡ both → All IsPlain both → AreByName both → FirstStays both
+        → (All IsPlain ds → AreByName ds → FirstStays ds → IfErr r (IsRefusal ds lines)) → IfErr r (IsRefusalOf repository g h lines)
+    refused_of ds r f plain by_name stays k =
+        let two : All IsPlain both → AreByName both → FirstStays both → IfErr r (IsRefusal both lines)
+        = subst (λ (es : List SyntaxDefinition). All IsPlain es → AreByName es → FirstStays es → IfErr r (IsRefusal es lines)) f k in
         refused r (two plain by_name stays)
 
-  first_stays : All IsPlain both → ((set : SyntaxSet) (syntax : SyntaxReference) (definitions : List SyntaxDefinition) → IsBuiltOf set syntax definitions → All IsLoaded definitions → StaysInStart set syntax) → FirstStays [] both
-  first_stays plain stay syntax m = stay (with_paths [] (linked both)) syntax both (record { paths = []; set_is = refl; place = 0; among = m; plain = plain }) two_loaded
+  first_stays : All IsPlain both → ((set : SyntaxSet) (syntax : SyntaxReference) (definitions : List SyntaxDefinition) → IsBuiltOf set syntax definitions → All IsLoaded definitions → StaysInStart set syntax) → FirstStays both
+  first_stays plain stay set syntax is m = stay set syntax both (record { links = is; place = 0; among = m; plain = plain }) two_loaded
 
 pub returns-clause-pieces : goal.returns-clause-pieces
 returns-clause-pieces c =
@@ -78,10 +75,9 @@ returns-clause-pieces c =
       loads_two = c.in-Ok-loaded.ensures.value;
     } in
     let held : definitions_in c.add-2.new.self ≡ l.one ∷ l.two ∷ [] = c.in_ok-add-2.ensures.ok ∙ ap (λ (ds : List SyntaxDefinition). ds ++ l.two ∷ []) (c.in_ok-add.ensures.ok ∙ ap (λ (ds : List SyntaxDefinition). ds ++ l.one ∷ []) c.new-builder.ensures.definitions) in
-    let none : paths_in c.add-2.new.self ≡ [] = c.add-2.ensures.paths ∙ (c.add.ensures.paths ∙ c.new-builder.ensures.paths) in
     let ready : All IsLoaded (l.one ∷ l.two ∷ []) = two_loaded c.args.repository.now c.args.grammars.0.now c.args.grammars.1.now l in
     shown_of c.args.repository.now c.args.grammars.0.now c.args.grammars.1.now l c.args.theme.now c.args.lines.0.now c.args.lines.1.now c.args.lines.2.now
-    (paths_in c.add-2.new.self) (definitions_in c.add-2.new.self) c.third_line.result none held (c.loaded_sets_stay.ensures.plain (l.one ∷ l.two ∷ []) ready) c.third_line.ensures.pieces
+    (definitions_in c.add-2.new.self) c.third_line.result held (c.loaded_sets_stay.ensures.plain (l.one ∷ l.two ∷ []) ready) c.third_line.ensures.pieces
 
 pub returns-clause-refused : goal.returns-clause-refused
 returns-clause-refused c =
@@ -94,10 +90,9 @@ returns-clause-refused c =
       loads_two = c.in-Ok-loaded.ensures.value;
     } in
     let held : definitions_in c.add-2.new.self ≡ l.one ∷ l.two ∷ [] = c.in_ok-add-2.ensures.ok ∙ ap (λ (ds : List SyntaxDefinition). ds ++ l.two ∷ []) (c.in_ok-add.ensures.ok ∙ ap (λ (ds : List SyntaxDefinition). ds ++ l.one ∷ []) c.new-builder.ensures.definitions) in
-    let none : paths_in c.add-2.new.self ≡ [] = c.add-2.ensures.paths ∙ (c.add.ensures.paths ∙ c.new-builder.ensures.paths) in
     let ready : All IsLoaded (l.one ∷ l.two ∷ []) = two_loaded c.args.repository.now c.args.grammars.0.now c.args.grammars.1.now l in
     let plain : All IsPlain (l.one ∷ l.two ∷ []) = c.loaded_sets_stay.ensures.plain (l.one ∷ l.two ∷ []) ready in
     refused_of c.args.repository.now c.args.grammars.0.now c.args.grammars.1.now l (c.args.lines.0.now ∷ c.args.lines.1.now ∷ c.args.lines.2.now ∷ [])
-    (paths_in c.add-2.new.self) (definitions_in c.add-2.new.self) c.third_line.result none held plain
+    (definitions_in c.add-2.new.self) c.third_line.result held plain
     (c.loaded_sets_stay.ensures.named (l.one ∷ l.two ∷ []) ready)
     (first_stays c.args.repository.now c.args.grammars.0.now c.args.grammars.1.now l plain c.loaded_sets_stay.ensures.stay) c.third_line.ensures.refused

@@ -4,7 +4,7 @@ use Rattle.std.specs.Option.{option_or, option_to_list}
 use Rattle.std.specs.List.{flat_map}
 use Rattle.syntect_grammar.specs.Contexts.{context_at}
 use Rattle.syntect_contexts.specs.declared.context.ContextId.{ContextId}
-use Rattle.syntect_parsing.specs.declared.parser.Level.{Level}
+use Rattle.syntect_parsing.specs.States.{Level}
 use Rattle.syntect_parsing.proofs.ListLaws.{find_at}
 use Rattle.syntect_parsing.proofs.chain.missing_prototype.Goals as goal
 

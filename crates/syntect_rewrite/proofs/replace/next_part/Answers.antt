@@ -1,17 +1,16 @@
 use Rattle.std.proofs.Common.{◌++◌, List, ℕ, take, drop, sym, ap, ◌∙◌}
-use Rattle.syntect_rewrite.specs.Replacing.{replaced}
-use Rattle.syntect_rewrite.specs.Views.{words_of}
+use Rattle.syntect_rewrite.specs.Replacing.{replaced, brackets}
 use Rattle.syntect_rewrite.proofs.ReplaceLaws.{replaced-word, replaced-char}
 use Rattle.syntect_rewrite.proofs.replace.next_part.Goals as goal
 
 pub returns-in-Some-clause-turn : goal.returns-in-Some-clause-turn
 returns-in-Some-clause-turn c =
-    replaced-word (words_of c.args.words) c.args.text.now c.in-Some.found.0.now _ c.requires c.in-Some.ensures.cases
-    ∙ ap (λ (x : List ℕ). c.in-Some.found.0.now ++ replaced (words_of c.args.words) x) (sym c.in-Some.ensures.rest)
+    replaced-word brackets c.args.text.now c.in-Some.found.0.now _ c.requires c.in-Some.ensures.cases
+    ∙ ap (λ (x : List ℕ). c.in-Some.found.0.now ++ replaced brackets x) (sym c.in-Some.ensures.rest)
 
 pub returns-in-None-clause-turn : goal.returns-in-None-clause-turn
 returns-in-None-clause-turn c =
-    let ws = words_of c.args.words in
+    let ws = brackets in
     let t = c.args.text.now in
     replaced-char ws t c.requires c.in-None.ensures.cases
     ∙ ap (λ (k : ℕ). take k t ++ replaced ws (drop k t)) (sym c.char_len.ensures.len)

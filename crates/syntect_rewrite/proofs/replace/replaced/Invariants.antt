@@ -1,12 +1,11 @@
 use Rattle.std.proofs.Common.{◌≡◌, ◌++◌, length, string_bytes}
 use denote.Text.{Utf8}
 use denote.Shadow.{shadow}
-use Rattle.syntect_rewrite.specs.Replacing.{replaced}
-use Rattle.syntect_rewrite.specs.Views.{words_of}
+use Rattle.syntect_rewrite.specs.Replacing.{replaced, brackets}
 use Rattle.syntect_rewrite.proofs.replace.replaced.Given as goal
 
 abbrev pub invariant-words : goal.invariant-words
-invariant-words l = shadow (Utf8 l.rest) × (string_bytes l.out ++ replaced (words_of l.words) l.rest ≡ replaced (words_of l.words) l.fn.text)
+invariant-words l = shadow (Utf8 l.rest) × (string_bytes l.out ++ replaced brackets l.rest ≡ replaced brackets l.fn.text)
 
 abbrev pub decreases-words : goal.decreases-words
 decreases-words l = length l.rest

@@ -2,10 +2,10 @@ use Rattle.std.proofs.Common.{◌≡◌, ◌<◌, ◌-◌, ℕ, length, drop, ge
 use Rattle.syntect_rewrite.proofs.CuttingLaws.{inside}
 use Rattle.syntect_rewrite.proofs.replace.word.Goals as goal
 
-pub returns-in_ok-written-in-Brackets-clause-rest : goal.returns-in_ok-written-in-Brackets-clause-rest
-returns-in_ok-written-in-Brackets-clause-rest c =
+pub returns-clause-rest : goal.returns-clause-rest
+returns-clause-rest c =
     let text = c.args.text.now in
-    let last : get_or text 8 0 ≡ 93 = c.in_ok-written-in-Brackets.ensures.last in
+    let last : get_or text 8 0 ≡ 93 = c.in_ok-written.ensures.last in
     let long : 8 < length text = inside text 8 (omega (arith, last)) in
     let left : length c.skip.result.now ≡ length text - 9 = ap length c.skip.ensures.rest ∙ length-drop 9 text in
     let nine : 9 ≡ length text - length c.skip.result.now = omega arith in

@@ -19,10 +19,12 @@ returns c =
     (λ b e tree is. found_at-boundary c.args.text.now c.args.program.now tree is c.args.place b c.is_at.new.self (sym c.is_boundary.ensures.value ∙ c.if-not-is_boundary.false) e)
     c.is_at.ensures
 
-pub returns-then-not-can_begin : goal.returns-then-not-can_begin
-returns-then-not-can_begin c = λ tree is. sym (c.can_begin.ensures c.if-not-can_begin.true tree is)
-
 pub returns-then-is_dead : goal.returns-then-is_dead
 returns-then-is_dead c = λ tree is.
     found_at-boundary c.args.text.now c.args.program.now tree is c.args.place false c.args.self.now (sym c.is_boundary.ensures.value ∙ c.if-not-is_boundary.false)
     (sym (ap (λ (ms : List Member). slice_get ms 0) (c.is_dead.ensures c.if-is_dead.true (replicate c.args.program.now.groups None))))
+
+pub returns-then-is_dead-2 : goal.returns-then-is_dead-2
+returns-then-is_dead-2 c = λ tree is.
+    found_at-boundary c.args.text.now c.args.program.now tree is c.args.place false c.args.self.now (sym c.is_boundary.ensures.value ∙ c.if-not-is_boundary.false)
+    (sym (ap (λ (ms : List Member). slice_get ms 0) (c.is_dead-2.ensures c.if-is_dead-2.true (replicate c.args.program.now.groups None))))

@@ -1,4 +1,4 @@
-use Rattle.std.proofs.Common.{◌≡◌, sym, ◌∙◌, ap, arith, Some, None, add-one}
+use Rattle.std.proofs.Common.{◌≡◌, sym, ◌∙◌, ap, arith, Some, None, add-one, suc, length}
 use Rattle.syntect_pattern.specs.Matches.{found_at}
 use Rattle.syntect_engine.specs.Machine.{groups_of}
 use Rattle.syntect_engine.proofs.FindLaws.{found-here, found-step, found-past, found-jump}
@@ -27,3 +27,22 @@ loop-place-preserved c = λ tree is.
 
 pub returns : goal.returns
 returns c = λ tree is. sym (found-past c.args.text.now tree c.loop-place.place (omega arith)) ∙ c.loop-place.invariant tree is
+
+pub returns-in_default-behind_needed : goal.returns-in_default-behind_needed
+returns-in_default-behind_needed c = λ tree is.
+    let s = c.args.text.now in
+    let next = c.next_start-place.result in
+    let inside = c.next_start-place.ensures.inside in
+    sym (found-past s tree (suc (length s)) (omega arith))
+    ∙ sym (found-jump s tree next (suc (length s)) (omega (arith, inside)) (omega arith) (λ k p q. c.in_default-behind_needed.ensures k p tree is))
+    ∙ sym (found-jump s tree c.loop-place.place next c.next_start-place.ensures.later (omega (arith, inside)) (λ k p q. c.next_start-place.ensures.skipped k p q tree is))
+    ∙ c.loop-place.invariant tree is
+
+pub returns-in_default : goal.returns-in_default
+returns-in_default c = λ tree is.
+    let s = c.args.text.now in
+    sym (found-past s tree (suc (length s)) (omega arith))
+    ∙ sym (found-jump s tree c.args.begin (suc (length s)) (omega arith) (omega arith) (λ k p q. c.in_default.ensures k p tree is))
+
+pub returns-then-begin-text : goal.returns-then-begin-text
+returns-then-begin-text c = λ tree is. sym (found-past c.args.text.now tree c.args.begin (omega arith))

@@ -2,7 +2,7 @@ use Rattle.std.proofs.Common.{◌≡◌, ◌+◌, ◌≤◌, List, ℕ, [], ◌�
 use Rattle.std.specs.Option.{option_map}
 use Rattle.std.specs.Prelude.{string_bytes}
 use Rattle.std.specs.Str.{bytes_eq}
-use Rattle.std.proofs.lemmas.Map.Text.{hash_map_updates_text}
+use Rattle.std.proofs.lemmas.Map.Text.{btree_map_updates_text}
 use Rattle.syntect_scope.specs.Repository.{place_in}
 use Rattle.syntect_scope.proofs.RepositoryLaws.{distinct_more, place_absent, numbers_more}
 use Rattle.syntect_scope.proofs.repository.ScopeRepository.add.Goals as goal
@@ -22,7 +22,7 @@ invariant_of-self-in-Ok c =
         distinct = distinct_more before part c.self.invariant.0.distinct (place_absent part before 0 absent);
       }),
       λ q.
-          hash_map_updates_text (string_bytes c.in_ok-key.key) c.self.inside.numbers c.insert.new.self (Some (c.len-2.result + 1)) c.in-Ok.ensures.updates q
+          btree_map_updates_text (string_bytes c.in_ok-key.key) c.self.inside.numbers c.insert.new.self (Some (c.len-2.result + 1)) c.in-Ok.ensures.updates q
           ∙ ap (λ (o : Option ℕ). if bytes_eq (string_bytes c.in_ok-key.key) q then Some (c.len-2.result + 1) else o) (c.self.invariant.1 q)
           ∙ ap (λ (t : List ℕ). if bytes_eq t q then Some (c.len-2.result + 1) else option_map (λ i. i + 1) (place_in before q)) key
           ∙ numbers_more before part (c.len-2.result + 1) number absent q

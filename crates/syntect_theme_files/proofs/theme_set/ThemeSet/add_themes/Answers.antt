@@ -1,5 +1,5 @@
 use Rattle.syntect_theme_files.specs.ThemeFiles.{no_more}
-use Rattle.syntect_theme_files.proofs.FileLaws.{adds_next, keeps_itself, keeps_on}
+use Rattle.syntect_theme_files.proofs.FileLaws.{adds_next, stops_at, keeps_itself, keeps_on}
 use Rattle.syntect_theme_files.proofs.theme_set.ThemeSet.add_themes.Goals as goal
 
 pub loop-path-init : goal.loop-path-init
@@ -12,3 +12,9 @@ loop-path-preserved g c = record {
   whole = c.add_theme.ensures.whole;
   kept = keeps_on c.args.repository.now c.loop-path.repository c.add_theme.new.repository c.loop-path.invariant.kept c.add_theme.ensures.kept;
 }
+
+pub returns-in-Err-clause-err : goal.returns-in-Err-clause-err
+returns-in-Err-clause-err g c =
+    stops_at c.args.paths.now c.loop-path.path-index c.path-item.result c.as_str.result.now c.args.repository.now c.loop-path.repository
+    c.args.self.now.themes c.loop-path.self.themes c.add_theme.new.self.themes c.in-Err.e c.loop-path-test.true c.path-item.is c.as_str.ensures c.loop-path.invariant.added
+    c.in-Err.ensures.err c.in-Err.ensures.theme c.in-Err.ensures.refusal

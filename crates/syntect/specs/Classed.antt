@@ -1,0 +1,77 @@
+-- Lines as spans with classes, and pages of them.
+use Rattle.std.specs.Prelude.{◌≡◌, ℕ, true, List, ◌++◌, flat_map, replicate, string_bytes}
+use Rattle.syntect_scope.specs.declared.stack.ScopeStack.{ScopeStack}
+use Rattle.syntect_scope.specs.declared.stack.ScopeStackOp.{ScopeStackOp}
+use Rattle.syntect_classed.specs.Classes.{prefix_of, closing_tag}
+use Rattle.syntect_classed.specs.Marks.{marks, written, stack_after, some_refused}
+use Rattle.syntect_classed.specs.declared.style.ClassStyle.{ClassStyle}
+use Rattle.syntect_parsing.specs.Engine.{dialect}
+use Rattle.syntect_parsing.specs.Meaning.{Accepts, MayRefuse}
+use Rattle.syntect_parsing.specs.States.{standing}
+use Rattle.syntect_parsing.specs.declared.parser.Standing.{Standing}
+use Rattle.syntect_grammar.specs.declared.syntax_set.SyntaxSet.{SyntaxSet}
+use Rattle.syntect.specs.declared.classed.ClassedHTMLGenerator.{ClassedHTMLGenerator}
+use Rattle.syntect_grammar.specs.declared.error.Error.{Error}
+use Rattle.syntect_grammar.specs.declared.error.Error.TheVariants as error
+
+-- one of the operations restores where nothing is remembered, or memory ran out
+abbrev pub RefusesOperations : ScopeStack → List (ℕ × ScopeStackOp) → Error → Type 0
+RefusesOperations stack ops (error.ScopeError e) = some_refused stack ops ≡ true
+RefusesOperations stack ops error.Memory = Unit {0}
+RefusesOperations stack ops e = ⊥
+
+-- ---- a generator of pages with classes ----
+
+-- its text so far, the stack of the scopes whose spans are open, and where it stands in the text that it reads
+abbrev pub text_so_far : ClassedHTMLGenerator → List ℕ
+text_so_far g = string_bytes g.html
+
+abbrev pub stack_in : ClassedHTMLGenerator → ScopeStack
+stack_in g = g.scope_stack
+
+abbrev pub state_in : ClassedHTMLGenerator → Standing
+state_in g = standing g.parse_state
+
+-- the set that it reads with, and how it writes the classes of scopes
+abbrev pub set_in : ClassedHTMLGenerator → SyntaxSet
+set_in g = g.syntax_set.now
+
+abbrev pub repository_in : ClassedHTMLGenerator → List (List ℕ)
+repository_in g = g.repository.now
+
+abbrev pub style_in : ClassedHTMLGenerator → ClassStyle
+style_in g = g.style
+
+-- it reads with the same set, and writes classes in the same way
+pub record GoesOn (g h : ClassedHTMLGenerator) : Type 0 where
+  pub set : set_in h ≡ set_in g
+  pub repository : repository_in h ≡ repository_in g
+  pub style : style_in h ≡ style_in g
+
+-- it stands where it stood, with the same text and the same open spans
+pub record StaysAt (g h : ClassedHTMLGenerator) : Type 0 where
+  pub text : text_so_far h ≡ text_so_far g
+  pub stack : stack_in h ≡ stack_in g
+  pub state : state_in h ≡ state_in g
+  pub goes_on : GoesOn g h
+
+-- A line was accepted: the text has grown by what the line's operations, which mean its reading, write; the spans of the
+-- scopes on the stack behind them are open; and it stands behind the line.
+pub record AddsLine (line : List ℕ) (before after : ClassedHTMLGenerator) : Type 0 where
+  pub ops : List (ℕ × ScopeStackOp)
+  pub accepted : Accepts dialect (set_in before) line (state_in before) (state_in after) ops
+  pub text : text_so_far after ≡ text_so_far before ++ written (prefix_of (style_in before)) (repository_in before) (marks line 0 (stack_in before) ops)
+  pub stack : stack_in after ≡ stack_after (stack_in before) ops
+  pub goes_on : GoesOn before after
+
+-- A line was refused: by its reading, or where one of the operations of its reading restores and nothing is remembered; or
+-- memory ran out.
+abbrev pub RefusesLineOf : ClassedHTMLGenerator → List ℕ → Error → Type 0
+RefusesLineOf g line (error.ParsingError e) = MayRefuse dialect (set_in g) line (state_in g) e
+RefusesLineOf g line (error.ScopeError e) = (after : Standing) × (ops : List (ℕ × ScopeStackOp)) × Accepts dialect (set_in g) line (state_in g) after ops × (some_refused (stack_in g) ops ≡ true)
+RefusesLineOf g line error.Memory = Unit {0}
+RefusesLineOf g line e = ⊥
+
+-- what closes so many spans
+abbrev pub closing_tags : ℕ → List ℕ
+closing_tags n = flat_map (λ tag. tag) (replicate n closing_tag)

@@ -1,0 +1,140 @@
+//! Lines as spans with classes, and pages of them.
+ghost use Rattle.std.specs.Prelude.{◌≡◌, ◌++◌, [], Some, length, string_bytes, pos, ◌-ℤ◌, IfOk, IfErr, OnOk, OnErr, false};
+ghost use Rattle.syntect.specs.Classed.{RefusesOperations, text_so_far, stack_in, state_in, set_in, repository_in, style_in, AddsLine, StaysAt, RefusesLineOf, closing_tags};
+ghost use Rattle.syntect.specs.Leads.{LacksStart};
+ghost use Rattle.syntect_parsing.specs.Line.{start_of};
+ghost use Rattle.syntect_scope.specs.Stack.{plain};
+ghost use Rattle.syntect_classed.specs.Classes.{prefix_of};
+ghost use Rattle.syntect_classed.specs.Marks.{marks, written, stack_after, some_refused};
+ghost use Rattle.syntect_scope.specs.Replay.{InOrder};
+
+use crate::easy::copied;
+use std::alloc::{AllocError, Global};
+use syntect_classed::spans;
+pub use syntect_classed::style::ClassStyle;
+use syntect_parsing::error::Error;
+use syntect_parsing::parser::ParseState;
+use syntect_parsing::syntax_set::{SyntaxReference, SyntaxSet};
+use syntect_scope::repository::ScopeRepository;
+use syntect_scope::stack::{ScopeStack, ScopeStackOp};
+
+/// A line as spans with classes, as its operations, which are in order, open and close them on a stack, and by how many
+/// spans more are open behind it. A refusal leaves the stack: `ScopeError` where an operation restores and nothing was
+/// cleared, or want of memory.
+#[tactic(auto, using(crate::proofs::ClassedLaws::operations_refused))]
+pub fn line_tokens_to_classed_spans(
+    alloc: Global,
+    line: &str,
+    ops: &[(usize, ScopeStackOp)],
+    style: ClassStyle,
+    stack: &mut ScopeStack,
+    repository: &ScopeRepository,
+) -> Result<(String, isize), Error>
+    requires { InOrder line.now 0 ops.now (length line.now) }
+    ensures text { IfOk result (λ r. string_bytes r.0
+        ≡ written (prefix_of style) repository.now (marks line.now 0 stack.old ops.now)) }
+    ensures number { IfOk result (λ r. r.1 ≡ pos (length (stack_after stack.old ops.now).scopes)
+        -ℤ pos (length stack.old.scopes)) }
+    ensures stack { OnOk result (stack.new ≡ stack_after stack.old ops.now) }
+    ensures accepted { OnOk result (some_refused stack.old ops.now ≡ false) }
+    ensures refused { IfErr result (RefusesOperations stack.old ops.now) }
+    ensures err { OnErr result (stack.new ≡ stack.old) }
+{
+    match spans::line_tokens_to_classed_spans(alloc, line, ops, style, stack, repository) {
+        Ok(written) => Ok(written),
+        Err(e) => Err(Error::from(e)),
+    }
+}
+
+/// Writes the lines of a text, one after another, as nested spans with classes.
+#[derive(Drop)]
+pub struct ClassedHTMLGenerator<'a> {
+    syntax_set: &'a SyntaxSet,
+    repository: &'a ScopeRepository,
+    style: ClassStyle,
+    parse_state: ParseState,
+    scope_stack: ScopeStack,
+    html: String,
+}
+
+impl<'a> ClassedHTMLGenerator<'a> {
+    /// Before the first line of a text in this syntax, which is one of the set. `MissingMainContext` where the syntax has no
+    /// context `__start`.
+    pub fn new_with_class_style(
+        alloc: Global,
+        syntax_reference: &SyntaxReference,
+        syntax_set: &'a SyntaxSet,
+        repository: &'a ScopeRepository,
+        style: ClassStyle,
+    ) -> Result<ClassedHTMLGenerator<'a>, Error>
+        ensures state { IfOk result (λ g. start_of syntax_reference.now ≡ Some (state_in g)) }
+        ensures text { IfOk result (λ g. text_so_far g ≡ []) }
+        ensures stack { IfOk result (λ g. stack_in g ≡ plain []) }
+        ensures set { IfOk result (λ g. set_in g ≡ syntax_set.now) }
+        ensures classes { IfOk result (λ g. (repository_in g ≡ repository.now) × (style_in g ≡ style)) }
+        ensures refused { IfErr result (LacksStart syntax_reference.now) }
+    {
+        let parse_state = ParseState::new(alloc, syntax_reference)?;
+        Ok(ClassedHTMLGenerator {
+            syntax_set,
+            repository,
+            style,
+            parse_state,
+            scope_stack: ScopeStack::new(alloc),
+            html: String::new(alloc),
+        })
+    }
+
+    /// Reads the next line, with its newline, and adds it to the text. A refusal changes nothing: that of the line's reading,
+    /// or want of memory.
+    #[tactic(auto, using(crate::proofs::ClassedLaws::line_refused, crate::proofs::ClassedLaws::operation_refused))]
+    pub fn parse_html_for_line_which_includes_newline(&mut self, line: &str) -> Result<(), Error>
+        ensures accepted { OnOk result (AddsLine line.now self.old self.new) }
+        ensures refused { IfErr result (RefusesLineOf self.old line.now) }
+        ensures err { OnErr result (StaysAt self.old self.new) }
+    {
+        let alloc = *self.html.allocator();
+        let mut parse_state = copied(&self.parse_state)?;
+        let ops = parse_state.parse_line(alloc, line, self.syntax_set)?;
+        let mut scope_stack = self.scope_stack.clone()?;
+        let (text, _) = line_tokens_to_classed_spans(
+            alloc,
+            line,
+            ops.as_slice(),
+            self.style,
+            &mut scope_stack,
+            self.repository,
+        )?;
+        self.html.push_str(text.as_str())?;
+        self.parse_state = parse_state;
+        self.scope_stack = scope_stack;
+        Ok(())
+    }
+
+    /// The text, with all spans closed that are open.
+    pub fn finalize(self) -> Result<String, AllocError>
+        ensures { IfOk result (λ text.
+            string_bytes text ≡ text_so_far self.entry ++ closing_tags (length (stack_in self.entry).scopes)) }
+    {
+        let ClassedHTMLGenerator {
+            syntax_set: _,
+            repository: _,
+            style: _,
+            parse_state: _,
+            scope_stack,
+            html,
+        } = self;
+        closed(html, scope_stack.len())
+    }
+}
+
+/// A text with so many spans closed behind it.
+fn closed(text: String, count: usize) -> Result<String, AllocError>
+    ensures { IfOk result (λ t. string_bytes t ≡ string_bytes text ++ closing_tags count) }
+{
+    let mut text = text;
+    for _ in 0..count {
+        text.push_str("</span>")?;
+    }
+    Ok(text)
+}

@@ -1,0 +1,18 @@
+//! Laws of lines with classes, which no function needs: what a reader of the page sees. Each is the contract of a function
+//! that does nothing.
+#![tactic(auto)]
+
+ghost use Rattle.syntect_classed_laws.specs.Laws.{IsSeen, MarksFollow};
+
+/// Whoever reads the written marks byte by byte sees the text that stands between tags, each byte under the tags of the
+/// scopes that are open there, meets no closing tag without an open one, and has the tags of the scopes left open in the
+/// end. A span that is left out shows nothing.
+pub fn written_marks_are_seen()
+    ensures { IsSeen }
+{}
+
+/// The marks of a line are its bytes, each under the scopes that the operations give it, and leave the scopes open that
+/// stand on the stack behind the line.
+pub fn marks_follow_the_operations()
+    ensures { MarksFollow }
+{}

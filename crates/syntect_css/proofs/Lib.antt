@@ -1,0 +1,2 @@
+pub mod IdentifierLaws
+pub mod SheetLaws

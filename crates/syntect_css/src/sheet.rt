@@ -1,0 +1,251 @@
+//! The style sheet of a theme.
+ghost use Rattle.std.specs.Prelude.{◌≡◌, ◌++◌, ◌∷◌, [], List, ℕ, string_bytes, IfOk, OnOk};
+ghost use Rattle.syntect_classed.specs.Classes.{prefix_of};
+ghost use Rattle.syntect_css.specs.Left.{rule_left};
+ghost use Rattle.syntect_css.specs.Sheet.{class_selector, scope_selector, path_selector, path_selectors, color_line, font_lines, flag_lines, declarations, block, rule_text, theme_name, heading, sheet_start, sheet_text};
+ghost use Rattle.syntect_theme.specs.declared.style.StyleModifier.{StyleModifier as Change};
+ghost use Rattle.syntect_writers.specs.Spans.{asked_for};
+
+use crate::identifier::push_identifier;
+use std::alloc::{AllocError, Global};
+use syntect_classed::style::ClassStyle;
+use syntect_scope::repository::ScopeRepository;
+use syntect_scope::scope::Scope;
+use syntect_scope::selector::ScopeSelector;
+use syntect_theme::style::{Color, FontStyle};
+use syntect_theme::theme::{Theme, ThemeItem};
+use syntect_writers::html::push_rgb;
+
+/// Puts the selector of a class last.
+fn push_class(alloc: Global, out: &mut String, prefix: &str, name: &str) -> Result<(), AllocError>
+    ensures { OnOk result (string_bytes out.new ≡ string_bytes out.old
+        ++ class_selector prefix.now name.now) }
+{
+    let class = format!(in alloc; "{prefix}{name}")?;
+    out.push('.')?;
+    push_identifier(out, class.as_str())
+}
+
+/// Puts the selector of a scope last.
+fn push_scope(
+    alloc: Global,
+    out: &mut String,
+    prefix: &str,
+    repository: &ScopeRepository,
+    scope: Scope,
+) -> Result<(), AllocError>
+    ensures { OnOk result (string_bytes out.new ≡ string_bytes out.old
+        ++ scope_selector prefix.now repository.now scope) }
+{
+    for atom in scope.as_slice() {
+        push_class(alloc, out, prefix, repository.atom_or_mark(*atom))?;
+    }
+    Ok(())
+}
+
+/// Puts the selector of a path last.
+fn push_path(
+    alloc: Global,
+    out: &mut String,
+    prefix: &str,
+    repository: &ScopeRepository,
+    scopes: &[Scope],
+) -> Result<(), AllocError>
+    ensures { OnOk result (string_bytes out.new ≡ string_bytes out.old
+        ++ path_selector prefix.now repository.now scopes.now) }
+{
+    let Some((first, others)) = scopes.split_first() else {
+        return Ok(());
+    };
+    push_scope(alloc, out, prefix, repository, *first)?;
+    for scope in others {
+        out.push(' ')?;
+        push_scope(alloc, out, prefix, repository, *scope)?;
+    }
+    Ok(())
+}
+
+/// Puts a line with a colour last, if there is one.
+fn push_color_line(out: &mut String, name: &str, color: Option<Color>) -> Result<(), AllocError>
+    ensures { OnOk result (string_bytes out.new ≡ string_bytes out.old
+        ++ color_line name.now color) }
+{
+    let Some(color) = color else {
+        return Ok(());
+    };
+    out.push_str(name)?;
+    push_rgb(out, color)?;
+    out.push_str(";\n")
+}
+
+/// Puts a text last, if it is asked for.
+#[tactic(auto, unfolding(syntect_writers::specs::Spans::asked_for))]
+fn push_if(out: &mut String, asked: bool, text: &str) -> Result<(), AllocError>
+    ensures { OnOk result (string_bytes out.new ≡ string_bytes out.old
+        ++ asked_for asked text.now) }
+{
+    if asked {
+        out.push_str(text)?;
+    }
+    Ok(())
+}
+
+/// Puts the lines of a font's flags last.
+fn push_font_lines(out: &mut String, font: FontStyle) -> Result<(), AllocError>
+    ensures { OnOk result (string_bytes out.new ≡ string_bytes out.old ++ font_lines font) }
+{
+    let bits = font.bits();
+    push_if(out, bits & 2 == 2, "text-decoration: underline;\n")?;
+    push_if(out, bits & 1 == 1, "font-weight: bold;\n")?;
+    push_if(out, bits & 4 == 4, "font-style: italic;\n")?;
+    Ok(())
+}
+
+/// Puts the lines of a font's flags last, if there is a font.
+fn push_flag_lines(out: &mut String, font: Option<FontStyle>) -> Result<(), AllocError>
+    ensures { OnOk result (string_bytes out.new ≡ string_bytes out.old ++ flag_lines font) }
+{
+    match font {
+        None => Ok(()),
+        Some(font) => push_font_lines(out, font),
+    }
+}
+
+/// Puts declarations last.
+fn push_declarations(
+    out: &mut String,
+    foreground: Option<Color>,
+    background: Option<Color>,
+    font: Option<FontStyle>,
+) -> Result<(), AllocError>
+    ensures { OnOk result (string_bytes out.new ≡ string_bytes out.old
+        ++ declarations foreground background font) }
+{
+    push_color_line(out, " color: ", foreground)?;
+    push_color_line(out, " background-color: ", background)?;
+    push_flag_lines(out, font)
+}
+
+/// Puts a selector last, if its path has a scope. Answers whether none has been put yet.
+fn push_selector(
+    alloc: Global,
+    out: &mut String,
+    prefix: &str,
+    repository: &ScopeRepository,
+    first: bool,
+    selector: &ScopeSelector,
+) -> Result<bool, AllocError>
+    ensures { (left : List (List ℕ)) (style : Change) → IfOk result (λ f. string_bytes out.new
+        ++ rule_left f left style
+        ≡ string_bytes out.old ++ rule_left first (path_selectors prefix.now repository.now (selector.now ∷ []) ++ left) style) }
+{
+    if selector.path.is_empty() {
+        return Ok(first);
+    }
+    if !first {
+        out.push_str(", ")?;
+    }
+    push_path(alloc, out, prefix, repository, selector.path.as_slice())?;
+    Ok(false)
+}
+
+/// Puts declarations last, in braces.
+fn push_block(
+    out: &mut String,
+    foreground: Option<Color>,
+    background: Option<Color>,
+    font: Option<FontStyle>,
+) -> Result<(), AllocError>
+    ensures { OnOk result (string_bytes out.new ≡ string_bytes out.old
+        ++ block foreground background font) }
+{
+    out.push_str(" {\n")?;
+    push_declarations(out, foreground, background, font)?;
+    out.push_str("}\n")
+}
+
+/// Puts a rule last, if one of its selectors has a path.
+fn push_rule(
+    alloc: Global,
+    out: &mut String,
+    prefix: &str,
+    repository: &ScopeRepository,
+    item: &ThemeItem,
+) -> Result<(), AllocError>
+    ensures { OnOk result (string_bytes out.new ≡ string_bytes out.old
+        ++ rule_text prefix.now repository.now item.now) }
+{
+    let mut first = true;
+    for selector in item.scope.selectors.as_slice() {
+        first = push_selector(alloc, out, prefix, repository, first, selector)?;
+    }
+    if !first {
+        let style = item.style;
+        push_block(out, style.foreground, style.background, style.font_style)?;
+    }
+    Ok(())
+}
+
+/// The name of a theme.
+fn name_of(theme: &Theme) -> &str
+    ensures { result.now ≡ theme_name theme.now }
+{
+    match &theme.name {
+        Some(name) => name.as_str(),
+        None => "unknown theme",
+    }
+}
+
+/// Puts the comment last that names the theme.
+#[tactic(auto, using(syntect_writers::proofs::SpanLaws::three_joined))]
+fn push_heading(out: &mut String, theme: &Theme) -> Result<(), AllocError>
+    ensures { OnOk result (string_bytes out.new ≡ string_bytes out.old ++ heading theme.now) }
+{
+    out.push_str("/*\n * theme \"")?;
+    out.push_str(name_of(theme))?;
+    out.push_str("\" generated by syntect\n */\n\n")?;
+    Ok(())
+}
+
+/// Puts last what stands before the rules.
+fn push_start(
+    alloc: Global,
+    out: &mut String,
+    prefix: &str,
+    theme: &Theme,
+) -> Result<(), AllocError>
+    ensures { OnOk result (string_bytes out.new ≡ string_bytes out.old
+        ++ sheet_start prefix.now theme.now) }
+{
+    push_heading(out, theme)?;
+    push_class(alloc, out, prefix, "code")?;
+    push_block(
+        out,
+        theme.settings.foreground,
+        theme.settings.background,
+        None,
+    )?;
+    out.push_str("\n")?;
+    Ok(())
+}
+
+/// A style sheet for HTML with classes of this style, in which spans of code stand in an element of the class `code`. A
+/// rule of the theme is one of the sheet; its selectors without a path are left out, and so is a rule that has no other
+/// ones. Exclusions of selectors have no counterpart and aren't told.
+pub fn css_for_theme_with_class_style(
+    alloc: Global,
+    theme: &Theme,
+    repository: &ScopeRepository,
+    style: ClassStyle,
+) -> Result<String, AllocError>
+    ensures { IfOk result (λ t. string_bytes t
+        ≡ sheet_text (prefix_of style) repository.now theme.now) }
+{
+    let prefix = style.prefix();
+    let mut out = String::new(alloc);
+    push_start(alloc, &mut out, prefix, theme)?;
+    for item in theme.scopes.as_slice() {
+        push_rule(alloc, &mut out, prefix, repository, item)?;
+    }
+    Ok(out)
+}

@@ -1,5 +1,0 @@
-use Rattle.syntect_style.proofs.StackLaws.{stacks_decide}
-use Rattle.syntect_style.proofs.state.same.Goals as goal
-
-pub returns : goal.returns
-returns c = stacks_decide _ _ _ c.eq.ensures
