@@ -6,4 +6,8 @@
 #[cfg(test)]
 mod callers;
 #[cfg(test)]
+mod classed;
+#[cfg(test)]
+mod pages;
+#[cfg(test)]
 mod states;

@@ -1,0 +1,127 @@
+//! Pages of spans with classes: the values of syntect's own tests, and its answers for this grammar. A line that needs a
+//! context which is not there is refused.
+use std::alloc::Global;
+use std::test::Fail;
+use syntect::Error;
+use syntect::html::{ClassStyle, ClassedHTMLGenerator};
+use syntect::parsing::{ScopeRepository, SyntaxDefinition, SyntaxSet, SyntaxSetBuilder};
+use syntect::util::LinesWithEndings;
+use syntect_parsing::parser::ParsingError;
+
+/// A sign, names behind `fn` with a block each, notes to the line's end, and a context that is not there.
+const GRAMMAR: &str = r"
+name: T
+scope: source.t
+contexts:
+  main:
+    - {match: '[+]', scope: keyword.operator.t}
+    - {match: 'fn', scope: storage.t, push: [block, name]}
+    - {match: '#', push: note}
+    - {match: '!', push: absent}
+  name:
+    - meta_scope: meta.function.t
+    - {match: '\w+', scope: entity.name.t, pop: true}
+    - {match: '(?=\{)', pop: true}
+  block:
+    - meta_content_scope: meta.block.t
+    - {match: '\{', scope: punctuation.begin.t}
+    - {match: '\}', scope: punctuation.end.t, pop: true}
+  note:
+    - meta_scope: comment.t
+    - {match: '\n', pop: true}
+";
+
+/// Classes with `p-` in front of each.
+const PREFIXED: ClassStyle = ClassStyle::SpacedPrefixed { prefix: "p-" };
+
+const SUM: &str =
+    "<span class=\"source t\">x <span class=\"keyword operator t\">+</span> y\n</span>";
+
+const PREFIXED_SUM: &str =
+    "<span class=\"p-source p-t\">x <span class=\"p-keyword p-operator p-t\">+</span> y\n</span>";
+
+/// Blocks and a note, in the middle of which the text ends.
+const BLOCKS: &str = "fn f {\n  a < \"b\" & c\n} #<\n+\nfn{";
+
+/// Between the second `fn` and its block the span of a name is opened and closed: it is left out.
+const BLOCKS_PAGE: &str = "<span class=\"source t\"><span class=\"meta function t\">\
+<span class=\"storage t\">fn</span></span><span class=\"meta block t\"><span class=\"meta function t\"> \
+<span class=\"entity name t\">f</span></span> <span class=\"punctuation begin t\">{</span>\n  \
+a &lt; &quot;b&quot; &amp; c\n</span><span class=\"punctuation end t\">}</span> \
+<span class=\"comment t\">#&lt;\n</span><span class=\"keyword operator t\">+</span>\n\
+<span class=\"meta function t\"><span class=\"storage t\">fn</span></span><span class=\"meta block t\">\
+<span class=\"punctuation begin t\">{</span></span></span>";
+
+/// The set of the grammar.
+fn built(alloc: Global, repository: &mut ScopeRepository) -> Result<SyntaxSet, Fail> {
+    let definition = SyntaxDefinition::load_from_str(alloc, GRAMMAR, true, None, repository)?;
+    let mut builder = SyntaxSetBuilder::new(alloc);
+    builder.add(definition)?;
+    Ok(builder.build(alloc, repository)?)
+}
+
+/// The page of a text.
+fn page(alloc: Global, text: &str, style: ClassStyle) -> Result<String, Fail> {
+    let mut repository = ScopeRepository::new(alloc);
+    let set = built(alloc, &mut repository)?;
+    let syntax = set.find_syntax_by_name("T").ok_or("no syntax")?;
+    let mut generator = ClassedHTMLGenerator::new_with_class_style(
+        alloc,
+        syntax,
+        &set,
+        &repository,
+        style,
+    )?;
+    for line in LinesWithEndings::from(text) {
+        generator.parse_html_for_line_which_includes_newline(line)?;
+    }
+    Ok(generator.finalize()?)
+}
+
+#[test]
+fn a_page_of_classes(rt: HostRuntime) -> Result<(), Fail> {
+    let alloc = rt.alloc();
+    let first = page(alloc, "x + y\n", ClassStyle::Spaced)?;
+    assert_eq!(rt; first.as_str(), SUM);
+    let second = page(alloc, "x + y\n", PREFIXED)?;
+    assert_eq!(rt; second.as_str(), PREFIXED_SUM);
+    Ok(())
+}
+
+#[test]
+fn a_page_without_empty_spans(rt: HostRuntime) -> Result<(), Fail> {
+    let alloc = rt.alloc();
+    let blocks = page(alloc, BLOCKS, ClassStyle::Spaced)?;
+    assert_eq!(rt; blocks.as_str(), BLOCKS_PAGE);
+    let nothing = page(alloc, "", ClassStyle::Spaced)?;
+    assert_eq!(rt; nothing.as_str(), "");
+    Ok(())
+}
+
+/// A refused line adds nothing, and the next one is read as if it had not been.
+#[test]
+fn a_refused_line_adds_nothing(rt: HostRuntime) -> Result<(), Fail> {
+    let alloc = rt.alloc();
+    let mut repository = ScopeRepository::new(alloc);
+    let set = built(alloc, &mut repository)?;
+    let syntax = set.find_syntax_by_name("T").ok_or("no syntax")?;
+    let style = ClassStyle::Spaced;
+    let mut generator = ClassedHTMLGenerator::new_with_class_style(
+        alloc,
+        syntax,
+        &set,
+        &repository,
+        style,
+    )?;
+    let refused = generator.parse_html_for_line_which_includes_newline("!\n");
+    assert!(rt;
+        matches!(
+            refused,
+            Err(Error::ParsingError(ParsingError::UnresolvedContextReference(_)))
+        )
+    );
+    generator.parse_html_for_line_which_includes_newline("x + y\n")?;
+    let text = generator.finalize()?;
+    assert_eq!(rt; text.as_str(), SUM);
+    Ok(())
+}
