@@ -1,5 +1,5 @@
 -- Lines as spans with classes, and pages of them.
-use Rattle.std.specs.Prelude.{◌≡◌, ℕ, true, List, ◌++◌, flat_map, replicate, string_bytes}
+use Rattle.std.specs.Prelude.{◌≡◌, ℕ, true, List, ◌++◌, length, flat_map, replicate, string_bytes}
 use Rattle.syntect_scope.specs.declared.stack.ScopeStack.{ScopeStack}
 use Rattle.syntect_scope.specs.declared.stack.ScopeStackOp.{ScopeStackOp}
 use Rattle.syntect_classed.specs.Classes.{prefix_of, closing_tag}
@@ -75,3 +75,7 @@ RefusesLineOf g line e = ⊥
 -- what closes so many spans
 abbrev pub closing_tags : ℕ → List ℕ
 closing_tags n = flat_map (λ tag. tag) (replicate n closing_tag)
+
+-- its text, behind which all spans are closed that are open
+abbrev pub closed_text : ClassedHTMLGenerator → List ℕ
+closed_text g = text_so_far g ++ closing_tags (length (stack_in g).scopes)

@@ -1,6 +1,6 @@
 //! Lines as spans with classes, and pages of them.
 ghost use Rattle.std.specs.Prelude.{◌≡◌, ◌++◌, [], Some, length, string_bytes, pos, ◌-ℤ◌, IfOk, IfErr, OnOk, OnErr, false};
-ghost use Rattle.syntect.specs.Classed.{RefusesOperations, text_so_far, stack_in, state_in, set_in, repository_in, style_in, AddsLine, StaysAt, RefusesLineOf, closing_tags};
+ghost use Rattle.syntect.specs.Classed.{RefusesOperations, text_so_far, stack_in, state_in, set_in, repository_in, style_in, AddsLine, StaysAt, RefusesLineOf, closing_tags, closed_text};
 ghost use Rattle.syntect.specs.Leads.{LacksStart};
 ghost use Rattle.syntect_parsing.specs.Line.{start_of};
 ghost use Rattle.syntect_scope.specs.Stack.{plain};
@@ -71,7 +71,8 @@ impl<'a> ClassedHTMLGenerator<'a> {
         ensures text { IfOk result (λ g. text_so_far g ≡ []) }
         ensures stack { IfOk result (λ g. stack_in g ≡ plain []) }
         ensures set { IfOk result (λ g. set_in g ≡ syntax_set.now) }
-        ensures classes { IfOk result (λ g. (repository_in g ≡ repository.now) × (style_in g ≡ style)) }
+        ensures repository { IfOk result (λ g. repository_in g ≡ repository.now) }
+        ensures classes { IfOk result (λ g. style_in g ≡ style) }
         ensures refused { IfErr result (LacksStart syntax_reference.now) }
     {
         let parse_state = ParseState::new(alloc, syntax_reference)?;
@@ -113,8 +114,7 @@ impl<'a> ClassedHTMLGenerator<'a> {
 
     /// The text, with all spans closed that are open.
     pub fn finalize(self) -> Result<String, AllocError>
-        ensures { IfOk result (λ text.
-            string_bytes text ≡ text_so_far self.entry ++ closing_tags (length (stack_in self.entry).scopes)) }
+        ensures { IfOk result (λ text. string_bytes text ≡ closed_text self.entry) }
     {
         let ClassedHTMLGenerator {
             syntax_set: _,

@@ -1,5 +1,5 @@
 -- What a caller of three lines is told.
-use Rattle.std.specs.Prelude.{◌≡◌, ℕ, List, [], ◌∷◌, ◌++◌, map, Option, Some, None, slice_get}
+use Rattle.std.specs.Prelude.{◌≡◌, ℕ, List, [], ◌∷◌, ◌++◌, map, Option, Some, None, Result, IfOk, slice_get}
 use Rattle.std.specs.Borrow.{Bor}
 use Rattle.std.specs.Global.{Vec}
 use Rattle.syntect_style.specs.Pieces.{Joins, IsStyled}
@@ -44,6 +44,10 @@ pub record IsThirdLine (definitions : List SyntaxDefinition) (theme : Theme) (fi
 abbrev pub IsThird : List SyntaxDefinition → Theme → List ℕ → List ℕ → List ℕ → Option (Vec (Style × Bor (List ℕ))) → Type 0
 IsThird definitions theme first second third None = definitions ≡ []
 IsThird definitions theme first second third (Some pieces) = IsThirdLine definitions theme first second third pieces.items
+
+-- the answer of a call that isn't refused
+abbrev pub GivesThird : List SyntaxDefinition → Theme → List ℕ → List ℕ → List ℕ → Result (Option (Vec (Style × Bor (List ℕ)))) Error → Type 0
+GivesThird definitions theme first second third result = IfOk result (IsThird definitions theme first second third)
 
 -- the first syntax is never left
 abbrev pub FirstStays : List SyntaxDefinition → Type 0

@@ -1,9 +1,9 @@
 //! A caller of the highlighter, from definitions to the pieces of lines.
-ghost use Rattle.std.specs.Prelude.{◌≡◌, All, IfOk, IfErr, List, ℕ, [], ◌∷◌};
+ghost use Rattle.std.specs.Prelude.{◌≡◌, All, IfErr, List, ℕ, [], ◌∷◌};
 ghost use Rattle.syntect_grammar.specs.Link.{definitions_in};
 ghost use Rattle.syntect.specs.Built.{IsPlain};
 ghost use Rattle.syntect_parsing.specs.Refusals.{AreByName};
-ghost use Rattle.syntect_callers.specs.Third.{IsThird, FirstStays, IsRefusal};
+ghost use Rattle.syntect_callers.specs.Third.{GivesThird, FirstStays, IsRefusal};
 
 use std::alloc::Global;
 use syntect::Error;
@@ -26,7 +26,7 @@ pub fn third_line<'b>(
     third: &'b str,
 ) -> Result<Option<Vec<(Style, &'b str)>>, Error>
     ensures pieces { All IsPlain (definitions_in builder)
-        → IfOk result (λ pieces. IsThird (definitions_in builder) theme.now first.now second.now third.now pieces) }
+        → GivesThird (definitions_in builder) theme.now first.now second.now third.now result }
     ensures refused { All IsPlain (definitions_in builder) → AreByName (definitions_in builder)
         → FirstStays (definitions_in builder)
         → IfErr result (

@@ -1,8 +1,8 @@
 //! The style sheet of a theme.
-ghost use Rattle.std.specs.Prelude.{◌≡◌, ◌++◌, ◌∷◌, [], List, ℕ, string_bytes, IfOk, OnOk};
+ghost use Rattle.std.specs.Prelude.{◌≡◌, ◌++◌, List, ℕ, string_bytes, IfOk, OnOk};
 ghost use Rattle.syntect_classed.specs.Classes.{prefix_of};
-ghost use Rattle.syntect_css.specs.Left.{rule_left};
-ghost use Rattle.syntect_css.specs.Sheet.{class_selector, scope_selector, path_selector, path_selectors, color_line, font_lines, flag_lines, declarations, block, rule_text, theme_name, heading, sheet_start, sheet_text};
+ghost use Rattle.syntect_css.specs.Left.{rule_left, rule_from};
+ghost use Rattle.syntect_css.specs.Sheet.{class_selector, scope_selector, path_selector, color_line, font_lines, flag_lines, declarations, block, rule_text, theme_name, heading, sheet_start, sheet_text};
 ghost use Rattle.syntect_theme.specs.declared.style.StyleModifier.{StyleModifier as Change};
 ghost use Rattle.syntect_writers.specs.Spans.{asked_for};
 
@@ -137,7 +137,7 @@ fn push_selector(
 ) -> Result<bool, AllocError>
     ensures { (left : List (List ℕ)) (style : Change) → IfOk result (λ f. string_bytes out.new
         ++ rule_left f left style
-        ≡ string_bytes out.old ++ rule_left first (path_selectors prefix.now repository.now (selector.now ∷ []) ++ left) style) }
+        ≡ string_bytes out.old ++ rule_from first prefix.now repository.now selector.now left style) }
 {
     if selector.path.is_empty() {
         return Ok(first);
