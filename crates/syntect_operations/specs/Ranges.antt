@@ -24,6 +24,10 @@ abbrev pub ranges_behind : ℕ → ℕ → Option ScopeStackOp → List (ℕ × 
 ranges_behind end from None os = []
 ranges_behind end from (Some op) os = ranges end from op os
 
+-- the line that is parted
+abbrev pub line_of : ScopeRangeIterator → Bor (List ℕ)
+line_of s = s.line
+
 -- the ranges that are left
 abbrev pub left : ScopeRangeIterator → List OpRange
 left s = ranges_behind (length s.line.now) s.from s.op s.ops.now
@@ -46,20 +50,24 @@ pub record GivesNext (s t : ScopeRangeIterator) (item : Range ℕ × ScopeStackO
   pub range : OpRange
   pub next : left s ≡ range ∷ left t
   pub is : IsRange range item
-  pub line : t.line ≡ s.line
+  pub line : line_of t ≡ line_of s
 
 abbrev pub GivesRange : ScopeRangeIterator → Option (Range ℕ × ScopeStackOp) → ScopeRangeIterator → Type 0
 GivesRange s None t = (left s ≡ []) × (left t ≡ [])
 GivesRange s (Some item) t = GivesNext s t item
 
+-- the ranges whose texts are given
+abbrev pub ranges_in : ScopeRegionIterator → ScopeRangeIterator
+ranges_in s = s.ranges
+
 -- the same, with the text of the range
 pub record GivesText (s t : ScopeRegionIterator) (item : Bor (List ℕ) × ScopeStackOp) : Type 0 where
   pub range : OpRange
-  pub next : left s.ranges ≡ range ∷ left t.ranges
-  pub text : item.0.now ≡ slice_range s.ranges.line.now range.from range.to
+  pub next : left (ranges_in s) ≡ range ∷ left (ranges_in t)
+  pub text : item.0.now ≡ slice_range (line_of (ranges_in s)).now range.from range.to
   pub op : item.1 ≡ range.op
-  pub line : t.ranges.line ≡ s.ranges.line
+  pub line : line_of (ranges_in t) ≡ line_of (ranges_in s)
 
 abbrev pub GivesRegion : ScopeRegionIterator → Option (Bor (List ℕ) × ScopeStackOp) → ScopeRegionIterator → Type 0
-GivesRegion s None t = (left s.ranges ≡ []) × (left t.ranges ≡ [])
+GivesRegion s None t = (left (ranges_in s) ≡ []) × (left (ranges_in t) ≡ [])
 GivesRegion s (Some item) t = GivesText s t item

@@ -1,7 +1,7 @@
 //! The ranges and regions of a line between operations.
 ghost use Rattle.std.specs.Prelude.{◌≡◌, length};
 ghost use Rattle.std.specs.Iterator.{at_most};
-ghost use Rattle.syntect_operations.specs.Ranges.{ranges, left, items_left, IsReady, GivesRange, GivesRegion};
+ghost use Rattle.syntect_operations.specs.Ranges.{ranges, left, items_left, IsReady, line_of, ranges_in, GivesRange, GivesRegion};
 ghost use Rattle.syntect_scope.specs.Replay.{InOrder};
 ghost use Rattle.syntect_scope.specs.declared.stack.ScopeStackOp.TheVariants.{Noop};
 
@@ -26,7 +26,7 @@ impl<'a> ScopeRangeIterator<'a> {
         requires { InOrder line.now 0 ops.now (length line.now) }
         ensures left { left result ≡ ranges (length line.now) 0 Noop ops.now }
         ensures ready { IsReady result }
-        ensures line { result.line ≡ line.entry }
+        ensures line { line_of result ≡ line.entry }
     {
         ScopeRangeIterator {
             ops,
@@ -76,9 +76,9 @@ impl<'a> ScopeRegionIterator<'a> {
     /// no memory.
     pub fn new(ops: &'a [(usize, ScopeStackOp)], line: &'a str) -> ScopeRegionIterator<'a>
         requires { InOrder line.now 0 ops.now (length line.now) }
-        ensures left { left result.ranges ≡ ranges (length line.now) 0 Noop ops.now }
-        ensures ready { IsReady result.ranges }
-        ensures line { result.ranges.line ≡ line.entry }
+        ensures left { left (ranges_in result) ≡ ranges (length line.now) 0 Noop ops.now }
+        ensures ready { IsReady (ranges_in result) }
+        ensures line { line_of (ranges_in result) ≡ line.entry }
     {
         ScopeRegionIterator {
             ranges: ScopeRangeIterator::new(ops, line),
@@ -89,11 +89,11 @@ impl<'a> ScopeRegionIterator<'a> {
 impl<'a> Iterator for ScopeRegionIterator<'a> {
     type Item = (&'a str, ScopeStackOp);
 
-    ghost can_next = { λ s. IsReady s.ranges };
+    ghost can_next = { λ s. IsReady (ranges_in s) };
 
     ghost next_gives = { GivesRegion };
 
-    ghost remaining = { λ s. at_most (items_left s.ranges) };
+    ghost remaining = { λ s. at_most (items_left (ranges_in s)) };
 
     fn next(&mut self) -> Option<(&'a str, ScopeStackOp)> {
         let line = self.ranges.line;
