@@ -1,7 +1,7 @@
 -- Syntaxes of files.
 use Rattle.std.proofs.Common.{◌≡◌, ℕ, suc, Bool, List, [], ◌∷◌, ◌++◌, sym, ap, ◌∙◌, inl, inr, subst, Result, Ok, Err}
 use Rattle.std.specs.Prelude.{Option, Some, None, IfOk, IfErr, IsUtf8, slice_get, find, reverse, ◌⊎◌}
-use Rattle.std.specs.Option.{option_or, option_copied}
+use Rattle.std.specs.Option.{option_or}
 use Rattle.std.proofs.lemmas.Bool.{cases_Bool}
 use Rattle.std.proofs.lemmas.List.{reverse-append}
 use Rattle.std.proofs.lemmas.Str.{IsUtf8-nil}

@@ -25,7 +25,7 @@ use Rattle.syntect_parsing.specs.declared.parser.ParseState.{ParseState}
 use Rattle.syntect_contexts.specs.declared.error.ParsingError.{ParsingError}
 use Rattle.syntect_contexts.specs.declared.error.ParsingError.TheVariants as parsing
 use Rattle.syntect_grammar.specs.Passing.{from_parsing, from_scope}
-use Rattle.syntect.specs.Leads.{theme_of, styles_of, reader_of, OnlyParsing, Leads, Past, IsPast, Continues, BeginsPlain}
+use Rattle.syntect.specs.Leads.{theme_of, styles_of, reader_of, OnlyParsing, Leads, Past, Continues, BeginsPlain}
 use Rattle.syntect.specs.Built.{IsBuiltOf}
 use Rattle.syntect_grammar.specs.declared.error.Error.{Error}
 use Rattle.syntect_grammar.specs.declared.error.Error.TheVariants as error

@@ -14,7 +14,7 @@ use Rattle.syntect_writers.specs.declared.html.IncludeBackground.TheVariants.{If
 use Rattle.syntect_parsing.specs.States.{standing}
 use Rattle.syntect.specs.Leads.{reader_of, Continues, LacksStart}
 use Rattle.syntect_loader.specs.declared.definition.SyntaxDefinition.{SyntaxDefinition}
-use Rattle.syntect.specs.Pages.{Row, lines_in, answers_in, past_of, body_text, IsPage, IsPageOfBytes, IsRefusedAtALine, HasNoPageOfBytes, IsStopped, IsReadFault}
+use Rattle.syntect.specs.Pages.{Row, lines_in, past_of, body_text, IsPage, IsPageOfBytes, IsRefusedAtALine, HasNoPageOfBytes, IsStopped, IsReadFault}
 use Rattle.syntect.specs.Rows.{IsTextOf, GivesNext, AreRowsSoFar}
 use Rattle.syntect.specs.declared.easy.HighlightLines.{HighlightLines}
 use Rattle.syntect.proofs.PageLaws.{written_last}

@@ -1,24 +1,18 @@
 -- The lines that a reader gives, and what they are shown in.
-use Rattle.std.proofs.Common.{◌≡◌, ◌≢◌, ℕ, ◌+◌, ◌-◌, ◌<◌, suc, nat_lt, Bool, true, false, ◌==◌, List, [], ◌∷◌, ◌++◌, length, map, take, refl, sym, ap, ◌∙◌, append_assoc, append-nil, IsUtf8, Bor, Ok, Err, Result, inl, inr, arith, subst, All}
-use Rattle.std.specs.Prelude.{Option, Some, None, IfSome, IfErr, slice_get}
-use Rattle.std.specs.Global.{Vec}
+use Rattle.std.proofs.Common.{◌≡◌, ◌≢◌, ℕ, ◌-◌, ◌<◌, suc, nat_lt, Bool, true, false, ◌==◌, List, [], ◌∷◌, ◌++◌, length, take, refl, sym, ap, ◌∙◌, append_assoc, append-nil, IsUtf8, inl, inr, arith, subst, All}
+use Rattle.std.specs.Prelude.{Option, Some, None, IfSome, slice_get}
 use Rattle.std.specs.Io.{StopsAt, appended_bytes}
 use Rattle.std.specs.Io.BufRead.{take_through, drop_through, DropsThrough}
 use Rattle.std.proofs.lemmas.Bool.{cases_Bool}
 use Rattle.std.proofs.lemmas.Bool.Decides.{nat_tests}
 use Rattle.std.proofs.lemmas.Str.{IsUtf8-append, IsUtf8-nil}
 use Rattle.std.proofs.lemmas.List.Elements.{All-head, All-tail}
-use Rattle.syntect_theme.specs.declared.style.Style.{Style}
-use Rattle.syntect_theme.specs.declared.theme.Theme.{Theme}
 use Rattle.syntect_parsing.specs.Line.{Accepted}
-use Rattle.syntect_contexts.specs.declared.syntax_reference.SyntaxReference.{SyntaxReference}
-use Rattle.syntect_grammar.specs.declared.syntax_set.SyntaxSet.{SyntaxSet}
 use Rattle.syntect_writers.specs.Lines.{lines_of, before_lines}
 use Rattle.syntect_parsing.specs.States.{standing}
-use Rattle.syntect.specs.Leads.{reader_of, Leads, Continues}
-use Rattle.syntect.specs.Pages.{Row, AreUtf8, lines_in, answers_in}
-use Rattle.syntect.specs.Rows.{IsTextOf, can_go_on, CanFollow, GivesNext, IsLeft, AreRowsSoFar, AreRowsOf, RowsBegin, RowsGoOn, RowsEnd}
-use Rattle.syntect.specs.declared.easy.HighlightLines.{HighlightLines}
+use Rattle.syntect.specs.Leads.{reader_of}
+use Rattle.syntect.specs.Pages.{Row, AreUtf8, lines_in}
+use Rattle.syntect.specs.Rows.{IsTextOf, can_go_on, CanFollow, GivesNext, IsLeft, RowsBegin, RowsGoOn, RowsEnd}
 use Rattle.syntect.proofs.PageLaws.{map_last, shown_last}
 
 -- ---- lines of bytes ----

@@ -1,11 +1,11 @@
 -- Sets that were built of loaded definitions: nothing leads out of them, and no text leaves `__start`.
-use Rattle.std.proofs.Common.{◌≡◌, ◌≢◌, ◌==◌, ℕ, zero, suc, ◌<◌, Bool, true, false, is_none, ◌&&◌, List, [], ◌∷◌, ◌++◌, length, map, refl, sym, ap, ◌∙◌, arith, Option, Some, None, subst}
+use Rattle.std.proofs.Common.{◌≡◌, ◌≢◌, ◌==◌, ℕ, zero, suc, Bool, true, false, is_none, List, [], ◌∷◌, ◌++◌, map, refl, sym, ap, ◌∙◌, arith, Option, Some, None, subst}
 use Rattle.std.specs.Prelude.{position, codes, IfSome, All, slice_get}
-use Rattle.std.specs.Option.{option_map, option_and_then, option_to_list}
-use Rattle.std.specs.List.{flat_map, list_all}
+use Rattle.std.specs.Option.{option_map, option_and_then}
+use Rattle.std.specs.List.{list_all}
 use Rattle.std.specs.Cmp.Lexicographic.{pointwise}
 use Rattle.syntect_grammar.specs.Contexts.{context_at, part_of}
-use Rattle.syntect_parsing.specs.Chain.{entries, walk, room_in}
+use Rattle.syntect_parsing.specs.Chain.{walk, room_in}
 use Rattle.syntect_grammar.specs.Link.{names_of, body_of}
 use Rattle.syntect_grammar.specs.Link.{linked_definition, syntaxes_in}
 use Rattle.syntect_linker.specs.LinkedContexts.{linked_context, linked_match}

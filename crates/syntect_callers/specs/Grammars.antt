@@ -1,5 +1,5 @@
 -- What a caller of a grammar's text is told.
-use Rattle.std.specs.Prelude.{◌≡◌, ℕ, true, List, [], ◌∷◌, Option, Some, None, Ok, slice_get}
+use Rattle.std.specs.Prelude.{◌≡◌, ℕ, true, List, [], ◌∷◌, Some, None, Ok, slice_get}
 use Rattle.std.specs.Borrow.{Bor}
 use Rattle.syntect_theme.specs.declared.style.Style.{Style}
 use Rattle.syntect_grammar.specs.declared.error.Error.{Error}

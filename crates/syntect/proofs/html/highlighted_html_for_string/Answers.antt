@@ -1,8 +1,7 @@
-use Rattle.std.proofs.Common.{◌≡◌, ◌++◌, List, ℕ, rules, ap, ◌∙◌, string_bytes, Bor}
+use Rattle.std.proofs.Common.{◌++◌, List, ℕ, rules, ap, ◌∙◌, string_bytes, Bor}
 use Rattle.std.proofs.lemmas.Result.{err_from_is_err_and}
 use Rattle.syntect_theme.specs.declared.style.Style.{Style}
 use Rattle.syntect_theme.specs.declared.style.Color.{Color}
-use Rattle.syntect_writers.specs.Lines.{text_left}
 use Rattle.syntect_writers.specs.Spans.{line_text, background_of}
 use Rattle.syntect_writers.specs.declared.html.IncludeBackground.TheVariants.{IfDifferent}
 use Rattle.syntect.specs.Pages.{past_of}

@@ -1,4 +1,4 @@
-use Rattle.std.proofs.Common.{◌≡◌, List, string_bytes}
+use Rattle.std.proofs.Common.{List, string_bytes}
 use Rattle.syntect_loader.specs.declared.definition.SyntaxDefinition.{SyntaxDefinition}
 use Rattle.syntect_writers.specs.Lines.{text_left}
 use Rattle.syntect.specs.Built.{IsBuiltOf}

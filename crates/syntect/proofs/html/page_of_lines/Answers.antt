@@ -1,4 +1,4 @@
-use Rattle.std.proofs.Common.{rules, ◌≡◌, ◌++◌, List, [], ℕ, sym, ap, ◌∙◌, append-nil, string_bytes, Bor}
+use Rattle.std.proofs.Common.{rules, ◌++◌, List, [], ℕ, sym, ap, ◌∙◌, append-nil, string_bytes, Bor}
 use Rattle.std.proofs.lemmas.Result.{err_from_is_err_and}
 use Rattle.syntect_theme.specs.declared.style.Style.{Style}
 use Rattle.syntect_theme.specs.declared.style.Color.{Color}

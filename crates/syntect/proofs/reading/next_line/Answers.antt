@@ -1,4 +1,4 @@
-use Rattle.std.proofs.Common.{◌≡◌, ℕ, Bool, true, rules, length, ap, ◌∙◌, sym, arith}
+use Rattle.std.proofs.Common.{◌≡◌, true, rules, length, arith}
 use Rattle.syntect.specs.Rows.{can_go_on}
 use Rattle.syntect.proofs.RowLaws.{next_read}
 use Rattle.syntect.proofs.reading.next_line.Goals as goal

@@ -1,11 +1,9 @@
-use Rattle.std.proofs.Common.{◌≡◌, ℕ, zero, suc, ◌<◌, true, [], ◌∷◌, ◌++◌, List, Option, None, Ok, length, sym, ap, subst, ◌∙◌, arith, string_bytes}
+use Rattle.std.proofs.Common.{◌≡◌, zero, suc, true, [], ◌∷◌, ◌++◌, List, None, Ok, sym, ap, ◌∙◌, arith}
 use Rattle.std.specs.Prelude.{slice_get, All}
 use Rattle.syntect_grammar.specs.Link.{definitions_in, linked, syntaxes_in}
 use Rattle.syntect_loader.specs.Loading.{loaded}
-use Rattle.syntect_grammar.specs.declared.syntax_set.SyntaxSet.{SyntaxSet}
 use Rattle.syntect_loader.specs.declared.definition.SyntaxDefinition.{SyntaxDefinition}
 use Rattle.syntect.specs.Built.{IsPlain, IsBuiltOf}
-use Rattle.syntect.specs.Pages.{IsPage}
 use Rattle.syntect_callers.proofs.whole.page_of.Goals as goal
 
 one_plain : (d : SyntaxDefinition) → IsPlain d → All IsPlain (d ∷ [])

@@ -1,8 +1,7 @@
-use Rattle.std.proofs.Common.{◌≡◌, ℕ, zero, suc, ◌<◌, true, [], ◌∷◌, ◌++◌, List, Option, Some, None, Ok, Err, Result, Bor, length, refl, sym, ap, subst, ◌∙◌, arith}
+use Rattle.std.proofs.Common.{◌≡◌, ℕ, zero, suc, true, [], ◌∷◌, ◌++◌, List, Option, Some, None, Ok, Err, Result, Bor, sym, ap, subst, ◌∙◌, arith}
 use Rattle.std.specs.Global.{Vec}
-use Rattle.std.specs.Prelude.{slice_get, All, IfOk, IfErr, IfSome}
-use Rattle.syntect_grammar.specs.Link.{definitions_in, linked, syntaxes_in}
-use Rattle.syntect_loader.specs.Loading.{loaded}
+use Rattle.std.specs.Prelude.{All, IfOk, IfErr, IfSome}
+use Rattle.syntect_grammar.specs.Link.{definitions_in}
 use Rattle.syntect_parsing.specs.Refusals.{AreByName}
 use Rattle.syntect_loader.specs.declared.definition.SyntaxDefinition.{SyntaxDefinition}
 use Rattle.syntect_contexts.specs.declared.syntax_reference.SyntaxReference.{SyntaxReference}
