@@ -1,5 +1,5 @@
 -- Sets that are taken apart and built again.
-use Rattle.std.proofs.Common.{◌≡◌, ℕ, List, [], ◌∷◌, ◌++◌, length, map, refl, sym, ap, ◌∙◌, arith}
+use Rattle.std.proofs.Common.{◌≡◌, List, [], ◌∷◌, ◌++◌, length, map, sym, ap, ◌∙◌, arith}
 use Rattle.std.specs.List.{zip, fold}
 use Rattle.std.proofs.lemmas.List.{map-append}
 

@@ -1,6 +1,6 @@
 -- The last of a list that fits, and a byte order mark.
 use lib.Utf8.{encode}
-use Rattle.std.proofs.Common.{◌≡◌, ◌==◌, ℕ, zero, suc, ◌+◌, ◌<◌, Bool, true, false, List, [], ◌∷◌, ◌++◌, length, reverse, take, get_or, find, refl, sym, ap, ◌∙◌, arith, Option, Some, if◌then◌else◌}
+use Rattle.std.proofs.Common.{◌≡◌, ◌==◌, ℕ, ◌+◌, ◌<◌, Bool, true, List, [], ◌∷◌, ◌++◌, length, reverse, take, get_or, find, sym, ap, ◌∙◌, arith, Some, if◌then◌else◌}
 use Rattle.std.specs.Prelude.{IsUtf8, IsCharBoundary}
 use Rattle.std.specs.List.{starts_with}
 use Rattle.std.proofs.lemmas.Str.{IsCharBoundary-past_char}

@@ -1,5 +1,5 @@
 -- Grammars added from files.
-use Rattle.std.proofs.Common.{◌≡◌, ◌≢◌, ◌<◌, ◌+◌, ℕ, suc, Bool, true, false, List, [], ◌∷◌, ◌++◌, length, take, get_or, slice_get, IsUtf8, Some, sym, refl, ap, ◌∙◌, subst, arith, Err, string_bytes, String}
+use Rattle.std.proofs.Common.{◌≡◌, ◌≢◌, ◌<◌, ◌+◌, ℕ, suc, Bool, true, false, List, [], ◌∷◌, ◌++◌, length, take, get_or, IsUtf8, Some, sym, refl, ap, ◌∙◌, subst, arith, Err, string_bytes, String}
 use Rattle.std.proofs.Math.Seq.{take-suc}
 use Rattle.std.specs.Prelude.{Result, Ok, IfErr}
 use Rattle.std.specs.Global.{Global}

@@ -2,7 +2,7 @@
 use Rattle.std.proofs.Common.{◌≡◌, ℕ, ◌+◌, List, [], ◌∷◌, ◌++◌, length, length-append, map, refl, ap, sym, ◌∙◌, arith}
 use Rattle.std.specs.List.{zip}
 use Rattle.std.proofs.lemmas.List.{map-append}
-use Rattle.syntect_grammar.specs.Link.{head_of, heads_from, body_of, linked_definition, linked_from}
+use Rattle.syntect_grammar.specs.Link.{head_of, heads_from, body_of, linked_from}
 use Rattle.syntect_linker.specs.Gifts.{gifts_in, gifts_from, given_all, given_from, put_together}
 use Rattle.syntect_linker.proofs.LinkLaws.{contexts_together}
 use Rattle.syntect_contexts.specs.declared.context.Context.{Context}

@@ -1,20 +1,10 @@
 -- Where a walk is.
-use Rattle.std.proofs.Common.{◌≡◌, ℕ, zero, suc, ◌+◌, ◌-◌, ◌≤◌, ◌<◌, Bool, true, false, ◌||◌, List, [], ◌∷◌, ◌++◌, length, drop, map, Option, Some, None, refl, ap, sym, ◌∙◌, arith, append-nil, length-append}
-use Rattle.std.specs.Prelude.{slice_get, if◌then◌else◌}
-use Rattle.std.specs.List.{list_any}
-use Rattle.std.specs.Option.{option_and_then, option_map_or}
-use Rattle.std.proofs.lemmas.List.{append_assoc, map-append}
-use Rattle.syntect_contexts.specs.Contexts.{is_same, match_in, match_of, target}
-use Rattle.syntect_grammar.specs.Contexts.{context_at, contexts_of}
-use Rattle.syntect_contexts.specs.Contexts.{count_contexts}
-use Rattle.syntect_grammar.specs.Patterns.{entries, included, walk, walk_patterns}
-use Rattle.syntect_grammar.specs.Places.{Place, path_of, places_from, places_behind, entry_places, included_places, target_places, PlacesArePatterns}
+use Rattle.std.proofs.Common.{◌≡◌, ℕ, ◌+◌, ◌-◌, List, [], ◌∷◌, ◌++◌, length, refl, ap, sym, ◌∙◌, arith, append-nil, length-append}
+use Rattle.std.proofs.lemmas.List.{append_assoc}
+use Rattle.syntect_grammar.specs.Places.{Place, path_of, places_from, places_behind}
 use Rattle.syntect_grammar.specs.Walking.{steps_from, steps_behind}
 use Rattle.syntect_grammar.specs.declared.match_iter.Waiting.{Waiting}
 use Rattle.syntect_contexts.specs.declared.context.ContextId.{ContextId}
-use Rattle.syntect_contexts.specs.declared.context.MatchPattern.{MatchPattern}
-use Rattle.syntect_contexts.specs.declared.context.Pattern.{Pattern}
-use Rattle.syntect_contexts.specs.declared.context.Pattern.TheVariants.{Match, Include}
 use Rattle.syntect_contexts.specs.declared.context.Context.{Context}
 use Rattle.syntect_grammar.specs.declared.syntax_set.SyntaxSet.{SyntaxSet}
 

@@ -1,5 +1,5 @@
 -- The patterns of a context, includes walked.
-use Rattle.std.specs.Prelude.{◌≡◌, ℕ, zero, suc, ◌+◌, Bool, true, false, List, [], ◌∷◌, ◌++◌, length, Option, Some, None, if◌then◌else◌}
+use Rattle.std.specs.Prelude.{◌≡◌, ℕ, zero, suc, ◌+◌, true, false, List, [], ◌∷◌, ◌++◌, Option, Some, None, if◌then◌else◌}
 use Rattle.std.specs.List.{list_any}
 use Rattle.syntect_contexts.specs.Contexts.{is_same, target, count_contexts}
 use Rattle.syntect_grammar.specs.Contexts.{contexts_of, context_at, part_of}

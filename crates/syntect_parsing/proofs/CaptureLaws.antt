@@ -7,7 +7,7 @@ use Rattle.std.proofs.lemmas.Grind.{common_steps}
 use Rattle.std.proofs.lemmas.Bool.Decides.{nat_tests}
 use Rattle.syntect_scope.specs.declared.stack.ScopeStackOp.{ScopeStackOp}
 use Rattle.syntect_scope.specs.declared.stack.ScopeStackOp.TheVariants.{Pop}
-use Rattle.syntect_scope.specs.Stack.{applied, plain}
+use Rattle.syntect_scope.specs.Stack.{applied}
 use Rattle.syntect_scope.specs.declared.stack.ScopeStack.{ScopeStack}
 use Rattle.syntect_scope.specs.Replay.{Replay, InOrder, AllApply, replay, replayed, pushes}
 use Rattle.syntect_pattern.specs.Nesting.{AreNested, is_before, is_after, is_around, is_inside}

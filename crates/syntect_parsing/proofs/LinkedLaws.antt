@@ -15,7 +15,7 @@ use Rattle.syntect_grammar.specs.Link.{names_of, head_of, heads_from, body_of}
 use Rattle.syntect_contexts.specs.Contexts.{named_in}
 use Rattle.syntect_linker.specs.References.{context_named, meant, last_that, context_by, has_scope, has_name, or_plain_text, link_of, linked_reference}
 use Rattle.syntect_linker.specs.Reached.{unless_reached, is_reached, prototype_for}
-use Rattle.syntect_parsing.specs.Refusals.{NamesKnown, IsClosed, LinksClosed, AreByName, KnowNoNumber, NamesNoNumber, is_direct}
+use Rattle.syntect_parsing.specs.Refusals.{NamesKnown, LinksClosed, AreByName, KnowNoNumber, NamesNoNumber, is_direct}
 use Rattle.syntect_parsing.proofs.EachLaws.{Each}
 use Rattle.syntect_parsing.proofs.ClosedLaws.{Has, misses_none}
 use Rattle.syntect_contexts.specs.declared.context.ContextId.{ContextId}

@@ -6,7 +6,7 @@ use Rattle.syntect_contexts.specs.Substitution.{Opening}
 use Rattle.syntect_parsing.specs.Engine.{Engine}
 use Rattle.syntect_grammar.specs.Contexts.{context_at, part_of}
 use Rattle.syntect_contexts.specs.Contexts.{target}
-use Rattle.syntect_parsing.specs.Chain.{Member, chain, entries, last, patterns_of, members, in_sight, prototypes_in}
+use Rattle.syntect_parsing.specs.Chain.{Member, chain, last, patterns_of, members, in_sight, prototypes_in}
 use Rattle.syntect_parsing.specs.Turn.{Live, Choice, Take, Skip, End, live, missing, named, refusal, list_of, winner, trimmed, levels_after, levels_by, opened, new_levels, without_last, position_after}
 use Rattle.syntect_parsing.specs.Scopes.{Scopes, scopes_passed}
 use Rattle.syntect_parsing.specs.Line.{Step, Goes, Ends, Refused, turn, turn_on, turn_in, step, unless_refused, Reads, ends, goes, Refuses, now, later, Reaches, here, further, RefusesLine, no_level, in_turn, Answer, Answers, accepts, refuses, AnswersAll, none, one_more, at_start, start}

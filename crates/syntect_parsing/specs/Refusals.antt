@@ -6,7 +6,7 @@ use Rattle.std.specs.Option.{option_to_list}
 use Rattle.syntect_parsing.specs.Engine.{Engine}
 use Rattle.syntect_grammar.specs.Contexts.{context_at, part_of}
 use Rattle.syntect_contexts.specs.Contexts.{target}
-use Rattle.syntect_parsing.specs.Chain.{chain, entries, last, patterns_of}
+use Rattle.syntect_parsing.specs.Chain.{chain, last, patterns_of}
 use Rattle.syntect_parsing.specs.Turn.{Live, Take, live, missing, named, trimmed, winner}
 use Rattle.syntect_parsing.specs.Line.{AnswersAll, Answer, Reaches, RefusesLine, at_start, start}
 use Rattle.syntect_grammar.specs.Link.{syntaxes_in, linked}

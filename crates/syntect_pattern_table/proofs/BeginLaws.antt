@@ -1,5 +1,5 @@
 -- Where no match can begin.
-use Rattle.std.proofs.Common.{◌≡◌, ◌<◌, ◌≤◌, ◌||◌, ℕ, zero, suc, Bool, true, false, not, Some, List, length, get_or, sym, ◌∙◌, ap, arith, inl, inr, min, below_more, length-append, [], ◌∷◌, ◌++◌, ◌+◌, ◌-◌, None, drop, subst, eq-eqb, length-drop, refl, Option}
+use Rattle.std.proofs.Common.{◌≡◌, ◌<◌, ◌≤◌, ◌||◌, ℕ, zero, suc, Bool, true, false, not, Some, List, length, get_or, sym, ◌∙◌, ap, arith, inl, inr, min, below_more, length-append, [], ◌∷◌, ◌++◌, ◌+◌, ◌-◌, None, drop, subst, eq-eqb, length-drop, Option}
 use Rattle.memchr.specs.Find.{IsFirstByte, is_byte}
 use Rattle.std.proofs.lemmas.List.{get_or-drop}
 use Rattle.syntect_pattern_table.specs.Needs.{IsAbsent}

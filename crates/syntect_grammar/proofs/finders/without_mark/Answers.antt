@@ -1,4 +1,4 @@
-use Rattle.std.proofs.Common.{◌≡◌, ◌==◌, ℕ, List, ap, sym, ◌∙◌}
+use Rattle.std.proofs.Common.{◌==◌, ℕ, List, ap, sym, ◌∙◌}
 use Rattle.std.specs.List.{starts_with}
 use Rattle.syntect_grammar.specs.Finding.{mark}
 use Rattle.syntect_grammar.proofs.FindLaws.{mark_boundary}

@@ -1,10 +1,7 @@
-use Rattle.std.proofs.Common.{◌≡◌, ℕ, ◌+◌, ◌-◌, ◌<◌, List, [], ◌∷◌, ◌++◌, length, refl, sym, ap, ◌∙◌, arith}
-use Rattle.std.specs.Borrow.{Bor}
-use Rattle.syntect_contexts.specs.Contexts.{target}
-use Rattle.syntect_grammar.specs.Places.{Place, path_of, places_from, places_behind, walk_left, included_places, target_places, room_of}
-use Rattle.syntect_grammar.specs.Walking.{steps_from, steps_behind, steps_left, included_steps, target_steps}
+use Rattle.std.proofs.Common.{◌≡◌, ℕ, ◌+◌, ◌-◌, ◌<◌, List, [], ◌∷◌, ◌++◌, length, arith}
+use Rattle.syntect_grammar.specs.Places.{Place, path_of, places_from, places_behind}
+use Rattle.syntect_grammar.specs.Walking.{steps_from, steps_behind}
 use Rattle.syntect_grammar.proofs.PlaceLaws.{pushed_places, pushed_steps}
-use Rattle.syntect_contexts.specs.declared.context.ContextId.{ContextId}
 use Rattle.syntect_contexts.specs.declared.context.Context.{Context}
 use Rattle.syntect_grammar.specs.declared.syntax_set.SyntaxSet.{SyntaxSet}
 use Rattle.syntect_grammar.specs.declared.match_iter.Waiting.{Waiting}

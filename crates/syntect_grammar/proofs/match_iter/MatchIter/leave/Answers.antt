@@ -1,6 +1,6 @@
-use Rattle.std.proofs.Common.{◌≡◌, ℕ, ◌+◌, ◌-◌, ◌<◌, List, [], ◌∷◌, ◌++◌, length, drop, refl, sym, ap, ◌∙◌, arith}
-use Rattle.syntect_grammar.specs.Places.{path_of, places_from, places_behind, walk_left}
-use Rattle.syntect_grammar.specs.Walking.{steps_from, steps_behind, steps_left}
+use Rattle.std.proofs.Common.{◌≡◌, ℕ, ◌+◌, ◌-◌, ◌<◌, List, [], ◌∷◌, ◌++◌, length, drop, sym, arith}
+use Rattle.syntect_grammar.specs.Places.{path_of, places_from, places_behind}
+use Rattle.syntect_grammar.specs.Walking.{steps_from, steps_behind}
 use Rattle.syntect_grammar.proofs.PlaceLaws.{waiting_places, waiting_steps}
 use Rattle.syntect_contexts.specs.declared.context.Context.{Context}
 use Rattle.syntect_grammar.specs.declared.syntax_set.SyntaxSet.{SyntaxSet}

@@ -1,4 +1,4 @@
-use Rattle.std.proofs.Common.{◌≡◌, ◌≤◌, ℕ, length, reverse, take, find}
+use Rattle.std.proofs.Common.{◌≡◌, ◌≤◌, length, reverse, take, find}
 use Rattle.syntect_grammar.specs.Finding.{fits_line}
 use Rattle.syntect_grammar.proofs.syntax_set.SyntaxSet.find_syntax_by_first_line.Given as goal
 

@@ -1,4 +1,4 @@
-use Rattle.std.proofs.Common.{◌≡◌, ◌∙◌, map}
+use Rattle.std.proofs.Common.{◌∙◌, map}
 use Rattle.std.specs.Prelude.{string_bytes}
 use Rattle.syntect_linker.specs.Unlinked.{unlinked_of}
 use Rattle.syntect_linker.proofs.UnlinkedLaws.{more_texts}

@@ -1,4 +1,4 @@
-use Rattle.std.proofs.Common.{◌≡◌, ◌∙◌, ℕ, List, Option, drop, ap, subst, sym}
+use Rattle.std.proofs.Common.{◌≡◌, ◌∙◌, ℕ, List, Option, drop, ap, subst}
 use Rattle.syntect_pattern_table.specs.Needs.{MayNeed}
 use Rattle.syntect_pattern_table.proofs.StartLaws.{found_at-absent}
 use Rattle.syntect_pattern_table.proofs.BeginLaws.{absent-behind}
