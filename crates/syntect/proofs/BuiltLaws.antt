@@ -1,6 +1,7 @@
 -- What holds of a set that was built of plain definitions.
-use Rattle.std.proofs.Common.{◌≡◌, ◌==◌, ℕ, zero, suc, ◌+◌, ◌≤◌, ◌<◌, true, false, is_none, get_or, List, [], ◌∷◌, length, map, take, refl, sym, ap, ◌∙◌, arith, Option, Some, None, subst}
+use Rattle.std.proofs.Common.{◌≡◌, ◌==◌, ℕ, zero, suc, ◌+◌, ◌≤◌, ◌<◌, Bool, ◌&&◌, true, false, is_none, get_or, List, [], ◌∷◌, length, map, take, refl, sym, ap, ◌∙◌, arith, Option, Some, None, subst}
 use Rattle.std.specs.Prelude.{position, codes, IfSome, All, slice_get}
+use Rattle.std.specs.List.{list_all}
 use Rattle.std.specs.Option.{option_map, option_and_then}
 use Rattle.std.specs.Cmp.Lexicographic.{pointwise}
 use Rattle.std.proofs.lemmas.Option.{slice_get-map}
@@ -18,6 +19,16 @@ use Rattle.syntect_grammar.specs.declared.syntax_set.SyntaxSet.{SyntaxSet}
 use Rattle.syntect_parsing.specs.declared.parser.Standing.{Standing}
 use Rattle.syntect.specs.Built.{start_context, IsPlain, IsBuiltOf}
 use Rattle.syntect.specs.Leads.{BeginsPlain}
+
+both : (a b : Bool) → (a && b) ≡ true → (a ≡ true) × (b ≡ true)
+both true b e = (refl, e)
+both false b e = cc
+
+-- an element of a list each of which passes
+pub all_at : {X : Type 0} (p : X → Bool) (xs : List X) (i : ℕ) (x : X) → list_all p xs ≡ true → slice_get xs i ≡ Some x → p x ≡ true
+all_at p [] i x h e = cc
+all_at p (y ∷ xs) zero x h e = let f : y ≡ x = cc in subst (λ z. p z ≡ true) f (both (p y) (list_all p xs) h).0
+all_at p (y ∷ xs) (suc i) x h e = all_at p xs i x (both (p y) (list_all p xs) h).1 e
 
 -- a definition, linked at this index with these heads and contexts
 pub record IsLinkedAt (heads : List SyntaxReference) (bodies : List (List Context)) (definitions : List SyntaxDefinition) (place index : ℕ) (syntax : SyntaxReference) : Type 0 where
@@ -52,7 +63,7 @@ linked_in_turn : (heads : List SyntaxReference) (bodies : List (List Context)) (
 linked_in_turn heads bodies index [] = refl
 linked_in_turn heads bodies index (d ∷ ds) = ap (λ (l : List SyntaxReference). linked_definition heads bodies index d ∷ l) (linked_in_turn heads bodies (index + 1) ds)
 
-linked_at : (heads : List SyntaxReference) (bodies : List (List Context)) (definitions : List SyntaxDefinition) (place : ℕ) (syntax : SyntaxReference)
+pub linked_at : (heads : List SyntaxReference) (bodies : List (List Context)) (definitions : List SyntaxDefinition) (place : ℕ) (syntax : SyntaxReference)
     → slice_get (linked_from heads bodies 0 definitions) place ≡ Some syntax → IsLinkedAt heads bodies definitions place place syntax
 linked_at heads bodies definitions place syntax e =
     let r : IsMadeAt (linked_definition heads bodies) definitions place (0 + place) syntax =
@@ -90,9 +101,9 @@ short (x ∷ []) l = refl
 short (x ∷ y ∷ xs) l = absurd (omega arith)
 
 -- reading from a context that is plain
-starts_plain : (set : SyntaxSet) (id : ContextId) (o : Option Context) → context_at set id ≡ o → IfSome o (λ c. (c.meta_scope ≡ []) × (length c.meta_content_scope ≤ 1)) → HasPlainStart set (start id)
+starts_plain : (set : SyntaxSet) (id : ContextId) (o : Option Context) → context_at set id ≡ o → IfSome o (λ c. (c.meta_scope ≡ []) × (length c.meta_content_scope ≤ 1) × (c.clear_scopes ≡ None)) → HasPlainStart set (start id)
 starts_plain set id None e h = rw e refl
-starts_plain set id (Some c) e h = rw (e, h.0, short c.meta_content_scope h.1) refl
+starts_plain set id (Some c) e h = rw (e, h.0, short c.meta_content_scope h.1, h.2) refl
 
 -- a context of a syntax that stands at this place
 context_here : (set : SyntaxSet) (place k : ℕ) (syntax : SyntaxReference) → slice_get (syntaxes_in set) place ≡ Some syntax → context_at set (record { syntax_index = place; context_index = k }) ≡ slice_get syntax.contexts k
@@ -101,7 +112,7 @@ context_here set place k syntax e =
     rw f refl
 
 abbrev StartsPlain : Context → Type 0
-StartsPlain c = (c.meta_scope ≡ []) × (length c.meta_content_scope ≤ 1)
+StartsPlain c = (c.meta_scope ≡ []) × (length c.meta_content_scope ≤ 1) × (c.clear_scopes ≡ None)
 
 -- linking keeps the scopes of a context
 linked_plain : (heads : List SyntaxReference) (bodies : List (List Context)) (id : ContextId) (o : Option Context) → IfSome o StartsPlain → IfSome (option_map (linked_context heads bodies id) o) StartsPlain

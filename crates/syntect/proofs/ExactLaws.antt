@@ -13,7 +13,7 @@ use Rattle.syntect_theme.specs.declared.style.Style.{Style}
 use Rattle.syntect_theme.specs.declared.theme.Theme.{Theme}
 use Rattle.syntect_grammar.specs.Contexts.{context_at}
 use Rattle.syntect_parsing.specs.Engine.{dialect}
-use Rattle.syntect_parsing.specs.Laws.{NeverBoth, StackIsOpen}
+use Rattle.syntect_parsing.specs.Laws.{NeverBoth}
 use Rattle.syntect_parsing.specs.Line.{Answer, AnswersAll, RefusesLine, start, start_id}
 use Rattle.syntect_parsing.specs.Meaning.{Accepts, MayRefuse}
 use Rattle.syntect_parsing.specs.Refusals.{AreByName, IsClosed, IsNeverLeft, LinksClosed, NamesUnresolved, PicksUnresolved, RefusesUnresolved, lone_patterns, stays}
@@ -74,9 +74,9 @@ exact_accepted {set} {h = h} p line never new ops pieces a = λ r k.
     let x : (turns : ℕ) × RefusesLine dialect set line (standing (reader_of h)) (parsing.UnresolvedContextReference r) turns = (exactly p line).1 r k in
     never dialect set line (standing (reader_of h)) a.bytes new (parsing.UnresolvedContextReference r) a.turns x.0 a.reads x.1
 
-pub exact_unshown : {set : SyntaxSet} {theme : Theme} {syntax : SyntaxReference} {definitions : List SyntaxDefinition} {lines : List (List ℕ)} {answers : List Answer} {h : HighlightLines} → Premises set theme syntax definitions lines answers h → (line : Bor (List ℕ)) → StackIsOpen
+pub exact_unshown : {set : SyntaxSet} {theme : Theme} {syntax : SyntaxReference} {definitions : List SyntaxDefinition} {lines : List (List ℕ)} {answers : List Answer} {h : HighlightLines} → Premises set theme syntax definitions lines answers h → (line : Bor (List ℕ))
     → (new : Standing) (ops : List (ℕ × ScopeStackOp)) (e : ScopeError) → Accepts dialect set line.now (standing (reader_of h)) new ops
     → (e ≡ scope.NoClearedScopesToRestore → ¬ AllApply (path_of (styles_of h)) ops) → RefusedExactly set line.now h (Err (from_scope e))
-exact_unshown p line opens new ops scope.Memory a n = tt
-exact_unshown {set} {theme} {syntax} {definitions} {lines} {answers} {h} p line opens new ops scope.NoClearedScopesToRestore a n =
-    lead_unshown set theme syntax lines answers line h new ops scope.NoClearedScopesToRestore opens (built_begins_plain set syntax definitions p.built) p.leads a n
+exact_unshown p line new ops scope.Memory a n = tt
+exact_unshown {set} {theme} {syntax} {definitions} {lines} {answers} {h} p line new ops scope.NoClearedScopesToRestore a n =
+    lead_unshown set theme syntax lines answers line h new ops scope.NoClearedScopesToRestore (built_begins_plain set syntax definitions p.built) p.leads a n

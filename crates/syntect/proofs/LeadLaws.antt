@@ -1,10 +1,15 @@
 -- One line more.
-use Rattle.std.proofs.Common.{◌≡◌, ℕ, List, [], ◌∷◌, ◌++◌, length, refl, ◌∙◌, Option, Some, None, Result, Ok, Err, Bor}
+use Rattle.std.proofs.Common.{◌≡◌, ℕ, List, [], ◌∷◌, ◌++◌, length, refl, sym, ap, subst, arith, append_assoc, ◌∙◌, Option, Some, None, Result, Ok, Err, Bor}
 use Rattle.std.specs.Global.{Vec}
+use Rattle.std.specs.List.{filter_map}
 use Rattle.std.specs.Option.{option_map}
 use Rattle.syntect_scope.specs.Stack.{plain}
 use Rattle.syntect_scope.specs.Replay.{AllApply, before_text, replay, bytes_to}
-use Rattle.syntect_parsing.specs.Stacks.{IsAt}
+use Rattle.syntect_scope.specs.declared.stack.ClearAmount.{ClearAmount}
+use Rattle.syntect_scope.specs.declared.stack.ScopeStack.{ScopeStack}
+use Rattle.syntect_parsing.specs.Orderly.{IsOrderlyLine}
+use Rattle.syntect_parsing.specs.Stacks.{IsAt, Remembers, cleared}
+use Rattle.syntect_parsing.specs.Visible.{clearing}
 use Rattle.syntect_scope.specs.declared.stack.ScopeStackOp.{ScopeStackOp}
 use Rattle.syntect_scope.specs.declared.stack.ScopeError.{ScopeError}
 use Rattle.syntect_scope.specs.declared.stack.ScopeError.TheVariants as scope
@@ -25,7 +30,7 @@ use Rattle.syntect_parsing.specs.declared.parser.ParseState.{ParseState}
 use Rattle.syntect_contexts.specs.declared.error.ParsingError.{ParsingError}
 use Rattle.syntect_contexts.specs.declared.error.ParsingError.TheVariants as parsing
 use Rattle.syntect_grammar.specs.Passing.{from_parsing, from_scope}
-use Rattle.syntect.specs.Leads.{theme_of, styles_of, reader_of, OnlyParsing, Leads, Past, Continues, BeginsPlain}
+use Rattle.syntect.specs.Leads.{theme_of, styles_of, reader_of, OnlyParsing, HoldsSame, Leads, Past, IsPast, Continues, BeginsPlain, RunsOrderly}
 use Rattle.syntect.specs.Built.{IsBuiltOf}
 use Rattle.syntect_grammar.specs.declared.error.Error.{Error}
 use Rattle.syntect_grammar.specs.declared.error.Error.TheVariants as error
@@ -35,7 +40,7 @@ use Rattle.syntect.specs.declared.easy.HighlightLines.{HighlightLines}
 abbrev pub LeadsOn : SyntaxSet → Theme → SyntaxReference → List (List ℕ) → List Answer → Bor (List ℕ) → HighlightLines → Result (Vec (Style × Bor (List ℕ))) Error → Type 0
 LeadsOn set theme syntax lines answers line h (Ok pieces) =
     (bytes : List (List (List ℕ))) × Leads set theme syntax (lines ++ line.now ∷ []) (answers ++ Accepted bytes ∷ []) h
-    × Joins line.now pieces.items × IsStyled theme bytes pieces.items
+    × Joins line.now pieces.items × (RunsOrderly set syntax (lines ++ line.now ∷ []) → IsStyled theme bytes pieces.items)
 LeadsOn set theme syntax lines answers line h (Err e) = OnlyParsing (λ e. Leads set theme syntax (lines ++ line.now ∷ []) (answers ++ RefusedBy e ∷ []) h) e
 
 -- ---- before the first line ----
@@ -45,13 +50,31 @@ starts_empty : (set : SyntaxSet) (id : Option ContextId) (state : Standing) → 
 starts_empty set None state e = cc
 starts_empty set (Some id) state e = let f : start id ≡ state = cc in rw (← f) refl
 
+-- what clears an empty stack leaves a list on it
+amount_clears : (o : Option ClearAmount) → (cleared o (plain [])).clear_stack ≡ [] → o ≡ None
+amount_clears None e = refl
+amount_clears (Some a) e = cc
+
+-- so a context with a plain start clears nothing
+plain_clears : (set : SyntaxSet) (id : ContextId) → HasPlainStart set (start id) → clearing set id ≡ None
+plain_clears set id h = amount_clears (clearing set id) (sym (ap (λ (s : ScopeStack). s.clear_stack) h))
+
+remembers_none : (set : SyntaxSet) (id : Option ContextId) (state : Standing) (stack : ScopeStack) → option_map start id ≡ Some state → HasPlainStart set state → Remembers set state.levels stack
+remembers_none set None state stack e h = cc
+remembers_none set (Some id) state stack e h =
+    let f : start id ≡ state = cc in
+    let c : clearing set id ≡ None = plain_clears set id (subst (HasPlainStart set) (sym f) h) in
+    let n : length (filter_map (λ l. clearing set l.context) (start id).levels) ≡ 0 = rw c refl in
+    subst (λ (s : Standing). Remembers set s.levels stack) f (omega (arith, n))
+
 pub leads-none : (set : SyntaxSet) (theme : Theme) (syntax : SyntaxReference) (h : HighlightLines) → start_of syntax ≡ Some (standing (reader_of h)) → path_of (styles_of h) ≡ plain [] → theme_of h ≡ theme → Keeps theme (styles_of h)
     → Leads set theme syntax [] [] h
 leads-none set theme syntax h b p t k = record {
   start = standing (reader_of h);
   begins = b;
   run = none;
-  path = rw (starts_empty set (start_id syntax) (standing (reader_of h)) b) p;
+  path = λ _. rw (starts_empty set (start_id syntax) (standing (reader_of h)) b) p;
+  remembers = λ plain_start. remembers_none set (start_id syntax) (standing (reader_of h)) (path_of (styles_of h)) b (plain_start (standing (reader_of h)) b);
   theme_is = t;
   keeps = k;
 }
@@ -63,29 +86,51 @@ leads-resumed set theme syntax lines answers h new e f t l = record {
   start = l.start;
   begins = l.begins;
   run = rw f at l.run;
-  path = rw (e, f) at l.path;
+  path = λ o. rw (e, f) at (l.path o);
+  remembers = λ b. rw (e, f) at (l.remembers b);
   theme_is = t;
   keeps = rw e at l.keeps;
 }
 
+-- a past is that of each highlighter that stands at the same place
+pub pasts_stay : (past : Past) (set : SyntaxSet) (old new : HighlightLines) → HoldsSame old new → IsPast past set old → IsPast past set new
+pasts_stay past set old new s p = record {
+  built = p.built;
+  leads = leads-resumed set past.theme past.syntax past.lines past.answers old new (sym s.styles) (sym s.reader) (s.theme ∙ p.leads.theme_is) p.leads;
+}
+
 -- ---- one line more ----
+
+-- lines before an orderly run's last are one
+pub orderly_before : (set : SyntaxSet) (syntax : SyntaxReference) (lines : List (List ℕ)) (line : List ℕ) → RunsOrderly set syntax (lines ++ line ∷ []) → RunsOrderly set syntax lines
+orderly_before set syntax lines line o = λ start b before behind at answers next same run.
+    o start b before (behind ++ line ∷ []) at answers next (ap (λ (xs : List (List ℕ)). xs ++ line ∷ []) same ∙ append_assoc before (at ∷ behind) (line ∷ [])) run
+
+-- and its last line is orderly from the state that those lead to
+orderly_last : (set : SyntaxSet) (theme : Theme) (syntax : SyntaxReference) (lines : List (List ℕ)) (answers : List Answer) (line : List ℕ) (h : HighlightLines) → RunsOrderly set syntax (lines ++ line ∷ [])
+    → Leads set theme syntax lines answers h → IsOrderlyLine dialect set line (standing (reader_of h))
+orderly_last set theme syntax lines answers line h o l = o l.start l.begins lines [] line answers (standing (reader_of h)) refl l.run
 
 -- with one more answer, what is held leads on
 leads-more : (set : SyntaxSet) (theme : Theme) (syntax : SyntaxReference) (lines : List (List ℕ)) (answers : List Answer) (line : List ℕ) (h new : HighlightLines) (a : Answer) → AnswersMore
-    → Leads set theme syntax lines answers h → Answers dialect set line (standing (reader_of h)) a (standing (reader_of new)) → path_of (styles_of new) ≡ stack_before set (standing (reader_of new)) → theme_of new ≡ theme → Keeps theme (styles_of new)
+    → Leads set theme syntax lines answers h → Answers dialect set line (standing (reader_of h)) a (standing (reader_of new))
+    → (RunsOrderly set syntax (lines ++ line ∷ []) → path_of (styles_of new) ≡ stack_before set (standing (reader_of new)))
+    → (BeginsPlain set syntax → Remembers set (standing (reader_of new)).levels (path_of (styles_of new))) → theme_of new ≡ theme → Keeps theme (styles_of new)
     → Leads set theme syntax (lines ++ line ∷ []) (answers ++ a ∷ []) new
-leads-more set theme syntax lines answers line h new a more l r p t k = record {
+leads-more set theme syntax lines answers line h new a more l r p m t k = record {
   start = l.start;
   begins = l.begins;
   run = more dialect set lines line l.start (standing (reader_of h)) (standing (reader_of new)) answers a l.run r;
   path = p;
+  remembers = m;
   theme_is = t;
   keeps = k;
 }
 
 leads-refused : (set : SyntaxSet) (theme : Theme) (syntax : SyntaxReference) (lines : List (List ℕ)) (answers : List Answer) (line : List ℕ) (h : HighlightLines) (e : ParsingError) → AnswersMore
     → Leads set theme syntax lines answers h → Answers dialect set line (standing (reader_of h)) (RefusedBy e) (standing (reader_of h)) → Leads set theme syntax (lines ++ line ∷ []) (answers ++ RefusedBy e ∷ []) h
-leads-refused set theme syntax lines answers line h e more l r = leads-more set theme syntax lines answers line h h (RefusedBy e) more l r l.path l.theme_is l.keeps
+leads-refused set theme syntax lines answers line h e more l r =
+    leads-more set theme syntax lines answers line h h (RefusedBy e) more l r (λ o. l.path (orderly_before set syntax lines line o)) l.remembers l.theme_is l.keeps
 
 pub lead_refused : (set : SyntaxSet) (theme : Theme) (syntax : SyntaxReference) (lines : List (List ℕ)) (answers : List Answer) (line : Bor (List ℕ)) (h : HighlightLines) (e : ParsingError) → AnswersMore
     → Leads set theme syntax lines answers h → MayRefuse dialect set line.now (standing (reader_of h)) e → LeadsOn set theme syntax lines answers line h (Err (from_parsing e))
@@ -103,11 +148,11 @@ plain_here set theme syntax lines answers h opens b l = opens dialect set lines 
 
 -- operations of an accepted line are never refused
 pub lead_unshown : (set : SyntaxSet) (theme : Theme) (syntax : SyntaxReference) (lines : List (List ℕ)) (answers : List Answer) (line : Bor (List ℕ)) (h : HighlightLines) (new : Standing) (ops : List (ℕ × ScopeStackOp)) (e : ScopeError)
-    → StackIsOpen → BeginsPlain set syntax → Leads set theme syntax lines answers h → Accepts dialect set line.now (standing (reader_of h)) new ops
+    → BeginsPlain set syntax → Leads set theme syntax lines answers h → Accepts dialect set line.now (standing (reader_of h)) new ops
     → (e ≡ scope.NoClearedScopesToRestore → ¬ AllApply (path_of (styles_of h)) ops) → LeadsOn set theme syntax lines answers line h (Err (from_scope e))
-lead_unshown set theme syntax lines answers line h new ops scope.Memory opens b l a n = tt
-lead_unshown set theme syntax lines answers line h new ops scope.NoClearedScopesToRestore opens b l a n =
-    n refl (rw l.path (a.means.apply (plain_here set theme syntax lines answers h opens b l)))
+lead_unshown set theme syntax lines answers line h new ops scope.Memory b l a n = tt
+lead_unshown set theme syntax lines answers line h new ops scope.NoClearedScopesToRestore b l a n =
+    n refl (a.means.apply (path_of (styles_of h)) (l.remembers b)).0
 
 -- what the caller of `collect_pieces` holds
 pub record Shown (theme : Theme) (line : List ℕ) (old new : HighlightState) (ops : List (ℕ × ScopeStackOp)) (pieces : List (Style × Bor (List ℕ))) : Type 0 where
@@ -121,18 +166,21 @@ pub lead_accepted : (set : SyntaxSet) (theme : Theme) (syntax : SyntaxReference)
     → Shown (theme_of h) line.now (styles_of h) state ops pieces.items
     → LeadsOn set theme syntax lines answers line (record { highlighter = h.highlighter; parse_state = new; highlight_state = state }) (Ok pieces)
 lead_accepted set theme syntax lines answers line h new state ops pieces more opens b l a w =
-    let m : Means set line.now (standing (reader_of h)) (standing new) a.bytes ops = a.means in
-    let at : IsAt (replay ops (before_text (stack_before set (standing (reader_of h))))) (length line.now) a.bytes (stack_before set (standing new)) = m.shows (plain_here set theme syntax lines answers h opens b l) in
+    let m : Means dialect set line.now (standing (reader_of h)) (standing new) a.bytes ops = a.means in
     let x : Shown theme line.now (styles_of h) state ops pieces.items = rw l.theme_is at w in (
       a.bytes,
       leads-more set theme syntax lines answers line.now h (record { highlighter = h.highlighter; parse_state = new; highlight_state = state }) (Accepted a.bytes) more l (accepts a.reads)
-          (rw l.path at x.path ∙ at.stack) l.theme_is (x.keeps l.keeps),
+          (λ o. rw (l.path (orderly_before set syntax lines line.now o)) at x.path ∙ (at_end o).stack)
+          (λ p. subst (λ (s : ScopeStack). Remembers set (standing new).levels s) (sym x.path) (m.apply (path_of (styles_of h)) (l.remembers p)).1)
+          l.theme_is (x.keeps l.keeps),
       w.joins,
-      (
+      λ o.
           let y : IsStyled theme (bytes_to (replay ops (before_text (path_of (styles_of h)))) (length line.now)) pieces.items = x.styled l.keeps in
-          rw at.before at (rw l.path at y)
-          ),
+          rw (at_end o).before at (rw (l.path (orderly_before set syntax lines line.now o)) at y),
     )
+  where
+    at_end : RunsOrderly set syntax (lines ++ line.now ∷ []) → IsAt (replay ops (before_text (stack_before set (standing (reader_of h))))) (length line.now) a.bytes (stack_before set (standing new))
+    at_end o = a.means.shows (plain_here set theme syntax lines answers h opens b l) (orderly_last set theme syntax lines answers line.now h o l)
 
 -- ---- with the past ----
 

@@ -5,6 +5,7 @@ pub mod ExactLaws
 pub mod PageLaws
 pub mod LoadedLaws
 pub mod StayLaws
+pub mod OrderlyLaws
 pub mod ReaderLaws
 pub mod RowLaws
 pub mod FileLaws

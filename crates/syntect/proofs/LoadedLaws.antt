@@ -138,9 +138,9 @@ pub loaded_begins : (text : List ℕ) (newline : Bool) (fallback : Option (List 
     → loaded text newline fallback repository ≡ Ok (d, left) → BeginsAtStart d
 loaded_begins text newline fallback repository d left e = of_value (yaml_of text) newline fallback repository d left e
 
-plain_context : (o : Option Context) → IfSome o Begins → IfSome o (λ c. (c.meta_scope ≡ []) × (length c.meta_content_scope ≤ 1))
+plain_context : (o : Option Context) → IfSome o Begins → IfSome o (λ c. (c.meta_scope ≡ []) × (length c.meta_content_scope ≤ 1) × (c.clear_scopes ≡ None))
 plain_context None h = tt
-plain_context (Some c) h = rw h.1 (refl, omega arith)
+plain_context (Some c) h = rw h.1 (refl, omega arith, refl)
 
 pub loaded_plain : (text : List ℕ) (newline : Bool) (fallback : Option (List ℕ)) (repository : List (List ℕ)) (d : SyntaxDefinition) (left : List (List ℕ))
     → loaded text newline fallback repository ≡ Ok (d, left) → built.IsPlain d

@@ -1,7 +1,8 @@
 -- A page while it is written.
-use Rattle.std.proofs.Common.{◌≡◌, ℕ, List, [], ◌∷◌, ◌++◌, map, refl, sym, ap, ◌∙◌, append_assoc, append-nil, Ok, Err, Bor, inl, inr}
+use Rattle.std.proofs.Common.{◌≡◌, ℕ, List, [], ◌∷◌, ◌++◌, map, refl, sym, ap, subst, ◌∙◌, append_assoc, append-nil, Ok, Err, Bor, inl, inr}
 use Rattle.std.specs.Global.{Vec}
 use Rattle.std.proofs.lemmas.Grind.{flat_map-append}
+use Rattle.syntect_style.specs.Pieces.{Joins, IsStyled}
 use Rattle.syntect_theme.specs.declared.style.Style.{Style}
 use Rattle.syntect_theme.specs.declared.theme.Theme.{Theme}
 use Rattle.syntect_parsing.specs.Line.{Accepted}
@@ -11,9 +12,10 @@ use Rattle.syntect_writers.specs.Lines.{lines_of}
 use Rattle.syntect_writers.specs.Spans.{line_text, opening, closing, background_of}
 use Rattle.syntect_writers.specs.declared.html.IncludeBackground.TheVariants.{IfDifferent}
 use Rattle.syntect_parsing.specs.States.{standing}
-use Rattle.syntect.specs.Leads.{reader_of, Leads, Continues, LacksStart}
+use Rattle.syntect.specs.Leads.{reader_of, Leads, Continues, LacksStart, RunsOrderly}
 use Rattle.syntect_loader.specs.declared.definition.SyntaxDefinition.{SyntaxDefinition}
-use Rattle.syntect.specs.Pages.{Row, IsShown, AreShown, lines_in, answers_in, past_of, body_text, IsPage, HasNoPage}
+use Rattle.syntect.specs.Pages.{Row, AreJoined, AreStyled, AreShown, lines_in, answers_in, past_of, body_text, IsPage, HasNoPage}
+use Rattle.syntect.proofs.LeadLaws.{orderly_before}
 use Rattle.syntect.specs.declared.easy.HighlightLines.{HighlightLines}
 use Rattle.syntect_grammar.specs.declared.error.Error.{Error}
 use Rattle.syntect_grammar.specs.declared.error.Error.TheVariants as error
@@ -23,8 +25,11 @@ pub record IsSoFar (set : SyntaxSet) (theme : Theme) (syntax : SyntaxReference) 
   pub rows : List Row
   pub leads : Leads set theme syntax (lines_in rows) (answers_in rows) h
   pub lines : lines_in rows ++ lines_of left ≡ lines_of text
-  pub shown : AreShown theme rows
+  pub shown : AreShown set theme syntax rows
   pub written : page ≡ opening theme ++ body_text theme rows
+
+pub shown_none : (set : SyntaxSet) (theme : Theme) (syntax : SyntaxReference) → AreShown set theme syntax []
+shown_none set theme syntax = record { joins = tt; styled = λ _. tt }
 
 pub so_far_none : (set : SyntaxSet) (theme : Theme) (syntax : SyntaxReference) (text left page : List ℕ) (h : HighlightLines) → Leads set theme syntax [] [] h → left ≡ text → page ≡ opening theme
     → IsSoFar set theme syntax text left page h
@@ -32,7 +37,7 @@ so_far_none set theme syntax text left page h l e f = record {
   rows = [];
   leads = l;
   lines = ap lines_of e;
-  shown = tt;
+  shown = shown_none set theme syntax;
   written = f ∙ sym (append-nil (opening theme));
 }
 
@@ -40,9 +45,23 @@ pub map_last : {X Y : Type 0} (f : X → Y) (xs : List X) (x : X) → map f (xs 
 map_last f [] x = refl
 map_last f (y ∷ ys) x = ap (λ zs. f y ∷ zs) (map_last f ys x)
 
-pub shown_last : (theme : Theme) (rows : List Row) (row : Row) → AreShown theme rows → IsShown theme row → AreShown theme (rows ++ row ∷ [])
-shown_last theme [] row s t = (t, tt)
-shown_last theme (r ∷ rows) row s t = (s.0, shown_last theme rows row s.1 t)
+joined_last : (rows : List Row) (row : Row) → AreJoined rows → Joins row.line row.pieces → AreJoined (rows ++ row ∷ [])
+joined_last [] row s t = (t, tt)
+joined_last (r ∷ rows) row s t = (s.0, joined_last rows row s.1 t)
+
+styled_last : (theme : Theme) (rows : List Row) (row : Row) → AreStyled theme rows → IsStyled theme row.scopes row.pieces → AreStyled theme (rows ++ row ∷ [])
+styled_last theme [] row s t = (t, tt)
+styled_last theme (r ∷ rows) row s t = (s.0, styled_last theme rows row s.1 t)
+
+-- one row more, where its pieces join, and are styled if the lines up to it are orderly
+pub shown_last : (set : SyntaxSet) (theme : Theme) (syntax : SyntaxReference) (rows : List Row) (row : Row) → AreShown set theme syntax rows → Joins row.line row.pieces
+    → (RunsOrderly set syntax (lines_in rows ++ row.line ∷ []) → IsStyled theme row.scopes row.pieces) → AreShown set theme syntax (rows ++ row ∷ [])
+shown_last set theme syntax rows row s j t = record {
+  joins = joined_last rows row s.joins j;
+  styled = λ o.
+      let p : RunsOrderly set syntax (lines_in rows ++ row.line ∷ []) = subst (RunsOrderly set syntax) (map_last (λ (r : Row). r.line) rows row) o in
+      styled_last theme rows row (s.styled (orderly_before set syntax (lines_in rows) row.line p)) (t p);
+}
 
 pub written_last : (theme : Theme) (rows : List Row) (row : Row) (page next : List ℕ) → page ≡ opening theme ++ body_text theme rows
     → next ≡ page ++ line_text (IfDifferent (background_of theme)) row.pieces → next ≡ opening theme ++ body_text theme (rows ++ row ∷ [])
@@ -70,7 +89,7 @@ so_far_more set definitions theme syntax text left rest page next line h new pie
           ∙ append_assoc (lines_in s.rows) (line.now ∷ []) (lines_of rest)
           ∙ ap (λ xs. lines_in s.rows ++ xs) (sym e)
           ∙ s.lines;
-      shown = shown_last theme s.rows row s.shown (l.2, l.3);
+      shown = shown_last set theme syntax s.rows row s.shown l.2 l.3;
       written = written_last theme s.rows row page next s.written f;
     }
 

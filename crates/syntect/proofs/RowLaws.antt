@@ -13,7 +13,7 @@ use Rattle.syntect_parsing.specs.States.{standing}
 use Rattle.syntect.specs.Leads.{reader_of}
 use Rattle.syntect.specs.Pages.{Row, AreUtf8, lines_in}
 use Rattle.syntect.specs.Rows.{IsTextOf, can_go_on, CanFollow, GivesNext, IsLeft, RowsBegin, RowsGoOn, RowsEnd}
-use Rattle.syntect.proofs.PageLaws.{map_last, shown_last}
+use Rattle.syntect.proofs.PageLaws.{map_last, shown_none, shown_last}
 
 -- ---- lines of bytes ----
 
@@ -204,7 +204,7 @@ rows_begin set theme syntax had last h l e = record {
   leads = l;
   lines = λ rest _. refl;
   lines_valid = tt;
-  shown = tt;
+  shown = shown_none set theme syntax;
   is_left = all_left had last e;
 }
 
@@ -220,7 +220,7 @@ rows_go_on set definitions theme syntax had left after last bytes rows line h ne
           ∙ append_assoc (lines_in rows) (line.now ∷ []) (lines_of rest)
           ∙ lines_more s.done last bytes line.now rest (lines_in rows) s.lines g.0 g.1 g.2 e can;
       lines_valid = are_last rows row s.lines_valid (rw (e) u);
-      shown = shown_last theme rows row s.shown (l.2, l.3);
+      shown = shown_last set theme syntax rows row s.shown l.2 l.3;
       is_left = less_left had left after s.done last bytes s.is_left g;
     }
 

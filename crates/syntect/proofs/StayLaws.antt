@@ -13,6 +13,7 @@ use Rattle.syntect_parsing.specs.Engine.{dialect}
 use Rattle.syntect_parsing.specs.Line.{start, start_id, start_of, Answer, AnswersAll}
 use Rattle.syntect_loader.specs.Loading as loading
 use Rattle.syntect_parsing.specs.Refusals.{lone_patterns, stays, AreByName, KnowNoNumber, IsClosed, LinksClosed}
+use Rattle.syntect_parsing.specs.Open.{ClearsNothing}
 use Rattle.syntect_parsing.specs.Standing.{GiveScopes, BytesHaveScopes}
 use Rattle.syntect_loader.specs.Named.{LoadedByName}
 use Rattle.syntect_parsing.specs.declared.parser.Standing.{Standing}
@@ -141,16 +142,16 @@ module _ (set : SyntaxSet) (syntax : SyntaxReference) (definitions : List Syntax
       let b : BeginsAtStart r.definition = begins_at r.definition (loaded_at definitions h.place r.definition l r.at) in
       scoped_at heads bodies set h.place syntax r.definition h.among r.is b _ refl id (sym (ap start_id r.is) ∙ e) (built_there set syntax definitions h id e)
 
-  from_start : (o : Option ContextId) → start_id syntax ≡ o → (begin after : Standing) (lines : List (List ℕ)) (answers : List Answer) → BytesHaveScopes → LinksClosed → LoadedByName
+  from_start : (o : Option ContextId) → start_id syntax ≡ o → (begin after : Standing) (lines : List (List ℕ)) (answers : List Answer) → BytesHaveScopes → LinksClosed → LoadedByName → ClearsNothing set
       → option_map start o ≡ Some begin → AnswersAll dialect set lines begin answers after → GiveScopes answers
-  from_start None e begin after lines answers give closed by_name f run = cc
-  from_start (Some id) e begin after lines answers give closed by_name f run =
+  from_start None e begin after lines answers give closed by_name clears f run = cc
+  from_start (Some id) e begin after lines answers give closed by_name clears f run =
       let same : start id ≡ begin = cc in
       let stays_in : list_all (λ m. stays m.operation) (lone_patterns set id) ≡ true = rw e at (loaded_stay set syntax definitions h l) in
       let in_set : IsClosed set = closed set definitions h.links (loaded_are_named by_name definitions l) in
       let from : AnswersAll dialect set lines (start id) answers after = rw (← same) at run in
-      give dialect set id lines answers after in_set (record { there = built_there set syntax definitions h id e; stay = stays_in }) (start_scoped id e) from
+      give dialect set id lines answers after in_set (record { there = built_there set syntax definitions h id e; stay = stays_in }) clears (start_scoped id e) from
 
 pub loaded_give_scopes : (set : SyntaxSet) (syntax : SyntaxReference) (definitions : List SyntaxDefinition) (begin after : Standing) (lines : List (List ℕ)) (answers : List Answer) → BytesHaveScopes → LinksClosed → LoadedByName
-    → IsBuiltOf set syntax definitions → All IsLoaded definitions → start_of syntax ≡ Some begin → AnswersAll dialect set lines begin answers after → GiveScopes answers
-loaded_give_scopes set syntax definitions begin after lines answers give closed by_name h l e run = from_start set syntax definitions h l (start_id syntax) refl begin after lines answers give closed by_name e run
+    → IsBuiltOf set syntax definitions → All IsLoaded definitions → ClearsNothing set → start_of syntax ≡ Some begin → AnswersAll dialect set lines begin answers after → GiveScopes answers
+loaded_give_scopes set syntax definitions begin after lines answers give closed by_name h l clears e run = from_start set syntax definitions h l (start_id syntax) refl begin after lines answers give closed by_name clears e run

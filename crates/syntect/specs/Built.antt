@@ -1,5 +1,5 @@
 -- Sets that were built of definitions, and what the definitions have to be.
-use Rattle.std.specs.Prelude.{◌≡◌, Bool, true, ℕ, ◌==◌, ◌≤◌, List, [], length, map, position, codes, Option, Some, IfSome, All, slice_get, Ok}
+use Rattle.std.specs.Prelude.{◌≡◌, Bool, true, ℕ, ◌==◌, ◌≤◌, List, [], length, map, position, codes, Option, Some, None, IfSome, All, is_none, slice_get, Ok}
 use Rattle.std.specs.List.{list_all}
 use Rattle.std.specs.Option.{option_and_then}
 use Rattle.std.specs.Cmp.Lexicographic.{pointwise}
@@ -16,9 +16,13 @@ use Rattle.syntect_grammar.specs.declared.syntax_set.SyntaxSet.{SyntaxSet}
 abbrev pub start_context : SyntaxDefinition → Option Context
 start_context d = option_and_then (slice_get (map (λ entry. entry.1) d.contexts)) (position (pointwise ◌==◌ (codes "__start")) (names_of d.contexts))
 
--- `__start` has no `meta_scope` and at most one content scope, as in every grammar that is loaded
+-- `__start` has no `meta_scope`, at most one content scope and clears nothing, as in every grammar that is loaded
 abbrev pub IsPlain : SyntaxDefinition → Type 0
-IsPlain d = IfSome (start_context d) (λ c. (c.meta_scope ≡ []) × (length c.meta_content_scope ≤ 1))
+IsPlain d = IfSome (start_context d) (λ c. (c.meta_scope ≡ []) × (length c.meta_content_scope ≤ 1) × (c.clear_scopes ≡ None))
+
+-- no context of the definition has the key `clear_scopes`
+abbrev pub clears_nothing : SyntaxDefinition → Bool
+clears_nothing d = list_all (λ entry. is_none entry.1.clear_scopes) d.contexts
 
 -- the set was built once, of these definitions, which are plain, and the syntax is one of it
 pub record IsBuiltOf (set : SyntaxSet) (syntax : SyntaxReference) (definitions : List SyntaxDefinition) : Type 0 where

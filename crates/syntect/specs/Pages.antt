@@ -15,7 +15,7 @@ use Rattle.syntect_grammar.specs.declared.syntax_set.SyntaxSet.{SyntaxSet}
 use Rattle.syntect_writers.specs.Lines.{lines_of}
 use Rattle.syntect_writers.specs.Spans.{line_text, opening, closing, background_of}
 use Rattle.syntect_writers.specs.declared.html.IncludeBackground.TheVariants.{IfDifferent}
-use Rattle.syntect.specs.Leads.{LacksStart, OnlyParsing, Past}
+use Rattle.syntect.specs.Leads.{LacksStart, OnlyParsing, Past, RunsOrderly}
 use Rattle.syntect_loader.specs.declared.definition.SyntaxDefinition.{SyntaxDefinition}
 use Rattle.syntect_grammar.specs.declared.error.Error.{Error}
 use Rattle.syntect_grammar.specs.declared.error.Error.TheVariants as error
@@ -26,16 +26,23 @@ pub record Row : Type 0 where
   pub scopes : List (List (List ℕ))
   pub pieces : List (Style × Bor (List ℕ))
 
--- the pieces join to the line, none is empty, and each byte has the theme's style for its scopes
-abbrev pub IsShown : Theme → Row → Type 0
-IsShown theme row = Joins row.line row.pieces × IsStyled theme row.scopes row.pieces
-
-abbrev pub AreShown : Theme → List Row → Type 0
-AreShown theme [] = Unit {0}
-AreShown theme (row ∷ rows) = IsShown theme row × AreShown theme rows
-
 abbrev pub lines_in : List Row → List (List ℕ)
 lines_in rows = map (λ row. row.line) rows
+
+-- of each row the pieces join to the line, and none is empty
+abbrev pub AreJoined : List Row → Type 0
+AreJoined [] = Unit {0}
+AreJoined (row ∷ rows) = Joins row.line row.pieces × AreJoined rows
+
+-- of each row each byte has the theme's style for its scopes
+abbrev pub AreStyled : Theme → List Row → Type 0
+AreStyled theme [] = Unit {0}
+AreStyled theme (row ∷ rows) = IsStyled theme row.scopes row.pieces × AreStyled theme rows
+
+-- The rows are joined, and where their lines are orderly they are styled.
+pub record AreShown (set : SyntaxSet) (theme : Theme) (syntax : SyntaxReference) (rows : List Row) : Type 0 where
+  pub joins : AreJoined rows
+  pub styled : RunsOrderly set syntax (lines_in rows) → AreStyled theme rows
 
 abbrev pub answers_in : List Row → List Answer
 answers_in rows = map (λ row. Accepted row.scopes) rows
@@ -56,7 +63,7 @@ pub record IsPage (set : SyntaxSet) (theme : Theme) (syntax : SyntaxReference) (
   pub begins : start_of syntax ≡ Some start
   pub lines : lines_in rows ≡ lines_of text
   pub run : AnswersAll dialect set (lines_in rows) start (answers_in rows) after
-  pub shown : AreShown theme rows
+  pub shown : AreShown set theme syntax rows
   pub written : page ≡ opening theme ++ (body_text theme rows ++ closing)
 
 -- The text's lines up to one are read, and that one is refused so.

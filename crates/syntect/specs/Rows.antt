@@ -52,7 +52,7 @@ pub record AreRowsOf (set : SyntaxSet) (theme : Theme) (syntax : SyntaxReference
   pub begins : start_of syntax ≡ Some start
   pub lines : lines_in rows ≡ lines_of text
   pub run : AnswersAll dialect set (lines_in rows) start (answers_in rows) after
-  pub shown : AreShown theme rows
+  pub shown : AreShown set theme syntax rows
 
 -- What a reader has given so far is shown in these rows, and h is what the highlighter then holds.
 pub record AreRowsSoFar (set : SyntaxSet) (theme : Theme) (syntax : SyntaxReference) (had left : Option (List ℕ)) (last : List ℕ) (rows : List Row) (h : HighlightLines) : Type 0 where
@@ -61,7 +61,7 @@ pub record AreRowsSoFar (set : SyntaxSet) (theme : Theme) (syntax : SyntaxRefere
   pub leads : Leads set theme syntax (lines_in rows) (answers_in rows) h
   pub lines : (rest : List ℕ) → CanFollow last rest → lines_in rows ++ lines_of rest ≡ lines_of (done ++ rest)
   pub lines_valid : AreUtf8 (lines_in rows)
-  pub shown : AreShown theme rows
+  pub shown : AreShown set theme syntax rows
   pub is_left : IsLeft had left done last
 
 -- ---- laws ----

@@ -16,6 +16,7 @@ use Rattle.syntect_contexts.specs.declared.error.ParsingError.{ParsingError}
 use Rattle.syntect_contexts.specs.declared.error.ParsingError.TheVariants as parsing
 use Rattle.syntect_contexts.specs.declared.syntax_reference.SyntaxReference.{SyntaxReference}
 use Rattle.syntect.specs.Built.{StaysInStart}
+use Rattle.syntect.specs.Leads.{RunsOrderly}
 use Rattle.syntect_grammar.specs.declared.error.Error.{Error}
 use Rattle.syntect_grammar.specs.declared.error.Error.TheVariants as error
 
@@ -24,7 +25,8 @@ abbrev pub IsOf : List SyntaxDefinition → SyntaxSet → Type 0
 IsOf definitions set = syntaxes_in set ≡ linked definitions
 
 -- The lines were read one after another from the start of the first syntax of a set that was built of the definitions,
--- all accepted; the pieces join to the third, and each of its bytes has the theme's style for its scopes.
+-- all accepted; the pieces join to the third, and where the lines are orderly, each of its bytes has the theme's style for
+-- its scopes.
 pub record IsThirdLine (definitions : List SyntaxDefinition) (theme : Theme) (first second third : List ℕ) (pieces : List (Style × Bor (List ℕ))) : Type 0 where
   pub set : SyntaxSet
   pub is_of : IsOf definitions set
@@ -38,7 +40,7 @@ pub record IsThirdLine (definitions : List SyntaxDefinition) (theme : Theme) (fi
   pub begins : start_of syntax ≡ Some start
   pub answers : AnswersAll dialect set (first ∷ second ∷ third ∷ []) start (Accepted bytes_first ∷ Accepted bytes_second ∷ Accepted bytes ∷ []) after
   pub joins : Joins third pieces
-  pub styled : IsStyled theme bytes pieces
+  pub styled : RunsOrderly set syntax (first ∷ second ∷ third ∷ []) → IsStyled theme bytes pieces
 
 -- or the set has no syntax
 abbrev pub IsThird : List SyntaxDefinition → Theme → List ℕ → List ℕ → List ℕ → Option (Vec (Style × Bor (List ℕ))) → Type 0
@@ -54,8 +56,8 @@ abbrev pub FirstStays : List SyntaxDefinition → Type 0
 FirstStays definitions = (set : SyntaxSet) (syntax : SyntaxReference) → IsOf definitions set → slice_get (syntaxes_in set) 0 ≡ Some syntax → StaysInStart set syntax
 
 -- One of the lines is refused, in a set that was built of the definitions: those before it were accepted, from the start of
--- its first syntax on, and a turn of
--- its reading picks a match that names a reference without target, which the refusal has.
+-- its first syntax on, and a turn of its reading picks a match that names a reference without target, which the refusal
+-- has.
 pub record IsRefusedLine (definitions : List SyntaxDefinition) (lines : List (List ℕ)) (e : ParsingError) : Type 0 where
   pub set : SyntaxSet
   pub is_of : IsOf definitions set

@@ -11,7 +11,7 @@ use Rattle.syntect_base.specs.declared.loading.LoadingError.{LoadingError}
 use Rattle.syntect_base.specs.declared.loading.LoadingError.TheVariants as loading
 use Rattle.syntect_base.specs.declared.syntax.ParseSyntaxError.{ParseSyntaxError}
 use Rattle.syntect_base.specs.declared.syntax.ParseSyntaxError.TheVariants as syntax
-use Rattle.syntect_grammar.specs.Folders.{is_grammar_path, IsSyntaxOf, RefusesSyntax, no_grammar, not_read, no_memory, with_loaded, AddsSyntaxes, no_more, other, grammar, StopsAt, RefusesFolder, no_syntax, no_definitions}
+use Rattle.syntect_grammar.specs.Folders.{is_grammar_path, IsSyntaxOf, RefusesSyntax, no_grammar, not_read, no_memory, with_loaded, AddsSyntaxes, no_more, other, grammar, StopsAt, RefusesFolder, no_syntax}
 use Rattle.syntect_grammar.specs.Link.{definitions_in, paths_in}
 use Rattle.syntect_loader.specs.Loading.{loaded}
 use Rattle.syntect_loader.specs.LoadingSteps.{Refusal, Fails, seen}
@@ -97,6 +97,3 @@ module _ (newlines : Bool) where
       → IfErr r (λ e. StopsAt newlines paths old builder e all) → IfErr r (λ e. RefusesFolder newlines folder old builder e all)
   refused_in (Ok x) folder files paths old builder all w s h = tt
   refused_in (Err e) folder files paths old builder all w s h = no_syntax w (subst (λ (xs : List (List ℕ)). StopsAt newlines xs old builder e all) s h)
-
-pub none_at_first : (builder : SyntaxSetBuilder) → definitions_in builder ≡ [] → paths_in builder ≡ [] → builder ≡ no_definitions
-none_at_first builder d p = ap (λ (ds : List SyntaxDefinition). record { syntaxes = ds; path_syntaxes = paths_in builder }) d ∙ ap (λ (ps : List (List ℕ × ℕ)). record { syntaxes = []; path_syntaxes = ps }) p

@@ -7,14 +7,13 @@ use Rattle.std.proofs.lemmas.Grind.{common_steps}
 use Rattle.std.proofs.lemmas.Bool.Decides.{nat_tests}
 use Rattle.syntect_scope.specs.declared.stack.ScopeStackOp.{ScopeStackOp}
 use Rattle.syntect_scope.specs.declared.stack.ScopeStackOp.TheVariants.{Pop}
-use Rattle.syntect_scope.specs.Stack.{applied}
-use Rattle.syntect_scope.specs.declared.stack.ScopeStack.{ScopeStack}
-use Rattle.syntect_scope.specs.Replay.{Replay, InOrder, AllApply, replay, replayed, pushes}
+use Rattle.syntect_scope.specs.Replay.{Replay, InOrder, replay, replayed, pushes}
 use Rattle.syntect_pattern.specs.Nesting.{AreNested, is_before, is_after, is_around, is_inside}
 use Rattle.syntect_parsing.specs.Scopes.{Scopes, Capture, covers, is_longer, put, longer_first}
 use Rattle.syntect_parsing.specs.Operations.{captures_at, capture_operations}
 use Rattle.syntect_parsing.proofs.ListLaws.{tested_true}
-use Rattle.syntect_parsing.proofs.OrderLaws.{order-append, order-pushes, apply-onto, apply-pushes}
+use Rattle.syntect_parsing.proofs.CountLaws.{Counts, counts_nothing, counts_then, counts_pushes}
+use Rattle.syntect_parsing.proofs.OrderLaws.{order-append, order-pushes}
 use Rattle.syntect_parsing.proofs.ReplayLaws.{At, replay-append, at_op, at_pushes, at_move}
 
 -- ---- members of a list ----
@@ -347,16 +346,17 @@ captures_in_order text s e cs on l =
     let z : s + (e - s) ≡ e = omega arith in
     rw n (rw z at (places_in_order text (e - s) s cs on))
 
-apply_pops : (i : ℕ) (cs : List Capture) (t : ScopeStack) → AllApply t (popped_each i cs)
-apply_pops i [] t = tt
-apply_pops i (c ∷ cs) t = (refl, apply_pops i cs (applied (Pop (length c.scopes)) t))
+counts_popped : (a i : ℕ) (cs : List Capture) → Counts a a (popped_each i cs)
+counts_popped a i [] = counts_nothing a
+counts_popped a i (c ∷ cs) = λ r k e. let x = counts_popped a i cs (replayed r (i, Pop (length c.scopes))) k e in ((refl, x.0), x.1)
 
-places_apply : (places : List ℕ) (cs : List Capture) (t : ScopeStack) → AllApply t (flat_map (captures_at cs) places)
-places_apply [] cs t = tt
-places_apply (i ∷ places) cs t =
-    apply-onto (captures_at cs i) (flat_map (captures_at cs) places) t
-    (apply-onto (popped_each i (filter (ends_at i) cs)) (pushes i (over (starts_at i) cs)) t (apply_pops i (filter (ends_at i) cs) t) (λ t1. apply-pushes i (over (starts_at i) cs) t1))
-    (λ t2. places_apply places cs t2)
+places_count : (a : ℕ) (places : List ℕ) (cs : List Capture) → Counts a a (flat_map (captures_at cs) places)
+places_count a [] cs = counts_nothing a
+places_count a (i ∷ places) cs =
+    counts_then a a a (captures_at cs i) (flat_map (captures_at cs) places)
+    (counts_then a a a (popped_each i (filter (ends_at i) cs)) (pushes i (over (starts_at i) cs)) (counts_popped a i (filter (ends_at i) cs)) (counts_pushes a i (over (starts_at i) cs)))
+    (places_count a places cs)
 
-pub captures_apply : (s e : ℕ) (cs : List Capture) (t : ScopeStack) → AllApply t (capture_operations s e cs)
-captures_apply s e cs t = places_apply (range_with_len s (e - s + 1)) cs t
+-- captures clear nothing and put nothing back
+pub captures_count : (a s e : ℕ) (cs : List Capture) → Counts a a (capture_operations s e cs)
+captures_count a s e cs = places_count a (range_with_len s (e - s + 1)) cs

@@ -1,13 +1,19 @@
 -- What the reader chooses stands in the line.
-use Rattle.std.proofs.Common.{◌≡◌, ℕ, List, map, sym, ◌∙◌, ap}
+use Rattle.std.proofs.Common.{◌≡◌, ℕ, true, List, [], map, Option, Some, None, refl, sym, ◌∙◌, ap}
+use Rattle.std.specs.Option.{option_map_or}
 use Rattle.std.specs.Str.{IsUtf8}
 use Rattle.syntect_parsing.specs.Engine.{dialect}
-use Rattle.syntect_parsing.specs.Chain.{Member}
-use Rattle.syntect_parsing.specs.Turn.{live, winner}
+use Rattle.syntect_parsing.specs.Chain.{Member, chain, last}
+use Rattle.syntect_parsing.specs.Turn.{Live, Take, End, live, winner, trimmed}
 use Rattle.syntect_parsing.specs.Line.{Step, step}
 use Rattle.syntect_grammar.specs.declared.syntax_set.SyntaxSet.{SyntaxSet}
 use Rattle.syntect_parsing.specs.Laws.{FindsInText}
-use Rattle.syntect_parsing.specs.Candidates.{seen, chosen, StandsChosen}
+use Rattle.syntect_parsing.specs.Refusals.{Picks}
+use Rattle.syntect_parsing.specs.Orderly.{is_orderly, IsOrderlyTurn}
+use Rattle.syntect_grammar.specs.Contexts.{context_at}
+use Rattle.syntect_contexts.specs.declared.context.Context.{Context}
+use Rattle.syntect_parsing.specs.States.{Level}
+use Rattle.syntect_parsing.specs.Candidates.{seen, chosen, live_in, StandsChosen}
 use Rattle.syntect_parsing.proofs.Places.{winner_ends, IsChoiceOnBoundary}
 use Rattle.syntect_parsing.specs.declared.position.Position.{Position}
 use Rattle.syntect_parsing.specs.declared.search.Candidate.{Candidate}
@@ -19,10 +25,45 @@ by_kind finds line u place (code.Take m) h = h
 by_kind finds line u place code.Skip h = h
 by_kind finds line u place code.End h = h
 
-pub choice_stands : FindsInText dialect → (line : List ℕ) → IsUtf8 line → (p : Position) (members : List Member) (ms : List Candidate) (c : Choice)
-    → map (seen line p.place) ms ≡ live dialect line p members → chosen line p.place c ≡ winner line p (map (seen line p.place) ms) → StandsChosen line p.place c
-choice_stands finds line u p members ms c e f =
-    by_kind finds line u p.place c (rw (f, e) (winner_ends dialect finds line u p members))
+-- the matches that a turn has to choose from are those of some members
+members_of : (set : SyntaxSet) (line : List ℕ) (p : Position) → (members : List Member) × (live_in dialect set line p ≡ live dialect line p members)
+members_of set line p = on (last p.levels)
+  where
+    within : (top : Level) (o : Option Context) → (members : List Member) × (option_map_or (λ c. live dialect line p (chain set p top c)) o [] ≡ live dialect line p members)
+    within top None = ([], refl)
+    within top (Some c) = (chain set p top c, refl)
+
+    on : (o : Option Level) → (members : List Member) × (option_map_or (λ top. option_map_or (λ c. live dialect line p (chain set p top c)) (context_at set top.context) []) o [] ≡ live dialect line p members)
+    on None = ([], refl)
+    on (Some top) = within top (context_at set top.context)
+
+pub choice_stands : FindsInText dialect → (set : SyntaxSet) (line : List ℕ) → IsUtf8 line → (p : Position) (ms : List Candidate) (c : Choice)
+    → map (seen line p.place) ms ≡ live_in dialect set line p → chosen line p.place c ≡ winner line p (map (seen line p.place) ms) → StandsChosen line p.place c
+choice_stands finds set line u p ms c e f =
+    let k = members_of set line p in
+    by_kind finds line u p.place c (rw (f, e, k.1) (winner_ends dialect finds line u p k.0))
+
+-- a match that was taken is the one that the turn picks
+module _ (set : SyntaxSet) (line : List ℕ) (p : Position) (m : Live) where
+  picked_in : (top : Level) (o : Option Context) → last p.levels ≡ Some top → context_at set top.context ≡ o
+      → winner line (trimmed p) (option_map_or (λ c. live dialect line (trimmed p) (chain set (trimmed p) top c)) o []) ≡ Take m → Picks dialect set line p m
+  picked_in top None e f w = let k : End ≡ Take m = w in cc
+  picked_in top (Some c) e f w = record { top = top; context = c; on_top = e; has_context = f; wins = w }
+
+  picked_on : (o : Option Level) → last p.levels ≡ o
+      → winner line (trimmed p) (option_map_or (λ top. option_map_or (λ c. live dialect line (trimmed p) (chain set (trimmed p) top c)) (context_at set top.context) []) o []) ≡ Take m → Picks dialect set line p m
+  picked_on None e w = let k : End ≡ Take m = w in cc
+  picked_on (Some top) e w = picked_in top (context_at set top.context) e refl w
+
+  picked : winner line (trimmed p) (live_in dialect set line (trimmed p)) ≡ Take m → Picks dialect set line p m
+  picked w = picked_on (last p.levels) refl w
+
+-- where the turn is orderly, so is the match that was taken
+pub taken_orderly : (set : SyntaxSet) (line : List ℕ) (p q : Position) (ms : List Candidate) (c : Choice) (m : Live) → q ≡ trimmed p → map (seen line q.place) ms ≡ live_in dialect set line q
+    → chosen line q.place c ≡ winner line q (map (seen line q.place) ms) → chosen line q.place c ≡ Take m → IsOrderlyTurn dialect set line p → is_orderly set q.levels m.pattern.operation ≡ true
+taken_orderly set line p q ms c m t e f g o =
+    let w : winner line q (live_in dialect set line q) ≡ Take m = ap (winner line q) (sym e) ∙ sym f ∙ g in
+    rw t (o m (picked set line p m (rw t at w)))
 
 -- what was chosen is what the step takes
 pub step_chosen : (set : SyntaxSet) (line : List ℕ) (p : Position) (ms : List Candidate) (c : Choice) (s : Step) → s ≡ step dialect set line p (winner line p (map (seen line p.place) ms))

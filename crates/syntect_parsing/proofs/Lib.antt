@@ -9,6 +9,10 @@ pub mod SearchLaws
 pub mod LevelLaws
 pub mod EmitLaws
 pub mod ReplayLaws
+pub mod StackLaws
+pub mod LeadLaws
+pub mod CountLaws
+pub mod RememberLaws
 pub mod OrderLaws
 pub mod CaptureLaws
 pub mod MarkLaws

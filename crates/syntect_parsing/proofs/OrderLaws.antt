@@ -1,8 +1,18 @@
 -- Lists of operations in order, and applied.
-use Rattle.std.proofs.Common.{ℕ, zero, suc, ◌≤◌, List, [], ◌∷◌, ◌++◌, refl, arith}
+use Rattle.std.proofs.Common.{ℕ, zero, suc, ◌==◌, ◌+◌, ◌≤◌, Bool, true, false, ◌&&◌, List, [], ◌∷◌, ◌++◌, length, Option, Some, None, arith, if◌then◌else◌}
+use Rattle.std.specs.List.{filter_map, flat_map}
 use Rattle.std.specs.Str.{IsCharBoundary}
+use Rattle.syntect_scope.specs.declared.stack.ClearAmount.{ClearAmount}
+use Rattle.syntect_grammar.specs.Contexts.{part_of}
+use Rattle.syntect_contexts.specs.Contexts.{target}
+use Rattle.syntect_contexts.specs.declared.context.ContextId.{ContextId}
+use Rattle.syntect_contexts.specs.declared.context.MatchOperation.{MatchOperation}
+use Rattle.syntect_contexts.specs.declared.context.MatchOperation.TheVariants as op
+use Rattle.syntect_grammar.specs.declared.syntax_set.SyntaxSet.{SyntaxSet}
+use Rattle.syntect_parsing.specs.Visible.{clearing, top_clearing, top_part}
+use Rattle.syntect_parsing.specs.Operations.{clears, restores, opens_below, opens_here, operations_below, operations_behind, metas, contents, opens, none, clear_nothing, top_count}
+use Rattle.syntect_parsing.specs.States.{Level}
 use Rattle.syntect_scope.specs.Stack.{applied}
-use Rattle.syntect_scope.specs.declared.stack.ScopeStack.{ScopeStack}
 use Rattle.syntect_scope.specs.declared.stack.ScopeStackOp.{ScopeStackOp}
 use Rattle.syntect_scope.specs.declared.stack.ScopeStackOp.TheVariants.{Push}
 use Rattle.syntect_scope.specs.Replay.{InOrder, AllApply, Replay, replay, replayed, pushes, pops}
@@ -27,18 +37,39 @@ pub apply-append : (xs ys : List (ℕ × ScopeStackOp)) (r : Replay) → AllAppl
 apply-append [] ys r h k = k
 apply-append (x ∷ xs) ys r h k = (h.0, apply-append xs ys (replayed r x) h.1 k)
 
-pub apply-onto : (xs ys : List (ℕ × ScopeStackOp)) (s : ScopeStack) → AllApply s xs → ((t : ScopeStack) → AllApply t ys) → AllApply s (xs ++ ys)
-apply-onto [] ys s h k = k s
-apply-onto (x ∷ xs) ys s h k = (h.0, apply-onto xs ys (applied x.1 s) h.1 k)
+pub order-clears : (text : List ℕ) (at : ℕ) (a : Option ClearAmount) → IsCharBoundary text at → InOrder text at (clears at a) at
+order-clears text at None b = omega arith
+order-clears text at (Some a) b = (omega arith, b, omega arith)
 
-pub apply-pushes : (at : ℕ) (ss : List (List ℕ)) (s : ScopeStack) → AllApply s (pushes at ss)
-apply-pushes at [] s = tt
-apply-pushes at (x ∷ ss) s = (refl, apply-pushes at ss (applied (Push x) s))
+pub order-restores : (text : List ℕ) (at : ℕ) (a : Option ClearAmount) → IsCharBoundary text at → InOrder text at (restores at a) at
+order-restores text at None b = omega arith
+order-restores text at (Some a) b = (omega arith, b, omega arith)
 
-pub apply-pops : (at n : ℕ) (s : ScopeStack) → AllApply s (pops at n)
-apply-pops at zero s = tt
-apply-pops at (suc n) s = (refl, tt)
+order-each : (text : List ℕ) (at : ℕ) (f : ContextId → List (ℕ × ScopeStackOp)) → ((id : ContextId) → InOrder text at (f id) at) → (ids : List ContextId) → InOrder text at (flat_map f ids) at
+order-each text at f h [] = omega arith
+order-each text at f h (id ∷ ids) = order-append text at at at (f id) (flat_map f ids) (h id) (order-each text at f h ids)
 
-pub apply-push-pop : (at end n : ℕ) (ss : List (List ℕ)) (s : ScopeStack) → AllApply s (pushes at ss ++ pops end n)
-apply-push-pop at end n [] s = apply-pops end n s
-apply-push-pop at end n (x ∷ ss) s = (refl, apply-push-pop at end n ss (applied (Push x) s))
+pub order-below : (text : List ℕ) (at : ℕ) (set : SyntaxSet) (levels : List Level) (o : MatchOperation) → IsCharBoundary text at → InOrder text at (operations_below at set levels o) at
+order-below text at set levels (op.Push refs) b =
+    order-each text at (opens_below at set) (λ id. order-append text at at at (clears at (clearing set id)) (pushes at (part_of (λ c. c.meta_scope) set id)) (order-clears text at (clearing set id) b) (order-pushes text at (part_of (λ c. c.meta_scope) set id) b)) (filter_map target refs)
+order-below text at set levels (op.Set refs) b = order-append text at at at (restores at (top_clearing set levels)) (pushes at (metas set refs)) (order-restores text at (top_clearing set levels) b) (order-pushes text at (metas set refs) b)
+order-below text at set levels op.Pop b = order-pops text at (length (top_part (λ c. c.meta_content_scope) set levels)) b
+order-below text at set levels op.None b = omega arith
+
+order-if : (text : List ℕ) (at : ℕ) (c : Bool) (ops : List (ℕ × ScopeStackOp)) → InOrder text at ops at → InOrder text at (if c then [] else ops) at
+order-if text at true ops h = omega arith
+order-if text at false ops h = h
+
+pub order-behind : (text : List ℕ) (at : ℕ) (set : SyntaxSet) (levels : List Level) (o : MatchOperation) → IsCharBoundary text at → InOrder text at (operations_behind at set levels o) at
+order-behind text at set levels (op.Push refs) b =
+    order-if text at (none (contents set refs)) (pops at (length (metas set refs)) ++ pushes at (opens set refs))
+    (order-append text at at at (pops at (length (metas set refs))) (pushes at (opens set refs)) (order-pops text at (length (metas set refs)) b) (order-pushes text at (opens set refs) b))
+order-behind text at set levels (op.Set refs) b =
+    let n : ℕ = length (metas set refs) + top_count set levels in
+    order-if text at (none (contents set refs) && ((top_count set levels == 0) && clear_nothing set (filter_map target refs))) (pops at n ++ flat_map (opens_here at set) (filter_map target refs))
+    (order-append text at at at (pops at n) (flat_map (opens_here at set) (filter_map target refs)) (order-pops text at n b)
+    (order-each text at (opens_here at set) (λ id. order-append text at at at (clears at (clearing set id)) (pushes at (part_of (λ c. c.meta_scope ++ c.meta_content_scope) set id)) (order-clears text at (clearing set id) b) (order-pushes text at (part_of (λ c. c.meta_scope ++ c.meta_content_scope) set id) b)) (filter_map target refs)))
+order-behind text at set levels op.Pop b =
+    let n : ℕ = length (top_part (λ c. c.meta_scope) set levels) in
+    order-append text at at at (pops at n) (restores at (top_clearing set levels)) (order-pops text at n b) (order-restores text at (top_clearing set levels) b)
+order-behind text at set levels op.None b = omega arith

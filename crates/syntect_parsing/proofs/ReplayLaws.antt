@@ -34,6 +34,14 @@ at_op mem r i b st st' op e h = record {
   count = h.count;
 }
 
+-- one operation on any stack
+pub at_applied : (r : Replay) (i : ℕ) (b : List (List (List ℕ))) (t : ScopeStack) (op : ScopeStackOp) → IsAt r i b t → IsAt (replayed r (i, op)) i b (applied op t)
+at_applied r i b t op h = record {
+  before = rw h.before (none_left b i _ h.count);
+  stack = ap (applied op) h.stack;
+  count = h.count;
+}
+
 pub at_pushes : (mem : List (List (List ℕ))) (r : Replay) (i : ℕ) (b : List (List (List ℕ))) (st ss : List (List ℕ)) → At mem r i b st → At mem (replay (pushes i ss) r) i b (st ++ ss)
 at_pushes mem r i b st [] h = rw (append-nil st) h
 at_pushes mem r i b st (s ∷ ss) h =

@@ -7,11 +7,14 @@ use Rattle.syntect_scope.specs.declared.stack.ScopeStackOp.{ScopeStackOp}
 use Rattle.syntect_scope.specs.Replay.{InOrder, AllApply, before_text, replay, pushes}
 use Rattle.syntect_parsing.specs.Engine.{dialect}
 use Rattle.syntect_parsing.specs.Scopes.{Scopes}
-use Rattle.syntect_parsing.specs.Stacks.{IsAt, onto, stack_of}
-use Rattle.syntect_parsing.specs.Line.{turn, Reads, ends, goes, Refuses, now, later, in_turn, at_start, stack_before, first_push, HasPlainStart}
+use Rattle.syntect_parsing.specs.Stacks.{IsAt, Remembers, onto, stack_of}
+use Rattle.syntect_scope.specs.declared.stack.ScopeStack.{ScopeStack}
+use Rattle.syntect_parsing.specs.Orderly.{IsOrderlyTurn, IsOrderlyLine}
+use Rattle.syntect_parsing.proofs.CountLaws.{counts_pushes}
+use Rattle.syntect_parsing.specs.Line.{turn, Reads, ends, goes, Refuses, now, later, Reaches, here, further, in_turn, at_start, stack_before, first_push, HasPlainStart}
 use Rattle.syntect_parsing.specs.Meaning.{Accepts, MayRefuse}
 use Rattle.syntect_parsing.specs.Step.{MakesStep, EndsLine, RefusesTurn}
-use Rattle.syntect_parsing.proofs.OrderLaws.{order-append, order-pushes, apply-append, apply-pushes}
+use Rattle.syntect_parsing.proofs.OrderLaws.{order-append, order-pushes, apply-append}
 use Rattle.syntect_parsing.proofs.ReplayLaws.{replay-append, at_onto}
 use Rattle.syntect_grammar.specs.declared.syntax_set.SyntaxSet.{SyntaxSet}
 use Rattle.syntect_parsing.specs.declared.position.Position.{Position}
@@ -27,10 +30,20 @@ pub record ReadSoFar (set : SyntaxSet) (line : List ℕ) (old : Standing) (p : P
   pub boundary : IsCharBoundary line p.place
   pub order : InOrder line 0 ops p.place
   pub begins : (rest : List (ℕ × ScopeStackOp)) × (ops ≡ pushes 0 (first_push set old) ++ rest)
-  pub apply : HasPlainStart set old → AllApply (stack_before set old) ops
-  pub shown : HasPlainStart set old → IsAt (replay ops (before_text (stack_before set old))) p.place bytes (stack_of set p.levels)
+  pub apply : (stack : ScopeStack) → Remembers set old.levels stack → AllApply stack ops × Remembers set p.levels (replay ops (before_text stack)).stack
+  pub orderly : IsOrderlyLine dialect set line old → (q : Position) → Reaches dialect set line p q → IsOrderlyTurn dialect set line q
+  pub shown : HasPlainStart set old → IsOrderlyLine dialect set line old → IsAt (replay ops (before_text (stack_before set old))) p.place bytes (stack_of set p.levels)
   pub reads : (rest : List Scopes) (after : Standing) (n : ℕ) → Reads dialect set line p rest after n → (m : ℕ) × Reads dialect set line (at_start old) (bytes ++ rest) after m
   pub refuses : (e : ParsingError) (n : ℕ) → Refuses dialect set line p e n → (m : ℕ) × Refuses dialect set line (at_start old) e m
+
+-- what the first line pushes applies anywhere
+first_applies : (set : SyntaxSet) (state : Standing) (stack : ScopeStack) → Remembers set state.levels stack
+    → AllApply stack (pushes 0 (first_push set state)) × Remembers set state.levels (replay (pushes 0 (first_push set state)) (before_text stack)).stack
+first_applies set state stack h =
+    let n : ℕ = length stack.clear_stack in
+    let z : length stack.clear_stack ≡ n + 0 = omega arith in
+    let x = counts_pushes n 0 (first_push set state) (before_text stack) 0 z in
+    (x.0, omega (arith, x.1, h))
 
 pub so_far-start : (set : SyntaxSet) (line : List ℕ) (state : Standing) → IsUtf8 line → ReadSoFar set line state (at_start state) (pushes 0 (first_push set state))
 so_far-start set line state u = record {
@@ -40,8 +53,9 @@ so_far-start set line state u = record {
   boundary = IsCharBoundary-start line u;
   order = order-pushes line 0 (first_push set state) (IsCharBoundary-start line u);
   begins = ([], sym (append-nil (pushes 0 (first_push set state))));
-  apply = λ h. apply-pushes 0 (first_push set state) (stack_before set state);
-  shown = λ h.
+  apply = λ stack h. first_applies set state stack h;
+  orderly = λ o q g. o q g;
+  shown = λ h o.
       let k : IsAt (replay (pushes 0 (first_push set state)) (before_text (stack_before set state))) 0 [] (onto (stack_before set state) (first_push set state))
       = at_onto (before_text (stack_before set state)) 0 [] (stack_before set state) (first_push set state) (record { before = refl; stack = refl; count = refl }) in
       rw h at k;
@@ -50,7 +64,7 @@ so_far-start set line state u = record {
 }
 
 pub so_far-more : {set : SyntaxSet} {line : List ℕ} {state : Standing} {p q : Position} {old new : List (ℕ × ScopeStackOp)}
-    → ReadSoFar set line state p old → MakesStep set line (turn dialect set line p) p q old new → q.idle ≤ 1000 → ReadSoFar set line state q new
+    → ReadSoFar set line state p old → MakesStep (IsOrderlyTurn dialect set line p) set line (turn dialect set line p) p q old new → q.idle ≤ 1000 → ReadSoFar set line state q new
 so_far-more {set} {line} {state} {p} {q} {old} {new} s t few = record {
   bytes = s.bytes ++ t.bytes;
   few = few;
@@ -58,8 +72,12 @@ so_far-more {set} {line} {state} {p} {q} {old} {new} s t few = record {
   boundary = t.boundary;
   order = rw t.added (order-append line 0 p.place q.place old t.made s.order t.order);
   begins = (s.begins.0 ++ t.made, t.added ∙ ap (λ (l : List (ℕ × ScopeStackOp)). l ++ t.made) s.begins.1 ∙ append_assoc (pushes 0 (first_push set state)) s.begins.0 t.made);
-  apply = λ h. rw t.added (apply-append old t.made (before_text (stack_before set state)) (s.apply h) (rw (s.shown h).stack t.apply));
-  shown = λ h. rw (t.added, replay-append old t.made) (t.shows (replay old (before_text (stack_before set state))) s.bytes (s.shown h));
+  apply = λ stack h.
+      let a = s.apply stack h in
+      let b = t.apply (replay old (before_text stack)) a.1 in
+      rw (t.added, replay-append old t.made) (apply-append old t.made (before_text stack) a.0 b.0, b.1);
+  orderly = λ o r g. s.orderly o r (further t.goes g);
+  shown = λ h o. rw (t.added, replay-append old t.made) (t.shows (s.orderly o p here) (replay old (before_text (stack_before set state))) s.bytes (s.shown h o));
   reads = λ rest after n h. rw append_assoc (s.reads (t.bytes ++ rest) after (n + 1) (goes t.goes h));
   refuses = λ e n h. s.refuses e (n + 1) (later t.goes h);
 }
@@ -76,8 +94,8 @@ so_far-end {set} {line} {state} {p} {q} {old} {new} s t n =
       means = record {
         order = rw t.unchanged (rw (append-nil old) at (order-append line 0 p.place (length line) old [] s.order s.within));
         begins = rw t.unchanged s.begins;
-        apply = λ h. rw t.unchanged (s.apply h);
-        shows = λ h. rw (t.unchanged, t.same) (t.shows (replay old (before_text (stack_before set state))) s.bytes (s.shown h));
+        apply = λ stack h. rw (t.unchanged, t.same) (s.apply stack h);
+        shows = λ h o. rw (t.unchanged, t.same) (t.shows (replay old (before_text (stack_before set state))) s.bytes (s.shown h o));
         begun = refl;
       };
     }

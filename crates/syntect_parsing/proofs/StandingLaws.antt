@@ -6,7 +6,10 @@ use Rattle.syntect_parsing.specs.Engine.{Engine}
 use Rattle.syntect_grammar.specs.Contexts.{context_at, part_of}
 use Rattle.syntect_parsing.specs.Chain.{chain, last, prototypes_in}
 use Rattle.syntect_parsing.specs.Turn.{Choice, Take, Skip, End, live, missing, refusal, winner, trimmed, without_last, position_after, char_len}
-use Rattle.syntect_parsing.specs.Scopes.{Scopes, open_scopes, base, scopes_at, scopes_passed}
+use Rattle.syntect_parsing.specs.Scopes.{Scopes, scopes_at, scopes_passed}
+use Rattle.syntect_parsing.specs.Visible.{visible, visible_base}
+use Rattle.syntect_parsing.specs.Open.{open_scopes, base, ClearsNothing}
+use Rattle.syntect_parsing.proofs.StackLaws.{open_is_visible}
 use Rattle.syntect_parsing.specs.Line.{Step, Goes, Ends, Refused, turn, turn_on, turn_in, step, unless_refused, Reads, ends, goes, Answer, Answers, accepts, refuses, AnswersAll, none, one_more, at_start, start}
 use Rattle.syntect_parsing.specs.Refusals.{IsClosed, IsNeverLeft, stays}
 use Rattle.syntect_parsing.specs.Standing.{HaveScopes, GiveScopes, BytesHaveScopes}
@@ -38,7 +41,7 @@ have_each : (f : ℕ → Scopes) (places : List ℕ) → ((n : ℕ) → f n ≢ 
 have_each f [] h = tt
 have_each f (n ∷ places) h = (h n, have_each f places h)
 
-module _ (engine : Engine) (set : SyntaxSet) (id : ContextId) (closed : IsClosed set) (left : IsNeverLeft set id)
+module _ (engine : Engine) (set : SyntaxSet) (id : ContextId) (closed : IsClosed set) (left : IsNeverLeft set id) (clear : ClearsNothing set)
     (some : part_of (λ c. c.meta_scope ++ c.meta_content_scope) set id ≢ []) (line : List ℕ) where
   abbrev scopes_of : Level → Scopes
   scopes_of l = part_of (λ c. c.meta_scope ++ c.meta_content_scope) set l.context
@@ -52,6 +55,12 @@ module _ (engine : Engine) (set : SyntaxSet) (id : ContextId) (closed : IsClosed
   base_some levels op.Pop s h = some_append (open_scopes set (without_last levels)) _ (open_some (without_last levels) (less set id levels s (λ x e. not_so set id false refl (h x e))))
   base_some levels op.None s h = open_some levels s
 
+  visible_some : (levels : List Level) → Stands set id levels → visible set levels ≢ []
+  visible_some levels s = rw (open_is_visible set levels clear).0 (open_some levels s)
+
+  visible_base_some : (levels : List Level) (o : MatchOperation) → Stands set id levels → ((x : Level) → levels ≡ x ∷ [] → stays o ≡ true) → visible_base set levels o ≢ []
+  visible_base_some levels o s h = rw ((open_is_visible set levels clear).1 o) (base_some levels o s h)
+
   abbrev Shows : Step → Type 0
   Shows (Goes bytes q) = HaveScopes bytes
   Shows (Ends bytes after) = HaveScopes bytes
@@ -64,12 +73,12 @@ module _ (engine : Engine) (set : SyntaxSet) (id : ContextId) (closed : IsClosed
   shows_step : (p : Position) (top : Level) (c : Context) (choice : Choice) → Stands set id p.levels → last p.levels ≡ Some top → context_at set top.context ≡ Some c
       → winner line (trimmed p) (live engine line (trimmed p) (chain set (trimmed p) top c)) ≡ choice → Shows (step engine set line (trimmed p) choice)
   shows_step p top c (Take m) s e f w =
-      let below : base set p.levels m.pattern.operation ≢ [] = base_some p.levels m.pattern.operation s (stay_there engine set id closed left line p top c m s e f w) in
+      let below : visible_base set p.levels m.pattern.operation ≢ [] = visible_base_some p.levels m.pattern.operation s (stay_there engine set id closed left line p top c m s e f w) in
       shows_unless (refusal set m.pattern) (Goes (scopes_passed engine set p.levels p.place m) (position_after set line (trimmed p) m))
-      (have_append _ _ (have_many (m.start - p.place) (open_scopes set p.levels) (open_some p.levels s))
-      (have_each (scopes_at engine (base set p.levels m.pattern.operation) m) (range_with_len m.start (m.end - m.start)) (λ n. some_append (base set p.levels m.pattern.operation ++ m.pattern.scope) _ (some_append (base set p.levels m.pattern.operation) m.pattern.scope below))))
-  shows_step p top c Skip s e f w = have_many (char_len line p.place) (open_scopes set p.levels) (open_some p.levels s)
-  shows_step p top c End s e f w = have_many (length line - p.place) (open_scopes set p.levels) (open_some p.levels s)
+      (have_append _ _ (have_many (m.start - p.place) (visible set p.levels) (visible_some p.levels s))
+      (have_each (scopes_at engine (visible_base set p.levels m.pattern.operation) m) (range_with_len m.start (m.end - m.start)) (λ n. some_append (visible_base set p.levels m.pattern.operation ++ m.pattern.scope) _ (some_append (visible_base set p.levels m.pattern.operation) m.pattern.scope below))))
+  shows_step p top c Skip s e f w = have_many (char_len line p.place) (visible set p.levels) (visible_some p.levels s)
+  shows_step p top c End s e f w = have_many (length line - p.place) (visible set p.levels) (visible_some p.levels s)
 
   shows_in : (p : Position) (top : Level) (o : Option Context) → Stands set id p.levels → last p.levels ≡ Some top → context_at set top.context ≡ o → Shows (turn_in engine set line (trimmed p) top o)
   shows_in p top None s e f = tt
@@ -78,7 +87,7 @@ module _ (engine : Engine) (set : SyntaxSet) (id : ContextId) (closed : IsClosed
       (shows_step p top c (winner line (trimmed p) (live engine line (trimmed p) (chain set (trimmed p) top c))) s e f refl)
 
   shows_on : (p : Position) (o : Option Level) → Stands set id p.levels → last p.levels ≡ o → Shows (turn_on engine set line (trimmed p) o)
-  shows_on p None s e = have_many (length line - p.place) (open_scopes set p.levels) (open_some p.levels s)
+  shows_on p None s e = have_many (length line - p.place) (visible set p.levels) (visible_some p.levels s)
   shows_on p (Some top) s e = shows_in p top (context_at set top.context) s e refl
 
   shows_turn : (p : Position) → Stands set id p.levels → Shows (turn engine set line p)
@@ -92,12 +101,12 @@ module _ (engine : Engine) (set : SyntaxSet) (id : ContextId) (closed : IsClosed
       let k : HaveScopes here = rw f at (shows_turn p s) in
       have_append here rest k (have_read q rest after i t h)
 
-module _ (engine : Engine) (set : SyntaxSet) (id : ContextId) (closed : IsClosed set) (left : IsNeverLeft set id)
+module _ (engine : Engine) (set : SyntaxSet) (id : ContextId) (closed : IsClosed set) (left : IsNeverLeft set id) (clear : ClearsNothing set)
     (some : part_of (λ c. c.meta_scope ++ c.meta_content_scope) set id ≢ []) where
   give_one : (line : List ℕ) (state next : Standing) (answer : Answer) (others : List Answer) → Answers engine set line state answer next → Stands set id state.levels
       → (Stands set id next.levels → GiveScopes others) → GiveScopes (answer ∷ others)
   give_one line state next answer others (accepts {bytes = bytes} {turns = n} h) s more =
-      (have_read engine set id closed left some line (at_start state) bytes next n s h.reads, more (read_so engine set id closed left line (at_start state) bytes next n s h.reads))
+      (have_read engine set id closed left clear some line (at_start state) bytes next n s h.reads, more (read_so engine set id closed left line (at_start state) bytes next n s h.reads))
   give_one line state next answer others (refuses h) s more = more s
 
   give_all : (lines : List (List ℕ)) (state after : Standing) (answers : List Answer) → Stands set id state.levels → AnswersAll engine set lines state answers after → GiveScopes answers
@@ -106,4 +115,4 @@ module _ (engine : Engine) (set : SyntaxSet) (id : ContextId) (closed : IsClosed
       give_one line state next answer others a s (λ t. give_all rest next after others t r)
 
 pub bytes_have_scopes : BytesHaveScopes
-bytes_have_scopes engine set id lines answers state closed left some run = give_all engine set id closed left some lines (start id) state answers (starts_so set id left) run
+bytes_have_scopes engine set id lines answers state closed left clear some run = give_all engine set id closed left clear some lines (start id) state answers (starts_so set id left) run

@@ -1,17 +1,18 @@
 -- What a match that is taken makes.
-use Rattle.std.proofs.Common.{◌≡◌, ℕ, List, ◌++◌, None, refl}
+use Rattle.std.proofs.Common.{◌≡◌, ℕ, List, ◌++◌, None, refl, true}
 use Rattle.syntect_scope.specs.declared.stack.ScopeStackOp.{ScopeStackOp}
-use Rattle.syntect_parsing.specs.Stacks.{stack_of}
 use Rattle.syntect_parsing.specs.Engine.{dialect}
 use Rattle.syntect_parsing.specs.Turn.{Live, Take, refusal, position_after}
 use Rattle.syntect_parsing.specs.Scopes.{captures, scopes_passed}
-use Rattle.syntect_parsing.specs.Operations.{operations, parts_of}
+use Rattle.syntect_parsing.specs.Operations.{operations_of}
+use Rattle.syntect_parsing.specs.Orderly.{is_orderly}
+use Rattle.syntect_parsing.proofs.RememberLaws.{take_applies}
 use Rattle.syntect_parsing.specs.Line.{step}
 use Rattle.syntect_parsing.specs.Laws.{StandsIn}
 use Rattle.syntect_contexts.specs.Errors.{MayBe}
 use Rattle.syntect_parsing.specs.Step.{MakesStep, RefusesStep}
 use Rattle.syntect_parsing.proofs.CaptureLaws.{AreLaidOut, EndOnBoundaries}
-use Rattle.syntect_parsing.proofs.ShowLaws.{take_shows, operations_in_order, operations_apply}
+use Rattle.syntect_parsing.proofs.ShowLaws.{take_shows, order-match}
 use Rattle.syntect_grammar.specs.declared.syntax_set.SyntaxSet.{SyntaxSet}
 use Rattle.syntect_parsing.specs.declared.position.Position.{Position}
 use Rattle.syntect_contexts.specs.declared.error.ParsingError.{ParsingError}
@@ -19,16 +20,16 @@ use Rattle.syntect_contexts.specs.declared.error.ParsingError.TheVariants as err
 
 pub take_makes : (set : SyntaxSet) (line : List ℕ) (p q : Position) (m : Live) (old new : List (ℕ × ScopeStackOp)) → StandsIn line p.place m.start m.end
     → AreLaidOut m.start m.end (captures dialect m) → EndOnBoundaries line (captures dialect m)
-    → refusal set m.pattern ≡ None → new ≡ old ++ operations m.start m.end m.pattern.scope (captures dialect m) (parts_of set p.levels m.pattern.operation) → q ≡ position_after set line p m
-    → MakesStep set line (step dialect set line p (Take m)) p q old new
+    → refusal set m.pattern ≡ None → new ≡ old ++ operations_of m.start m.end m.pattern.scope (captures dialect m) set p.levels m.pattern.operation → q ≡ position_after set line p m
+    → MakesStep (is_orderly set p.levels m.pattern.operation ≡ true) set line (step dialect set line p (Take m)) p q old new
 take_makes set line p q m old new s laid on e f g = rw g (record {
   bytes = scopes_passed dialect set p.levels p.place m;
-  made = operations m.start m.end m.pattern.scope (captures dialect m) (parts_of set p.levels m.pattern.operation);
+  made = operations_of m.start m.end m.pattern.scope (captures dialect m) set p.levels m.pattern.operation;
   goes = rw e refl;
   added = f;
-  shows = λ r before h. take_shows set line p.levels p.place m r before laid s.from s.ordered h;
-  order = operations_in_order line p.place m.start m.end m.pattern.scope (captures dialect m) (parts_of set p.levels m.pattern.operation) s.from s.ordered s.starts s.ends on;
-  apply = operations_apply m.start m.end m.pattern.scope (captures dialect m) (parts_of set p.levels m.pattern.operation) (stack_of set p.levels);
+  shows = λ o r before h. take_shows set line p.levels p.place m r before laid s.from s.ordered o h;
+  order = order-match line p.place m.start m.end m.pattern.scope (captures dialect m) set p.levels m.pattern.operation s.from s.ordered s.starts s.ends on;
+  apply = take_applies set line m m.start m.end m.pattern.scope (captures dialect m) p.levels m.pattern.operation;
   within = s.within;
   boundary = s.ends;
 })

@@ -6,7 +6,8 @@ use Rattle.syntect_scope.specs.declared.stack.ScopeStackOp.{ScopeStackOp}
 use Rattle.syntect_parsing.specs.Engine.{dialect}
 use Rattle.syntect_parsing.specs.Chain.{last}
 use Rattle.syntect_parsing.specs.Turn.{Skip, End, char_len, skipped, trimmed}
-use Rattle.syntect_parsing.specs.Scopes.{open_scopes}
+use Rattle.syntect_parsing.specs.Visible.{visible}
+use Rattle.syntect_parsing.specs.Orderly.{IsOrderlyTurn}
 use Rattle.syntect_parsing.specs.Line.{Step, step, turn, turn_on}
 use Rattle.syntect_parsing.specs.Step.{MakesStep, EndsLine, Turns, RefusesStep, RefusesTurn}
 use Rattle.syntect_parsing.proofs.Places.{past_here}
@@ -26,15 +27,16 @@ module _ (set : SyntaxSet) (line : List ℕ) (p q : Position) (t : q ≡ trimmed
   pub turn_refused_by : (s : Step) (e : ParsingError) → turn_on dialect set line q (last q.levels) ≡ s → RefusesStep s e → RefusesTurn dialect set line p e
   turn_refused_by s e k h = rw (turn_is, k) h
 
-  pub turn_makes : (s : Step) (next : Position) (old new : List (ℕ × ScopeStackOp)) → turn_on dialect set line q (last q.levels) ≡ s → MakesStep set line s q next old new → Turns dialect set line p next old new true
-  turn_makes s next old new k h =
-      let m : MakesStep set line s (trimmed p) next old new = rw t at h in
+  pub turn_makes : (orderly : Type 0) (s : Step) (next : Position) (old new : List (ℕ × ScopeStackOp)) → (IsOrderlyTurn dialect set line p → orderly) → turn_on dialect set line q (last q.levels) ≡ s → MakesStep orderly set line s q next old new
+      → Turns dialect set line p next old new true
+  turn_makes orderly s next old new so k h =
+      let m : MakesStep orderly set line s (trimmed p) next old new = rw t at h in
       record {
         bytes = m.bytes;
         made = m.made;
         goes = turn_is ∙ k ∙ m.goes;
         added = m.added;
-        shows = m.shows;
+        shows = λ o. m.shows (so o);
         order = m.order;
         apply = m.apply;
         within = m.within;
@@ -43,7 +45,7 @@ module _ (set : SyntaxSet) (line : List ℕ) (p q : Position) (t : q ≡ trimmed
 
   pub turn_ends : (ops : List (ℕ × ScopeStackOp)) → p.place ≤ length line → turn_on dialect set line q (last q.levels) ≡ step dialect set line q End → EndsLine dialect set line p q ops ops
   turn_ends ops l k = record {
-    bytes = replicate (length line - q.place) (open_scopes set q.levels);
+    bytes = replicate (length line - q.place) (visible set q.levels);
     ends = turn_is ∙ k;
     same = ap (λ (x : Position). x.levels) t;
     unchanged = refl;
@@ -51,15 +53,15 @@ module _ (set : SyntaxSet) (line : List ℕ) (p q : Position) (t : q ≡ trimmed
   }
 
 pub skip_makes : (set : SyntaxSet) (line : List ℕ) (p : Position) (ops : List (ℕ × ScopeStackOp)) → IsUtf8 line → IsCharBoundary line p.place → p.place + char_len line p.place < length line
-    → MakesStep set line (step dialect set line p Skip) p (skipped line p) ops ops
+    → MakesStep (Unit {0}) set line (step dialect set line p Skip) p (skipped line p) ops ops
 skip_makes set line p ops u b l = record {
-  bytes = replicate (char_len line p.place) (open_scopes set p.levels);
+  bytes = replicate (char_len line p.place) (visible set p.levels);
   made = [];
   goes = refl;
   added = sym (append-nil ops);
-  shows = λ r before h. rw same at (moves_on set p.levels r p.place (p.place + char_len line p.place) before (omega arith) h);
+  shows = λ o r before h. rw same at (moves_on set p.levels r p.place (p.place + char_len line p.place) before (omega arith) h);
   order = omega arith;
-  apply = tt;
+  apply = λ r h. (tt, h);
   within = omega arith;
   boundary = past_here line p.place u b l;
 }

@@ -1,13 +1,17 @@
 -- Members of a chain and their matches, as the reader of a line keeps them.
 use Rattle.std.specs.Prelude.{ℕ, ◌+◌, ◌-◌, ◌<◌, ◌==◌, List, [], ◌∷◌, length, Option, Some, unwrap_or, if◌then◌else◌}
-use Rattle.std.specs.Option.{option_copied}
+use Rattle.std.specs.Option.{option_copied, option_map_or}
 use Rattle.syntect_pattern.specs.Pattern.{pattern_found}
 use Rattle.syntect_scope.specs.declared.stack.ScopeStackOp.{ScopeStackOp}
 use Rattle.syntect_scope.specs.declared.stack.ScopeStackOp.TheVariants.{Pop}
 use Rattle.syntect_scope.specs.Replay.{pushes}
 use Rattle.syntect_contexts.specs.Substitution.{Opening}
-use Rattle.syntect_parsing.specs.Chain.{Member}
-use Rattle.syntect_parsing.specs.Turn.{Live, char_len}
+use Rattle.syntect_parsing.specs.Chain.{Member, chain, last}
+use Rattle.syntect_parsing.specs.Engine.{Engine}
+use Rattle.syntect_grammar.specs.Contexts.{context_at}
+use Rattle.syntect_grammar.specs.declared.syntax_set.SyntaxSet.{SyntaxSet}
+use Rattle.syntect_parsing.specs.declared.position.Position.{Position}
+use Rattle.syntect_parsing.specs.Turn.{Live, char_len, live}
 use Rattle.syntect_parsing.specs.Scopes.{Scopes, Capture}
 use Rattle.syntect_parsing.specs.Laws.{StandsIn}
 use Rattle.syntect_parsing.specs.Turn as turn
@@ -42,6 +46,11 @@ abbrev pub chosen : List ℕ → ℕ → Choice → turn.Choice
 chosen line place (code.Take c) = turn.Take (seen line place c.now)
 chosen line place code.Skip = turn.Skip
 chosen line place code.End = turn.End
+
+-- the matches that a turn has to choose from, once cuts are dropped
+abbrev pub live_in : Engine → SyntaxSet → List ℕ → Position → List Live
+live_in engine set line p =
+    option_map_or (λ top. option_map_or (λ c. live engine line p (chain set p top c)) (context_at set top.context) []) (last p.levels) []
 
 -- that match as the opening match of the levels that it opens
 abbrev pub opening_by : List ℕ → ℕ → Candidate → Opening

@@ -6,15 +6,13 @@ use Rattle.syntect_pattern.specs.Nesting.{Span, AreNested, LiesIn}
 use Rattle.syntect_parsing.specs.Engine.{Engine}
 use Rattle.syntect_contexts.specs.Substitution.{Groups}
 use Rattle.syntect_parsing.specs.Turn.{group_at, list_of}
-use Rattle.syntect_scope.specs.Stack.{plain}
-use Rattle.syntect_parsing.specs.Scopes.{Scopes, open_scopes}
-use Rattle.syntect_parsing.specs.Stacks.{stack_of}
+use Rattle.syntect_parsing.specs.Scopes.{Scopes}
 use Rattle.syntect_parsing.specs.Line.{Answer, Answers, AnswersAll, ReadsLine, RefusesLine, HasPlainStart}
 use Rattle.syntect_contexts.specs.declared.context.Pattern.{Pattern}
 use Rattle.syntect_contexts.specs.declared.context.Pattern.TheVariants.{Match, Include}
 use Rattle.syntect_contexts.specs.declared.context.Context.{Context}
 use Rattle.syntect_grammar.specs.declared.syntax_set.SyntaxSet.{SyntaxSet}
-use Rattle.syntect_parsing.specs.States.{Level, Standing}
+use Rattle.syntect_parsing.specs.States.{Standing}
 use Rattle.syntect_contexts.specs.declared.error.ParsingError.{ParsingError}
 
 -- No line is both accepted and refused.
@@ -71,10 +69,6 @@ LaysGroupsOut engine = (pattern text : List ℕ) (place : ℕ) (groups : Groups)
 abbrev pub StackIsOpen : Type 0
 StackIsOpen = (engine : Engine) (set : SyntaxSet) (lines : List (List ℕ)) (state after : Standing) (answers : List Answer)
     → HasPlainStart set state → AnswersAll engine set lines state answers after → HasPlainStart set after
-
--- The stack of levels has their open scopes, and remembers nothing.
-abbrev pub StackHasOpen : Type 0
-StackHasOpen = (set : SyntaxSet) (levels : List Level) → stack_of set levels ≡ plain (open_scopes set levels)
 
 -- ---- how many turns a line takes ----
 

@@ -6,7 +6,8 @@ use Rattle.syntect_parsing.specs.Engine.{Engine}
 use Rattle.syntect_grammar.specs.Contexts.{context_at, part_of}
 use Rattle.syntect_parsing.specs.Chain.{chain, prototypes_in, last}
 use Rattle.syntect_parsing.specs.Turn.{Choice, Take, Skip, End, live, winner, missing, refusal, position_after, skipped, trimmed, char_len}
-use Rattle.syntect_parsing.specs.Scopes.{Scopes, open_scopes, scopes_passed}
+use Rattle.syntect_parsing.specs.Scopes.{Scopes, scopes_passed}
+use Rattle.syntect_parsing.specs.Visible.{visible}
 use Rattle.syntect_parsing.specs.Stacks.{onto, stack_of}
 use Rattle.syntect_scope.specs.Stack.{plain}
 use Rattle.syntect_scope.specs.declared.stack.ScopeStack.{ScopeStack}
@@ -35,7 +36,7 @@ at_start s = record { levels = s.levels; cuts = s.cuts; place = 0; last = None; 
 
 -- the line ends, the bytes left have the open scopes
 abbrev pub ended : SyntaxSet → List ℕ → Position → Step
-ended set line p = Ends (replicate (length line - p.place) (open_scopes set p.levels)) (state_left p)
+ended set line p = Ends (replicate (length line - p.place) (visible set p.levels)) (state_left p)
 
 -- a step, if nothing refuses it
 abbrev pub unless_refused : Option ParsingError → Step → Step
@@ -52,7 +53,7 @@ module _ (engine : Engine) where
   abbrev pub step : SyntaxSet → List ℕ → Position → Choice → Step
   step set line p (Take m) =
       unless_refused (refusal set m.pattern) (Goes (scopes_passed engine set p.levels p.place m) (position_after set line p m))
-  step set line p Skip = Goes (replicate (char_len line p.place) (open_scopes set p.levels)) (skipped line p)
+  step set line p Skip = Goes (replicate (char_len line p.place) (visible set p.levels)) (skipped line p)
   step set line p End = ended set line p
 
   -- a turn on this top level, whose context the set may lack: the chain's prototypes have to be in the set too

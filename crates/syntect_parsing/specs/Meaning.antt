@@ -1,7 +1,9 @@
 -- What a call that reads a line promises.
 use Rattle.std.specs.Prelude.{◌≡◌, ℕ, false, List, ◌++◌, length, None}
 use Rattle.syntect_scope.specs.declared.stack.ScopeStackOp.{ScopeStackOp}
-use Rattle.syntect_parsing.specs.Stacks.{IsAt}
+use Rattle.syntect_parsing.specs.Stacks.{IsAt, Remembers}
+use Rattle.syntect_scope.specs.declared.stack.ScopeStack.{ScopeStack}
+use Rattle.syntect_parsing.specs.Orderly.{IsOrderlyLine}
 use Rattle.syntect_scope.specs.Replay.{InOrder, AllApply, replay, before_text, pushes}
 use Rattle.syntect_parsing.specs.Engine.{Engine}
 use Rattle.syntect_parsing.specs.Scopes.{Scopes}
@@ -13,13 +15,14 @@ use Rattle.syntect_contexts.specs.declared.error.ParsingError.{ParsingError}
 use Rattle.syntect_contexts.specs.declared.error.ParsingError.TheVariants as error
 
 -- The operations of an accepted line are in order, and the first accepted line begins with the first content scope of
--- `__start`. Where that push makes the stack that of the levels, from the stack before the line they all apply, show at each byte the scopes that were read, and leave the
--- stack before the next line, which is that of its levels.
-pub record Means (set : SyntaxSet) (line : List ℕ) (old new : Standing) (bytes : List Scopes) (ops : List (ℕ × ScopeStackOp)) : Type 0 where
+-- `__start`. They all apply to a stack that remembers a list for each level that clears, and leave such a one. Where the
+-- first push makes the stack that of the levels and the line is orderly, from the stack before the line they show at each byte
+-- the scopes that were read, and leave the stack before the next line, which is that of its levels.
+pub record Means (engine : Engine) (set : SyntaxSet) (line : List ℕ) (old new : Standing) (bytes : List Scopes) (ops : List (ℕ × ScopeStackOp)) : Type 0 where
   pub order : InOrder line 0 ops (length line)
   pub begins : (rest : List (ℕ × ScopeStackOp)) × (ops ≡ pushes 0 (first_push set old) ++ rest)
-  pub apply : HasPlainStart set old → AllApply (stack_before set old) ops
-  pub shows : HasPlainStart set old → IsAt (replay ops (before_text (stack_before set old))) (length line) bytes (stack_before set new)
+  pub apply : (stack : ScopeStack) → Remembers set old.levels stack → AllApply stack ops × Remembers set new.levels (replay ops (before_text stack)).stack
+  pub shows : HasPlainStart set old → IsOrderlyLine engine set line old → IsAt (replay ops (before_text (stack_before set old))) (length line) bytes (stack_before set new)
   pub begun : new.first_line ≡ false
 
 -- the line is read, and the operations mean what was read
@@ -27,7 +30,7 @@ pub record Accepts (engine : Engine) (set : SyntaxSet) (line : List ℕ) (old ne
   pub bytes : List Scopes
   pub turns : ℕ
   pub reads : ReadsLine engine set line old bytes new turns
-  pub means : Means set line old new bytes ops
+  pub means : Means engine set line old new bytes ops
 
 -- want of memory, or the refusal that the reading comes to
 abbrev pub MayRefuse : Engine → SyntaxSet → List ℕ → Standing → ParsingError → Type 0

@@ -1,27 +1,21 @@
 -- The operations of a match.
-use Rattle.std.specs.Prelude.{ℕ, ◌+◌, ◌-◌, List, [], ◌∷◌, ◌++◌, length, map, filter, if◌then◌else◌, Bool, true, false, ◌&&◌, ◌==◌}
-use Rattle.std.specs.List.{filter_map, flat_map, range_with_len}
-use Rattle.std.specs.Option.{option_map_or}
+use Rattle.std.specs.Prelude.{ℕ, ◌+◌, ◌-◌, List, [], ◌∷◌, ◌++◌, length, map, filter, if◌then◌else◌, Bool, true, false, ◌&&◌, ◌==◌, Option, is_none}
+use Rattle.std.specs.List.{filter_map, flat_map, list_all, range_with_len}
+use Rattle.std.specs.Option.{option_to_list}
 use Rattle.syntect_scope.specs.declared.stack.ScopeStackOp.{ScopeStackOp}
-use Rattle.syntect_scope.specs.declared.stack.ScopeStackOp.TheVariants.{Pop}
+use Rattle.syntect_scope.specs.declared.stack.ScopeStackOp.TheVariants.{Pop, Clear, Restore}
+use Rattle.syntect_scope.specs.declared.stack.ClearAmount.{ClearAmount}
 use Rattle.syntect_scope.specs.Replay.{pushes, pops}
 use Rattle.syntect_grammar.specs.Contexts.{part_of}
 use Rattle.syntect_contexts.specs.Contexts.{target}
-use Rattle.syntect_parsing.specs.Chain.{last}
+use Rattle.syntect_parsing.specs.Visible.{clearing, top_clearing, top_part}
 use Rattle.syntect_parsing.specs.Scopes.{Scopes, Capture, longer_first}
-use Rattle.syntect_contexts.specs.declared.context.Context.{Context}
+use Rattle.syntect_contexts.specs.declared.context.ContextId.{ContextId}
 use Rattle.syntect_contexts.specs.declared.context.ContextReference.{ContextReference}
 use Rattle.syntect_contexts.specs.declared.context.MatchOperation.{MatchOperation}
 use Rattle.syntect_contexts.specs.declared.context.MatchOperation.TheVariants as op
 use Rattle.syntect_grammar.specs.declared.syntax_set.SyntaxSet.{SyntaxSet}
 use Rattle.syntect_parsing.specs.States.{Level}
-
--- what a match does to the open scopes: at its start so many are popped and these pushed, at its end the same
-pub record Parts : Type 0 where
-  pub popped : ℕ
-  pub below : Scopes
-  pub dropped : ℕ
-  pub above : Scopes
 
 -- At a place the captures that end there are popped in the order of the list, each by one operation. Then those that begin
 -- there are pushed, longer ones first.
@@ -34,12 +28,6 @@ captures_at cs place =
 abbrev pub capture_operations : ℕ → ℕ → List Capture → List (ℕ × ScopeStackOp)
 capture_operations start end cs = flat_map (captures_at cs) (range_with_len start (end - start + 1))
 
--- the scopes of a match stand on top of those that are pushed at its start, and its captures on top of them
-abbrev pub operations : ℕ → ℕ → Scopes → List Capture → Parts → List (ℕ × ScopeStackOp)
-operations start end scope captures parts =
-    pops start parts.popped ++ (pushes start parts.below ++ (pushes start scope ++ (capture_operations start end captures
-    ++ (pops end (length scope) ++ (pops end parts.dropped ++ pushes end parts.above)))))
-
 -- of the contexts that references stand for: their `meta_scope`s, their `meta_content_scope`s, and both
 abbrev pub metas : SyntaxSet → List ContextReference → Scopes
 metas set refs = flat_map (part_of (λ c. c.meta_scope) set) (filter_map target refs)
@@ -50,35 +38,64 @@ contents set refs = flat_map (part_of (λ c. c.meta_content_scope) set) (filter_
 abbrev pub opens : SyntaxSet → List ContextReference → Scopes
 opens set refs = flat_map (part_of (λ c. c.meta_scope ++ c.meta_content_scope) set) (filter_map target refs)
 
--- a part of the top level's context
-abbrev pub top_part : (Context → Scopes) → SyntaxSet → List Level → Scopes
-top_part part set levels = option_map_or (λ l. part_of part set l.context) (last levels) []
-
 abbrev pub none : Scopes → Bool
 none [] = true
 none (s ∷ ss) = false
 
--- Where no scopes come between those that the new contexts have on the match and those that they have after it, the
--- operations at the end are left out.
-abbrev pub push_parts : SyntaxSet → List ContextReference → Parts
-push_parts set refs =
-    if none (contents set refs) then record { popped = 0; below = metas set refs; dropped = 0; above = [] }
-    else record { popped = 0; below = metas set refs; dropped = length (metas set refs); above = opens set refs }
+-- no context of the list clears
+abbrev pub clear_nothing : SyntaxSet → List ContextId → Bool
+clear_nothing set ids = list_all (λ id. is_none (clearing set id)) ids
 
--- of the left context's scopes there are so many
-abbrev pub set_parts : SyntaxSet → ℕ → List ContextReference → Parts
-set_parts set left refs =
-    if none (contents set refs) && (left == 0) then record { popped = 0; below = metas set refs; dropped = 0; above = [] }
-    else record { popped = 0; below = metas set refs; dropped = length (metas set refs) + left; above = opens set refs }
+-- clearing by an amount, if there is one, and putting back what was cleared
+abbrev pub clears : ℕ → Option ClearAmount → List (ℕ × ScopeStackOp)
+clears at amount = map (λ a. (at, Clear a)) (option_to_list amount)
 
-abbrev pub parts_of : SyntaxSet → List Level → MatchOperation → Parts
-parts_of set levels (op.Push refs) = push_parts set refs
-parts_of set levels (op.Set refs) =
-    set_parts set (length (top_part (λ c. c.meta_scope) set levels) + length (top_part (λ c. c.meta_content_scope) set levels)) refs
-parts_of set levels op.Pop = record {
-  popped = length (top_part (λ c. c.meta_content_scope) set levels);
-  below = [];
-  dropped = length (top_part (λ c. c.meta_scope) set levels);
-  above = [];
-}
-parts_of set levels op.None = record { popped = 0; below = []; dropped = 0; above = [] }
+abbrev pub restores : ℕ → Option ClearAmount → List (ℕ × ScopeStackOp)
+restores at amount = map (λ a. (at, Restore)) (option_to_list amount)
+
+-- what opens a context below a match, and what opens it to stay
+abbrev pub opens_below : ℕ → SyntaxSet → ContextId → List (ℕ × ScopeStackOp)
+opens_below at set id = clears at (clearing set id) ++ pushes at (part_of (λ c. c.meta_scope) set id)
+
+abbrev pub opens_here : ℕ → SyntaxSet → ContextId → List (ℕ × ScopeStackOp)
+opens_here at set id = clears at (clearing set id) ++ pushes at (part_of (λ c. c.meta_scope ++ c.meta_content_scope) set id)
+
+-- how many scopes the top level's context put on the stack
+abbrev pub top_count : SyntaxSet → List Level → ℕ
+top_count set levels = length (top_part (λ c. c.meta_scope) set levels) + length (top_part (λ c. c.meta_content_scope) set levels)
+
+-- At a match's start, below its own scopes. A push opens its contexts; a set puts back what the context that it leaves
+-- cleared, and pushes the `meta_scope`s of its own, which don't clear yet; a pop takes the content scopes off.
+abbrev pub operations_below : ℕ → SyntaxSet → List Level → MatchOperation → List (ℕ × ScopeStackOp)
+operations_below at set levels (op.Push refs) = flat_map (opens_below at set) (filter_map target refs)
+operations_below at set levels (op.Set refs) = restores at (top_clearing set levels) ++ pushes at (metas set refs)
+operations_below at set levels op.Pop = pops at (length (top_part (λ c. c.meta_content_scope) set levels))
+operations_below at set levels op.None = []
+
+-- After a push, at the match's end: where the new contexts have content scopes, these come between their `meta_scope`s, so
+-- that they are popped and pushed anew.
+abbrev pub operations_pushed : ℕ → SyntaxSet → List ContextReference → List (ℕ × ScopeStackOp)
+operations_pushed at set refs = if none (contents set refs) then [] else pops at (length (metas set refs)) ++ pushes at (opens set refs)
+
+-- After a set: the same, with the scopes of the context that it leaves, where that one has some or a new one clears.
+abbrev pub operations_set : ℕ → SyntaxSet → ℕ → List ContextReference → List (ℕ × ScopeStackOp)
+operations_set at set left refs =
+    if none (contents set refs) && ((left == 0) && clear_nothing set (filter_map target refs)) then []
+    else pops at (length (metas set refs) + left) ++ flat_map (opens_here at set) (filter_map target refs)
+
+-- At a match's end, once its own scopes are popped.
+abbrev pub operations_behind : ℕ → SyntaxSet → List Level → MatchOperation → List (ℕ × ScopeStackOp)
+operations_behind at set levels (op.Push refs) = operations_pushed at set refs
+operations_behind at set levels (op.Set refs) = operations_set at set (top_count set levels) refs
+operations_behind at set levels op.Pop = pops at (length (top_part (λ c. c.meta_scope) set levels)) ++ restores at (top_clearing set levels)
+operations_behind at set levels op.None = []
+
+-- the scopes of a match stand on top of what is opened at its start, and its captures on top of them
+abbrev pub operations : ℕ → ℕ → Scopes → List Capture → List (ℕ × ScopeStackOp) → List (ℕ × ScopeStackOp) → List (ℕ × ScopeStackOp)
+operations start end scope captures below behind =
+    below ++ (pushes start scope ++ (capture_operations start end captures ++ (pops end (length scope) ++ behind)))
+
+-- all that a match does
+abbrev pub operations_of : ℕ → ℕ → Scopes → List Capture → SyntaxSet → List Level → MatchOperation → List (ℕ × ScopeStackOp)
+operations_of start end scope captures set levels o =
+    operations start end scope captures (operations_below start set levels o) (operations_behind end set levels o)

@@ -1,28 +1,12 @@
 -- Which scopes the bytes of a turn have.
 pub use Rattle.syntect_contexts.specs.Contexts.{Scopes}
 use Rattle.std.specs.Prelude.{ℕ, nat_le, nat_lt, ◌-◌, Bool, ◌&&◌, not, List, [], ◌∷◌, ◌++◌, map, filter, Option, Some, None, unwrap_or, replicate, if◌then◌else◌}
-use Rattle.std.specs.Option.{option_map_or}
 use Rattle.std.specs.List.{filter_map, flat_map, range_with_len}
 use Rattle.syntect_parsing.specs.Engine.{Engine}
-use Rattle.syntect_grammar.specs.Contexts.{part_of}
-use Rattle.syntect_contexts.specs.Contexts.{target}
-use Rattle.syntect_parsing.specs.Chain.{last}
-use Rattle.syntect_parsing.specs.Turn.{Live, group_at, without_last}
-use Rattle.syntect_contexts.specs.declared.context.MatchOperation.{MatchOperation}
-use Rattle.syntect_contexts.specs.declared.context.MatchOperation.TheVariants as op
+use Rattle.syntect_parsing.specs.Turn.{Live, group_at}
+use Rattle.syntect_parsing.specs.Visible.{visible, visible_base}
 use Rattle.syntect_grammar.specs.declared.syntax_set.SyntaxSet.{SyntaxSet}
 use Rattle.syntect_parsing.specs.States.{Level}
-
--- the scopes that are open at rest: of each level its `meta_scope`, then its `meta_content_scope`
-abbrev pub open_scopes : SyntaxSet → List Level → Scopes
-open_scopes set levels = flat_map (λ l. part_of (λ c. c.meta_scope ++ c.meta_content_scope) set l.context) levels
-
--- what stands below a match's own scopes
-abbrev pub base : SyntaxSet → List Level → MatchOperation → Scopes
-base set levels (op.Push refs) = open_scopes set levels ++ flat_map (part_of (λ c. c.meta_scope) set) (filter_map target refs)
-base set levels (op.Set refs) = open_scopes set levels ++ flat_map (part_of (λ c. c.meta_scope) set) (filter_map target refs)
-base set levels op.Pop = open_scopes set (without_last levels) ++ option_map_or (λ l. part_of (λ c. c.meta_scope) set l.context) (last levels) []
-base set levels op.None = open_scopes set levels
 
 -- a capture that has effect: where it stands, and its scopes
 pub record Capture : Type 0 where
@@ -68,5 +52,5 @@ module _ (engine : Engine) where
   -- the scopes of each byte that a turn with this match passes: those before the match have the open ones
   abbrev pub scopes_passed : SyntaxSet → List Level → ℕ → Live → List Scopes
   scopes_passed set levels place m =
-      replicate (m.start - place) (open_scopes set levels)
-      ++ map (scopes_at (base set levels m.pattern.operation) m) (range_with_len m.start (m.end - m.start))
+      replicate (m.start - place) (visible set levels)
+      ++ map (scopes_at (visible_base set levels m.pattern.operation) m) (range_with_len m.start (m.end - m.start))

@@ -1,10 +1,15 @@
 -- The stack of scopes while a line is read.
-use Rattle.std.specs.Prelude.{◌≡◌, ℕ, List, [], ◌++◌, length, fold}
-use Rattle.syntect_scope.specs.Stack.{plain}
+use Rattle.std.specs.Prelude.{◌≡◌, ℕ, ◌≤◌, List, [], ◌++◌, length, fold, Option, Some, None}
+use Rattle.std.specs.List.{filter_map}
+use Rattle.syntect_scope.specs.Stack.{plain, applied}
 use Rattle.syntect_scope.specs.Replay.{Replay, bytes_to}
+use Rattle.syntect_scope.specs.declared.stack.ClearAmount.{ClearAmount}
+use Rattle.syntect_scope.specs.declared.stack.ScopeStackOp.TheVariants.{Clear}
 use Rattle.syntect_scope.specs.declared.stack.ScopeStack.{ScopeStack}
 use Rattle.syntect_grammar.specs.Contexts.{part_of}
 use Rattle.syntect_contexts.specs.Contexts.{Scopes}
+use Rattle.syntect_contexts.specs.declared.context.ContextId.{ContextId}
+use Rattle.syntect_parsing.specs.Visible.{clearing}
 use Rattle.syntect_parsing.specs.States.{Level}
 use Rattle.syntect_grammar.specs.declared.syntax_set.SyntaxSet.{SyntaxSet}
 
@@ -12,13 +17,29 @@ use Rattle.syntect_grammar.specs.declared.syntax_set.SyntaxSet.{SyntaxSet}
 abbrev pub onto : ScopeStack → Scopes → ScopeStack
 onto stack scopes = record stack { scopes = stack.scopes ++ scopes }
 
--- the stack of these levels, made from the bottom: each puts its context's `meta_scope` on it, and then its
--- `meta_content_scope` (it holds the open scopes: a law)
+-- a stack without what an amount takes off it, which it remembers
+abbrev pub cleared : Option ClearAmount → ScopeStack → ScopeStack
+cleared None stack = stack
+cleared (Some amount) stack = applied (Clear amount) stack
+
+-- a context on a stack: it clears first, and then puts its `meta_scope` and its `meta_content_scope` there
+abbrev pub enter : SyntaxSet → ScopeStack → ContextId → ScopeStack
+enter set stack id = onto (cleared (clearing set id) stack) (part_of (λ c. c.meta_scope ++ c.meta_content_scope) set id)
+
+-- the stack of these levels, made from the bottom (its scopes are the visible ones: a law)
 abbrev pub stack_of : SyntaxSet → List Level → ScopeStack
-stack_of set levels = fold (λ stack l. onto stack (part_of (λ c. c.meta_scope ++ c.meta_content_scope) set l.context)) (plain []) levels
+stack_of set levels = fold (λ stack l. enter set stack l.context) (plain []) levels
 
 -- at a place the bytes before it have these scopes, and the stack is this one
 pub record IsAt (r : Replay) (place : ℕ) (bytes : List Scopes) (scopes : ScopeStack) : Type 0 where
   pub before : bytes_to r place ≡ bytes
   pub stack : r.stack ≡ scopes
   pub count : length bytes ≡ place
+
+-- how many levels have a context that clears
+abbrev pub count_clearing : SyntaxSet → List Level → ℕ
+count_clearing set levels = length (filter_map (λ l. clearing set l.context) levels)
+
+-- for each of these levels a stack remembers a list at least
+abbrev pub Remembers : SyntaxSet → List Level → ScopeStack → Type 0
+Remembers set levels stack = count_clearing set levels ≤ length stack.clear_stack

@@ -6,25 +6,27 @@ use Rattle.syntect_scope.specs.Replay.{Replay, InOrder, AllApply, replay}
 use Rattle.syntect_grammar.specs.Contexts.{contexts_of}
 use Rattle.syntect_parsing.specs.Engine.{Engine}
 use Rattle.syntect_parsing.specs.Scopes.{Scopes}
-use Rattle.syntect_parsing.specs.Stacks.{IsAt, stack_of}
+use Rattle.syntect_parsing.specs.Stacks.{IsAt, Remembers, stack_of}
 use Rattle.syntect_parsing.specs.Line.{Step, Goes, Ends, Refused, turn}
 use Rattle.syntect_parsing.specs.Laws.{longest}
+use Rattle.syntect_parsing.specs.Orderly.{IsOrderlyTurn}
 use Rattle.syntect_grammar.specs.declared.syntax_set.SyntaxSet.{SyntaxSet}
 use Rattle.syntect_parsing.specs.declared.position.TheConstants.{MOST_IDLE}
 use Rattle.syntect_parsing.specs.declared.position.Position.{Position}
 use Rattle.syntect_contexts.specs.declared.error.ParsingError.{ParsingError}
 use Rattle.syntect_contexts.specs.declared.error.ParsingError.TheVariants as error
 
--- The step goes on to q, and the operations that were added show the scopes that it gives.
-pub record MakesStep (set : SyntaxSet) (line : List ℕ) (step : Step) (p q : Position) (old new : List (ℕ × ScopeStackOp)) : Type 0 where
+-- The step goes on to q, and these operations were added. They apply to any stack that remembers a list for each level that
+-- clears, and leave such a one; where the step is orderly, they show the scopes that it gives.
+pub record MakesStep (orderly : Type 0) (set : SyntaxSet) (line : List ℕ) (step : Step) (p q : Position) (old new : List (ℕ × ScopeStackOp)) : Type 0 where
   pub bytes : List Scopes
   pub made : List (ℕ × ScopeStackOp)
   pub goes : step ≡ Goes bytes q
   pub added : new ≡ old ++ made
-  pub shows : (r : Replay) (before : List Scopes) → IsAt r p.place before (stack_of set p.levels)
+  pub shows : orderly → (r : Replay) (before : List Scopes) → IsAt r p.place before (stack_of set p.levels)
       → IsAt (replay made r) q.place (before ++ bytes) (stack_of set q.levels)
   pub order : InOrder line p.place made q.place
-  pub apply : AllApply (stack_of set p.levels) made
+  pub apply : (r : Replay) → Remembers set p.levels r.stack → AllApply r.stack made × Remembers set q.levels (replay made r).stack
   pub within : q.place ≤ length line
   pub boundary : IsCharBoundary line q.place
 
@@ -38,7 +40,7 @@ pub record EndsLine (engine : Engine) (set : SyntaxSet) (line : List ℕ) (p q :
       → IsAt r (length line) (before ++ bytes) (stack_of set p.levels)
 
 abbrev pub Turns : Engine → SyntaxSet → List ℕ → Position → Position → List (ℕ × ScopeStackOp) → List (ℕ × ScopeStackOp) → Bool → Type 0
-Turns engine set line p q old new true = MakesStep set line (turn engine set line p) p q old new
+Turns engine set line p q old new true = MakesStep (IsOrderlyTurn engine set line p) set line (turn engine set line p) p q old new
 Turns engine set line p q old new false = EndsLine engine set line p q old new
 
 -- want of memory, or the step's refusal

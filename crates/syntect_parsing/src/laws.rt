@@ -1,5 +1,6 @@
 //! Laws of reading.
-ghost use Rattle.syntect_parsing.specs.Laws.{NeverBoth, AnswersMore, AnswersJoin, AnswersPart, StackIsOpen, StackHasOpen, FindsInText, LaysGroupsOut};
+ghost use Rattle.syntect_parsing.specs.Laws.{NeverBoth, AnswersMore, AnswersJoin, AnswersPart, StackIsOpen, FindsInText, LaysGroupsOut};
+ghost use Rattle.syntect_parsing.specs.Open.{StackHasVisible, OpenIsVisible};
 ghost use Rattle.syntect_parsing.specs.Refusals.{RefusesUnresolved, LinksClosed};
 ghost use Rattle.syntect_parsing.specs.Standing.{BytesHaveScopes};
 ghost use Rattle.syntect_parsing.specs.Engine.{dialect};
@@ -32,10 +33,12 @@ pub fn answers_join_and_part()
     ensures part { AnswersPart }
 {}
 
-/// The stack that the levels make has their open scopes, and remembers nothing.
-#[tactic(auto, using(crate::proofs::ShowLaws::stack_is_plain))]
-pub fn stack_has_open_scopes()
-    ensures { StackHasOpen }
+/// The stack that the levels make has their visible scopes. Where no context of a set clears, these are the open ones, and the
+/// stack remembers nothing.
+#[tactic(auto, using(crate::proofs::StackLaws::stack_has_visible, crate::proofs::StackLaws::open_is_visible))]
+pub fn stack_has_visible_scopes()
+    ensures visible { StackHasVisible }
+    ensures open { OpenIsVisible }
 {}
 
 /// If what the first accepted line pushes makes the stack that of the levels, it is so before each line.

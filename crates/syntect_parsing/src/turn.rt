@@ -1,11 +1,12 @@
 //! One turn of reading a line.
-ghost use Rattle.std.specs.Prelude.{◌≡◌, ◌≤◌, ◌<◌, nat_lt, filter, List, length, map, IfOk, IfErr, IsCharBoundary, Some, None, ◌+◌};
+ghost use Rattle.std.specs.Prelude.{◌≡◌, ◌≤◌, ◌<◌, nat_lt, filter, length, map, IfOk, IfErr, IsCharBoundary, Some, ◌+◌, true};
 ghost use Rattle.syntect_parsing.specs.Engine.{dialect};
-ghost use Rattle.syntect_parsing.specs.Chain.{Member, last, room_in};
-ghost use Rattle.syntect_parsing.specs.Turn.{trimmed, skipped, char_len, live, winner, Take};
+ghost use Rattle.syntect_parsing.specs.Chain.{last, room_in};
+ghost use Rattle.syntect_parsing.specs.Turn.{trimmed, skipped, char_len, winner, Take};
 ghost use Rattle.syntect_parsing.specs.Line.{step, turn_on};
 ghost use Rattle.syntect_parsing.specs.Laws.{StandsIn};
-ghost use Rattle.syntect_parsing.specs.Candidates.{seen};
+ghost use Rattle.syntect_parsing.specs.Candidates.{seen, live_in};
+ghost use Rattle.syntect_parsing.specs.Orderly.{is_orderly};
 ghost use Rattle.syntect_parsing.specs.Step.{MakesStep, RefusesStep, Turns, RefusesTurn};
 
 use crate::chain::{chain, missing_prototype};
@@ -53,7 +54,7 @@ fn candidates<'s>(
     requires boundary { IsCharBoundary line.now p.now.place }
     ensures chosen { IfOk result (λ ms. turn_on dialect set.now line.now p.now (last p.now.levels)
         ≡ step dialect set.now line.now p.now (winner line.now p.now (map (seen line.now p.now.place) ms.items))) }
-    ensures live { IfOk result (λ ms. (members : List Member) × (map (seen line.now p.now.place) ms.items ≡ live dialect line.now p.now members)) }
+    ensures live { IfOk result (λ ms. map (seen line.now p.now.place) ms.items ≡ live_in dialect set.now line.now p.now) }
     ensures refused { IfErr result (RefusesStep (turn_on dialect set.now line.now p.now (last p.now.levels))) }
 {
     let Some(top) = p.levels.as_slice().last() else {
@@ -83,7 +84,7 @@ fn take(
     requires boundary { IsCharBoundary line.now p.old.place }
     requires few { p.old.idle ≤ MOST_IDLE }
     requires stands { StandsIn line.now p.old.place m.now.start m.now.end }
-    ensures makes { IfOk result (λ _. MakesStep set.now line.now
+    ensures makes { IfOk result (λ _. MakesStep (is_orderly set.now p.old.levels m.now.pattern.now.operation ≡ true) set.now line.now
         (step dialect set.now line.now p.old (Take (seen line.now p.old.place m.now))) p.old p.new ops.old.items ops.new.items) }
     ensures refused { IfErr result (RefusesStep (step dialect set.now line.now p.old (Take (seen line.now p.old.place m.now)))) }
 {

@@ -8,7 +8,8 @@ use Rattle.syntect_contexts.specs.Substitution.{Groups}
 use Rattle.syntect_grammar.specs.Contexts.{context_at}
 use Rattle.syntect_parsing.specs.Chain.{Member, last, chain, prototypes_in}
 use Rattle.syntect_parsing.specs.Turn.{Live, Choice, Take, Skip, End, counts, counted, matched, live, live_match, searched_text, group_at, choice_of, winner, is_least, loops, char_len, missing, refusal, position_after, trimmed}
-use Rattle.syntect_parsing.specs.Scopes.{Scopes, scopes_passed, scopes_at, base, open_scopes}
+use Rattle.syntect_parsing.specs.Scopes.{Scopes, scopes_passed, scopes_at}
+use Rattle.syntect_parsing.specs.Visible.{visible, visible_base}
 use Rattle.syntect_parsing.specs.Line.{Step, Goes, Ends, Refused, turn, turn_on, turn_in, step, unless_refused, ended, Reads, ends, goes, at_start}
 use Rattle.syntect_reading_laws.specs.Laws.{CoversLine}
 use Rattle.syntect_parsing.proofs.Finds.{FindsInOrder, finds_in_order}
@@ -99,7 +100,7 @@ unless_in_order line place None s h = h
 unless_in_order line place (Some e) s h = tt
 
 ended_in_order : (set : SyntaxSet) (line : List ℕ) (p : Position) → p.place ≤ length line → InOrder line p.place (ended set line p)
-ended_in_order set line p l = omega (arith, length-replicate (length line - p.place) (open_scopes set p.levels))
+ended_in_order set line p l = omega (arith, length-replicate (length line - p.place) (visible set p.levels))
 
 passed : (engine : Engine) (set : SyntaxSet) (levels : List Level) (line : List ℕ) (place : ℕ) (m : Live) → IsIn line place m → place + length (scopes_passed engine set levels place m) ≡ m.end
 passed engine set levels line place m h =
@@ -107,16 +108,16 @@ passed engine set levels line place m h =
       arith,
       h.from,
       h.ordered,
-      length-append (replicate (m.start - place) (open_scopes set levels)) (map (scopes_at engine (base set levels m.pattern.operation) m) (range_with_len m.start (m.end - m.start))),
-      length-replicate (m.start - place) (open_scopes set levels),
-      length-map (range_with_len m.start (m.end - m.start)) (scopes_at engine (base set levels m.pattern.operation) m),
+      length-append (replicate (m.start - place) (visible set levels)) (map (scopes_at engine (visible_base set levels m.pattern.operation) m) (range_with_len m.start (m.end - m.start))),
+      length-replicate (m.start - place) (visible set levels),
+      length-map (range_with_len m.start (m.end - m.start)) (scopes_at engine (visible_base set levels m.pattern.operation) m),
       length_range (m.end - m.start) m.start,
     )
 
 step_in_order : (engine : Engine) (set : SyntaxSet) (line : List ℕ) (p : Position) (choice : Choice) → p.place ≤ length line → IsChoiceIn line p.place choice → InOrder line p.place (step engine set line p choice)
 step_in_order engine set line p (Take m) l h =
     unless_in_order line p.place (refusal set m.pattern) (Goes (scopes_passed engine set p.levels p.place m) (position_after set line p m)) (passed engine set p.levels line p.place m h, h.within)
-step_in_order engine set line p Skip l h = (omega (arith, length-replicate (char_len line p.place) (open_scopes set p.levels)), omega arith)
+step_in_order engine set line p Skip l h = (omega (arith, length-replicate (char_len line p.place) (visible set p.levels)), omega arith)
 step_in_order engine set line p End l h = ended_in_order set line p l
 
 turn_in_in_order : (engine : Engine) (line : List ℕ) → FindsInOrder engine line → (set : SyntaxSet) (p : Position) (top : Level) (c : Option Context) → p.place ≤ length line → InOrder line p.place (turn_in engine set line p top c)

@@ -17,7 +17,7 @@ use Rattle.std.specs.Str.{chars}
 use Rattle.syntect_regex.specs.Escape.{is_special}
 use Rattle.syntect_grammar.specs.Contexts.{context_at}
 use Rattle.syntect_parsing.specs.Chain.{patterns_in, patterns_of}
-use Rattle.syntect_parsing.specs.Scopes.{Scopes, open_scopes}
+use Rattle.syntect_parsing.specs.Scopes.{Scopes}
 use Rattle.syntect_parsing.specs.Line.{turn, Reads, Refuses, at_start, start, Accepted, RefusedBy, accepts, refuses, no_level, in_turn, AnswersAll, none, one_more, stack_before, first_push, HasPlainStart}
 use Rattle.syntect_parsing.specs.Visible.{visible, visible_base}
 use Rattle.syntect_scope.specs.declared.stack.ClearAmount.TheVariants.{TopN}
@@ -365,12 +365,12 @@ two = set_of (context [] (t ∷ s 2 ∷ []) [] ∷ [])
 pushed_of_two : onto (stack_before two at_first) (first_push two at_first) ≡ bare (t ∷ [])
 pushed_of_two = refl
 
-open_of_two : open_scopes two at_first.levels ≡ t ∷ s 2 ∷ []
-open_of_two = refl
+visible_of_two : visible two at_first.levels ≡ t ∷ s 2 ∷ []
+visible_of_two = refl
 
--- with at most one content scope and no `meta_scope` the open scopes are pushed
-plain_start : (set : SyntaxSet) (id : ContextId) (c : Context) → context_at set id ≡ Some c → c.meta_scope ≡ [] → length c.meta_content_scope ≤ 1 → HasPlainStart set (start id)
-plain_start set id c e m l = rw e (rw m (ap (λ (xs : Scopes). bare xs) (all_of_it c.meta_content_scope l)))
+-- with at most one content scope, no `meta_scope` and nothing cleared the open scopes are pushed
+plain_start : (set : SyntaxSet) (id : ContextId) (c : Context) → context_at set id ≡ Some c → c.meta_scope ≡ [] → length c.meta_content_scope ≤ 1 → c.clear_scopes ≡ None → HasPlainStart set (start id)
+plain_start set id c e m l k = rw e (rw (m, k) (ap (λ (xs : Scopes). bare xs) (all_of_it c.meta_content_scope l)))
   where
     all_of_it : (xs : Scopes) → length xs ≤ 1 → take 1 xs ≡ xs
     all_of_it [] l = refl

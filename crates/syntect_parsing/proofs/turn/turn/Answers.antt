@@ -1,10 +1,11 @@
-use Rattle.std.proofs.Common.{◌∙◌, ap}
+use Rattle.std.proofs.Common.{◌≡◌, true, ◌∙◌, ap}
+use Rattle.syntect_parsing.specs.Orderly.{is_orderly}
 use Rattle.syntect_parsing.specs.Engine.{dialect}
 use Rattle.syntect_parsing.specs.Candidates.{seen, chosen}
 use Rattle.syntect_parsing.specs.Chain.{last}
 use Rattle.syntect_parsing.specs.Turn.{Take, Skip}
 use Rattle.syntect_parsing.specs.Line.{step, turn_on}
-use Rattle.syntect_parsing.proofs.ChoiceLaws.{choice_stands, step_chosen}
+use Rattle.syntect_parsing.proofs.ChoiceLaws.{choice_stands, step_chosen, taken_orderly}
 use Rattle.syntect_parsing.proofs.WholeTurnLaws.{turn_refused, turn_refused_by, turn_makes, turn_ends, skip_makes}
 use Rattle.syntect_parsing.proofs.turn.turn.Goals as goal
 
@@ -14,14 +15,17 @@ returns-in-Err-clause-refused c = turn_refused c.args.set.now c.args.line.now c.
 pub take-requires-clause-stands : goal.take-requires-clause-stands
 take-requires-clause-stands c =
     rw c.in-Take.is at
-    (choice_stands c.dialect_finds_in_text.ensures c.args.line.now c.utf8.line c.trim.new.p c.in-Ok.ensures.live.0 c.in-Ok.ms.items c.winner.result c.in-Ok.ensures.live.1
+    (choice_stands c.dialect_finds_in_text.ensures c.args.set.now c.args.line.now c.utf8.line c.trim.new.p c.in-Ok.ms.items c.winner.result c.in-Ok.ensures.live
     (rw c.as_slice.ensures.value at c.winner.ensures))
 
 pub returns-in-Ok-take-clause-turns : goal.returns-in-Ok-take-clause-turns
 returns-in-Ok-take-clause-turns c =
     turn_makes c.args.set.now c.args.line.now c.args.p.now c.trim.new.p c.trim.ensures
+    (is_orderly c.args.set.now c.trim.new.p.levels c.in-Take.m.now.pattern.now.operation ≡ true)
     (step dialect c.args.set.now c.args.line.now c.trim.new.p (Take (seen c.args.line.now c.trim.new.p.place c.in-Take.m.now)))
     c.take.new.p c.args.ops.now.items c.take.new.ops.items
+    (taken_orderly c.args.set.now c.args.line.now c.args.p.now c.trim.new.p c.in-Ok.ms.items c.winner.result (seen c.args.line.now c.trim.new.p.place c.in-Take.m.now) c.trim.ensures c.in-Ok.ensures.live
+    (rw c.as_slice.ensures.value at c.winner.ensures) (ap (chosen c.args.line.now c.trim.new.p.place) c.in-Take.is))
     (step_chosen c.args.set.now c.args.line.now c.trim.new.p c.in-Ok.ms.items c.winner.result (turn_on dialect c.args.set.now c.args.line.now c.trim.new.p (last c.trim.new.p.levels)) c.in-Ok.ensures.chosen
     (rw c.as_slice.ensures.value at c.winner.ensures)
     ∙ ap (λ x. step dialect c.args.set.now c.args.line.now c.trim.new.p (chosen c.args.line.now c.trim.new.p.place x)) c.in-Take.is)
@@ -40,14 +44,16 @@ returns-in-Take-clause-refused c =
 pub returns-in-Skip-clause-turns : goal.returns-in-Skip-clause-turns
 returns-in-Skip-clause-turns c =
     turn_makes c.args.set.now c.args.line.now c.args.p.now c.trim.new.p c.trim.ensures
+    (Unit {0})
     (step dialect c.args.set.now c.args.line.now c.trim.new.p Skip)
     c.skip.new.p c.args.ops.now.items c.args.ops.now.items
+    (λ o. tt)
     (step_chosen c.args.set.now c.args.line.now c.trim.new.p c.in-Ok.ms.items c.winner.result (turn_on dialect c.args.set.now c.args.line.now c.trim.new.p (last c.trim.new.p.levels)) c.in-Ok.ensures.chosen
     (rw c.as_slice.ensures.value at c.winner.ensures)
     ∙ ap (λ x. step dialect c.args.set.now c.args.line.now c.trim.new.p (chosen c.args.line.now c.trim.new.p.place x)) c.in-Skip.is)
     (rw c.skip.ensures (skip_makes c.args.set.now c.args.line.now c.trim.new.p c.args.ops.now.items c.utf8.line (rw c.trim.ensures c.requires.boundary)
     (rw c.in-Skip.is at
-    (choice_stands c.dialect_finds_in_text.ensures c.args.line.now c.utf8.line c.trim.new.p c.in-Ok.ensures.live.0 c.in-Ok.ms.items c.winner.result c.in-Ok.ensures.live.1
+    (choice_stands c.dialect_finds_in_text.ensures c.args.set.now c.args.line.now c.utf8.line c.trim.new.p c.in-Ok.ms.items c.winner.result c.in-Ok.ensures.live
     (rw c.as_slice.ensures.value at c.winner.ensures)))))
 
 pub returns-clause-turns : goal.returns-clause-turns

@@ -16,7 +16,7 @@ returns-in_err-ops-clause-answered c = λ past h.
 pub returns-in_err-pieces-clause-answered : goal.returns-in_err-pieces-clause-answered
 returns-in_err-pieces-clause-answered c = λ past h.
     let p = err_from_is_err_and c.from_residual-in_err-pieces.result c.from_residual-in_err-pieces.ensures.1 in
-    rw (p.1, p.2) (continues past c.args.syntax_set.now c.args.line c.args.self.now (Err (from_scope c.in_err-pieces.field-0.0)) h.built (lead_unshown c.args.syntax_set.now past.theme past.syntax past.lines past.answers c.args.line c.args.self.now (standing c.parse_line.new.self) c.in_ok-ops.ops.items c.in_err-pieces.field-0.0 c.stack_is_open.ensures (built_begins_plain c.args.syntax_set.now past.syntax past.definitions h.built) h.leads
+    rw (p.1, p.2) (continues past c.args.syntax_set.now c.args.line c.args.self.now (Err (from_scope c.in_err-pieces.field-0.0)) h.built (lead_unshown c.args.syntax_set.now past.theme past.syntax past.lines past.answers c.args.line c.args.self.now (standing c.parse_line.new.self) c.in_ok-ops.ops.items c.in_err-pieces.field-0.0 (built_begins_plain c.args.syntax_set.now past.syntax past.definitions h.built) h.leads
     (rw c.in_ok-parse_state.ensures at c.in_ok-ops.ensures.accepted)
     (rw (c.as_slice.ensures.value, c.in_ok-highlight_state.ensures) at c.in_err-pieces.ensures.none)))
 
@@ -41,7 +41,7 @@ returns-in_err-ops-clause-refused c = λ past h n s.
 pub returns-in_err-pieces-clause-refused : goal.returns-in_err-pieces-clause-refused
 returns-in_err-pieces-clause-refused c = λ past h n s.
     let p = err_from_is_err_and c.from_residual-in_err-pieces.result c.from_residual-in_err-pieces.ensures.1 in
-    rw (p.1, p.2) (exact_unshown (record { refuses = c.refuses_unresolved.ensures; links = c.links_closed.ensures; built = h.built; by_name = n; stays_in = s; leads = h.leads }) c.args.line c.stack_is_open.ensures (standing c.parse_line.new.self) c.in_ok-ops.ops.items c.in_err-pieces.field-0.0
+    rw (p.1, p.2) (exact_unshown (record { refuses = c.refuses_unresolved.ensures; links = c.links_closed.ensures; built = h.built; by_name = n; stays_in = s; leads = h.leads }) c.args.line (standing c.parse_line.new.self) c.in_ok-ops.ops.items c.in_err-pieces.field-0.0
     (rw c.in_ok-parse_state.ensures at c.in_ok-ops.ensures.accepted)
     (rw (c.as_slice.ensures.value, c.in_ok-highlight_state.ensures) at c.in_err-pieces.ensures.none))
 
