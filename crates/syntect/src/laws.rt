@@ -38,7 +38,7 @@ pub fn loaded_sets_stay()
 
 /// Where no context clears, all lines are orderly, so that the clauses of `HighlightLines::highlight_line` and of the pages
 /// say the style of each byte; and in a set of definitions of which none has the key `clear_scopes`, no context clears.
-#[tactic(auto, using(crate::proofs::OrderlyLaws::clears_none, crate::proofs::OrderlyLaws::runs_orderly))]
+#[tactic(auto, using(crate::proofs::OrderlyLaws::clears_none))]
 pub fn orderly_where_nothing_clears()
     ensures sets { (set : ASet) (definitions : List ADefinition) → syntaxes_in set ≡ linked definitions
         → list_all clears_nothing definitions ≡ true → ClearsNothing set }

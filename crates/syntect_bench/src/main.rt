@@ -61,6 +61,7 @@ fn run(
         Runs::Themes => show_themes(rt, first),
         Runs::Styles => show_styles(rt, first, second),
         Runs::Unlinked => show_asked(rt, first, Asked::Unlinked),
+        Runs::Orderly => show_asked(rt, first, Asked::Orderly),
         Runs::Syntaxes => show_asked(rt, first, Asked::Syntaxes(second)),
         Runs::Scopes => show_asked(rt, first, Asked::Scopes(second)),
         Runs::TimeAtoms => time_atoms(rt),

@@ -13,6 +13,8 @@ pub enum Runs {
     Styles,
     /// Prints what linking leaves unresolved in the grammars of a folder.
     Unlinked,
+    /// Prints which grammars of a folder clear scopes, and whether they put them back in order.
+    Orderly,
     /// Prints the syntax of each file in a list by the grammars of a folder.
     Syntaxes,
     /// Prints the scopes of a text by the grammars of a folder.
@@ -38,12 +40,13 @@ pub enum Runs {
 }
 
 /// The words of each, in capitals what stands for any word.
-pub const MODES: [(&str, Runs); 16] = [
+pub const MODES: [(&str, Runs); 17] = [
     ("row FILE", Runs::Row),
     ("answers FILE", Runs::Answers),
     ("themes FOLDER", Runs::Themes),
     ("styles THEME STACKS", Runs::Styles),
     ("unlinked FOLDER", Runs::Unlinked),
+    ("orderly FOLDER", Runs::Orderly),
     ("which FOLDER LIST", Runs::Syntaxes),
     ("scopes FOLDER FILE", Runs::Scopes),
     ("time atoms", Runs::TimeAtoms),

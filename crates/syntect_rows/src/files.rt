@@ -2,6 +2,7 @@
 //! folders, to compare it with what other programs make of them.
 use crate::finding::write_unlinked;
 use crate::given::Given;
+use crate::orderly::write_orderly;
 use crate::runs::write_scopes;
 use std::alloc::Global;
 use std::path::Path;
@@ -121,6 +122,8 @@ pub fn run_scope_rows(rt: &(impl Print + AllocGlobal + Files)) -> io::Result<boo
 pub enum Asked<'a> {
     /// What linking left unresolved.
     Unlinked,
+    /// Which syntaxes clear scopes, and whether they put them back in order.
+    Orderly,
     /// The syntax of each file in a list, a path a line.
     Syntaxes(&'a str),
     /// The scopes of each stretch of a file's lines.
@@ -158,6 +161,7 @@ fn write_asked(
     let set = set_with_plain_text(files, alloc, folder, &mut repository)?;
     match asked {
         Asked::Unlinked => write_unlinked(alloc, &set, &repository, out),
+        Asked::Orderly => write_orderly(alloc, &set, out),
         Asked::Syntaxes(list) => write_syntaxes_of(files, &set, list, out),
         Asked::Scopes(path) => {
             let theme = Theme::default(alloc);

@@ -9,6 +9,7 @@ mod folders;
 mod given;
 mod made;
 mod operations;
+mod orderly;
 mod readers;
 pub mod run;
 mod runs;
