@@ -104,3 +104,11 @@ module _ (s : List ℕ) (tree : Tree) where
   pub found-past : (i : ℕ) → length s < i → found s tree i ≡ None
   unfolding found
   found-past i l = ap (λ n. found_within s tree n i) (let n : suc (length s) - i ≡ 0 = omega arith in n)
+
+  -- nothing is found from a place on from which no match begins
+  pub found-never : (i : ℕ) → ((k : ℕ) → i ≤ k → found_at s tree k ≡ None) → found s tree i ≡ None
+  found-never i h =
+      elim (cases_lt (length s) i) [
+        | inl l ↦ found-past i l
+        | inr l ↦ found-jump i (suc (length s)) (omega (arith, l)) (omega arith) (λ k p q. h k p) ∙ found-past (suc (length s)) (omega arith)
+      ]

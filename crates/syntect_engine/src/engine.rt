@@ -1,5 +1,5 @@
 //! The search of a pattern: a machine whose choices stand in lists of its own.
-ghost use Rattle.std.specs.Prelude.{◌≡◌, IfOk, slice_index_or, None, IsCharBoundary};
+ghost use Rattle.std.specs.Prelude.{◌≡◌, ◌≤◌, IfOk, slice_index_or, None, IsCharBoundary};
 
 use crate::dead::is_dead;
 use crate::state::{Next, Search};
@@ -12,7 +12,7 @@ impl Search {
     ghost use Rattle.std.specs.Prelude.{replicate, slice_get};
     ghost use Rattle.syntect_pattern.specs.Trees.{nothing};
     ghost use Rattle.syntect_pattern.specs.Matches.{matches};
-    ghost use Rattle.syntect_engine.specs.Machine.{Fits, found_by, match_of, groups_of, FindsAt, FindsGroups};
+    ghost use Rattle.syntect_engine.specs.Machine.{Fits, found_by, match_of, groups_of, FindsAt, FindsGroups, FindsUpTo};
 
     /// Takes steps until a match is found or nothing is left to try.
     fn run(&mut self, program: &Program, text: &str, start: Next) -> Result<bool, AllocError>
@@ -99,6 +99,45 @@ impl Search {
                 behind = next;
             }
             if self.begins_at(program, text, place)? {
+                return Ok(true);
+            }
+            place += 1;
+        }
+        Ok(false)
+    }
+
+    /// Whether the program matches at the place or at a later one up to `last`, of which the least counts. Where it does,
+    /// the search's groups are the match's.
+    pub fn find_up_to(
+        &mut self,
+        program: &Program,
+        text: &str,
+        begin: usize,
+        last: usize,
+    ) -> Result<bool, AllocError>
+        requires { begin ≤ last }
+        ensures { IfOk result (λ found. FindsUpTo text.now program.now begin last (groups_of found self.new)) }
+    {
+        let end = if last < text.len() {
+            last + 1
+        } else {
+            text.len()
+        };
+        let mut place = begin;
+        let mut behind = 0;
+        while place <= last && place <= text.len() {
+            place = program.next_start_up_to(text, place, end);
+            if place > last {
+                return Ok(false);
+            }
+            if place >= behind {
+                let Some(needed) = program.behind_needed(text, place) else {
+                    return Ok(false);
+                };
+                behind = needed;
+            }
+            let begins = self.begins_at(program, text, place)?;
+            if begins {
                 return Ok(true);
             }
             place += 1;

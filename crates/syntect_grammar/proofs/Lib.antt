@@ -1,4 +1,5 @@
 pub mod HeadLaws
+pub mod Room
 mod PlaceLaws
 mod FindLaws
 pub mod FolderLaws

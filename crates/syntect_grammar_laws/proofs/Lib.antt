@@ -1,4 +1,3 @@
-mod Room
 mod ReachLaws
 mod PlaceLaws
 mod PlainLaws

@@ -1,5 +1,5 @@
 -- What the reader chooses stands in the line.
-use Rattle.std.proofs.Common.{◌≡◌, ℕ, true, List, [], map, Option, Some, None, refl, sym, ◌∙◌, ap}
+use Rattle.std.proofs.Common.{◌≡◌, ℕ, true, List, [], Option, Some, None, refl, sym, ◌∙◌, ap}
 use Rattle.std.specs.Option.{option_map_or}
 use Rattle.std.specs.Str.{IsUtf8}
 use Rattle.syntect_parsing.specs.Engine.{dialect}
@@ -13,10 +13,11 @@ use Rattle.syntect_parsing.specs.Orderly.{is_orderly, IsOrderlyTurn}
 use Rattle.syntect_grammar.specs.Contexts.{context_at}
 use Rattle.syntect_contexts.specs.declared.context.Context.{Context}
 use Rattle.syntect_parsing.specs.States.{Level}
-use Rattle.syntect_parsing.specs.Candidates.{seen, chosen, live_in, StandsChosen}
+use Rattle.syntect_parsing.specs.Candidates.{chosen, live_in, StandsChosen}
 use Rattle.syntect_parsing.proofs.Places.{winner_ends, IsChoiceOnBoundary}
 use Rattle.syntect_parsing.specs.declared.position.Position.{Position}
-use Rattle.syntect_parsing.specs.declared.search.Candidate.{Candidate}
+use Rattle.syntect_parsing.specs.Best.{choice_by}
+use Rattle.syntect_parsing.specs.declared.search.Best.{Best}
 use Rattle.syntect_parsing.specs.declared.search.Choice.{Choice}
 use Rattle.syntect_parsing.specs.declared.search.Choice.TheVariants as code
 
@@ -37,11 +38,11 @@ members_of set line p = on (last p.levels)
     on None = ([], refl)
     on (Some top) = within top (context_at set top.context)
 
-pub choice_stands : FindsInText dialect → (set : SyntaxSet) (line : List ℕ) → IsUtf8 line → (p : Position) (ms : List Candidate) (c : Choice)
-    → map (seen line p.place) ms ≡ live_in dialect set line p → chosen line p.place c ≡ winner line p (map (seen line p.place) ms) → StandsChosen line p.place c
-choice_stands finds set line u p ms c e f =
+pub choice_stands : FindsInText dialect → (set : SyntaxSet) (line : List ℕ) → IsUtf8 line → (p : Position) (c : Choice)
+    → chosen line p.place c ≡ winner line p (live_in dialect set line p) → StandsChosen line p.place c
+choice_stands finds set line u p c f =
     let k = members_of set line p in
-    by_kind finds line u p.place c (rw (f, e, k.1) (winner_ends dialect finds line u p k.0))
+    by_kind finds line u p.place c (rw (f, k.1) (winner_ends dialect finds line u p k.0))
 
 -- a match that was taken is the one that the turn picks
 module _ (set : SyntaxSet) (line : List ℕ) (p : Position) (m : Live) where
@@ -59,13 +60,13 @@ module _ (set : SyntaxSet) (line : List ℕ) (p : Position) (m : Live) where
   picked w = picked_on (last p.levels) refl w
 
 -- where the turn is orderly, so is the match that was taken
-pub taken_orderly : (set : SyntaxSet) (line : List ℕ) (p q : Position) (ms : List Candidate) (c : Choice) (m : Live) → q ≡ trimmed p → map (seen line q.place) ms ≡ live_in dialect set line q
-    → chosen line q.place c ≡ winner line q (map (seen line q.place) ms) → chosen line q.place c ≡ Take m → IsOrderlyTurn dialect set line p → is_orderly set q.levels m.pattern.operation ≡ true
-taken_orderly set line p q ms c m t e f g o =
-    let w : winner line q (live_in dialect set line q) ≡ Take m = ap (winner line q) (sym e) ∙ sym f ∙ g in
+pub taken_orderly : (set : SyntaxSet) (line : List ℕ) (p q : Position) (c : Choice) (m : Live) → q ≡ trimmed p
+    → chosen line q.place c ≡ winner line q (live_in dialect set line q) → chosen line q.place c ≡ Take m → IsOrderlyTurn dialect set line p → is_orderly set q.levels m.pattern.operation ≡ true
+taken_orderly set line p q c m t f g o =
+    let w : winner line q (live_in dialect set line q) ≡ Take m = sym f ∙ g in
     rw t (o m (picked set line p m (rw t at w)))
 
 -- what was chosen is what the step takes
-pub step_chosen : (set : SyntaxSet) (line : List ℕ) (p : Position) (ms : List Candidate) (c : Choice) (s : Step) → s ≡ step dialect set line p (winner line p (map (seen line p.place) ms))
-    → chosen line p.place c ≡ winner line p (map (seen line p.place) ms) → s ≡ step dialect set line p (chosen line p.place c)
-step_chosen set line p ms c s k f = k ∙ ap (step dialect set line p) (sym f)
+pub step_chosen : (set : SyntaxSet) (line : List ℕ) (p : Position) (b : Best) (c : Choice) (s : Step) → s ≡ step dialect set line p (choice_by line p.place b)
+    → chosen line p.place c ≡ choice_by line p.place b → s ≡ step dialect set line p (chosen line p.place c)
+step_chosen set line p b c s k f = k ∙ ap (step dialect set line p) (sym f)

@@ -7,7 +7,6 @@ pub mod DialectLaws
 pub mod ListLaws
 pub mod SearchLaws
 pub mod LevelLaws
-pub mod EmitLaws
 pub mod ReplayLaws
 pub mod StackLaws
 pub mod LeadLaws
@@ -19,6 +18,8 @@ pub mod MarkLaws
 pub mod CapturedLaws
 pub mod SortLaws
 pub mod ShowLaws
+pub mod BestLaws
+pub mod ChainLaws
 pub mod ChoiceLaws
 pub mod TakeLaws
 pub mod WholeTurnLaws

@@ -1,8 +1,9 @@
 -- Laws on lists.
-use Rattle.std.proofs.Common.{◌≡◌, ◌≢◌, ◌==◌, ℕ, zero, suc, ◌+◌, ◌≤◌, ◌<◌, Bool, true, false, List, [], ◌∷◌, ◌++◌, length, drop, find, Some, refl, ap, sym, ◌∙◌, get_or, arith, append_assoc, if◌then◌else◌}
+use Rattle.std.proofs.Common.{◌≡◌, ◌≢◌, ◌==◌, ℕ, zero, suc, ◌+◌, ◌≤◌, ◌<◌, Bool, true, false, List, [], ◌∷◌, ◌++◌, length, drop, find, refl, ap, sym, ◌∙◌, get_or, arith, append_assoc}
 use Rattle.std.proofs.lemmas.Bool.Decides.{nat_tests}
 use Rattle.std.specs.List.{flat_map}
 use Rattle.std.specs.Option.{option_or}
+use Rattle.syntect_openings.proofs.SameLaws.{find_append}
 
 pub drop_past : {X : Type 0} (n : ℕ) (xs : List X) → length xs ≤ n → drop n xs ≡ []
 drop_past zero [] l = refl
@@ -12,14 +13,6 @@ drop_past (suc n) (x ∷ xs) l = drop_past n xs (omega arith)
 
 pub flat_map_step : {X Y : Type 0} (f : X → List Y) (x : X) (xs : List X) → flat_map f (x ∷ xs) ≡ f x ++ flat_map f xs
 flat_map_step f x xs = refl
-
-pub find_append : {X : Type 0} (f : X → Bool) (xs ys : List X) → find f (xs ++ ys) ≡ option_or (find f xs) (find f ys)
-find_append f [] ys = refl
-find_append f (x ∷ xs) ys = by (f x) (find_append f xs ys)
-  where
-    by : (b : Bool) → find f (xs ++ ys) ≡ option_or (find f xs) (find f ys) → (if b then Some x else find f (xs ++ ys)) ≡ option_or (if b then Some x else find f xs) (find f ys)
-    by true e = refl
-    by false e = e
 
 pub find_step : {X Y : Type 0} (f : Y → Bool) (g : X → List Y) (x : X) (xs : List X) (rest : List Y) → find f (flat_map g (x ∷ xs) ++ rest) ≡ option_or (find f (g x)) (find f (flat_map g xs ++ rest))
 find_step f g x xs rest = rw (append_assoc (g x) (flat_map g xs) rest) (find_append f (g x) (flat_map g xs ++ rest))

@@ -49,11 +49,11 @@ past_here line place u b l = by (char_at line place) refl l
 
 -- ---- matches end on boundaries ----
 
-abbrev IfEnds : List ℕ → ℕ → Option Live → Type 0
+abbrev pub IfEnds : List ℕ → ℕ → Option Live → Type 0
 IfEnds line place None = Unit {0}
 IfEnds line place (Some m) = StandsIn line place m.start m.end
 
-data AllEnd (line : List ℕ) (place : ℕ) : List Live → Type 0 where
+pub data AllEnd (line : List ℕ) (place : ℕ) : List Live → Type 0 where
   no_more : AllEnd line place []
   and_more : {m : Live} {ms : List Live} → StandsIn line place m.start m.end → AllEnd line place ms → AllEnd line place (m ∷ ms)
 
@@ -67,12 +67,12 @@ module _ (engine : Engine) (finds : FindsInText engine) (line : List ℕ) (u : I
       by true k = k
       by false k = tt
 
-  matched_ends : (height place : ℕ) (member : Member) (text : List ℕ) (o : Option Groups)
+  pub matched_ends : (height place : ℕ) (member : Member) (text : List ℕ) (o : Option Groups)
       → ((groups : Groups) (s e : ℕ) → o ≡ Some groups → group_at groups 0 ≡ Some (s, e) → StandsIn line place s e) → IfEnds line place (matched height member text o)
   matched_ends height place member text None h = tt
   matched_ends height place member text (Some groups) h = counted_ends height place member text groups (group_at groups 0) (λ s e k. h groups s e refl k)
 
-  live_match_ends : (height place : ℕ) (member : Member) → IfEnds line place (live_match engine height line place member)
+  pub live_match_ends : (height place : ℕ) (member : Member) → IfEnds line place (live_match engine height line place member)
   live_match_ends height place member =
       let text : List ℕ = searched_text engine member.pattern member.opening in
       matched_ends height place member text (engine.found text line place) (λ groups s e f g. finds text line place s e groups u f g)
@@ -81,7 +81,7 @@ module _ (engine : Engine) (finds : FindsInText engine) (line : List ℕ) (u : I
   cons_ends place None ms h r = r
   cons_ends place (Some m) ms h r = and_more h r
 
-  live_ends : (height place : ℕ) (ms : List Member) → AllEnd line place (filter_map (live_match engine height line place) ms)
+  pub live_ends : (height place : ℕ) (ms : List Member) → AllEnd line place (filter_map (live_match engine height line place) ms)
   live_ends height place [] = no_more
   live_ends height place (m ∷ ms) = cons_ends place (live_match engine height line place m) (filter_map (live_match engine height line place) ms) (live_match_ends height place m) (live_ends height place ms)
 

@@ -1,6 +1,7 @@
 -- Members of a chain and their matches, as the reader of a line keeps them.
-use Rattle.std.specs.Prelude.{ℕ, ◌+◌, ◌-◌, ◌<◌, ◌==◌, List, [], ◌∷◌, length, Option, Some, unwrap_or, if◌then◌else◌}
+use Rattle.std.specs.Prelude.{◌≡◌, ℕ, ◌+◌, ◌-◌, ◌<◌, ◌==◌, List, [], ◌∷◌, length, map, Option, Some, unwrap_or, if◌then◌else◌}
 use Rattle.std.specs.Option.{option_copied, option_map_or}
+use Rattle.std.specs.List.{flat_map}
 use Rattle.syntect_pattern.specs.Pattern.{pattern_found}
 use Rattle.syntect_scope.specs.declared.stack.ScopeStackOp.{ScopeStackOp}
 use Rattle.syntect_scope.specs.declared.stack.ScopeStackOp.TheVariants.{Pop}
@@ -14,6 +15,8 @@ use Rattle.syntect_parsing.specs.declared.position.Position.{Position}
 use Rattle.syntect_parsing.specs.Turn.{Live, char_len, live}
 use Rattle.syntect_parsing.specs.Scopes.{Scopes, Capture}
 use Rattle.syntect_parsing.specs.Laws.{StandsIn}
+use Rattle.syntect_parsing.specs.Operations.{capture_operations, operations, operations_of}
+use Rattle.syntect_parsing.specs.States.{Level}
 use Rattle.syntect_parsing.specs.Turn as turn
 use Rattle.syntect_contexts.specs.declared.context.MatchOperation.{MatchOperation}
 use Rattle.syntect_contexts.specs.declared.context.MatchOperation.TheVariants as op
@@ -86,3 +89,20 @@ seen_mark m = (m.place, (m.rank, m.scopes.now))
 
 abbrev pub mark_operations : ℕ × (ℕ × Scopes) → List (ℕ × ScopeStackOp)
 mark_operations m = if m.1.0 == 0 then (m.0, Pop (length m.1.1)) ∷ [] else pushes m.0 m.1.1
+
+abbrev pub marks_operations : List Mark → List (ℕ × ScopeStackOp)
+marks_operations marks = flat_map mark_operations (map seen_mark marks)
+
+-- these marks, in this order, are those of a match's captures
+abbrev pub AreMarksOf : Candidate → List Capture → List Mark → Type 0
+AreMarksOf m cs marks = marks_operations marks ≡ capture_operations m.start m.end cs
+
+-- ---- the operations of a match, as the reader of a line keeps it ----
+
+-- its own scopes and its captures, between what stands below them and what comes behind
+abbrev pub operations_between : Candidate → List Capture → List (ℕ × ScopeStackOp) → List (ℕ × ScopeStackOp) → List (ℕ × ScopeStackOp)
+operations_between m cs below behind = operations m.start m.end m.pattern.now.scope cs below behind
+
+-- all of them, with these levels
+abbrev pub operations_by : Candidate → List Capture → SyntaxSet → List Level → List (ℕ × ScopeStackOp)
+operations_by m cs set levels = operations_of m.start m.end m.pattern.now.scope cs set levels m.pattern.now.operation

@@ -1,5 +1,4 @@
 pub mod States
-pub mod Openings
 pub mod Engine
 pub mod Chain
 pub mod Turn
@@ -11,6 +10,7 @@ pub mod Line
 pub mod Laws
 pub mod Sorting
 pub mod Candidates
+pub mod Best
 pub mod Operations
 pub mod Refusals
 pub mod Orderly

@@ -34,7 +34,7 @@ state_left p = record { levels = p.levels; cuts = p.cuts; first_line = false }
 abbrev pub at_start : Standing → Position
 at_start s = record { levels = s.levels; cuts = s.cuts; place = 0; last = None; idle = 0 }
 
--- the line ends, the bytes left have the open scopes
+-- the line ends, the bytes left have the visible scopes
 abbrev pub ended : SyntaxSet → List ℕ → Position → Step
 ended set line p = Ends (replicate (length line - p.place) (visible set p.levels)) (state_left p)
 

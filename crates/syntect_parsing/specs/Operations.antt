@@ -1,16 +1,13 @@
 -- The operations of a match.
-use Rattle.std.specs.Prelude.{ℕ, ◌+◌, ◌-◌, List, [], ◌∷◌, ◌++◌, length, map, filter, if◌then◌else◌, Bool, true, false, ◌&&◌, ◌==◌, Option, is_none}
-use Rattle.std.specs.List.{filter_map, flat_map, list_all, range_with_len}
-use Rattle.std.specs.Option.{option_to_list}
+pub use Rattle.syntect_openings.specs.Opens.{metas, contents, opens, none, clear_nothing, clears, restores, opens_below, opens_here, all_below, all_here}
+use Rattle.std.specs.Prelude.{ℕ, ◌+◌, ◌-◌, List, [], ◌++◌, length, map, filter, if◌then◌else◌, ◌&&◌, ◌==◌}
+use Rattle.std.specs.List.{filter_map, flat_map, range_with_len}
 use Rattle.syntect_scope.specs.declared.stack.ScopeStackOp.{ScopeStackOp}
-use Rattle.syntect_scope.specs.declared.stack.ScopeStackOp.TheVariants.{Pop, Clear, Restore}
-use Rattle.syntect_scope.specs.declared.stack.ClearAmount.{ClearAmount}
+use Rattle.syntect_scope.specs.declared.stack.ScopeStackOp.TheVariants.{Pop}
 use Rattle.syntect_scope.specs.Replay.{pushes, pops}
-use Rattle.syntect_grammar.specs.Contexts.{part_of}
 use Rattle.syntect_contexts.specs.Contexts.{target}
-use Rattle.syntect_parsing.specs.Visible.{clearing, top_clearing, top_part}
+use Rattle.syntect_parsing.specs.Visible.{top_clearing, top_part}
 use Rattle.syntect_parsing.specs.Scopes.{Scopes, Capture, longer_first}
-use Rattle.syntect_contexts.specs.declared.context.ContextId.{ContextId}
 use Rattle.syntect_contexts.specs.declared.context.ContextReference.{ContextReference}
 use Rattle.syntect_contexts.specs.declared.context.MatchOperation.{MatchOperation}
 use Rattle.syntect_contexts.specs.declared.context.MatchOperation.TheVariants as op
@@ -28,38 +25,6 @@ captures_at cs place =
 abbrev pub capture_operations : ℕ → ℕ → List Capture → List (ℕ × ScopeStackOp)
 capture_operations start end cs = flat_map (captures_at cs) (range_with_len start (end - start + 1))
 
--- of the contexts that references stand for: their `meta_scope`s, their `meta_content_scope`s, and both
-abbrev pub metas : SyntaxSet → List ContextReference → Scopes
-metas set refs = flat_map (part_of (λ c. c.meta_scope) set) (filter_map target refs)
-
-abbrev pub contents : SyntaxSet → List ContextReference → Scopes
-contents set refs = flat_map (part_of (λ c. c.meta_content_scope) set) (filter_map target refs)
-
-abbrev pub opens : SyntaxSet → List ContextReference → Scopes
-opens set refs = flat_map (part_of (λ c. c.meta_scope ++ c.meta_content_scope) set) (filter_map target refs)
-
-abbrev pub none : Scopes → Bool
-none [] = true
-none (s ∷ ss) = false
-
--- no context of the list clears
-abbrev pub clear_nothing : SyntaxSet → List ContextId → Bool
-clear_nothing set ids = list_all (λ id. is_none (clearing set id)) ids
-
--- clearing by an amount, if there is one, and putting back what was cleared
-abbrev pub clears : ℕ → Option ClearAmount → List (ℕ × ScopeStackOp)
-clears at amount = map (λ a. (at, Clear a)) (option_to_list amount)
-
-abbrev pub restores : ℕ → Option ClearAmount → List (ℕ × ScopeStackOp)
-restores at amount = map (λ a. (at, Restore)) (option_to_list amount)
-
--- what opens a context below a match, and what opens it to stay
-abbrev pub opens_below : ℕ → SyntaxSet → ContextId → List (ℕ × ScopeStackOp)
-opens_below at set id = clears at (clearing set id) ++ pushes at (part_of (λ c. c.meta_scope) set id)
-
-abbrev pub opens_here : ℕ → SyntaxSet → ContextId → List (ℕ × ScopeStackOp)
-opens_here at set id = clears at (clearing set id) ++ pushes at (part_of (λ c. c.meta_scope ++ c.meta_content_scope) set id)
-
 -- how many scopes the top level's context put on the stack
 abbrev pub top_count : SyntaxSet → List Level → ℕ
 top_count set levels = length (top_part (λ c. c.meta_scope) set levels) + length (top_part (λ c. c.meta_content_scope) set levels)
@@ -67,7 +32,7 @@ top_count set levels = length (top_part (λ c. c.meta_scope) set levels) + lengt
 -- At a match's start, below its own scopes. A push opens its contexts; a set puts back what the context that it leaves
 -- cleared, and pushes the `meta_scope`s of its own, which don't clear yet; a pop takes the content scopes off.
 abbrev pub operations_below : ℕ → SyntaxSet → List Level → MatchOperation → List (ℕ × ScopeStackOp)
-operations_below at set levels (op.Push refs) = flat_map (opens_below at set) (filter_map target refs)
+operations_below at set levels (op.Push refs) = all_below at set refs
 operations_below at set levels (op.Set refs) = restores at (top_clearing set levels) ++ pushes at (metas set refs)
 operations_below at set levels op.Pop = pops at (length (top_part (λ c. c.meta_content_scope) set levels))
 operations_below at set levels op.None = []
@@ -81,7 +46,7 @@ operations_pushed at set refs = if none (contents set refs) then [] else pops at
 abbrev pub operations_set : ℕ → SyntaxSet → ℕ → List ContextReference → List (ℕ × ScopeStackOp)
 operations_set at set left refs =
     if none (contents set refs) && ((left == 0) && clear_nothing set (filter_map target refs)) then []
-    else pops at (length (metas set refs) + left) ++ flat_map (opens_here at set) (filter_map target refs)
+    else pops at (length (metas set refs) + left) ++ all_here at set refs
 
 -- At a match's end, once its own scopes are popped.
 abbrev pub operations_behind : ℕ → SyntaxSet → List Level → MatchOperation → List (ℕ × ScopeStackOp)

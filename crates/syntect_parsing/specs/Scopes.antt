@@ -49,7 +49,7 @@ module _ (engine : Engine) where
   abbrev pub scopes_at : Scopes → Live → ℕ → Scopes
   scopes_at below m place = below ++ m.pattern.scope ++ flat_map (λ c. c.scopes) (longer_first (filter (covers place) (captures m)))
 
-  -- the scopes of each byte that a turn with this match passes: those before the match have the open ones
+  -- the scopes of each byte that a turn with this match passes: those before the match have the visible ones
   abbrev pub scopes_passed : SyntaxSet → List Level → ℕ → Live → List Scopes
   scopes_passed set levels place m =
       replicate (m.start - place) (visible set levels)

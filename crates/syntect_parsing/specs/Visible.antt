@@ -1,10 +1,11 @@
 -- Which scopes are open, where contexts clear some of those below them.
+pub use Rattle.syntect_openings.specs.Opens.{clearing}
 use Rattle.std.specs.Prelude.{◌-◌, List, [], ◌++◌, length, take, fold, Option, Some, None}
 use Rattle.std.specs.Option.{option_map_or, option_and_then}
 use Rattle.std.specs.List.{filter_map, flat_map}
 use Rattle.syntect_scope.specs.declared.stack.ClearAmount.{ClearAmount}
 use Rattle.syntect_scope.specs.declared.stack.ClearAmount.TheVariants.{TopN, All}
-use Rattle.syntect_grammar.specs.Contexts.{context_at, part_of}
+use Rattle.syntect_grammar.specs.Contexts.{part_of}
 use Rattle.syntect_contexts.specs.Contexts.{Scopes, target}
 use Rattle.syntect_parsing.specs.Chain.{last}
 use Rattle.syntect_parsing.specs.Turn.{without_last}
@@ -15,11 +16,7 @@ use Rattle.syntect_contexts.specs.declared.context.MatchOperation.TheVariants as
 use Rattle.syntect_grammar.specs.declared.syntax_set.SyntaxSet.{SyntaxSet}
 use Rattle.syntect_parsing.specs.States.{Level}
 
--- how much a context clears, if it clears
-abbrev pub clearing : SyntaxSet → ContextId → Option ClearAmount
-clearing set id = option_and_then (λ c. c.clear_scopes) (context_at set id)
-
--- the same of the top level's context, and a part of that context
+-- how much the top level's context clears, and a part of that context
 abbrev pub top_clearing : SyntaxSet → List Level → Option ClearAmount
 top_clearing set levels = option_and_then (λ l. clearing set l.context) (last levels)
 

@@ -1,14 +1,13 @@
 //! The scopes of the groups of a match.
-ghost use Rattle.std.specs.Prelude.{◌≡◌, ◌≤◌, ◌<◌, ◌++◌, ◌&&◌, nat_lt, nat_le, not, IsTrue, List, ℕ, length, map, IfOk, IfSome, OnOk, IsCharBoundary, unwrap_or, Option, None, Some, []};
+ghost use Rattle.std.specs.Prelude.{◌≡◌, ◌≤◌, ◌<◌, ◌&&◌, nat_lt, nat_le, not, IsTrue, length, map, IfOk, IfSome, OnOk, IsCharBoundary, unwrap_or, Option, None, Some};
 ghost use Rattle.std.specs.Option.{option_map};
 ghost use Rattle.std.specs.List.{flat_map, filter_map};
 ghost use Rattle.syntect_parsing.specs.Engine.{dialect};
 ghost use Rattle.syntect_parsing.specs.Turn.{group_at};
 ghost use Rattle.syntect_parsing.specs.Scopes.{Scopes, effect, captures};
-ghost use Rattle.syntect_parsing.specs.Operations.{capture_operations};
 ghost use Rattle.syntect_parsing.specs.Laws.{StandsIn};
 ghost use Rattle.syntect_parsing.specs.Sorting.{in_order};
-ghost use Rattle.syntect_parsing.specs.Candidates.{seen, text_of, seen_mark, marks_of, mark_operations};
+ghost use Rattle.syntect_parsing.specs.Candidates.{seen, text_of, seen_mark, marks_of, AreMarksOf};
 
 use crate::search::Candidate;
 use std::alloc::{AllocError, Global};
@@ -111,8 +110,8 @@ pub fn capture_marks<'s>(
     requires within { place ≤ length line.now }
     requires boundary { IsCharBoundary line.now place }
     requires stands { StandsIn line.now place m.now.start m.now.end }
-    ensures { IfOk result (λ v. flat_map mark_operations (map seen_mark v.items)
-        ≡ capture_operations m.now.start m.now.end (captures dialect (seen line.now place m.now))) }
+    ensures { IfOk result (λ v. AreMarksOf m.now
+        (captures dialect (seen line.now place m.now)) v.items) }
 {
     let pattern = m.pattern;
     let Some(captures) = &pattern.captures else {

@@ -1,18 +1,19 @@
 //! The patterns that a turn looks at.
-ghost use Rattle.std.specs.Prelude.{◌≡◌, ◌≢◌, ◌≤◌, ◌<◌, ◌+◌, ◌++◌, ◌∷◌, [], List, ℕ, length, map, take, find, is_none, true, IfOk, OnErr, Some, None};
-ghost use Rattle.std.specs.Option.{option_copied, option_map};
-ghost use Rattle.std.specs.List.{list_any, flat_map};
-ghost use Rattle.syntect_contexts.specs.Contexts.{is_same, target};
+ghost use Rattle.std.specs.Prelude.{◌≡◌, ◌++◌, map, find, is_none, true, false, IfOk, Some, None};
+ghost use Rattle.std.specs.Option.{option_copied, option_to_list};
+ghost use Rattle.std.specs.List.{flat_map};
 ghost use Rattle.syntect_grammar.specs.Contexts.{context_at};
-ghost use Rattle.syntect_parsing.specs.Chain.{entries, walk, walk_patterns, room_in, patterns_of, as_members, members, in_sight, chain, prototypes_in};
+ghost use Rattle.syntect_parsing.specs.Chain.{as_members, members, in_sight, chain, prototypes_in};
 ghost use Rattle.syntect_parsing.specs.Candidates.{member_of};
+ghost use Rattle.syntect_openings.specs.Walk.{FindsSame};
 
-use crate::opening::Opening;
 use crate::parser::Level;
 use crate::position::Position;
 use std::alloc::{AllocError, Global};
-use syntect_grammar::syntax_definition::{Context, ContextId, MatchPattern, Pattern};
+use syntect_grammar::syntax_definition::{Context, ContextId, MatchPattern};
 use syntect_grammar::syntax_set::SyntaxSet;
+use syntect_openings::opening::Opening;
+use syntect_openings::walk::patterns_of;
 
 /// A pattern of the chain, with the opening match that it is searched with, and whether it is from a `with_prototype`.
 #[derive(Clone, Copy)]
@@ -22,81 +23,19 @@ pub struct Entry<'s, 'p> {
     pub from_with_prototype: bool,
 }
 
-fn is_on(path: &[ContextId], id: ContextId) -> bool
-    ensures { result ≡ list_any (is_same id) path.now }
-{
-    path.iter().any(|x| {
-        id.syntax_index == x.syntax_index && id.context_index == x.context_index
-    })
-}
-
-/// The entries of a context, none where the set lacks it.
-fn entries<'s>(set: &'s SyntaxSet, id: ContextId) -> &'s [Pattern]
-    ensures { result.now ≡ entries set.now id }
-{
-    match set.context_at(id) {
-        Some(context) => context.patterns.as_slice(),
-        None => &[],
-    }
-}
-
-/// Adds the patterns that entries give, reached by this include path, which is left as it was.
-fn walk<'s>(
-    alloc: Global,
-    set: &'s SyntaxSet,
-    room: u128,
-    path: &[ContextId],
-    patterns: &'s [Pattern],
-    out: &mut Vec<&'s MatchPattern>,
-) -> Result<(), AllocError>
-    ensures { IfOk result (λ _. map (λ m. m.now) out.new.items ≡ map (λ m. m.now) out.old.items ++ walk room set.now path.now patterns.now) }
-{
-    if room == 0 {
-        return Ok(());
-    }
-    for pattern in patterns {
-        match pattern {
-            Pattern::Match(m) => out.push(m)?,
-            Pattern::Include(r) => {
-                if let Some(id) = r.target() {
-                    if !is_on(path, id) {
-                        let mut inner = Vec::from_slice(alloc, path)?;
-                        inner.push(id)?;
-                        walk(
-                            alloc,
-                            set,
-                            room - 1,
-                            inner.as_slice(),
-                            entries(set, id),
-                            out,
-                        )?;
-                    }
-                }
-            }
-        }
-    }
-    Ok(())
-}
-
-/// Adds the patterns of a context, which stands on its own include path, to a chain.
-fn add_context<'s, 'p>(
-    alloc: Global,
-    set: &'s SyntaxSet,
-    room: u128,
-    id: ContextId,
+/// Adds patterns to a chain.
+fn add_patterns<'s, 'p>(
+    patterns: &[&'s MatchPattern],
     from_with_prototype: bool,
     opening: Option<&'p Opening>,
     chain: &mut Vec<Entry<'s, 'p>>,
 ) -> Result<(), AllocError>
-    requires { room ≡ room_in set.now }
-    ensures { IfOk result (λ _. map member_of chain.new.items
-        ≡ map member_of chain.old.items ++ members set.now from_with_prototype (option_copied opening.entry) id) }
+    ensures { IfOk result (λ _. map member_of chain.new.items ≡ map member_of chain.old.items
+        ++ as_members from_with_prototype (option_copied opening.entry) (map (λ m. m.now) patterns.now)) }
 {
-    let mut patterns = Vec::new(alloc);
-    walk(alloc, set, room, &[id], entries(set, id), &mut patterns)?;
     for pattern in patterns {
         chain.push(Entry {
-            pattern,
+            pattern: *pattern,
             opening,
             from_with_prototype,
         })?;
@@ -104,22 +43,20 @@ fn add_context<'s, 'p>(
     Ok(())
 }
 
-/// Adds the patterns of a level's prototypes.
-#[tactic(auto, using(crate::proofs::ListLaws::flat_map_step))]
-fn add_prototypes<'s, 'p>(
+/// Adds the patterns of a context, which stands on its own include path.
+fn add_context<'s, 'p>(
     alloc: Global,
     set: &'s SyntaxSet,
-    room: u128,
-    level: &'p Level,
+    id: ContextId,
+    from_with_prototype: bool,
+    opening: Option<&'p Opening>,
     chain: &mut Vec<Entry<'s, 'p>>,
 ) -> Result<(), AllocError>
-    requires { room ≡ room_in set.now }
-    ensures { IfOk result (λ _. map member_of chain.new.items
-        ≡ map member_of chain.old.items ++ flat_map (members set.now true level.now.opening) level.now.prototypes) }
+    ensures { IfOk result (λ _. FindsSame (map member_of chain.new.items) (map member_of chain.old.items
+        ++ members set.now from_with_prototype (option_copied opening.entry) id)) }
 {
-    for id in level.prototypes.as_slice() {
-        add_context(alloc, set, room, *id, true, level.opening.as_ref(), chain)?;
-    }
+    let patterns = patterns_of(alloc, set, id)?;
+    add_patterns(patterns.as_slice(), from_with_prototype, opening, chain)?;
     Ok(())
 }
 
@@ -140,34 +77,89 @@ fn in_sight(p: &Position) -> &[Level]
     }
 }
 
-/// The chain of a turn.
+/// Adds those of contexts, one after another.
+fn add_contexts<'s, 'p>(
+    alloc: Global,
+    set: &'s SyntaxSet,
+    ids: &[ContextId],
+    opening: Option<&'p Opening>,
+    chain: &mut Vec<Entry<'s, 'p>>,
+) -> Result<(), AllocError>
+    ensures { IfOk result (λ _. FindsSame (map member_of chain.new.items) (map member_of chain.old.items
+        ++ flat_map (members set.now true (option_copied opening.entry)) ids.now)) }
+{
+    for id in ids {
+        add_context(alloc, set, *id, true, opening, chain)?;
+    }
+    Ok(())
+}
+
+/// Adds those of a level's prototypes.
+fn add_prototypes<'s, 'p>(
+    alloc: Global,
+    set: &'s SyntaxSet,
+    level: &'p Level,
+    chain: &mut Vec<Entry<'s, 'p>>,
+) -> Result<(), AllocError>
+    ensures { IfOk result (λ _. FindsSame (map member_of chain.new.items) (map member_of chain.old.items
+        ++ flat_map (members set.now true level.now.opening) level.now.prototypes)) }
+{
+    let ids = level.prototypes.as_slice();
+    add_contexts(alloc, set, ids, level.opening.as_ref(), chain)?;
+    Ok(())
+}
+
+/// Adds those of levels.
+fn add_levels<'s, 'p>(
+    alloc: Global,
+    set: &'s SyntaxSet,
+    levels: &'p [Level],
+    chain: &mut Vec<Entry<'s, 'p>>,
+) -> Result<(), AllocError>
+    ensures { IfOk result (λ _. FindsSame (map member_of chain.new.items) (map member_of chain.old.items
+        ++ flat_map (λ l. flat_map (members set.now true l.opening) l.prototypes) levels.now)) }
+{
+    for level in levels {
+        add_prototypes(alloc, set, level, chain)?;
+    }
+    Ok(())
+}
+
+/// Adds the patterns of a context's prototype, if it has one.
+fn add_prototype<'s, 'p>(
+    alloc: Global,
+    set: &'s SyntaxSet,
+    prototype: Option<ContextId>,
+    chain: &mut Vec<Entry<'s, 'p>>,
+) -> Result<(), AllocError>
+    ensures { IfOk result (λ _. FindsSame (map member_of chain.new.items) (map member_of chain.old.items
+        ++ flat_map (members set.now false None) (option_to_list prototype))) }
+{
+    match prototype {
+        Some(id) => {
+            add_context(alloc, set, id, false, None, chain)?;
+            Ok(())
+        }
+        None => Ok(()),
+    }
+}
+
+/// The chain of a turn, as far as who looks for the first member that passes a test can tell.
 pub fn chain<'s, 'p>(
     alloc: Global,
     set: &'s SyntaxSet,
-    room: u128,
     p: &'p Position,
     top: &'p Level,
     context: &'s Context,
 ) -> Result<Vec<Entry<'s, 'p>>, AllocError>
-    requires { room ≡ room_in set.now }
-    ensures { IfOk result (λ v. map member_of v.items ≡ chain set.now p.now top.now context.now) }
+    ensures { IfOk result (λ v. FindsSame (map member_of v.items)
+        (chain set.now p.now top.now context.now)) }
 {
     let mut chain = Vec::new(alloc);
-    for level in in_sight(p) {
-        add_prototypes(alloc, set, room, level, &mut chain)?;
-    }
-    if let Some(id) = context.prototype {
-        add_context(alloc, set, room, id, false, None, &mut chain)?;
-    }
-    add_context(
-        alloc,
-        set,
-        room,
-        top.context,
-        false,
-        top.opening.as_ref(),
-        &mut chain,
-    )?;
+    let opening = top.opening.as_ref();
+    add_levels(alloc, set, in_sight(p), &mut chain)?;
+    add_prototype(alloc, set, context.prototype, &mut chain)?;
+    add_context(alloc, set, top.context, false, opening, &mut chain)?;
     Ok(chain)
 }
 

@@ -1,7 +1,7 @@
 //! The levels that a match opens and leaves.
-ghost use Rattle.std.specs.Prelude.{◌≡◌, ◌≤◌, ◌++◌, ◌∷◌, [], List, length, IfOk, true, false, IsCharBoundary, ◌==◌, ◌+◌, ◌<◌, if◌then◌else◌, ℕ};
-ghost use Rattle.std.specs.Option.{option_map_or, option_copied, option_and_then};
-ghost use Rattle.std.specs.List.{list_any, filter_map};
+ghost use Rattle.std.specs.Prelude.{◌≡◌, ◌≤◌, ◌++◌, [], length, IfOk, true, false, IsCharBoundary, ◌==◌, ◌+◌, ◌<◌, if◌then◌else◌};
+ghost use Rattle.std.specs.Option.{option_map_or, option_and_then};
+ghost use Rattle.std.specs.List.{list_any};
 ghost use Rattle.syntect_grammar.specs.Contexts.{context_at};
 ghost use Rattle.syntect_contexts.specs.Contexts.{target};
 ghost use Rattle.syntect_parsing.specs.Turn.{uses_backrefs, new_level, new_levels, levels_after, list_of, position_after};
@@ -9,7 +9,6 @@ ghost use Rattle.syntect_parsing.specs.Candidates.{seen, opening_by, record_at};
 ghost use Rattle.syntect_parsing.specs.Chain.{last};
 
 use crate::names::targets;
-use crate::opening::Opening;
 use crate::parser::Level;
 use crate::position::{MOST_IDLE, Position, Record};
 use crate::search::Candidate;
@@ -17,6 +16,7 @@ use std::alloc::{AllocError, Global};
 use std::mem;
 use syntect_grammar::syntax_definition::{ContextId, ContextReference, MatchOperation};
 use syntect_grammar::syntax_set::SyntaxSet;
+use syntect_openings::opening::Opening;
 use syntect_regex::region::Region;
 use syntect_values::seq::Seq;
 use syntect_values::text::Text;

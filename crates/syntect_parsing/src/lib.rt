@@ -9,7 +9,6 @@ mod emit;
 pub mod laws;
 mod levels;
 mod names;
-mod opening;
 pub mod parser;
 mod position;
 mod search;

@@ -1,5 +1,5 @@
 //! The contexts that a match names.
-ghost use Rattle.std.specs.Prelude.{◌≡◌, ◌++◌, List, length, map, find, is_none, IfOk, IfErr, None, true};
+ghost use Rattle.std.specs.Prelude.{◌≡◌, find, is_none, IfOk, IfErr, None};
 ghost use Rattle.std.specs.Option.{option_copied, option_to_list};
 ghost use Rattle.std.specs.List.{filter_map};
 ghost use Rattle.syntect_grammar.specs.Contexts.{context_at};

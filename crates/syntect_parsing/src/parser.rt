@@ -1,5 +1,5 @@
 //! Reading a line.
-ghost use Rattle.std.specs.Prelude.{◌≡◌, ◌≢◌, ◌↔◌, [], take, Some, codes, IfOk, IfErr, OnErr, IsTrue};
+ghost use Rattle.std.specs.Prelude.{◌≡◌, ◌≢◌, ◌↔◌, [], take, Some, IfOk, IfErr, OnErr, IsTrue};
 ghost use Rattle.std.specs.Option.{option_to_list, option_map_or};
 ghost use Rattle.syntect_scope.specs.Replay.{pushes};
 ghost use Rattle.syntect_grammar.specs.Contexts.{part_of};
@@ -10,14 +10,13 @@ ghost use Rattle.syntect_parsing.specs.Meaning.{MayLackStart, Accepts, MayRefuse
 ghost use Rattle.syntect_parsing.specs.States.{standing};
 
 use crate::laws::dialect_finds_in_text;
-use crate::opening::Opening;
 use crate::position::Position;
 use crate::turn::turn;
 use std::alloc::{AllocError, AllocFailed, Global};
 pub use syntect_grammar::error::ParsingError;
-use syntect_grammar::includes::room_in;
 use syntect_grammar::syntax_definition::{ContextId, ContextReference};
 use syntect_grammar::syntax_set::{SyntaxReference, SyntaxSet};
+use syntect_openings::opening::Opening;
 use syntect_regex::region::Region;
 use syntect_scope::scope::Scope;
 use syntect_scope::stack::ScopeStackOp;
@@ -181,7 +180,6 @@ fn read_line(
     ensures refused { IfErr result (MayRefuse dialect set.now line.now state.now) }
 {
     dialect_finds_in_text();
-    let room = room_in(set);
     let mut region = Region::new(alloc);
     let mut ops = match first_operations(alloc, set, state) {
         Ok(ops) => ops,
@@ -192,7 +190,7 @@ fn read_line(
         Err(_) => return Err(ParsingError::Memory),
     };
     loop {
-        match turn(alloc, set, room, line, &mut p, &mut region, &mut ops) {
+        match turn(alloc, set, line, &mut p, &mut region, &mut ops) {
             Err(e) => return Err(e),
             Ok(true) => {}
             Ok(false) => break,

@@ -1,12 +1,14 @@
 //! Which match a turn takes.
-ghost use Rattle.std.specs.Prelude.{◌≡◌, ◌≤◌, ◌<◌, ◌==◌, ◌&&◌, not, nat_le, nat_lt, List, ℕ, length, map, find, IfOk, IfSome, None, Some, IsCharBoundary, unwrap_or};
+ghost use Rattle.std.specs.Prelude.{◌≡◌, ◌≤◌, ◌++◌, [], List, ℕ, length, map, IfOk, IsCharBoundary, unwrap_or, if◌then◌else◌, true, false, Some, None};
 ghost use Rattle.std.specs.Option.{option_map, option_copied};
-ghost use Rattle.std.specs.List.{list_all};
+ghost use Rattle.std.specs.List.{cons_option};
 ghost use Rattle.syntect_parsing.specs.Engine.{dialect};
-ghost use Rattle.syntect_parsing.specs.Turn.{live, live_match, searched_text, loops, is_least, counts, turns_back, is_at_record, Live, winner, choice_of, char_len};
+ghost use Rattle.syntect_parsing.specs.Turn.{Live, live, live_match, searched_text, loops, counts, turns_back, winner, char_len};
+ghost use Rattle.syntect_parsing.specs.Best.{IsBest, IsNear, choice_by, wanted};
 ghost use Rattle.syntect_parsing.specs.Candidates.{member_of, seen, text_of, chosen};
 
 use crate::chain::Entry;
+use crate::laws::dialect_finds_in_text;
 use crate::position::{MOST_IDLE, MOST_LEVELS, Position};
 use std::alloc::{AllocError, Global};
 use syntect_engine::text::char_at;
@@ -23,6 +25,44 @@ pub struct Candidate<'s> {
     pub from_with_prototype: bool,
     pub start: usize,
     pub end: usize,
+}
+
+/// What a turn has found in a part of the chain.
+#[derive(Drop)]
+pub struct Best<'s> {
+    /// No match that was looked for begins before it.
+    pub start: usize,
+    /// Whether one begins there.
+    pub is_match: bool,
+    /// The first of those that doesn't go round in circles.
+    pub candidate: Option<Candidate<'s>>,
+}
+
+impl<'s> Best<'s> {
+    /// Nothing is found, and nothing is looked for.
+    pub fn none() -> Best<'s>
+        ensures is_match { result.is_match ≡ false }
+        ensures candidate { result.candidate ≡ None }
+    {
+        Best {
+            start: 0,
+            is_match: false,
+            candidate: None,
+        }
+    }
+
+    /// Up to which place a match of a later member would be taken in its place, if it could be at all.
+    fn wanted(&self, place: usize) -> Option<usize>
+        ensures { result ≡ wanted place self.now }
+    {
+        if self.is_match && self.candidate.is_none() {
+            Some(self.start)
+        } else if place < self.start {
+            Some(self.start - 1)
+        } else {
+            None
+        }
+    }
 }
 
 /// What a turn does: take a match, pass over a character, or end the line.
@@ -66,7 +106,8 @@ fn counts(height: usize, operation: &MatchOperation, start: usize, end: usize) -
 
 /// What is searched in place of the pattern where it uses back references and has an opening match.
 fn substituted(entry: &Entry<'_, '_>) -> Result<Option<Regex>, AllocError>
-    ensures { IfOk result (λ r. unwrap_or r entry.now.pattern.now.regex ≡ searched_text dialect entry.now.pattern.now (option_copied entry.now.opening)) }
+    ensures { IfOk result (λ r. unwrap_or r entry.now.pattern.now.regex
+        ≡ searched_text dialect entry.now.pattern.now (option_copied entry.now.opening)) }
 {
     let Some(opening) = entry.opening else {
         return Ok(None);
@@ -78,21 +119,23 @@ fn substituted(entry: &Entry<'_, '_>) -> Result<Option<Regex>, AllocError>
     }
 }
 
-/// The match of a pattern of the chain from the place on, if it has one that counts.
+/// The match of a pattern of the chain from the place on, if it has one that counts, unless it begins behind `last`.
 fn search_entry<'s>(
     entry: &Entry<'s, '_>,
     line: &str,
     place: usize,
+    last: usize,
     height: usize,
     region: &mut Region,
 ) -> Result<Option<Candidate<'s>>, AllocError>
-    requires within { place ≤ length line.now }
-    requires boundary { IsCharBoundary line.now place }
-    ensures { IfOk result (λ m. option_map (seen line.now place) m ≡ live_match dialect height line.now place (member_of entry.now)) }
+    requires order { place ≤ last }
+    ensures { IfOk result (λ m. IsNear (live_match dialect height line.now place (member_of entry.now))
+        last (option_map (seen line.now place) m)) }
 {
+    dialect_finds_in_text();
     let substituted = substituted(entry)?;
     let regex = searched(entry.pattern, &substituted);
-    if !regex.search_into(line, place, line.len(), region)? {
+    if !regex.search_up_to(line, place, last, region)? {
         return Ok(None);
     }
     let Some((start, end)) = region.pos(0) else {
@@ -109,28 +152,6 @@ fn search_entry<'s>(
     } else {
         Ok(None)
     }
-}
-
-/// The matches of a chain from the place on, in its order.
-pub fn live<'s>(
-    alloc: Global,
-    chain: &[Entry<'s, '_>],
-    line: &str,
-    p: &Position,
-    region: &mut Region,
-) -> Result<Vec<Candidate<'s>>, AllocError>
-    requires within { p.now.place ≤ length line.now }
-    requires boundary { IsCharBoundary line.now p.now.place }
-    ensures { IfOk result (λ v. map (seen line.now p.now.place) v.items ≡ live dialect line.now p.now (map member_of chain.now)) }
-{
-    let height = p.levels.len();
-    let mut out = Vec::new(alloc);
-    for entry in chain {
-        if let Some(m) = search_entry(entry, line, p.place, height, region)? {
-            out.push(m)?;
-        }
-    }
-    Ok(out)
 }
 
 /// Whether an operation at the place itself would go round in circles.
@@ -155,32 +176,103 @@ fn loops(line: &str, p: &Position, m: &Candidate<'_>) -> bool
     m.end == p.place && turns_back(p, &m.pattern.operation)
 }
 
-/// Whether no match starts before this place.
-fn none_before(ms: &[Candidate<'_>], start: usize) -> bool
-    ensures { result ≡ list_all (λ k. nat_le start k.start) ms.now }
+/// What is found once this match is: it begins first.
+fn led_by<'s>(line: &str, p: &Position, m: Candidate<'s>) -> Best<'s>
+    ensures start { result.start ≡ m.entry.start }
+    ensures is_match { result.is_match ≡ true }
+    ensures candidate { result.candidate
+        ≡ (if loops p.now (seen line.now p.now.place m.entry) then None else Some m.entry) }
 {
-    ms.iter().all(|k| start <= k.start)
-}
-
-/// Whether no match of the list starts before this one.
-#[tactic(auto, using(crate::proofs::SearchLaws::list_all_of_map))]
-fn is_least(line: &str, p: &Position, ms: &[Candidate<'_>], m: &Candidate<'_>) -> bool
-    ensures { result ≡ is_least (map (seen line.now p.now.place) ms.now) (seen line.now p.now.place m.now) }
-{
-    none_before(ms, m.start)
-}
-
-/// The first match of least start that doesn't go round in circles.
-fn pick<'m, 's>(line: &str, p: &Position, ms: &'m [Candidate<'s>]) -> Option<&'m Candidate<'s>>
-    ensures { option_map (seen line.now p.now.place) (option_copied result)
-        ≡ find (λ m. is_least (map (seen line.now p.now.place) ms.now) m && not (loops p.now m)) (map (seen line.now p.now.place) ms.now) }
-{
-    for m in ms {
-        if is_least(line, p, ms, m) && !loops(line, p, m) {
-            return Some(m);
-        }
+    let start = m.start;
+    let candidate = if loops(line, p, &m) { None } else { Some(m) };
+    Best {
+        start,
+        is_match: true,
+        candidate,
     }
-    None
+}
+
+/// What is found with one member of the chain more.
+fn with_entry<'s>(
+    entry: &Entry<'s, '_>,
+    line: &str,
+    p: &Position,
+    best: Best<'s>,
+    region: &mut Region,
+) -> Result<Best<'s>, AllocError>
+    requires { p.now.place ≤ best.start }
+    ensures { (last : ℕ) (ms : List Live) → IsBest line.now p.now last ms best.entry
+        → IfOk result (λ b. IsBest line.now p.now last (ms ++ cons_option
+        (live_match dialect (length p.now.levels) line.now p.now.place (member_of entry.now)) []) b) }
+{
+    dialect_finds_in_text();
+    let Some(wanted) = best.wanted(p.place) else {
+        return Ok(best);
+    };
+    match search_entry(entry, line, p.place, wanted, p.levels.len(), region)? {
+        Some(m) => {
+            if m.start <= wanted {
+                Ok(led_by(line, p, m))
+            } else {
+                Ok(best)
+            }
+        }
+        None => Ok(best),
+    }
+}
+
+/// What a chain has up to a place.
+fn best_up_to<'s>(
+    chain: &[Entry<'s, '_>],
+    line: &str,
+    p: &Position,
+    last: usize,
+    region: &mut Region,
+) -> Result<Best<'s>, AllocError>
+    requires order { p.now.place ≤ last }
+    requires within { last ≤ length line.now }
+    ensures { IfOk result (λ b. IsBest line.now p.now last
+        (live dialect line.now p.now (map member_of chain.now)) b) }
+{
+    let mut best = Best {
+        start: last + 1,
+        is_match: false,
+        candidate: None,
+    };
+    for entry in chain {
+        best = with_entry(entry, line, p, best, region)?;
+    }
+    Ok(best)
+}
+
+/// How far a chain is searched at first.
+const REACH: usize = 32;
+
+/// What a chain has: it is searched no farther than it takes to find a match, by reaches that double.
+pub fn best_of_chain<'s>(
+    chain: &[Entry<'s, '_>],
+    line: &str,
+    p: &Position,
+    region: &mut Region,
+) -> Result<Best<'s>, AllocError>
+    requires within { p.now.place ≤ length line.now }
+    ensures { IfOk result (λ b. choice_by line.now p.now.place b
+        ≡ winner line.now p.now (live dialect line.now p.now (map member_of chain.now))) }
+{
+    dialect_finds_in_text();
+    let mut last = line.len().min(p.place.saturating_add(REACH));
+    'reaches: loop {
+        let found = best_up_to(chain, line, p, last, region)?;
+        if found.is_match {
+            return Ok(found);
+        }
+        if last >= line.len() {
+            return Ok(found);
+        }
+        last = line
+            .len()
+            .min(last.saturating_add(last - p.place).saturating_add(1));
+    }
 }
 
 /// How many bytes the character at a place has.
@@ -196,17 +288,17 @@ pub fn char_len(line: &str, place: usize) -> usize
     }
 }
 
-/// What a turn does with these matches: it takes the first of least start that doesn't go round in circles, or else
-/// passes over a character, or else ends the line.
-pub fn winner<'m, 's>(line: &str, p: &Position, ms: &'m [Candidate<'s>]) -> Choice<'m, 's>
+/// What a turn does: it takes the first match of least start that doesn't go round in circles, or else passes over a
+/// character, or else ends the line.
+pub fn choose<'m, 's>(line: &str, p: &Position, best: &'m Best<'s>) -> Choice<'m, 's>
     requires within { p.now.place ≤ length line.now }
     requires boundary { IsCharBoundary line.now p.now.place }
-    ensures { chosen line.now p.now.place result ≡ winner line.now p.now (map (seen line.now p.now.place) ms.now) }
+    ensures { chosen line.now p.now.place result ≡ choice_by line.now p.now.place best.now }
 {
-    if let Some(m) = pick(line, p, ms) {
+    if let Some(m) = &best.candidate {
         return Choice::Take(m);
     }
-    if !ms.is_empty() && p.place + char_len(line, p.place) < line.len() {
+    if best.is_match && p.place + char_len(line, p.place) < line.len() {
         Choice::Skip
     } else {
         Choice::End

@@ -1,11 +1,12 @@
 //! One turn of reading a line.
-ghost use Rattle.std.specs.Prelude.{◌≡◌, ◌≤◌, ◌<◌, nat_lt, filter, length, map, IfOk, IfErr, IsCharBoundary, Some, ◌+◌, true};
+ghost use Rattle.std.specs.Prelude.{◌≡◌, ◌≤◌, ◌<◌, nat_lt, filter, length, IfOk, IfErr, IsCharBoundary, Some, ◌+◌, true};
 ghost use Rattle.syntect_parsing.specs.Engine.{dialect};
-ghost use Rattle.syntect_parsing.specs.Chain.{last, room_in};
+ghost use Rattle.syntect_parsing.specs.Chain.{last};
 ghost use Rattle.syntect_parsing.specs.Turn.{trimmed, skipped, char_len, winner, Take};
 ghost use Rattle.syntect_parsing.specs.Line.{step, turn_on};
 ghost use Rattle.syntect_parsing.specs.Laws.{StandsIn};
 ghost use Rattle.syntect_parsing.specs.Candidates.{seen, live_in};
+ghost use Rattle.syntect_parsing.specs.Best.{choice_by};
 ghost use Rattle.syntect_parsing.specs.Orderly.{is_orderly};
 ghost use Rattle.syntect_parsing.specs.Step.{MakesStep, RefusesStep, Turns, RefusesTurn};
 
@@ -16,7 +17,7 @@ use crate::levels::apply;
 use crate::names::check_names;
 use crate::parser::ParsingError;
 use crate::position::{MOST_IDLE, Position};
-use crate::search::{Candidate, Choice, char_len, live, winner};
+use crate::search::{Best, Candidate, Choice, best_of_chain, char_len, choose};
 use std::alloc::Global;
 use std::mem;
 use syntect_grammar::syntax_set::SyntaxSet;
@@ -40,25 +41,25 @@ fn trim(alloc: Global, p: &mut Position)
     p.cuts = Seq::from_vec(cuts);
 }
 
-/// The matches that a turn has to choose from, once cuts are dropped.
-fn candidates<'s>(
+/// The best of the matches that a turn has to choose from, once cuts are dropped.
+fn best_match<'s>(
     alloc: Global,
     set: &'s SyntaxSet,
-    room: u128,
     line: &str,
     p: &Position,
     region: &mut Region,
-) -> Result<Vec<Candidate<'s>>, ParsingError>
-    requires room { room ≡ room_in set.now }
+) -> Result<Best<'s>, ParsingError>
     requires within { p.now.place ≤ length line.now }
     requires boundary { IsCharBoundary line.now p.now.place }
-    ensures chosen { IfOk result (λ ms. turn_on dialect set.now line.now p.now (last p.now.levels)
-        ≡ step dialect set.now line.now p.now (winner line.now p.now (map (seen line.now p.now.place) ms.items))) }
-    ensures live { IfOk result (λ ms. map (seen line.now p.now.place) ms.items ≡ live_in dialect set.now line.now p.now) }
-    ensures refused { IfErr result (RefusesStep (turn_on dialect set.now line.now p.now (last p.now.levels))) }
+    ensures chosen { IfOk result (λ best. turn_on dialect set.now line.now p.now (last p.now.levels)
+        ≡ step dialect set.now line.now p.now (choice_by line.now p.now.place best)) }
+    ensures wins { IfOk result (λ best. choice_by line.now p.now.place best
+        ≡ winner line.now p.now (live_in dialect set.now line.now p.now)) }
+    ensures refused { IfErr result
+        (RefusesStep (turn_on dialect set.now line.now p.now (last p.now.levels))) }
 {
     let Some(top) = p.levels.as_slice().last() else {
-        return Ok(Vec::new(alloc));
+        return Ok(Best::none());
     };
     let Some(context) = set.context_at(top.context) else {
         return Err(ParsingError::MissingContext(top.context));
@@ -66,8 +67,8 @@ fn candidates<'s>(
     if let Some(id) = missing_prototype(set, p, context) {
         return Err(ParsingError::MissingContext(id));
     }
-    let entries = chain(alloc, set, room, p, top, context)?;
-    Ok(live(alloc, entries.as_slice(), line, p, region)?)
+    let entries = chain(alloc, set, p, top, context)?;
+    Ok(best_of_chain(entries.as_slice(), line, p, region)?)
 }
 
 /// Takes a match: its operations, and where the reader then stands.
@@ -84,9 +85,12 @@ fn take(
     requires boundary { IsCharBoundary line.now p.old.place }
     requires few { p.old.idle ≤ MOST_IDLE }
     requires stands { StandsIn line.now p.old.place m.now.start m.now.end }
-    ensures makes { IfOk result (λ _. MakesStep (is_orderly set.now p.old.levels m.now.pattern.now.operation ≡ true) set.now line.now
-        (step dialect set.now line.now p.old (Take (seen line.now p.old.place m.now))) p.old p.new ops.old.items ops.new.items) }
-    ensures refused { IfErr result (RefusesStep (step dialect set.now line.now p.old (Take (seen line.now p.old.place m.now)))) }
+    ensures makes { IfOk result (λ _. MakesStep
+        (is_orderly set.now p.old.levels m.now.pattern.now.operation ≡ true) set.now line.now
+        (step dialect set.now line.now p.old (Take (seen line.now p.old.place m.now)))
+        p.old p.new ops.old.items ops.new.items) }
+    ensures refused { IfErr result (RefusesStep
+        (step dialect set.now line.now p.old (Take (seen line.now p.old.place m.now)))) }
 {
     dialect_lays_groups_out();
     check_names(set, m.pattern)?;
@@ -110,26 +114,25 @@ fn skip(line: &str, p: &mut Position)
 pub fn turn(
     alloc: Global,
     set: &SyntaxSet,
-    room: u128,
     line: &str,
     p: &mut Position,
     region: &mut Region,
     ops: &mut Vec<(usize, ScopeStackOp)>,
 ) -> Result<bool, ParsingError>
-    requires room { room ≡ room_in set.now }
     requires within { p.old.place ≤ length line.now }
     requires boundary { IsCharBoundary line.now p.old.place }
     requires few { p.old.idle ≤ MOST_IDLE }
-    ensures turns { IfOk result (Turns dialect set.now line.now p.old p.new ops.old.items ops.new.items) }
+    ensures turns { IfOk result
+        (Turns dialect set.now line.now p.old p.new ops.old.items ops.new.items) }
     ensures refused { IfErr result (RefusesTurn dialect set.now line.now p.old) }
 {
     dialect_finds_in_text();
     trim(alloc, p);
-    let ms = match candidates(alloc, set, room, line, p, region) {
-        Ok(ms) => ms,
+    let found = match best_match(alloc, set, line, p, region) {
+        Ok(found) => found,
         Err(e) => return Err(e),
     };
-    match winner(line, p, ms.as_slice()) {
+    match choose(line, p, &found) {
         Choice::Take(m) => match take(alloc, set, line, p, m, region, ops) {
             Ok(()) => Ok(true),
             Err(e) => Err(e),

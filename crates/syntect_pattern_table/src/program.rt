@@ -142,19 +142,31 @@ impl Program {
         ensures inside { result ≤ length text.now }
         ensures skipped { (k : ℕ) → place ≤ k → k < result → CannotBegin text.now self.now k }
     {
-        next_flagged(self.starts.as_slice(), text.as_bytes(), place)
+        next_flagged(self.starts.as_slice(), text.as_bytes(), place, text.len())
+    }
+
+    /// The first place from this one on where a match can begin, as far as the bytes up to `end` tell, or `end`.
+    pub fn next_start_up_to(&self, text: &str, place: usize, end: usize) -> usize
+        requires order { place ≤ end }
+        requires within { end ≤ length text.now }
+        ensures later { place ≤ result }
+        ensures inside { result ≤ end }
+        ensures skipped { (k : ℕ) → place ≤ k → k < result → CannotBegin text.now self.now k }
+    {
+        next_flagged(self.starts.as_slice(), text.as_bytes(), place, end)
     }
 }
 
-/// The first place from this one on whose byte is flagged, or the text's end.
-fn next_flagged(flags: &[bool], text: &[u8], place: usize) -> usize
-    requires { place ≤ length text.now }
+/// The first place from this one on whose byte is flagged, or `end`.
+fn next_flagged(flags: &[bool], text: &[u8], place: usize, end: usize) -> usize
+    requires order { place ≤ end }
+    requires within { end ≤ length text.now }
     ensures later { place ≤ result }
-    ensures inside { result ≤ length text.now }
+    ensures inside { result ≤ end }
     ensures skipped { (k : ℕ) → place ≤ k → k < result → slice_index_or flags.now (min (slice_index text.now k) 128) true ≡ false }
 {
     let mut next = place;
-    while next < text.len() && !flag_at(flags, text[next].min(128)) {
+    while next < end && !flag_at(flags, text[next].min(128)) {
         next += 1;
     }
     next

@@ -1,5 +1,5 @@
 -- What a search leaves in a region.
-use Rattle.std.specs.Prelude.{◌≡◌, ℕ, Bool, List, Option, Some, None, ◌⊎◌, is_some, unwrap_or, nat_eq, option_and_then}
+use Rattle.std.specs.Prelude.{◌≡◌, ℕ, ◌+◌, Bool, true, false, List, Option, Some, None, ◌⊎◌, is_some, unwrap_or, nat_eq, option_and_then}
 use Rattle.std.specs.Option.{option_eq}
 use Rattle.std.specs.Ordering.{on, eq_of_both}
 use Rattle.std.specs.Cmp.{IsEquivalence, and_equiv, on_equiv, nat_eq_equiv}
@@ -32,6 +32,16 @@ TakesMatch match old answer new = (answer ≡ is_some match) × (new ≡ unwrap_
 -- the same of the program's first match from a place on
 abbrev pub Takes : List ℕ → Program → ℕ → Groups → Bool → Groups → Type 0
 Takes s p from old answer new = (tree : Tree) → IsProgramOf p tree → TakesMatch (found s tree from) old answer new
+
+-- The answer says whether a match begins at a place from this one to the last: then the new groups are the match's, and
+-- else the old ones stay, and what is found from the place on is found from behind the last.
+abbrev pub TakesUpTo : (ℕ → Option Groups) → ℕ → ℕ → Groups → Bool → Groups → Type 0
+TakesUpTo match from last old true new = match from ≡ Some new
+TakesUpTo match from last old false new = (new ≡ old) × (match from ≡ match (last + 1))
+
+-- the same of the program's matches
+abbrev pub TakesNear : List ℕ → Program → ℕ → ℕ → Groups → Bool → Groups → Type 0
+TakesNear s p from last old answer new = (tree : Tree) → IsProgramOf p tree → TakesUpTo (found s tree) from last old answer new
 
 -- the value that was handed in and the one that was left, if one was lent
 abbrev pub Leaves : {R : Type 0} → (R → R → Type 0) → Option (MutBor R) → Unit {0} ⊎ ((MutBor R × Unit {0}) ⊎ ⊥) → Type 0

@@ -8,7 +8,7 @@ ghost use Rattle.syntect_pattern.specs.Pattern.{pattern_tree, pattern_found};
 ghost use Rattle.syntect_pattern.specs.Found.{IsPatternMatch};
 ghost use Rattle.syntect_regex.specs.declared.error.PatternError.{PatternError};
 ghost use Rattle.syntect_regex.specs.Escape.{is_special, escaped_char, escaped};
-ghost use Rattle.syntect_regex.specs.Region.{TakesMatch, Leaves, pattern_begins};
+ghost use Rattle.syntect_regex.specs.Region.{TakesMatch, TakesUpTo, Leaves, pattern_begins};
 
 use crate::error::PatternError;
 use crate::region::Region;
@@ -109,6 +109,26 @@ impl Regex {
             return Ok(false);
         };
         region.find(program, text.split_at(end).0, begin)
+    }
+
+    /// Searches the text for a match that begins at a place from `begin` to `last`, both being byte positions. The least
+    /// place counts, and the first match at it. Where there is one, the region has its groups; else, and where memory is
+    /// wanting, the region stays, and a search from behind `last` on finds what one from `begin` on does.
+    pub fn search_up_to(
+        &self,
+        text: &str,
+        begin: usize,
+        last: usize,
+        region: &mut Region,
+    ) -> Result<bool, AllocError>
+        requires { begin ≤ last }
+        ensures ok { IfOk result (λ found. TakesUpTo (pattern_found self.now text.now) begin last region.old found region.new) }
+        ensures err { OnErr result (region.new ≡ region.old) }
+    {
+        let Some(program) = &self.program else {
+            return Ok(false);
+        };
+        region.find_up_to(program, text, begin, last)
     }
 
     /// Searches as `search_into` does, where a region is perhaps lent. Without one the memory of the search is let go.

@@ -1,7 +1,7 @@
 //! Where the groups of a match stand.
-ghost use Rattle.std.specs.Prelude.{◌≡◌, ◌↔◌, true, [], IfOk, OnErr, None, slice_index_or};
+ghost use Rattle.std.specs.Prelude.{◌≡◌, ◌≤◌, ◌↔◌, true, [], IfOk, OnErr, None, slice_index_or};
 ghost use Rattle.syntect_pattern.specs.Matches.{Groups};
-ghost use Rattle.syntect_regex.specs.Region.{Takes, same_groups, same_groups-equiv};
+ghost use Rattle.syntect_regex.specs.Region.{Takes, TakesNear, same_groups, same_groups-equiv};
 ghost use Rattle.std.specs.Cmp.{partial_equiv_from_equiv};
 
 use std::alloc::{AllocError, Global};
@@ -78,6 +78,25 @@ impl Region {
             mem::swap(&mut self.positions, &mut self.search.groups);
         }
         Ok(found)
+    }
+
+    /// The same for the places from `begin` to `last` alone.
+    pub(crate) fn find_up_to(
+        &mut self,
+        program: &Program,
+        text: &str,
+        begin: usize,
+        last: usize,
+    ) -> Result<bool, AllocError>
+        requires { begin ≤ last }
+        ensures found { IfOk result (λ b. TakesNear text.now program.now begin last self.old b self.new) }
+        ensures err { OnErr result (self.new ≡ self.old) }
+    {
+        let is_found = self.search.find_up_to(program, text, begin, last)?;
+        if is_found {
+            mem::swap(&mut self.positions, &mut self.search.groups);
+        }
+        Ok(is_found)
     }
 }
 

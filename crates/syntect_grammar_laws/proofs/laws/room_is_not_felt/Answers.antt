@@ -1,4 +1,4 @@
-use Rattle.syntect_grammar_laws.proofs.Room.{room_is_not_felt, room_is_not_felt_at}
+use Rattle.syntect_grammar.proofs.Room.{room_is_not_felt, room_is_not_felt_at}
 use Rattle.syntect_grammar_laws.proofs.laws.room_is_not_felt.Goals as goal
 
 pub returns-clause-alone : goal.returns-clause-alone

@@ -15,8 +15,8 @@ returns-in-Err-clause-refused c = turn_refused c.args.set.now c.args.line.now c.
 pub take-requires-clause-stands : goal.take-requires-clause-stands
 take-requires-clause-stands c =
     rw c.in-Take.is at
-    (choice_stands c.dialect_finds_in_text.ensures c.args.set.now c.args.line.now c.utf8.line c.trim.new.p c.in-Ok.ms.items c.winner.result c.in-Ok.ensures.live
-    (rw c.as_slice.ensures.value at c.winner.ensures))
+    (choice_stands c.dialect_finds_in_text.ensures c.args.set.now c.args.line.now c.utf8.line c.trim.new.p c.choose.result
+    (c.choose.ensures ∙ c.in-Ok.ensures.wins))
 
 pub returns-in-Ok-take-clause-turns : goal.returns-in-Ok-take-clause-turns
 returns-in-Ok-take-clause-turns c =
@@ -24,10 +24,10 @@ returns-in-Ok-take-clause-turns c =
     (is_orderly c.args.set.now c.trim.new.p.levels c.in-Take.m.now.pattern.now.operation ≡ true)
     (step dialect c.args.set.now c.args.line.now c.trim.new.p (Take (seen c.args.line.now c.trim.new.p.place c.in-Take.m.now)))
     c.take.new.p c.args.ops.now.items c.take.new.ops.items
-    (taken_orderly c.args.set.now c.args.line.now c.args.p.now c.trim.new.p c.in-Ok.ms.items c.winner.result (seen c.args.line.now c.trim.new.p.place c.in-Take.m.now) c.trim.ensures c.in-Ok.ensures.live
-    (rw c.as_slice.ensures.value at c.winner.ensures) (ap (chosen c.args.line.now c.trim.new.p.place) c.in-Take.is))
-    (step_chosen c.args.set.now c.args.line.now c.trim.new.p c.in-Ok.ms.items c.winner.result (turn_on dialect c.args.set.now c.args.line.now c.trim.new.p (last c.trim.new.p.levels)) c.in-Ok.ensures.chosen
-    (rw c.as_slice.ensures.value at c.winner.ensures)
+    (taken_orderly c.args.set.now c.args.line.now c.args.p.now c.trim.new.p c.choose.result (seen c.args.line.now c.trim.new.p.place c.in-Take.m.now) c.trim.ensures
+    (c.choose.ensures ∙ c.in-Ok.ensures.wins) (ap (chosen c.args.line.now c.trim.new.p.place) c.in-Take.is))
+    (step_chosen c.args.set.now c.args.line.now c.trim.new.p c.in-Ok.found c.choose.result (turn_on dialect c.args.set.now c.args.line.now c.trim.new.p (last c.trim.new.p.levels)) c.in-Ok.ensures.chosen
+    c.choose.ensures
     ∙ ap (λ x. step dialect c.args.set.now c.args.line.now c.trim.new.p (chosen c.args.line.now c.trim.new.p.place x)) c.in-Take.is)
     c.in-Ok-take.ensures.makes
 
@@ -36,8 +36,8 @@ returns-in-Take-clause-refused c =
     turn_refused_by c.args.set.now c.args.line.now c.args.p.now c.trim.new.p c.trim.ensures
     (step dialect c.args.set.now c.args.line.now c.trim.new.p (Take (seen c.args.line.now c.trim.new.p.place c.in-Take.m.now)))
     c.in-Err-take.e
-    (step_chosen c.args.set.now c.args.line.now c.trim.new.p c.in-Ok.ms.items c.winner.result (turn_on dialect c.args.set.now c.args.line.now c.trim.new.p (last c.trim.new.p.levels)) c.in-Ok.ensures.chosen
-    (rw c.as_slice.ensures.value at c.winner.ensures)
+    (step_chosen c.args.set.now c.args.line.now c.trim.new.p c.in-Ok.found c.choose.result (turn_on dialect c.args.set.now c.args.line.now c.trim.new.p (last c.trim.new.p.levels)) c.in-Ok.ensures.chosen
+    c.choose.ensures
     ∙ ap (λ x. step dialect c.args.set.now c.args.line.now c.trim.new.p (chosen c.args.line.now c.trim.new.p.place x)) c.in-Take.is)
     c.in-Err-take.ensures.refused
 
@@ -48,17 +48,17 @@ returns-in-Skip-clause-turns c =
     (step dialect c.args.set.now c.args.line.now c.trim.new.p Skip)
     c.skip.new.p c.args.ops.now.items c.args.ops.now.items
     (λ o. tt)
-    (step_chosen c.args.set.now c.args.line.now c.trim.new.p c.in-Ok.ms.items c.winner.result (turn_on dialect c.args.set.now c.args.line.now c.trim.new.p (last c.trim.new.p.levels)) c.in-Ok.ensures.chosen
-    (rw c.as_slice.ensures.value at c.winner.ensures)
+    (step_chosen c.args.set.now c.args.line.now c.trim.new.p c.in-Ok.found c.choose.result (turn_on dialect c.args.set.now c.args.line.now c.trim.new.p (last c.trim.new.p.levels)) c.in-Ok.ensures.chosen
+    c.choose.ensures
     ∙ ap (λ x. step dialect c.args.set.now c.args.line.now c.trim.new.p (chosen c.args.line.now c.trim.new.p.place x)) c.in-Skip.is)
     (rw c.skip.ensures (skip_makes c.args.set.now c.args.line.now c.trim.new.p c.args.ops.now.items c.utf8.line (rw c.trim.ensures c.requires.boundary)
     (rw c.in-Skip.is at
-    (choice_stands c.dialect_finds_in_text.ensures c.args.set.now c.args.line.now c.utf8.line c.trim.new.p c.in-Ok.ms.items c.winner.result c.in-Ok.ensures.live
-    (rw c.as_slice.ensures.value at c.winner.ensures)))))
+    (choice_stands c.dialect_finds_in_text.ensures c.args.set.now c.args.line.now c.utf8.line c.trim.new.p c.choose.result
+    (c.choose.ensures ∙ c.in-Ok.ensures.wins)))))
 
 pub returns-clause-turns : goal.returns-clause-turns
 returns-clause-turns c =
     turn_ends c.args.set.now c.args.line.now c.args.p.now c.trim.new.p c.trim.ensures c.args.ops.now.items c.requires.within
-    (step_chosen c.args.set.now c.args.line.now c.trim.new.p c.in-Ok.ms.items c.winner.result (turn_on dialect c.args.set.now c.args.line.now c.trim.new.p (last c.trim.new.p.levels)) c.in-Ok.ensures.chosen
-    (rw c.as_slice.ensures.value at c.winner.ensures)
+    (step_chosen c.args.set.now c.args.line.now c.trim.new.p c.in-Ok.found c.choose.result (turn_on dialect c.args.set.now c.args.line.now c.trim.new.p (last c.trim.new.p.levels)) c.in-Ok.ensures.chosen
+    c.choose.ensures
     ∙ ap (λ x. step dialect c.args.set.now c.args.line.now c.trim.new.p (chosen c.args.line.now c.trim.new.p.place x)) c.in-End.is)

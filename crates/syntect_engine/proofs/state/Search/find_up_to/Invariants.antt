@@ -1,0 +1,14 @@
+use Rattle.std.proofs.Common.{◌≡◌, ◌≤◌, ◌-◌, suc, length}
+use Rattle.syntect_pattern.specs.Trees.{Tree}
+use Rattle.syntect_pattern.specs.Matches.{found}
+use Rattle.syntect_pattern_table.specs.Program.{IsProgramOf}
+use Rattle.syntect_engine.proofs.state.Search.find_up_to.Given as goal
+
+abbrev pub invariant-loop-place : goal.invariant-loop-place
+invariant-loop-place l = record {
+  within : l.place ≤ suc l.fn.last;
+  same : (tree : Tree) → IsProgramOf l.program tree → found l.text tree l.place ≡ found l.text tree l.fn.begin;
+}
+
+abbrev pub decreases-loop-place : goal.decreases-loop-place
+decreases-loop-place l = suc (length l.text) - l.place

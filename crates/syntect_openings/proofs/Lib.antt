@@ -1,0 +1,4 @@
+pub mod FrameLaws
+pub mod OpenLaws
+pub mod SameLaws
+pub mod WalkLaws
