@@ -1,5 +1,9 @@
 pub mod HeadLaws
 pub mod Room
+pub mod SameLaws
+pub mod WalkLaws
+pub mod FrameLaws
+pub mod FlatLaws
 mod PlaceLaws
 mod FindLaws
 pub mod FolderLaws

@@ -14,6 +14,10 @@ syntaxes_in set = set.syntaxes
 abbrev pub set_paths : SyntaxSet → List (List ℕ × ℕ)
 set_paths set = set.path_syntaxes
 
+-- the set of these syntaxes, none of which was loaded from a file
+abbrev pub set_of : List SyntaxReference → SyntaxSet
+set_of syntaxes = record { syntaxes = syntaxes; path_syntaxes = [] }
+
 -- the contexts of each syntax of a set
 abbrev pub contexts_of : SyntaxSet → List (List Context)
 contexts_of set = map (λ s. s.contexts) (syntaxes_in set)

@@ -1,5 +1,7 @@
 pub mod Contexts
 pub mod Patterns
+pub mod Walk
+pub mod Flats
 pub mod Passing
 pub mod Link
 pub mod Places

@@ -16,5 +16,6 @@ pub mod syntax_definition;
 pub mod syntax_set;
 mod syntaxes;
 mod unlinked;
+mod walk;
 
 pub use syntect_loader::{laws, yaml_load};

@@ -1,14 +1,19 @@
 //! Syntaxes that are linked together.
-ghost use Rattle.std.specs.Prelude.{◌≡◌, [], ◌∷◌, ◌++◌, length, IfOk, OnOk, OnErr};
+ghost use Rattle.std.specs.Prelude.{◌≡◌, [], ◌∷◌, ◌++◌, length, IfOk, IfSome, OnOk, OnErr};
 ghost use Rattle.std.specs.Option.{option_copied};
 ghost use Rattle.syntect_grammar.specs.Contexts.{context_at};
+ghost use Rattle.syntect_grammar.specs.Flats.{AreFlatsOf, pattern_at};
 ghost use Rattle.syntect_grammar.specs.Link.{definitions_in, paths_in, syntaxes_in, set_paths, linked};
 
 use crate::heads::link_definitions;
-use crate::syntax_definition::{Context, ContextId, HoldsContexts, SyntaxDefinition};
+use crate::syntax_definition::{
+    Context, ContextId, HoldsContexts, MatchPattern, Pattern, SyntaxDefinition,
+};
 use crate::syntaxes::Syntaxes;
+use crate::walk::flats_walked;
 use std::alloc::{AllocError, AllocFailed, Global};
 pub use syntect_contexts::syntax_reference::SyntaxReference;
+use syntect_flats::flats::Flat;
 use syntect_scope::repository::ScopeRepository;
 use syntect_values::seq::Seq;
 use syntect_values::text::Text;
@@ -85,6 +90,32 @@ impl SyntaxSet {
         ensures { option_copied result ≡ context_at self.now id }
     {
         self.syntaxes.context_at(id)
+    }
+
+    /// The patterns of the walk of the context of a number, which stands on its own include path, as far as who looks for
+    /// the first that passes a test can tell: a pattern that the walk gives again may be left out. None where they are not
+    /// kept: of a context that the set lacks, and of grammars whose includes would make too many of them.
+    pub fn flats_of(&self, id: ContextId) -> Option<&[Flat]>
+        ensures { IfSome result (λ flats. AreFlatsOf self.now id flats.now) }
+    {
+        self.syntaxes.flats_of(id)
+    }
+
+    /// The same of any context, walked now.
+    pub fn flats_walked(&self, alloc: Global, id: ContextId) -> Result<Vec<Flat>, AllocError>
+        ensures { IfOk result (λ flats. AreFlatsOf self.now id flats.items) }
+    {
+        flats_walked(alloc, self.syntaxes(), id)
+    }
+
+    /// The pattern that stands at the place, if there is one.
+    pub fn pattern_at(&self, flat: &Flat) -> Option<&MatchPattern>
+        ensures { option_copied result ≡ pattern_at self.now flat.now }
+    {
+        match self.context_at(flat.context)?.patterns.get(flat.index)? {
+            Pattern::Match(m) => Some(m),
+            Pattern::Include(_) => None,
+        }
     }
 }
 
@@ -197,7 +228,7 @@ impl SyntaxSetBuilder {
             path_syntaxes,
         } = self;
         Ok(SyntaxSet {
-            syntaxes: Syntaxes::from_linked(link_definitions(alloc, syntaxes)?),
+            syntaxes: Syntaxes::from_linked(link_definitions(alloc, syntaxes)?)?,
             path_syntaxes,
         })
     }

@@ -1,17 +1,23 @@
 //! The syntaxes that a set holds.
-ghost use Rattle.std.specs.Prelude.{◌≡◌, [], map, slice_get};
-ghost use Rattle.std.specs.Option.{option_and_then, option_copied};
+ghost use Rattle.std.specs.Prelude.{◌≡◌, [], IfOk, IfSome};
+ghost use Rattle.std.specs.Option.{option_copied};
+ghost use Rattle.syntect_grammar.specs.Contexts.{context_at, set_of};
+ghost use Rattle.syntect_grammar.specs.Flats.{AreFlatsOf, flats_at};
 
 use crate::syntax_definition::{Context, ContextId};
+use crate::walk::{FlatTable, context_at, flat_table};
 use std::alloc::{AllocError, Global};
 use std::marker::Model;
 use syntect_contexts::syntax_reference::SyntaxReference;
+use syntect_flats::flats::Flat;
 use syntect_values::seq::Seq;
 
-/// Linked syntaxes, seen as their list. What else may be kept of them, so that it needn't be looked for again, stands here.
+/// Linked syntaxes, seen as their list. What is kept of them, so that it needn't be looked for again, stands here.
 #[derive(Drop)]
 pub struct Syntaxes {
     items: Seq<SyntaxReference>,
+    /// The patterns of each context's walk.
+    flats: FlatTable,
 }
 
 impl Model for Syntaxes {
@@ -20,16 +26,19 @@ impl Model for Syntaxes {
 
     ghost Value = { List ASyntax };
 
+    ghost use Rattle.syntect_grammar.specs.Contexts.{set_of};
+    ghost use Rattle.syntect_grammar.specs.Flats.{IsTableOf};
+
     ghost view = { λ s. s.items };
+
+    ghost invariant = { λ s. IsTableOf (set_of s.items) s.flats };
 }
 
 impl Clone for Syntaxes {
     ghost is_clone = { λ x y. y ≡ x };
 
     fn clone(&self) -> Result<Syntaxes, AllocError> {
-        Ok(Syntaxes {
-            items: self.items.clone()?,
-        })
+        Syntaxes::from_linked(self.items.clone()?)
     }
 }
 
@@ -40,21 +49,23 @@ impl Syntaxes {
     {
         Syntaxes {
             items: Seq::new(alloc),
+            flats: Seq::new(alloc),
         }
     }
 
     /// Syntaxes that were linked together.
-    pub fn from_linked(items: Seq<SyntaxReference>) -> Syntaxes
-        ensures { result ≡ items }
+    pub fn from_linked(items: Seq<SyntaxReference>) -> Result<Syntaxes, AllocError>
+        ensures { IfOk result (λ s. s ≡ items) }
     {
-        Syntaxes { items }
+        let flats = flat_table(items.allocator(), items.as_slice())?;
+        Ok(Syntaxes { items, flats })
     }
 
     /// The list of them.
     pub fn into_seq(self) -> Seq<SyntaxReference>
         ensures { result ≡ self }
     {
-        let Syntaxes { items } = self;
+        let Syntaxes { items, flats: _ } = self;
         items
     }
 
@@ -72,11 +83,31 @@ impl Syntaxes {
 
     /// The context of a number, if they have it.
     pub fn context_at(&self, id: ContextId) -> Option<&Context>
-        ensures { option_copied result
-            ≡ option_and_then (λ cs. slice_get cs id.context_index)
-            (slice_get (map (λ s. s.contexts) self.now) id.syntax_index) }
+        ensures { option_copied result ≡ context_at (set_of self.now) id }
     {
-        let syntax = self.items.get(id.syntax_index)?;
-        syntax.contexts.get(id.context_index)
+        context_at(self.items.as_slice(), id)
+    }
+
+    /// The patterns of the walk of the context of a number, if they are kept.
+    pub fn flats_of(&self, id: ContextId) -> Option<&[Flat]>
+        ensures { IfSome result (λ flats. AreFlatsOf (set_of self.now) id flats.now) }
+    {
+        flats_at(&self.flats, id)
+    }
+}
+
+/// Those that a table holds for a context, if it holds any.
+fn flats_at(table: &FlatTable, id: ContextId) -> Option<&[Flat]>
+    ensures { option_copied result ≡ flats_at table.now id }
+{
+    let Some(lists) = table.get(id.syntax_index) else {
+        return None;
+    };
+    let Some(kept) = lists.get(id.context_index) else {
+        return None;
+    };
+    match kept {
+        Some(flats) => Some(flats.as_slice()),
+        None => None,
     }
 }

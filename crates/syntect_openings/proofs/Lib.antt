@@ -1,4 +1,1 @@
-pub mod FrameLaws
 pub mod OpenLaws
-pub mod SameLaws
-pub mod WalkLaws

@@ -1,3 +1,3 @@
+pub mod Names
 pub mod Opens
 pub mod Openings
-pub mod Walk

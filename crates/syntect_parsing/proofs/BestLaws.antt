@@ -1,12 +1,10 @@
 -- What a turn finds while it goes through the chain.
-use Rattle.std.proofs.Common.{◌≡◌, ℕ, ◌+◌, ◌-◌, ◌<◌, ◌≤◌, ◌==◌, ◌&&◌, nat_le, nat_lt, not, ◌||◌, cond, Bool, true, false, List, [], ◌∷◌, ◌++◌, find, get_or, suc, length, map, take, Option, Some, None, refl, sym, ap, subst, ◌∙◌, arith, ◌⊎◌, inl, inr, if◌then◌else◌}
+use Rattle.std.proofs.Common.{◌≡◌, ℕ, ◌+◌, ◌-◌, ◌<◌, ◌≤◌, ◌==◌, ◌&&◌, nat_le, nat_lt, not, ◌||◌, cond, Bool, true, false, List, [], ◌∷◌, ◌++◌, find, get_or, length, Option, Some, None, refl, sym, ap, subst, ◌∙◌, append_assoc, arith, ◌⊎◌, inl, inr, if◌then◌else◌}
 use Rattle.std.specs.Prelude.{IfSome}
 use Rattle.std.specs.List.{list_all, list_any, cons_option}
 use Rattle.std.specs.Option.{option_map, option_or}
 use Rattle.std.proofs.lemmas.Bool.Decides.{nat_tests}
 use Rattle.std.proofs.lemmas.List.{append-nil}
-use Rattle.std.proofs.lemmas.List.Elements.{filter_map-append}
-use Rattle.std.proofs.Math.Seq.{take-suc}
 use Rattle.std.proofs.lemmas.List.Folds.{find-append, list_all-append}
 use Rattle.std.specs.Str.{IsUtf8}
 use Rattle.syntect_pattern.specs.Pattern.{pattern_found}
@@ -16,8 +14,7 @@ use Rattle.syntect_parsing.specs.Laws.{FindsInText}
 use Rattle.syntect_parsing.proofs.Places.{IfEnds, AllEnd, no_more, and_more, live_ends, matched_ends}
 use Rattle.syntect_contexts.specs.Substitution.{Groups}
 use Rattle.syntect_parsing.specs.Turn.{counts, group_at, live, live_match, searched_text, Live, End, choice_of, is_least, loops, winner}
-use Rattle.syntect_parsing.specs.Candidates.{member_of, seen}
-use Rattle.syntect_parsing.specs.declared.chain.Entry.{Entry}
+use Rattle.syntect_parsing.specs.Candidates.{seen}
 use Rattle.syntect_parsing.specs.Best.{IsBest, choice_by, decided, wanted}
 use Rattle.syntect_parsing.specs.declared.position.Position.{Position}
 use Rattle.syntect_parsing.specs.declared.search.Best.{Best}
@@ -107,6 +104,7 @@ module _ (line : List ℕ) (p : Position) (last : ℕ) where
           ∙ stays (find (λ x. (x.start == b.start) && not (loops p x)) ms) (option_map (seen line p.place) b.candidate) (find (λ x. (x.start == b.start) && not (loops p x)) (k ∷ [])) (h.first is).1 (find_passed b k l is),
     );
     none = h.none;
+    near = h.near;
     bound = h.bound;
     from = h.from;
   }
@@ -130,6 +128,10 @@ module _ (line : List ℕ) (p : Position) (last : ℕ) where
   not_behind b s (inl l) = omega (arith, l)
   not_behind b s (inr l) = omega (arith, l.0)
 
+  up_to : (b : Best) (ms : List Live) (s : ℕ) → IsBest line p last ms b → Leads b s → s ≤ last
+  up_to b ms s h (inl l) = omega (arith, l, h.bound)
+  up_to b ms s h (inr l) = omega (arith, l.0, h.near l.1)
+
   pub best_led : (b : Best) (ms : List Live) (m : Candidate) (new : Best) → IsBest line p last ms b → Leads b m.start → p.place ≤ m.start
       → new.start ≡ m.start → new.is_match ≡ true → new.candidate ≡ (if loops p (seen line p.place m) then None else Some m) → IsBest line p last (ms ++ seen line p.place m ∷ []) new
   best_led b ms m new h l at s i o =
@@ -145,6 +147,7 @@ module _ (line : List ℕ) (p : Position) (last : ℕ) where
               ∙ rw start_is (by_loop (loops p (seen line p.place m)))),
         );
         none = λ e. let f : true ≡ false = sym i ∙ e in cc;
+        near = λ _. let f : m.start ≤ last = up_to b ms m.start h l in omega (arith, s, f);
         bound = omega (arith, s, below, h.bound);
         from = omega (arith, s, at);
       }
@@ -209,16 +212,22 @@ module _ (line : List ℕ) (p : Position) (last : ℕ) where
 
   -- ---- a member of the chain more ----
 
-  starts_from : (o : Option Live) (k : Live) → o ≡ Some k → IfEnds line p.place o → p.place ≤ k.start
+  pub starts_from : (o : Option Live) (k : Live) → o ≡ Some k → IfEnds line p.place o → p.place ≤ k.start
   starts_from None k e h = cc
   starts_from (Some x) k e h = let same : x ≡ k = cc in subst (λ (y : Live). p.place ≤ y.start) same h.from
 
-  farther : (o : Option Live) (w : ℕ) (k : Live) → o ≡ Some k → IfSome o (λ x. w < x.start) → w < k.start
+  pub farther : (o : Option Live) (w : ℕ) (k : Live) → o ≡ Some k → IfSome o (λ x. w < x.start) → w < k.start
   farther None w k e h = cc
   farther (Some x) w k e h = let same : x ≡ k = cc in subst (λ (y : Live). w < y.start) same h
 
   pub best_done : (b : Best) (ms : List Live) (o : Option Live) → IsBest line p last ms b → wanted p.place b ≡ None → IfEnds line p.place o → IsBest line p last (ms ++ cons_option o []) b
   best_done b ms o h n i = best_same b ms o h (λ k e. passes_none b k n (starts_from o k e i))
+
+  pub best_done_all : (b : Best) (ms xs : List Live) → IsBest line p last ms b → wanted p.place b ≡ None → AllEnd line p.place xs → IsBest line p last (ms ++ xs) b
+  best_done_all b ms [] h n no_more = subst (λ l. IsBest line p last l b) (sym (append-nil ms)) h
+  best_done_all b ms (x ∷ xs) h n (and_more i r) =
+      subst (λ l. IsBest line p last l b) (append_assoc ms (x ∷ []) xs)
+      (best_done_all b (ms ++ x ∷ []) xs (best_done b ms (Some x) h n i) n r)
 
   pub best_far : (b : Best) (ms : List Live) (o : Option Live) (w : ℕ) → IsBest line p last ms b → wanted p.place b ≡ Some w → IfSome o (λ k. w < k.start) → IsBest line p last (ms ++ cons_option o []) b
   best_far b ms o w h n i = best_same b ms o h (λ k e. passes_far b w k n (farther o w k e i))
@@ -301,21 +310,6 @@ not_counted line height place s x member text region t f g n =
     whole (y ∷ ys) e = e
 
 -- ---- the chain ----
-
-map_more : {X Y : Type 0} (f : X → Y) (xs : List X) (x : X) → map f (xs ++ x ∷ []) ≡ map f xs ++ f x ∷ []
-map_more f [] x = refl
-map_more f (y ∷ ys) x = ap (λ zs. f y ∷ zs) (map_more f ys x)
-
--- the matches of a member more
-pub live_more : (line : List ℕ) (p : Position) (chain : List Entry) (i : ℕ) (e : Entry) → i < length chain → e ≡ get_or chain i e
-    → live dialect line p (map member_of (take (i + 1) chain)) ≡ live dialect line p (map member_of (take i chain)) ++ cons_option (live_match dialect (length p.levels) line p.place (member_of e)) []
-live_more line p chain i e l f =
-    let next : i + 1 ≡ suc i = omega arith in
-    let front : take (suc i) chain ≡ take i chain ++ e ∷ [] = take-suc chain i e l ∙ ap (λ x. take i chain ++ x ∷ []) (sym f) in
-    ap (λ n. live dialect line p (map member_of (take n chain))) next
-    ∙ ap (λ xs. live dialect line p (map member_of xs)) front
-    ∙ ap (live dialect line p) (map_more member_of (take i chain) e)
-    ∙ filter_map-append (live_match dialect (length p.levels) line p.place) (map member_of (take i chain)) (member_of e ∷ [])
 
 all_inside : (line : List ℕ) (place : ℕ) (ms : List Live) → AllEnd line place ms → list_all (λ k. nat_le k.start (length line)) ms ≡ true
 all_inside line place [] no_more = refl

@@ -1,6 +1,6 @@
 -- The captures of a match that was found lie as its groups do.
-use Rattle.std.proofs.Common.{◌≡◌, inl, inr, ℕ, ◌≤◌, ◌<◌, nat_lt, nat_le, Bool, true, false, not, ◌&&◌, List, [], ◌∷◌, ◌++◌, length, map, Option, Some, None, refl, sym, ap, ◌∙◌, arith, if◌then◌else◌}
-use Rattle.std.specs.Prelude.{unwrap_or, slice_index_or, is_some, take}
+use Rattle.std.proofs.Common.{◌≡◌, inl, inr, ℕ, ◌≤◌, ◌<◌, nat_lt, nat_le, Bool, true, false, not, ◌&&◌, List, [], ◌∷◌, ◌++◌, map, Option, Some, None, refl, sym, ap, ◌∙◌, arith, if◌then◌else◌}
+use Rattle.std.specs.Prelude.{unwrap_or, slice_index_or}
 use Rattle.std.specs.List.{filter_map, flat_map, cons_option}
 use Rattle.std.specs.Option.{option_map_or}
 use Rattle.std.specs.Str.{IsUtf8}
@@ -14,9 +14,6 @@ use Rattle.syntect_parsing.specs.Candidates.{marks_of, seen_mark, mark_operation
 use Rattle.syntect_parsing.specs.Sorting.{in_order}
 use Rattle.syntect_parsing.specs.Operations.{capture_operations}
 use Rattle.syntect_parsing.specs.declared.captures.Mark.{Mark}
-use Rattle.syntect_pattern.specs.Pattern.{pattern_found}
-use Rattle.syntect_regex.specs.Region.{TakesMatch}
-use Rattle.syntect_parsing.proofs.SearchLaws.{whole_line}
 use Rattle.syntect_contexts.proofs.SubstitutionLaws.{group_flat}
 use Rattle.syntect_parsing.proofs.CaptureLaws.{In, Each, AreLaidOut, EndOnBoundaries}
 use Rattle.syntect_parsing.proofs.MarkLaws.{LiesWithin, marks_make, none_make}
@@ -137,36 +134,21 @@ module _ (law : LaysGroupsOut dialect) (line : List ℕ) (u : IsUtf8 line) (plac
         ((by_found (dialect.found m.searched line place) refl f c x).lies x.group (c.start, c.end) x.outside x.stands).ends;
   }
 
-taken : (o : Option Groups) (old new : Groups) → true ≡ is_some o → new ≡ unwrap_or o old → new ≡ unwrap_or o []
-taken None old new e f = cc
-taken (Some groups) old new e f = f
-
--- the marks that are made of a match that is found once more
-pub found_marks : (m : Live) (line : List ℕ) (place : ℕ) (old region : Groups) (marks : List Mark) (entries : List (ℕ × Scopes)) → m.groups ≡ unwrap_or (pattern_found m.searched line place) []
-    → TakesMatch (pattern_found m.searched (take (length line) line) place) old true region → m.pattern.captures ≡ Some entries
+-- the marks that are made of a match's groups
+pub found_marks : (m : Live) (region : Groups) (marks : List Mark) (entries : List (ℕ × Scopes)) → region ≡ m.groups → m.pattern.captures ≡ Some entries
     → map seen_mark marks ≡ flat_map marks_of (filter_map (λ entry. effect dialect m entry.0 entry.1 (group_at region entry.0)) entries)
     → m.start ≤ m.end → m.end ≤ 18446744073709551615
     → flat_map mark_operations (map seen_mark (in_order (λ k. k.place) (in_order (λ k. k.rank) marks))) ≡ capture_operations m.start m.end (captures dialect m)
-found_marks m line place old region marks entries g t e f l h =
-    let same : region ≡ m.groups = taken (pattern_found m.searched (take (length line) line) place) old region t.0 t.1 ∙ ap (λ x. unwrap_or (pattern_found m.searched x place) []) (whole_line line) ∙ sym g in
+found_marks m region marks entries same e f l h =
     let is : map seen_mark marks ≡ flat_map marks_of (captures dialect m) =
     f ∙ ap (λ (x : Groups). flat_map marks_of (filter_map (λ (entry : ℕ × Scopes). effect dialect m entry.0 entry.1 (group_at x entry.0)) entries)) same
     ∙ sym (ap (λ (x : Option (List (ℕ × Scopes))). flat_map marks_of (filter_map (λ (entry : ℕ × Scopes). effect dialect m entry.0 entry.1 (group_at m.groups entry.0)) (unwrap_or x []))) e)
     in
     marks_make marks m.start m.end (captures dialect m) is l h (captures_within m)
 
--- where the pattern has no captures, or no match is found, nothing is made
+-- where the pattern has no captures nothing is made
 pub no_marks : (m : Live) → captures dialect m ≡ [] → [] ≡ capture_operations m.start m.end (captures dialect m)
 no_marks m e = sym (ap (capture_operations m.start m.end) e ∙ none_make m.start m.end)
 
 pub unlisted : (m : Live) → unwrap_or m.pattern.captures [] ≡ [] → captures dialect m ≡ []
 unlisted m e = ap (filter_map (λ (entry : ℕ × Scopes). effect dialect m entry.0 entry.1 (group_at m.groups entry.0))) e
-
-left : (o : Option Groups) (old new : Groups) → false ≡ is_some o → unwrap_or o [] ≡ []
-left None old new e = refl
-left (Some groups) old new e = cc
-
-pub not_found : (m : Live) (line : List ℕ) (place : ℕ) (old region : Groups) → m.groups ≡ unwrap_or (pattern_found m.searched line place) []
-    → TakesMatch (pattern_found m.searched (take (length line) line) place) old false region → captures dialect m ≡ []
-not_found m line place old region g t =
-    no_captures m (g ∙ sym (ap (λ x. unwrap_or (pattern_found m.searched x place) []) (whole_line line)) ∙ left (pattern_found m.searched (take (length line) line) place) old region t.0)

@@ -1,5 +1,5 @@
 -- Operations at one place that lead from one stack to another.
-use Rattle.std.proofs.Common.{◌≡◌, ℕ, ◌-◌, List, [], ◌∷◌, ◌++◌, length, fold, Option, Some, None}
+use Rattle.std.proofs.Common.{◌≡◌, ℕ, List, [], ◌∷◌, ◌++◌, length, fold, Option, Some, None}
 use Rattle.std.specs.List.{flat_map}
 use Rattle.syntect_scope.specs.declared.stack.ScopeStack.{ScopeStack}
 use Rattle.syntect_scope.specs.declared.stack.ScopeStackOp.{ScopeStackOp}

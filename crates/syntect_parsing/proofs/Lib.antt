@@ -19,6 +19,7 @@ pub mod CapturedLaws
 pub mod SortLaws
 pub mod ShowLaws
 pub mod BestLaws
+pub mod PartLaws
 pub mod ChainLaws
 pub mod ChoiceLaws
 pub mod TakeLaws

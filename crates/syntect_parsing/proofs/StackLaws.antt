@@ -1,5 +1,5 @@
 -- The stack of levels.
-use Rattle.std.proofs.Common.{◌≡◌, ℕ, zero, suc, ◌-◌, ◌+◌, ◌&&◌, Bool, true, false, List, [], ◌∷◌, ◌++◌, length, drop, take, fold, Option, Some, None, is_none, refl, sym, ap, ◌∙◌, arith, append_assoc, length-append, unwrap_or, slice_get}
+use Rattle.std.proofs.Common.{◌≡◌, ℕ, zero, suc, ◌-◌, ◌&&◌, Bool, true, false, List, [], ◌∷◌, ◌++◌, length, drop, take, fold, Option, Some, None, is_none, refl, sym, ap, ◌∙◌, arith, append_assoc, length-append, unwrap_or, slice_get}
 use Rattle.std.specs.Option.{option_map_or, option_and_then, option_to_list}
 use Rattle.std.specs.List.{filter_map, flat_map}
 use Rattle.std.proofs.lemmas.List.{append-nil}

@@ -5,7 +5,9 @@ use Rattle.std.specs.Option.{option_map}
 use Rattle.syntect_parsing.specs.Turn.{Live, Choice, Take, Skip, End, char_len, loops}
 use Rattle.syntect_parsing.specs.Candidates.{seen}
 use Rattle.syntect_parsing.specs.declared.position.Position.{Position}
+use Rattle.syntect_contexts.specs.Substitution.{Groups}
 use Rattle.syntect_parsing.specs.declared.search.Best.{Best}
+use Rattle.syntect_parsing.specs.declared.search.Candidate.{Candidate}
 
 -- what a turn does whose matches of least start are these, if there are any, by the first of them that doesn't loop
 abbrev pub decided : List ℕ → ℕ → Bool → Option Live → Choice
@@ -21,6 +23,10 @@ abbrev pub IsNear : Option Live → ℕ → Option Live → Type 0
 IsNear live last (Some m) = live ≡ Some m
 IsNear live last None = IfSome live (λ k. last < k.start)
 
+-- these are the groups of the match, if there is one
+abbrev pub AreGroupsOf : List ℕ → ℕ → Option Candidate → Groups → Type 0
+AreGroupsOf line place o groups = (m : Candidate) → o ≡ Some m → groups ≡ (seen line place m).groups
+
 -- Up to which place a match of a later member would be taken in place of the best so far: to its start, where all that
 -- begin there loop, and else before its start.
 abbrev pub wanted : ℕ → Best → Option ℕ
@@ -33,5 +39,6 @@ pub record IsBest (line : List ℕ) (p : Position) (last : ℕ) (ms : List Live)
   pub first : b.is_match ≡ true → (list_any (λ k. k.start == b.start) ms ≡ true)
       × (find (λ k. (k.start == b.start) && not (loops p k)) ms ≡ option_map (seen line p.place) b.candidate)
   pub none : b.is_match ≡ false → (b.start ≡ suc last) × (b.candidate ≡ None)
+  pub near : b.is_match ≡ true → b.start ≤ last
   pub bound : b.start ≤ suc last
   pub from : p.place ≤ b.start

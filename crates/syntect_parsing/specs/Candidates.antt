@@ -21,7 +21,7 @@ use Rattle.syntect_parsing.specs.Turn as turn
 use Rattle.syntect_contexts.specs.declared.context.MatchOperation.{MatchOperation}
 use Rattle.syntect_contexts.specs.declared.context.MatchOperation.TheVariants as op
 use Rattle.syntect_parsing.specs.declared.position.Record.{Record}
-use Rattle.syntect_parsing.specs.declared.chain.Entry.{Entry}
+use Rattle.syntect_parsing.specs.declared.search.Entry.{Entry}
 use Rattle.syntect_parsing.specs.declared.captures.Mark.{Mark}
 use Rattle.syntect_parsing.specs.declared.search.Candidate.{Candidate}
 use Rattle.syntect_parsing.specs.declared.search.Choice.{Choice}

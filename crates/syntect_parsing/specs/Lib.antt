@@ -10,6 +10,8 @@ pub mod Line
 pub mod Laws
 pub mod Sorting
 pub mod Candidates
+pub mod Parts
+pub mod Passing
 pub mod Best
 pub mod Operations
 pub mod Refusals

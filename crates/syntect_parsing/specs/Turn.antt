@@ -1,7 +1,8 @@
 -- Which match a turn takes, and what it leaves.
 pub use Rattle.syntect_contexts.specs.Contexts.{list_of, named}
-use Rattle.std.specs.Prelude.{ℕ, ◌==◌, nat_le, nat_lt, ◌+◌, ◌-◌, Bool, true, false, ◌&&◌, not, List, [], ◌∷◌, ◌++◌, length, take, filter, find, Option, Some, None, is_none, if◌then◌else◌}
-use Rattle.std.specs.Option.{option_map, option_map_or, option_and_then, option_flatten, option_or, option_to_list}
+pub use Rattle.syntect_openings.specs.Names.{unresolved, missing, refusal}
+use Rattle.std.specs.Prelude.{ℕ, ◌==◌, nat_le, nat_lt, ◌+◌, ◌-◌, Bool, true, false, ◌&&◌, not, List, [], ◌∷◌, ◌++◌, length, take, filter, find, Option, Some, None, if◌then◌else◌}
+use Rattle.std.specs.Option.{option_map_or, option_and_then, option_flatten, option_to_list}
 use Rattle.std.specs.List.{filter_map, list_any, list_all}
 use Rattle.std.specs.Char.{len_utf8}
 use Rattle.syntect_pattern.specs.Text.{char_at}
@@ -21,8 +22,6 @@ use Rattle.syntect_parsing.specs.States.{Level}
 use Rattle.syntect_parsing.specs.declared.position.TheConstants.{MOST_LEVELS, MOST_IDLE}
 use Rattle.syntect_parsing.specs.declared.position.Record.{Record}
 use Rattle.syntect_parsing.specs.declared.position.Position.{Position}
-use Rattle.syntect_contexts.specs.declared.error.ParsingError.{ParsingError}
-use Rattle.syntect_contexts.specs.declared.error.ParsingError.TheVariants as error
 
 -- ---- the live matches ----
 
@@ -114,20 +113,6 @@ choice_of line place (m ∷ ms) None = if nat_lt (place + char_len line place) (
 -- of the matches that begin first, the foremost in the chain that goes on
 abbrev pub winner : List ℕ → Position → List Live → Choice
 winner line p ms = choice_of line p.place ms (find (λ m. is_least ms m && not (loops p m)) ms)
-
--- ---- what the winner names ----
-
--- the refusal of the first reference that has no target
-abbrev pub unresolved : List ContextReference → Option ParsingError
-unresolved refs = option_map error.UnresolvedContextReference (find (λ r. is_none (target r)) refs)
-
--- the refusal of the first context that the set lacks
-abbrev pub missing : SyntaxSet → List ContextId → Option ParsingError
-missing set ids = option_map error.MissingContext (find (λ id. is_none (context_at set id)) ids)
-
--- what refuses a match: all references are looked at first, and the contexts then
-abbrev pub refusal : SyntaxSet → MatchPattern → Option ParsingError
-refusal set m = option_or (unresolved (named m)) (missing set (filter_map target (named m)))
 
 -- ---- the levels after the winner ----
 

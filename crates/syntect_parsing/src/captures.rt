@@ -99,16 +99,15 @@ fn sort_marks(marks: &mut Vec<Mark<'_>>) -> Result<(), AllocError>
     marks.sort_by_key(|m| m.place)
 }
 
-/// What the captures of a match push and pop, in order. Takes no memory where the pattern has no captures.
+/// What the captures of a match with these groups push and pop, in order. Takes no memory where the pattern has no captures.
 pub fn capture_marks<'s>(
     alloc: Global,
     line: &str,
     place: usize,
     m: &Candidate<'s>,
-    region: &mut Region,
+    region: &Region,
 ) -> Result<Vec<Mark<'s>>, AllocError>
-    requires within { place ≤ length line.now }
-    requires boundary { IsCharBoundary line.now place }
+    requires groups { region.now ≡ (seen line.now place m.now).groups }
     requires stands { StandsIn line.now place m.now.start m.now.end }
     ensures { IfOk result (λ v. AreMarksOf m.now
         (captures dialect (seen line.now place m.now)) v.items) }
@@ -118,11 +117,6 @@ pub fn capture_marks<'s>(
         return Ok(Vec::new(alloc));
     };
     if captures.is_empty() {
-        return Ok(Vec::new(alloc));
-    }
-    let length = line.len();
-    let found = m.regex().search_into(line, place, length, region)?;
-    if !found {
         return Ok(Vec::new(alloc));
     }
     let mut marks = collect_marks(alloc, line, place, m, region, captures.as_slice())?;

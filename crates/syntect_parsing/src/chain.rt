@@ -3,61 +3,23 @@ ghost use Rattle.std.specs.Prelude.{◌≡◌, ◌++◌, map, find, is_none, tru
 ghost use Rattle.std.specs.Option.{option_copied, option_to_list};
 ghost use Rattle.std.specs.List.{flat_map};
 ghost use Rattle.syntect_grammar.specs.Contexts.{context_at};
-ghost use Rattle.syntect_parsing.specs.Chain.{as_members, members, in_sight, chain, prototypes_in};
-ghost use Rattle.syntect_parsing.specs.Candidates.{member_of};
-ghost use Rattle.syntect_openings.specs.Walk.{FindsSame};
+ghost use Rattle.syntect_parsing.specs.Chain.{in_sight, prototypes_in};
+ghost use Rattle.syntect_parsing.specs.Parts.{seen_part, parts_by, level_parts, parts_of};
 
 use crate::parser::Level;
 use crate::position::Position;
 use std::alloc::{AllocError, Global};
-use syntect_grammar::syntax_definition::{Context, ContextId, MatchPattern};
+use syntect_grammar::syntax_definition::{Context, ContextId};
 use syntect_grammar::syntax_set::SyntaxSet;
 use syntect_openings::opening::Opening;
-use syntect_openings::walk::patterns_of;
 
-/// A pattern of the chain, with the opening match that it is searched with, and whether it is from a `with_prototype`.
+/// A part of the chain: the patterns of a context, with the opening match that they are searched with, and whether they
+/// are from a `with_prototype`.
 #[derive(Clone, Copy)]
-pub struct Entry<'s, 'p> {
-    pub pattern: &'s MatchPattern,
+pub struct Part<'p> {
+    pub id: ContextId,
     pub opening: Option<&'p Opening>,
     pub from_with_prototype: bool,
-}
-
-/// Adds patterns to a chain.
-fn add_patterns<'s, 'p>(
-    patterns: &[&'s MatchPattern],
-    from_with_prototype: bool,
-    opening: Option<&'p Opening>,
-    chain: &mut Vec<Entry<'s, 'p>>,
-) -> Result<(), AllocError>
-    ensures { IfOk result (λ _. map member_of chain.new.items ≡ map member_of chain.old.items
-        ++ as_members from_with_prototype (option_copied opening.entry) (map (λ m. m.now) patterns.now)) }
-{
-    for pattern in patterns {
-        chain.push(Entry {
-            pattern: *pattern,
-            opening,
-            from_with_prototype,
-        })?;
-    }
-    Ok(())
-}
-
-/// Adds the patterns of a context, which stands on its own include path.
-fn add_context<'s, 'p>(
-    alloc: Global,
-    set: &'s SyntaxSet,
-    id: ContextId,
-    from_with_prototype: bool,
-    opening: Option<&'p Opening>,
-    chain: &mut Vec<Entry<'s, 'p>>,
-) -> Result<(), AllocError>
-    ensures { IfOk result (λ _. FindsSame (map member_of chain.new.items) (map member_of chain.old.items
-        ++ members set.now from_with_prototype (option_copied opening.entry) id)) }
-{
-    let patterns = patterns_of(alloc, set, id)?;
-    add_patterns(patterns.as_slice(), from_with_prototype, opening, chain)?;
-    Ok(())
 }
 
 /// The levels whose prototypes are looked at: those from the last cut on.
@@ -78,89 +40,84 @@ fn in_sight(p: &Position) -> &[Level]
 }
 
 /// Adds those of contexts, one after another.
-fn add_contexts<'s, 'p>(
-    alloc: Global,
-    set: &'s SyntaxSet,
+fn add_contexts<'p>(
     ids: &[ContextId],
     opening: Option<&'p Opening>,
-    chain: &mut Vec<Entry<'s, 'p>>,
+    from_with_prototype: bool,
+    parts: &mut Vec<Part<'p>>,
 ) -> Result<(), AllocError>
-    ensures { IfOk result (λ _. FindsSame (map member_of chain.new.items) (map member_of chain.old.items
-        ++ flat_map (members set.now true (option_copied opening.entry)) ids.now)) }
+    ensures { IfOk result (λ _. map seen_part parts.new.items ≡ map seen_part parts.old.items
+        ++ parts_by from_with_prototype (option_copied opening.entry) ids.now) }
 {
     for id in ids {
-        add_context(alloc, set, *id, true, opening, chain)?;
+        parts.push(Part {
+            id: *id,
+            opening,
+            from_with_prototype,
+        })?;
     }
     Ok(())
 }
 
 /// Adds those of a level's prototypes.
-fn add_prototypes<'s, 'p>(
-    alloc: Global,
-    set: &'s SyntaxSet,
-    level: &'p Level,
-    chain: &mut Vec<Entry<'s, 'p>>,
-) -> Result<(), AllocError>
-    ensures { IfOk result (λ _. FindsSame (map member_of chain.new.items) (map member_of chain.old.items
-        ++ flat_map (members set.now true level.now.opening) level.now.prototypes)) }
+fn add_level<'p>(level: &'p Level, parts: &mut Vec<Part<'p>>) -> Result<(), AllocError>
+    ensures { IfOk result (λ _. map seen_part parts.new.items
+        ≡ map seen_part parts.old.items ++ level_parts level.now) }
 {
     let ids = level.prototypes.as_slice();
-    add_contexts(alloc, set, ids, level.opening.as_ref(), chain)?;
-    Ok(())
+    add_contexts(ids, level.opening.as_ref(), true, parts)
 }
 
 /// Adds those of levels.
-fn add_levels<'s, 'p>(
-    alloc: Global,
-    set: &'s SyntaxSet,
-    levels: &'p [Level],
-    chain: &mut Vec<Entry<'s, 'p>>,
-) -> Result<(), AllocError>
-    ensures { IfOk result (λ _. FindsSame (map member_of chain.new.items) (map member_of chain.old.items
-        ++ flat_map (λ l. flat_map (members set.now true l.opening) l.prototypes) levels.now)) }
+fn add_levels<'p>(levels: &'p [Level], parts: &mut Vec<Part<'p>>) -> Result<(), AllocError>
+    ensures { IfOk result (λ _. map seen_part parts.new.items
+        ≡ map seen_part parts.old.items ++ flat_map level_parts levels.now) }
 {
     for level in levels {
-        add_prototypes(alloc, set, level, chain)?;
+        add_level(level, parts)?;
     }
     Ok(())
 }
 
-/// Adds the patterns of a context's prototype, if it has one.
-fn add_prototype<'s, 'p>(
-    alloc: Global,
-    set: &'s SyntaxSet,
+/// Adds that of a context's prototype, if it has one.
+fn add_prototype<'p>(
     prototype: Option<ContextId>,
-    chain: &mut Vec<Entry<'s, 'p>>,
+    parts: &mut Vec<Part<'p>>,
 ) -> Result<(), AllocError>
-    ensures { IfOk result (λ _. FindsSame (map member_of chain.new.items) (map member_of chain.old.items
-        ++ flat_map (members set.now false None) (option_to_list prototype))) }
+    ensures { IfOk result (λ _. map seen_part parts.new.items ≡ map seen_part parts.old.items
+        ++ parts_by false None (option_to_list prototype)) }
 {
     match prototype {
         Some(id) => {
-            add_context(alloc, set, id, false, None, chain)?;
+            parts.push(Part {
+                id,
+                opening: None,
+                from_with_prototype: false,
+            })?;
             Ok(())
         }
         None => Ok(()),
     }
 }
 
-/// The chain of a turn, as far as who looks for the first member that passes a test can tell.
-pub fn chain<'s, 'p>(
+/// The parts of a turn's chain.
+pub fn parts_of<'p>(
     alloc: Global,
-    set: &'s SyntaxSet,
     p: &'p Position,
     top: &'p Level,
-    context: &'s Context,
-) -> Result<Vec<Entry<'s, 'p>>, AllocError>
-    ensures { IfOk result (λ v. FindsSame (map member_of v.items)
-        (chain set.now p.now top.now context.now)) }
+    context: &Context,
+) -> Result<Vec<Part<'p>>, AllocError>
+    ensures { IfOk result (λ v. map seen_part v.items ≡ parts_of p.now top.now context.now) }
 {
-    let mut chain = Vec::new(alloc);
-    let opening = top.opening.as_ref();
-    add_levels(alloc, set, in_sight(p), &mut chain)?;
-    add_prototype(alloc, set, context.prototype, &mut chain)?;
-    add_context(alloc, set, top.context, false, opening, &mut chain)?;
-    Ok(chain)
+    let mut parts = Vec::new(alloc);
+    add_levels(in_sight(p), &mut parts)?;
+    add_prototype(context.prototype, &mut parts)?;
+    parts.push(Part {
+        id: top.context,
+        opening: top.opening.as_ref(),
+        from_with_prototype: false,
+    })?;
+    Ok(parts)
 }
 
 /// The first of these contexts that the set lacks.

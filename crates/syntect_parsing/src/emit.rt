@@ -183,10 +183,11 @@ pub fn emit(
     line: &str,
     p: &Position,
     m: &Candidate<'_>,
-    region: &mut Region,
+    region: &Region,
 ) -> Result<(), AllocError>
     requires within { p.now.place ≤ length line.now }
     requires boundary { IsCharBoundary line.now p.now.place }
+    requires groups { region.now ≡ (seen line.now p.now.place m.now).groups }
     requires stands { StandsIn line.now p.now.place m.now.start m.now.end }
     ensures { OnOk result (ops.new.items ≡ ops.old.items ++ operations_by m.now
         (captures dialect (seen line.now p.now.place m.now)) set.now p.now.levels) }

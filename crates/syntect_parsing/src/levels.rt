@@ -8,7 +8,6 @@ ghost use Rattle.syntect_parsing.specs.Turn.{uses_backrefs, new_level, new_level
 ghost use Rattle.syntect_parsing.specs.Candidates.{seen, opening_by, record_at};
 ghost use Rattle.syntect_parsing.specs.Chain.{last};
 
-use crate::names::targets;
 use crate::parser::Level;
 use crate::position::{MOST_IDLE, Position, Record};
 use crate::search::Candidate;
@@ -16,6 +15,7 @@ use std::alloc::{AllocError, Global};
 use std::mem;
 use syntect_grammar::syntax_definition::{ContextId, ContextReference, MatchOperation};
 use syntect_grammar::syntax_set::SyntaxSet;
+use syntect_openings::names::targets;
 use syntect_openings::opening::Opening;
 use syntect_regex::region::Region;
 use syntect_values::seq::Seq;

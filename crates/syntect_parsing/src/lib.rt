@@ -8,7 +8,6 @@ mod chain;
 mod emit;
 pub mod laws;
 mod levels;
-mod names;
 pub mod parser;
 mod position;
 mod search;

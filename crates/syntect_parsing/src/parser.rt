@@ -11,13 +11,13 @@ ghost use Rattle.syntect_parsing.specs.States.{standing};
 
 use crate::laws::dialect_finds_in_text;
 use crate::position::Position;
+use crate::search::Regions;
 use crate::turn::turn;
 use std::alloc::{AllocError, AllocFailed, Global};
 pub use syntect_grammar::error::ParsingError;
 use syntect_grammar::syntax_definition::{ContextId, ContextReference};
 use syntect_grammar::syntax_set::{SyntaxReference, SyntaxSet};
 use syntect_openings::opening::Opening;
-use syntect_regex::region::Region;
 use syntect_scope::scope::Scope;
 use syntect_scope::stack::ScopeStackOp;
 use syntect_values::seq::Seq;
@@ -180,7 +180,7 @@ fn read_line(
     ensures refused { IfErr result (MayRefuse dialect set.now line.now state.now) }
 {
     dialect_finds_in_text();
-    let mut region = Region::new(alloc);
+    let mut regions = Regions::new(alloc);
     let mut ops = match first_operations(alloc, set, state) {
         Ok(ops) => ops,
         Err(_) => return Err(ParsingError::Memory),
@@ -190,7 +190,7 @@ fn read_line(
         Err(_) => return Err(ParsingError::Memory),
     };
     loop {
-        match turn(alloc, set, line, &mut p, &mut region, &mut ops) {
+        match turn(alloc, set, line, &mut p, &mut regions, &mut ops) {
             Err(e) => return Err(e),
             Ok(true) => {}
             Ok(false) => break,

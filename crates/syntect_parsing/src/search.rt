@@ -1,20 +1,61 @@
 //! Which match a turn takes.
-ghost use Rattle.std.specs.Prelude.{◌≡◌, ◌≤◌, ◌++◌, [], List, ℕ, length, map, IfOk, IsCharBoundary, unwrap_or, if◌then◌else◌, true, false, Some, None};
+ghost use Rattle.std.specs.Prelude.{◌≡◌, ◌≤◌, ◌++◌, ◌∷◌, [], List, ℕ, length, IfOk, IsCharBoundary, unwrap_or, if◌then◌else◌, true, false, Some, None};
 ghost use Rattle.std.specs.Option.{option_map, option_copied};
-ghost use Rattle.std.specs.List.{cons_option};
+ghost use Rattle.std.specs.List.{cons_option, flat_map};
 ghost use Rattle.syntect_parsing.specs.Engine.{dialect};
 ghost use Rattle.syntect_parsing.specs.Turn.{Live, live, live_match, searched_text, loops, counts, turns_back, winner, char_len};
-ghost use Rattle.syntect_parsing.specs.Best.{IsBest, IsNear, choice_by, wanted};
+ghost use Rattle.syntect_parsing.specs.Best.{AreGroupsOf, IsBest, IsNear, choice_by, wanted};
 ghost use Rattle.syntect_parsing.specs.Candidates.{member_of, seen, text_of, chosen};
+ghost use Rattle.syntect_parsing.specs.Parts.{flat_members, part_members};
+ghost use Rattle.syntect_grammar.specs.Flats.{AreFlatsOf};
+ghost use Rattle.syntect_parsing.specs.Passing.{AddsPart, PassesOver};
 
-use crate::chain::Entry;
+use crate::chain::Part;
 use crate::laws::dialect_finds_in_text;
 use crate::position::{MOST_IDLE, MOST_LEVELS, Position};
 use std::alloc::{AllocError, Global};
+use std::mem;
 use syntect_engine::text::char_at;
+use syntect_flats::flats::Flat;
+use syntect_flats::window::{are_apart, window};
 use syntect_grammar::syntax_definition::{MatchOperation, MatchPattern};
+use syntect_grammar::syntax_set::SyntaxSet;
+use syntect_openings::opening::Opening;
+use syntect_pattern_table::starts::Places;
 use syntect_regex::regex::Regex;
 use syntect_regex::region::Region;
+
+/// Where searches put the groups of their matches, and the groups of the best match so far.
+#[derive(Drop)]
+pub struct Regions {
+    pub searched: Region,
+    pub best: Region,
+}
+
+impl Regions {
+    /// Two without groups. Takes no memory.
+    pub fn new(alloc: Global) -> Regions {
+        Regions {
+            searched: Region::new(alloc),
+            best: Region::new(alloc),
+        }
+    }
+
+    /// Keeps the groups that were found last as those of the best match.
+    fn keep(&mut self)
+        ensures { self.new.best ≡ self.old.searched }
+    {
+        mem::swap(&mut self.searched, &mut self.best);
+    }
+}
+
+/// A pattern of the chain, with the opening match that it is searched with, and whether it is from a `with_prototype`.
+#[derive(Clone, Copy)]
+pub struct Entry<'s, 'p> {
+    pub pattern: &'s MatchPattern,
+    pub opening: Option<&'p Opening>,
+    pub from_with_prototype: bool,
+}
 
 /// A match of a pattern of the chain.
 #[derive(Drop)]
@@ -129,8 +170,9 @@ fn search_entry<'s>(
     region: &mut Region,
 ) -> Result<Option<Candidate<'s>>, AllocError>
     requires order { place ≤ last }
-    ensures { IfOk result (λ m. IsNear (live_match dialect height line.now place (member_of entry.now))
-        last (option_map (seen line.now place) m)) }
+    ensures near { IfOk result (λ m. IsNear
+        (live_match dialect height line.now place (member_of entry.now)) last (option_map (seen line.now place) m)) }
+    ensures groups { IfOk result (λ m. AreGroupsOf line.now place m region.new) }
 {
     dialect_finds_in_text();
     let substituted = substituted(entry)?;
@@ -198,20 +240,32 @@ fn with_entry<'s>(
     line: &str,
     p: &Position,
     best: Best<'s>,
-    region: &mut Region,
+    regions: &mut Regions,
 ) -> Result<Best<'s>, AllocError>
     requires { p.now.place ≤ best.start }
-    ensures { (last : ℕ) (ms : List Live) → IsBest line.now p.now last ms best.entry
-        → IfOk result (λ b. IsBest line.now p.now last (ms ++ cons_option
-        (live_match dialect (length p.now.levels) line.now p.now.place (member_of entry.now)) []) b) }
+    ensures from { IfOk result (λ b. p.now.place ≤ b.start) }
+    ensures groups { IfOk result (λ b.
+        AreGroupsOf line.now p.now.place best.entry.candidate regions.old.best
+        → AreGroupsOf line.now p.now.place b.candidate regions.new.best) }
+    ensures best { (last : ℕ) (ms : List Live) → IsBest line.now p.now last ms best.entry
+        → IfOk result (λ b. IsBest line.now p.now last (ms ++ cons_option (live_match dialect
+        (length p.now.levels) line.now p.now.place (member_of entry.now)) []) b) }
 {
     dialect_finds_in_text();
     let Some(wanted) = best.wanted(p.place) else {
         return Ok(best);
     };
-    match search_entry(entry, line, p.place, wanted, p.levels.len(), region)? {
+    match search_entry(
+        entry,
+        line,
+        p.place,
+        wanted,
+        p.levels.len(),
+        &mut regions.searched,
+    )? {
         Some(m) => {
             if m.start <= wanted {
+                regions.keep();
                 Ok(led_by(line, p, m))
             } else {
                 Ok(best)
@@ -221,48 +275,159 @@ fn with_entry<'s>(
     }
 }
 
+/// What is found with one pattern of a part more.
+fn with_flat<'s>(
+    set: &'s SyntaxSet,
+    part: &Part<'_>,
+    flat: &Flat,
+    line: &str,
+    p: &Position,
+    best: Best<'s>,
+    regions: &mut Regions,
+) -> Result<Best<'s>, AllocError>
+    requires { p.now.place ≤ best.start }
+    ensures from { IfOk result (λ b. p.now.place ≤ b.start) }
+    ensures groups { IfOk result (λ b.
+        AreGroupsOf line.now p.now.place best.entry.candidate regions.old.best
+        → AreGroupsOf line.now p.now.place b.candidate regions.new.best) }
+    ensures best { (last : ℕ) (ms : List Live) → IsBest line.now p.now last ms best.entry
+        → IfOk result (IsBest line.now p.now last (ms ++ live dialect line.now p.now
+        (flat_members set.now part.now (flat.now ∷ [])))) }
+{
+    match set.pattern_at(flat) {
+        Some(pattern) => {
+            let entry = Entry {
+                pattern,
+                opening: part.opening,
+                from_with_prototype: part.from_with_prototype,
+            };
+            with_entry(&entry, line, p, best, regions)
+        }
+        None => Ok(best),
+    }
+}
+
+/// Whether a pattern of a part has no match that begins where only these stand.
+fn passes_over(part: &Part<'_>, flat: &Flat, places: Places) -> bool
+    ensures { result ≡ true → PassesOver part.now flat.now places }
+{
+    are_apart(flat.begins, places) && (!flat.has_captures || part.opening.is_none())
+}
+
+/// What is found with the patterns of a part more. `places` covers what stands from the place up to the last that is
+/// looked at.
+fn with_flats<'s>(
+    set: &'s SyntaxSet,
+    part: &Part<'_>,
+    flats: &[Flat],
+    line: &str,
+    p: &Position,
+    places: Places,
+    best: Best<'s>,
+    regions: &mut Regions,
+) -> Result<Best<'s>, AllocError>
+    requires from { p.now.place ≤ best.start }
+    requires flats { AreFlatsOf set.now part.now.id flats.now }
+    ensures from { IfOk result (λ b. p.now.place ≤ b.start) }
+    ensures groups { IfOk result (λ b.
+        AreGroupsOf line.now p.now.place best.entry.candidate regions.old.best
+        → AreGroupsOf line.now p.now.place b.candidate regions.new.best) }
+    ensures best { AddsPart set.now part.now line.now p.now places best.entry result }
+{
+    dialect_finds_in_text();
+    let mut best = best;
+    for flat in flats {
+        if passes_over(part, flat, places) {
+            continue;
+        }
+        best = with_flat(set, part, flat, line, p, best, regions)?;
+        if best.wanted(p.place).is_none() {
+            return Ok(best);
+        }
+    }
+    Ok(best)
+}
+
+/// What is found with a part of the chain more.
+fn with_part<'s>(
+    alloc: Global,
+    set: &'s SyntaxSet,
+    part: &Part<'_>,
+    line: &str,
+    p: &Position,
+    places: Places,
+    best: Best<'s>,
+    regions: &mut Regions,
+) -> Result<Best<'s>, AllocError>
+    requires { p.now.place ≤ best.start }
+    ensures from { IfOk result (λ b. p.now.place ≤ b.start) }
+    ensures groups { IfOk result (λ b.
+        AreGroupsOf line.now p.now.place best.entry.candidate regions.old.best
+        → AreGroupsOf line.now p.now.place b.candidate regions.new.best) }
+    ensures best { AddsPart set.now part.now line.now p.now places best.entry result }
+{
+    dialect_finds_in_text();
+    if best.wanted(p.place).is_none() {
+        return Ok(best);
+    }
+    match set.flats_of(part.id) {
+        Some(flats) => with_flats(set, part, flats, line, p, places, best, regions),
+        None => {
+            let flats = set.flats_walked(alloc, part.id)?;
+            with_flats(set, part, flats.as_slice(), line, p, places, best, regions)
+        }
+    }
+}
+
 /// What a chain has up to a place.
 fn best_up_to<'s>(
-    chain: &[Entry<'s, '_>],
+    alloc: Global,
+    set: &'s SyntaxSet,
+    parts: &[Part<'_>],
     line: &str,
     p: &Position,
     last: usize,
-    region: &mut Region,
+    regions: &mut Regions,
 ) -> Result<Best<'s>, AllocError>
     requires order { p.now.place ≤ last }
     requires within { last ≤ length line.now }
-    ensures { IfOk result (λ b. IsBest line.now p.now last
-        (live dialect line.now p.now (map member_of chain.now)) b) }
+    ensures groups { IfOk result (λ b.
+        AreGroupsOf line.now p.now.place b.candidate regions.new.best) }
+    ensures best { IfOk result (IsBest line.now p.now last
+        (live dialect line.now p.now (flat_map (part_members set.now) parts.now))) }
 {
+    let places = window(line, p.place, last);
     let mut best = Best {
         start: last + 1,
         is_match: false,
         candidate: None,
     };
-    for entry in chain {
-        best = with_entry(entry, line, p, best, region)?;
+    for part in parts {
+        best = with_part(alloc, set, part, line, p, places, best, regions)?;
     }
     Ok(best)
 }
 
-/// How far a chain is searched at first.
-const REACH: usize = 32;
-
-/// What a chain has: it is searched no farther than it takes to find a match, by reaches that double.
+/// What a chain has: it is searched no farther than it takes to find a match, at first at the place alone, then by reaches
+/// that double.
 pub fn best_of_chain<'s>(
-    chain: &[Entry<'s, '_>],
+    alloc: Global,
+    set: &'s SyntaxSet,
+    parts: &[Part<'_>],
     line: &str,
     p: &Position,
-    region: &mut Region,
+    regions: &mut Regions,
 ) -> Result<Best<'s>, AllocError>
     requires within { p.now.place ≤ length line.now }
-    ensures { IfOk result (λ b. choice_by line.now p.now.place b
-        ≡ winner line.now p.now (live dialect line.now p.now (map member_of chain.now))) }
+    ensures groups { IfOk result (λ b.
+        AreGroupsOf line.now p.now.place b.candidate regions.new.best) }
+    ensures best { IfOk result (λ b. choice_by line.now p.now.place b ≡ winner line.now p.now
+        (live dialect line.now p.now (flat_map (part_members set.now) parts.now))) }
 {
     dialect_finds_in_text();
-    let mut last = line.len().min(p.place.saturating_add(REACH));
+    let mut last = p.place;
     'reaches: loop {
-        let found = best_up_to(chain, line, p, last, region)?;
+        let found = best_up_to(alloc, set, parts, line, p, last, regions)?;
         if found.is_match {
             return Ok(found);
         }

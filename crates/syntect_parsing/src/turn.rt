@@ -6,21 +6,21 @@ ghost use Rattle.syntect_parsing.specs.Turn.{trimmed, skipped, char_len, winner,
 ghost use Rattle.syntect_parsing.specs.Line.{step, turn_on};
 ghost use Rattle.syntect_parsing.specs.Laws.{StandsIn};
 ghost use Rattle.syntect_parsing.specs.Candidates.{seen, live_in};
-ghost use Rattle.syntect_parsing.specs.Best.{choice_by};
+ghost use Rattle.syntect_parsing.specs.Best.{AreGroupsOf, choice_by};
 ghost use Rattle.syntect_parsing.specs.Orderly.{is_orderly};
 ghost use Rattle.syntect_parsing.specs.Step.{MakesStep, RefusesStep, Turns, RefusesTurn};
 
-use crate::chain::{chain, missing_prototype};
+use crate::chain::{missing_prototype, parts_of};
 use crate::emit::emit;
 use crate::laws::{dialect_finds_in_text, dialect_lays_groups_out};
 use crate::levels::apply;
-use crate::names::check_names;
 use crate::parser::ParsingError;
 use crate::position::{MOST_IDLE, Position};
-use crate::search::{Best, Candidate, Choice, best_of_chain, char_len, choose};
+use crate::search::{Best, Candidate, Choice, Regions, best_of_chain, char_len, choose};
 use std::alloc::Global;
 use std::mem;
 use syntect_grammar::syntax_set::SyntaxSet;
+use syntect_openings::names::check_names;
 use syntect_regex::region::Region;
 use syntect_scope::stack::ScopeStackOp;
 use syntect_values::seq::Seq;
@@ -47,10 +47,12 @@ fn best_match<'s>(
     set: &'s SyntaxSet,
     line: &str,
     p: &Position,
-    region: &mut Region,
+    regions: &mut Regions,
 ) -> Result<Best<'s>, ParsingError>
     requires within { p.now.place ≤ length line.now }
     requires boundary { IsCharBoundary line.now p.now.place }
+    ensures groups { IfOk result (λ best.
+        AreGroupsOf line.now p.now.place best.candidate regions.new.best) }
     ensures chosen { IfOk result (λ best. turn_on dialect set.now line.now p.now (last p.now.levels)
         ≡ step dialect set.now line.now p.now (choice_by line.now p.now.place best)) }
     ensures wins { IfOk result (λ best. choice_by line.now p.now.place best
@@ -67,8 +69,8 @@ fn best_match<'s>(
     if let Some(id) = missing_prototype(set, p, context) {
         return Err(ParsingError::MissingContext(id));
     }
-    let entries = chain(alloc, set, p, top, context)?;
-    Ok(best_of_chain(entries.as_slice(), line, p, region)?)
+    let parts = parts_of(alloc, p, top, context)?;
+    Ok(best_of_chain(alloc, set, parts.as_slice(), line, p, regions)?)
 }
 
 /// Takes a match: its operations, and where the reader then stands.
@@ -78,13 +80,14 @@ fn take(
     line: &str,
     p: &mut Position,
     m: &Candidate<'_>,
-    region: &mut Region,
+    region: &Region,
     ops: &mut Vec<(usize, ScopeStackOp)>,
 ) -> Result<(), ParsingError>
     requires within { p.old.place ≤ length line.now }
     requires boundary { IsCharBoundary line.now p.old.place }
     requires few { p.old.idle ≤ MOST_IDLE }
     requires stands { StandsIn line.now p.old.place m.now.start m.now.end }
+    requires groups { region.now ≡ (seen line.now p.old.place m.now).groups }
     ensures makes { IfOk result (λ _. MakesStep
         (is_orderly set.now p.old.levels m.now.pattern.now.operation ≡ true) set.now line.now
         (step dialect set.now line.now p.old (Take (seen line.now p.old.place m.now)))
@@ -116,7 +119,7 @@ pub fn turn(
     set: &SyntaxSet,
     line: &str,
     p: &mut Position,
-    region: &mut Region,
+    regions: &mut Regions,
     ops: &mut Vec<(usize, ScopeStackOp)>,
 ) -> Result<bool, ParsingError>
     requires within { p.old.place ≤ length line.now }
@@ -128,12 +131,12 @@ pub fn turn(
 {
     dialect_finds_in_text();
     trim(alloc, p);
-    let found = match best_match(alloc, set, line, p, region) {
+    let found = match best_match(alloc, set, line, p, regions) {
         Ok(found) => found,
         Err(e) => return Err(e),
     };
     match choose(line, p, &found) {
-        Choice::Take(m) => match take(alloc, set, line, p, m, region, ops) {
+        Choice::Take(m) => match take(alloc, set, line, p, m, &regions.best, ops) {
             Ok(()) => Ok(true),
             Err(e) => Err(e),
         },

@@ -4,3 +4,4 @@ pub use Rattle.syntect_pattern.specs.Nesting
 pub use Rattle.syntect_pattern.specs.Found
 pub mod Region
 pub mod Escape
+pub mod Begins

@@ -1,12 +1,14 @@
 //! Patterns.
-ghost use Rattle.std.specs.Prelude.{◌≡◌, ◌≤◌, ◌==◌, ◌++◌, encode_utf8_all, OnOk, take, drop, string_bytes, IfOk, OnErr, IfSome, IfNone, IsCharBoundary, is_some, is_ok, unwrap_or, option_and_then, if◌then◌else◌, None, true};
+ghost use Rattle.std.specs.Prelude.{◌≡◌, ℕ, ◌≤◌, ◌==◌, ◌++◌, encode_utf8_all, OnOk, take, drop, string_bytes, IfOk, OnErr, IfSome, IfNone, IsCharBoundary, is_some, is_ok, unwrap_or, option_and_then, if◌then◌else◌, None, true};
 ghost use Rattle.std.specs.Cmp.Lexicographic.{pointwise};
 ghost use Rattle.std.proofs.Common.{rules};
 ghost use Rattle.std.specs.Cmp.Rules.{comparing};
 ghost use Rattle.syntect_pattern.specs.Trees.{group_in_look};
 ghost use Rattle.syntect_pattern.specs.Pattern.{pattern_tree, pattern_found};
 ghost use Rattle.syntect_pattern.specs.Found.{IsPatternMatch};
+ghost use Rattle.syntect_pattern_table.specs.Starts.{is_in};
 ghost use Rattle.syntect_regex.specs.declared.error.PatternError.{PatternError};
+ghost use Rattle.syntect_regex.specs.Begins.{NoneBeginsOutside};
 ghost use Rattle.syntect_regex.specs.Escape.{is_special, escaped_char, escaped};
 ghost use Rattle.syntect_regex.specs.Region.{TakesMatch, TakesUpTo, Leaves, pattern_begins};
 
@@ -17,6 +19,7 @@ use std::marker::Model;
 use syntect_engine::state::Search;
 use syntect_pattern_reader::compiler::compile;
 use syntect_pattern_table::program::Program;
+use syntect_pattern_table::starts::Places;
 
 /// A pattern, ready to be searched. It is its text: equal texts are equal patterns.
 #[derive(Drop)]
@@ -73,6 +76,23 @@ impl Regex {
         match &self.program {
             Some(program) => program.group(number),
             None => None,
+        }
+    }
+
+    /// What can stand at a place where a match begins: where something else stands none begins.
+    pub fn begins(&self) -> Places
+        ensures { NoneBeginsOutside result self.now }
+    {
+        let Some(program) = &self.program else {
+            return Places {
+                ascii: 0,
+                wide: false,
+                end: false,
+            };
+        };
+        match program.firsts.get(program.root) {
+            Some(places) => *places,
+            None => anywhere(),
         }
     }
 
@@ -162,6 +182,18 @@ impl Regex {
         };
         let mut search = Search::new(alloc);
         search.begins_at(program, text, 0)
+    }
+}
+
+/// All that can stand at a place.
+#[tactic(auto, using(syntect_pattern_table::proofs::PlaceLaws::all_in))]
+fn anywhere() -> Places
+    ensures { (x : ℕ) → is_in result x ≡ true }
+{
+    Places {
+        ascii: u128::MAX,
+        wide: true,
+        end: true,
     }
 }
 

@@ -1,6 +1,6 @@
 use Rattle.std.proofs.Common.{refl, arith}
 use Rattle.syntect_parsing.specs.Candidates.{seen}
-use Rattle.syntect_parsing.proofs.CapturedLaws.{no_marks, unlisted, not_found, found_marks}
+use Rattle.syntect_parsing.proofs.CapturedLaws.{no_marks, unlisted, found_marks}
 use Rattle.syntect_parsing.proofs.captures.capture_marks.Goals as goal
 
 pub returns-in_default : goal.returns-in_default
@@ -12,16 +12,8 @@ returns-then-is_empty c =
     rw (c.new-then-is_empty.ensures.items) (
     no_marks (seen c.args.line.now c.args.place c.args.m.now) (unlisted (seen c.args.line.now c.args.place c.args.m.now) (rw (c.in-Some.is) (c.if-is_empty.ensures.0 refl))))
 
-pub returns-then-not-found : goal.returns-then-not-found
-returns-then-not-found c =
-    rw (c.new-then-not-found.ensures.items) (
-    no_marks (seen c.args.line.now c.args.place c.args.m.now)
-    (not_found (seen c.args.line.now c.args.place c.args.m.now) c.args.line.now c.args.place c.args.region.now c.search_into.new.region refl
-    (rw (c.regex.ensures, c.if-not-found.true) at c.in_ok-found.ensures.ok)))
-
 pub returns : goal.returns
 returns c =
     rw (c.in_ok-sort_marks.ensures) (
-    found_marks (seen c.args.line.now c.args.place c.args.m.now) c.args.line.now c.args.place c.args.region.now c.search_into.new.region c.in_ok-marks.marks.items c.in-Some.captures refl
-    (rw (c.regex.ensures, c.if-not-found.false) at c.in_ok-found.ensures.ok) c.in-Some.is
+    found_marks (seen c.args.line.now c.args.place c.args.m.now) c.args.region.now c.in_ok-marks.marks.items c.in-Some.captures c.requires.groups c.in-Some.is
     (rw (c.as_slice.ensures) at c.in_ok-marks.ensures) c.requires.stands.ordered (omega (arith, c.requires.stands.within)))

@@ -1,14 +1,20 @@
 use Rattle.std.proofs.Common.{rules, map, find, ap, ◌∙◌}
-use Rattle.syntect_parsing.specs.Candidates.{member_of}
+use Rattle.std.specs.List.{flat_map}
+use Rattle.syntect_parsing.specs.Parts.{seen_part, part_members}
+use Rattle.syntect_parsing.proofs.PartLaws.{parts_make_chain}
 use Rattle.syntect_parsing.proofs.ChainLaws.{chain_wins, chain_steps}
 use Rattle.syntect_parsing.proofs.turn.best_match.Goals as goal
 
 pub returns-clause-chosen : goal.returns-clause-chosen
 returns-clause-chosen c =
-    chain_steps c.args.set.now c.args.line.now c.args.p.now c.in-Some.top.now c.in-Some-context_at.context.now (map member_of c.as_slice-2.result.now) c.in_ok-best_of_chain.field-0
-    (search rules) (search rules) (λ f. ap (λ l. find f (map member_of l)) c.as_slice-2.ensures.value ∙ c.in_ok-entries.ensures f) c.in_ok-best_of_chain.ensures c.in_default-missing_prototype.ensures
+    chain_steps c.args.set.now c.args.line.now c.args.p.now c.in-Some.top.now c.in-Some-context_at.context.now (flat_map (part_members c.args.set.now) c.as_slice-2.result.now) c.in_ok-best_of_chain.field-0
+    (search rules) (search rules) (λ f. ap (find f)
+    (parts_make_chain c.args.set.now c.args.p.now c.in-Some.top.now c.in-Some-context_at.context.now c.as_slice-2.result.now
+    (ap (map seen_part) c.as_slice-2.ensures.value ∙ c.in_ok-parts.ensures))) c.in_ok-best_of_chain.ensures.best c.in_default-missing_prototype.ensures
 
 pub returns-clause-wins : goal.returns-clause-wins
 returns-clause-wins c =
-    chain_wins c.args.set.now c.args.line.now c.args.p.now c.in-Some.top.now c.in-Some-context_at.context.now (map member_of c.as_slice-2.result.now) c.in_ok-best_of_chain.field-0
-    (search rules) (search rules) (λ f. ap (λ l. find f (map member_of l)) c.as_slice-2.ensures.value ∙ c.in_ok-entries.ensures f) c.in_ok-best_of_chain.ensures
+    chain_wins c.args.set.now c.args.line.now c.args.p.now c.in-Some.top.now c.in-Some-context_at.context.now (flat_map (part_members c.args.set.now) c.as_slice-2.result.now) c.in_ok-best_of_chain.field-0
+    (search rules) (search rules) (λ f. ap (find f)
+    (parts_make_chain c.args.set.now c.args.p.now c.in-Some.top.now c.in-Some-context_at.context.now c.as_slice-2.result.now
+    (ap (map seen_part) c.as_slice-2.ensures.value ∙ c.in_ok-parts.ensures))) c.in_ok-best_of_chain.ensures.best

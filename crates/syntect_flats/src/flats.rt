@@ -1,0 +1,16 @@
+//! The patterns of a context's walk, each with what decides whether a search for it is worth while.
+use syntect_contexts::context::ContextId;
+use syntect_pattern_table::starts::Places;
+
+/// A pattern of a context's walk.
+#[derive(Clone, Copy)]
+pub struct Flat {
+    /// What can stand at a place where a match of it begins.
+    pub begins: Places,
+    /// The context that holds it.
+    pub context: ContextId,
+    /// Its index among that context's entries.
+    pub index: usize,
+    /// Whether it has back references into the match that opened its context.
+    pub has_captures: bool,
+}

@@ -1,0 +1,53 @@
+-- Where no match of a pattern begins.
+use Rattle.std.proofs.Common.{◌≡◌, ◌<◌, ◌||◌, ℕ, ◌+◌, false, List, length, get_or, Option, Some, None, sym, ◌∙◌, ap, arith, add-one, inl, inr}
+use Rattle.std.specs.Prelude.{slice_get, option_and_then}
+use Rattle.std.proofs.lemmas.Bool.{cases_lt}
+use Rattle.std.proofs.lemmas.Option.{slice_get_within, get_or_from_slice_get}
+use Rattle.syntect_pattern.specs.Trees.{Tree, nothing}
+use Rattle.syntect_pattern.specs.Matches.{found, found_at}
+use Rattle.syntect_pattern.specs.Pattern.{pattern_tree, pattern_found}
+use Rattle.syntect_pattern_table.specs.Program.{trees_of}
+use Rattle.syntect_pattern_table.specs.Starts.{is_in, reads, start_at, stays}
+use Rattle.syntect_pattern_table.specs.declared.program.Program.{Program}
+use Rattle.syntect_pattern_table.specs.declared.starts.Places.{Places}
+use Rattle.syntect_pattern_table.proofs.BeginLaws.{start-past, start-ascii, start-wide}
+use Rattle.syntect_pattern_table.proofs.StartLaws.{found_at-nothing}
+use Rattle.syntect_engine.proofs.FindLaws.{found-past, found-step}
+use Rattle.syntect_pattern_reader.specs.Compiled.{IsCompiled}
+use Rattle.syntect_regex.specs.Begins.{NoneBeginsOutside}
+
+start-bound : (s : List ℕ) (i : ℕ) → start_at s i < 130
+start-bound s i = elim (cases_lt i (length s)) [
+  | inl h ↦ elim (cases_lt (get_or s i 0) 128) [
+    | inl l ↦ omega (arith, start-ascii s i h l)
+    | inr g ↦ omega (arith, start-wide s i h g)
+  ]
+  | inr h ↦ omega (arith, start-past s i h)
+]
+
+-- a place where no match begins is passed over, also one past the end
+found-next : (s : List ℕ) (tree : Tree) (i : ℕ) → found_at s tree i ≡ None → found s tree i ≡ found s tree (i + 1)
+found-next s tree i e = elim (cases_lt (length s) i) [
+  | inl l ↦ found-past s tree i l ∙ sym (found-past s tree (i + 1) (omega (arith, l)))
+  | inr l ↦ rw add-one (found-step s tree i l e)
+]
+
+pattern-next : (s pattern : List ℕ) (tree : Tree) (i : ℕ) → pattern_tree pattern ≡ Some tree → found s tree i ≡ found s tree (i + 1) → pattern_found pattern s i ≡ pattern_found pattern s (i + 1)
+pattern-next s pattern tree i e h =
+    ap (λ (o : Option Tree). option_and_then (λ t. found s t i) o) e ∙ h ∙ sym (ap (λ (o : Option Tree). option_and_then (λ t. found s t (i + 1)) o) e)
+
+-- what the root of a program can begin with
+pub none-outside : (pattern : List ℕ) (p : Program) → IsCompiled pattern p → (places : Places) → Some places ≡ slice_get p.firsts p.root → NoneBeginsOutside places pattern
+none-outside pattern p is places got s u i out =
+    let x : ℕ = start_at s i in
+    let known : is_in places x ≡ (reads (get_or (trees_of p) p.root nothing) x || stays (get_or (trees_of p) p.root nothing) x) =
+    ap (λ (q : Places). is_in q x) (sym (get_or_from_slice_get p.firsts p.root places places (sym got)))
+    ∙ p.begun p.root x places (slice_get_within p.firsts p.root places (sym got)) (start-bound s i) in
+    let dead : (reads is.tree x || stays is.tree x) ≡ false =
+    sym (ap (λ (t : Tree). reads t x || stays t x) is.program.root) ∙ sym known ∙ out in
+    pattern-next s pattern is.tree i is.reads (found-next s is.tree i (found_at-nothing s u is.tree i dead))
+
+-- a text that is no pattern matches nowhere
+pub none-anywhere : (pattern : List ℕ) (places : Places) → pattern_tree pattern ≡ None → NoneBeginsOutside places pattern
+none-anywhere pattern places e s u i out =
+    ap (λ (o : Option Tree). option_and_then (λ t. found s t i) o) e ∙ sym (ap (λ (o : Option Tree). option_and_then (λ t. found s t (i + 1)) o) e)

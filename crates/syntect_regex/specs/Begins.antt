@@ -1,0 +1,10 @@
+-- Where a match of a pattern can begin.
+use Rattle.std.specs.Prelude.{◌≡◌, ℕ, ◌+◌, false, List, IsUtf8}
+use Rattle.syntect_pattern.specs.Pattern.{pattern_found}
+use Rattle.syntect_pattern_table.specs.Starts.{is_in, start_at}
+use Rattle.syntect_pattern_table.specs.declared.starts.Places.{Places}
+
+-- no match of the pattern begins at a place where something stands that is none of these
+abbrev pub NoneBeginsOutside : Places → List ℕ → Type 0
+NoneBeginsOutside places pattern = (s : List ℕ) → IsUtf8 s → (place : ℕ) → is_in places (start_at s place) ≡ false
+    → pattern_found pattern s place ≡ pattern_found pattern s (place + 1)
