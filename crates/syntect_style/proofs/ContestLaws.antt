@@ -1,5 +1,5 @@
 -- The better one of those that stand after the single rules and after the others is the first that none beats.
-use Rattle.std.proofs.Common.{◌≡◌, ℕ, zero, suc, ◌<◌, ◌+◌, drop, ◌*◌, ◌^◌, cond, if◌then◌else◌, Bool, true, false, not, List, [], ◌∷◌, ◌++◌, length, get_or, Option, Some, None, refl, sym, ap, ◌∙◌, arith}
+use Rattle.std.proofs.Common.{◌≡◌, ℕ, zero, suc, ◌<◌, ◌*◌, ◌^◌, cond, if◌then◌else◌, Bool, true, false, not, List, [], ◌∷◌, ◌++◌, length, get_or, Option, Some, None, refl, sym, ap, ◌∙◌, arith}
 use Rattle.std.specs.Prelude.{◌≢◌, find, IsSomeAnd}
 use Rattle.std.specs.Option.{option_map}
 use Rattle.std.specs.List.{cons_option, filter_map, flat_map, list_all, best_of, IsFirstBest}
@@ -85,7 +85,7 @@ not_both : (b : Bool) → b ≡ true → b ≡ false → ⊥
 not_both b e f = cc
 
 -- the order in which candidates are put against each other doesn't matter, as long as theirs stays
-against_grouped : {V : Type 0} (a b c : Option (Candidate V)) → against (against a b) c ≡ against a (against b c)
+pub against_grouped : {V : Type 0} (a b c : Option (Candidate V)) → against (against a b) c ≡ against a (against b c)
 against_grouped None None None = refl
 against_grouped None None (Some c) = refl
 against_grouped None (Some b) None = refl
@@ -113,7 +113,7 @@ abbrev IsSingle : {V : Type 0} → Option (Candidate V) → Type 0
 IsSingle None = Unit {0}
 IsSingle (Some c) = (p : ℕ) × (c.score.place ≡ Some p)
 
-abbrev IsOther : {V : Type 0} → Option (Candidate V) → Type 0
+abbrev pub IsOther : {V : Type 0} → Option (Candidate V) → Type 0
 IsOther None = Unit {0}
 IsOther (Some c) = c.score.place ≡ None
 
@@ -173,7 +173,7 @@ module _ {V : Type 0} (attribute : StyleModifier → Option V) (stack : List (Li
   other_candidate (Some v) None = tt
   other_candidate (Some v) (Some p) = refl
 
-  others_stay : (best : Option (Candidate V)) (others : List (ScopeSelector × StyleModifier)) → IsOther best → IsOther (after_others attribute stack best others)
+  pub others_stay : (best : Option (Candidate V)) (others : List (ScopeSelector × StyleModifier)) → IsOther best → IsOther (after_others attribute stack best others)
   others_stay best [] i = i
   others_stay best (o ∷ others) i =
       others_stay (against best (candidate (attribute o.1) (other_score o.0 stack))) others (other_stays best (candidate (attribute o.1) (other_score o.0 stack)) i (other_candidate (attribute o.1) (selector_score o.0 stack)))
@@ -216,28 +216,6 @@ module _ {V : Type 0} (attribute : StyleModifier → Option V) (stack : List (Li
   stands_prevailing theme rules e =
       ap (λ rs. against (after_rules attribute stack None rs) (after_others attribute stack None (other_rules theme))) e
       ∙ sym (items_parted theme.scopes None None tt) ∙ in_turn_prevails (candidates attribute theme stack)
-
-pub after_others_append : {V : Type 0} (attribute : StyleModifier → Option V) (stack : List (List ℕ)) (best : Option (Candidate V)) (xs ys : List (ScopeSelector × StyleModifier))
-    → after_others attribute stack best (xs ++ ys) ≡ after_others attribute stack (after_others attribute stack best xs) ys
-after_others_append attribute stack best [] ys = refl
-after_others_append attribute stack best (x ∷ xs) ys = after_others_append attribute stack (against best (candidate (attribute x.1) (other_score x.0 stack))) xs ys
-
-drop_at : {X : Type 0} (xs : List X) (i : ℕ) (x : X) → i < length xs → x ≡ get_or xs i x → drop i xs ≡ x ∷ drop (i + 1) xs
-drop_at [] i x l e = absurd (omega arith)
-drop_at (y ∷ xs) zero x l e = ap (λ z. z ∷ xs) (sym e)
-drop_at (y ∷ xs) (suc i) x l e =
-    let j : i + 1 ≡ suc i = omega arith in
-    let k : suc i + 1 ≡ suc (suc i) = omega arith in
-    let h : drop i xs ≡ x ∷ drop (i + 1) xs = drop_at xs i x (omega arith) e in
-    rw k (rw j at h)
-
--- one item more
-pub items_step : {V : Type 0} (attribute : StyleModifier → Option V) (stack : List (List ℕ)) (old new last : Option (Candidate V)) (items : List ThemeItem) (i : ℕ) (item : ThemeItem) → i < length items → item ≡ get_or items i item
-    → new ≡ after_others attribute stack old (item_others item) → after_others attribute stack old (flat_map item_others (drop i items)) ≡ last → after_others attribute stack new (flat_map item_others (drop (i + 1) items)) ≡ last
-items_step attribute stack old new last items i item l e n h =
-    ap (λ b. after_others attribute stack b (flat_map item_others (drop (i + 1) items))) n
-    ∙ sym (after_others_append attribute stack old (item_others item) (flat_map item_others (drop (i + 1) items)))
-    ∙ sym (ap (λ xs. after_others attribute stack old (flat_map item_others xs)) (drop_at items i item l e)) ∙ h
 
 same_modifier : (m : StyleModifier) (f b : Option Color) (s : Option FontStyle) → m.foreground ≡ f → m.background ≡ b → m.font_style ≡ s → m ≡ record { foreground = f; background = b; font_style = s }
 same_modifier m f b s ef eb es = rw (← ef, ← eb, ← es) refl

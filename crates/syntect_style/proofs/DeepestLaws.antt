@@ -1,5 +1,5 @@
 -- The deepest place, one scope further.
-use Rattle.std.proofs.Common.{◌≡◌, ◌==◌, ℕ, zero, suc, ◌+◌, ◌<◌, List, [], ◌∷◌, length, take, get_or, refl, arith, Some, true, false, ap}
+use Rattle.std.proofs.Common.{◌≡◌, ◌==◌, ℕ, zero, suc, ◌+◌, ◌<◌, List, [], ◌∷◌, length, take, get_or, refl, arith, Some, Bool, true, false, ◌&&◌, ap}
 use Rattle.std.proofs.lemmas.Bool.Decides.{nat_tests}
 use Rattle.syntect_scope.specs.Atoms.{is_prefix}
 use Rattle.syntect_style.specs.Candidates.{deepest, further}
@@ -26,3 +26,21 @@ first_atoms_differ (x ∷ a) [] n d = refl
 first_atoms_differ (x ∷ a) (y ∷ b) n d =
     let f : (x == y) ≡ false = grind (arith, nat_tests) in
     rw f refl
+
+-- nor one whose second atom differs
+pub second_atoms_differ : (a b : List ℕ) → (get_or a 1 0 ≡ 0 → ⊥) → (get_or a 1 0 ≡ get_or b 1 0 → ⊥) → is_prefix a b ≡ false
+second_atoms_differ [] b n d = absurd (n refl)
+second_atoms_differ (x ∷ []) b n d = absurd (n refl)
+second_atoms_differ (x ∷ y ∷ a) [] n d = refl
+second_atoms_differ (x ∷ y ∷ a) (z ∷ []) n d = by (x == z)
+  where
+    by : (t : Bool) → (t && false) ≡ false
+    by true = refl
+    by false = refl
+second_atoms_differ (x ∷ y ∷ a) (z ∷ w ∷ b) n d =
+    let f : (y == w) ≡ false = grind (arith, nat_tests) in
+    rw f (by (x == z))
+  where
+    by : (t : Bool) → (t && false) ≡ false
+    by true = refl
+    by false = refl

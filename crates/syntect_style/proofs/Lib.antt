@@ -6,3 +6,8 @@ pub mod Cuts
 pub mod ItemLaws
 pub mod Collect
 pub mod StackLaws
+pub mod TopLaws
+pub mod ContestTop
+pub mod OtherLaws
+pub mod KeptLaws
+pub mod PathLaws

@@ -1,5 +1,5 @@
 -- The pieces of a text that operations cut.
-use Rattle.std.specs.Prelude.{◌≡◌, ℕ, nat_lt, ◌<◌, List, [], ◌∷◌, ◌++◌, length, map, replicate, All, if◌then◌else◌, Result, Ok, Err, IfSome}
+use Rattle.std.specs.Prelude.{◌≡◌, ℕ, nat_lt, ◌<◌, ◌≤◌, List, [], ◌∷◌, ◌++◌, length, take, map, replicate, All, if◌then◌else◌, Result, Ok, Err}
 use Rattle.std.specs.List.{flat_map}
 use Rattle.std.specs.Borrow.{Bor}
 use Rattle.syntect_scope.specs.Stack.{applied, is_refused}
@@ -7,6 +7,7 @@ use Rattle.syntect_scope.specs.declared.stack.ScopeStack.{ScopeStack}
 use Rattle.syntect_scope.specs.declared.stack.ScopeStackOp.{ScopeStackOp}
 use Rattle.syntect_scope.specs.declared.stack.ScopeError.{ScopeError}
 use Rattle.syntect_scope.specs.declared.stack.ScopeError.TheVariants.{NoClearedScopesToRestore}
+use Rattle.syntect_style.specs.Kept.{AreKnown, scopes_of}
 use Rattle.syntect_style.specs.Styling.{shown}
 use Rattle.syntect_theme.specs.declared.style.Style.{Style}
 use Rattle.syntect_theme.specs.declared.theme.Theme.{Theme}
@@ -18,9 +19,12 @@ use Rattle.syntect_style.specs.declared.state.HighlightState.{HighlightState}
 abbrev pub path_of : HighlightState → ScopeStack
 path_of s = s.path
 
--- What a state keeps is true under the theme. A state has it from its making on, as long as one highlighter is used.
-abbrev pub Keeps : Theme → HighlightState → Type 0
-Keeps theme s = IfSome s.kept (λ style. style ≡ shown theme s.path.scopes)
+-- What a state keeps is true under the theme, and as much of it as the state says is about lower parts of its stack. A
+-- state has it from its making on, as long as one highlighter is used.
+pub record Keeps (theme : Theme) (s : HighlightState) : Type 0 where
+  pub known : AreKnown theme [] s.kept
+  pub within : s.fits ≤ length s.kept
+  pub on_path : take s.fits (scopes_of s.kept) ≡ take s.fits s.path.scopes
 
 -- ---- stretches ----
 

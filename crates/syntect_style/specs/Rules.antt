@@ -1,12 +1,14 @@
 -- The rules of a theme, the single ones apart from the others, and the candidates among them in turn.
-use Rattle.std.specs.Prelude.{ℕ, ◌*◌, ◌^◌, List, [], ◌∷◌, if◌then◌else◌, Option, Some, None}
-use Rattle.std.specs.List.{filter_map, flat_map}
+use Rattle.std.specs.Prelude.{◌≡◌, ℕ, ◌-◌, ◌*◌, ◌^◌, ◌<◌, List, [], ◌∷◌, length, if◌then◌else◌, Option, Some, None}
+use Rattle.std.specs.List.{filter_map, flat_map, slice_get}
 use Rattle.syntect_scope.specs.declared.selector.ScopeSelector.{ScopeSelector}
+use Rattle.syntect_scope.specs.Atoms.{is_prefix}
 use Rattle.syntect_scope.specs.SelectorText.{sole_scope}
-use Rattle.syntect_style.specs.Candidates.{single_score, other_score, Score, Candidate, candidate, beats}
+use Rattle.syntect_style.specs.Candidates.{single_score, other_score, Score, Candidate, candidate, beats, deepest}
 use Rattle.syntect_theme.specs.declared.style.StyleModifier.{StyleModifier}
 use Rattle.syntect_theme.specs.declared.theme.ThemeItem.{ThemeItem}
 use Rattle.syntect_theme.specs.declared.theme.Theme.{Theme}
+use Rattle.syntect_style.specs.declared.others.Other.{Other}
 use Rattle.syntect_style.specs.declared.scores.Rule.{Rule}
 use Rattle.syntect_style.specs.declared.scores.SingleScore.{SingleScore}
 
@@ -43,6 +45,33 @@ abbrev pub after_rules : {V : Type 0} → (StyleModifier → Option V) → List 
 after_rules attribute stack best [] = best
 after_rules attribute stack best (r ∷ rules) = after_rules attribute stack (against best (candidate (attribute r.style) (single_score r.scope stack))) rules
 
+-- ---- one scope more on top ----
+
+-- the score of a scope at the top of a stack, whose place this is
+abbrev pub top_score : List ℕ → List ℕ → ℕ → Option Score
+top_score scope top place = if is_prefix scope top then Some (record { power = length scope * 8 ^ place; place = Some place }) else None
+
+-- the one that stands after the rules that match the top
+abbrev pub after_top : {V : Type 0} → (StyleModifier → Option V) → List ℕ → ℕ → Option (Candidate V) → List Rule → Option (Candidate V)
+after_top attribute top place best [] = best
+after_top attribute top place best (r ∷ rules) = after_top attribute top place (against best (candidate (attribute r.style) (top_score r.scope top place))) rules
+
+-- the value of a candidate, with its power
+abbrev pub worth : {V : Type 0} → Option (Candidate V) → Option (V × ℕ)
+worth None = None
+worth (Some c) = Some (c.value, c.score.power)
+
+-- a candidate at a place below this one
+abbrev pub IsBelow : {V : Type 0} → ℕ → Option (Candidate V) → Type 0
+IsBelow n None = Unit {0}
+IsBelow n (Some c) = (p : ℕ) × (c.score.place ≡ Some p) × (p < n)
+
+-- It is worth what the single rule is worth that prevails in a stack. Its place is one of the stack, and where powers are
+-- nought need not be that rule's.
+pub record Stands (V : Type 0) (attribute : StyleModifier → Option V) (theme : Theme) (stack : List (List ℕ)) (c : Option (Candidate V)) : Type 0 where
+  pub same : worth c ≡ worth (after_rules attribute stack None (single_rules theme))
+  pub below : IsBelow (length stack) c
+
 -- ---- the other rules ----
 
 -- a selector that is no single rule, with the change that its rule makes
@@ -58,6 +87,10 @@ item_others item = filter_map (λ selector. other_of (sole_scope selector) selec
 abbrev pub other_rules : Theme → List (ScopeSelector × StyleModifier)
 other_rules theme = flat_map item_others theme.scopes
 
+-- the same as a highlighter holds it
+abbrev pub rule_from : Other → ScopeSelector × StyleModifier
+rule_from o = (o.selector, o.style)
+
 -- the score of a power without a place
 abbrev pub power_score : ℕ → Score
 power_score power = record { power = power; place = None }
@@ -71,3 +104,20 @@ other_from (Some c) = Some (record { value = c.1; score = power_score c.0 })
 abbrev pub after_others : {V : Type 0} → (StyleModifier → Option V) → List (List ℕ) → Option (Candidate V) → List (ScopeSelector × StyleModifier) → Option (Candidate V)
 after_others attribute stack best [] = best
 after_others attribute stack best (o ∷ others) = after_others attribute stack (against best (candidate (attribute o.1) (other_score o.0 stack))) others
+
+-- the last scope of a selector's path
+abbrev pub last_scope : ScopeSelector → Option (List ℕ)
+last_scope selector = slice_get selector.path.scopes (length selector.path.scopes - 1)
+
+-- the last scopes of the paths of rules, each as a single rule
+abbrev pub last_rules : List (ScopeSelector × StyleModifier) → List Rule
+last_rules others = filter_map (λ o. rule_of (last_scope o.0) o.1) others
+
+-- the last scope of a selector's path begins no scope of a stack
+abbrev pub IsOut : ScopeSelector → List (List ℕ) → Type 0
+IsOut selector stack = (last : List ℕ) × (last_scope selector ≡ Some last) × (deepest last stack ≡ None)
+
+-- so it is with each of these rules
+abbrev pub AreOut : List (ScopeSelector × StyleModifier) → List (List ℕ) → Type 0
+AreOut [] stack = Unit {0}
+AreOut (o ∷ others) stack = IsOut o.0 stack × AreOut others stack

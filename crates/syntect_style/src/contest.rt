@@ -1,8 +1,9 @@
 //! The contest of a theme's single rules for the attributes of a stack's style.
-ghost use Rattle.std.specs.Prelude.{◌≡◌, ◌<◌, Some, None, IfSome, length};
+ghost use Rattle.std.specs.Prelude.{◌≡◌, ◌<◌, ◌+◌, ◌^◌, Some, None, IfSome, length};
+ghost use Rattle.std.specs.List.{list_any};
 ghost use Rattle.syntect_scope.specs.Atoms.{is_prefix};
 ghost use Rattle.syntect_style.specs.Candidates.{candidate, deepest};
-ghost use Rattle.syntect_style.specs.Rules.{score_from, candidate_from, against, after_rules};
+ghost use Rattle.syntect_style.specs.Rules.{score_from, candidate_from, against, after_top};
 
 use crate::scores::{Rule, SingleScore};
 use syntect_scope::scope::Scope;
@@ -23,13 +24,16 @@ pub(crate) fn deepest(scope: Scope, stack: &[Scope]) -> Option<usize>
     None
 }
 
-/// Whether the first scope begins the second one. Most scopes differ in their first atom, which is quick to see.
-#[tactic(auto, using(crate::proofs::DeepestLaws::first_atoms_differ))]
+/// Whether the first scope begins the second one. Most scopes differ in their first two atoms, which is quick to see.
+#[tactic(auto, using(crate::proofs::DeepestLaws::first_atoms_differ, crate::proofs::DeepestLaws::second_atoms_differ))]
 fn begins(scope: Scope, other: Scope) -> bool
     ensures { result ≡ is_prefix scope other }
 {
-    let first = scope.atom_at(0);
+    let (first, second) = (scope.atom_at(0), scope.atom_at(1));
     if first != 0 && first != other.atom_at(0) {
+        return false;
+    }
+    if second != 0 && second != other.atom_at(1) {
         return false;
     }
     scope.is_prefix_of(other)
@@ -50,27 +54,39 @@ fn offer<V: Copy>(best: &mut Option<(SingleScore, V)>, score: SingleScore, value
     }
 }
 
-/// The values that stand so far, each with the score of its rule.
+/// The values that stand so far after the single rules, each with the score of its rule.
 #[derive(Clone, Copy, Debug)]
 pub(crate) struct Standings {
     pub(crate) foreground: Option<(SingleScore, Color)>,
     pub(crate) background: Option<(SingleScore, Color)>,
     pub(crate) font_style: Option<(SingleScore, FontStyle)>,
+    /// Whether another rule may have a score.
+    pub(crate) reached: bool,
 }
 
-/// For each attribute the value of the single rule that prevails among them, and `None` where none sets it.
-pub(crate) fn standings_of(rules: &[Rule], stack: &[Scope]) -> Standings
-    ensures foreground { candidate_from result.foreground ≡ after_rules (λ m. m.foreground) stack.now None rules.now }
-    ensures background { candidate_from result.background ≡ after_rules (λ m. m.background) stack.now None rules.now }
-    ensures font_style { candidate_from result.font_style ≡ after_rules (λ m. m.font_style) stack.now None rules.now }
+/// Whether a rule's scope begins this one.
+pub(crate) fn any_begins(rules: &[Rule], top: Scope) -> bool
+    ensures { result ≡ list_any (λ r. is_prefix r.scope top) rules.now }
 {
-    let mut best = Standings {
-        foreground: None,
-        background: None,
-        font_style: None,
-    };
     for rule in rules {
-        if let Some(place) = deepest(rule.scope, stack) {
+        if begins(rule.scope, top) {
+            return true;
+        }
+    }
+    false
+}
+
+/// Puts the values of the rules that match a scope, at its place, in the place of the best ones so far, where their
+/// scores beat those.
+pub(crate) fn offer_rules(best: &mut Standings, rules: &[Rule], top: Scope, place: usize)
+    requires { place + 1 < 2 ^ 64 }
+    ensures foreground { candidate_from best.new.foreground ≡ after_top (λ m. m.foreground) top place (candidate_from best.old.foreground) rules.now }
+    ensures background { candidate_from best.new.background ≡ after_top (λ m. m.background) top place (candidate_from best.old.background) rules.now }
+    ensures font_style { candidate_from best.new.font_style ≡ after_top (λ m. m.font_style) top place (candidate_from best.old.font_style) rules.now }
+    ensures reached { best.new.reached ≡ best.old.reached }
+{
+    for rule in rules {
+        if begins(rule.scope, top) {
             let score = SingleScore {
                 atoms: rule.scope.len(),
                 place,
@@ -80,5 +96,4 @@ pub(crate) fn standings_of(rules: &[Rule], stack: &[Scope]) -> Standings
             offer(&mut best.font_style, score, rule.style.font_style);
         }
     }
-    best
 }

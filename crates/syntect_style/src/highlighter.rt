@@ -1,36 +1,50 @@
 //! The style of a stack of scopes.
-ghost use Rattle.std.specs.Prelude.{◌≡◌, ◌++◌, IfOk, OnOk};
-ghost use Rattle.syntect_style.specs.Styling.{style_of, shown, default_style, winners};
-ghost use Rattle.syntect_style.specs.Rules.{item_rules};
+ghost use Rattle.std.specs.Prelude.{◌≡◌, ◌+◌, ◌<◌, ◌^◌, ◌++◌, ◌∷◌, [], ℕ, List, length, false, None, IfOk};
+ghost use Rattle.std.specs.List.{filter, list_any};
+ghost use Rattle.syntect_scope.specs.Atoms.{is_prefix};
+ghost use Rattle.syntect_style.specs.Styling.{style_of, default_style, winners};
+ghost use Rattle.syntect_style.specs.Rules.{single_rules, other_rules, last_rules, other_from, after_others, AreOut};
+ghost use Rattle.syntect_style.specs.Buckets.{may_match, bucket_of};
+ghost use Rattle.syntect_style.specs.Kept.{AreStanding};
 
-use crate::contest::standings_of;
-use crate::others::{better, others_of};
+use crate::buckets::{bucket_of, bucketed};
+use crate::contest::{Standings, any_begins, offer_rules};
+use crate::others::{Other, OtherStandings, better, no_others, others_of};
+use crate::ready::{has_pathless, last_rules, push_others, push_rules};
 use crate::scores::Rule;
 use std::alloc::{AllocError, Global};
 use std::marker::Model;
 use syntect_scope::power::MatchPower;
 use syntect_scope::scope::Scope;
 use syntect_theme::style::{Color, FontStyle, Style, StyleModifier};
-use syntect_theme::theme::{Theme, ThemeItem};
+use syntect_theme::theme::Theme;
+use syntect_values::seq::Seq;
 
 /// A theme, made ready to style stacks of scopes. Contracts see its theme.
 #[derive(Debug, Drop)]
 pub struct Highlighter<'a> {
     theme: &'a Theme,
-    /// The rules of one scope, which are scored without large numbers.
-    rules: Vec<Rule>,
+    /// The rules of one scope, which are scored without large numbers: those that can match a scope, by its first atom.
+    buckets: Vec<Seq<Rule>>,
+    /// The other rules.
+    others: Vec<Other>,
+    /// The last scopes of their paths, in the same way.
+    lasts: Vec<Seq<Rule>>,
+    /// Whether one of them has no path.
+    pathless: bool,
 }
 
 impl<'a> Model for Highlighter<'a> {
-    ghost use Rattle.std.specs.Prelude.{◌≡◌};
+    ghost use Rattle.std.specs.Prelude.{map};
     ghost use Rattle.syntect_theme.specs.declared.theme.Theme.{Theme};
-    ghost use Rattle.syntect_style.specs.Rules.{single_rules};
+    ghost use Rattle.syntect_style.specs.Rules.{rule_from};
+    ghost use Rattle.syntect_style.specs.Buckets.{IsReady};
 
     ghost Value = { Theme };
 
     ghost view = { λ a. a.theme.now };
 
-    ghost invariant = { λ a. a.rules.items ≡ single_rules a.theme.now };
+    ghost invariant = { λ a. IsReady a.theme.now a.buckets.items (map rule_from a.others.items) a.lasts.items a.pathless };
 }
 
 impl<'a> Highlighter<'a> {
@@ -39,10 +53,22 @@ impl<'a> Highlighter<'a> {
         ensures { IfOk result (λ h. h ≡ theme.now) }
     {
         let mut rules = Vec::new(alloc);
+        let mut others = Vec::new(alloc);
         for item in theme.scopes.as_slice() {
             push_rules(&mut rules, item)?;
+            push_others(&mut others, item)?;
         }
-        Ok(Highlighter { theme, rules })
+        let buckets = bucketed(alloc, rules.as_slice())?;
+        let last_rules = last_rules(alloc, others.as_slice())?;
+        let lasts = bucketed(alloc, last_rules.as_slice())?;
+        let pathless = has_pathless(others.as_slice());
+        Ok(Highlighter {
+            theme,
+            buckets,
+            others,
+            lasts,
+            pathless,
+        })
     }
 
     /// The style of text that no rule styles: the theme's own colours, black where it has no foreground and white
@@ -71,25 +97,93 @@ impl<'a> Highlighter<'a> {
     pub fn style_mod_for_stack(&self, stack: &[Scope]) -> Result<StyleModifier, AllocError>
         ensures { IfOk result (λ m. m ≡ winners self.now stack.now) }
     {
-        let alloc = *self.rules.allocator();
-        let single = standings_of(self.rules.as_slice(), stack);
-        let other = others_of(self.theme.scopes.as_slice(), stack)?;
+        self.finished(self.standings_of(stack), stack)
+    }
+
+    /// What stands after the single rules.
+    fn standings_of(&self, stack: &[Scope]) -> Standings
+        ensures { AreStanding self.now stack.now result }
+    {
+        let mut standings = self.bottom();
+        for (place, scope) in stack.iter().enumerate() {
+            self.raise(&mut standings, *scope, place);
+        }
+        standings
+    }
+
+    /// What stands before the first scope.
+    pub(crate) fn bottom(&self) -> Standings
+        ensures { AreStanding self.now [] result }
+    {
+        Standings {
+            foreground: None,
+            background: None,
+            font_style: None,
+            reached: self.pathless,
+        }
+    }
+
+    /// Puts one scope more on top, at a place, of a stack for which these values stand after the single rules.
+    pub(crate) fn raise(&self, standings: &mut Standings, top: Scope, place: usize)
+        requires { place + 1 < 2 ^ 64 }
+        ensures { (stack : List (List ℕ)) → length stack ≡ place → AreStanding self.now stack standings.old → AreStanding self.now (stack ++ top ∷ []) standings.new }
+    {
+        offer_rules(standings, self.rules_for(top), top, place);
+        standings.reached = self.reaches(standings.reached, top);
+    }
+
+    /// Whether one of the other rules may have a score, with one scope more on top.
+    fn reaches(&self, before: bool, top: Scope) -> bool
+        ensures { result ≡ false → (before ≡ false) × (list_any (λ r. is_prefix r.scope top) (last_rules (other_rules self.now)) ≡ false) }
+    {
+        if before {
+            return true;
+        }
+        any_begins(self.lasts_for(top), top)
+    }
+
+    /// Of the last scopes of the other rules those that can begin a scope.
+    fn lasts_for(&self, scope: Scope) -> &[Rule]
+        ensures { result.now ≡ filter (may_match (bucket_of scope)) (last_rules (other_rules self.now)) }
+    {
+        self.lasts[bucket_of(scope)].as_slice()
+    }
+
+    /// The single rules that can match a scope.
+    fn rules_for(&self, scope: Scope) -> &[Rule]
+        ensures { result.now ≡ filter (may_match (bucket_of scope)) (single_rules self.now) }
+    {
+        self.buckets[bucket_of(scope)].as_slice()
+    }
+
+    /// What stands after the other rules, none of which has a score if they are not reached.
+    fn others_standing(&self, reached: bool, stack: &[Scope]) -> Result<OtherStandings, AllocError>
+        ensures foreground { IfOk result (λ s. (reached ≡ false → AreOut (other_rules self.now) stack.now) → other_from s.foreground ≡ after_others (λ m. m.foreground) stack.now None (other_rules self.now)) }
+        ensures background { IfOk result (λ s. (reached ≡ false → AreOut (other_rules self.now) stack.now) → other_from s.background ≡ after_others (λ m. m.background) stack.now None (other_rules self.now)) }
+        ensures font_style { IfOk result (λ s. (reached ≡ false → AreOut (other_rules self.now) stack.now) → other_from s.font_style ≡ after_others (λ m. m.font_style) stack.now None (other_rules self.now)) }
+    {
+        if reached {
+            let all = others_of(self.others.as_slice(), stack)?;
+            return Ok(all);
+        }
+        Ok(no_others())
+    }
+
+    /// The values that prevail, where these stand after the single rules.
+    pub(crate) fn finished(
+        &self,
+        single: Standings,
+        stack: &[Scope],
+    ) -> Result<StyleModifier, AllocError>
+        ensures { IfOk result (λ m. AreStanding self.now stack.now single → m ≡ winners self.now stack.now) }
+    {
+        let alloc = *self.others.allocator();
+        let other = self.others_standing(single.reached, stack)?;
         Ok(StyleModifier {
             foreground: better(alloc, single.foreground, &other.foreground)?,
             background: better(alloc, single.background, &other.background)?,
             font_style: better(alloc, single.font_style, &other.font_style)?,
         })
-    }
-
-    /// The style of text with these scopes: the default for text that has none.
-    pub(crate) fn shown(&self, stack: &[Scope]) -> Result<Style, AllocError>
-        ensures { IfOk result (λ s. s ≡ shown self.now stack.now) }
-    {
-        if stack.is_empty() {
-            Ok(self.get_default())
-        } else {
-            self.style_for_stack(stack)
-        }
     }
 }
 
@@ -124,19 +218,4 @@ impl Clone for ScoredStyle {
     fn clone(&self) -> Result<ScoredStyle, AllocError> {
         ScoredStyle::clone(self)
     }
-}
-
-/// Adds the single rules of an item.
-fn push_rules(rules: &mut Vec<Rule>, item: &ThemeItem) -> Result<(), AllocError>
-    ensures { OnOk result (rules.new.items ≡ rules.old.items ++ item_rules item.now) }
-{
-    for selector in item.scope.selectors.as_slice() {
-        if let Some(scope) = selector.extract_single_scope() {
-            rules.push(Rule {
-                scope,
-                style: item.style,
-            })?;
-        }
-    }
-    Ok(())
 }

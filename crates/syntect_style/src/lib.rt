@@ -4,10 +4,13 @@
 //! that a parser gave for it, each piece with the style of the stack at it.
 #![tactic(auto)]
 
+mod buckets;
 mod contest;
 pub mod highlighter;
+mod kept;
 pub mod laws;
 mod others;
 pub mod pieces;
+mod ready;
 mod scores;
 pub mod state;

@@ -1,17 +1,24 @@
 //! The contest of the rules whose selectors have several scopes, none, or exclusions.
-ghost use Rattle.std.specs.Prelude.{◌≡◌, Some, None, IfOk, OnOk};
+ghost use Rattle.std.specs.Prelude.{◌≡◌, ◌∷◌, [], false, map, Some, None, IfOk, OnOk};
 ghost use Rattle.std.specs.Option.{option_map};
-ghost use Rattle.std.specs.List.{flat_map};
+ghost use Rattle.syntect_scope.specs.Choice.{selector_score};
 ghost use Rattle.syntect_style.specs.Candidates.{candidate};
-ghost use Rattle.syntect_style.specs.Rules.{against, candidate_from, other_from, power_score, after_others, item_others};
+ghost use Rattle.syntect_style.specs.Rules.{against, candidate_from, other_from, power_score, after_others, rule_from};
 
+use crate::contest::deepest;
 use crate::scores::SingleScore;
 use std::alloc::{AllocError, Global};
 use syntect_scope::power::MatchPower;
 use syntect_scope::scope::Scope;
 use syntect_scope::selector::ScopeSelector;
 use syntect_theme::style::{Color, FontStyle, StyleModifier};
-use syntect_theme::theme::ThemeItem;
+
+/// A selector with the change that its rule makes.
+#[derive(Debug, Drop)]
+pub(crate) struct Other {
+    pub(crate) selector: ScopeSelector,
+    pub(crate) style: StyleModifier,
+}
 
 /// The values that stand so far, each with the score of its rule.
 #[derive(Drop)]
@@ -19,6 +26,19 @@ pub(crate) struct OtherStandings {
     pub(crate) foreground: Option<(MatchPower, Color)>,
     pub(crate) background: Option<(MatchPower, Color)>,
     pub(crate) font_style: Option<(MatchPower, FontStyle)>,
+}
+
+/// What stands before the first rule: nothing.
+pub(crate) fn no_others() -> OtherStandings
+    ensures foreground { other_from result.foreground ≡ None }
+    ensures background { other_from result.background ≡ None }
+    ensures font_style { other_from result.font_style ≡ None }
+{
+    OtherStandings {
+        foreground: None,
+        background: None,
+        font_style: None,
+    }
 }
 
 /// Puts a value in the place of the best one so far, if its score is greater.
@@ -57,43 +77,46 @@ fn offer_all(
     offer(&mut best.font_style, power, style.font_style)
 }
 
-/// The rules of an item that are not single ones, against the best ones so far.
-fn add_item(best: &mut OtherStandings, item: &ThemeItem, stack: &[Scope]) -> Result<(), AllocError>
-    ensures foreground { OnOk result (other_from best.new.foreground ≡ after_others (λ m. m.foreground) stack.now (other_from best.old.foreground) (item_others item.now)) }
-    ensures background { OnOk result (other_from best.new.background ≡ after_others (λ m. m.background) stack.now (other_from best.old.background) (item_others item.now)) }
-    ensures font_style { OnOk result (other_from best.new.font_style ≡ after_others (λ m. m.font_style) stack.now (other_from best.old.font_style) (item_others item.now)) }
+/// Whether a selector can have a score in a stack: where it has a path, its last scope begins one of the stack.
+#[tactic(auto, using(crate::proofs::OtherLaws::no_score))]
+fn can_match(selector: &ScopeSelector, stack: &[Scope]) -> bool
+    ensures { result ≡ false → selector_score selector.now stack.now ≡ None }
 {
-    for selector in item.scope.selectors.as_slice() {
-        if selector.extract_single_scope().is_none() {
-            let power = match selector.does_match(stack) {
-                Ok(power) => power,
-                Err(e) => return Err(e),
-            };
-            if let Some(power) = power {
-                match offer_all(best, &power, item.style) {
-                    Ok(()) => {}
-                    Err(e) => return Err(e),
-                }
-            }
-        }
+    match selector.path.as_slice().last() {
+        None => true,
+        Some(last) => deepest(*last, stack).is_some(),
     }
-    Ok(())
 }
 
-/// For each attribute the value of the rule that prevails among those of a theme that are not single ones, and `None`
-/// where none sets it.
-pub(crate) fn others_of(items: &[ThemeItem], stack: &[Scope]) -> Result<OtherStandings, AllocError>
-    ensures foreground { IfOk result (λ s. other_from s.foreground ≡ after_others (λ m. m.foreground) stack.now None (flat_map item_others items.now)) }
-    ensures background { IfOk result (λ s. other_from s.background ≡ after_others (λ m. m.background) stack.now None (flat_map item_others items.now)) }
-    ensures font_style { IfOk result (λ s. other_from s.font_style ≡ after_others (λ m. m.font_style) stack.now None (flat_map item_others items.now)) }
+/// A rule against the best ones so far.
+fn add_other(best: &mut OtherStandings, other: &Other, stack: &[Scope]) -> Result<(), AllocError>
+    ensures foreground { OnOk result (other_from best.new.foreground ≡ after_others (λ m. m.foreground) stack.now (other_from best.old.foreground) (rule_from other.now ∷ [])) }
+    ensures background { OnOk result (other_from best.new.background ≡ after_others (λ m. m.background) stack.now (other_from best.old.background) (rule_from other.now ∷ [])) }
+    ensures font_style { OnOk result (other_from best.new.font_style ≡ after_others (λ m. m.font_style) stack.now (other_from best.old.font_style) (rule_from other.now ∷ [])) }
 {
-    let mut best = OtherStandings {
-        foreground: None,
-        background: None,
-        font_style: None,
+    if !can_match(&other.selector, stack) {
+        return Ok(());
+    }
+    let power = match other.selector.does_match(stack) {
+        Ok(power) => power,
+        Err(e) => return Err(e),
     };
-    for item in items {
-        match add_item(&mut best, item, stack) {
+    match power {
+        None => Ok(()),
+        Some(power) => offer_all(best, &power, other.style),
+    }
+}
+
+/// For each attribute the value of the rule that prevails among those that are not single ones, and `None` where none
+/// sets it.
+pub(crate) fn others_of(others: &[Other], stack: &[Scope]) -> Result<OtherStandings, AllocError>
+    ensures foreground { IfOk result (λ s. other_from s.foreground ≡ after_others (λ m. m.foreground) stack.now None (map rule_from others.now)) }
+    ensures background { IfOk result (λ s. other_from s.background ≡ after_others (λ m. m.background) stack.now None (map rule_from others.now)) }
+    ensures font_style { IfOk result (λ s. other_from s.font_style ≡ after_others (λ m. m.font_style) stack.now None (map rule_from others.now)) }
+{
+    let mut best = no_others();
+    for other in others {
+        match add_other(&mut best, other, stack) {
             Ok(()) => {}
             Err(e) => return Err(e),
         }

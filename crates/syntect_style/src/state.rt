@@ -1,11 +1,14 @@
 //! The state of a highlighter between two texts.
-ghost use Rattle.std.specs.Prelude.{◌≡◌, ◌↔◌, IsTrue, IfOk, OnOk, OnErr, IfErr, true, false};
+ghost use Rattle.std.specs.Prelude.{◌≡◌, ◌≤◌, ◌↔◌, [], length, take, IsTrue, IfOk, OnOk, OnErr, IfErr, true, false};
 ghost use Rattle.syntect_scope.specs.Stack.{applied, is_refused};
+ghost use Rattle.syntect_style.specs.Kept.{AreKnown, scopes_of};
 ghost use Rattle.syntect_style.specs.Styling.{shown};
 ghost use Rattle.syntect_style.specs.Pieces.{path_of, Keeps};
 
 use crate::highlighter::Highlighter;
+use crate::kept::KeptStyles;
 use std::alloc::AllocError;
+use syntect_scope::scope::Scope;
 use syntect_scope::stack::{ScopeError, ScopeStack, ScopeStackOp};
 use syntect_theme::style::Style;
 
@@ -15,8 +18,12 @@ use syntect_theme::style::Style;
 #[derive_where(PartialEq, Eq)]
 pub struct HighlightState {
     path: ScopeStack,
+    /// What is known of the lower parts of a stack, this one or an earlier one.
     #[derive_where(skip(EqHashOrd))]
-    kept: Option<Style>,
+    kept: KeptStyles,
+    /// How many of these are lower parts of this stack.
+    #[derive_where(skip(EqHashOrd))]
+    fits: usize,
 }
 
 impl HighlightState {
@@ -26,7 +33,12 @@ impl HighlightState {
         ensures keeps { Keeps highlighter.now result }
     {
         let _ = highlighter;
-        HighlightState { path, kept: None }
+        let kept = KeptStyles::new(path.scopes.allocator());
+        HighlightState {
+            path,
+            kept,
+            fits: 0,
+        }
     }
 
     /// The stack. Takes no memory.
@@ -49,7 +61,8 @@ impl HighlightState {
     {
         Ok(HighlightState {
             path: self.path.clone()?,
-            kept: self.kept,
+            kept: self.kept.clone()?,
+            fits: self.fits,
         })
     }
 
@@ -59,12 +72,14 @@ impl HighlightState {
         ensures keeps { Keeps highlighter.now self.old → Keeps highlighter.now self.new }
         ensures style { IfOk result (λ s. Keeps highlighter.now self.old → s ≡ shown highlighter.now (path_of self.old).scopes) }
     {
-        if let Some(style) = self.kept {
-            return Ok(style);
+        let stack = self.path.as_slice();
+        if stack.is_empty() {
+            return Ok(highlighter.get_default());
         }
-        let style = highlighter.shown(self.path.as_slice())?;
-        self.kept = Some(style);
-        Ok(style)
+        let known = self.fits.min(self.kept.len()).min(stack.len());
+        follow(&mut self.kept, highlighter, stack, known)?;
+        self.fits = stack.len();
+        self.kept.style(highlighter, stack, stack.len() - 1)
     }
 
     /// Applies an operation. A refusal changes nothing.
@@ -81,9 +96,32 @@ impl HighlightState {
     {
         let _ = highlighter;
         self.path.apply(op)?;
-        self.kept = None;
+        self.fits = self.fits.min(self.path.len());
         Ok(())
     }
+}
+
+/// Goes on from the part of a stack that is known, of so many scopes, to the whole stack.
+fn follow(
+    kept: &mut KeptStyles,
+    highlighter: &Highlighter<'_>,
+    stack: &[Scope],
+    known: usize,
+) -> Result<(), AllocError>
+    requires within { known ≤ length kept.old }
+    requires on_stack { known ≤ length stack.now }
+    ensures ok { OnOk result (take known (scopes_of kept.old) ≡ take known stack.now → take (length stack.now) (scopes_of kept.new) ≡ stack.now) }
+    ensures len { OnOk result (length stack.now ≤ length kept.new) }
+    ensures err { OnErr result (take known (scopes_of kept.old) ≡ take known stack.now → take known (scopes_of kept.new) ≡ take known stack.now) }
+    ensures known { AreKnown highlighter.now [] kept.old → AreKnown highlighter.now [] kept.new }
+{
+    for place in known..stack.len() {
+        match kept.push(highlighter, stack[place], place) {
+            Ok(()) => {}
+            Err(e) => return Err(e),
+        }
+    }
+    Ok(())
 }
 
 impl Clone for HighlightState {
