@@ -2,3 +2,5 @@ pub mod TextLaws
 pub mod SpanLaws
 pub mod OutcomeLaws
 pub mod CharLaws
+pub mod TailLaws
+pub mod ByteLaws

@@ -16,6 +16,13 @@ three_joined o a b c x y z e f g =
     g ∙ ap (λ (t : List ℕ). t ++ c) (f ∙ ap (λ (t : List ℕ). t ++ b) e ∙ append_assoc o a b) ∙ append_assoc o (a ++ b) c
     ∙ ap (λ (t : List ℕ). o ++ t) (append_assoc a b c)
 
+-- nine texts
+pub nine_joined : (o a b c d e f g h i r s t u v w x y z : List ℕ) → r ≡ o ++ a → s ≡ r ++ b → t ≡ s ++ c → u ≡ t ++ d → v ≡ u ++ e → w ≡ v ++ f → x ≡ w ++ g → y ≡ x ++ h → z ≡ y ++ i
+    → z ≡ o ++ (a ++ (b ++ (c ++ (d ++ (e ++ (f ++ (g ++ (h ++ i))))))))
+nine_joined o a b c d e f g h i r s t u v w x y z er es et eu ev ew ex ey ez =
+    three_joined o (a ++ (b ++ c)) (d ++ (e ++ f)) (g ++ (h ++ i)) t w z (three_joined o a b c r s t er es et) (three_joined t d e f u v w eu ev ew) (three_joined w g h i x y z ex ey ez)
+    ∙ ap (λ (k : List ℕ). o ++ k) (simp append_assoc)
+
 -- spans whose first one has the style and this much of its text
 pub spans_behind : (bg : IncludeBackground) (style : Style) (text : List ℕ) (ps : List (Style × List ℕ))
     → flat_map (span_text bg) (spans_from style text ps) ≡ open_tag bg style ++ (escaped text ++ behind_open bg style ps)

@@ -4,5 +4,6 @@ pub mod Lines
 pub mod Names
 pub mod Opened
 pub mod Spans
+pub mod Tails
 pub mod Terminal
 pub mod Text

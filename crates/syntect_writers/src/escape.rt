@@ -13,7 +13,7 @@ pub struct Escape<'a>(pub &'a str);
 
 /// How a byte is written that has a meaning in HTML.
 #[tactic(auto, unfolding(crate::specs::Entities::entity))]
-fn name_of(byte: u8) -> &'static str
+pub(crate) fn name_of(byte: u8) -> &'static str
     requires { is_plain byte ≡ false }
     ensures { result.now ≡ entity byte }
 {

@@ -1,13 +1,15 @@
 //! HTML with inline styles.
 ghost use Rattle.std.specs.Prelude.{◌≡◌, ◌++◌, string_bytes, IfOk, OnOk, OnErr, map};
-ghost use Rattle.syntect_writers.specs.Spans.{hex_digit, hex_pair, rgb_text, color_text, flags_text, same_color, same_style, tells_background, asked_for, color_property, background_text, css, open_tag, is_blank, continues, line_text, opening, background_of};
+ghost use Rattle.syntect_writers.specs.Spans.{hex_pair, rgb_text, color_text, flags_text, same_color, same_style, tells_background, asked_for, color_property, background_text, css, open_tag, is_blank, continues, line_text, opening, background_of};
 ghost use Rattle.syntect_writers.specs.Opened.{behind_open, line_behind, close_of, continued};
 ghost use Rattle.syntect_theme.specs.Modifying.{bits_of};
 ghost use Rattle.std.specs.Prelude.{◌<◌, ◌∷◌, List, ℕ};
 ghost use Rattle.syntect_theme.specs.declared.style.Style.{Style as Plain};
 
-use crate::escape::push_escaped;
+use crate::bytes::hex_pair;
+use crate::tail::Tail;
 use std::alloc::{AllocError, Global};
+use std::mem::replace;
 use syntect_theme::style::{Color, FontStyle, Style};
 use syntect_theme::theme::Theme;
 
@@ -22,29 +24,18 @@ pub enum IncludeBackground {
     IfDifferent(Color),
 }
 
-/// A digit below 16 in hexadecimal.
-fn hex_digit(digit: u8) -> char
-    requires { digit < 16 }
-    ensures { result ≡ hex_digit digit }
-{
-    if digit < 10 {
-        char::from(b'0' + digit)
-    } else {
-        char::from(b'a' + (digit - 10))
-    }
-}
-
 /// Puts a byte last, in two hexadecimal digits.
-fn push_hex(out: &mut String, byte: u8) -> Result<(), AllocError>
-    ensures { OnOk result (string_bytes out.new ≡ string_bytes out.old ++ hex_pair byte) }
+fn push_hex(out: &mut Tail, byte: u8) -> Result<(), AllocError>
+    ensures front { out.new.front ≡ out.old.front }
+    ensures back { OnOk result (out.new.back ≡ out.old.back ++ hex_pair byte) }
 {
-    out.push(hex_digit(byte / 16))?;
-    out.push(hex_digit(byte % 16))
+    out.push_str(hex_pair(byte))
 }
 
-/// Puts a colour last as CSS has it, without how opaque it is. Without memory a part of it may have been put there.
-pub fn push_rgb(out: &mut String, color: Color) -> Result<(), AllocError>
-    ensures { OnOk result (string_bytes out.new ≡ string_bytes out.old ++ rgb_text color) }
+/// Puts a colour last as CSS has it, without how opaque it is.
+fn put_rgb(out: &mut Tail, color: Color) -> Result<(), AllocError>
+    ensures front { out.new.front ≡ out.old.front }
+    ensures back { OnOk result (out.new.back ≡ out.old.back ++ rgb_text color) }
 {
     out.push('#')?;
     push_hex(out, color.r)?;
@@ -52,11 +43,29 @@ pub fn push_rgb(out: &mut String, color: Color) -> Result<(), AllocError>
     push_hex(out, color.b)
 }
 
-/// Puts a colour last.
-fn push_color(out: &mut String, color: Color) -> Result<(), AllocError>
-    ensures { OnOk result (string_bytes out.new ≡ string_bytes out.old ++ color_text color) }
+/// Puts a colour last as CSS has it, without how opaque it is. Without memory the text is as it was.
+pub fn push_rgb(out: &mut String, color: Color) -> Result<(), AllocError>
+    ensures { OnOk result (string_bytes out.new ≡ string_bytes out.old ++ rgb_text color) }
 {
-    push_rgb(out, color)?;
+    let mut tail = Tail::behind(replace(out, String::new(*out.allocator())));
+    match put_rgb(&mut tail, color) {
+        Ok(()) => {
+            *out = tail.into_text();
+            Ok(())
+        }
+        Err(e) => {
+            *out = tail.into_front();
+            Err(e)
+        }
+    }
+}
+
+/// Puts a colour last.
+fn push_color(out: &mut Tail, color: Color) -> Result<(), AllocError>
+    ensures front { out.new.front ≡ out.old.front }
+    ensures back { OnOk result (out.new.back ≡ out.old.back ++ color_text color) }
+{
+    put_rgb(out, color)?;
     if color.a != 255 {
         push_hex(out, color.a)?;
     }
@@ -92,8 +101,9 @@ fn tells_background(bg: IncludeBackground, style: Style) -> bool
 
 /// Puts the text last, if it is asked for.
 #[tactic(auto, unfolding(crate::specs::Spans::asked_for))]
-fn push_if(out: &mut String, asked: bool, text: &str) -> Result<(), AllocError>
-    ensures { OnOk result (string_bytes out.new ≡ string_bytes out.old ++ asked_for asked text.now) }
+fn push_if(out: &mut Tail, asked: bool, text: &str) -> Result<(), AllocError>
+    ensures front { out.new.front ≡ out.old.front }
+    ensures back { OnOk result (out.new.back ≡ out.old.back ++ asked_for asked text.now) }
 {
     if asked {
         out.push_str(text)?;
@@ -103,8 +113,9 @@ fn push_if(out: &mut String, asked: bool, text: &str) -> Result<(), AllocError>
 
 /// Puts a property last whose value is a colour.
 #[tactic(auto, using(crate::proofs::SpanLaws::three_joined), unfolding(crate::specs::Spans::color_property))]
-fn push_property(out: &mut String, name: &str, color: Color) -> Result<(), AllocError>
-    ensures { OnOk result (string_bytes out.new ≡ string_bytes out.old ++ color_property name.now color) }
+fn push_property(out: &mut Tail, name: &str, color: Color) -> Result<(), AllocError>
+    ensures front { out.new.front ≡ out.old.front }
+    ensures back { OnOk result (out.new.back ≡ out.old.back ++ color_property name.now color) }
 {
     out.push_str(name)?;
     push_color(out, color)?;
@@ -114,8 +125,9 @@ fn push_property(out: &mut String, name: &str, color: Color) -> Result<(), Alloc
 
 /// Puts the colour behind a text last, if it is told.
 #[tactic(auto, unfolding(crate::specs::Spans::background_text, crate::specs::Spans::asked_for))]
-fn push_background(out: &mut String, bg: IncludeBackground, style: Style) -> Result<(), AllocError>
-    ensures { OnOk result (string_bytes out.new ≡ string_bytes out.old ++ background_text bg style) }
+fn push_background(out: &mut Tail, bg: IncludeBackground, style: Style) -> Result<(), AllocError>
+    ensures front { out.new.front ≡ out.old.front }
+    ensures back { OnOk result (out.new.back ≡ out.old.back ++ background_text bg style) }
 {
     if tells_background(bg, style) {
         push_property(out, "background-color:", style.background)?;
@@ -125,8 +137,9 @@ fn push_background(out: &mut String, bg: IncludeBackground, style: Style) -> Res
 
 /// Puts the flags of a font last, as CSS has them.
 #[tactic(auto, using(crate::proofs::SpanLaws::three_joined), unfolding(crate::specs::Spans::flags_text))]
-fn push_flags(out: &mut String, font: FontStyle) -> Result<(), AllocError>
-    ensures { OnOk result (string_bytes out.new ≡ string_bytes out.old ++ flags_text (bits_of font)) }
+fn push_flags(out: &mut Tail, font: FontStyle) -> Result<(), AllocError>
+    ensures front { out.new.front ≡ out.old.front }
+    ensures back { OnOk result (out.new.back ≡ out.old.back ++ flags_text (bits_of font)) }
 {
     let bits = font.bits();
     push_if(out, bits & 2 == 2, "text-decoration:underline;")?;
@@ -137,8 +150,9 @@ fn push_flags(out: &mut String, font: FontStyle) -> Result<(), AllocError>
 
 /// Puts a style last, as CSS has it.
 #[tactic(auto, using(crate::proofs::SpanLaws::three_joined), unfolding(crate::specs::Spans::css))]
-fn push_css(out: &mut String, bg: IncludeBackground, style: Style) -> Result<(), AllocError>
-    ensures { OnOk result (string_bytes out.new ≡ string_bytes out.old ++ css bg style) }
+fn push_css(out: &mut Tail, bg: IncludeBackground, style: Style) -> Result<(), AllocError>
+    ensures front { out.new.front ≡ out.old.front }
+    ensures back { OnOk result (out.new.back ≡ out.old.back ++ css bg style) }
 {
     push_background(out, bg, style)?;
     push_flags(out, style.font_style)?;
@@ -162,8 +176,9 @@ fn continues(before: Style, style: Style, text: &str) -> bool
 
 /// Begins a span.
 #[tactic(auto, using(crate::proofs::SpanLaws::three_joined), unfolding(crate::specs::Spans::open_tag))]
-fn open_span(out: &mut String, bg: IncludeBackground, style: Style) -> Result<(), AllocError>
-    ensures { OnOk result (string_bytes out.new ≡ string_bytes out.old ++ open_tag bg style) }
+fn open_span(out: &mut Tail, bg: IncludeBackground, style: Style) -> Result<(), AllocError>
+    ensures front { out.new.front ≡ out.old.front }
+    ensures back { OnOk result (out.new.back ≡ out.old.back ++ open_tag bg style) }
 {
     out.push_str("<span style=\"")?;
     push_css(out, bg, style)?;
@@ -172,8 +187,9 @@ fn open_span(out: &mut String, bg: IncludeBackground, style: Style) -> Result<()
 }
 
 /// Ends the span that is open, if one is.
-fn close_span(out: &mut String, last: Option<Style>) -> Result<(), AllocError>
-    ensures { OnOk result (string_bytes out.new ≡ string_bytes out.old ++ close_of last) }
+fn close_span(out: &mut Tail, last: Option<Style>) -> Result<(), AllocError>
+    ensures front { out.new.front ≡ out.old.front }
+    ensures back { OnOk result (out.new.back ≡ out.old.back ++ close_of last) }
 {
     if last.is_some() {
         out.push_str("</span>")?;
@@ -193,36 +209,41 @@ fn continued(last: Option<Style>, style: Style, text: &str) -> Option<Style>
 
 /// Puts a piece last, behind those whose span is open. Answers the style of the span that is then open.
 fn push_piece(
-    out: &mut String,
+    out: &mut Tail,
     bg: IncludeBackground,
     last: Option<Style>,
     style: Style,
     text: &str,
 ) -> Result<Style, AllocError>
-    ensures { (ps : List (Plain × List ℕ)) → IfOk result (λ s. string_bytes out.new ++ behind_open bg s ps ≡ string_bytes out.old ++ line_behind bg last ((style, text.now) ∷ ps)) }
+    ensures front { out.new.front ≡ out.old.front }
+    ensures back { (ps : List (Plain × List ℕ)) → IfOk result (λ s. out.new.back ++ behind_open bg s ps ≡ out.old.back ++ line_behind bg last ((style, text.now) ∷ ps)) }
 {
     match continued(last, style, text) {
         Some(before) => {
-            push_escaped(out, text)?;
+            out.push_escaped(text)?;
             Ok(before)
         }
         None => {
             close_span(out, last)?;
             open_span(out, bg, style)?;
-            push_escaped(out, text)?;
+            out.push_escaped(text)?;
             Ok(style)
         }
     }
 }
 
 /// Puts a line of pieces last, as spans.
-fn push_line(out: &mut String, v: &[(Style, &str)], bg: IncludeBackground) -> Result<(), AllocError>
-    ensures { OnOk result (string_bytes out.new ≡ string_bytes out.old ++ line_text bg v.now) }
+fn push_line(out: &mut Tail, v: &[(Style, &str)], bg: IncludeBackground) -> Result<(), AllocError>
+    ensures front { out.new.front ≡ out.old.front }
+    ensures back { OnOk result (out.new.back ≡ out.old.back ++ line_text bg v.now) }
 {
     let mut last = None;
     for piece in v {
         let (style, text) = *piece;
-        last = Some(push_piece(out, bg, last, style, text)?);
+        match push_piece(out, bg, last, style, text) {
+            Ok(open) => last = Some(open),
+            Err(e) => return Err(e),
+        }
     }
     close_span(out, last)?;
     Ok(())
@@ -238,8 +259,17 @@ pub fn append_highlighted_html_for_styled_line(
     ensures ok { OnOk result (string_bytes s.new ≡ string_bytes s.old ++ line_text bg v.now) }
     ensures err { OnErr result (string_bytes s.new ≡ string_bytes s.old) }
 {
-    let line = styled_line_to_highlighted_html(*s.allocator(), v, bg)?;
-    s.push_str(line.as_str())
+    let mut tail = Tail::behind(replace(s, String::new(*s.allocator())));
+    match push_line(&mut tail, v, bg) {
+        Ok(()) => {
+            *s = tail.into_text();
+            Ok(())
+        }
+        Err(e) => {
+            *s = tail.into_front();
+            Err(e)
+        }
+    }
 }
 
 /// A line of styled pieces as spans with inline styles.
@@ -251,7 +281,7 @@ pub fn styled_line_to_highlighted_html(
     ensures { IfOk result (λ t. string_bytes t ≡ line_text bg v.now) }
 {
     let mut s = String::new(alloc);
-    push_line(&mut s, v, bg)?;
+    append_highlighted_html_for_styled_line(v, bg, &mut s)?;
     Ok(s)
 }
 

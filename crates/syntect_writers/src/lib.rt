@@ -3,10 +3,12 @@
 //! Pieces are pairs of a style and a part of a line, as the highlighters give them.
 #![tactic(auto)]
 
+mod bytes;
 pub mod escape;
 pub mod html;
 pub mod latex;
 pub mod laws;
 pub mod lines;
+mod tail;
 pub mod terminal;
 mod text;

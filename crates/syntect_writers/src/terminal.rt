@@ -2,6 +2,7 @@
 ghost use Rattle.std.specs.Prelude.{◌≡◌, ◌++◌, string_bytes, codes, IfOk, OnOk};
 ghost use Rattle.syntect_writers.specs.Terminal.{blended_part, blended, sequence, piece_text, terminal_text};
 
+use crate::bytes::decimal;
 use std::alloc::{AllocError, Global};
 use syntect_theme::style::{Color, Style};
 
@@ -33,8 +34,16 @@ fn blend(over: Color, under: Color) -> Color
 fn push_sequence(out: &mut String, number: &str, color: Color) -> Result<(), AllocError>
     ensures { OnOk result (string_bytes out.new ≡ string_bytes out.old ++ sequence number.now color) }
 {
-    let Color { r, g, b, .. } = color;
-    write!(out, "\x1b[{number};2;{r};{g};{b}m")
+    out.push_str("\x1b[")?;
+    out.push_str(number)?;
+    out.push_str(";2;")?;
+    out.push_str(decimal(color.r))?;
+    out.push_str(";")?;
+    out.push_str(decimal(color.g))?;
+    out.push_str(";")?;
+    out.push_str(decimal(color.b))?;
+    out.push_str("m")?;
+    Ok(())
 }
 
 /// Puts a piece last.

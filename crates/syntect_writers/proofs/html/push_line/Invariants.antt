@@ -1,8 +1,11 @@
-use Rattle.std.proofs.Common.{◌≡◌, ◌++◌, string_bytes, drop}
+use Rattle.std.proofs.Common.{◌≡◌, ◌++◌, drop}
 use Rattle.syntect_writers.specs.Spans.{plain_pieces, line_text}
 use Rattle.syntect_writers.specs.Opened.{line_behind}
 use Rattle.syntect_writers.proofs.html.push_line.Given as goal
 
 -- what is written, and what is still to be, are the whole line
 abbrev pub invariant-loop-piece : goal.invariant-loop-piece
-invariant-loop-piece l = string_bytes l.out ++ line_behind l.bg l.last (plain_pieces (drop l.piece-index l.v)) ≡ string_bytes l.fn.out ++ line_text l.bg l.v
+invariant-loop-piece l = record {
+  front : l.out.front ≡ l.fn.out.front;
+  back : l.out.back ++ line_behind l.bg l.last (plain_pieces (drop l.piece-index l.v)) ≡ l.fn.out.back ++ line_text l.bg l.v;
+}
