@@ -19,7 +19,7 @@ at open_tags seen = record { open_tags = open_tags; tag = None; seen = seen; str
 abbrev within : List (List ℕ) → List (ℕ × List (List ℕ)) → List ℕ → Reader
 within open_tags seen tag = record { open_tags = open_tags; tag = Some tag; seen = seen; stray = false }
 
-read_more : (r : Reader) (xs ys : List ℕ) → read r (xs ++ ys) ≡ read (read r xs) ys
+pub read_more : (r : Reader) (xs ys : List ℕ) → read r (xs ++ ys) ≡ read (read r xs) ys
 read_more r [] ys = refl
 read_more r (b ∷ xs) ys = read_more (read_byte r r.tag b) xs ys
 
@@ -117,7 +117,7 @@ module _ (prefix : List ℕ) (repo : List (List ℕ)) where
   read_begin scopes seen s = read_opening (tags scopes) seen s ∙ ap (λ (l : List (List ℕ)). at l seen) (tags_more scopes s)
 
   -- the last span ends
-  read_end : (scopes : List (List ℕ)) (seen : List (ℕ × List (List ℕ))) → 0 < length scopes → read (under prefix repo scopes seen) closing_tag ≡ under prefix repo (take (length scopes - 1) scopes) seen
+  pub read_end : (scopes : List (List ℕ)) (seen : List (ℕ × List (List ℕ))) → 0 < length scopes → read (under prefix repo scopes seen) closing_tag ≡ under prefix repo (take (length scopes - 1) scopes) seen
   read_end [] seen h = absurd (omega arith)
   read_end (t ∷ ts) seen h =
       read_closing (tag_of prefix repo t) (tags ts) seen

@@ -2,7 +2,7 @@
 //! that does nothing.
 #![tactic(auto)]
 
-ghost use Rattle.syntect_classed_laws.specs.Laws.{IsSeen, MarksFollow};
+ghost use Rattle.syntect_classed_laws.specs.Laws.{IsSeen, MarksFollow, PagesAreSeen};
 
 /// Whoever reads the written marks byte by byte sees the text that stands between tags, each byte under the tags of the
 /// scopes that are open there, meets no closing tag without an open one, and has the tags of the scopes left open in the
@@ -15,4 +15,11 @@ pub fn written_marks_are_seen()
 /// stand on the stack behind the line.
 pub fn marks_follow_the_operations()
     ensures { MarksFollow }
+{}
+
+/// Whoever reads a page byte by byte, lines one after another with all spans closed behind them that are open, sees the
+/// lines joined, each byte under the tags of the scopes that the operations give it; meets no closing tag without an open
+/// one, and has no tag left open in the end.
+pub fn pages_are_seen()
+    ensures { PagesAreSeen }
 {}

@@ -1,9 +1,7 @@
-//! Tests of lines with classes, style sheets, operations, cut pieces and LaTeX, by values from outside.
+//! Tests of spans with classes, regions, hooks and cleared scopes that no row of the bench holds, by values from outside.
 #![tactic(auto)]
 
 #[cfg(test)]
 mod classed;
 #[cfg(test)]
 mod operations;
-#[cfg(test)]
-mod pieces;

@@ -1,34 +1,14 @@
-//! Operations and hooks.
+//! Regions, hooks, and scopes that are cleared.
 use std::test::Fail;
-use syntect_operations::print::debug_print_ops;
-use syntect_operations::ranges::{ScopeRangeIterator, ScopeRegionIterator};
+use syntect_operations::ranges::ScopeRegionIterator;
 use syntect_scope::repository::ScopeRepository;
 use syntect_scope::stack::{BasicScopeStackOp, ClearAmount, ScopeError, ScopeStack, ScopeStackOp};
 
 #[test]
-fn operations_below_their_line(rt: HostRuntime) -> Result<(), Fail> {
-    let mut repository = ScopeRepository::new(rt.alloc());
-    let scope = repository.build("a.b")?;
-    let ops = [
-        (1, ScopeStackOp::Push(scope)),
-        (2, ScopeStackOp::Pop(2)),
-        (2, ScopeStackOp::Noop),
-    ];
-    let mut out = Vec::new(rt.alloc());
-    debug_print_ops("ab", &ops, &repository, &mut out)?;
-    assert!(rt; out.as_slice() == b"ab\n ^ +a.b\nab\n  ^ pop 2\nab\n  noop\n".as_slice());
-    Ok(())
-}
-
-#[test]
-fn ranges_with_the_operation_before_them(rt: HostRuntime) -> Result<(), Fail> {
+fn regions_with_the_operation_before_them(rt: HostRuntime) -> Result<(), Fail> {
     let mut repository = ScopeRepository::new(rt.alloc());
     let scope = repository.build("a")?;
     let ops = [(1, ScopeStackOp::Push(scope))];
-    let mut ranges = ScopeRangeIterator::new(&ops, "ab");
-    assert!(rt; ranges.next() == Some((0..1, ScopeStackOp::Noop)));
-    assert!(rt; ranges.next() == Some((1..2, ScopeStackOp::Push(scope))));
-    assert!(rt; ranges.next().is_none());
     let mut regions = ScopeRegionIterator::new(&ops, "ab");
     assert!(rt; regions.next() == Some(("a", ScopeStackOp::Noop)));
     assert!(rt; regions.next() == Some(("b", ScopeStackOp::Push(scope))));

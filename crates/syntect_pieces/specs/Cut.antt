@@ -1,6 +1,7 @@
 -- Pieces of a line that are cut at a byte.
-use Rattle.std.specs.Prelude.{◌≡◌, ℕ, zero, suc, ◌-◌, ◌<◌, ◌≤◌, nat_le, List, [], ◌∷◌, ◌++◌, length, map, take, drop, if◌then◌else◌}
+use Rattle.std.specs.Prelude.{◌≡◌, ℕ, zero, suc, ◌-◌, ◌<◌, ◌≤◌, nat_le, List, [], ◌∷◌, ◌++◌, length, map, take, drop, if◌then◌else◌, IsUtf8}
 use Rattle.std.specs.Borrow.{Bor}
+use Rattle.std.specs.List.{flat_map}
 use Rattle.std.specs.Str.{IsCharBoundary}
 use Rattle.syntect_theme.specs.Modifying.{restyled}
 use Rattle.syntect_theme.specs.declared.style.Style.{Style}
@@ -55,6 +56,28 @@ module _ {A : Type 0} where
     pub cuts : CutsFirst front (bytes_left n ps) (others n ps)
     pub first_is : first ≡ whole n ps ++ cut_front front (bytes_left n ps) (others n ps)
     pub second_is : second ≡ cut_back front (bytes_left n ps) (others n ps)
+
+  -- ---- what the two parts are together ----
+
+  -- the text of pieces
+  abbrev pub joined : List (A × List ℕ) → List ℕ
+  joined ps = flat_map (λ p. p.1) ps
+
+  -- its bytes, each with the attribute of its piece
+  abbrev pub shown : List (A × List ℕ) → List (A × ℕ)
+  shown ps = flat_map (λ p. map (λ b. (p.0, b)) p.1) ps
+
+  -- each piece is a text of UTF-8
+  abbrev pub AreTexts : List (A × List ℕ) → Type 0
+  AreTexts [] = Unit {0}
+  AreTexts (p ∷ ps) = IsUtf8 p.1 × AreTexts ps
+
+  -- Two parts of pieces: they join to the text, and each byte keeps its attribute. The text of the first is the longest
+  -- front of whole characters with at most so many bytes.
+  pub record IsParted (n : ℕ) (ps first second : List (A × List ℕ)) : Type 0 where
+    pub text : joined first ++ joined second ≡ joined ps
+    pub attributes : shown first ++ shown second ≡ shown ps
+    pub longest : AreTexts ps → IsFront (joined ps) n (length (joined first))
 
 -- the styles of pieces, changed
 abbrev pub changed : StyleModifier → List (Style × List ℕ) → List (Style × List ℕ)

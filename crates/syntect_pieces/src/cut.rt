@@ -1,6 +1,6 @@
 //! Pieces that are cut at a byte.
 ghost use Rattle.std.specs.Prelude.{◌≡◌, ◌≤◌, ◌++◌, ◌∷◌, [], ℕ, length, take, drop, IfOk, OnOk};
-ghost use Rattle.syntect_pieces.specs.Cut.{plain, whole, others, bytes_left, CutsFirst, cut_front, cut_back, IsCut, IsModified};
+ghost use Rattle.syntect_pieces.specs.Cut.{plain, whole, others, bytes_left, CutsFirst, cut_front, cut_back, IsCut, IsParted, IsModified};
 
 use std::alloc::{AllocError, Global};
 use std::ops::Range;
@@ -81,14 +81,18 @@ fn cut_first<'a, A: Clone + Drop>(
 
 /// Cuts pieces at a byte position of their text: the first part has as many whole pieces as fit, and of the next one the
 /// longest front of whole characters; the second part has the rest. Nothing is cut where the position is the end of a
-/// piece. Each attribute's clone has to be equal to it.
+/// piece. So both parts join to the text, each byte keeps its attribute, and the text of the first part is the longest
+/// front of whole characters that fits. Each attribute's clone has to be equal to it.
 pub fn split_at<'a, A: Clone + Drop>(
     alloc: Global,
     v: &[(A, &'a str)],
     split_i: usize,
 ) -> Result<(Vec<(A, &'a str)>, Vec<(A, &'a str)>), AllocError>
     requires { (x y : A) → A.is_clone x y → y ≡ x }
-    ensures { IfOk result (λ r. IsCut split_i (plain v.now) (plain r.0.items) (plain r.1.items)) }
+    ensures cut { IfOk result (λ r. IsCut split_i (plain v.now)
+        (plain r.0.items) (plain r.1.items)) }
+    ensures parted { IfOk result (λ r. IsParted split_i (plain v.now)
+        (plain r.0.items) (plain r.1.items)) }
 {
     let (count, left) = whole_pieces(v, split_i);
     let (front, rest) = v.split_at(count);

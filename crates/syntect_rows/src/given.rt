@@ -38,6 +38,7 @@ pub fn is_given(heading: &str) -> bool {
             | "bare text"
             | "escaped text"
             | "given pieces"
+            | "given operations"
     )
 }
 

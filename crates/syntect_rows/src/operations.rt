@@ -4,8 +4,9 @@ use syntect::Error;
 use syntect::util::LinesWithEndings;
 use syntect_parsing::parser::{ParseState, ParsingError};
 use syntect_scope::repository::ScopeRepository;
-use syntect_scope::stack::{ClearAmount, ScopeStackOp};
+use syntect_scope::stack::ScopeStackOp;
 use syntect_shown::definitions::write_reference;
+use syntect_tables::changes::write_operation;
 
 /// Adds why a line is refused.
 pub fn write_refusal(
@@ -36,25 +37,6 @@ pub fn write_error(error: &Error, repository: &ScopeRepository, out: &mut String
         Error::Io(_) => out.push_str("refused Io\n").ok(),
         Error::NoSyntax => out.push_str("refused NoSyntax\n").ok(),
         _ => None,
-    }
-}
-
-/// Adds an operation.
-fn write_operation(
-    operation: &ScopeStackOp,
-    repository: &ScopeRepository,
-    out: &mut String,
-) -> Option<()> {
-    match operation {
-        ScopeStackOp::Push(scope) => {
-            let scope = repository.to_string(*scope).ok()?;
-            writeln!(out, "push {scope}").ok()
-        }
-        ScopeStackOp::Pop(count) => writeln!(out, "pop {count}").ok(),
-        ScopeStackOp::Clear(ClearAmount::TopN(count)) => writeln!(out, "clear {count}").ok(),
-        ScopeStackOp::Clear(ClearAmount::All) => out.push_str("clear all\n").ok(),
-        ScopeStackOp::Restore => out.push_str("restore\n").ok(),
-        ScopeStackOp::Noop => out.push_str("noop\n").ok(),
     }
 }
 

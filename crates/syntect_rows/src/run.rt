@@ -3,20 +3,50 @@ use crate::finding::{write_linked, write_loaded, write_places, write_syntaxes, w
 use crate::given::{Given, is_given, set_of, syntax_of, text_of, theme_of};
 use crate::operations::write_operations;
 use crate::runs::write_scopes;
-use crate::styled::{write_page, write_pieces, write_resumed_pieces};
+use crate::styled::{write_classed_page, write_page, write_pieces, write_resumed_pieces};
 use crate::tables::write_table;
 use std::alloc::Global;
 use std::path::Path;
 use std::rt::Files;
 use std::{fs, io};
+use syntect::html::ClassStyle;
 use syntect_base::utils::files_below;
 use syntect_scope::repository::ScopeRepository;
+use syntect_tables::changes::write_changes;
 use syntect_tables::engine::write_queries;
 use syntect_tables::row_file::{Part, body_of, label_of, parts_of};
-use syntect_tables::written::{write_html, write_terminal};
+use syntect_tables::written::{write_html, write_latex, write_sheet, write_terminal};
 
 /// The folder of the rows.
 const ROWS: &str = "rows";
+
+/// Classes behind a prefix that HTML escapes.
+const PREFIXED: ClassStyle = ClassStyle::SpacedPrefixed { prefix: "p<" };
+
+/// Adds what is found for a part of a writer: spans with classes, sheets, texts of given pieces; or for another part.
+fn write_written(
+    files: &impl Files,
+    given: Given<'_>,
+    part: Part<'_>,
+    repository: &mut ScopeRepository,
+    out: &mut String,
+) -> Option<()> {
+    let (alloc, parts) = (given.alloc, given.parts);
+    match part.heading {
+        "terminal" => write_terminal(alloc, parts, true, out),
+        "terminal without backgrounds" => write_terminal(alloc, parts, false, out),
+        "html" => write_html(alloc, parts, false, out),
+        "html with backgrounds" => write_html(alloc, parts, true, out),
+        "latex" => write_latex(alloc, parts, out),
+        "style sheet" => write_sheet(alloc, given.theme, repository, out),
+        "classed page" => write_classed_page(given, ClassStyle::Spaced, repository, out),
+        "classed page behind p<" => write_classed_page(given, PREFIXED, repository, out),
+        "spans" | "ranges" | "operations below" => {
+            write_changes(alloc, parts, (part.heading, given.text), repository, out)
+        }
+        _ => write_table(files, given, part, repository, out),
+    }
+}
 
 /// Adds what is found for a part.
 fn write_found(
@@ -38,11 +68,7 @@ fn write_found(
         "linked" => write_linked(given, repository, out),
         "places" => write_places(given, out),
         "queries" => write_queries(given.alloc, part.body, out),
-        "terminal" => write_terminal(given.alloc, given.parts, true, out),
-        "terminal without backgrounds" => write_terminal(given.alloc, given.parts, false, out),
-        "html" => write_html(given.alloc, given.parts, false, out),
-        "html with backgrounds" => write_html(given.alloc, given.parts, true, out),
-        _ => write_table(files, given, part, repository, out),
+        _ => write_written(files, given, part, repository, out),
     }
 }
 

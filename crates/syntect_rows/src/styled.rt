@@ -3,7 +3,7 @@ use crate::given::{Given, line_as_given};
 use crate::operations::write_error;
 use std::alloc::Global;
 use syntect::easy::HighlightLines;
-use syntect::html::highlighted_html_for_string;
+use syntect::html::{ClassStyle, ClassedHTMLGenerator, highlighted_html_for_string};
 use syntect::util::LinesWithEndings;
 use syntect_scope::repository::ScopeRepository;
 use syntect_tables::styles::write_style;
@@ -96,4 +96,38 @@ pub fn write_page(given: Given<'_>, repository: &ScopeRepository, out: &mut Stri
         Ok(page) => out.push_str(page.as_str()).ok(),
         Err(error) => write_error(&error, repository, out),
     }
+}
+
+/// Adds the text of a generator of spans with classes, behind its lines.
+fn write_lines_of(
+    given: Given<'_>,
+    mut generator: ClassedHTMLGenerator<'_>,
+    repository: &ScopeRepository,
+    out: &mut String,
+) -> Option<()> {
+    for line in LinesWithEndings::from(given.text) {
+        let line = line_as_given(line, given.is_bare);
+        if let Err(error) = generator.parse_html_for_line_which_includes_newline(line) {
+            write_error(&error, repository, out)?;
+        }
+    }
+    let text = generator.finalize().ok()?;
+    writeln!(out, "{}", text.as_str()).ok()
+}
+
+/// Adds a text as spans with classes, and a newline; before that why lines are refused.
+pub fn write_classed_page(
+    given: Given<'_>,
+    style: ClassStyle,
+    repository: &ScopeRepository,
+    out: &mut String,
+) -> Option<()> {
+    let generator = ClassedHTMLGenerator::new_with_class_style(
+        given.alloc,
+        given.syntax?,
+        given.set,
+        repository,
+        style,
+    );
+    write_lines_of(given, generator.ok()?, repository, out)
 }

@@ -1,4 +1,6 @@
 //! Questions about scopes, patterns, themes and texts, and their answers.
+use crate::changes::write_hooks;
+use crate::cutting::{write_cut, write_modified};
 use crate::engine::{write_escaped, write_group, write_is_match};
 use crate::scoring::{write_atoms, write_path_score, write_score, write_stack, write_union};
 use crate::styles::{write_change_of, write_style_of};
@@ -34,6 +36,7 @@ pub fn write_answer(
         "scores" => write_score(alloc, question, repository, out),
         "path scores" => write_path_score(alloc, question, repository, out),
         "stacks" => write_stack(alloc, question, repository, out),
+        "hooks" => write_hooks(alloc, question, repository, out),
         "unions" => write_union(alloc, question, repository, out),
         _ => write_text_answer(alloc, heading, question, out),
     }
@@ -49,6 +52,8 @@ fn write_text_answer(alloc: Global, heading: &str, question: &str, out: &mut Str
         "groups" => write_group(alloc, question, out),
         "escapes" => write_escaped(alloc, question, out),
         "lines" => write_lines(alloc, question, out),
+        "cuts" => write_cut(alloc, question, out),
+        "changed parts" => write_modified(alloc, question, out),
         _ => None,
     }
 }

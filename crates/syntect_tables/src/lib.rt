@@ -3,6 +3,8 @@
 #![tactic(auto)]
 
 pub mod answers;
+pub mod changes;
+mod cutting;
 pub mod engine;
 pub mod row_file;
 mod scoring;

@@ -105,7 +105,7 @@ pub fn write_union(
 }
 
 /// The operation of a text.
-fn operation_of(text: &str, repository: &mut ScopeRepository) -> Option<ScopeStackOp> {
+pub(crate) fn operation_of(text: &str, repository: &mut ScopeRepository) -> Option<ScopeStackOp> {
     let (word, rest) = text.split_once(' ').unwrap_or((text, ""));
     match word {
         "push" => Some(ScopeStackOp::Push(repository.build(rest).ok()?)),

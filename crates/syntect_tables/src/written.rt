@@ -1,14 +1,19 @@
 //! What is written of styled pieces that a row gives.
 use crate::row_file::{Part, body_of};
 use std::alloc::Global;
+use syntect_classed::style::ClassStyle;
+use syntect_css::sheet::css_for_theme_with_class_style;
 use syntect_queries::escapes::unescaped;
+use syntect_scope::repository::ScopeRepository;
 use syntect_theme::style::{Color, FontStyle, Style};
+use syntect_theme::theme::Theme;
 use syntect_writers::html::{IncludeBackground, styled_line_to_highlighted_html};
+use syntect_writers::latex::as_latex_escaped;
 use syntect_writers::lines::LinesWithEndings;
 use syntect_writers::terminal::as_24_bit_terminal_escaped;
 
 /// A piece and its style: the colours, the number of the flags and the text, with a space between each two.
-fn piece_of(line: &str) -> Option<(Style, &str)> {
+pub(crate) fn piece_of(line: &str) -> Option<(Style, &str)> {
     let (foreground, rest) = line.split_once(' ')?;
     let (background, rest) = rest.split_once(' ')?;
     let (flags, text) = rest.split_once(' ')?;
@@ -58,6 +63,24 @@ pub fn write_html(alloc: Global, parts: &[Part<'_>], behind: bool, out: &mut Str
     };
     let text = styled_line_to_highlighted_html(alloc, pieces.as_slice(), behind).ok()?;
     writeln!(out, "{}", text.as_str()).ok()
+}
+
+/// Adds the text for LaTeX, and a newline.
+pub fn write_latex(alloc: Global, parts: &[Part<'_>], out: &mut String) -> Option<()> {
+    let pieces = pieces_of(alloc, parts)?;
+    let text = as_latex_escaped(alloc, pieces.as_slice()).ok()?;
+    writeln!(out, "{}", text.as_str()).ok()
+}
+
+/// Adds the style sheet of a theme.
+pub fn write_sheet(
+    alloc: Global,
+    theme: &Theme,
+    repository: &ScopeRepository,
+    out: &mut String,
+) -> Option<()> {
+    let sheet = css_for_theme_with_class_style(alloc, theme, repository, ClassStyle::Spaced).ok()?;
+    out.push_str(sheet.as_str()).ok()
 }
 
 /// Adds each line of a text, as Rust writes it, with a semicolon behind it.
