@@ -55,13 +55,14 @@ fn push_classes(
     ensures { OnOk result (string_bytes out.new ≡ string_bytes out.old
         ++ classes_text prefix.now repository.now scope) }
 {
-    let Some((first, others)) = scope.as_slice().split_first() else {
+    let count = scope.len() as usize;
+    if count == 0 {
         return Ok(());
-    };
-    push_class(out, prefix, repository, *first)?;
-    for atom in others {
+    }
+    push_class(out, prefix, repository, scope.atom_at(0))?;
+    for place in 1..count {
         out.push(' ')?;
-        push_class(out, prefix, repository, *atom)?;
+        push_class(out, prefix, repository, scope.atom_at(place))?;
     }
     Ok(())
 }

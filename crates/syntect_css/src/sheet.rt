@@ -37,8 +37,9 @@ fn push_scope(
     ensures { OnOk result (string_bytes out.new ≡ string_bytes out.old
         ++ scope_selector prefix.now repository.now scope) }
 {
-    for atom in scope.as_slice() {
-        push_class(alloc, out, prefix, repository.atom_or_mark(*atom))?;
+    for place in 0..scope.len() as usize {
+        let name = repository.atom_or_mark(scope.atom_at(place));
+        push_class(alloc, out, prefix, name)?;
     }
     Ok(())
 }

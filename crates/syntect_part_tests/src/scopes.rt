@@ -46,9 +46,15 @@ fn prefixes_and_order(rt: HostRuntime) -> io::Result<()> {
     let five = repository.build("1.2.3.4.5").unwrap_or(none);
     assert!(rt; four.is_prefix_of(eight));
     assert!(rt; six.is_prefix_of(eight));
-    assert!(rt; none.is_prefix_of(a));
+    for scope in [none, a, a_b, four, eight, other] {
+        assert!(rt; none.is_prefix_of(scope));
+    }
     assert!(rt; !other.is_prefix_of(five));
     assert!(rt; !eight.is_prefix_of(six));
+    assert!(rt; eight.is_prefix_of(eight));
+    assert!(rt; !a.is_prefix_of(none));
+    assert!(rt; none < a);
+    assert!(rt; four < five);
     Ok(())
 }
 
@@ -62,6 +68,7 @@ fn a_full_repository(rt: HostRuntime) -> io::Result<()> {
     }
     assert_eq!(rt; repository.atom_str(65534), Some("65533"));
     assert!(rt; repository.build("0.new") == Err(ParseScopeError::TooManyAtoms));
+    assert_eq!(rt; repository.atom_str(65535), None);
     assert!(rt; repository.build("a.b.c.d.e.f.g.h.i") == Err(ParseScopeError::TooLong));
     let old = repository.build("65533.0").unwrap_or(Scope::default());
     assert_eq!(rt; old.atom_at(0), 65534);
@@ -157,5 +164,30 @@ fn powers(rt: HostRuntime) -> io::Result<()> {
     assert!(rt; high.add(0, usize::MAX).is_ok());
     high.add(1, 0)?;
     assert!(rt; high == higher);
+    Ok(())
+}
+
+#[test]
+fn scores_deep_in_a_stack(rt: HostRuntime) -> io::Result<()> {
+    let alloc = rt.alloc();
+    let mut repository = ScopeRepository::new(alloc);
+    let none = Scope::default();
+    let eight = repository.build("1.2.3.4.5.6.7.8").unwrap_or(none);
+    let one = repository.build("x").unwrap_or(none);
+    let other = repository.build("other").unwrap_or(none);
+    let mut stack = ScopeStack::new(alloc);
+    for _ in 0..199 {
+        stack.push(other)?;
+    }
+    stack.push(eight)?;
+    stack.push(one)?;
+    let mut long = ScopeStack::new(alloc);
+    long.push(eight)?;
+    let mut short = ScopeStack::new(alloc);
+    short.push(one)?;
+    let mut power = MatchPower::new(alloc);
+    power.add(8, 199)?;
+    assert!(rt; long.does_match(stack.as_slice())? == Some(power));
+    assert!(rt; long.does_match(stack.as_slice())? == short.does_match(stack.as_slice())?);
     Ok(())
 }

@@ -96,6 +96,25 @@ fn the_deepest_place_counts(rt: HostRuntime) -> io::Result<()> {
 }
 
 #[test]
+fn the_lower_place_wins_deep_in_a_stack(rt: HostRuntime) -> io::Result<()> {
+    let alloc = rt.alloc();
+    let mut repository = ScopeRepository::new(alloc);
+    let eight = scope(&mut repository, "1.2.3.4.5.6.7.8");
+    let one = scope(&mut repository, "x");
+    let theme = theme_of(alloc, &[(one, OTHER_ON_TEXT), (eight, ON_TEXT)])?;
+    let highlighter = Highlighter::new(alloc, &theme)?;
+    let mut stack = ScopeStack::new(alloc);
+    for _ in 0..199 {
+        stack.push(Scope::default())?;
+    }
+    stack.push(eight)?;
+    stack.push(one)?;
+    let style = highlighter.style_for_stack(stack.as_slice())?;
+    assert_eq!(rt; style.foreground, FIRST);
+    Ok(())
+}
+
+#[test]
 fn pieces_between_operations(rt: HostRuntime) -> io::Result<()> {
     let alloc = rt.alloc();
     let mut repository = ScopeRepository::new(alloc);

@@ -1,211 +1,219 @@
 -- Digits that are set, put at the end, and compared.
-use Rattle.std.proofs.Common.{◌≡◌, ℕ, zero, suc, ◌+◌, ◌*◌, ◌^◌, ◌<◌, ◌≤◌, ◌-◌, ◌%◌, ◌/◌, Bool, true, false, List, [], ◌∷◌, ◌++◌, length, length-append, drop, get_or, set, refl, arith, if◌then◌else◌, sym, ◌∙◌, ap, inl, inr, lit<}
+use Rattle.std.proofs.Common.{◌≡◌, ◌≢◌, ℕ, zero, suc, ◌+◌, ◌*◌, ◌^◌, ◌<◌, ◌≤◌, ◌-◌, ◌%◌, ◌/◌, List, [], ◌∷◌, ◌++◌, length, length-append, length-set, drop, get_or, set, refl, arith, sym, ◌∙◌, ap, inl, inr, lit<}
 use Rattle.std.proofs.lemmas.Bool.{cases_lt}
-use Rattle.std.proofs.Math.Nat.{pow-suc, pow-le-pow_right}
-use Rattle.std.proofs.lemmas.Nat.{pow-add, shl_below}
-use Rattle.std.proofs.Common.{not, nat_cmp, nat_eq, Less, Equal, Greater}
-use Rattle.std.specs.Bool.{beq}
-use Rattle.std.specs.Ordering.{bool_cmp}
+use Rattle.std.proofs.Math.Nat.{pow-le-pow_right}
+use Rattle.std.proofs.Common.{nat_cmp, Less, Equal, Greater}
 use Rattle.std.specs.Cmp.{nat_cmp_is}
-use mir.Val.{bool_byte}
 use Rattle.std.proofs.lemmas.Grind.{pow_more}
-use Rattle.syntect_scope.specs.Digits.{digit, number_of, IsNormal}
+use Rattle.std.proofs.lemmas.Nat.{pow-add, mul-le}
+use Rattle.syntect_scope.specs.Digits.{number_of, AreDigits, IsNormal}
 
-pub double_power : (n : ℕ) → 2 ^ suc n ≡ 2 * 2 ^ n
-double_power n = omega arith
+pub next_power : (n : ℕ) → 8 ^ suc n ≡ 8 * 8 ^ n
+next_power n = omega arith
 
--- an element in the list is the same whatever stands for none
-same_default : (bs : List Bool) (i : ℕ) (d e : Bool) → i < length bs → get_or bs i d ≡ get_or bs i e
-same_default [] i d e l = absurd (omega arith)
-same_default (b ∷ bs) zero d e l = refl
-same_default (b ∷ bs) (suc i) d e l = same_default bs i d e (omega arith)
+pub push_digit : (ds : List ℕ) (d : ℕ) → number_of (ds ++ d ∷ []) ≡ number_of ds + d * 8 ^ length ds
+push_digit [] d = omega arith
+push_digit (x ∷ ds) d = rw (push_digit ds d, next_power (length ds)) (omega arith)
 
-pub push_digit : (bs : List Bool) (b : Bool) → number_of (bs ++ b ∷ []) ≡ number_of bs + (if b then 1 else 0) * 2 ^ length bs
-push_digit [] b = omega arith
-push_digit (x ∷ bs) b = rw (push_digit bs b, double_power (length bs)) (omega arith)
+pub digits_push : (ds : List ℕ) (d : ℕ) → AreDigits ds → d < 8 → AreDigits (ds ++ d ∷ [])
+digits_push [] d h l = (l, tt)
+digits_push (x ∷ ds) d h l = (h.0, digits_push ds d h.1 l)
+
+pub digits_set : (ds : List ℕ) (i d : ℕ) → AreDigits ds → d < 8 → AreDigits (set ds i d)
+digits_set [] i d h l = tt
+digits_set (x ∷ ds) zero d h l = (l, h.1)
+digits_set (x ∷ ds) (suc i) d h l = (h.0, digits_set ds i d h.1 l)
+
+pub digit_small : (ds : List ℕ) (i : ℕ) → AreDigits ds → get_or ds i 0 < 8
+digit_small [] i h = omega arith
+digit_small (x ∷ ds) zero h = h.0
+digit_small (x ∷ ds) (suc i) h = digit_small ds i h.1
 
 -- a digit that is set
-pub set_digit : (bs : List Bool) (i : ℕ) (d b : Bool) → i < length bs → number_of (set bs i b) + digit (get_or bs i d) * 2 ^ i ≡ number_of bs + digit b * 2 ^ i
-set_digit [] i d b l = absurd (omega arith)
-set_digit (x ∷ bs) zero d b l = omega arith
-set_digit (x ∷ bs) (suc i) d b l =
-    let ih : number_of (set bs i b) + digit (get_or bs i d) * 2 ^ i ≡ number_of bs + digit b * 2 ^ i = set_digit bs i d b (omega arith) in
-    rw (double_power i) (omega (arith, ih))
+pub set_digit : (ds : List ℕ) (i d : ℕ) → i < length ds → number_of (set ds i d) + get_or ds i 0 * 8 ^ i ≡ number_of ds + d * 8 ^ i
+set_digit [] i d l = absurd (omega (arith, l))
+set_digit (x ∷ ds) zero d l = omega arith
+set_digit (x ∷ ds) (suc i) d l =
+    let ih : number_of (set ds i d) + get_or ds i 0 * 8 ^ i ≡ number_of ds + d * 8 ^ i = set_digit ds i d (omega (arith, l)) in
+    rw (next_power i) (omega (arith, ih))
 
 -- so many digits write no more than that
-pub number_below : (bs : List Bool) → number_of bs < 2 ^ length bs
-number_below [] = omega arith
-number_below (true ∷ bs) = rw (double_power (length bs)) (omega (arith, number_below bs))
-number_below (false ∷ bs) = rw (double_power (length bs)) (omega (arith, number_below bs))
-
-pub eights : (k : ℕ) → 8 ^ k ≡ 2 ^ (k * 3)
-eights zero = refl
-eights (suc k) =
-    let e : suc k * 3 ≡ k * 3 + 3 = omega arith in
-    let p : 8 ^ suc k ≡ 8 ^ k * 8 = pow-suc 8 k in
-    rw (e, pow-add 2 (k * 3) 3, p, eights k) refl
+pub number_below : (ds : List ℕ) → AreDigits ds → number_of ds < 8 ^ length ds
+number_below [] h = omega arith
+number_below (d ∷ ds) h = rw (next_power (length ds)) (omega (arith, h.0, number_below ds h.1))
 
 -- one digit of an addition: what is left to add goes on to the next digit
-pub add_step : (old count low : ℕ) (bs : List Bool) (i rest : ℕ) (d b : Bool) → i < length bs → digit b ≡ (rest + digit (get_or bs i d)) % 2
-    → number_of bs + rest * 2 ^ i ≡ old + count * 2 ^ low
-    → number_of (set bs i b) + (rest + digit (get_or bs i d)) / 2 * 2 ^ (i + 1) ≡ old + count * 2 ^ low
-add_step old count low bs i rest d b l e h =
-    let sum = rest + digit (get_or bs i d) in
-    let s : number_of (set bs i b) + digit (get_or bs i d) * 2 ^ i ≡ number_of bs + digit b * 2 ^ i = set_digit bs i d b l in
-    let p : 2 ^ (i + 1) ≡ 2 ^ i * 2 = pow_more 2 i in
-    let halves : 2 * (sum / 2) + digit b ≡ sum = omega (arith, e) in
-    let m : (2 * (sum / 2) + digit b) * 2 ^ i ≡ sum * 2 ^ i = ap (λ (k : ℕ). k * 2 ^ i) halves in
+pub add_step : (total : ℕ) (ds : List ℕ) (i rest : ℕ) → i < length ds → number_of ds + rest * 8 ^ i ≡ total
+    → number_of (set ds i ((rest + get_or ds i 0) % 8)) + (rest + get_or ds i 0) / 8 * 8 ^ (i + 1) ≡ total
+add_step total ds i rest l h =
+    let sum = rest + get_or ds i 0 in
+    let s : number_of (set ds i (sum % 8)) + get_or ds i 0 * 8 ^ i ≡ number_of ds + sum % 8 * 8 ^ i = set_digit ds i (sum % 8) l in
+    let p : 8 ^ (i + 1) ≡ 8 ^ i * 8 = pow_more 8 i in
+    let parts : 8 * (sum / 8) + sum % 8 ≡ sum = omega arith in
+    let m : (8 * (sum / 8) + sum % 8) * 8 ^ i ≡ sum * 8 ^ i = ap (λ (k : ℕ). k * 8 ^ i) parts in
     rw p (omega (arith, s, m, h))
+
+-- one digit that is put at the end
+pub push_step : (total : ℕ) (ds : List ℕ) (i rest : ℕ) → i ≡ length ds → number_of ds + rest * 8 ^ i ≡ total
+    → number_of (ds ++ rest % 8 ∷ []) + rest / 8 * 8 ^ (i + 1) ≡ total
+push_step total ds i rest e h =
+    let d : number_of (ds ++ rest % 8 ∷ []) ≡ number_of ds + rest % 8 * 8 ^ i = push_digit ds (rest % 8) ∙ ap (λ (n : ℕ). number_of ds + rest % 8 * 8 ^ n) (sym e) in
+    let p : 8 ^ (i + 1) ≡ 8 ^ i * 8 = pow_more 8 i in
+    let parts : 8 * (rest / 8) + rest % 8 ≡ rest = omega arith in
+    let m : (8 * (rest / 8) + rest % 8) * 8 ^ i ≡ rest * 8 ^ i = ap (λ (k : ℕ). k * 8 ^ i) parts in
+    rw p (omega (arith, d, m, h))
 
 times_ge : (r p : ℕ) → 0 < r → p ≤ r * p
 times_ge zero p h = absurd (omega arith)
 times_ge (suc r) p h = omega arith
 
--- while something is left to add, there is a digit for it
-pub digit_left : (bs : List Bool) (i rest total n : ℕ) → number_of bs + rest * 2 ^ i ≡ total → total < 2 ^ n → n ≡ length bs → 0 < rest → i < length bs
-digit_left bs i rest total n h t e r =
-    elim (cases_lt i (length bs)) [
+-- while something is left to add, there is room for it
+pub digit_left : (number i rest total n : ℕ) → number + rest * 8 ^ i ≡ total → total < 8 ^ n → 0 < rest → i < n
+digit_left number i rest total n h t r =
+    elim (cases_lt i n) [
       | inl l ↦ l
       | inr g ↦
-          let m : 2 ^ n ≤ 2 ^ i = pow-le-pow_right (lit< tt) (omega (arith, g, e)) in
-          absurd (omega (arith, h, t, m, times_ge rest (2 ^ i) r))
+          let m : 8 ^ n ≤ 8 ^ i = pow-le-pow_right (lit< tt) g in
+          absurd (omega (arith, h, t, m, times_ge rest (8 ^ i) r))
     ]
 
 -- ---- the highest digit ----
 
-normal_rest : (b c : Bool) (cs : List Bool) → IsNormal (b ∷ c ∷ cs) → IsNormal (c ∷ cs)
-normal_rest b c cs h l =
-    let y : length (b ∷ c ∷ cs) - 1 ≡ suc (length cs) = omega arith in
-    let z : length (c ∷ cs) - 1 ≡ length cs = omega arith in
-    let k : get_or (b ∷ c ∷ cs) (length (b ∷ c ∷ cs) - 1) false ≡ true = h (omega arith) in
-    rw z (ap (λ (i : ℕ). get_or (b ∷ c ∷ cs) i false) (sym y) ∙ k)
+at_end : (ds : List ℕ) (d : ℕ) → get_or (ds ++ d ∷ []) (length ds) 0 ≡ d
+at_end [] d = refl
+at_end (x ∷ ds) d = at_end ds d
+
+pub highest_push : (ds : List ℕ) (d : ℕ) → get_or (ds ++ d ∷ []) (length (ds ++ d ∷ []) - 1) 0 ≡ d
+highest_push ds d =
+    let k : length (ds ++ d ∷ []) - 1 ≡ length ds = omega (arith, length-append ds (d ∷ [])) in
+    ap (λ (n : ℕ). get_or (ds ++ d ∷ []) n 0) k ∙ at_end ds d
+
+other_place : (ds : List ℕ) (i k d : ℕ) → i ≢ k → get_or (set ds i d) k 0 ≡ get_or ds k 0
+other_place [] i k d n = refl
+other_place (x ∷ ds) zero zero d n = absurd (n refl)
+other_place (x ∷ ds) zero (suc k) d n = refl
+other_place (x ∷ ds) (suc i) zero d n = refl
+other_place (x ∷ ds) (suc i) (suc k) d n = other_place ds i k d (λ e. n (ap suc e))
+
+this_place : (ds : List ℕ) (i d : ℕ) → i < length ds → get_or (set ds i d) i 0 ≡ d
+this_place [] i d l = absurd (omega (arith, l))
+this_place (x ∷ ds) zero d l = refl
+this_place (x ∷ ds) (suc i) d l = this_place ds i d (omega (arith, l))
+
+-- a digit that is set below the highest one leaves that
+pub highest_stays : (ds : List ℕ) (i d : ℕ) → i + 1 < length ds → 0 < get_or ds (length ds - 1) 0 → 0 < get_or (set ds i d) (length (set ds i d) - 1) 0
+highest_stays ds i d l h =
+    let e : get_or (set ds i d) (length (set ds i d) - 1) 0 ≡ get_or ds (length ds - 1) 0 =
+    ap (λ (n : ℕ). get_or (set ds i d) (n - 1) 0) (length-set {A = ℕ} ds i d) ∙ other_place ds i (length ds - 1) d (λ e. omega (arith, e, l)) in
+    omega (arith, e, h)
+
+-- a sum that carries nothing on is no zero
+pub highest_set : (ds : List ℕ) (i d : ℕ) → i < length ds → (i + 1 < length ds → 0 < get_or ds (length ds - 1) 0) → 0 < d → 0 < get_or (set ds i d) (length (set ds i d) - 1) 0
+highest_set ds i d l h p =
+    elim (cases_lt (i + 1) (length ds)) [
+      | inl k ↦ highest_stays ds i d k (h k)
+      | inr k ↦
+          let at : length (set ds i d) - 1 ≡ i = omega (arith, length-set {A = ℕ} ds i d, k, l) in
+          let e : get_or (set ds i d) (length (set ds i d) - 1) 0 ≡ d = ap (λ (n : ℕ). get_or (set ds i d) n 0) at ∙ this_place ds i d l in
+          omega (arith, e, p)
+    ]
+
+normal_rest : (d e : ℕ) (ds : List ℕ) → IsNormal (d ∷ e ∷ ds) → IsNormal (e ∷ ds)
+normal_rest d e ds h = (
+  h.0.1,
+  λ l.
+      let y : length (d ∷ e ∷ ds) - 1 ≡ suc (length ds) = omega arith in
+      let z : length (e ∷ ds) - 1 ≡ length ds = omega arith in
+      let k : 0 < get_or (d ∷ e ∷ ds) (length (d ∷ e ∷ ds) - 1) 0 = h.1 (omega arith) in
+      let q : get_or (e ∷ ds) (length (e ∷ ds) - 1) 0 ≡ get_or (d ∷ e ∷ ds) (length (d ∷ e ∷ ds) - 1) 0 =
+      ap (λ (n : ℕ). get_or (e ∷ ds) n 0) z ∙ ap (λ (n : ℕ). get_or (d ∷ e ∷ ds) n 0) (sym y) in
+      omega (arith, k, q),
+)
 
 -- a number without zeros at its end is at least the power of its highest place
-pub number_least : (b : Bool) (bs : List Bool) → IsNormal (b ∷ bs) → 2 ^ length bs ≤ number_of (b ∷ bs)
-number_least b [] h =
-    let z : length (b ∷ []) - 1 ≡ 0 = omega arith in
-    let e : b ≡ true = ap (λ (i : ℕ). get_or (b ∷ []) i false) (sym z) ∙ h (omega arith) in
-    rw e (omega arith)
-number_least b (c ∷ cs) h =
-    rw (double_power (length cs)) (omega (arith, number_least c cs (normal_rest b c cs h)))
+pub number_least : (d : ℕ) (ds : List ℕ) → IsNormal (d ∷ ds) → 8 ^ length ds ≤ number_of (d ∷ ds)
+number_least d [] h =
+    let z : length (d ∷ []) - 1 ≡ 0 = omega arith in
+    let q : get_or (d ∷ []) (length (d ∷ []) - 1) 0 ≡ d = ap (λ (n : ℕ). get_or (d ∷ []) n 0) z in
+    let e : 0 < get_or (d ∷ []) (length (d ∷ []) - 1) 0 = h.1 (omega arith) in
+    omega (arith, e, q)
+number_least d (e ∷ ds) h = rw (next_power (length ds)) (omega (arith, number_least e ds (normal_rest d e ds h)))
 
 -- a shorter number is less
-pub shorter_less : (a b : List Bool) → IsNormal b → length a < length b → number_of a < number_of b
-shorter_less a [] n l = absurd (omega arith)
-shorter_less a (b ∷ bs) n l =
-    let m : 2 ^ length a ≤ 2 ^ length bs = pow-le-pow_right (lit< tt) (omega (arith, l)) in
-    omega (arith, number_below a, m, number_least b bs n)
+pub shorter_less : (a b : List ℕ) → AreDigits a → IsNormal b → length a < length b → number_of a < number_of b
+shorter_less a [] d n l = absurd (omega (arith, l))
+shorter_less a (b ∷ bs) d n l =
+    let m : 8 ^ length a ≤ 8 ^ length bs = pow-le-pow_right (lit< tt) (omega (arith, l)) in
+    omega (arith, number_below a d, m, number_least b bs n)
 
-same_digits : (a b : List Bool) → length a ≡ length b → number_of a ≡ number_of b → a ≡ b
-same_digits [] [] l e = refl
-same_digits [] (y ∷ b) l e = absurd (omega (arith, l))
-same_digits (x ∷ a) [] l e = absurd (omega (arith, l))
-same_digits (true ∷ a) (true ∷ b) l e = ap (λ (bs : List Bool). true ∷ bs) (same_digits a b (omega (arith, l)) (omega (arith, e)))
-same_digits (false ∷ a) (false ∷ b) l e = ap (λ (bs : List Bool). false ∷ bs) (same_digits a b (omega (arith, l)) (omega (arith, e)))
-same_digits (true ∷ a) (false ∷ b) l e = absurd (omega (arith, e))
-same_digits (false ∷ a) (true ∷ b) l e = absurd (omega (arith, e))
+same_digits : (a b : List ℕ) → AreDigits a → AreDigits b → length a ≡ length b → number_of a ≡ number_of b → a ≡ b
+same_digits [] [] d f l e = refl
+same_digits [] (y ∷ b) d f l e = absurd (omega (arith, l))
+same_digits (x ∷ a) [] d f l e = absurd (omega (arith, l))
+same_digits (x ∷ a) (y ∷ b) d f l e =
+    let h : x ≡ y = omega (arith, e, d.0, f.0) in
+    let t : number_of a ≡ number_of b = omega (arith, e, h) in
+    rw (h, same_digits a b d.1 f.1 (omega (arith, l)) t) refl
 
 -- equal numbers have equal digits
-pub same_number : (a b : List Bool) → IsNormal a → IsNormal b → number_of a ≡ number_of b → a ≡ b
+pub same_number : (a b : List ℕ) → IsNormal a → IsNormal b → number_of a ≡ number_of b → a ≡ b
 same_number a b n m e =
     elim (cases_lt (length a) (length b)) [
-      | inl l ↦ absurd (omega (arith, e, shorter_less a b m l))
+      | inl l ↦ absurd (omega (arith, e, shorter_less a b n.0 m l))
       | inr g ↦ elim (cases_lt (length b) (length a)) [
-        | inl l ↦ absurd (omega (arith, e, shorter_less b a n l))
-        | inr k ↦ same_digits a b (omega (arith, g, k)) e
+        | inl l ↦ absurd (omega (arith, e, shorter_less b a m.0 n l))
+        | inr k ↦ same_digits a b n.0 m.0 (omega (arith, g, k)) e
       ]
     ]
 
 -- the highest digit that differs decides
-pub higher_digit : (a b : List Bool) (i : ℕ) → length a ≡ length b → i < length a → drop (i + 1) a ≡ drop (i + 1) b → get_or a i false ≡ true → get_or b i true ≡ false
+pub higher_digit : (a b : List ℕ) (i : ℕ) → AreDigits a → AreDigits b → length a ≡ length b → i < length a → drop (i + 1) a ≡ drop (i + 1) b → get_or b i 0 < get_or a i 0
     → number_of b < number_of a
-higher_digit [] b i l k e t f = absurd (omega arith)
-higher_digit (x ∷ a) [] i l k e t f = absurd (omega (arith, l))
-higher_digit (x ∷ a) (y ∷ b) zero l k e t f = rw (t, f, ap number_of e) (omega arith)
-higher_digit (x ∷ a) (y ∷ b) (suc i) l k e t f =
+higher_digit [] b i d f l k e t = absurd (omega arith)
+higher_digit (x ∷ a) [] i d f l k e t = absurd (omega (arith, l))
+higher_digit (x ∷ a) (y ∷ b) zero d f l k e t = omega (arith, ap number_of e, t)
+higher_digit (x ∷ a) (y ∷ b) (suc i) d f l k e t =
     let z : suc i + 1 ≡ suc (i + 1) = omega arith in
     let rest : drop (i + 1) a ≡ drop (i + 1) b = ap (λ (n : ℕ). drop n (x ∷ a)) (sym z) ∙ e ∙ ap (λ (n : ℕ). drop n (y ∷ b)) z in
-    let ih : number_of b < number_of a = higher_digit a b i (omega (arith, l)) (omega (arith, k)) rest t f in
-    either x y ih
-  where
-    either : (x y : Bool) → number_of b < number_of a → number_of (y ∷ b) < number_of (x ∷ a)
-    either true true h = omega (arith, h)
-    either true false h = omega (arith, h)
-    either false true h = omega (arith, h)
-    either false false h = omega (arith, h)
+    let ih : number_of b < number_of a = higher_digit a b i d.1 f.1 (omega (arith, l)) (omega (arith, k)) rest t in
+    omega (arith, ih, d.0, f.0)
 
-pub higher_cmp : (a b : List Bool) (i : ℕ) → length a ≡ length b → i < length a → drop (i + 1) a ≡ drop (i + 1) b → not (beq (get_or a i false) (get_or b i false)) ≡ true
-    → bool_cmp (get_or a i false) (get_or b i false) ≡ nat_cmp (number_of a) (number_of b)
-higher_cmp a b i l k e h = go (get_or a i false) (get_or b i false) refl refl h
-  where
-    go : (x y : Bool) → get_or a i false ≡ x → get_or b i false ≡ y → not (beq x y) ≡ true → bool_cmp x y ≡ nat_cmp (number_of a) (number_of b)
-    go true true s t h = cc
-    go false false s t h = cc
-    go true false s t h = nat_cmp_is (number_of a) (number_of b) Greater (higher_digit a b i l k e s (same_default b i true false (omega (arith, k, l)) ∙ t))
-    go false true s t h = nat_cmp_is (number_of a) (number_of b) Less (higher_digit b a i (sym l) (omega (arith, k, l)) (sym e) t (same_default a i true false k ∙ s))
+pub higher_cmp : (a b : List ℕ) (i : ℕ) → AreDigits a → AreDigits b → length a ≡ length b → i < length a → drop (i + 1) a ≡ drop (i + 1) b → get_or a i 0 ≢ get_or b i 0
+    → nat_cmp (get_or a i 0) (get_or b i 0) ≡ nat_cmp (number_of a) (number_of b)
+higher_cmp a b i d f l k e h =
+    elim (cases_lt (get_or a i 0) (get_or b i 0)) [
+      | inl u ↦ sym (nat_cmp_is (get_or a i 0) (get_or b i 0) Less u) ∙ nat_cmp_is (number_of a) (number_of b) Less (higher_digit b a i f d (sym l) (omega (arith, k, l)) (sym e) u)
+      | inr v ↦ elim (cases_lt (get_or b i 0) (get_or a i 0)) [
+        | inl u ↦ sym (nat_cmp_is (get_or a i 0) (get_or b i 0) Greater u) ∙ nat_cmp_is (number_of a) (number_of b) Greater (higher_digit a b i d f l k e u)
+        | inr w ↦ absurd (h (omega (arith, v, w)))
+      ]
+    ]
 
-pub length_cmp : (a b : List Bool) → IsNormal a → IsNormal b → (nat_cmp (length a) (length b) ≡ Equal → ⊥) → nat_cmp (length a) (length b) ≡ nat_cmp (number_of a) (number_of b)
+pub length_cmp : (a b : List ℕ) → IsNormal a → IsNormal b → (nat_cmp (length a) (length b) ≡ Equal → ⊥) → nat_cmp (length a) (length b) ≡ nat_cmp (number_of a) (number_of b)
 length_cmp a b n m d =
     elim (cases_lt (length a) (length b)) [
-      | inl l ↦ sym (nat_cmp_is (length a) (length b) Less l) ∙ nat_cmp_is (number_of a) (number_of b) Less (shorter_less a b m l)
+      | inl l ↦ sym (nat_cmp_is (length a) (length b) Less l) ∙ nat_cmp_is (number_of a) (number_of b) Less (shorter_less a b n.0 m l)
       | inr g ↦ elim (cases_lt (length b) (length a)) [
-        | inl l ↦ sym (nat_cmp_is (length a) (length b) Greater l) ∙ nat_cmp_is (number_of a) (number_of b) Greater (shorter_less b a n l)
+        | inl l ↦ sym (nat_cmp_is (length a) (length b) Greater l) ∙ nat_cmp_is (number_of a) (number_of b) Greater (shorter_less b a m.0 n l)
         | inr k ↦ let e : length a ≡ length b = omega (arith, g, k) in absurd (d (sym (nat_cmp_is (length a) (length b) Equal e)))
       ]
     ]
 
--- the digit that is written
-pub digit_of : (n : ℕ) → digit (nat_eq (n % 2) 1) ≡ n % 2
-digit_of n =
-    elim (cases_lt (n % 2) 1) [
-      | inl l ↦ let z : n % 2 ≡ 0 = omega (arith, l) in rw z refl
-      | inr g ↦ let z : n % 2 ≡ 1 = omega (arith, g) in rw z refl
-    ]
+-- the sum fits into the room
+pub sum_below : (old n count place room : ℕ) → old < 8 ^ n → count < 2 ^ 32 → n < room → place + 11 < room → old + count * 8 ^ place < 8 ^ room
+sum_below old n count place room o k l m =
+    let one : 8 ^ (n + 1) ≤ 8 ^ room = pow-le-pow_right (lit< tt) (omega (arith, l)) in
+    let two : 8 ^ (place + 12) ≤ 8 ^ room = pow-le-pow_right (lit< tt) (omega (arith, m)) in
+    let p : 8 ^ (n + 1) ≡ 8 ^ n * 8 = pow_more 8 n in
+    let q : 8 ^ (place + 12) ≡ 8 ^ place * 8 ^ 12 = pow-add 8 place 12 in
+    let r : count * 8 ^ place ≤ 4294967296 * 8 ^ place = mul-le count (8 ^ place) 4294967296 (8 ^ place) (omega (arith, k)) (omega arith) in
+    omega (arith, one, two, p, q, r, o)
 
-pub bool_digit : (b : Bool) → bool_byte b ≡ digit b
-bool_digit true = refl
-bool_digit false = refl
+-- ---- the digits of a number, one after another ----
 
--- the sum fits into the digits
-pub sum_below : (sum old n count low len : ℕ) → sum ≡ old → old < 2 ^ n → count < 2 ^ 32 → n < len → low + 32 < len → sum + count * 2 ^ low < 2 ^ len
-sum_below sum old n count low len e o k l m =
-    let one : 2 ^ (n + 1) ≤ 2 ^ len = pow-le-pow_right (lit< tt) (omega (arith, l)) in
-    let two : 2 ^ (low + 32 + 1) ≤ 2 ^ len = pow-le-pow_right (lit< tt) (omega (arith, m)) in
-    let p : 2 ^ (n + 1) ≡ 2 ^ n * 2 = pow_more 2 n in
-    let q : 2 ^ (low + 32 + 1) ≡ 2 ^ (low + 32) * 2 = pow_more 2 (low + 32) in
-    let r : count * 2 ^ low < 2 ^ (32 + low) = shl_below count 32 low k in
-    let s : 32 + low ≡ low + 32 = omega arith in
-    let t : 2 ^ (32 + low) ≡ 2 ^ (low + 32) = ap (λ (i : ℕ). 2 ^ i) s in
-    omega (arith, e, one, two, p, q, r, t, o)
+pub digit_step : (ds : List ℕ) (rest number : ℕ) → number_of ds + rest * 8 ^ length ds ≡ number → number_of (ds ++ rest % 8 ∷ []) + rest / 8 * 8 ^ length (ds ++ rest % 8 ∷ []) ≡ number
+digit_step ds rest number h =
+    ap (λ (n : ℕ). number_of (ds ++ rest % 8 ∷ []) + rest / 8 * 8 ^ n) (length-append ds (rest % 8 ∷ [])) ∙ push_step number ds (length ds) rest refl h
 
-pub byte_small : (b : Bool) → bool_byte b ≤ 1
-byte_small true = omega arith
-byte_small false = omega arith
-
--- the lowest digit of a number, and the others
-half_step : (n at : ℕ) → n * 2 ^ at ≡ n % 2 * 2 ^ at + n / 2 * 2 ^ (at + 1)
-half_step n at =
-    let e : 2 * (n / 2) + n % 2 ≡ n = omega arith in
-    let p : 2 ^ (at + 1) ≡ 2 ^ at * 2 = pow_more 2 at in
-    let m : (2 * (n / 2) + n % 2) * 2 ^ at ≡ n * 2 ^ at = ap (λ (k : ℕ). k * 2 ^ at) e in
-    rw p (omega (arith, m))
-
-pub half_push : (bs : List Bool) (rest number : ℕ) → number_of bs + rest * 2 ^ length bs ≡ number
-    → number_of (bs ++ nat_eq (rest % 2) 1 ∷ []) + rest / 2 * 2 ^ length (bs ++ nat_eq (rest % 2) 1 ∷ []) ≡ number
-half_push bs rest number h =
-    let b = nat_eq (rest % 2) 1 in
-    let l : length (bs ++ b ∷ []) ≡ length bs + 1 = length-append bs (b ∷ []) in
-    let d : number_of (bs ++ b ∷ []) ≡ number_of bs + digit b * 2 ^ length bs = push_digit bs b in
-    let k : digit b * 2 ^ length bs ≡ rest % 2 * 2 ^ length bs = ap (λ (n : ℕ). n * 2 ^ length bs) (digit_of rest) in
-    rw l (omega (arith, d, k, h, half_step rest (length bs)))
-
-at_end : (bs : List Bool) → get_or (bs ++ true ∷ []) (length bs) false ≡ true
-at_end [] = refl
-at_end (b ∷ bs) = at_end bs
-
-pub normal_push : (bs : List Bool) (rest : ℕ) → 0 < rest → rest / 2 ≡ 0 → IsNormal (bs ++ nat_eq (rest % 2) 1 ∷ [])
-normal_push bs rest h z l =
-    let one : rest % 2 ≡ 1 = omega (arith, h, z) in
-    let e : nat_eq (rest % 2) 1 ≡ true = rw one refl in
-    let k : length (bs ++ true ∷ []) - 1 ≡ length bs = omega (arith, length-append bs (true ∷ [])) in
-    rw (e, k) (at_end bs)
+pub last_step : (ds : List ℕ) (rest : ℕ) → 0 < rest → rest / 8 ≡ 0 → 0 < get_or (ds ++ rest % 8 ∷ []) (length (ds ++ rest % 8 ∷ []) - 1) 0
+last_step ds rest l z = omega (arith, highest_push ds (rest % 8), l, z)

@@ -1,4 +1,5 @@
 pub mod AtomLaws
+pub mod PackingLaws
 pub mod ChoiceLaws
 pub mod DigitLaws
 pub mod DotLaws

@@ -1,15 +1,16 @@
--- Whole numbers by their binary digits, the lowest first.
-use Rattle.std.specs.Prelude.{◌≡◌, ℕ, ◌+◌, ◌*◌, ◌-◌, ◌<◌, Bool, true, false, List, [], ◌∷◌, length, if◌then◌else◌, slice_index_or}
-
--- the value of a digit
-abbrev pub digit : Bool → ℕ
-digit b = if b then 1 else 0
+-- Whole numbers by their base-8 digits, the lowest first.
+use Rattle.std.specs.Prelude.{ℕ, ◌+◌, ◌*◌, ◌-◌, ◌<◌, List, [], ◌∷◌, length, slice_index}
 
 -- the number that the digits write
-abbrev pub number_of : List Bool → ℕ
+abbrev pub number_of : List ℕ → ℕ
 number_of [] = 0
-number_of (b ∷ bs) = digit b + 2 * number_of bs
+number_of (d ∷ ds) = d + 8 * number_of ds
 
--- the highest digit is no zero
-abbrev pub IsNormal : List Bool → Type 0
-IsNormal bs = 0 < length bs → slice_index_or bs (length bs - 1) false ≡ true
+-- each is a digit
+abbrev pub AreDigits : List ℕ → Type 0
+AreDigits [] = Unit {0}
+AreDigits (d ∷ ds) = (d < 8) × AreDigits ds
+
+-- each is a digit, and the highest one is not 0
+abbrev pub IsNormal : List ℕ → Type 0
+IsNormal ds = AreDigits ds × (0 < length ds → 0 < slice_index ds (length ds - 1))

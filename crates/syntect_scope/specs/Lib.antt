@@ -1,4 +1,5 @@
 pub mod Atoms
+pub mod Packing
 pub mod Stack
 pub mod Replay
 pub mod Digits

@@ -1,10 +1,10 @@
 //! Scores: whole numbers of any size.
-ghost use Rattle.std.specs.Prelude.{◌≡◌, ◌==◌, ◌<◌, ◌≤◌, ◌+◌, ◌-◌, ◌*◌, ◌^◌, ◌↔◌, ℕ, List, [], length, max, IfSome, IsTrue, Bool, false, true, IfOk, OnOk, OnErr, vec_capacity};
+ghost use Rattle.std.specs.Prelude.{◌≡◌, ◌==◌, ◌<◌, ◌≤◌, ◌+◌, ◌-◌, ◌*◌, ◌^◌, ℕ, List, [], length, max, IfSome, IfOk, OnOk, OnErr, vec_capacity, slice_index};
 ghost use Rattle.std.specs.Ordering.{nat_cmp, as_partial_cmp};
 ghost use Rattle.std.proofs.Common.{rules};
 ghost use Rattle.std.specs.Cmp.{partial_order_from_own_ties};
 ghost use Rattle.std.specs.Cmp.Rules.{comparing, hashing};
-ghost use Rattle.syntect_scope.specs.Digits.{number_of, IsNormal};
+ghost use Rattle.syntect_scope.specs.Digits.{number_of, AreDigits, IsNormal};
 
 use std::alloc::{AllocError, Global};
 use std::cmp::Ordering;
@@ -14,8 +14,8 @@ use std::marker::Model;
 /// is a depth in a stack, so that no machine number holds it.
 #[derive(Debug, Drop)]
 pub struct MatchPower {
-    /// The binary digits, the lowest first, without zeros at the end.
-    bits: Vec<bool>,
+    /// The base-8 digits, the lowest first, without zeros at the end.
+    digits: Vec<u8>,
 }
 
 impl Model for MatchPower {
@@ -25,55 +25,61 @@ impl Model for MatchPower {
 
     ghost use Rattle.syntect_scope.specs.Digits.{number_of, IsNormal};
 
-    ghost view = { λ a. number_of a.bits.items };
+    ghost view = { λ a. number_of a.digits.items };
 
-    ghost invariant = { λ a. IsNormal a.bits.items };
+    ghost invariant = { λ a. IsNormal a.digits.items };
 }
 
 /// How many digits a `u32` can have.
-const COUNT_DIGITS: usize = 32;
+const COUNT_DIGITS: usize = 11;
 
 /// Adds zeros at the end, up to `n` digits, for which there is room.
-#[tactic(auto, using(crate::proofs::DigitLaws::push_digit))]
-fn pad(bits: &mut Vec<bool>, n: usize)
-    requires { n ≤ vec_capacity bits.old }
-    ensures value { number_of bits.new.items ≡ number_of bits.old.items }
-    ensures len { length bits.new.items ≡ max (length bits.old.items) n }
+#[tactic(auto, using(crate::proofs::DigitLaws::push_digit, crate::proofs::DigitLaws::digits_push))]
+fn pad(digits: &mut Vec<u8>, n: usize)
+    requires room { n ≤ vec_capacity digits.old }
+    requires digits { AreDigits digits.old.items }
+    ensures value { number_of digits.new.items ≡ number_of digits.old.items }
+    ensures digits { AreDigits digits.new.items }
+    ensures len { length digits.new.items ≡ max (length digits.old.items) n }
+    ensures kept { n ≤ length digits.old.items → digits.new.items ≡ digits.old.items }
+    ensures room { vec_capacity digits.new ≡ vec_capacity digits.old }
 {
-    while bits.len() < n {
-        bits.push_reserved(false);
+    while digits.len() < n {
+        digits.push_reserved(0);
     }
 }
 
-/// Adds a number times a power of two to digits that have room for the sum.
-fn add_at(bits: &mut Vec<bool>, count: u32, low: usize)
-    requires { number_of bits.old.items + count * 2 ^ low < 2 ^ length bits.old.items }
-    ensures { number_of bits.new.items ≡ number_of bits.old.items + count * 2 ^ low }
+/// Adds a number that isn't 0 at a place up to the end of the digits, with room for the sum. The highest digit isn't 0
+/// then, if the place is the end or it wasn't 0 before.
+fn add_at(digits: &mut Vec<u8>, count: u32, place: usize)
+    requires some { 0 < count }
+    requires within { place ≤ length digits.old.items }
+    requires room { number_of digits.old.items + count * 8 ^ place < 8 ^ vec_capacity digits.old }
+    requires digits { AreDigits digits.old.items }
+    requires highest { place < length digits.old.items → 0 < slice_index digits.old.items (length digits.old.items - 1) }
+    ensures value { number_of digits.new.items ≡ number_of digits.old.items + count * 8 ^ place }
+    ensures normal { IsNormal digits.new.items }
 {
     let mut rest = u64::from(count);
-    let mut i = low;
+    let mut i = place;
     while rest > 0 {
-        let sum = rest + u64::from(bits[i]);
-        bits[i] = sum % 2 == 1;
-        rest = sum / 2;
+        if i < digits.len() {
+            let sum = rest + u64::from(digits[i]);
+            digits[i] = (sum % 8) as u8;
+            rest = sum / 8;
+        } else {
+            digits.push_reserved((rest % 8) as u8);
+            rest /= 8;
+        }
         i += 1;
     }
 }
 
-/// Takes the zeros at the end off.
-#[tactic(auto, using(crate::proofs::DigitLaws::push_digit))]
-fn trim(bits: &mut Vec<bool>)
-    ensures value { number_of bits.new.items ≡ number_of bits.old.items }
-    ensures normal { IsNormal bits.new.items }
-{
-    while let Some(false) = bits.last() {
-        let _ = bits.pop();
-    }
-}
-
 /// Compares two numbers of as many digits, from the highest digit down.
-fn compare(a: &[bool], b: &[bool]) -> Ordering
-    requires { length a.now ≡ length b.now }
+fn compare(a: &[u8], b: &[u8]) -> Ordering
+    requires len { length a.now ≡ length b.now }
+    requires a { AreDigits a.now }
+    requires b { AreDigits b.now }
     ensures { result ≡ nat_cmp (number_of a.now) (number_of b.now) }
 {
     let mut i = a.len();
@@ -92,22 +98,21 @@ impl MatchPower {
         ensures { result ≡ 0 }
     {
         MatchPower {
-            bits: Vec::new(alloc),
+            digits: Vec::new(alloc),
         }
     }
 
     /// A number.
-    #[tactic(auto, using(crate::proofs::DigitLaws::push_digit))]
     pub fn from_u64(alloc: Global, number: u64) -> Result<MatchPower, AllocError>
         ensures { IfOk result (λ power. power ≡ number) }
     {
-        let mut bits = Vec::new(alloc);
+        let mut digits = Vec::new(alloc);
         let mut rest = number;
         while rest > 0 {
-            bits.push(rest % 2 == 1)?;
-            rest /= 2;
+            digits.push((rest % 8) as u8)?;
+            rest /= 8;
         }
-        Ok(MatchPower { bits })
+        Ok(MatchPower { digits })
     }
 
     /// The same number once more.
@@ -115,7 +120,7 @@ impl MatchPower {
         ensures { IfOk result (λ power. power ≡ self.now) }
     {
         Ok(MatchPower {
-            bits: Vec::from_slice(*self.bits.allocator(), self.bits.as_slice())?,
+            digits: Vec::from_slice(*self.digits.allocator(), self.digits.as_slice())?,
         })
     }
 
@@ -124,31 +129,21 @@ impl MatchPower {
         ensures ok { OnOk result (self.new ≡ self.old + count * 8 ^ place) }
         ensures err { OnErr result (self.new ≡ self.old) }
     {
-        let _ = &self.bits;
+        let _ = &self.digits;
         if count == 0 {
             return Ok(());
         }
-        let Some(top) = digits_for(place) else {
+        let Some(top) = place.checked_add(COUNT_DIGITS + 1) else {
             // No vector has so much room: let the allocator say so.
-            self.bits.reserve(usize::MAX)?;
+            self.digits.reserve(usize::MAX)?;
             return Err(AllocError);
         };
-        let digits = top.max(self.bits.len()) + 1;
-        self.bits.reserve(digits - self.bits.len())?;
-        pad(&mut self.bits, digits);
-        add_at(&mut self.bits, count, top - COUNT_DIGITS);
-        trim(&mut self.bits);
+        let len = self.digits.len();
+        self.digits.reserve(top.max(len + 1) - len)?;
+        pad(&mut self.digits, place);
+        add_at(&mut self.digits, count, place);
         Ok(())
     }
-}
-
-/// How many digits a `u32` times `8^place` can have, where a machine number holds that and one more.
-fn digits_for(place: usize) -> Option<usize>
-    ensures { IfSome result (λ n. (n ≡ place * 3 + 32) × (n + 1 < 2 ^ 64)) }
-{
-    let low = place.checked_mul(3)?;
-    let top = low.checked_add(COUNT_DIGITS)?;
-    if top == usize::MAX { None } else { Some(top) }
 }
 
 impl PartialEq for MatchPower {
@@ -157,7 +152,7 @@ impl PartialEq for MatchPower {
     ghost laws = { Prim.search (comparing, rules) };
 
     fn eq(&self, other: &MatchPower) -> bool {
-        self.bits == other.bits
+        self.digits == other.digits
     }
 }
 
@@ -175,8 +170,8 @@ impl Ord for MatchPower {
     ghost matches_eq = { Prim.search (comparing, rules) };
 
     fn cmp(&self, other: &MatchPower) -> Ordering {
-        match self.bits.len().cmp(&other.bits.len()) {
-            Ordering::Equal => compare(self.bits.as_slice(), other.bits.as_slice()),
+        match self.digits.len().cmp(&other.digits.len()) {
+            Ordering::Equal => compare(self.digits.as_slice(), other.digits.as_slice()),
             unequal => unequal,
         }
     }

@@ -16,11 +16,11 @@ impl Scope {
         ensures { OnOk result (Appends (W.contents writer.old) (W.contents writer.new)
             (scope_text repository.now self)) }
     {
-        for (i, atom) in self.as_slice().iter().enumerate() {
+        for i in 0..self.len() as usize {
             if i > 0 {
                 writer.write_all(b".")?;
             }
-            writer.write_all(repository.atom_or_mark(*atom).as_bytes())?;
+            writer.write_all(repository.atom_or_mark(self.atom_at(i)).as_bytes())?;
         }
         Ok(())
     }

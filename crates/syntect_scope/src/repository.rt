@@ -274,11 +274,11 @@ impl ScopeRepository {
     pub(crate) fn append_scope(&self, text: &mut String, scope: Scope) -> Result<(), AllocError>
         ensures { OnOk result (string_bytes text.new ≡ string_bytes text.old ++ scope_text self.now scope) }
     {
-        for (i, atom) in scope.as_slice().iter().enumerate() {
+        for i in 0..scope.len() as usize {
             if i > 0 {
                 text.push('.')?;
             }
-            text.push_str(self.atom_or_mark(*atom))?;
+            text.push_str(self.atom_or_mark(scope.atom_at(i)))?;
         }
         Ok(())
     }

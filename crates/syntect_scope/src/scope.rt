@@ -1,12 +1,14 @@
 //! Scopes as lists of atom numbers.
-ghost use Rattle.std.specs.Prelude.{◌≡◌, ◌≢◌, ℕ, ◌==◌, ◌<◌, ◌≤◌, ◌↔◌, [], ◌∷◌, ◌++◌, length, IsTrue, slice_index};
+ghost use Rattle.std.specs.Prelude.{◌≡◌, ℕ, ◌==◌, ◌<◌, ◌≤◌, ◌↔◌, [], ◌∷◌, ◌++◌, length, IsTrue, slice_index};
+ghost use Rattle.std.specs.List.{slice_set};
 ghost use Rattle.std.specs.Cmp.Lexicographic.{pointwise, slice_cmp, slice_partial_cmp};
 ghost use Rattle.std.specs.Ordering.{nat_cmp, as_partial_cmp};
 ghost use Rattle.std.specs.Hash as fed;
 ghost use Rattle.std.proofs.Common.{rules};
 ghost use Rattle.std.specs.Cmp.{partial_order_from_own_ties};
 ghost use Rattle.std.specs.Cmp.Rules.{comparing, hashing};
-ghost use Rattle.syntect_scope.specs.Atoms.{is_prefix};
+ghost use Rattle.syntect_scope.specs.Atoms.{atoms_in, is_prefix, IsPacked};
+ghost use Rattle.syntect_scope.specs.Packing.{places, high_of, low_of};
 
 use std::cmp::Ordering;
 use std::hash::{Hash, Hasher};
@@ -15,27 +17,75 @@ use std::marker::Model;
 /// How many bits the length of a scope takes: a scope has at most `2^3` atoms.
 pub const ATOM_LEN_BITS: u16 = 3;
 
-/// A list of at most eight atom numbers of one repository.
+/// How many bits an atom number takes.
+const ATOM_BITS: u32 = 16;
+
+/// How many atoms one word holds.
+const WORD_ATOMS: u32 = 4;
+
+/// A list of at most eight atom numbers of one repository. They stand in two words, the first one in the highest bits,
+/// and unused bits are 0: the order of the words is that of the lists.
 #[derive(Clone, Copy, Debug)]
 pub struct Scope {
-    atoms: [u16; 8],
+    high: u64,
+    low: u64,
 }
 
 impl Model for Scope {
-    ghost use Rattle.std.specs.Prelude.{List, ℕ, ◌≡◌, length};
+    ghost use Rattle.std.specs.Prelude.{List, ℕ, ◌<◌, ◌^◌};
 
     ghost Value = { List ℕ };
 
-    ghost use Rattle.syntect_scope.specs.Atoms.{atoms_in, IsPacked, places_of, places_of-atoms_in};
-    ghost use Rattle.std.proofs.Common.{ap, sym};
+    ghost use Rattle.syntect_scope.specs.Atoms.{atoms_in, IsPacked};
+    ghost use Rattle.syntect_scope.specs.Packing.{places_in, high_of, low_of, high_back, low_back};
+    ghost use Rattle.std.proofs.Common.{refl};
 
-    ghost view = { λ a. atoms_in a.atoms };
+    ghost view = { λ a. atoms_in (places_in a.high a.low) };
 
-    ghost invariant = { λ a. (length a.atoms ≡ 8) × IsPacked a.atoms };
+    ghost invariant = { λ a. (a.high < 2 ^ 64) × (a.low < 2 ^ 64) × IsPacked (places_in a.high a.low) };
 
-    ghost inverse = { λ v. record { atoms = places_of 8 v } };
+    ghost inverse = { λ v. record { high = high_of v; low = low_of v } };
 
-    ghost inverse_ok = { λ a h. ap (λ l. record { atoms = l }) (places_of-atoms_in a.atoms 8 (sym h.0) h.1) };
+    ghost inverse_ok = { λ a h. let f = high_back a.high a.low h.0 h.2 in let g = low_back a.high a.low h.1 h.2 in rw (f, g) refl };
+}
+
+/// How many atoms stand in a word.
+fn used(word: u64) -> u32
+    requires { IsPacked (places 4 word) }
+    ensures { result ≡ length (atoms_in (places 4 word)) }
+{
+    WORD_ATOMS - word.trailing_zeros() / ATOM_BITS
+}
+
+/// The number in one of the four places of a word.
+fn place(word: u64, index: usize) -> u16
+    requires { index < 4 }
+    ensures { result ≡ slice_index (places 4 word) index }
+{
+    let unwanted = 48 - 16 * index;
+    (word >> unwanted & 0xffff) as u16
+}
+
+/// A word with an atom in its first unused place.
+fn with_atom(word: u64, atom: u16) -> u64
+    requires packed { IsPacked (places 4 word) }
+    requires room { length (atoms_in (places 4 word)) < 4 }
+    ensures { places 4 result ≡ slice_set (places 4 word) (length (atoms_in (places 4 word))) atom }
+{
+    let unused = word.trailing_zeros() / ATOM_BITS;
+    word | u64::from(atom) << (ATOM_BITS * (unused - 1))
+}
+
+/// Whether the atoms in a word begin those in another one.
+fn begins(word: u64, other: u64) -> bool
+    requires { IsPacked (places 4 word) }
+    ensures { result ≡ is_prefix (atoms_in (places 4 word)) (atoms_in (places 4 other)) }
+{
+    if word == 0 {
+        return true;
+    }
+    let unused = word.trailing_zeros() / ATOM_BITS * ATOM_BITS;
+    other & u64::MAX << unused == word
 }
 
 impl Scope {
@@ -43,17 +93,7 @@ impl Scope {
     pub(crate) fn empty() -> Scope
         ensures { result ≡ [] }
     {
-        Scope { atoms: [0; 8] }
-    }
-
-    /// The numbers of its atoms.
-    #[tactic(auto, using(crate::proofs::AtomLaws::atoms_found))]
-    pub fn as_slice(&self) -> &[u16]
-        ensures atoms { result.now ≡ self.now }
-        ensures within { length self.now ≤ 8 }
-    {
-        let places: &[u16] = &self.atoms;
-        &places[..used(places)]
+        Scope { high: 0, low: 0 }
     }
 
     /// How many atoms it has, at most 8.
@@ -61,23 +101,26 @@ impl Scope {
         ensures atoms { result ≡ length self }
         ensures within { result ≤ 8 }
     {
-        self.as_slice().len() as u32
+        used(self.high) + used(self.low)
     }
 
     /// Whether it has no atoms.
     pub fn is_empty(self) -> bool
         ensures { IsTrue result ↔ (self ≡ []) }
     {
-        self.as_slice().is_empty()
+        self.len() == 0
     }
 
     /// The number of the atom at a place, and 0 where there is none.
-    #[tactic(auto, using(crate::proofs::AtomLaws::atom_in_place))]
     pub fn atom_at(self, index: usize) -> u16
         requires { index < 8 }
         ensures { result ≡ slice_index self index }
     {
-        self.atoms[index]
+        if index < 4 {
+            place(self.high, index)
+        } else {
+            place(self.low, index - 4)
+        }
     }
 
     /// Adds an atom at the end.
@@ -86,15 +129,18 @@ impl Scope {
         requires used { 0 < atom }
         ensures { self.new ≡ self.old ++ atom ∷ [] }
     {
-        let n = used(&self.atoms);
-        self.atoms[n] = atom;
+        if used(self.high) < WORD_ATOMS {
+            self.high = with_atom(self.high, atom);
+        } else {
+            self.low = with_atom(self.low, atom);
+        }
     }
 
     /// Whether its atoms begin the list of atoms of `s`: `string.quoted` is a prefix of `string.quoted.json`.
     pub fn is_prefix_of(self, s: Scope) -> bool
         ensures { result ≡ is_prefix self s }
     {
-        s.as_slice().starts_with(self.as_slice())
+        begins(self.high, s.high) && begins(self.low, s.low)
     }
 }
 
@@ -104,7 +150,7 @@ impl PartialEq for Scope {
     ghost laws = { Prim.search (comparing, rules) };
 
     fn eq(&self, other: &Scope) -> bool {
-        self.as_slice() == other.as_slice()
+        self.high == other.high && self.low == other.low
     }
 }
 
@@ -122,7 +168,7 @@ impl Ord for Scope {
     ghost matches_eq = { Prim.search (comparing, rules) };
 
     fn cmp(&self, other: &Scope) -> Ordering {
-        self.as_slice().cmp(&other.as_slice())
+        self.high.cmp(&other.high).then(self.low.cmp(&other.low))
     }
 }
 
@@ -137,12 +183,13 @@ impl PartialOrd for Scope {
 }
 
 impl Hash for Scope {
-    ghost hash_input = { fed.slice fed.u16 };
+    ghost hash_input = { λ s. fed.u64 (high_of s) ++ fed.u64 (low_of s) };
 
     ghost respects_eq = { Prim.search (hashing, rules) };
 
     fn hash<H: Hasher>(&self, state: &mut H) {
-        self.as_slice().hash(state);
+        self.high.hash(state);
+        self.low.hash(state);
     }
 }
 
@@ -152,18 +199,4 @@ impl Default for Scope {
     fn default() -> Scope {
         Scope::empty()
     }
-}
-
-/// How many places stand before the first 0.
-fn used(places: &[u16]) -> usize
-    ensures within { result ≤ length places.now }
-    ensures before { (k : ℕ) → k < result → slice_index places.now k ≢ 0 }
-    ensures found { result < length places.now → slice_index places.now result ≡ 0 }
-{
-    for (i, x) in places.iter().enumerate() {
-        if *x == 0 {
-            return i;
-        }
-    }
-    places.len()
 }

@@ -17,26 +17,11 @@ pub(crate) fn deepest(scope: Scope, stack: &[Scope]) -> Option<usize>
     let mut at = stack.len();
     while at > 0 {
         at -= 1;
-        if begins(scope, stack[at]) {
+        if scope.is_prefix_of(stack[at]) {
             return Some(at);
         }
     }
     None
-}
-
-/// Whether the first scope begins the second one. Most scopes differ in their first two atoms, which is quick to see.
-#[tactic(auto, using(crate::proofs::DeepestLaws::first_atoms_differ, crate::proofs::DeepestLaws::second_atoms_differ))]
-fn begins(scope: Scope, other: Scope) -> bool
-    ensures { result ≡ is_prefix scope other }
-{
-    let (first, second) = (scope.atom_at(0), scope.atom_at(1));
-    if first != 0 && first != other.atom_at(0) {
-        return false;
-    }
-    if second != 0 && second != other.atom_at(1) {
-        return false;
-    }
-    scope.is_prefix_of(other)
 }
 
 /// Puts a value in the place of the best one so far, if its score beats that one's.
@@ -69,7 +54,7 @@ pub(crate) fn any_begins(rules: &[Rule], top: Scope) -> bool
     ensures { result ≡ list_any (λ r. is_prefix r.scope top) rules.now }
 {
     for rule in rules {
-        if begins(rule.scope, top) {
+        if rule.scope.is_prefix_of(top) {
             return true;
         }
     }
@@ -86,7 +71,7 @@ pub(crate) fn offer_rules(best: &mut Standings, rules: &[Rule], top: Scope, plac
     ensures reached { best.new.reached ≡ best.old.reached }
 {
     for rule in rules {
-        if begins(rule.scope, top) {
+        if rule.scope.is_prefix_of(top) {
             let score = SingleScore {
                 atoms: rule.scope.len(),
                 place,

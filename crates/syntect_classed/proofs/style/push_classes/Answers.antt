@@ -1,17 +1,19 @@
-use Rattle.std.proofs.Common.{◌≡◌, ◌++◌, ◌∷◌, List, ℕ, sym, ap, ◌∙◌, append_assoc, string_bytes, rules}
-use Rattle.std.specs.List.{flat_map}
+use Rattle.std.proofs.Common.{◌≡◌, ◌<◌, ◌++◌, ◌∷◌, [], List, ℕ, length, get_or, arith, lit<, ap, ◌∙◌, string_bytes}
+use Rattle.std.proofs.lemmas.Str.Ascii.{encode_ascii}
 use Rattle.syntect_classed.specs.Classes.{class_text, classes_text}
-use Rattle.syntect_classed.proofs.ClassLaws.{classes_first}
+use Rattle.syntect_classed.proofs.ClassLaws.{first_class, next_class}
 use Rattle.syntect_classed.proofs.style.push_classes.Goals as goal
 
-pub loop-atom-init : goal.loop-atom-init
-loop-atom-init c =
-    let prefix = c.args.prefix.now in
-    let repo = c.args.repository.now in
-    let first = c.in-Some.first.now in
-    let others = c.in-Some.others.now in
-    let scope : c.args.scope ≡ first ∷ others = search rules in
-    ap (λ (l : List ℕ). l ++ flat_map (λ atom. 32 ∷ class_text prefix repo atom) others) c.in_ok-push_class.ensures
-    ∙ append_assoc (string_bytes c.args.out.now) (class_text prefix repo first) (flat_map (λ atom. 32 ∷ class_text prefix repo atom) others)
-    ∙ ap (λ (l : List ℕ). string_bytes c.args.out.now ++ l) (sym (classes_first (class_text prefix repo) first others))
-    ∙ ap (λ (s : List ℕ). string_bytes c.args.out.now ++ classes_text prefix repo s) (sym scope)
+pub loop-place-init : goal.loop-place-init
+loop-place-init c =
+    let class : ℕ → List ℕ = class_text c.args.prefix.now c.args.repository.now in
+    let some : 0 < length c.args.scope = omega (arith, c.len-count.ensures.atoms, c.if-count-eq0.false) in
+    first_class class (string_bytes c.args.out.now) _ c.args.scope some (c.in_ok-push_class.ensures ∙ ap (λ (n : ℕ). string_bytes c.args.out.now ++ class n) c.atom_at.ensures)
+
+pub loop-place-preserved : goal.loop-place-preserved
+loop-place-preserved c =
+    let class : ℕ → List ℕ = class_text c.args.prefix.now c.args.repository.now in
+    let within : c.loop-place.place < length c.args.scope = omega (arith, c.len-count.ensures.atoms, c.loop-place-test.true) in
+    let spaced : string_bytes c.push.new.self ≡ string_bytes c.loop-place.out ++ 32 ∷ [] = c.in_ok-push.ensures.bytes ∙ ap (λ (s : List ℕ). string_bytes c.loop-place.out ++ s) (encode_ascii 32 (lit< tt)) in
+    next_class class (string_bytes c.loop-place.out) (string_bytes c.push.new.self) (string_bytes c.push_class-in-loop-place.new.out) c.args.scope c.loop-place.place within spaced
+    (c.in_ok-push_class-2.ensures ∙ ap (λ (n : ℕ). string_bytes c.push.new.self ++ class n) c.atom_at-in-loop-place.ensures) ∙ c.loop-place.invariant

@@ -4,6 +4,6 @@ use Rattle.syntect_classed.specs.Classes.{class_text, classes_text}
 use Rattle.syntect_classed.proofs.style.push_classes.Given as goal
 
 -- what is written, and the classes that are left, are the whole
-abbrev pub invariant-loop-atom : goal.invariant-loop-atom
-invariant-loop-atom l =
-    string_bytes l.out ++ flat_map (λ atom. 32 ∷ class_text l.prefix l.repository atom) (drop l.atom-index l.others) ≡ string_bytes l.fn.out ++ classes_text l.prefix l.repository l.fn.scope
+abbrev pub invariant-loop-place : goal.invariant-loop-place
+invariant-loop-place l =
+    string_bytes l.out ++ flat_map (λ atom. 32 ∷ class_text l.prefix l.repository atom) (drop l.place l.scope) ≡ string_bytes l.fn.out ++ classes_text l.prefix l.repository l.scope

@@ -1,4 +1,4 @@
-use Rattle.std.proofs.Common.{◌≡◌, ℕ, ◌<◌, List, [], ◌∷◌, ◌++◌, length, ap, sym, ◌∙◌, append_assoc, get_or, lit<, take}
+use Rattle.std.proofs.Common.{◌≡◌, ℕ, ◌<◌, List, [], ◌∷◌, ◌++◌, length, arith, ap, sym, ◌∙◌, append_assoc, get_or, lit<, take}
 use Rattle.std.specs.Prelude.{string_bytes}
 use Rattle.std.proofs.lemmas.Str.Ascii.{encode_ascii}
 use Rattle.syntect_scope.specs.Repository.{atom_text, scope_text}
@@ -8,12 +8,12 @@ use Rattle.syntect_scope.proofs.repository.ScopeRepository.append_scope.Goals.{t
 
 pub loop-i-preserved : goal.loop-i-preserved
 loop-i-preserved c =
-    let atoms : List ℕ = c.as_slice-atom-items.result.now in
+    let atoms : List ℕ = c.args.scope in
     let before : List ℕ = string_bytes c.args.text.now in
     let front : List ℕ = scope_text c.args.self.now (take c.loop-i.i atoms) in
     let word : List ℕ = atom_text c.args.self.now (get_or atoms c.loop-i.i 0) in
-    let written : string_bytes c.push_str.new.self ≡ string_bytes c.if-i-gt0.text ++ word = c.in_ok-push_str.ensures.bytes ∙ ap (λ (l : List ℕ). string_bytes c.if-i-gt0.text ++ l) c.atom_or_mark.ensures in
-    let within : c.loop-i.i < length atoms = c.loop-i-test.true in
+    let written : string_bytes c.push_str.new.self ≡ string_bytes c.if-i-gt0.text ++ word = c.in_ok-push_str.ensures.bytes ∙ ap (λ (l : List ℕ). string_bytes c.if-i-gt0.text ++ l) (c.atom_or_mark.ensures ∙ ap (atom_text c.args.self.now) c.atom_at.ensures) in
+    let within : c.loop-i.i < length atoms = omega (arith, c.loop-i-test.true, c.len-i-end.ensures.atoms) in
     elim c.if-i-gt0.branch [
       | then-i-gt0+in_ok-push w ↦
           let dotted : string_bytes c.if-i-gt0.text ≡ before ++ front ++ 46 ∷ [] =
