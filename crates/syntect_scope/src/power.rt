@@ -56,7 +56,8 @@ fn add_at(digits: &mut Vec<u8>, count: u32, place: usize)
     requires within { place ≤ length digits.old.items }
     requires room { number_of digits.old.items + count * 8 ^ place < 8 ^ vec_capacity digits.old }
     requires digits { AreDigits digits.old.items }
-    requires highest { place < length digits.old.items → 0 < slice_index digits.old.items (length digits.old.items - 1) }
+    requires highest { place < length digits.old.items
+        → 0 < slice_index digits.old.items (length digits.old.items - 1) }
     ensures value { number_of digits.new.items ≡ number_of digits.old.items + count * 8 ^ place }
     ensures normal { IsNormal digits.new.items }
 {

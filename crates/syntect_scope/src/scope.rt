@@ -42,11 +42,13 @@ impl Model for Scope {
 
     ghost view = { λ a. atoms_in (places_in a.high a.low) };
 
-    ghost invariant = { λ a. (a.high < 2 ^ 64) × (a.low < 2 ^ 64) × IsPacked (places_in a.high a.low) };
+    ghost invariant = { λ a.
+        (a.high < 2 ^ 64) × (a.low < 2 ^ 64) × IsPacked (places_in a.high a.low) };
 
     ghost inverse = { λ v. record { high = high_of v; low = low_of v } };
 
-    ghost inverse_ok = { λ a h. let f = high_back a.high a.low h.0 h.2 in let g = low_back a.high a.low h.1 h.2 in rw (f, g) refl };
+    ghost inverse_ok = { λ a h.
+        rw (high_back a.high a.low h.0 h.2, low_back a.high a.low h.1 h.2) refl };
 }
 
 /// How many atoms stand in a word.
@@ -70,7 +72,8 @@ fn place(word: u64, index: usize) -> u16
 fn with_atom(word: u64, atom: u16) -> u64
     requires packed { IsPacked (places 4 word) }
     requires room { length (atoms_in (places 4 word)) < 4 }
-    ensures { places 4 result ≡ slice_set (places 4 word) (length (atoms_in (places 4 word))) atom }
+    ensures { places 4 result
+        ≡ slice_set (places 4 word) (length (atoms_in (places 4 word))) atom }
 {
     let unused = word.trailing_zeros() / ATOM_BITS;
     word | u64::from(atom) << (ATOM_BITS * (unused - 1))
@@ -108,7 +111,7 @@ impl Scope {
     pub fn is_empty(self) -> bool
         ensures { IsTrue result ↔ (self ≡ []) }
     {
-        self.len() == 0
+        self.high == 0
     }
 
     /// The number of the atom at a place, and 0 where there is none.
