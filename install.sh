@@ -50,6 +50,14 @@ text_of() {
     done
 }
 
+# Puts a built library into a folder: by links, as its files are read alone and all lanes together would copy some 25 GB.
+linked() {
+    cp -Rl "$1" "$2/" 2> /dev/null || {
+        rm -rf "${2:?}/rlib"
+        cp -R "$1" "$2/"
+    }
+}
+
 # Proves one crate by so many jobs, in a folder of its own with the libraries that it stands on: rt works in a library's
 # folder one at a time, so that crates side by side need folders apart.
 prove() {
@@ -63,7 +71,7 @@ prove() {
         if [ "$library" != "$1" ]; then
             rm -rf "$lane/crates/$library/out"
             mkdir -p "$lane/crates/$library/out"
-            cp -R "$build/$library/crates/$library/out/rlib" "$lane/crates/$library/out/"
+            linked "$build/$library/crates/$library/out/rlib" "$lane/crates/$library/out"
         fi
     done
     cd "$lane/crates/$1" || return 1

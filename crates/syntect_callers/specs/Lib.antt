@@ -1,2 +1,3 @@
 pub mod Third
 pub mod Grammars
+pub mod ClassedPages

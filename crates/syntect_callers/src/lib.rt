@@ -2,5 +2,6 @@
 //! and to the pieces of lines. Their contracts are the whole promise, with nothing to be known of the grammars.
 #![tactic(auto)]
 
+pub mod classed;
 pub mod third;
 pub mod whole;

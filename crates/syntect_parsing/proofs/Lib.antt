@@ -24,6 +24,7 @@ pub mod ChainLaws
 pub mod ChoiceLaws
 pub mod TakeLaws
 pub mod WholeTurnLaws
+pub mod BoundLaws
 pub mod Runs
 pub mod EachLaws
 pub mod ClosedLaws

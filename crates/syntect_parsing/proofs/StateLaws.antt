@@ -67,3 +67,8 @@ standings a b =
     ∙ ap (λ x. record { levels = b.levels; cuts = b.cuts; first_line = x }) e.1.1)
     (λ e. (ap (λ (s : Standing). s.levels) e, (ap (λ (s : Standing). s.cuts) e, ap (λ (s : Standing). s.first_line) e)))
     (Decides-and _ _ (lists levels a.levels b.levels) (Decides-and _ _ (lists Decides-eqb a.cuts b.cuts) (bools a.first_line b.first_line)))
+
+-- no comparison looks at the count of turns
+pub no_count : (b : Bool) → ((b && true) ≡ true → b ≡ true) × (b ≡ true → (b && true) ≡ true)
+no_count true = (λ e. refl, λ e. refl)
+no_count false = (λ e. e, λ e. e)

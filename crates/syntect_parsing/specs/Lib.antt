@@ -18,4 +18,5 @@ pub mod Refusals
 pub mod Orderly
 pub mod Meaning
 pub mod Step
+pub mod Bound
 pub mod Standing

@@ -1,4 +1,5 @@
 -- What is kept between two lines.
+use Rattle.std.specs.Prelude.{ℕ}
 pub use Rattle.syntect_parsing.specs.declared.parser.Level.{Level}
 pub use Rattle.syntect_parsing.specs.declared.parser.Standing.{Standing}
 use Rattle.syntect_parsing.specs.declared.parser.ParseState.{ParseState}
@@ -6,3 +7,7 @@ use Rattle.syntect_parsing.specs.declared.parser.ParseState.{ParseState}
 -- where a reader of lines stands
 abbrev pub standing : ParseState → Standing
 standing state = state.standing
+
+-- how many turns its reader made so far
+abbrev pub turns_made : ParseState → ℕ
+turns_made state = state.count.made

@@ -1,5 +1,5 @@
 //! Reading a line.
-ghost use Rattle.std.specs.Prelude.{◌≡◌, ◌≢◌, ◌↔◌, [], take, Some, IfOk, IfErr, OnErr, IsTrue};
+ghost use Rattle.std.specs.Prelude.{◌≡◌, ◌≢◌, ◌↔◌, ◌+◌, ◌≤◌, [], take, Some, IfOk, IfErr, OnOk, OnErr, IsTrue};
 ghost use Rattle.std.specs.Option.{option_to_list, option_map_or};
 ghost use Rattle.syntect_scope.specs.Replay.{pushes};
 ghost use Rattle.syntect_grammar.specs.Contexts.{part_of};
@@ -7,7 +7,11 @@ ghost use Rattle.syntect_parsing.specs.Chain.{last};
 ghost use Rattle.syntect_parsing.specs.Engine.{dialect};
 ghost use Rattle.syntect_parsing.specs.Line.{start_id, start_of, at_start, first_push};
 ghost use Rattle.syntect_parsing.specs.Meaning.{MayLackStart, Accepts, MayRefuse};
-ghost use Rattle.syntect_parsing.specs.States.{standing};
+ghost use Rattle.syntect_parsing.specs.States.{standing, turns_made};
+ghost use Rattle.syntect_parsing.specs.Bound.{TakesAll, TakesNoMore, most_turns};
+
+#[cfg(test)]
+mod counting;
 
 use crate::laws::dialect_finds_in_text;
 use crate::position::Position;
@@ -20,6 +24,7 @@ use syntect_grammar::syntax_set::{SyntaxReference, SyntaxSet};
 use syntect_openings::opening::Opening;
 use syntect_scope::scope::Scope;
 use syntect_scope::stack::ScopeStackOp;
+use syntect_turns::count::TurnCount;
 use syntect_values::seq::Seq;
 
 /// An open context, its prototypes, and the match that opened it where that is kept.
@@ -58,10 +63,12 @@ pub struct Standing {
     pub first_line: bool,
 }
 
-/// What is kept between two lines: where the reader stands.
+/// What is kept between two lines: where the reader stands, and how many turns it made so far, which contracts alone see.
+/// Two states are equal that stand alike, whatever they count.
 #[derive(Clone, Drop, PartialEq, Eq)]
 pub struct ParseState {
     standing: Standing,
+    count: TurnCount,
 }
 
 /// The number of a syntax's `__start`.
@@ -92,6 +99,7 @@ impl ParseState {
                 cuts: Seq::new(alloc),
                 first_line: true,
             },
+            count: TurnCount::none(),
         })
     }
 
@@ -100,6 +108,10 @@ impl ParseState {
     /// empty stack. A refusal leaves the state as it was: `MissingMainContext` where no context is open any more,
     /// `UnresolvedContextReference` where a match that was picked names what isn't linked, `MissingContext` where the set lacks
     /// what it names, the open context or a prototype that is to be looked at, and `Memory`.
+    ///
+    /// The state counts the turns: an accepted line takes exactly those of its reading, a refused one no more, and neither
+    /// more than one for each open level and 1001 for each of its bytes and its end, times one more than the longest list of
+    /// contexts that a match of the set opens.
     pub fn parse_line(
         &mut self,
         alloc: Global,
@@ -111,15 +123,22 @@ impl ParseState {
         ensures refused { IfErr result (
             MayRefuse dialect syntax_set.now line.now (standing self.old)) }
         ensures err { OnErr result (standing self.new ≡ standing self.old) }
+        ensures taken { OnOk result (TakesAll dialect syntax_set.now line.now (standing self.old)
+            (turns_made self.old) (turns_made self.new)) }
+        ensures no_more { OnErr result (TakesNoMore dialect syntax_set.now line.now
+            (standing self.old) (turns_made self.old) (turns_made self.new)) }
+        ensures bound { turns_made self.new
+            ≤ turns_made self.old + most_turns syntax_set.now line.now (standing self.old) }
     {
         if self.standing.levels.is_empty() {
             return Err(ParsingError::MissingMainContext);
         }
-        let (standing, ops) = match read_line(alloc, syntax_set, line, &self.standing) {
+        let ParseState { standing, count } = self;
+        let (left, ops) = match read_line(alloc, syntax_set, line, standing, count) {
             Ok(read) => read,
             Err(e) => return Err(e),
         };
-        self.standing = standing;
+        *standing = left;
         Ok(ops)
     }
 }
@@ -174,10 +193,16 @@ fn read_line(
     set: &SyntaxSet,
     line: &str,
     state: &Standing,
+    count: &mut TurnCount,
 ) -> Result<(Standing, Vec<(usize, ScopeStackOp)>), ParsingError>
     requires { state.now.levels ≢ [] }
     ensures accepted { IfOk result (λ r. Accepts dialect set.now line.now state.now r.0 r.1.items) }
     ensures refused { IfErr result (MayRefuse dialect set.now line.now state.now) }
+    ensures taken { OnOk result
+        (TakesAll dialect set.now line.now state.now count.old.made count.new.made) }
+    ensures no_more { OnErr result
+        (TakesNoMore dialect set.now line.now state.now count.old.made count.new.made) }
+    ensures bound { count.new.made ≤ count.old.made + most_turns set.now line.now state.now }
 {
     dialect_finds_in_text();
     let mut regions = Regions::new(alloc);
@@ -190,7 +215,7 @@ fn read_line(
         Err(_) => return Err(ParsingError::Memory),
     };
     loop {
-        match turn(alloc, set, line, &mut p, &mut regions, &mut ops) {
+        match turn(alloc, set, line, &mut p, &mut regions, &mut ops, count) {
             Err(e) => return Err(e),
             Ok(true) => {}
             Ok(false) => break,

@@ -23,6 +23,7 @@ use syntect_grammar::syntax_set::SyntaxSet;
 use syntect_openings::names::check_names;
 use syntect_regex::region::Region;
 use syntect_scope::stack::ScopeStackOp;
+use syntect_turns::count::TurnCount;
 use syntect_values::seq::Seq;
 
 fn drop_from(cuts: &mut Vec<usize>, height: usize)
@@ -113,7 +114,7 @@ fn skip(line: &str, p: &mut Position)
     p.idle = 0;
 }
 
-/// Makes one turn, and says whether the line goes on.
+/// Makes one turn, counts it, and says whether the line goes on. Nothing else makes a turn.
 pub fn turn(
     alloc: Global,
     set: &SyntaxSet,
@@ -121,6 +122,7 @@ pub fn turn(
     p: &mut Position,
     regions: &mut Regions,
     ops: &mut Vec<(usize, ScopeStackOp)>,
+    count: &mut TurnCount,
 ) -> Result<bool, ParsingError>
     requires within { p.old.place ≤ length line.now }
     requires boundary { IsCharBoundary line.now p.old.place }
@@ -128,8 +130,10 @@ pub fn turn(
     ensures turns { IfOk result
         (Turns dialect set.now line.now p.old p.new ops.old.items ops.new.items) }
     ensures refused { IfErr result (RefusesTurn dialect set.now line.now p.old) }
+    ensures counted { count.new.made ≡ count.old.made + 1 }
 {
     dialect_finds_in_text();
+    count.tick();
     trim(alloc, p);
     let found = match best_match(alloc, set, line, p, regions) {
         Ok(found) => found,

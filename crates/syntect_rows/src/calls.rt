@@ -1,5 +1,7 @@
 //! The examples that are made by calls.
-use crate::made::{first_line, no_start, unresolved_line};
+use crate::made::{
+    another_set, captures_without_effect, first_line, left_start, no_start, unresolved_line,
+};
 use crate::readers::readers;
 use crate::searching::references;
 use std::alloc::Global;
@@ -26,10 +28,16 @@ enum Row {
     Readers,
     /// Flags by their bits, and as texts.
     Flags,
+    /// A first context that a line leaves.
+    LeftStart,
+    /// Captures without effect.
+    Captures,
+    /// A line with another set.
+    AnotherSet,
 }
 
 /// The examples in order, by their labels.
-const ROWS: [(&str, Row); 8] = [
+const ROWS: [(&str, Row); 11] = [
     ("17", Row::FirstLine),
     ("R1.1", Row::UnresolvedLine),
     ("R1.2", Row::NoStart),
@@ -38,6 +46,9 @@ const ROWS: [(&str, Row); 8] = [
     ("R2.12", Row::LongLoop),
     ("26", Row::Readers),
     ("R5.6", Row::Flags),
+    ("R12.2", Row::LeftStart),
+    ("R12.3", Row::Captures),
+    ("R12.5", Row::AnotherSet),
 ];
 
 /// Whether an example comes out as it is written. Want of memory counts as no.
@@ -51,6 +62,9 @@ fn holds(alloc: Global, row: Row) -> bool {
         Row::LongLoop => long_loop(alloc),
         Row::Readers => readers(alloc),
         Row::Flags => flags(alloc),
+        Row::LeftStart => left_start(alloc),
+        Row::Captures => captures_without_effect(alloc),
+        Row::AnotherSet => another_set(alloc),
     };
     outcome.unwrap_or(false)
 }

@@ -7,7 +7,8 @@ use syntect::Error;
 use syntect::easy::HighlightLines;
 use syntect_parsing::parser::{ParseState, ParsingError};
 use syntect_parsing::syntax_definition::{
-    Context, ContextReference, MatchOperation, MatchPattern, Pattern, SyntaxDefinition,
+    CaptureMapping, Context, ContextId, ContextReference, MatchOperation, MatchPattern, Pattern,
+    SyntaxDefinition,
 };
 use syntect_parsing::syntax_set::{SyntaxSet, SyntaxSetBuilder};
 use syntect_scope::repository::ScopeRepository;
@@ -42,6 +43,9 @@ const UNRESOLVED: [Line; 3] = [
     ("[a-z]+", "scope.other", Does::Nothing),
 ];
 
+/// A pattern that leaves the first context.
+const LEAVES: [Line; 1] = [("x", "", Does::Pop)];
+
 /// The patterns of the context `a`.
 const INNER: [Line; 2] = [
     ("a+", "scope.a.rest", Does::Nothing),
@@ -60,6 +64,11 @@ const REFUSED_PIECES: &str =
 
 const REFUSED: &str =
     "L1\nrefused UnresolvedContextReference named none\nstate unchanged\nL2\n0 push source.t\n0 push scope.other\n2 pop 1\n";
+
+const LEFT: &str =
+    "L1\n0 push source.t\n0 pop 1\nL2\nrefused MissingMainContext\nstate unchanged\nL3\nrefused MissingMainContext\nstate unchanged\n";
+
+const NO_CAPTURES: &str = "L1\n0 push source.t\n";
 
 fn operation(alloc: Global, does: Does) -> Option<MatchOperation> {
     match does {
@@ -213,4 +222,79 @@ pub fn no_start(alloc: Global) -> Option<bool> {
                 Err(Error::ParsingError(ParsingError::MissingMainContext))
             ),
     )
+}
+
+/// A first context that a line leaves: each later line is refused.
+pub fn left_start(alloc: Global) -> Option<bool> {
+    let mut repository = ScopeRepository::new(alloc);
+    let set = set_from(alloc, &mut repository, &LEAVES)?;
+    let theme = Theme::default(alloc);
+    let given = given(alloc, &set, &theme, "xa\na\nxa");
+    let mut operations = String::new(alloc);
+    write_operations(given, &repository, &mut operations)?;
+    Some(operations.as_str() == LEFT)
+}
+
+/// A capture of a group with a scope of its own.
+fn capture(
+    alloc: Global,
+    repository: &mut ScopeRepository,
+    group: usize,
+    captures: &mut CaptureMapping,
+) -> Option<()> {
+    let scopes = ScopeStack::from_text(alloc, "capture", repository)
+        .ok()?
+        .scopes;
+    captures.push((group, scopes)).ok()
+}
+
+/// Captures that were added by hand, of a group in a lookahead and of one that is not there.
+fn captures_by_hand(alloc: Global, repository: &mut ScopeRepository) -> Option<Pattern> {
+    let mut captures = Seq::new(alloc);
+    capture(alloc, repository, 1, &mut captures)?;
+    capture(alloc, repository, 9, &mut captures)?;
+    let text = String::from_str(alloc, "a(?=(b))").ok()?;
+    let none = Seq::new(alloc);
+    let does = MatchOperation::None;
+    let made = MatchPattern::new(alloc, false, text, none, Some(captures), does, None);
+    Some(Pattern::Match(made.ok()?))
+}
+
+/// Such captures have no effect.
+pub fn captures_without_effect(alloc: Global) -> Option<bool> {
+    let mut repository = ScopeRepository::new(alloc);
+    let mut contexts = Table::new(alloc);
+    let mut start = Context::new(alloc, false);
+    start.meta_content_scope = ScopeStack::from_text(alloc, "source.t", &mut repository)
+        .ok()?
+        .scopes;
+    let pattern = captures_by_hand(alloc, &mut repository)?;
+    start.patterns.push(pattern).ok()?;
+    contexts
+        .insert(Text::from_str(alloc, "__start").ok()?, start)
+        .ok()?;
+    let set = set_with(alloc, &mut repository, contexts)?;
+    let theme = Theme::default(alloc);
+    let given = given(alloc, &set, &theme, "ab");
+    let mut operations = String::new(alloc);
+    write_operations(given, &repository, &mut operations)?;
+    Some(operations.as_str() == NO_CAPTURES)
+}
+
+/// A line with a set that lacks the open context is refused, and a place without a pattern too.
+pub fn another_set(alloc: Global) -> Option<bool> {
+    let mut repository = ScopeRepository::new(alloc);
+    let set = set_from(alloc, &mut repository, &LEAVES)?;
+    let mut state = ParseState::new(alloc, set.syntaxes().first()?).ok()?;
+    let before = state.clone().ok()?;
+    let empty = SyntaxSet::new(alloc);
+    let first = ContextId {
+        syntax_index: 0,
+        context_index: 0,
+    };
+    let refusal = state.parse_line(alloc, "a", &empty).err();
+    let is_refused = refusal == Some(ParsingError::MissingContext(first));
+    let context = set.context_at(first)?;
+    let has_none = matches!(&context.match_at(5), Err(ParsingError::BadMatchIndex(5)));
+    Some(is_refused && state == before && has_none)
 }

@@ -1,0 +1,184 @@
+-- A page with classes while it is written.
+use Rattle.std.proofs.Common.{◌≡◌, ℕ, List, [], ◌∷◌, ◌++◌, map, length, refl, sym, ap, subst, ◌∙◌, append_assoc, append-nil, Some}
+use Rattle.std.specs.List.{concat, flat_map}
+use Rattle.syntect_scope.specs.Stack.{plain, applied}
+use Rattle.syntect_scope.specs.Replay.{Replay, replay, replayed, before_text, bytes_to}
+use Rattle.syntect_scope.specs.declared.stack.ScopeStack.{ScopeStack}
+use Rattle.syntect_scope.specs.declared.stack.ScopeStackOp.{ScopeStackOp}
+use Rattle.syntect_parsing.specs.Engine.{dialect}
+use Rattle.syntect_parsing.specs.Laws.{AnswersMore, StackIsOpen}
+use Rattle.std.specs.Prelude.{Option, None}
+use Rattle.std.specs.Option.{option_map}
+use Rattle.syntect_parsing.specs.Line.{Accepted, AnswersAll, none, accepts, start, start_id, start_of, stack_before}
+use Rattle.syntect_parsing.specs.Meaning.{Accepts}
+use Rattle.syntect_parsing.specs.Stacks.{IsAt}
+use Rattle.syntect_parsing.specs.States.{Standing}
+use Rattle.syntect_writers.specs.Lines.{lines_of}
+use Rattle.syntect_classed.specs.Classes.{prefix_of}
+use Rattle.syntect_classed.specs.Marks.{marks, written, stack_after}
+use Rattle.syntect_contexts.specs.declared.context.ContextId.{ContextId}
+use Rattle.syntect_classed.specs.declared.style.ClassStyle.{ClassStyle}
+use Rattle.syntect_classed_laws.specs.Laws.{Line, AreInOrder, PagesAreSeen, page_text, page_scopes}
+use Rattle.syntect_contexts.specs.declared.syntax_reference.SyntaxReference.{SyntaxReference}
+use Rattle.syntect_grammar.specs.declared.syntax_set.SyntaxSet.{SyntaxSet}
+use Rattle.syntect.specs.Classed.{text_so_far, stack_in, state_in, set_in, repository_in, style_in, AddsLine, closed_text}
+use Rattle.syntect.specs.Leads.{BeginsPlain, RunsOrderly}
+use Rattle.syntect.specs.declared.classed.ClassedHTMLGenerator.{ClassedHTMLGenerator}
+use Rattle.syntect_callers.specs.ClassedPages.{IsClassedPage}
+
+-- ---- stacks behind lines ----
+
+-- the stack behind operations is the one that replaying them leaves
+replay_stack : (ops : List (ℕ × ScopeStackOp)) (r : Replay) → (replay ops r).stack ≡ stack_after r.stack ops
+replay_stack [] r = refl
+replay_stack (o ∷ os) r = replay_stack os (replayed r o)
+
+-- the stack behind lines
+abbrev pub behind : ScopeStack → List Line → ScopeStack
+behind stack [] = stack
+behind stack (l ∷ ls) = behind (stack_after stack l.1) ls
+
+behind_last : (stack : ScopeStack) (ls : List Line) (l : Line) → behind stack (ls ++ l ∷ []) ≡ stack_after (behind stack ls) l.1
+behind_last stack [] l = refl
+behind_last stack (m ∷ ls) l = behind_last (stack_after stack m.1) ls l
+
+-- the scopes of lines and of one more
+scopes_last : (stack : ScopeStack) (ls : List Line) (l : Line)
+    → page_scopes stack (ls ++ l ∷ []) ≡ page_scopes stack ls ++ bytes_to (replay l.1 (before_text (behind stack ls))) (length l.0)
+scopes_last stack [] l = append-nil (bytes_to (replay l.1 (before_text stack)) (length l.0))
+scopes_last stack (m ∷ ls) l =
+    ap (λ xs. bytes_to (replay m.1 (before_text stack)) (length m.0) ++ xs) (scopes_last (stack_after stack m.1) ls l)
+    ∙ sym (append_assoc (bytes_to (replay m.1 (before_text stack)) (length m.0)) (page_scopes (stack_after stack m.1) ls) (bytes_to (replay l.1 (before_text (behind (stack_after stack m.1) ls))) (length l.0)))
+
+order_last : (ls : List Line) (l : Line) → AreInOrder ls → AreInOrder (l ∷ []) → AreInOrder (ls ++ l ∷ [])
+order_last [] l h k = k
+order_last (m ∷ ls) l h k = (h.0, order_last ls l h.1 k)
+
+map_last : {X Y : Type 0} (f : X → Y) (xs : List X) (x : X) → map f (xs ++ x ∷ []) ≡ map f xs ++ f x ∷ []
+map_last f [] x = refl
+map_last f (y ∷ ys) x = ap (λ zs. f y ∷ zs) (map_last f ys x)
+
+concat_last : {X : Type 0} (xss : List (List X)) (xs : List X) → concat (xss ++ xs ∷ []) ≡ concat xss ++ xs
+concat_last [] xs = append-nil xs
+concat_last (ys ∷ xss) xs = ap (λ zs. ys ++ zs) (concat_last xss xs) ∙ sym (append_assoc ys (concat xss) xs)
+
+texts : (ls : List Line) → flat_map (λ (l : Line). l.0) ls ≡ concat (map (λ (l : Line). l.0) ls)
+texts [] = refl
+texts (l ∷ ls) = ap (λ xs. l.0 ++ xs) (texts ls)
+
+-- ---- the page so far ----
+
+abbrev pub lines_in : List Line → List (List ℕ)
+lines_in ls = map (λ l. l.0) ls
+
+-- These lines were accepted, with these scopes; the page so far and what is written of more lines is the page of all of them;
+-- and where lines are orderly the generator's stack is that of its levels.
+pub record ClassedSoFar (set : SyntaxSet) (syntax : SyntaxReference) (repository : List (List ℕ)) (style : ClassStyle) (text left : List ℕ) (g : ClassedHTMLGenerator) : Type 0 where
+  pub lines : List Line
+  pub scopes : List (List (List (List ℕ)))
+  pub start : Standing
+  pub begins : start_of syntax ≡ Some start
+  pub run : AnswersAll dialect set (lines_in lines) start (map Accepted scopes) (state_in g)
+  pub all : lines_in lines ++ lines_of left ≡ lines_of text
+  pub order : AreInOrder lines
+  pub page : (rest : List Line) → text_so_far g ++ page_text (prefix_of style) repository (stack_in g) rest ≡ page_text (prefix_of style) repository (plain []) (lines ++ rest)
+  pub stands : stack_in g ≡ behind (plain []) lines
+  pub levels : BeginsPlain set syntax → RunsOrderly set syntax (lines_in lines) → stack_in g ≡ stack_before set (state_in g)
+  pub shown : BeginsPlain set syntax → RunsOrderly set syntax (lines_in lines) → page_scopes (plain []) lines ≡ concat scopes
+  pub has_set : set_in g ≡ set
+  pub has_repository : repository_in g ≡ repository
+  pub has_style : style_in g ≡ style
+
+-- lines before an orderly run's last are one
+orderly_before : (set : SyntaxSet) (syntax : SyntaxReference) (lines : List (List ℕ)) (line : List ℕ) → RunsOrderly set syntax (lines ++ line ∷ []) → RunsOrderly set syntax lines
+orderly_before set syntax lines line o = λ start b before behind at answers next same run.
+    o start b before (behind ++ line ∷ []) at answers next (ap (λ (xs : List (List ℕ)). xs ++ line ∷ []) same ∙ append_assoc before (at ∷ behind) (line ∷ [])) run
+
+-- before its first line a reader's stack is empty
+starts_empty : (set : SyntaxSet) (id : Option ContextId) (state : Standing) → option_map start id ≡ Some state → stack_before set state ≡ plain []
+starts_empty set None state e = cc
+starts_empty set (Some id) state e = let f : start id ≡ state = cc in rw (← f) refl
+
+pub so_far_none : (set : SyntaxSet) (syntax : SyntaxReference) (repository : List (List ℕ)) (style : ClassStyle) (text left : List ℕ) (g : ClassedHTMLGenerator)
+    → start_of syntax ≡ Some (state_in g) → text_so_far g ≡ [] → stack_in g ≡ plain [] → set_in g ≡ set → repository_in g ≡ repository → style_in g ≡ style → left ≡ text
+    → ClassedSoFar set syntax repository style text left g
+so_far_none set syntax repository style text left g b t k s r y e = record {
+  lines = [];
+  scopes = [];
+  start = state_in g;
+  begins = b;
+  run = none;
+  all = ap lines_of e;
+  order = tt;
+  page = λ rest. rw (t, k) refl;
+  stands = k;
+  levels = λ p o. k ∙ sym (starts_empty set (start_id syntax) (state_in g) b);
+  shown = λ p o. refl;
+  has_set = s;
+  has_repository = r;
+  has_style = y;
+}
+
+pub so_far_more : (set : SyntaxSet) (syntax : SyntaxReference) (repository : List (List ℕ)) (style : ClassStyle) (text left rest line : List ℕ) (g h : ClassedHTMLGenerator)
+    → AnswersMore → StackIsOpen → ClassedSoFar set syntax repository style text left g → AddsLine line g h → lines_of left ≡ line ∷ lines_of rest
+    → ClassedSoFar set syntax repository style text rest h
+so_far_more set syntax repository style text left rest line g h more opens s a e =
+    let l : Line = (line, a.ops) in
+    let acc : Accepts dialect set line (state_in g) (state_in h) a.ops = rw s.has_set at a.accepted in
+    let P : List ℕ = prefix_of style in
+    let named : lines_in (s.lines ++ l ∷ []) ≡ lines_in s.lines ++ line ∷ [] = map_last (λ (m : Line). m.0) s.lines l in
+    let stack_is : stack_in h ≡ stack_after (stack_in g) a.ops = a.stack in
+    let at_end : BeginsPlain set syntax → RunsOrderly set syntax (lines_in (s.lines ++ l ∷ [])) → IsAt (replay a.ops (before_text (stack_in g))) (length line) acc.bytes (stack_before set (state_in h)) =
+        (λ p o.
+            let q : RunsOrderly set syntax (lines_in s.lines ++ line ∷ []) = rw named at o in
+            let k = acc.means.shows (opens dialect set (lines_in s.lines) s.start (state_in g) (map Accepted s.scopes) (p s.start s.begins) s.run)
+                (q s.start s.begins (lines_in s.lines) [] line (map Accepted s.scopes) (state_in g) refl s.run) in
+            rw (← (s.levels p (orderly_before set syntax (lines_in s.lines) line q))) at k) in
+    record {
+      lines = s.lines ++ l ∷ [];
+      scopes = s.scopes ++ acc.bytes ∷ [];
+      start = s.start;
+      begins = s.begins;
+      run = rw (named, map_last Accepted s.scopes acc.bytes) (more dialect set (lines_in s.lines) line s.start (state_in g) (state_in h) (map Accepted s.scopes) (Accepted acc.bytes) s.run (accepts acc.reads));
+      all = ap (λ xs. xs ++ lines_of rest) named ∙ append_assoc (lines_in s.lines) (line ∷ []) (lines_of rest) ∙ ap (λ xs. lines_in s.lines ++ xs) (sym e) ∙ s.all;
+      order = order_last s.lines l s.order (acc.means.order, tt);
+      page = λ ls.
+          let t : text_so_far h ≡ text_so_far g ++ written P repository (marks line 0 (stack_in g) a.ops) = rw (s.has_style, s.has_repository) at a.text in
+          ap (λ xs. xs ++ page_text P repository (stack_in h) ls) t
+          ∙ append_assoc (text_so_far g) (written P repository (marks line 0 (stack_in g) a.ops)) (page_text P repository (stack_in h) ls)
+          ∙ ap (λ k. text_so_far g ++ (written P repository (marks line 0 (stack_in g) a.ops) ++ page_text P repository k ls)) stack_is
+          ∙ s.page (l ∷ ls)
+          ∙ ap (λ xs. page_text P repository (plain []) xs) (sym (append_assoc s.lines (l ∷ []) ls));
+      stands = stack_is ∙ ap (λ k. stack_after k a.ops) s.stands ∙ sym (behind_last (plain []) s.lines l);
+      levels = λ p o. stack_is ∙ sym (replay_stack a.ops (before_text (stack_in g))) ∙ (at_end p o).stack;
+      shown = λ p o.
+          scopes_last (plain []) s.lines l
+          ∙ ap (λ k. page_scopes (plain []) s.lines ++ bytes_to (replay a.ops (before_text k)) (length line)) (sym s.stands)
+          ∙ ap (λ xs. page_scopes (plain []) s.lines ++ xs) (at_end p o).before
+          ∙ ap (λ xs. xs ++ acc.bytes) (s.shown p (orderly_before set syntax (lines_in s.lines) line (rw named at o)))
+          ∙ sym (concat_last s.scopes acc.bytes);
+      has_set = a.goes_on.set ∙ s.has_set;
+      has_repository = a.goes_on.repository ∙ s.has_repository;
+      has_style = a.goes_on.style ∙ s.has_style;
+    }
+
+pub page_whole : (set : SyntaxSet) (syntax : SyntaxReference) (repository : List (List ℕ)) (style : ClassStyle) (text left whole : List ℕ) (g : ClassedHTMLGenerator)
+    → PagesAreSeen → ((t : List ℕ) → concat (lines_of t) ≡ t) → ClassedSoFar set syntax repository style text left g → lines_of left ≡ [] → whole ≡ closed_text g
+    → IsClassedPage set syntax repository (prefix_of style) text whole
+page_whole set syntax repository style text left whole g seen joins s e w =
+    let P : List ℕ = prefix_of style in
+    let v = seen P repository (plain []) [] s.lines s.order in
+    let all : lines_in s.lines ≡ lines_of text = sym (append-nil (lines_in s.lines)) ∙ ap (λ xs. lines_in s.lines ++ xs) (sym e) ∙ s.all in
+    let page : whole ≡ page_text P repository (plain []) s.lines =
+        w ∙ s.page [] ∙ ap (λ xs. page_text P repository (plain []) xs) (append-nil s.lines) in
+    record {
+      start = s.start;
+      after = state_in g;
+      scopes = s.scopes;
+      bytes = v.bytes;
+      begins = s.begins;
+      run = rw all at s.run;
+      seen = rw (← page) at v.read_back;
+      is_text = v.text ∙ texts s.lines ∙ ap concat all ∙ joins text;
+      has_scopes = λ p o. v.scopes ∙ s.shown p (rw (← all) at o);
+    }

@@ -1,0 +1,17 @@
+use Rattle.std.proofs.Common.{rules}
+use Rattle.syntect_callers.proofs.ClassedSoFar.{so_far_none, so_far_more, page_whole}
+use Rattle.syntect_callers.proofs.classed.classed_page_of.Goals as goal
+
+pub loop-line-init : goal.loop-line-init
+loop-line-init c =
+    let g = c.in_ok-generator.ensures in
+    so_far_none c.args.set.now c.args.syntax.now c.args.repository.now c.args.style c.args.text.now _ _ g.state g.text g.stack g.set g.repository g.classes (search rules)
+
+pub loop-line-preserved : goal.loop-line-preserved
+loop-line-preserved c =
+    so_far_more c.args.set.now c.args.syntax.now c.args.repository.now c.args.style c.args.text.now _ _ c.in-Some.line.now _ _ c.answers_more.ensures c.stack_is_open.ensures c.loop-line.invariant
+    c.in_ok-parse_html_for_line_which_includes_newline.ensures.accepted c.in-Some.ensures.steps
+
+pub returns : goal.returns
+returns c =
+    page_whole c.args.set.now c.args.syntax.now c.args.repository.now c.args.style c.args.text.now _ _ _ c.pages_are_seen.ensures c.lines_join.ensures.joined c.loop-line.invariant c.in-None.ensures.steps.0 c.in_ok-finalize.ensures

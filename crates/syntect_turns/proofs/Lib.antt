@@ -1,0 +1,2 @@
+-- What the walks of counts share.
+pub mod Walks
