@@ -6,7 +6,7 @@ use Rattle.syntect_parsing.proofs.Runs.{so_far-start, so_far-more}
 use Rattle.syntect_parsing.proofs.parser.counting.turns_of.Goals as goal
 
 pub loop-e-init : goal.loop-e-init
-loop-e-init c = rw (c.in-Ok-at_start.ensures, c.in-Ok.ensures, c.none.ensures) (so_far-start c.args.set.now c.args.line.now c.args.standing.now 0 c.utf8.line)
+loop-e-init c = rw (c.in-Ok-at_start.ensures, c.in-Ok.ensures, c.none-count.ensures) (so_far-start c.args.set.now c.args.line.now c.args.standing.now 0 c.utf8.line)
 
 pub loop-e-smaller : goal.loop-e-smaller
 loop-e-smaller c =
