@@ -1,6 +1,6 @@
-use Rattle.std.proofs.Common.{◌≡◌, ◌<◌, ◌++◌, ◌∷◌, [], List, ℕ, length, get_or, arith, lit<, ap, ◌∙◌, string_bytes}
+use Rattle.std.proofs.Common.{◌≡◌, ◌<◌, ◌++◌, ◌∷◌, [], List, ℕ, length, arith, lit<, ap, ◌∙◌, string_bytes}
 use Rattle.std.proofs.lemmas.Str.Ascii.{encode_ascii}
-use Rattle.syntect_classed.specs.Classes.{class_text, classes_text}
+use Rattle.syntect_classed.specs.Classes.{class_text}
 use Rattle.syntect_classed.proofs.ClassLaws.{first_class, next_class}
 use Rattle.syntect_classed.proofs.style.push_classes.Goals as goal
 
