@@ -50,12 +50,16 @@ text_of() {
     done
 }
 
-# Puts a built library into a folder: by links, as its files are read alone and all lanes together would copy some 25 GB.
+# Puts a built library into a folder: by links, as its files are only read and all lanes together would copy some 25 GB.
+# What tells that it fits is a file of the folder's own.
 linked() {
-    cp -Rl "$1" "$2/" 2> /dev/null || {
+    if cp -Rl "$1" "$2/" 2> /dev/null; then
+        rm -f "${2:?}/rlib/stamp"
+        cp "$1/stamp" "$2/rlib/"
+    else
         rm -rf "${2:?}/rlib"
         cp -R "$1" "$2/"
-    }
+    fi
 }
 
 # Proves one crate by so many jobs, in a folder of its own with the libraries that it stands on: rt works in a library's

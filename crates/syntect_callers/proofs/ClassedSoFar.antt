@@ -129,11 +129,11 @@ so_far_more set syntax repository style text left rest line g h more opens s a e
     let named : lines_in (s.lines ++ l ∷ []) ≡ lines_in s.lines ++ line ∷ [] = map_last (λ (m : Line). m.0) s.lines l in
     let stack_is : stack_in h ≡ stack_after (stack_in g) a.ops = a.stack in
     let at_end : BeginsPlain set syntax → RunsOrderly set syntax (lines_in (s.lines ++ l ∷ [])) → IsAt (replay a.ops (before_text (stack_in g))) (length line) acc.bytes (stack_before set (state_in h)) =
-        (λ p o.
-            let q : RunsOrderly set syntax (lines_in s.lines ++ line ∷ []) = rw named at o in
-            let k = acc.means.shows (opens dialect set (lines_in s.lines) s.start (state_in g) (map Accepted s.scopes) (p s.start s.begins) s.run)
-                (q s.start s.begins (lines_in s.lines) [] line (map Accepted s.scopes) (state_in g) refl s.run) in
-            rw (← (s.levels p (orderly_before set syntax (lines_in s.lines) line q))) at k) in
+    (λ p o.
+    let q : RunsOrderly set syntax (lines_in s.lines ++ line ∷ []) = rw named at o in
+    let k = acc.means.shows (opens dialect set (lines_in s.lines) s.start (state_in g) (map Accepted s.scopes) (p s.start s.begins) s.run)
+    (q s.start s.begins (lines_in s.lines) [] line (map Accepted s.scopes) (state_in g) refl s.run) in
+    rw (← (s.levels p (orderly_before set syntax (lines_in s.lines) line q))) at k) in
     record {
       lines = s.lines ++ l ∷ [];
       scopes = s.scopes ++ acc.bytes ∷ [];
@@ -170,7 +170,7 @@ page_whole set syntax repository style text left whole g seen joins s e w =
     let v = seen P repository (plain []) [] s.lines s.order in
     let all : lines_in s.lines ≡ lines_of text = sym (append-nil (lines_in s.lines)) ∙ ap (λ xs. lines_in s.lines ++ xs) (sym e) ∙ s.all in
     let page : whole ≡ page_text P repository (plain []) s.lines =
-        w ∙ s.page [] ∙ ap (λ xs. page_text P repository (plain []) xs) (append-nil s.lines) in
+    w ∙ s.page [] ∙ ap (λ xs. page_text P repository (plain []) xs) (append-nil s.lines) in
     record {
       start = s.start;
       after = state_in g;
@@ -178,7 +178,7 @@ page_whole set syntax repository style text left whole g seen joins s e w =
       bytes = v.bytes;
       begins = s.begins;
       run = rw all at s.run;
-      seen = rw (← page) at v.read_back;
+      read_back = rw (← page) at v.read_back;
       is_text = v.text ∙ texts s.lines ∙ ap concat all ∙ joins text;
       has_scopes = λ p o. v.scopes ∙ s.shown p (rw (← all) at o);
     }

@@ -21,6 +21,6 @@ pub record IsClassedPage (set : SyntaxSet) (syntax : SyntaxReference) (repositor
   pub bytes : List (ℕ × List (List ℕ))
   pub begins : start_of syntax ≡ Some start
   pub run : AnswersAll dialect set (lines_of text) start (map Accepted scopes) after
-  pub seen : read (under prefix repository [] []) page ≡ under prefix repository [] (flat_map (shown prefix repository) bytes)
+  pub read_back : read (under prefix repository [] []) page ≡ under prefix repository [] (flat_map (shown prefix repository) bytes)
   pub is_text : map (λ b. b.0) bytes ≡ text
   pub has_scopes : BeginsPlain set syntax → RunsOrderly set syntax (lines_of text) → map (λ b. b.1) bytes ≡ concat scopes

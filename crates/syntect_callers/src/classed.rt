@@ -13,7 +13,9 @@ use syntect_parsing::laws::{answers_more, stack_is_open};
 use syntect_writers::laws::lines_join;
 
 /// The page with classes of a text, in a syntax of the set. Its contract is what a reader of the page sees: the text, and
-/// nothing else outside tags; each byte under the tags of the scopes that it was read with; and every tag closed.
+/// nothing else outside tags, and every span closed; each byte under the tags of the scopes that it was read with, where
+/// the syntax's `__start` is plain and the lines are orderly, as in sets of loaded grammars that clear nothing. It is refused
+/// as the generator is.
 pub fn classed_page_of(
     alloc: Global,
     text: &str,
@@ -29,8 +31,9 @@ pub fn classed_page_of(
     stack_is_open();
     pages_are_seen();
     lines_join();
-    let mut generator =
-        ClassedHTMLGenerator::new_with_class_style(alloc, syntax, set, repository, style)?;
+    let mut generator = ClassedHTMLGenerator::new_with_class_style(
+        alloc, syntax, set, repository, style,
+    )?;
     for line in LinesWithEndings::from(text) {
         generator.parse_html_for_line_which_includes_newline(line)?;
     }

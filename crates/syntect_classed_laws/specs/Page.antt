@@ -1,6 +1,6 @@
 -- What a reader of a page sees, byte by byte: the text outside tags, each byte with the tags that are open around it.
 use Rattle.std.specs.Prelude.{ℕ, ◌-◌, ◌<◌, ◌==◌, Bool, true, false, List, [], ◌∷◌, ◌++◌, length, take, map, codes, Option, Some, None, if◌then◌else◌}
-use Rattle.std.specs.List.{starts_with}
+use Rattle.std.specs.Cmp.Lexicographic.{pointwise}
 use Rattle.syntect_classed.specs.Classes.{classes_text}
 use Rattle.syntect_classed.specs.Marks.{Mark}
 use Rattle.syntect_classed.specs.Marks.Mark.{Begin, End, Words}
@@ -16,9 +16,9 @@ pub record Reader : Type 0 where
   pub seen : List (ℕ × List (List ℕ))
   pub stray : Bool
 
--- the tag without its angle brackets closes one
+-- the tag without its angle brackets closes a span
 abbrev pub is_closing : List ℕ → Bool
-is_closing tag = starts_with ◌==◌ tag (47 ∷ [])
+is_closing tag = pointwise ◌==◌ tag (codes "/span")
 
 -- the last open tag is closed, if one is
 abbrev pub closed : Reader → List (List ℕ) → Reader

@@ -6,7 +6,7 @@ use Rattle.syntect_parsing.specs.Scopes.{Scopes}
 use Rattle.syntect_parsing.specs.Laws.{longest}
 use Rattle.syntect_parsing.specs.Line.{Goes, Ends, Refused, turn, Reads, ends, goes, Refuses, now, later, no_level, in_turn, at_start}
 use Rattle.syntect_parsing.specs.Step.{turns_left}
-use Rattle.syntect_parsing.specs.Bound.{TakesTurns, to_its_end, to_a_refusal, TakesAll, TakesNoMore, most_turns}
+use Rattle.syntect_parsing.specs.Bound.{TakesTurns, to_its_end, to_a_refusal, TakesAll, TakesNoMore, IsTold, most_turns}
 use Rattle.syntect_parsing.proofs.AnswerLaws.{goes_of}
 use Rattle.syntect_grammar.specs.declared.syntax_set.SyntaxSet.{SyntaxSet}
 use Rattle.syntect_parsing.specs.declared.position.Position.{Position}
@@ -44,18 +44,23 @@ last_one set line p b s n e (refuses_on {e = d} (now f)) = let k : Refused d ≡
 last_one set line p b s n e (refuses_on (later {q = q'} {bytes = b'} f r)) = let k : Goes b' q' ≡ Ends b s = sym f ∙ e in cc
 
 -- The turns so far are the first ones of each reading of the line, and as many fewer may still come.
-pub record CountSoFar (set : SyntaxSet) (line : List ℕ) (old : Standing) (p : Position) (before made : ℕ) : Type 0 where
+pub record CountSoFar (set : SyntaxSet) (line : List ℕ) (old : Standing) (p : Position) (before made shown : ℕ) : Type 0 where
   pub turns : ℕ
+  pub told : IsTold turns shown
   pub counted : made ≡ before + turns
   pub left : (n : ℕ) → TakesFrom set line (at_start old) n → (m : ℕ) × (n ≡ turns + m) × TakesFrom set line p m
   pub few : turns + turns_left set line p ≤ turns_left set line (at_start old)
 
-pub count-start : (set : SyntaxSet) (line : List ℕ) (old : Standing) (before : ℕ) → CountSoFar set line old (at_start old) before before
-count-start set line old before = record { turns = 0; counted = omega arith; left = λ n t. (n, omega arith, t); few = omega arith }
+told_more : (turns shown next : ℕ) → IsTold turns shown → IsTold (shown + 1) next → IsTold (turns + 1) next
+told_more turns shown next t m = omega (arith, t, m)
 
-pub count-more : {set : SyntaxSet} {line : List ℕ} {old : Standing} {p q : Position} {before made : ℕ} → CountSoFar set line old p before made
-    → (b : List Scopes) → turn dialect set line p ≡ Goes b q → turns_left set line q < turns_left set line p → (then : ℕ) → then ≡ made + 1 → CountSoFar set line old q before then
-count-more {set} {line} {old} {p} {q} {before} {made} c b e falls then one = record {
+pub count-start : (set : SyntaxSet) (line : List ℕ) (old : Standing) (before : ℕ) → CountSoFar set line old (at_start old) before before 0
+count-start set line old before = record { turns = 0; told = refl; counted = omega arith; left = λ n t. (n, omega arith, t); few = omega arith }
+
+pub count-more : {set : SyntaxSet} {line : List ℕ} {old : Standing} {p q : Position} {before made shown : ℕ} → CountSoFar set line old p before made shown
+    → (b : List Scopes) → turn dialect set line p ≡ Goes b q → turns_left set line q < turns_left set line p → (then : ℕ) → then ≡ made + 1 → (next : ℕ) → IsTold (shown + 1) next → CountSoFar set line old q before then next
+count-more {set} {line} {old} {p} {q} {before} {made} {shown} c b e falls then one next more = record {
+  told = told_more c.turns shown next c.told more;
   turns = c.turns + 1;
   counted = omega (arith, c.counted);
   left = λ n t.
@@ -72,7 +77,7 @@ from_start set line old on n (to_a_refusal (no_level f)) = absurd (on f)
 from_start set line old on n (to_a_refusal (in_turn f r)) = refuses_on r
 
 -- a line that has ended took the turns of its reading
-pub count-end : {set : SyntaxSet} {line : List ℕ} {old : Standing} {p : Position} {before made : ℕ} → CountSoFar set line old p before made → old.levels ≢ []
+pub count-end : {set : SyntaxSet} {line : List ℕ} {old : Standing} {p : Position} {before made shown : ℕ} → CountSoFar set line old p before made shown → old.levels ≢ []
     → (b : List Scopes) (s : Standing) → turn dialect set line p ≡ Ends b s → (then : ℕ) → then ≡ made + 1 → TakesAll dialect set line old before then
 count-end {set} {line} {old} {p} c on b s e then one n t =
     let k = c.left n (from_start set line old on n t) in
@@ -80,7 +85,7 @@ count-end {set} {line} {old} {p} c on b s e then one n t =
     omega (arith, c.counted, k.1)
 
 -- a turn that is refused was one of them
-pub count-refused : {set : SyntaxSet} {line : List ℕ} {old : Standing} {p : Position} {before made : ℕ} → CountSoFar set line old p before made → old.levels ≢ []
+pub count-refused : {set : SyntaxSet} {line : List ℕ} {old : Standing} {p : Position} {before made shown : ℕ} → CountSoFar set line old p before made shown → old.levels ≢ []
     → (then : ℕ) → then ≡ made + 1 → TakesNoMore dialect set line old before then
 count-refused {set} {line} {old} {p} c on then one n t =
     let k = c.left n (from_start set line old on n t) in
@@ -92,9 +97,9 @@ least_room : (r x : ℕ) → (r + 1) * x + 1 ≤ (r + 1) * (x + 1)
 least_room r x = omega arith
 
 -- and there are never too many
-pub count-bound : {set : SyntaxSet} {line : List ℕ} {old : Standing} {p : Position} {before made : ℕ} → CountSoFar set line old p before made
+pub count-bound : {set : SyntaxSet} {line : List ℕ} {old : Standing} {p : Position} {before made shown : ℕ} → CountSoFar set line old p before made shown
     → (then : ℕ) → then ≡ made + 1 → then ≤ before + most_turns set line old
-count-bound {set} {line} {old} {p} {before} {made} c then one =
+count-bound {set} {line} {old} {p} {before} {made} {shown} c then one =
     let r : ℕ = longest (contexts_of set) in
     let l : (r + 1) * (1000 + 1001 * length line) + 1 ≤ (r + 1) * (1000 + 1001 * length line + 1) = least_room r (1000 + 1001 * length line) in
     let m : 1000 + 1001 * length line + 1 ≡ 1001 * (length line + 1) = omega arith in
@@ -102,3 +107,10 @@ count-bound {set} {line} {old} {p} {before} {made} c then one =
     let few : c.turns ≤ length old.levels + (r + 1) * (1000 + 1001 * length line) = let f = rw k at c.few in omega (arith, f) in
     let room : (r + 1) * (1000 + 1001 * length line) + 1 ≤ (r + 1) * (1001 * (length line + 1)) = rw m at l in
     omega (arith, c.counted, few, room)
+
+-- what was shown is their number
+pub count-told : {set : SyntaxSet} {line : List ℕ} {old : Standing} {p : Position} {before made shown : ℕ} → CountSoFar set line old p before made shown
+    → (then : ℕ) → then ≡ made + 1 → (next : ℕ) → IsTold (shown + 1) next → IsTold (then - before) next
+count-told {set} {line} {old} {p} {before} {made} {shown} c then one next more =
+    let n : then - before ≡ c.turns + 1 = omega (arith, c.counted) in
+    rw n (told_more c.turns shown next c.told more)

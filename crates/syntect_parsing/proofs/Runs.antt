@@ -14,6 +14,7 @@ use Rattle.syntect_parsing.proofs.CountLaws.{counts_pushes}
 use Rattle.syntect_parsing.specs.Line.{turn, Reads, ends, goes, Refuses, now, later, Reaches, here, further, in_turn, at_start, stack_before, first_push, HasPlainStart}
 use Rattle.syntect_parsing.specs.Meaning.{Accepts, MayRefuse}
 use Rattle.syntect_parsing.specs.Step.{MakesStep, EndsLine, RefusesTurn, turns_left}
+use Rattle.syntect_parsing.specs.Bound.{IsTold}
 use Rattle.syntect_parsing.proofs.BoundLaws.{CountSoFar, count-start, count-more}
 use Rattle.syntect_parsing.proofs.OrderLaws.{order-append, order-pushes, apply-append}
 use Rattle.syntect_parsing.proofs.ReplayLaws.{replay-append, at_onto}
@@ -25,8 +26,8 @@ use Rattle.syntect_contexts.specs.declared.error.ParsingError.TheVariants as err
 
 -- from the stack before the line these operations show these bytes, up to the position, and leave its open scopes; the turns
 -- made since the number before the line are the first ones of its reading
-pub record ReadSoFar (set : SyntaxSet) (line : List ℕ) (old : Standing) (p : Position) (ops : List (ℕ × ScopeStackOp)) (before made : ℕ) : Type 0 where
-  pub count : CountSoFar set line old p before made
+pub record ReadSoFar (set : SyntaxSet) (line : List ℕ) (old : Standing) (p : Position) (ops : List (ℕ × ScopeStackOp)) (before made told : ℕ) : Type 0 where
+  pub count : CountSoFar set line old p before made told
   pub bytes : List Scopes
   pub few : p.idle ≤ 1000
   pub within : p.place ≤ length line
@@ -48,7 +49,7 @@ first_applies set state stack h =
     let x = counts_pushes n 0 (first_push set state) (before_text stack) 0 z in
     (x.0, omega (arith, x.1, h))
 
-pub so_far-start : (set : SyntaxSet) (line : List ℕ) (state : Standing) (before : ℕ) → IsUtf8 line → ReadSoFar set line state (at_start state) (pushes 0 (first_push set state)) before before
+pub so_far-start : (set : SyntaxSet) (line : List ℕ) (state : Standing) (before : ℕ) → IsUtf8 line → ReadSoFar set line state (at_start state) (pushes 0 (first_push set state)) before before 0
 so_far-start set line state before u = record {
   count = count-start set line state before;
   bytes = [];
@@ -67,11 +68,11 @@ so_far-start set line state before u = record {
   refuses = λ e n h. (n, h);
 }
 
-pub so_far-more : {set : SyntaxSet} {line : List ℕ} {state : Standing} {p q : Position} {old new : List (ℕ × ScopeStackOp)} {before made : ℕ}
-    → ReadSoFar set line state p old before made → MakesStep (IsOrderlyTurn dialect set line p) set line (turn dialect set line p) p q old new
-    → (turns_left set line q < turns_left set line p) × (q.idle ≤ 1000) → (then : ℕ) → then ≡ made + 1 → ReadSoFar set line state q new before then
-so_far-more {set} {line} {state} {p} {q} {old} {new} s t falls then one = record {
-  count = count-more s.count t.bytes t.goes falls.0 then one;
+pub so_far-more : {set : SyntaxSet} {line : List ℕ} {state : Standing} {p q : Position} {old new : List (ℕ × ScopeStackOp)} {before made shown : ℕ}
+    → ReadSoFar set line state p old before made shown → MakesStep (IsOrderlyTurn dialect set line p) set line (turn dialect set line p) p q old new
+    → (turns_left set line q < turns_left set line p) × (q.idle ≤ 1000) → (then : ℕ) → then ≡ made + 1 → (next : ℕ) → IsTold (shown + 1) next → ReadSoFar set line state q new before then next
+so_far-more {set} {line} {state} {p} {q} {old} {new} s t falls then one next more = record {
+  count = count-more s.count t.bytes t.goes falls.0 then one next more;
   bytes = s.bytes ++ t.bytes;
   few = falls.1;
   within = t.within;
@@ -88,8 +89,8 @@ so_far-more {set} {line} {state} {p} {q} {old} {new} s t falls then one = record
   refuses = λ e n h. s.refuses e (n + 1) (later t.goes h);
 }
 
-pub so_far-end : {set : SyntaxSet} {line : List ℕ} {state : Standing} {p q : Position} {old new : List (ℕ × ScopeStackOp)} {before made : ℕ}
-    → ReadSoFar set line state p old before made → EndsLine dialect set line p q old new → state.levels ≢ []
+pub so_far-end : {set : SyntaxSet} {line : List ℕ} {state : Standing} {p q : Position} {old new : List (ℕ × ScopeStackOp)} {before made shown : ℕ}
+    → ReadSoFar set line state p old before made shown → EndsLine dialect set line p q old new → state.levels ≢ []
     → Accepts dialect set line state (record { levels = q.levels; cuts = q.cuts; first_line = false }) new
 so_far-end {set} {line} {state} {p} {q} {old} {new} s t n =
     let r = s.reads t.bytes (record { levels = q.levels; cuts = q.cuts; first_line = false }) 1 (ends t.ends) in
@@ -106,8 +107,8 @@ so_far-end {set} {line} {state} {p} {q} {old} {new} s t n =
       };
     }
 
-pub so_far-refused : {set : SyntaxSet} {line : List ℕ} {state : Standing} {p : Position} {ops : List (ℕ × ScopeStackOp)} {before made : ℕ}
-    → ReadSoFar set line state p ops before made → (e : ParsingError) → RefusesTurn dialect set line p e → state.levels ≢ [] → MayRefuse dialect set line state e
+pub so_far-refused : {set : SyntaxSet} {line : List ℕ} {state : Standing} {p : Position} {ops : List (ℕ × ScopeStackOp)} {before made shown : ℕ}
+    → ReadSoFar set line state p ops before made shown → (e : ParsingError) → RefusesTurn dialect set line p e → state.levels ≢ [] → MayRefuse dialect set line state e
 so_far-refused s error.Memory h n = tt
 so_far-refused s error.MissingMainContext h n = let r = s.refuses error.MissingMainContext 1 (now h) in (r.0, in_turn n r.1)
 so_far-refused s (error.MissingContext id) h n = let r = s.refuses (error.MissingContext id) 1 (now h) in (r.0, in_turn n r.1)

@@ -1,17 +1,8 @@
 //! Laws of reading.
-ghost use Rattle.syntect_parsing.specs.Laws.{NeverBoth, AnswersMore, AnswersJoin, AnswersPart, StackIsOpen, FindsInText, LaysGroupsOut};
-ghost use Rattle.syntect_parsing.specs.Open.{StackHasVisible, OpenIsVisible};
+ghost use Rattle.syntect_parsing.specs.Laws.{NeverBoth, AnswersMore, StackIsOpen, FindsInText, LaysGroupsOut};
 ghost use Rattle.syntect_parsing.specs.Refusals.{RefusesUnresolved, LinksClosed};
 ghost use Rattle.syntect_parsing.specs.Standing.{BytesHaveScopes};
 ghost use Rattle.syntect_parsing.specs.Engine.{dialect};
-ghost use Rattle.syntect_parsing.specs.declared.position.TheConstants.{MOST_LEVELS, MOST_IDLE};
-ghost use Rattle.std.specs.Prelude.{◌≡◌};
-
-/// A push is passed over once a hundred levels are open, and at one place a thousand empty pushes and sets are made at most.
-pub fn limits_of_reading()
-    ensures levels { MOST_LEVELS ≡ 100 }
-    ensures idle { MOST_IDLE ≡ 1000 }
-{}
 
 /// No line is both accepted and refused.
 #[tactic(auto, using(crate::proofs::AnswerLaws::never_both))]
@@ -23,22 +14,6 @@ pub fn never_both()
 #[tactic(auto, using(crate::proofs::AnswerLaws::answers_more))]
 pub fn answers_more()
     ensures { AnswersMore }
-{}
-
-/// The answers to a list of lines are those to its first lines and then those to the others, from the state that these lead
-/// to.
-#[tactic(auto, using(crate::proofs::AnswerLaws::answers_join, crate::proofs::AnswerLaws::answers_part))]
-pub fn answers_join_and_part()
-    ensures join { AnswersJoin }
-    ensures part { AnswersPart }
-{}
-
-/// The stack that the levels make has their visible scopes. Where no context of a set clears, these are the open ones, and the
-/// stack remembers nothing.
-#[tactic(auto, using(crate::proofs::StackLaws::stack_has_visible, crate::proofs::StackLaws::open_is_visible))]
-pub fn stack_has_visible_scopes()
-    ensures visible { StackHasVisible }
-    ensures open { OpenIsVisible }
 {}
 
 /// If what the first accepted line pushes makes the stack that of the levels, it is so before each line.

@@ -1,5 +1,5 @@
 //! Reading a line.
-ghost use Rattle.std.specs.Prelude.{◌≡◌, ◌≢◌, ◌↔◌, ◌+◌, ◌≤◌, [], take, Some, IfOk, IfErr, OnOk, OnErr, IsTrue};
+ghost use Rattle.std.specs.Prelude.{◌≡◌, ◌≢◌, ◌↔◌, ◌+◌, ◌-◌, ◌≤◌, ℕ, [], take, Some, IfOk, IfErr, OnOk, OnErr, IsTrue};
 ghost use Rattle.std.specs.Option.{option_to_list, option_map_or};
 ghost use Rattle.syntect_scope.specs.Replay.{pushes};
 ghost use Rattle.syntect_grammar.specs.Contexts.{part_of};
@@ -8,10 +8,7 @@ ghost use Rattle.syntect_parsing.specs.Engine.{dialect};
 ghost use Rattle.syntect_parsing.specs.Line.{start_id, start_of, at_start, first_push};
 ghost use Rattle.syntect_parsing.specs.Meaning.{MayLackStart, Accepts, MayRefuse};
 ghost use Rattle.syntect_parsing.specs.States.{standing, turns_made};
-ghost use Rattle.syntect_parsing.specs.Bound.{TakesAll, TakesNoMore, most_turns};
-
-#[cfg(test)]
-mod counting;
+ghost use Rattle.syntect_parsing.specs.Bound.{TakesTurns, TakesAll, TakesNoMore, IsTold, most_turns};
 
 use crate::laws::dialect_finds_in_text;
 use crate::position::Position;
@@ -82,6 +79,7 @@ impl ParseState {
     /// The state before the first line of a syntax. `MissingMainContext` where it has no context `__start`.
     pub fn new(alloc: Global, syntax: &SyntaxReference) -> Result<ParseState, ParsingError>
         ensures found { IfOk result (λ state. start_of syntax.now ≡ Some (standing state)) }
+        ensures none_made { IfOk result (λ state. turns_made state ≡ 0) }
         ensures refused { IfErr result (MayLackStart syntax.now) }
     {
         let Some(context) = start_id(syntax) else {
@@ -110,8 +108,7 @@ impl ParseState {
     /// what it names, the open context or a prototype that is to be looked at, and `Memory`.
     ///
     /// The state counts the turns: an accepted line takes exactly those of its reading, a refused one no more, and neither
-    /// more than one for each open level and 1001 for each of its bytes and its end, times one more than the longest list of
-    /// contexts that a match of the set opens.
+    /// more than `levels + (r + 1) * 1001 * (bytes + 1)`, with `r` the longest list of contexts that a match of the set opens.
     pub fn parse_line(
         &mut self,
         alloc: Global,
@@ -134,12 +131,35 @@ impl ParseState {
             return Err(ParsingError::MissingMainContext);
         }
         let ParseState { standing, count } = self;
-        let (left, ops) = match read_line(alloc, syntax_set, line, standing, count) {
+        let (left, ops, _) = match read_line(alloc, syntax_set, line, standing, count) {
             Ok(read) => read,
             Err(e) => return Err(e),
         };
         *standing = left;
         Ok(ops)
+    }
+}
+
+/// How many turns a line takes from a state, which stays as it is: the greatest number of a `u64` where it is more. No call of
+/// the crate: it is for those who look into what grammars cost. It is refused as `ParseState::parse_line` is.
+pub fn turns_of_line(
+    alloc: Global,
+    state: &ParseState,
+    line: &str,
+    syntax_set: &SyntaxSet,
+) -> Result<u64, ParsingError>
+    ensures number { IfOk result (λ n. (turns : ℕ) → TakesTurns dialect syntax_set.now line.now
+        (standing state.now) turns → IsTold turns n) }
+    ensures refused { IfErr result (
+        MayRefuse dialect syntax_set.now line.now (standing state.now)) }
+{
+    if state.standing.levels.is_empty() {
+        return Err(ParsingError::MissingMainContext);
+    }
+    let mut count = TurnCount::none();
+    match read_line(alloc, syntax_set, line, &state.standing, &mut count) {
+        Ok((_, _, turns)) => Ok(turns),
+        Err(e) => Err(e),
     }
 }
 
@@ -187,14 +207,14 @@ fn at_start(state: &Standing) -> Result<Position, AllocError>
     })
 }
 
-/// The state after a line that begins on some level, and its operations.
+/// The state after a line that begins on some level, its operations, and how many turns it took, as far as that can be told.
 fn read_line(
     alloc: Global,
     set: &SyntaxSet,
     line: &str,
     state: &Standing,
     count: &mut TurnCount,
-) -> Result<(Standing, Vec<(usize, ScopeStackOp)>), ParsingError>
+) -> Result<(Standing, Vec<(usize, ScopeStackOp)>, u64), ParsingError>
     requires { state.now.levels ≢ [] }
     ensures accepted { IfOk result (λ r. Accepts dialect set.now line.now state.now r.0 r.1.items) }
     ensures refused { IfErr result (MayRefuse dialect set.now line.now state.now) }
@@ -203,6 +223,7 @@ fn read_line(
     ensures no_more { OnErr result
         (TakesNoMore dialect set.now line.now state.now count.old.made count.new.made) }
     ensures bound { count.new.made ≤ count.old.made + most_turns set.now line.now state.now }
+    ensures told { IfOk result (λ r. IsTold (count.new.made - count.old.made) r.2) }
 {
     dialect_finds_in_text();
     let mut regions = Regions::new(alloc);
@@ -214,7 +235,9 @@ fn read_line(
         Ok(p) => p,
         Err(_) => return Err(ParsingError::Memory),
     };
+    let mut turns = 0u64;
     loop {
+        turns = turns.saturating_add(1);
         match turn(alloc, set, line, &mut p, &mut regions, &mut ops, count) {
             Err(e) => return Err(e),
             Ok(true) => {}
@@ -233,7 +256,7 @@ fn read_line(
         cuts,
         first_line: false,
     };
-    Ok((left, ops))
+    Ok((left, ops, turns))
 }
 
 /// The same standing once more.

@@ -2,6 +2,10 @@
 //! small grammars, computed by their definitions.
 #![tactic(auto)]
 
+ghost use Rattle.std.specs.Prelude.{◌≡◌};
+ghost use Rattle.syntect_parsing.specs.declared.position.TheConstants.{MOST_LEVELS, MOST_IDLE};
+ghost use Rattle.syntect_parsing.specs.Laws.{AnswersJoin, AnswersPart};
+ghost use Rattle.syntect_parsing.specs.Open.{StackHasVisible, OpenIsVisible};
 ghost use Rattle.syntect_reading_laws.specs.Laws.{ReadsOnce, RefusesOnce, AnswersOnce, CoversLine, EachLineEnds, PlacesAreBoundaries};
 
 /// A line that is accepted has one reading.
@@ -37,4 +41,26 @@ pub fn each_line_ends()
 #[tactic(auto, using(crate::proofs::Boundaries::places_are_boundaries))]
 pub fn places_are_boundaries()
     ensures { PlacesAreBoundaries }
+{}
+
+/// The answers to a list of lines are those to its first lines and then those to the others, from the state that these lead
+/// to.
+#[tactic(auto, using(syntect_parsing::proofs::AnswerLaws::answers_join, syntect_parsing::proofs::AnswerLaws::answers_part))]
+pub fn answers_join_and_part()
+    ensures join { AnswersJoin }
+    ensures part { AnswersPart }
+{}
+
+/// The stack that the levels make has their visible scopes. Where no context of a set clears, these are the open ones, and the
+/// stack remembers nothing.
+#[tactic(auto, using(syntect_parsing::proofs::StackLaws::stack_has_visible, syntect_parsing::proofs::StackLaws::open_is_visible))]
+pub fn stack_has_visible_scopes()
+    ensures visible { StackHasVisible }
+    ensures open { OpenIsVisible }
+{}
+
+/// A push is passed over once a hundred levels are open, and at one place a thousand empty pushes and sets are made at most.
+pub fn limits_of_reading()
+    ensures levels { MOST_LEVELS ≡ 100 }
+    ensures idle { MOST_IDLE ≡ 1000 }
 {}

@@ -1,13 +1,19 @@
 //! The proved callers, each once.
 use std::test::Fail;
 use syntect::highlighting::{Color, Theme, ThemeSet};
+use syntect::html::ClassStyle;
 use syntect::parsing::{ScopeRepository, SyntaxDefinition, SyntaxSetBuilder};
+use syntect_callers::classed::classed_page_of;
 use syntect_callers::third::third_line;
 use syntect_callers::whole::{page_of, third_line_of};
 
 /// A string that begins with a word behind `<<`, and ends at the line of that word.
 const HEREDOC: &str =
     "name: T\nscope: source.t\ncontexts:\n  main: [{match: '<<(\\w+)', push: doc}]\n  doc:\n    - meta_scope: string.doc\n    - {match: '^\\1$', pop: true}\n";
+
+/// A context that is left at once.
+const LEFT: &str =
+    "name: T\nscope: source.t\ncontexts:\n  main: [{match: (?=.), push: test}]\n  test:\n    - {match: \\w+, scope: word}\n    - {match: (?=.), pop: true}\n";
 
 /// One rule.
 const THEME: &str =
@@ -56,5 +62,21 @@ fn pages_and_third_lines(rt: HostRuntime) -> Result<(), Fail> {
             .first()
             .is_some_and(|p| p.0.foreground == THREE && p.1 == "E")
     );
+    Ok(())
+}
+
+#[test]
+fn pages_with_classes(rt: HostRuntime) -> Result<(), Fail> {
+    let alloc = rt.alloc();
+    let mut repository = ScopeRepository::new(alloc);
+    let definition = SyntaxDefinition::load_from_str(alloc, LEFT, false, None, &mut repository)?;
+    let mut builder = SyntaxSetBuilder::new(alloc);
+    builder.add(definition)?;
+    let set = builder.build(alloc, &mut repository)?;
+    let syntax = set.find_syntax_by_name("T").ok_or("no syntax")?;
+    let style = ClassStyle::Spaced;
+    let page = classed_page_of(alloc, " hello", &set, syntax, &repository, style)?;
+    let wanted = "<span class=\"source t\"> <span class=\"word\">hello</span></span>";
+    assert_eq!(rt; page.as_str(), wanted);
     Ok(())
 }

@@ -11,3 +11,5 @@ mod classed;
 mod pages;
 #[cfg(test)]
 mod states;
+#[cfg(test)]
+mod turns;

@@ -2,7 +2,6 @@
 //! folders, to compare it with what other programs make of them.
 use crate::finding::write_unlinked;
 use crate::given::Given;
-use crate::orderly::write_orderly;
 use crate::runs::write_scopes;
 use std::alloc::Global;
 use std::path::Path;
@@ -11,6 +10,7 @@ use std::rt::Files;
 use std::{fs, io};
 use syntect_parsing::syntax_set::{SyntaxReference, SyntaxSet, SyntaxSetBuilder};
 use syntect_scope::repository::ScopeRepository;
+use syntect_shown::orderly::write_orderly;
 use syntect_theme::theme::Theme;
 
 /// The folder of the ten grammars.

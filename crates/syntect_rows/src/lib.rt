@@ -9,7 +9,6 @@ mod folders;
 mod given;
 mod made;
 mod operations;
-mod orderly;
 mod readers;
 pub mod run;
 mod runs;

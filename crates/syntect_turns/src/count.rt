@@ -8,7 +8,7 @@ use std::alloc::AllocError;
 use std::marker::{Model, PhantomData};
 
 /// How many turns were made so far: a whole number without limit, which contracts alone see. It takes no bytes, nothing
-/// is done for it at run time, and outside this module only `tick` changes it.
+/// is done for it at run time, and only `tick` adds to it.
 #[derive(Drop)]
 pub struct TurnCount {
     marker: PhantomData<()>,

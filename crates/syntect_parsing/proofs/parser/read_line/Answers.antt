@@ -1,8 +1,8 @@
-use Rattle.std.proofs.Common.{false}
+use Rattle.std.proofs.Common.{false, rules}
 use Rattle.syntect_parsing.specs.Engine.{dialect}
 use Rattle.syntect_parsing.proofs.Finds.{finds_in_order}
 use Rattle.syntect_parsing.proofs.Falls.{goes_falls}
-use Rattle.syntect_parsing.proofs.BoundLaws.{count-end, count-refused, count-bound}
+use Rattle.syntect_parsing.proofs.BoundLaws.{count-end, count-refused, count-bound, count-told}
 use Rattle.syntect_parsing.proofs.Runs.{so_far-start, so_far-more, so_far-end, so_far-refused}
 use Rattle.syntect_parsing.proofs.parser.read_line.Goals as goal
 
@@ -23,7 +23,7 @@ loop-e-preserved c =
     let t = rw c.in-Ok-true.field-0-test at c.in-Ok-true.ensures.turns in
     so_far-more c.loop-e.invariant t
     (goes_falls dialect c.args.line.now (finds_in_order dialect c.dialect_finds_in_text.ensures c.args.line.now c.utf8.line) c.args.set.now c.loop-e.p c.turn.new.p t.bytes
-    c.loop-e.invariant.within c.loop-e.invariant.few t.goes) c.turn.new.count.made c.turn.ensures.counted
+    c.loop-e.invariant.within c.loop-e.invariant.few t.goes) c.turn.new.count.made c.turn.ensures.counted _ (search rules)
 
 pub returns-clause-accepted : goal.returns-clause-accepted
 returns-clause-accepted c = so_far-end c.loop-e.invariant (rw c.in-Ok-false.field-0-test at c.in-Ok-false.ensures.turns) c.requires
@@ -41,3 +41,6 @@ returns-in-Err-turn-clause-no_more c = count-refused c.loop-e.invariant.count c.
 
 pub returns-in-Err-turn-clause-bound : goal.returns-in-Err-turn-clause-bound
 returns-in-Err-turn-clause-bound c = count-bound c.loop-e.invariant.count c.turn.new.count.made c.turn.ensures.counted
+
+pub returns-clause-told : goal.returns-clause-told
+returns-clause-told c = count-told c.loop-e.invariant.count c.turn.new.count.made c.turn.ensures.counted _ (search rules)

@@ -1,9 +1,0 @@
-use Rattle.syntect_parsing.specs.Step.{turns_left}
-use Rattle.syntect_parsing.proofs.Runs.{ReadSoFar}
-use Rattle.syntect_parsing.proofs.parser.counting.turns_of.Given as goal
-
-abbrev pub invariant-loop-e : goal.invariant-loop-e
-invariant-loop-e l = ReadSoFar l.set l.line l.standing l.p l.ops.items 0 l.count.made
-
-abbrev pub decreases-loop-e : goal.decreases-loop-e
-decreases-loop-e l = turns_left l.set l.line l.p
