@@ -14,7 +14,7 @@ use std::cmp::Ordering;
 use std::hash::{Hash, Hasher};
 use std::marker::Model;
 
-/// How many bits the length of a scope takes: a scope has at most `2^3` atoms.
+/// Two to this power, `2^3`, is the greatest number of atoms that a scope has.
 pub const ATOM_LEN_BITS: u16 = 3;
 
 /// How many bits an atom number takes.
@@ -52,7 +52,7 @@ impl Model for Scope {
 }
 
 /// How many atoms stand in a word.
-fn used(word: u64) -> u32
+fn atoms_in_word(word: u64) -> u32
     requires { IsPacked (places 4 word) }
     ensures { result ≡ length (atoms_in (places 4 word)) }
 {
@@ -69,7 +69,7 @@ fn place(word: u64, index: usize) -> u16
 }
 
 /// A word with an atom in its first unused place.
-fn with_atom(word: u64, atom: u16) -> u64
+fn put_atom(word: u64, atom: u16) -> u64
     requires packed { IsPacked (places 4 word) }
     requires room { length (atoms_in (places 4 word)) < 4 }
     ensures { places 4 result
@@ -104,7 +104,7 @@ impl Scope {
         ensures atoms { result ≡ length self }
         ensures within { result ≤ 8 }
     {
-        used(self.high) + used(self.low)
+        atoms_in_word(self.high) + atoms_in_word(self.low)
     }
 
     /// Whether it has no atoms.
@@ -132,10 +132,10 @@ impl Scope {
         requires used { 0 < atom }
         ensures { self.new ≡ self.old ++ atom ∷ [] }
     {
-        if used(self.high) < WORD_ATOMS {
-            self.high = with_atom(self.high, atom);
+        if atoms_in_word(self.high) < WORD_ATOMS {
+            self.high = put_atom(self.high, atom);
         } else {
-            self.low = with_atom(self.low, atom);
+            self.low = put_atom(self.low, atom);
         }
     }
 

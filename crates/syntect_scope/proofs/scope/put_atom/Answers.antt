@@ -3,7 +3,7 @@ use Rattle.std.specs.Int.Count.{count_trailing_zeros}
 use Rattle.std.specs.Prelude.{bit_or}
 use Rattle.syntect_scope.specs.Packing.{places}
 use Rattle.syntect_scope.proofs.PackingLaws.{unused_places, atom_put}
-use Rattle.syntect_scope.proofs.scope.with_atom.Goals as goal
+use Rattle.syntect_scope.proofs.scope.put_atom.Goals as goal
 
 pub overflow_sub-result : goal.overflow_sub-result
 overflow_sub-result c = omega (arith, unused_places c.args.word c.ranges.word.fits c.requires.packed, c.requires.room)

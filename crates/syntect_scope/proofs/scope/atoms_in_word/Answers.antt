@@ -3,7 +3,7 @@ use Rattle.syntect_scope.specs.Atoms.{atoms_in}
 use Rattle.syntect_scope.specs.Packing.{places}
 use Rattle.syntect_scope.proofs.AtomLaws.{atoms_within}
 use Rattle.syntect_scope.proofs.PackingLaws.{unused_places}
-use Rattle.syntect_scope.proofs.scope.used.Goals as goal
+use Rattle.syntect_scope.proofs.scope.atoms_in_word.Goals as goal
 
 pub returns : goal.returns
 returns c =
