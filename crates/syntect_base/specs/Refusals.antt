@@ -3,6 +3,8 @@ use Rattle.std.specs.Prelude.{◌≡◌, ◌≢◌}
 use Rattle.std.specs.IoError.{error_kind}
 use Rattle.std.specs.declared.io.Error.{Error}
 use Rattle.std.specs.declared.io.ErrorKind.TheVariants.{OutOfMemory}
+use Rattle.serde_json.specs.Errors.{IsMemory}
+use Rattle.serde_json.specs.declared.error.Error.{Error as JsonError}
 use Rattle.syntect_scope.specs.declared.repository.ParseScopeError.{ParseScopeError}
 use Rattle.syntect_scope.specs.declared.repository.ParseScopeError.TheVariants as scope
 use Rattle.syntect_base.specs.declared.theme.ParseThemeError.{ParseThemeError}
@@ -10,7 +12,7 @@ use Rattle.syntect_base.specs.declared.theme.ParseThemeError.TheVariants as them
 use Rattle.syntect_base.specs.declared.loading.SettingsError.{SettingsError}
 use Rattle.syntect_base.specs.declared.loading.SettingsError.TheVariants as settings
 use Rattle.syntect_base.specs.declared.loading.LoadingError.{LoadingError}
-use Rattle.syntect_base.specs.declared.loading.LoadingError.TheVariants.{Io, ParseTheme, ReadSettings, Memory}
+use Rattle.syntect_base.specs.declared.loading.LoadingError.TheVariants.{Io, ParseMetadata, ParseTheme, ReadSettings, Memory}
 
 -- a fault of reading, as a refusal to load
 pub record IsReadFault (e : Error) (refusal : LoadingError) : Type 0 where
@@ -44,3 +46,8 @@ from_theme (theme.ScopeParse e) = ParseTheme (theme.ScopeParse e)
 abbrev pub from_settings : SettingsError → LoadingError
 from_settings settings.Memory = Memory
 from_settings settings.Json = ReadSettings settings.Json
+
+-- a fault of JSON, as a refusal to load metadata
+pub record IsMetadataFault (e : JsonError) (refusal : LoadingError) : Type 0 where
+  pub memory : IsMemory e → refusal ≡ Memory
+  pub fault : ¬ (IsMemory e) → refusal ≡ ParseMetadata

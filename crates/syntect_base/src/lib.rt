@@ -1,7 +1,8 @@
-//! What the loaders stand on: their errors, and the files of a folder.
+//! What the loaders stand on: their errors, the files of a folder, and the values of JSON that files hold.
 #![tactic(auto)]
 
 pub mod loading;
+pub mod settings;
 pub mod syntax;
 pub mod theme;
 pub mod utils;

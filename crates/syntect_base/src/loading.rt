@@ -134,3 +134,18 @@ impl From<SettingsError> for LoadingError {
         }
     }
 }
+
+/// A value that isn't read as metadata. Want of memory is passed on as such.
+impl From<serde_json::Error> for LoadingError {
+    ghost use Rattle.syntect_base.specs.Refusals.{IsMetadataFault};
+
+    ghost from_gives = { λ e r. IsMetadataFault e r };
+
+    fn from(e: serde_json::Error) -> LoadingError {
+        if e.is_memory() {
+            LoadingError::Memory
+        } else {
+            LoadingError::ParseMetadata
+        }
+    }
+}

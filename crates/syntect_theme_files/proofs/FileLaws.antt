@@ -8,6 +8,7 @@ use Rattle.std.specs.Prelude.{IfSome, IfErr, Result, Ok, is_some, slice_get, tru
 use Rattle.std.proofs.lemmas.List.{take_all, take-append-le, take-append-drop, length-take}
 use Rattle.std.specs.declared.io.Error.{Error}
 use Rattle.serde_json.specs.Data.{Data}
+use Rattle.syntect_base.specs.Settings.{IsSettings}
 use Rattle.syntect_base.specs.Walks.{IsWalk}
 use Rattle.syntect_base.specs.Refusals.{IsReadFault, from_theme, from_settings}
 use Rattle.syntect_base.specs.declared.theme.ParseThemeError.{ParseThemeError}
@@ -18,7 +19,7 @@ use Rattle.syntect_base.specs.declared.loading.LoadingError.{LoadingError}
 use Rattle.syntect_base.specs.declared.loading.LoadingError.TheVariants as loading
 use Rattle.syntect_theme_files.specs.Loading.{head_at}
 use Rattle.syntect_theme.specs.Refusals.{Refuses}
-use Rattle.syntect_theme_files.specs.ThemeFiles.{IsSettings, IsThemeOf, RefusesTheme, IsThemeFault, theme_name, AddsThemes, StopsAtTheme, RefusesThemes, no_settings, no_theme, not_read, no_memory, no_more, other, theme, stopped}
+use Rattle.syntect_theme_files.specs.ThemeFiles.{IsThemeOf, RefusesTheme, IsThemeFault, theme_name, AddsThemes, StopsAtTheme, RefusesThemes, no_settings, no_theme, not_read, no_memory, no_more, other, theme, stopped}
 use Rattle.syntect_theme.specs.declared.theme.Theme.{Theme}
 
 pub not_settings : (bytes : List ℕ) (e : SettingsError) → (e ≢ settings.Memory → (d : Data) → ¬ (IsSettings bytes d)) → RefusesTheme bytes (from_settings e)

@@ -1,5 +1,5 @@
 -- Themes from bytes and from files.
-use Rattle.std.specs.Prelude.{◌≡◌, ℕ, List, [], ◌∷◌, codes, if◌then◌else◌, true, false, IsUtf8, Option, Some, None, option_and_then, is_some, slice_get, take, Err}
+use Rattle.std.specs.Prelude.{◌≡◌, ℕ, List, [], ◌∷◌, codes, if◌then◌else◌, true, Option, Some, None, option_and_then, is_some, slice_get, take, Err}
 use Rattle.std.specs.Path.{path_extension, path_file_stem}
 use Rattle.std.specs.BTreeMap.{insert_entry}
 use Rattle.std.specs.Cmp.Lexicographic.{slice_cmp}
@@ -7,8 +7,7 @@ use Rattle.std.specs.Ordering.{nat_cmp}
 use Rattle.std.specs.Str.{str_eq_ignore_ascii_case}
 use Rattle.std.specs.declared.io.Error.{Error}
 use Rattle.serde_json.specs.Data.{Data}
-use Rattle.serde_json.specs.Read.{read}
-use Rattle.serde_json.specs.Written.{has_float}
+use Rattle.syntect_base.specs.Settings.{IsSettings}
 use Rattle.syntect_base.specs.Walks.{IsWalk, IsWalkFault}
 use Rattle.syntect_base.specs.declared.loading.LoadingError.{LoadingError}
 use Rattle.syntect_base.specs.declared.loading.LoadingError.TheVariants.{Io, ParseTheme, ReadSettings, Memory}
@@ -18,12 +17,6 @@ use Rattle.syntect_theme_files.specs.Loading.{IsTheme, head_at}
 use Rattle.syntect_theme.specs.declared.theme.Theme.{Theme}
 
 -- ---- bytes ----
-
--- the value that bytes are as JSON, in which no number is a float
-pub record IsSettings (bytes : List ℕ) (d : Data) : Type 0 where
-  pub text : IsUtf8 bytes
-  pub value : read bytes ≡ Some d
-  pub whole : has_float d ≡ false
 
 -- a theme of bytes, read with a repository that becomes another one
 pub record IsThemeOf (old : List (List ℕ)) (bytes : List ℕ) (new : List (List ℕ)) (theme : Theme) : Type 0 where

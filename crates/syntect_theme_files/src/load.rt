@@ -2,59 +2,22 @@
 ghost use Rattle.std.specs.Prelude.{◌≡◌, length, take, IfOk, OnOk, IfErr, Ok, option_map, option_and_then};
 ghost use Rattle.std.specs.Option.{ok_or};
 ghost use Rattle.serde_json.specs.Find.{as_str};
-ghost use Rattle.serde_json.specs.View.{view, items_view, members_view};
-ghost use Rattle.serde_json.specs.Written.{has_float, items_have_float, members_have_float};
+ghost use Rattle.serde_json.specs.View.{view};
 ghost use Rattle.syntect_base.specs.declared.theme.ParseThemeError.{ParseThemeError};
 ghost use Rattle.syntect_scope.specs.Repository.{with_scopes, IsRepository};
 ghost use Rattle.syntect_scope.specs.SelectorText.{union_words};
 ghost use Rattle.syntect_theme_files.specs.Loading as loading;
 ghost use Rattle.syntect_theme.specs.Refusals.{Refuses};
 
-use serde_json::{Map, Value};
+use serde_json::Value;
 use std::alloc::{AllocError, Global};
+use syntect_base::settings::holds_float;
 use syntect_base::theme::ParseThemeError;
 use syntect_scope::repository::{ParseScopeError, ScopeRepository};
 use syntect_scope::selector::ScopeSelectors;
 use syntect_theme::style::{Color, FontStyle, StyleModifier};
 use syntect_theme::theme::{ThemeItem, UnderlineOption};
 use syntect_values::text::Text;
-
-/// Whether a number in the value is a float.
-#[cycle(holds)]
-pub(crate) fn holds_float(value: &Value) -> bool
-    ensures { result ≡ has_float (view value.now) }
-{
-    match value {
-        Value::Null | Value::Bool(_) | Value::String(_) => false,
-        Value::Number(number) => number.is_f64(),
-        Value::Array(items) => items_hold_float(items),
-        Value::Object(members) => members_hold_float(members),
-    }
-}
-
-#[cycle(holds)]
-fn items_hold_float(items: &Vec<Value>) -> bool
-    ensures { result ≡ items_have_float (items_view items.now.items) }
-{
-    for item in items {
-        if holds_float(item) {
-            return true;
-        }
-    }
-    false
-}
-
-#[cycle(holds)]
-fn members_hold_float(members: &Map<String, Value>) -> bool
-    ensures { result ≡ members_have_float (members_view members.now.entries) }
-{
-    for (_key, member) in members.iter() {
-        if holds_float(member) {
-            return true;
-        }
-    }
-    false
-}
 
 /// How a refusal shows a value.
 fn shown(alloc: Global, value: &Value) -> Result<Text, AllocError>

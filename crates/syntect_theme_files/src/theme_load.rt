@@ -7,7 +7,6 @@ ghost use Rattle.syntect_theme_files.specs.Loading as loading;
 ghost use Rattle.syntect_theme.specs.Refusals.{Refuses};
 
 use crate::{load, load_theme};
-use serde_json::Value;
 use std::alloc::Global;
 use syntect_base::theme::ParseThemeError;
 use syntect_scope::repository::ScopeRepository;
@@ -15,8 +14,7 @@ use syntect_scope::selector::ScopeSelectors;
 use syntect_theme::style::{Color, FontStyle, StyleModifier};
 use syntect_theme::theme::{Theme, ThemeItem, ThemeSettings, UnderlineOption};
 
-/// A value of JSON.
-pub type Settings = Value;
+pub use syntect_base::settings::Settings;
 
 /// What can be read from a value.
 pub trait ParseSettings: Sized {

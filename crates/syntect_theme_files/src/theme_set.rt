@@ -1,25 +1,21 @@
 //! Sets of themes, and themes from readers, files and folders.
-ghost use Rattle.std.specs.Prelude.{◌≡◌, ◌≢◌, ℕ, List, [], ◌∷◌, true, length, take, map, is_some, IfSome, IfOk, OnOk, IfErr, OnErr};
+ghost use Rattle.std.specs.Prelude.{◌≡◌, ℕ, List, [], ◌∷◌, true, length, take, map, is_some, IfSome, IfOk, OnOk, IfErr, OnErr};
 ghost use Rattle.std.specs.Option.{option_copied};
 ghost use Rattle.std.specs.List.{filter};
 ghost use Rattle.std.specs.Path.{path_bytes, path_buf_bytes};
-ghost use Rattle.serde_json.specs.Data.{Data};
-ghost use Rattle.serde_json.specs.View.{view};
 ghost use Rattle.syntect_base.specs.Walks.{IsWalk, IsWalkFault};
-ghost use Rattle.syntect_base.specs.declared.loading.SettingsError.TheVariants.{Memory};
 ghost use Rattle.syntect_scope.specs.Repository.{IsRepository};
 ghost use Rattle.syntect_theme.specs.declared.theme.Theme.{Theme as ATheme};
-ghost use Rattle.syntect_theme_files.specs.ThemeFiles.{IsSettings, IsThemeOf, RefusesTheme, IsThemeFault, theme_name, AddsThemes, StopsAtTheme, RefusesThemes};
+ghost use Rattle.syntect_theme_files.specs.ThemeFiles.{IsThemeOf, RefusesTheme, IsThemeFault, theme_name, AddsThemes, StopsAtTheme, RefusesThemes};
 
-use crate::load::holds_float;
-use crate::theme_load::{ParseSettings, Settings};
-use serde_json::Value;
+use crate::theme_load::ParseSettings;
 use std::alloc::Global;
 use std::fs;
 use std::io::{BufRead, BufReader, Read};
 use std::path::{Path, PathBuf};
 use std::rt::Files;
-use syntect_base::loading::{LoadingError, SettingsError};
+use syntect_base::loading::LoadingError;
+use syntect_base::settings::settings_of;
 use syntect_base::utils::files_below;
 use syntect_scope::repository::ScopeRepository;
 use syntect_theme::theme::Theme;
@@ -31,27 +27,6 @@ use syntect_values::text::Text;
 pub struct ThemeSet {
     /// The themes, each under its name.
     pub themes: Table<Text, Theme>,
-}
-
-/// The value that bytes are as JSON, in which no number is a float.
-fn settings_of(alloc: Global, bytes: &[u8]) -> Result<Settings, SettingsError>
-    ensures ok { IfOk result (λ settings. IsSettings bytes.now (view settings)) }
-    ensures err { IfErr result (λ e. e ≢ Memory → (d : Data) → ¬ (IsSettings bytes.now d)) }
-{
-    match Value::from_slice(alloc, bytes) {
-        Ok(value) => {
-            if holds_float(&value) {
-                Err(SettingsError::Json)
-            } else {
-                Ok(value)
-            }
-        }
-        Err(e) => Err(if e.is_memory() {
-            SettingsError::Memory
-        } else {
-            SettingsError::Json
-        }),
-    }
 }
 
 /// The theme of bytes.

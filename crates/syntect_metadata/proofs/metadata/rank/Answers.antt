@@ -1,0 +1,6 @@
+use Rattle.std.proofs.Common.{rules}
+use Rattle.syntect_metadata.proofs.RankLaws.{by_score}
+use Rattle.syntect_metadata.proofs.metadata.rank.Goals as goal
+
+pub returns : goal.returns
+returns c = by_score _ _ c.in_ok-sort_by.ensures.permutation c.in_ok-sort_by.ensures.sorted c.in_ok-sort_by.ensures.stable (λ a r q k. search rules)

@@ -1,0 +1,109 @@
+-- What a value says as the settings of a scope.
+use Rattle.std.specs.Prelude.{ℕ, List, [], ◌∷◌, codes, Bool, if◌then◌else◌, Option, Some, None, option_and_then, is_some, Result, Ok, Err}
+use Rattle.std.specs.Option.{option_map, ok_or}
+use Rattle.std.specs.List.{list_any}
+use Rattle.serde_json.specs.Data.{Data, Members, no_members, member}
+use Rattle.serde_json.specs.Find.{get, as_null, as_bool, as_str, as_object}
+use Rattle.syntect_metadata.specs.declared.error.MetadataError.{MetadataError}
+use Rattle.syntect_metadata.specs.declared.error.MetadataError.TheVariants.{BadItems}
+use Rattle.syntect_metadata.specs.declared.items.MetadataItems.{MetadataItems}
+
+-- ---- keys ----
+
+-- the keys of patterns
+abbrev pub pattern_keys : List (List ℕ)
+pattern_keys = codes "increaseIndentPattern" ∷ codes "decreaseIndentPattern" ∷ codes "bracketIndentNextLinePattern"
+    ∷ codes "disableIndentNextLinePattern" ∷ codes "unIndentedLinePattern" ∷ []
+
+-- the key of the variables
+abbrev pub variables_key : List ℕ
+variables_key = codes "shellVariables"
+
+-- the key of a truth value
+abbrev pub parens_key : List ℕ
+parens_key = codes "indentParens"
+
+-- one of the seven keys is there, whatever its value
+abbrev pub has_known_key : Data → Bool
+has_known_key d = list_any (λ key. is_some (get key d)) (variables_key ∷ parens_key ∷ pattern_keys)
+
+-- ---- values ----
+
+-- the next answer, from the value of the first one; its refusal stays
+abbrev pub next : {X Y : Type 0} → Result X MetadataError → (X → Result Y MetadataError) → Result Y MetadataError
+next (Ok x) f = f x
+next (Err e) f = Err e
+
+-- what a value that may be missing or null says: nothing then
+abbrev pub optional : {X : Type 0} → (Data → Option X) → Option Data → Result (Option X) MetadataError
+optional read None = Ok None
+optional read (Some d) = if is_some (as_null d) then Ok None else ok_or (option_map Some (read d)) BadItems
+
+-- the pattern of a key, by its text
+abbrev pub pattern_at : List ℕ → Data → Result (Option (List ℕ)) MetadataError
+pattern_at key d = optional as_str (get key d)
+
+-- the members of an object whose values are texts
+abbrev pub texts_in : Members → Option (List (List ℕ × List ℕ))
+texts_in no_members = Some []
+texts_in (member name d ms) = option_and_then (λ text. option_map (λ others. (name, text) ∷ others) (texts_in ms)) (as_str d)
+
+-- the variables: none where the key is missing, else those of an object of texts
+abbrev pub variables_at : Option Data → Result (List (List ℕ × List ℕ)) MetadataError
+variables_at None = Ok []
+variables_at (Some d) = ok_or (option_and_then texts_in (as_object d)) BadItems
+
+-- ---- comments ----
+
+-- the text of a variable
+abbrev pub variable : List ℕ → Option Data → Option (List ℕ)
+variable name vars = option_and_then as_str (option_and_then (get name) vars)
+
+-- the mark of a comment that goes to the end of its line: one that has no mark of its end
+abbrev pub line_mark : Option Data → List ℕ → List ℕ → Option (List ℕ)
+line_mark vars start end = if is_some (variable end vars) then None else variable start vars
+
+-- the marks of a comment that has both
+abbrev pub block_marks : Option Data → List ℕ → List ℕ → Option (List ℕ × List ℕ)
+block_marks vars start end = option_and_then (λ s. option_map (λ e. (s, e)) (variable end vars)) (variable start vars)
+
+-- the first of two that is there
+abbrev pub first_some : {X : Type 0} → Option X → Option X → Option X
+first_some None other = other
+first_some (Some x) other = Some x
+
+-- the first of three kinds of comment that goes to the end of its line
+abbrev pub line_comment : Option Data → Option (List ℕ)
+line_comment vars = first_some (line_mark vars (codes "TM_COMMENT_START") (codes "TM_COMMENT_END"))
+    (first_some (line_mark vars (codes "TM_COMMENT_START_2") (codes "TM_COMMENT_END_2"))
+    (line_mark vars (codes "TM_COMMENT_START_3") (codes "TM_COMMENT_END_3")))
+
+-- the first of them that has two marks
+abbrev pub block_comment : Option Data → Option (List ℕ × List ℕ)
+block_comment vars = first_some (block_marks vars (codes "TM_COMMENT_START") (codes "TM_COMMENT_END"))
+    (first_some (block_marks vars (codes "TM_COMMENT_START_2") (codes "TM_COMMENT_END_2"))
+    (block_marks vars (codes "TM_COMMENT_START_3") (codes "TM_COMMENT_END_3")))
+
+-- ---- items ----
+
+-- what an object says; a key's value of a wrong kind is refused, and other keys are not looked at
+abbrev pub items_of : Data → Result MetadataItems MetadataError
+items_of d =
+    next (pattern_at (codes "increaseIndentPattern") d) (λ increase.
+    next (pattern_at (codes "decreaseIndentPattern") d) (λ decrease.
+    next (pattern_at (codes "bracketIndentNextLinePattern") d) (λ bracket.
+    next (pattern_at (codes "disableIndentNextLinePattern") d) (λ disable.
+    next (pattern_at (codes "unIndentedLinePattern") d) (λ unindented.
+    next (optional as_bool (get parens_key d)) (λ parens.
+    next (variables_at (get variables_key d)) (λ variables.
+    Ok (record {
+      increase_indent_pattern = increase;
+      decrease_indent_pattern = decrease;
+      bracket_indent_next_line_pattern = bracket;
+      disable_indent_next_line_pattern = disable;
+      unindented_line_pattern = unindented;
+      indent_parens = parens;
+      shell_variables = variables;
+      line_comment = line_comment (get variables_key d);
+      block_comment = block_comment (get variables_key d);
+    }))))))))
