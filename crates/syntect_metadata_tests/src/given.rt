@@ -65,7 +65,7 @@ pub fn stack_of(
     repository: &mut ScopeRepository,
 ) -> Result<Vec<Scope>, Fail> {
     let mut stack = Vec::new(alloc);
-    stack.push(Scope::new(alloc, scope, repository)?)?;
+    stack.push(Scope::new(scope, repository)?)?;
     Ok(stack)
 }
 

@@ -10,7 +10,8 @@ use syntect_scope::repository::ScopeRepository;
 #[test]
 fn a_file_of_settings(rt: HostRuntime) -> Result<(), Fail> {
     let alloc = rt.alloc();
-    let text = r#"{"scope":"source.rust","settings":{"increaseIndentPattern":"^.*\\{$","shellVariables":[{"name":"TM_COMMENT_START","value":"// "},{"name":"TM_COMMENT_START_2","value":"/*"},{"name":"TM_COMMENT_END_2","value":"*/"}]}}"#;
+    let text =
+        r#"{"scope":"source.rust","settings":{"increaseIndentPattern":"^.*\\{$","shellVariables":[{"name":"TM_COMMENT_START","value":"// "},{"name":"TM_COMMENT_START_2","value":"/*"},{"name":"TM_COMMENT_END_2","value":"*/"}]}}"#;
     let path = file(&rt, "syntect_metadata_rust.tmPreferences", text.as_bytes())?;
     let entry = RawMetadataEntry::load(&rt, alloc, path.as_path())?;
     fs::remove_file(&rt, path.as_path())?;

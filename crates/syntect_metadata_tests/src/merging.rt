@@ -1,7 +1,8 @@
 //! Entries that are put together.
-use crate::given::metadata_of;
+use crate::given::{entry, metadata_of};
 use std::test::Fail;
 use syntect_metadata::metadata::Metadata;
+use syntect_metadata::raw::LoadMetadata;
 use syntect_scope::repository::ScopeRepository;
 use syntect_values::text::Text;
 
@@ -108,5 +109,32 @@ fn refused_sets_are_left_out(rt: HostRuntime) -> Result<(), Fail> {
     }
     // In the order of the scope texts.
     assert!(rt; texts.as_slice() == ["b", "z"].as_slice());
+    Ok(())
+}
+
+#[test]
+fn new_sets_replace_old_ones(rt: HostRuntime) -> Result<(), Fail> {
+    let alloc = rt.alloc();
+    let mut repository = ScopeRepository::new(alloc);
+    let old = [
+        ("1", "c", "{\"increaseIndentPattern\":\"old c\"}"),
+        ("1", "a", "{\"increaseIndentPattern\":\"old a\"}"),
+        ("1", "b", "{\"increaseIndentPattern\":\"old b\"}"),
+    ];
+    let metadata = metadata_of(alloc, &old, &mut repository)?;
+    let mut raw = LoadMetadata::default(alloc);
+    raw.add_raw(entry(alloc, "2", "b", "{\"increaseIndentPattern\":\"new b\"}")?)?;
+    raw.add_raw(entry(alloc, "2", "aa", "{\"increaseIndentPattern\":\"new aa\"}")?)?;
+    // A new set that is refused replaces none.
+    raw.add_raw(entry(alloc, "2", "c", "{\"increaseIndentPattern\":1}")?)?;
+    let merged = metadata.merged_with_raw(alloc, raw, &mut repository)?;
+    let mut patterns = Vec::new(alloc);
+    for set in merged.scoped_metadata.as_slice() {
+        if let Some(pattern) = &set.items.increase_indent_pattern {
+            patterns.push(pattern.regex_str())?;
+        }
+    }
+    let wanted = ["old a", "new aa", "new b", "old c"];
+    assert!(rt; patterns.as_slice() == wanted.as_slice());
     Ok(())
 }

@@ -11,7 +11,12 @@ fn no_known_key(rt: HostRuntime) -> Result<(), Fail> {
     let skipped = set_of(alloc, "a", "{\"a\":1}", &mut repository);
     assert!(rt; matches!(&skipped, Err(MetadataError::Skipped)));
     // The key of the crate's field isn't the file's.
-    let other = set_of(alloc, "a", "{\"unindentedLinePattern\":\"x\"}", &mut repository);
+    let other = set_of(
+        alloc,
+        "a",
+        "{\"unindentedLinePattern\":\"x\"}",
+        &mut repository,
+    );
     assert!(rt; matches!(&other, Err(MetadataError::Skipped)));
     // The selector is looked at last.
     let both = set_of(alloc, "1.2.3.4.5.6.7.8.9", "{}", &mut repository);
