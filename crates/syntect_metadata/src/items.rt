@@ -133,8 +133,10 @@ fn truth(value: Option<&Value>) -> Result<Option<bool>, MetadataError>
 /// The members of an object whose values are texts.
 #[tactic(auto, using(crate::proofs::TextLaws::nothing_read, crate::proofs::TextLaws::spoils, crate::proofs::TextLaws::all_texts))]
 fn texts(alloc: Global, members: &Map<String, Value>) -> Result<Table<Text, Text>, MetadataError>
-    ensures ok { IfOk result (λ texts. ok_or (items.texts_in (members_view members.now.entries)) MetadataError.BadItems ≡ Ok texts) }
-    ensures err { IfErr result (Refuses (ok_or (items.texts_in (members_view members.now.entries)) MetadataError.BadItems)) }
+    ensures ok { IfOk result (λ texts.
+        ok_or (items.texts_in (members_view members.now.entries)) MetadataError.BadItems ≡ Ok texts) }
+    ensures err { IfErr result (Refuses
+        (ok_or (items.texts_in (members_view members.now.entries)) MetadataError.BadItems)) }
 {
     let mut texts = BTreeMap::new(alloc);
     for (name, value) in members.iter() {
@@ -150,8 +152,10 @@ fn texts(alloc: Global, members: &Map<String, Value>) -> Result<Table<Text, Text
 
 /// The variables of an object, which may be missing.
 fn variables(alloc: Global, value: Option<&Value>) -> Result<Table<Text, Text>, MetadataError>
-    ensures ok { IfOk result (λ vars. items.variables_at (option_map (λ v. view v.now) value.entry) ≡ Ok vars) }
-    ensures err { IfErr result (Refuses (items.variables_at (option_map (λ v. view v.now) value.entry))) }
+    ensures ok { IfOk result (λ vars.
+        items.variables_at (option_map (λ v. view v.now) value.entry) ≡ Ok vars) }
+    ensures err { IfErr result (Refuses
+        (items.variables_at (option_map (λ v. view v.now) value.entry))) }
 {
     let Some(value) = value else {
         return Ok(Table::new(alloc));
@@ -164,7 +168,8 @@ fn variables(alloc: Global, value: Option<&Value>) -> Result<Table<Text, Text>, 
 
 /// The text of a variable.
 fn variable<'a>(name: &str, variables: Option<&'a Value>) -> Option<&'a str>
-    ensures { option_map (λ s. s.now) result ≡ items.variable name.now (option_map (λ v. view v.now) variables.entry) }
+    ensures { option_map (λ s. s.now) result
+        ≡ items.variable name.now (option_map (λ v. view v.now) variables.entry) }
 {
     match variables {
         Some(variables) => variables.get(name).and_then(Value::as_str),
@@ -199,7 +204,8 @@ fn block_marks<'a>(
 
 /// The mark of comments that go to the end of their line.
 fn line_comment(alloc: Global, variables: Option<&Value>) -> Result<Option<Text>, AllocError>
-    ensures { IfOk result (λ mark. mark ≡ items.line_comment (option_map (λ v. view v.now) variables.entry)) }
+    ensures { IfOk result (λ mark. mark
+        ≡ items.line_comment (option_map (λ v. view v.now) variables.entry)) }
 {
     let first = line_mark(variables, "TM_COMMENT_START", "TM_COMMENT_END");
     let second = line_mark(variables, "TM_COMMENT_START_2", "TM_COMMENT_END_2");
@@ -215,7 +221,8 @@ fn block_comment(
     alloc: Global,
     variables: Option<&Value>,
 ) -> Result<Option<(Text, Text)>, AllocError>
-    ensures { IfOk result (λ marks. marks ≡ items.block_comment (option_map (λ v. view v.now) variables.entry)) }
+    ensures { IfOk result (λ marks. marks
+        ≡ items.block_comment (option_map (λ v. view v.now) variables.entry)) }
 {
     let first = block_marks(variables, "TM_COMMENT_START", "TM_COMMENT_END");
     let second = block_marks(variables, "TM_COMMENT_START_2", "TM_COMMENT_END_2");

@@ -45,7 +45,8 @@ fn all_variables(
     alloc: Global,
     items: Vec<Value>,
 ) -> Result<Option<Vec<(String, Value)>>, AllocError>
-    ensures { IfOk result (λ vs. option_map (λ v. map named v.items) vs ≡ merging.all_variables (items_view items.items)) }
+    ensures { IfOk result (λ vs. option_map (λ v. map named v.items) vs
+        ≡ merging.all_variables (items_view items.items)) }
 {
     let mut variables = Vec::with_capacity(alloc, items.len())?;
     for item in items {
@@ -105,7 +106,8 @@ fn with_member(
     value: Value,
     merged: Merged,
 ) -> Result<Merged, AllocError>
-    ensures { IfOk result (λ m. seen m ≡ merging.with_member (string_bytes key) (view value) (seen merged)) }
+    ensures { IfOk result (λ m. seen m
+        ≡ merging.with_member (string_bytes key) (view value) (seen merged)) }
 {
     let Merged {
         mut settings,
@@ -137,7 +139,8 @@ fn with_members(
     members: Map<String, Value>,
     merged: Merged,
 ) -> Result<Merged, AllocError>
-    ensures { IfOk result (λ m. seen m ≡ merging.with_members (members_view members.entries) (seen merged)) }
+    ensures { IfOk result (λ m. seen m
+        ≡ merging.with_members (members_view members.entries) (seen merged)) }
 {
     let mut merged = merged;
     for (key, value) in members {
@@ -165,7 +168,8 @@ fn add_entry(
     entry: RawMetadataEntry,
     table: &mut BTreeMap<Text, Merged>,
 ) -> Result<(), AllocError>
-    ensures { OnOk result (table_seen table.new.entries ≡ merging.with_entry entry (table_seen table.old.entries)) }
+    ensures { OnOk result (table_seen table.new.entries
+        ≡ merging.with_entry entry (table_seen table.old.entries)) }
 {
     let RawMetadataEntry {
         path: _path,

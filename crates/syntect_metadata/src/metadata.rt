@@ -55,7 +55,8 @@ fn matching<'a>(
     sets: &'a Seq<MetadataSet>,
     stack: &[Scope],
 ) -> Result<Vec<(MatchPower, &'a MetadataSet)>, AllocError>
-    ensures { IfOk result (λ scored. map (λ p. (p.0, p.1.now)) scored.items ≡ matching stack.now sets.now) }
+    ensures { IfOk result (λ scored. map (λ p. (p.0, p.1.now)) scored.items
+        ≡ matching stack.now sets.now) }
 {
     let mut scored = Vec::new(sets.allocator());
     for set in sets.as_slice() {

@@ -92,7 +92,8 @@ impl RawMetadataEntry {
         alloc: Global,
         path: Path<'_>,
     ) -> Result<RawMetadataEntry, LoadingError>
-        ensures ok { IfOk result (λ entry. (bytes : List ℕ) × IsEntryOf (path_bytes path.entry) bytes entry) }
+        ensures ok { IfOk result (λ entry.
+            (bytes : List ℕ) × IsEntryOf (path_bytes path.entry) bytes entry) }
         ensures err { IfErr result IsEntryFault }
     {
         let file = match fs::open(files, path) {

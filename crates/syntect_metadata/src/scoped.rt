@@ -44,7 +44,8 @@ fn pattern_for(kind: Kind, items: &MetadataItems) -> Option<&Regex>
 impl<'a> ScopedMetadata<'a> {
     /// The first pattern of a kind.
     fn first_pattern(&self, kind: Kind) -> Option<&Regex>
-        ensures { option_copied result ≡ first_of (pattern_for kind) (map (λ p. (p.0, p.1.now)) self.now.items) }
+        ensures { option_copied result
+            ≡ first_of (pattern_for kind) (map (λ p. (p.0, p.1.now)) self.now.items) }
     {
         for (_, set) in self.items.as_slice() {
             if let Some(pattern) = pattern_for(kind, &set.items) {
@@ -56,7 +57,8 @@ impl<'a> ScopedMetadata<'a> {
 
     /// Whether the first pattern of a kind matches at the begin of a line.
     fn asks(&self, kind: Kind, line: &str) -> Result<bool, AllocError>
-        ensures { IfOk result (λ yes. yes ≡ answer (pattern_for kind) (map (λ p. (p.0, p.1.now)) self.now.items) line.now) }
+        ensures { IfOk result (λ yes. yes
+            ≡ answer (pattern_for kind) (map (λ p. (p.0, p.1.now)) self.now.items) line.now) }
     {
         match self.first_pattern(kind) {
             Some(pattern) => pattern.is_match(self.items.allocator(), line),
@@ -67,7 +69,8 @@ impl<'a> ScopedMetadata<'a> {
     /// Whether a line is not looked at: the first `unIndentedLinePattern` matches at its begin.
     pub fn unindented_line(&self, line: &str) -> Result<bool, AllocError>
         ensures { IfOk result (λ yes. yes
-            ≡ answer (λ i. i.unindented_line_pattern) (map (λ p. (p.0, p.1.now)) self.now.items) line.now) }
+            ≡ answer (λ i. i.unindented_line_pattern)
+            (map (λ p. (p.0, p.1.now)) self.now.items) line.now) }
     {
         self.asks(Kind::Unindented, line)
     }
@@ -75,7 +78,8 @@ impl<'a> ScopedMetadata<'a> {
     /// Whether a line is indented by one less: the first `decreaseIndentPattern` matches at its begin.
     pub fn decrease_indent(&self, line: &str) -> Result<bool, AllocError>
         ensures { IfOk result (λ yes. yes
-            ≡ answer (λ i. i.decrease_indent_pattern) (map (λ p. (p.0, p.1.now)) self.now.items) line.now) }
+            ≡ answer (λ i. i.decrease_indent_pattern)
+            (map (λ p. (p.0, p.1.now)) self.now.items) line.now) }
     {
         self.asks(Kind::Decrease, line)
     }
@@ -83,7 +87,8 @@ impl<'a> ScopedMetadata<'a> {
     /// Whether the lines behind a line are indented by one more: the first `increaseIndentPattern` matches at its begin.
     pub fn increase_indent(&self, line: &str) -> Result<bool, AllocError>
         ensures { IfOk result (λ yes. yes
-            ≡ answer (λ i. i.increase_indent_pattern) (map (λ p. (p.0, p.1.now)) self.now.items) line.now) }
+            ≡ answer (λ i. i.increase_indent_pattern)
+            (map (λ p. (p.0, p.1.now)) self.now.items) line.now) }
     {
         self.asks(Kind::Increase, line)
     }
@@ -92,7 +97,8 @@ impl<'a> ScopedMetadata<'a> {
     /// begin.
     pub fn bracket_increase(&self, line: &str) -> Result<bool, AllocError>
         ensures { IfOk result (λ yes. yes
-            ≡ answer (λ i. i.bracket_indent_next_line_pattern) (map (λ p. (p.0, p.1.now)) self.now.items) line.now) }
+            ≡ answer (λ i. i.bracket_indent_next_line_pattern)
+            (map (λ p. (p.0, p.1.now)) self.now.items) line.now) }
     {
         self.asks(Kind::Bracket, line)
     }
@@ -101,14 +107,16 @@ impl<'a> ScopedMetadata<'a> {
     /// begin.
     pub fn disable_indent_next_line(&self, line: &str) -> Result<bool, AllocError>
         ensures { IfOk result (λ yes. yes
-            ≡ answer (λ i. i.disable_indent_next_line_pattern) (map (λ p. (p.0, p.1.now)) self.now.items) line.now) }
+            ≡ answer (λ i. i.disable_indent_next_line_pattern)
+            (map (λ p. (p.0, p.1.now)) self.now.items) line.now) }
     {
         self.asks(Kind::NextLine, line)
     }
 
     /// The mark of comments that go to the end of their line: that of the first set that has one.
     pub fn line_comment(&self) -> Option<&str>
-        ensures { option_copied result ≡ first_of (λ i. i.line_comment) (map (λ p. (p.0, p.1.now)) self.now.items) }
+        ensures { option_copied result
+            ≡ first_of (λ i. i.line_comment) (map (λ p. (p.0, p.1.now)) self.now.items) }
     {
         for (_, set) in self.items.as_slice() {
             if let Some(mark) = &set.items.line_comment {

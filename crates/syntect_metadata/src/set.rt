@@ -47,9 +47,12 @@ impl MetadataSet {
         raw: (String, Map<String, Value>),
         repository: &mut ScopeRepository,
     ) -> Result<MetadataSet, MetadataError>
-        ensures ok { IfOk result (λ set. set_of repository.old (string_bytes raw.0) (object (members_view raw.1.entries)) ≡ Ok set) }
-        ensures atoms { OnOk result (repository.new ≡ with_scopes repository.old (union_words (string_bytes raw.0))) }
-        ensures err { IfErr result (Refuses (set_of repository.old (string_bytes raw.0) (object (members_view raw.1.entries)))) }
+        ensures ok { IfOk result (λ set.
+            set_of repository.old (string_bytes raw.0) (object (members_view raw.1.entries)) ≡ Ok set) }
+        ensures atoms { OnOk result (repository.new
+            ≡ with_scopes repository.old (union_words (string_bytes raw.0))) }
+        ensures err { IfErr result (Refuses
+            (set_of repository.old (string_bytes raw.0) (object (members_view raw.1.entries)))) }
         ensures whole { IsRepository repository.new }
         ensures kept { take (length repository.old) repository.new ≡ repository.old }
     {
