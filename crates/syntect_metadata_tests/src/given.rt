@@ -76,3 +76,16 @@ pub fn file(rt: &HostRuntime, name: &str, bytes: &[u8]) -> Result<PathBuf, Fail>
     fs::write(rt, path.as_path(), bytes)?;
     Ok(path)
 }
+
+/// Whether a question was answered so.
+pub fn says(answer: Result<bool, AllocError>, wanted: bool) -> bool {
+    matches!(answer, Ok(yes) if yes == wanted)
+}
+
+/// Whether a text is there, and is this one.
+pub fn is_text(text: Option<&str>, wanted: &str) -> bool {
+    match text {
+        Some(text) => text == wanted,
+        None => false,
+    }
+}
