@@ -1,6 +1,6 @@
 -- What is known of the styles of stacks.
-use Rattle.std.specs.Prelude.{◌≡◌, ℕ, List, [], ◌∷◌, ◌++◌, map, false, IfSome}
-use Rattle.syntect_style.specs.Rules.{Stands, candidate_from, other_rules, AreOut}
+use Rattle.std.specs.Prelude.{◌≡◌, ℕ, List, [], ◌∷◌, ◌++◌, map, take, IfSome}
+use Rattle.syntect_style.specs.Rules.{Stands, candidate_from, TellsOut}
 use Rattle.syntect_style.specs.Styling.{style_of}
 use Rattle.syntect_theme.specs.declared.style.Color.{Color}
 use Rattle.syntect_theme.specs.declared.style.FontStyle.{FontStyle}
@@ -14,7 +14,7 @@ pub record AreStanding (theme : Theme) (stack : List (List ℕ)) (s : Standings)
   pub foreground : Stands Color (λ m. m.foreground) theme stack (candidate_from s.foreground)
   pub background : Stands Color (λ m. m.background) theme stack (candidate_from s.background)
   pub font_style : Stands FontStyle (λ m. m.font_style) theme stack (candidate_from s.font_style)
-  pub unreached : s.reached ≡ false → AreOut (other_rules theme) stack
+  pub unreached : TellsOut s.reached theme stack
 
 -- what is kept of a stack is true under the theme
 pub record IsKnown (theme : Theme) (stack : List (List ℕ)) (k : Kept) : Type 0 where
@@ -29,3 +29,7 @@ AreKnown theme below (k ∷ ks) = IsKnown theme (below ++ k.scope ∷ []) k × A
 -- the scopes of the highest of these stacks
 abbrev pub scopes_of : List Kept → List (List ℕ)
 scopes_of ks = map (λ k. k.scope) ks
+
+-- the lowest of these scopes, so many
+abbrev pub lowest : ℕ → List Kept → List (List ℕ)
+lowest n ks = take n (scopes_of ks)

@@ -7,7 +7,7 @@ use Rattle.syntect_scope.specs.declared.stack.ScopeStack.{ScopeStack}
 use Rattle.syntect_scope.specs.declared.stack.ScopeStackOp.{ScopeStackOp}
 use Rattle.syntect_scope.specs.declared.stack.ScopeError.{ScopeError}
 use Rattle.syntect_scope.specs.declared.stack.ScopeError.TheVariants.{NoClearedScopesToRestore}
-use Rattle.syntect_style.specs.Kept.{AreKnown, scopes_of}
+use Rattle.syntect_style.specs.Kept.{AreKnown, lowest}
 use Rattle.syntect_style.specs.Styling.{shown}
 use Rattle.syntect_theme.specs.declared.style.Style.{Style}
 use Rattle.syntect_theme.specs.declared.theme.Theme.{Theme}
@@ -24,7 +24,7 @@ path_of s = s.path
 pub record Keeps (theme : Theme) (s : HighlightState) : Type 0 where
   pub known : AreKnown theme [] s.kept
   pub within : s.fits ≤ length s.kept
-  pub on_path : take s.fits (scopes_of s.kept) ≡ take s.fits s.path.scopes
+  pub on_path : lowest s.fits s.kept ≡ take s.fits s.path.scopes
 
 -- ---- stretches ----
 

@@ -1,5 +1,5 @@
 -- The rules of a theme, the single ones apart from the others, and the candidates among them in turn.
-use Rattle.std.specs.Prelude.{◌≡◌, ℕ, ◌-◌, ◌*◌, ◌^◌, ◌<◌, List, [], ◌∷◌, length, if◌then◌else◌, Option, Some, None}
+use Rattle.std.specs.Prelude.{◌≡◌, ℕ, ◌-◌, ◌*◌, ◌^◌, ◌<◌, Bool, false, List, [], ◌∷◌, length, if◌then◌else◌, Option, Some, None}
 use Rattle.std.specs.List.{filter_map, flat_map, slice_get}
 use Rattle.syntect_scope.specs.declared.selector.ScopeSelector.{ScopeSelector}
 use Rattle.syntect_scope.specs.Atoms.{is_prefix}
@@ -100,10 +100,24 @@ abbrev pub other_from : {V : Type 0} → Option (ℕ × V) → Option (Candidate
 other_from None = None
 other_from (Some c) = Some (record { value = c.1; score = power_score c.0 })
 
+-- a value of a rule with such a score as a candidate, where the rule has one
+abbrev pub other_candidate : {V : Type 0} → Option V → ℕ → Option (Candidate V)
+other_candidate value power = candidate value (Some (power_score power))
+
+-- the one that stands after one of them more
+abbrev pub after_other : {V : Type 0} → (StyleModifier → Option V) → List (List ℕ)
+    → Option (Candidate V) → ScopeSelector × StyleModifier → Option (Candidate V)
+after_other attribute stack best o = against best (candidate (attribute o.1) (other_score o.0 stack))
+
 -- the one that stands after some of them
 abbrev pub after_others : {V : Type 0} → (StyleModifier → Option V) → List (List ℕ) → Option (Candidate V) → List (ScopeSelector × StyleModifier) → Option (Candidate V)
 after_others attribute stack best [] = best
-after_others attribute stack best (o ∷ others) = after_others attribute stack (against best (candidate (attribute o.1) (other_score o.0 stack))) others
+after_others attribute stack best (o ∷ others) = after_others attribute stack (after_other attribute stack best o) others
+
+-- the one that prevails among them
+abbrev pub best_other : {V : Type 0} → (StyleModifier → Option V) → List (List ℕ)
+    → List (ScopeSelector × StyleModifier) → Option (Candidate V)
+best_other attribute stack others = after_others attribute stack None others
 
 -- the last scope of a selector's path
 abbrev pub last_scope : ScopeSelector → Option (List ℕ)
@@ -121,3 +135,7 @@ IsOut selector stack = (last : List ℕ) × (last_scope selector ≡ Some last) 
 abbrev pub AreOut : List (ScopeSelector × StyleModifier) → List (List ℕ) → Type 0
 AreOut [] stack = Unit {0}
 AreOut (o ∷ others) stack = IsOut o.0 stack × AreOut others stack
+
+-- unless this says that they are reached, each of the other rules of a theme is out
+abbrev pub TellsOut : Bool → Theme → List (List ℕ) → Type 0
+TellsOut reached theme stack = reached ≡ false → AreOut (other_rules theme) stack

@@ -26,7 +26,8 @@ pub(crate) fn deepest(scope: Scope, stack: &[Scope]) -> Option<usize>
 
 /// Puts a value in the place of the best one so far, if its score beats that one's.
 fn offer<V: Copy>(best: &mut Option<(SingleScore, V)>, score: SingleScore, value: Option<V>)
-    ensures { candidate_from best.new ≡ against (candidate_from best.old) (candidate value (Some (score_from score))) }
+    ensures { candidate_from best.new
+        ≡ against (candidate_from best.old) (candidate value (Some (score_from score))) }
 {
     if let Some(value) = value {
         let wins = match best {
@@ -65,9 +66,12 @@ pub(crate) fn any_begins(rules: &[Rule], top: Scope) -> bool
 /// scores beat those.
 pub(crate) fn offer_rules(best: &mut Standings, rules: &[Rule], top: Scope, place: usize)
     requires { place + 1 < 2 ^ 64 }
-    ensures foreground { candidate_from best.new.foreground ≡ after_top (λ m. m.foreground) top place (candidate_from best.old.foreground) rules.now }
-    ensures background { candidate_from best.new.background ≡ after_top (λ m. m.background) top place (candidate_from best.old.background) rules.now }
-    ensures font_style { candidate_from best.new.font_style ≡ after_top (λ m. m.font_style) top place (candidate_from best.old.font_style) rules.now }
+    ensures foreground { candidate_from best.new.foreground
+        ≡ after_top (λ m. m.foreground) top place (candidate_from best.old.foreground) rules.now }
+    ensures background { candidate_from best.new.background
+        ≡ after_top (λ m. m.background) top place (candidate_from best.old.background) rules.now }
+    ensures font_style { candidate_from best.new.font_style
+        ≡ after_top (λ m. m.font_style) top place (candidate_from best.old.font_style) rules.now }
     ensures reached { best.new.reached ≡ best.old.reached }
 {
     for rule in rules {

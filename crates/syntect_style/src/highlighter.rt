@@ -1,9 +1,10 @@
 //! The style of a stack of scopes.
-ghost use Rattle.std.specs.Prelude.{◌≡◌, ◌+◌, ◌<◌, ◌^◌, ◌++◌, ◌∷◌, [], ℕ, List, length, false, None, IfOk};
+ghost use Rattle.std.specs.Prelude.{◌≡◌, ◌+◌, ◌<◌, ◌^◌, ◌++◌, ◌∷◌, [], ℕ, List, length, false, IfOk};
 ghost use Rattle.std.specs.List.{filter, list_any};
 ghost use Rattle.syntect_scope.specs.Atoms.{is_prefix};
 ghost use Rattle.syntect_style.specs.Styling.{style_of, default_style, winners};
-ghost use Rattle.syntect_style.specs.Rules.{single_rules, other_rules, last_rules, other_from, after_others, AreOut};
+ghost use Rattle.syntect_style.specs.Rules.{single_rules, other_rules, last_rules, other_from};
+ghost use Rattle.syntect_style.specs.Rules.{best_other, TellsOut};
 ghost use Rattle.syntect_style.specs.Buckets.{may_match, bucket_of};
 ghost use Rattle.syntect_style.specs.Kept.{AreStanding};
 
@@ -44,7 +45,8 @@ impl<'a> Model for Highlighter<'a> {
 
     ghost view = { λ a. a.theme.now };
 
-    ghost invariant = { λ a. IsReady a.theme.now a.buckets.items (map rule_from a.others.items) a.lasts.items a.pathless };
+    ghost invariant = { λ a. IsReady a.theme.now
+        a.buckets.items (map rule_from a.others.items) a.lasts.items a.pathless };
 }
 
 impl<'a> Highlighter<'a> {
@@ -126,7 +128,9 @@ impl<'a> Highlighter<'a> {
     /// Puts one scope more on top, at a place, of a stack for which these values stand after the single rules.
     pub(crate) fn raise(&self, standings: &mut Standings, top: Scope, place: usize)
         requires { place + 1 < 2 ^ 64 }
-        ensures { (stack : List (List ℕ)) → length stack ≡ place → AreStanding self.now stack standings.old → AreStanding self.now (stack ++ top ∷ []) standings.new }
+        ensures { (stack : List (List ℕ)) → length stack ≡ place
+            → AreStanding self.now stack standings.old
+            → AreStanding self.now (stack ++ top ∷ []) standings.new }
     {
         offer_rules(standings, self.rules_for(top), top, place);
         standings.reached = self.reaches(standings.reached, top);
@@ -134,7 +138,8 @@ impl<'a> Highlighter<'a> {
 
     /// Whether one of the other rules may have a score, with one scope more on top.
     fn reaches(&self, before: bool, top: Scope) -> bool
-        ensures { result ≡ false → (before ≡ false) × (list_any (λ r. is_prefix r.scope top) (last_rules (other_rules self.now)) ≡ false) }
+        ensures { result ≡ false → (before ≡ false)
+            × (list_any (λ r. is_prefix r.scope top) (last_rules (other_rules self.now)) ≡ false) }
     {
         if before {
             return true;
@@ -144,7 +149,8 @@ impl<'a> Highlighter<'a> {
 
     /// Of the last scopes of the other rules those that can begin a scope.
     fn lasts_for(&self, scope: Scope) -> &[Rule]
-        ensures { result.now ≡ filter (may_match (bucket_of scope)) (last_rules (other_rules self.now)) }
+        ensures { result.now
+            ≡ filter (may_match (bucket_of scope)) (last_rules (other_rules self.now)) }
     {
         self.lasts[bucket_of(scope)].as_slice()
     }
@@ -158,9 +164,15 @@ impl<'a> Highlighter<'a> {
 
     /// What stands after the other rules, none of which has a score if they are not reached.
     fn others_standing(&self, reached: bool, stack: &[Scope]) -> Result<OtherStandings, AllocError>
-        ensures foreground { IfOk result (λ s. (reached ≡ false → AreOut (other_rules self.now) stack.now) → other_from s.foreground ≡ after_others (λ m. m.foreground) stack.now None (other_rules self.now)) }
-        ensures background { IfOk result (λ s. (reached ≡ false → AreOut (other_rules self.now) stack.now) → other_from s.background ≡ after_others (λ m. m.background) stack.now None (other_rules self.now)) }
-        ensures font_style { IfOk result (λ s. (reached ≡ false → AreOut (other_rules self.now) stack.now) → other_from s.font_style ≡ after_others (λ m. m.font_style) stack.now None (other_rules self.now)) }
+        ensures foreground { IfOk result (λ s. TellsOut reached self.now stack.now
+            → other_from s.foreground
+            ≡ best_other (λ m. m.foreground) stack.now (other_rules self.now)) }
+        ensures background { IfOk result (λ s. TellsOut reached self.now stack.now
+            → other_from s.background
+            ≡ best_other (λ m. m.background) stack.now (other_rules self.now)) }
+        ensures font_style { IfOk result (λ s. TellsOut reached self.now stack.now
+            → other_from s.font_style
+            ≡ best_other (λ m. m.font_style) stack.now (other_rules self.now)) }
     {
         if reached {
             let all = others_of(self.others.as_slice(), stack)?;
@@ -175,7 +187,8 @@ impl<'a> Highlighter<'a> {
         single: Standings,
         stack: &[Scope],
     ) -> Result<StyleModifier, AllocError>
-        ensures { IfOk result (λ m. AreStanding self.now stack.now single → m ≡ winners self.now stack.now) }
+        ensures { IfOk result (λ m. AreStanding self.now stack.now single
+            → m ≡ winners self.now stack.now) }
     {
         let alloc = *self.others.allocator();
         let other = self.others_standing(single.reached, stack)?;

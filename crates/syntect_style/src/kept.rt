@@ -1,6 +1,6 @@
 //! What is known of the style of a stack and of its lower parts.
-ghost use Rattle.std.specs.Prelude.{◌≡◌, ◌≤◌, ◌<◌, ◌+◌, ◌++◌, ◌∷◌, [], true, Some, length, take, slice_get, IfOk, OnOk, OnErr};
-ghost use Rattle.syntect_style.specs.Kept.{AreKnown, AreStanding, scopes_of};
+ghost use Rattle.std.specs.Prelude.{◌≡◌, ◌≤◌, ◌<◌, ◌+◌, ◌++◌, ◌∷◌, [], true, Some, length, slice_get, IfOk, OnOk, OnErr};
+ghost use Rattle.syntect_style.specs.Kept.{AreKnown, AreStanding, scopes_of, lowest};
 ghost use Rattle.syntect_style.specs.Styling.{style_of};
 
 use crate::contest::Standings;
@@ -72,7 +72,8 @@ impl KeptStyles {
     /// What stands below a place.
     fn below(&self, highlighter: &Highlighter<'_>, place: usize) -> Standings
         requires { place ≤ length self.now }
-        ensures { AreKnown highlighter.now [] self.now → AreStanding highlighter.now (take place (scopes_of self.now)) result }
+        ensures { AreKnown highlighter.now [] self.now
+            → AreStanding highlighter.now (lowest place self.now) result }
     {
         if place == 0 {
             return highlighter.bottom();
@@ -89,10 +90,12 @@ impl KeptStyles {
         place: usize,
     ) -> Result<(), AllocError>
         requires { place ≤ length self.old }
-        ensures ok { OnOk result (take (place + 1) (scopes_of self.new) ≡ take place (scopes_of self.old) ++ scope ∷ []) }
+        ensures ok { OnOk result (lowest (place + 1) self.new
+            ≡ lowest place self.old ++ scope ∷ []) }
         ensures len { OnOk result (place < length self.new) }
-        ensures err { OnErr result (take place (scopes_of self.new) ≡ take place (scopes_of self.old)) }
-        ensures known { AreKnown highlighter.now [] self.old → AreKnown highlighter.now [] self.new }
+        ensures err { OnErr result (lowest place self.new ≡ lowest place self.old) }
+        ensures known { AreKnown highlighter.now [] self.old
+            → AreKnown highlighter.now [] self.new }
     {
         if self.is_at(scope, place) {
             return Ok(());
@@ -117,8 +120,12 @@ impl KeptStyles {
     ) -> Result<Style, AllocError>
         requires { place < length self.old }
         ensures scopes { scopes_of self.new ≡ scopes_of self.old }
-        ensures known { take (place + 1) (scopes_of self.old) ≡ stack.now → AreKnown highlighter.now [] self.old → AreKnown highlighter.now [] self.new }
-        ensures style { IfOk result (λ style. take (place + 1) (scopes_of self.old) ≡ stack.now → AreKnown highlighter.now [] self.old → style ≡ style_of highlighter.now stack.now) }
+        ensures known { lowest (place + 1) self.old ≡ stack.now
+            → AreKnown highlighter.now [] self.old
+            → AreKnown highlighter.now [] self.new }
+        ensures style { IfOk result (λ style. lowest (place + 1) self.old ≡ stack.now
+            → AreKnown highlighter.now [] self.old
+            → style ≡ style_of highlighter.now stack.now) }
     {
         let known = self.entries[place];
         if let Some(style) = known.style {

@@ -15,5 +15,6 @@ pub fn one_prevails<V>()
 
 /// The default, changed by what `style_mod_for_stack` answers, is what `style_for_stack` answers.
 pub fn modifier_makes_style()
-    ensures { (theme : Theme) (stack : List (List ℕ)) → restyled (winners theme stack) (default_style theme) ≡ style_of theme stack }
+    ensures { (theme : Theme) (stack : List (List ℕ))
+        → restyled (winners theme stack) (default_style theme) ≡ style_of theme stack }
 {}

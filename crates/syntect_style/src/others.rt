@@ -1,9 +1,9 @@
 //! The contest of the rules whose selectors have several scopes, none, or exclusions.
-ghost use Rattle.std.specs.Prelude.{◌≡◌, ◌∷◌, [], false, map, Some, None, IfOk, OnOk};
+ghost use Rattle.std.specs.Prelude.{◌≡◌, false, map, None, IfOk, OnOk};
 ghost use Rattle.std.specs.Option.{option_map};
 ghost use Rattle.syntect_scope.specs.Choice.{selector_score};
-ghost use Rattle.syntect_style.specs.Candidates.{candidate};
-ghost use Rattle.syntect_style.specs.Rules.{against, candidate_from, other_from, power_score, after_others, rule_from};
+ghost use Rattle.syntect_style.specs.Rules.{against, candidate_from, other_from, other_candidate};
+ghost use Rattle.syntect_style.specs.Rules.{after_other, best_other, rule_from};
 
 use crate::contest::deepest;
 use crate::scores::SingleScore;
@@ -47,7 +47,8 @@ fn offer<V: Copy>(
     power: &MatchPower,
     value: Option<V>,
 ) -> Result<(), AllocError>
-    ensures { OnOk result (other_from best.new ≡ against (other_from best.old) (candidate value (Some (power_score power.now)))) }
+    ensures { OnOk result (other_from best.new
+        ≡ against (other_from best.old) (other_candidate value power.now)) }
 {
     let Some(value) = value else {
         return Ok(());
@@ -68,9 +69,12 @@ fn offer_all(
     power: &MatchPower,
     style: StyleModifier,
 ) -> Result<(), AllocError>
-    ensures foreground { OnOk result (other_from best.new.foreground ≡ against (other_from best.old.foreground) (candidate style.foreground (Some (power_score power.now)))) }
-    ensures background { OnOk result (other_from best.new.background ≡ against (other_from best.old.background) (candidate style.background (Some (power_score power.now)))) }
-    ensures font_style { OnOk result (other_from best.new.font_style ≡ against (other_from best.old.font_style) (candidate style.font_style (Some (power_score power.now)))) }
+    ensures foreground { OnOk result (other_from best.new.foreground
+        ≡ against (other_from best.old.foreground) (other_candidate style.foreground power.now)) }
+    ensures background { OnOk result (other_from best.new.background
+        ≡ against (other_from best.old.background) (other_candidate style.background power.now)) }
+    ensures font_style { OnOk result (other_from best.new.font_style
+        ≡ against (other_from best.old.font_style) (other_candidate style.font_style power.now)) }
 {
     offer(&mut best.foreground, power, style.foreground)?;
     offer(&mut best.background, power, style.background)?;
@@ -90,9 +94,15 @@ fn can_match(selector: &ScopeSelector, stack: &[Scope]) -> bool
 
 /// A rule against the best ones so far.
 fn add_other(best: &mut OtherStandings, other: &Other, stack: &[Scope]) -> Result<(), AllocError>
-    ensures foreground { OnOk result (other_from best.new.foreground ≡ after_others (λ m. m.foreground) stack.now (other_from best.old.foreground) (rule_from other.now ∷ [])) }
-    ensures background { OnOk result (other_from best.new.background ≡ after_others (λ m. m.background) stack.now (other_from best.old.background) (rule_from other.now ∷ [])) }
-    ensures font_style { OnOk result (other_from best.new.font_style ≡ after_others (λ m. m.font_style) stack.now (other_from best.old.font_style) (rule_from other.now ∷ [])) }
+    ensures foreground { OnOk result (other_from best.new.foreground
+        ≡ after_other (λ m. m.foreground) stack.now
+        (other_from best.old.foreground) (rule_from other.now)) }
+    ensures background { OnOk result (other_from best.new.background
+        ≡ after_other (λ m. m.background) stack.now
+        (other_from best.old.background) (rule_from other.now)) }
+    ensures font_style { OnOk result (other_from best.new.font_style
+        ≡ after_other (λ m. m.font_style) stack.now
+        (other_from best.old.font_style) (rule_from other.now)) }
 {
     if !can_match(&other.selector, stack) {
         return Ok(());
@@ -110,9 +120,12 @@ fn add_other(best: &mut OtherStandings, other: &Other, stack: &[Scope]) -> Resul
 /// For each attribute the value of the rule that prevails among those that are not single ones, and `None` where none
 /// sets it.
 pub(crate) fn others_of(others: &[Other], stack: &[Scope]) -> Result<OtherStandings, AllocError>
-    ensures foreground { IfOk result (λ s. other_from s.foreground ≡ after_others (λ m. m.foreground) stack.now None (map rule_from others.now)) }
-    ensures background { IfOk result (λ s. other_from s.background ≡ after_others (λ m. m.background) stack.now None (map rule_from others.now)) }
-    ensures font_style { IfOk result (λ s. other_from s.font_style ≡ after_others (λ m. m.font_style) stack.now None (map rule_from others.now)) }
+    ensures foreground { IfOk result (λ s. other_from s.foreground
+        ≡ best_other (λ m. m.foreground) stack.now (map rule_from others.now)) }
+    ensures background { IfOk result (λ s. other_from s.background
+        ≡ best_other (λ m. m.background) stack.now (map rule_from others.now)) }
+    ensures font_style { IfOk result (λ s. other_from s.font_style
+        ≡ best_other (λ m. m.font_style) stack.now (map rule_from others.now)) }
 {
     let mut best = no_others();
     for other in others {
@@ -130,7 +143,8 @@ pub(crate) fn better<V: Copy>(
     single: Option<(SingleScore, V)>,
     other: &Option<(MatchPower, V)>,
 ) -> Result<Option<V>, AllocError>
-    ensures { IfOk result (λ v. v ≡ option_map (λ c. c.value) (against (candidate_from single) (other_from other.now))) }
+    ensures { IfOk result (λ v. v
+        ≡ option_map (λ c. c.value) (against (candidate_from single) (other_from other.now))) }
 {
     let Some((power, of_other)) = other else {
         return Ok(single.map(|c| c.1));

@@ -43,8 +43,10 @@ fn piece_to<'b>(
     ensures ok { OnOk result (path_of state.new ≡ applied op.now (path_of state.old)) }
     ensures applied { OnOk result (is_refused op.now (path_of state.old) ≡ false) }
     ensures piece { IfOk result (λ o. MatchOption o (from ≡ to) (λ p. (from < to)
-        × Shows highlighter.now text.now (Keeps highlighter.now state.old) (record { from = from; to = to; scopes = (path_of state.old).scopes }) p)) }
-    ensures none { IfErr result (λ e. e ≡ ScopeError.NoClearedScopesToRestore → is_refused op.now (path_of state.old) ≡ true) }
+        × Shows highlighter.now text.now (Keeps highlighter.now state.old)
+        (record { from = from; to = to; scopes = (path_of state.old).scopes }) p)) }
+    ensures none { IfErr result (λ e. e ≡ ScopeError.NoClearedScopesToRestore
+        → is_refused op.now (path_of state.old) ≡ true) }
     ensures err { OnErr result (path_of state.new ≡ path_of state.old) }
     ensures keeps { Keeps highlighter.now state.old → Keeps highlighter.now state.new }
 {
@@ -131,10 +133,14 @@ pub fn collect_pieces<'b>(
     requires { InOrder text.now 0 changes.now (length text.now) }
     ensures joins { IfOk result (λ pieces. Joins text.now pieces.items) }
     ensures styled { IfOk result (λ pieces. Keeps highlighter.now state.old
-        → IsStyled highlighter.now (bytes_to (replay changes.now (before_text (path_of state.old))) (length text.now)) pieces.items) }
-    ensures path { OnOk result (path_of state.new ≡ (replay changes.now (before_text (path_of state.old))).stack) }
+        → IsStyled highlighter.now
+        (bytes_to (replay changes.now (before_text (path_of state.old))) (length text.now))
+        pieces.items) }
+    ensures path { OnOk result (path_of state.new
+        ≡ (replay changes.now (before_text (path_of state.old))).stack) }
     ensures applied { OnOk result (AllApply (path_of state.old) changes.now) }
-    ensures none { IfErr result (λ e. e ≡ ScopeError.NoClearedScopesToRestore → ¬ AllApply (path_of state.old) changes.now) }
+    ensures none { IfErr result (λ e. e ≡ ScopeError.NoClearedScopesToRestore
+        → ¬ AllApply (path_of state.old) changes.now) }
     ensures keeps { Keeps highlighter.now state.old → Keeps highlighter.now state.new }
 {
     let mut pieces = Vec::new(alloc);

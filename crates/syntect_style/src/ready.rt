@@ -25,7 +25,8 @@ pub(crate) fn push_rules(rules: &mut Vec<Rule>, item: &ThemeItem) -> Result<(), 
 
 /// Adds the other rules of an item.
 pub(crate) fn push_others(others: &mut Vec<Other>, item: &ThemeItem) -> Result<(), AllocError>
-    ensures { OnOk result (map rule_from others.new.items ≡ map rule_from others.old.items ++ item_others item.now) }
+    ensures { OnOk result (map rule_from others.new.items
+        ≡ map rule_from others.old.items ++ item_others item.now) }
 {
     for selector in item.scope.selectors.as_slice() {
         if selector.extract_single_scope().is_none() {

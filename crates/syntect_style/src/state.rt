@@ -1,7 +1,7 @@
 //! The state of a highlighter between two texts.
 ghost use Rattle.std.specs.Prelude.{◌≡◌, ◌≤◌, ◌↔◌, [], length, take, IsTrue, IfOk, OnOk, OnErr, IfErr, true, false};
 ghost use Rattle.syntect_scope.specs.Stack.{applied, is_refused};
-ghost use Rattle.syntect_style.specs.Kept.{AreKnown, scopes_of};
+ghost use Rattle.syntect_style.specs.Kept.{AreKnown, lowest};
 ghost use Rattle.syntect_style.specs.Styling.{shown};
 ghost use Rattle.syntect_style.specs.Pieces.{path_of, Keeps};
 
@@ -70,7 +70,8 @@ impl HighlightState {
     pub(crate) fn style(&mut self, highlighter: &Highlighter<'_>) -> Result<Style, AllocError>
         ensures path { path_of self.new ≡ path_of self.old }
         ensures keeps { Keeps highlighter.now self.old → Keeps highlighter.now self.new }
-        ensures style { IfOk result (λ s. Keeps highlighter.now self.old → s ≡ shown highlighter.now (path_of self.old).scopes) }
+        ensures style { IfOk result (λ s. Keeps highlighter.now self.old
+            → s ≡ shown highlighter.now (path_of self.old).scopes) }
     {
         let stack = self.path.as_slice();
         if stack.is_empty() {
@@ -90,7 +91,8 @@ impl HighlightState {
     ) -> Result<(), ScopeError>
         ensures ok { OnOk result (path_of self.new ≡ applied op.now (path_of self.old)) }
         ensures applied { OnOk result (is_refused op.now (path_of self.old) ≡ false) }
-        ensures none { IfErr result (λ e. e ≡ ScopeError.NoClearedScopesToRestore → is_refused op.now (path_of self.old) ≡ true) }
+        ensures none { IfErr result (λ e. e ≡ ScopeError.NoClearedScopesToRestore
+            → is_refused op.now (path_of self.old) ≡ true) }
         ensures err { OnErr result (self.new ≡ self.old) }
         ensures keeps { Keeps highlighter.now self.old → Keeps highlighter.now self.new }
     {
@@ -110,9 +112,11 @@ fn follow(
 ) -> Result<(), AllocError>
     requires within { known ≤ length kept.old }
     requires on_stack { known ≤ length stack.now }
-    ensures ok { OnOk result (take known (scopes_of kept.old) ≡ take known stack.now → take (length stack.now) (scopes_of kept.new) ≡ stack.now) }
+    ensures ok { OnOk result (lowest known kept.old ≡ take known stack.now
+        → lowest (length stack.now) kept.new ≡ stack.now) }
     ensures len { OnOk result (length stack.now ≤ length kept.new) }
-    ensures err { OnErr result (take known (scopes_of kept.old) ≡ take known stack.now → take known (scopes_of kept.new) ≡ take known stack.now) }
+    ensures err { OnErr result (lowest known kept.old ≡ take known stack.now
+        → lowest known kept.new ≡ take known stack.now) }
     ensures known { AreKnown highlighter.now [] kept.old → AreKnown highlighter.now [] kept.new }
 {
     for place in known..stack.len() {
