@@ -216,7 +216,9 @@ fn push_piece(
     text: &str,
 ) -> Result<Style, AllocError>
     ensures front { out.new.front ≡ out.old.front }
-    ensures back { (ps : List (Plain × List ℕ)) → IfOk result (λ s. out.new.back ++ behind_open bg s ps ≡ out.old.back ++ line_behind bg last ((style, text.now) ∷ ps)) }
+    ensures back { (ps : List (Plain × List ℕ)) → IfOk result (λ s.
+        out.new.back ++ behind_open bg s ps
+        ≡ out.old.back ++ line_behind bg last ((style, text.now) ∷ ps)) }
 {
     match continued(last, style, text) {
         Some(before) => {

@@ -22,7 +22,10 @@ impl Model for Tail {
 
     ghost Value = { Written };
 
-    ghost view = { λ a. record { front = take a.start (string_bytes a.text); back = drop a.start (string_bytes a.text) } };
+    ghost view = { λ a. record {
+      front = take a.start (string_bytes a.text);
+      back = drop a.start (string_bytes a.text);
+    } };
 
     ghost invariant = { λ a. IsCharBoundary (string_bytes a.text) a.start };
 }

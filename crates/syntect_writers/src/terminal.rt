@@ -32,7 +32,8 @@ fn blend(over: Color, under: Color) -> Color
 
 /// Puts the escape sequence of a colour last.
 fn push_sequence(out: &mut String, number: &str, color: Color) -> Result<(), AllocError>
-    ensures { OnOk result (string_bytes out.new ≡ string_bytes out.old ++ sequence number.now color) }
+    ensures { OnOk result (string_bytes out.new
+        ≡ string_bytes out.old ++ sequence number.now color) }
 {
     out.push_str("\x1b[")?;
     out.push_str(number)?;
@@ -48,7 +49,8 @@ fn push_sequence(out: &mut String, number: &str, color: Color) -> Result<(), All
 
 /// Puts a piece last.
 fn push_piece(out: &mut String, style: Style, text: &str, bg: bool) -> Result<(), AllocError>
-    ensures { OnOk result (string_bytes out.new ≡ string_bytes out.old ++ piece_text bg (style, text.entry)) }
+    ensures { OnOk result (string_bytes out.new
+        ≡ string_bytes out.old ++ piece_text bg (style, text.entry)) }
 {
     if bg {
         push_sequence(out, "48", style.background)?;
