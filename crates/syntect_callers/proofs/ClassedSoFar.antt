@@ -1,5 +1,5 @@
 -- A page with classes while it is written.
-use Rattle.std.proofs.Common.{◌≡◌, ℕ, List, [], ◌∷◌, ◌++◌, map, length, refl, sym, ap, subst, ◌∙◌, append_assoc, append-nil, Some}
+use Rattle.std.proofs.Common.{◌≡◌, ℕ, List, [], ◌∷◌, ◌++◌, map, length, refl, sym, ap, subst, ◌∙◌, append_assoc, append-nil, Some, inr}
 use Rattle.std.specs.List.{concat, flat_map}
 use Rattle.syntect_scope.specs.Stack.{plain, applied}
 use Rattle.syntect_scope.specs.Replay.{Replay, replay, replayed, before_text, bytes_to}
@@ -21,10 +21,11 @@ use Rattle.syntect_classed.specs.declared.style.ClassStyle.{ClassStyle}
 use Rattle.syntect_classed_laws.specs.Laws.{Line, AreInOrder, PagesAreSeen, page_text, page_scopes}
 use Rattle.syntect_contexts.specs.declared.syntax_reference.SyntaxReference.{SyntaxReference}
 use Rattle.syntect_grammar.specs.declared.syntax_set.SyntaxSet.{SyntaxSet}
-use Rattle.syntect.specs.Classed.{text_so_far, stack_in, state_in, set_in, repository_in, style_in, AddsLine, closed_text}
+use Rattle.syntect_grammar.specs.declared.error.Error.{Error}
+use Rattle.syntect.specs.Classed.{text_so_far, stack_in, state_in, set_in, repository_in, style_in, AddsLine, RefusesLineOf, closed_text}
 use Rattle.syntect.specs.Leads.{BeginsPlain, RunsOrderly}
 use Rattle.syntect.specs.declared.classed.ClassedHTMLGenerator.{ClassedHTMLGenerator}
-use Rattle.syntect_callers.specs.ClassedPages.{IsClassedPage}
+use Rattle.syntect_callers.specs.ClassedPages.{IsClassedPage, HasNoClassedPage}
 
 -- ---- stacks behind lines ----
 
@@ -182,3 +183,19 @@ page_whole set syntax repository style text left whole g seen joins s e w =
       is_text = v.text ∙ texts s.lines ∙ ap concat all ∙ joins text;
       has_scopes = λ p o. v.scopes ∙ s.shown p (rw (← all) at o);
     }
+
+pub no_page : (set : SyntaxSet) (syntax : SyntaxReference) (repository : List (List ℕ)) (style : ClassStyle) (text left line : List ℕ) (rest : List (List ℕ)) (g : ClassedHTMLGenerator) (e : Error)
+    → ClassedSoFar set syntax repository style text left g → lines_of left ≡ line ∷ rest → RefusesLineOf g line e → HasNoClassedPage set syntax text e
+no_page set syntax repository style text left line rest g e s l r = inr (record {
+  lines = lines_in s.lines;
+  line = line;
+  rest = rest;
+  scopes = s.scopes;
+  start = s.start;
+  generator = g;
+  begins = s.begins;
+  run = s.run;
+  all = ap (λ xs. lines_in s.lines ++ xs) (sym l) ∙ s.all;
+  has_set = s.has_set;
+  refuses = r;
+})

@@ -12,6 +12,6 @@ loop-line-preserved c =
     so_far_more c.args.set.now c.args.syntax.now c.args.repository.now c.args.style c.args.text.now _ _ c.in-Some.line.now _ _ c.answers_more.ensures c.stack_is_open.ensures c.loop-line.invariant
     c.in_ok-parse_html_for_line_which_includes_newline.ensures.accepted c.in-Some.ensures.steps
 
-pub returns : goal.returns
-returns c =
+pub returns-clause-page : goal.returns-clause-page
+returns-clause-page c =
     page_whole c.args.set.now c.args.syntax.now c.args.repository.now c.args.style c.args.text.now _ _ _ c.pages_are_seen.ensures c.lines_join.ensures.joined c.loop-line.invariant c.in-None.ensures.steps.0 c.in_ok-finalize.ensures
