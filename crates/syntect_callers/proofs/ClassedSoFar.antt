@@ -1,7 +1,7 @@
 -- A page with classes while it is written.
-use Rattle.std.proofs.Common.{◌≡◌, ℕ, List, [], ◌∷◌, ◌++◌, map, length, refl, sym, ap, subst, ◌∙◌, append_assoc, append-nil, Some, inr}
+use Rattle.std.proofs.Common.{◌≡◌, ℕ, List, [], ◌∷◌, ◌++◌, map, length, refl, sym, ap, ◌∙◌, append_assoc, append-nil, Some, inr}
 use Rattle.std.specs.List.{concat, flat_map}
-use Rattle.syntect_scope.specs.Stack.{plain, applied}
+use Rattle.syntect_scope.specs.Stack.{plain}
 use Rattle.syntect_scope.specs.Replay.{Replay, replay, replayed, before_text, bytes_to}
 use Rattle.syntect_scope.specs.declared.stack.ScopeStack.{ScopeStack}
 use Rattle.syntect_scope.specs.declared.stack.ScopeStackOp.{ScopeStackOp}
@@ -12,7 +12,7 @@ use Rattle.std.specs.Option.{option_map}
 use Rattle.syntect_parsing.specs.Line.{Accepted, AnswersAll, none, accepts, start, start_id, start_of, stack_before}
 use Rattle.syntect_parsing.specs.Meaning.{Accepts}
 use Rattle.syntect_parsing.specs.Stacks.{IsAt}
-use Rattle.syntect_parsing.specs.States.{Standing}
+use Rattle.syntect_parsing.specs.declared.parser.Standing.{Standing}
 use Rattle.syntect_writers.specs.Lines.{lines_of}
 use Rattle.syntect_classed.specs.Classes.{prefix_of}
 use Rattle.syntect_classed.specs.Marks.{marks, written, stack_after}
@@ -59,9 +59,13 @@ map_last : {X Y : Type 0} (f : X → Y) (xs : List X) (x : X) → map f (xs ++ x
 map_last f [] x = refl
 map_last f (y ∷ ys) x = ap (λ zs. f y ∷ zs) (map_last f ys x)
 
-concat_last : {X : Type 0} (xss : List (List X)) (xs : List X) → concat (xss ++ xs ∷ []) ≡ concat xss ++ xs
-concat_last [] xs = append-nil xs
-concat_last (ys ∷ xss) xs = ap (λ zs. ys ++ zs) (concat_last xss xs) ∙ sym (append_assoc ys (concat xss) xs)
+-- lists joined, and one more behind them
+abbrev all_of : {X : Type 0} → List (List X) → List X
+all_of xss = flat_map (λ xs. xs) xss
+
+all_last : {X : Type 0} (xss : List (List X)) (xs : List X) → all_of (xss ++ xs ∷ []) ≡ all_of xss ++ xs
+all_last [] xs = append-nil xs
+all_last (ys ∷ xss) xs = ap (λ zs. ys ++ zs) (all_last xss xs) ∙ sym (append_assoc ys (all_of xss) xs)
 
 texts : (ls : List Line) → flat_map (λ (l : Line). l.0) ls ≡ concat (map (λ (l : Line). l.0) ls)
 texts [] = refl
@@ -85,7 +89,7 @@ pub record ClassedSoFar (set : SyntaxSet) (syntax : SyntaxReference) (repository
   pub page : (rest : List Line) → text_so_far g ++ page_text (prefix_of style) repository (stack_in g) rest ≡ page_text (prefix_of style) repository (plain []) (lines ++ rest)
   pub stands : stack_in g ≡ behind (plain []) lines
   pub levels : BeginsPlain set syntax → RunsOrderly set syntax (lines_in lines) → stack_in g ≡ stack_before set (state_in g)
-  pub shown : BeginsPlain set syntax → RunsOrderly set syntax (lines_in lines) → page_scopes (plain []) lines ≡ concat scopes
+  pub shown : BeginsPlain set syntax → RunsOrderly set syntax (lines_in lines) → page_scopes (plain []) lines ≡ all_of scopes
   pub has_set : set_in g ≡ set
   pub has_repository : repository_in g ≡ repository
   pub has_style : style_in g ≡ style
@@ -111,7 +115,8 @@ so_far_none set syntax repository style text left g b t k s r y e = record {
   run = none;
   all = ap lines_of e;
   order = tt;
-  page = λ rest. rw (t, k) refl;
+  page = λ rest.
+      ap (λ (xs : List ℕ). xs ++ page_text (prefix_of style) repository (stack_in g) rest) t ∙ ap (λ (stack : ScopeStack). page_text (prefix_of style) repository stack rest) k;
   stands = k;
   levels = λ p o. k ∙ sym (starts_empty set (start_id syntax) (state_in g) b);
   shown = λ p o. refl;
@@ -157,7 +162,7 @@ so_far_more set syntax repository style text left rest line g h more opens s a e
           ∙ ap (λ k. page_scopes (plain []) s.lines ++ bytes_to (replay a.ops (before_text k)) (length line)) (sym s.stands)
           ∙ ap (λ xs. page_scopes (plain []) s.lines ++ xs) (at_end p o).before
           ∙ ap (λ xs. xs ++ acc.bytes) (s.shown p (orderly_before set syntax (lines_in s.lines) line (rw named at o)))
-          ∙ sym (concat_last s.scopes acc.bytes);
+          ∙ sym (all_last s.scopes acc.bytes);
       has_set = a.goes_on.set ∙ s.has_set;
       has_repository = a.goes_on.repository ∙ s.has_repository;
       has_style = a.goes_on.style ∙ s.has_style;

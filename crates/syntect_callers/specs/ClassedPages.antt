@@ -1,9 +1,9 @@
 -- What a reader of a page with classes sees.
 use Rattle.std.specs.Prelude.{◌≡◌, ◌⊎◌, ℕ, List, [], ◌∷◌, ◌++◌, map, Some}
-use Rattle.std.specs.List.{concat, flat_map}
+use Rattle.std.specs.List.{flat_map}
 use Rattle.syntect_parsing.specs.Engine.{dialect}
 use Rattle.syntect_parsing.specs.Line.{Accepted, AnswersAll, start_of}
-use Rattle.syntect_parsing.specs.States.{Standing}
+use Rattle.syntect_parsing.specs.declared.parser.Standing.{Standing}
 use Rattle.syntect_writers.specs.Lines.{lines_of}
 use Rattle.syntect_classed_laws.specs.Page.{read, under, shown}
 use Rattle.syntect_contexts.specs.declared.syntax_reference.SyntaxReference.{SyntaxReference}
@@ -26,7 +26,7 @@ pub record IsClassedPage (set : SyntaxSet) (syntax : SyntaxReference) (repositor
   pub run : AnswersAll dialect set (lines_of text) start (map Accepted scopes) after
   pub read_back : read (under prefix repository [] []) page ≡ under prefix repository [] (flat_map (shown prefix repository) bytes)
   pub is_text : map (λ b. b.0) bytes ≡ text
-  pub has_scopes : BeginsPlain set syntax → RunsOrderly set syntax (lines_of text) → map (λ b. b.1) bytes ≡ concat scopes
+  pub has_scopes : BeginsPlain set syntax → RunsOrderly set syntax (lines_of text) → map (λ b. b.1) bytes ≡ flat_map (λ line. line) scopes
 
 -- Some lines of the text were accepted, one after another from the start of the syntax, and a generator that stands behind them
 -- refuses the next one with this refusal.

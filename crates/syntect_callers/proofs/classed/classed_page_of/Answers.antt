@@ -1,5 +1,6 @@
 use Rattle.std.proofs.Common.{rules}
-use Rattle.syntect_callers.proofs.ClassedSoFar.{so_far_none, so_far_more, page_whole}
+use Rattle.std.proofs.lemmas.Result.{err_from_is_err_and}
+use Rattle.syntect_callers.proofs.ClassedSoFar.{so_far_none, so_far_more, page_whole, no_page}
 use Rattle.syntect_callers.proofs.classed.classed_page_of.Goals as goal
 
 pub loop-line-init : goal.loop-line-init
@@ -15,3 +16,10 @@ loop-line-preserved c =
 pub returns-clause-page : goal.returns-clause-page
 returns-clause-page c =
     page_whole c.args.set.now c.args.syntax.now c.args.repository.now c.args.style c.args.text.now _ _ _ c.pages_are_seen.ensures c.lines_join.ensures.joined c.loop-line.invariant c.in-None.ensures.steps.0 c.in_ok-finalize.ensures
+
+pub returns-in_err-parse_html_for_line_which_includes_newline-clause-refused : goal.returns-in_err-parse_html_for_line_which_includes_newline-clause-refused
+returns-in_err-parse_html_for_line_which_includes_newline-clause-refused c =
+    let r = c.from_residual-in_err-parse_html_for_line_which_includes_newline in
+    let e = c.in_err-parse_html_for_line_which_includes_newline in
+    let p = err_from_is_err_and r.result r.ensures.1 in
+    rw (p.1, p.2) (no_page c.args.set.now c.args.syntax.now c.args.repository.now c.args.style c.args.text.now _ c.in-Some.line.now _ _ e.field-0.0 c.loop-line.invariant c.in-Some.ensures.steps e.ensures.refused)
