@@ -8,13 +8,12 @@ ghost use Rattle.syntect_theme.specs.Refusals.{Refuses};
 
 use crate::{load, load_theme};
 use std::alloc::Global;
+pub use syntect_base::settings::Settings;
 use syntect_base::theme::ParseThemeError;
 use syntect_scope::repository::ScopeRepository;
 use syntect_scope::selector::ScopeSelectors;
 use syntect_theme::style::{Color, FontStyle, StyleModifier};
 use syntect_theme::theme::{Theme, ThemeItem, ThemeSettings, UnderlineOption};
-
-pub use syntect_base::settings::Settings;
 
 /// What can be read from a value.
 pub trait ParseSettings: Sized {
