@@ -1,6 +1,4 @@
 //! Scopes, grammars, sets of them and the reading of lines.
-pub mod metadata;
-
 pub use syntect_base::syntax::ParseSyntaxError;
 pub use syntect_parsing::parser::{ParseState, ParsingError};
 pub use syntect_parsing::syntax_definition;
