@@ -25,6 +25,8 @@ use Rattle.syntect_grammar.specs.declared.error.Error.{Error}
 use Rattle.syntect.specs.Classed.{text_so_far, stack_in, state_in, set_in, repository_in, style_in, AddsLine, RefusesLineOf, closed_text}
 use Rattle.syntect.specs.Leads.{BeginsPlain, RunsOrderly}
 use Rattle.syntect.specs.declared.classed.ClassedHTMLGenerator.{ClassedHTMLGenerator}
+use Rattle.syntect.proofs.LeadLaws.{orderly_before}
+use Rattle.syntect.proofs.PageLaws.{map_last}
 use Rattle.syntect_callers.specs.ClassedPages.{IsClassedPage, HasNoClassedPage}
 
 -- ---- stacks behind lines ----
@@ -54,10 +56,6 @@ scopes_last stack (m ∷ ls) l =
 order_last : (ls : List Line) (l : Line) → AreInOrder ls → AreInOrder (l ∷ []) → AreInOrder (ls ++ l ∷ [])
 order_last [] l h k = k
 order_last (m ∷ ls) l h k = (h.0, order_last ls l h.1 k)
-
-map_last : {X Y : Type 0} (f : X → Y) (xs : List X) (x : X) → map f (xs ++ x ∷ []) ≡ map f xs ++ f x ∷ []
-map_last f [] x = refl
-map_last f (y ∷ ys) x = ap (λ zs. f y ∷ zs) (map_last f ys x)
 
 -- lists joined, and one more behind them
 abbrev all_of : {X : Type 0} → List (List X) → List X
@@ -93,11 +91,6 @@ pub record ClassedSoFar (set : SyntaxSet) (syntax : SyntaxReference) (repository
   pub has_set : set_in g ≡ set
   pub has_repository : repository_in g ≡ repository
   pub has_style : style_in g ≡ style
-
--- lines before an orderly run's last are one
-orderly_before : (set : SyntaxSet) (syntax : SyntaxReference) (lines : List (List ℕ)) (line : List ℕ) → RunsOrderly set syntax (lines ++ line ∷ []) → RunsOrderly set syntax lines
-orderly_before set syntax lines line o = λ start b before behind at answers next same run.
-    o start b before (behind ++ line ∷ []) at answers next (ap (λ (xs : List (List ℕ)). xs ++ line ∷ []) same ∙ append_assoc before (at ∷ behind) (line ∷ [])) run
 
 -- before its first line a reader's stack is empty
 starts_empty : (set : SyntaxSet) (id : Option ContextId) (state : Standing) → option_map start id ≡ Some state → stack_before set state ≡ plain []

@@ -134,7 +134,8 @@ fn truth(value: Option<&Value>) -> Result<Option<bool>, MetadataError>
 #[tactic(auto, using(crate::proofs::TextLaws::nothing_read, crate::proofs::TextLaws::spoils, crate::proofs::TextLaws::all_texts))]
 fn texts(alloc: Global, members: &Map<String, Value>) -> Result<Table<Text, Text>, MetadataError>
     ensures ok { IfOk result (λ texts.
-        ok_or (items.texts_in (members_view members.now.entries)) MetadataError.BadItems ≡ Ok texts) }
+        ok_or (items.texts_in (members_view members.now.entries)) MetadataError.BadItems
+        ≡ Ok texts) }
     ensures err { IfErr result (Refuses
         (ok_or (items.texts_in (members_view members.now.entries)) MetadataError.BadItems)) }
 {

@@ -48,7 +48,8 @@ impl MetadataSet {
         repository: &mut ScopeRepository,
     ) -> Result<MetadataSet, MetadataError>
         ensures ok { IfOk result (λ set.
-            set_of repository.old (string_bytes raw.0) (object (members_view raw.1.entries)) ≡ Ok set) }
+            set_of repository.old (string_bytes raw.0) (object (members_view raw.1.entries))
+            ≡ Ok set) }
         ensures atoms { OnOk result (repository.new
             ≡ with_scopes repository.old (union_words (string_bytes raw.0))) }
         ensures err { IfErr result (Refuses
