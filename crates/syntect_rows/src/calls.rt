@@ -7,7 +7,7 @@ use crate::searching::references;
 use std::alloc::Global;
 use std::io;
 use syntect_tables::engine::long_loop;
-use syntect_tables::styling::{excluded, flags};
+use syntect_tables::styling::flags;
 
 /// An example.
 #[derive(Clone, Copy)]
@@ -18,8 +18,6 @@ enum Row {
     UnresolvedLine,
     /// A syntax without a first context.
     NoStart,
-    /// A rule with an exclusion, between operations.
-    Excluded,
     /// Back references that give way to groups.
     References,
     /// A loop of many turns.
@@ -37,11 +35,10 @@ enum Row {
 }
 
 /// The examples in order, by their labels.
-const ROWS: [(&str, Row); 11] = [
+const ROWS: [(&str, Row); 10] = [
     ("17", Row::FirstLine),
     ("R1.1", Row::UnresolvedLine),
     ("R1.2", Row::NoStart),
-    ("6", Row::Excluded),
     ("24", Row::References),
     ("R2.12", Row::LongLoop),
     ("26", Row::Readers),
@@ -57,7 +54,6 @@ fn holds(alloc: Global, row: Row) -> bool {
         Row::FirstLine => first_line(alloc),
         Row::UnresolvedLine => unresolved_line(alloc),
         Row::NoStart => no_start(alloc),
-        Row::Excluded => excluded(alloc),
         Row::References => references(alloc),
         Row::LongLoop => long_loop(alloc),
         Row::Readers => readers(alloc),

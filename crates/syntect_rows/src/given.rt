@@ -39,6 +39,7 @@ pub fn is_given(heading: &str) -> bool {
             | "escaped text"
             | "given pieces"
             | "given operations"
+            | "given stack"
     )
 }
 

@@ -15,6 +15,7 @@ use syntect_scope::repository::ScopeRepository;
 use syntect_tables::changes::write_changes;
 use syntect_tables::engine::write_queries;
 use syntect_tables::row_file::{Part, body_of, label_of, parts_of};
+use syntect_tables::showing::write_shown;
 use syntect_tables::written::{write_html, write_latex, write_sheet, write_terminal};
 
 /// The folder of the rows.
@@ -43,6 +44,10 @@ fn write_written(
         "classed page behind p<" => write_classed_page(given, PREFIXED, repository, out),
         "spans" | "ranges" | "operations below" => {
             write_changes(alloc, parts, (part.heading, given.text), repository, out)
+        }
+        "shown" | "shown with ranges" => {
+            let (theme, asked) = (given.theme, (part.heading, given.text));
+            write_shown(alloc, theme, parts, asked, repository, out)
         }
         _ => write_table(files, given, part, repository, out),
     }

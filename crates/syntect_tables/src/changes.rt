@@ -11,7 +11,7 @@ use syntect_scope::repository::ScopeRepository;
 use syntect_scope::stack::{BasicScopeStackOp, ClearAmount, ScopeStack, ScopeStackOp};
 
 /// The operations that a row gives, one a line: the place and the operation, with a space between.
-fn operations_of(
+pub(crate) fn operations_of(
     alloc: Global,
     parts: &[Part<'_>],
     repository: &mut ScopeRepository,

@@ -8,6 +8,7 @@ mod cutting;
 pub mod engine;
 pub mod row_file;
 mod scoring;
+pub mod showing;
 pub mod styles;
 pub mod styling;
 mod theme_folders;
