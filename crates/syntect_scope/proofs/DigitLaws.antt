@@ -217,3 +217,28 @@ digit_step ds rest number h =
 
 pub last_step : (ds : List ℕ) (rest : ℕ) → 0 < rest → rest / 8 ≡ 0 → 0 < get_or (ds ++ rest % 8 ∷ []) (length (ds ++ rest % 8 ∷ []) - 1) 0
 last_step ds rest l z = omega (arith, highest_push ds (rest % 8), l, z)
+
+-- ---- the digits from a place on ----
+
+-- that digit, and those above it
+pub from_place : (ds : List ℕ) (i : ℕ) → i < length ds → number_of (drop i ds) ≡ get_or ds i 0 + 8 * number_of (drop (i + 1) ds)
+from_place [] i l = absurd (omega (arith, l))
+from_place (x ∷ ds) zero l = refl
+from_place (x ∷ ds) (suc i) l =
+    let z : suc i + 1 ≡ suc (i + 1) = omega arith in
+    rw z (from_place ds i (omega (arith, l)))
+
+-- they write no more than all
+pub part_below : (ds : List ℕ) (i : ℕ) → number_of (drop i ds) ≤ number_of ds
+part_below [] zero = omega arith
+part_below [] (suc i) = omega arith
+part_below (x ∷ ds) zero = omega arith
+part_below (x ∷ ds) (suc i) = omega (arith, part_below ds i)
+
+-- a digit and what those above it write
+pub digits_above : (ds : List ℕ) (i n : ℕ) → 0 < i → i ≤ length ds → number_of (drop i ds) ≡ n → get_or ds (i - 1) 0 + n * 8 ≤ number_of ds
+digits_above ds i n p l e =
+    let z : i - 1 + 1 ≡ i = omega (arith, p) in
+    let f : number_of (drop (i - 1) ds) ≡ get_or ds (i - 1) 0 + 8 * number_of (drop (i - 1 + 1) ds) = from_place ds (i - 1) (omega (arith, p, l)) in
+    let g : number_of (drop (i - 1) ds) ≡ get_or ds (i - 1) 0 + 8 * number_of (drop i ds) = rw z at f in
+    omega (arith, g, e, part_below ds (i - 1))

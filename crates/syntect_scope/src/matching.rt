@@ -8,6 +8,24 @@ use crate::selector::{ScopeSelector, ScopeSelectors};
 use crate::stack::ScopeStack;
 use std::alloc::{AllocError, Global};
 
+/// Whether a path is found in a stack.
+fn is_found(path: &[Scope], stack: &[Scope]) -> bool
+    ensures { result ≡ is_some (least_choice path.now stack.now) }
+{
+    let mut rest = path;
+    for scope in stack {
+        match rest.split_first() {
+            None => return true,
+            Some((first, others)) => {
+                if first.is_prefix_of(*scope) {
+                    rest = others;
+                }
+            }
+        }
+    }
+    rest.is_empty()
+}
+
 /// The score of a path in a stack, if it is found there: each of its scopes at the first place behind the one before
 /// it.
 fn path_power(
@@ -17,6 +35,9 @@ fn path_power(
 ) -> Result<Option<MatchPower>, AllocError>
     ensures { IfOk result (λ power. power ≡ path_score path.now stack.now) }
 {
+    if !is_found(path, stack) {
+        return Ok(None);
+    }
     let mut power = MatchPower::new(alloc);
     let mut rest = path;
     for (place, scope) in stack.iter().enumerate() {
@@ -35,24 +56,6 @@ fn path_power(
     } else {
         Ok(None)
     }
-}
-
-/// Whether a path is found in a stack.
-fn is_found(path: &[Scope], stack: &[Scope]) -> bool
-    ensures { result ≡ is_some (least_choice path.now stack.now) }
-{
-    let mut rest = path;
-    for scope in stack {
-        match rest.split_first() {
-            None => return true,
-            Some((first, others)) => {
-                if first.is_prefix_of(*scope) {
-                    rest = others;
-                }
-            }
-        }
-    }
-    rest.is_empty()
 }
 
 /// The greater of two scores.

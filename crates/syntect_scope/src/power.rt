@@ -1,5 +1,5 @@
 //! Scores: whole numbers of any size.
-ghost use Rattle.std.specs.Prelude.{◌≡◌, ◌==◌, ◌<◌, ◌≤◌, ◌+◌, ◌-◌, ◌*◌, ◌^◌, ℕ, List, [], length, max, IfSome, IfOk, OnOk, OnErr, vec_capacity, slice_index};
+ghost use Rattle.std.specs.Prelude.{◌≡◌, ◌==◌, ◌<◌, ◌≤◌, ◌+◌, ◌-◌, ◌*◌, ◌^◌, ℕ, List, [], length, max, IfSome, IfNone, IfOk, OnOk, OnErr, vec_capacity, slice_index};
 ghost use Rattle.std.specs.Ordering.{nat_cmp, as_partial_cmp};
 ghost use Rattle.std.proofs.Common.{rules};
 ghost use Rattle.std.specs.Cmp.{partial_order_from_own_ties};
@@ -93,6 +93,20 @@ fn compare(a: &[u8], b: &[u8]) -> Ordering
     Ordering::Equal
 }
 
+/// The number that digits write, where it is less than 2^64.
+fn small_number(digits: &[u8]) -> Option<u64>
+    ensures fits { IfSome result (λ number. number ≡ number_of digits.now) }
+    ensures too_large { IfNone result (2 ^ 64 ≤ number_of digits.now) }
+{
+    let mut number = 0u64;
+    let mut i = digits.len();
+    while i > 0 {
+        i -= 1;
+        number = number.checked_mul(8)?.checked_add(u64::from(digits[i]))?;
+    }
+    Some(number)
+}
+
 impl MatchPower {
     /// Nought. Takes no memory.
     pub fn new(alloc: Global) -> MatchPower
@@ -123,6 +137,14 @@ impl MatchPower {
         Ok(MatchPower {
             digits: Vec::from_slice(*self.digits.allocator(), self.digits.as_slice())?,
         })
+    }
+
+    /// The number, where it is less than 2^64. Takes no memory.
+    pub fn to_u64(&self) -> Option<u64>
+        ensures fits { IfSome result (λ number. number ≡ self.now) }
+        ensures too_large { IfNone result (2 ^ 64 ≤ self.now) }
+    {
+        small_number(self.digits.as_slice())
     }
 
     /// Adds `count * 8^place`. Without memory for the sum the number stays.

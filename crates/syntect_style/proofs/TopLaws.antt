@@ -1,5 +1,7 @@
 -- What one scope more on top changes in the contest of the single rules.
-use Rattle.std.proofs.Common.{◌≡◌, ◌==◌, ℕ, zero, suc, ◌<◌, ◌≤◌, Bool, true, false, not, ◌&&◌, ◌||◌, if◌then◌else◌, List, [], ◌∷◌, ◌++◌, length, Option, Some, None, refl, sym, ap, subst, ◌∙◌, ◌⊎◌, inl, inr, arith}
+use Rattle.std.proofs.Common.{◌≡◌, ◌==◌, ℕ, zero, suc, ◌*◌, ◌^◌, ◌<◌, ◌≤◌, Bool, true, false, not, ◌&&◌, ◌||◌, if◌then◌else◌, List, [], ◌∷◌, ◌++◌, length, Option, Some, None, refl, sym, ap, subst, ◌∙◌, ◌⊎◌, inl, inr, arith, lit<}
+use Rattle.std.proofs.Math.Nat.{pow-le-pow_right}
+use Rattle.std.proofs.lemmas.Nat.{mul-le}
 use Rattle.std.specs.Prelude.{nat_lt}
 use Rattle.std.proofs.lemmas.Bool.{lt-ltb}
 use Rattle.std.proofs.lemmas.Bool.Decides.{nat_tests}
@@ -355,3 +357,26 @@ module _ {V : Type 0} (n : ℕ) where
       by : (b : Bool) → nat_lt e.score.power y.score.power ≡ b → worth (against (Some e) (Some y)) ≡ worth (against (Some k) (Some y))
       by true f = rw (f, ← p, f) refl
       by false f = rw (f, ← p, f, t, i.1, j.1, late i.0 i.2, late j.0 j.2, never (y.score.power == e.score.power), v) refl
+
+-- ---- small weights ----
+
+pub number_not_less : (a b : ℕ) → b ≤ a → false ≡ nat_lt a b
+number_not_less a b l = grind (arith, nat_tests)
+
+-- a digit that isn't 0, at a high place, makes more than 64 bits
+pub weight_least : (digit place : ℕ) → (digit ≡ 0 → ⊥) → 22 ≤ place → 2 ^ 64 ≤ digit * 8 ^ place
+weight_least zero place n l = absurd (n refl)
+weight_least (suc digit) place n l =
+    let m : 8 ^ 22 ≤ 8 ^ place = pow-le-pow_right {n = 8} (lit< tt) {i = 22} {j = place} l in
+    omega (arith, m)
+
+-- and one at a lower place, less than 67
+pub power_small : (place : ℕ) → place < 22 → 8 ^ place ≤ 2 ^ 63
+power_small place l =
+    let m : 8 ^ place ≤ 8 ^ 21 = pow-le-pow_right {n = 8} (lit< tt) {i = place} {j = 21} (omega (arith, l)) in
+    omega (arith, m)
+
+pub weight_most : (digit power : ℕ) → digit < 8 → power ≤ 2 ^ 63 → digit * power < 2 ^ 128
+weight_most digit power l m =
+    let p : digit * power ≤ 7 * 2 ^ 63 = mul-le digit power 7 (2 ^ 63) (omega (arith, l)) m in
+    omega (arith, p)

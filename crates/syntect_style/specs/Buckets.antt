@@ -24,15 +24,9 @@ pub record AreBuckets (rules : List Rule) (buckets : List (List Rule)) : Type 0 
   pub count : length buckets ≡ 32
   pub each : (b : ℕ) → b < 32 → slice_index_or buckets b [] ≡ filter (may_match b) rules
 
--- each rule's selector has a path
-abbrev pub HavePaths : List (ScopeSelector × StyleModifier) → Type 0
-HavePaths [] = Unit {0}
-HavePaths (o ∷ others) = (0 < length o.0.path.scopes) × HavePaths others
-
--- A theme made ready: its single rules in buckets, its other rules in their order, the last scopes of these in buckets too,
--- and whether one of them has no path.
-pub record IsReady (theme : Theme) (buckets : List (List Rule)) (others : List (ScopeSelector × StyleModifier)) (lasts : List (List Rule)) (pathless : Bool) : Type 0 where
+-- A theme made ready: its single rules in buckets, its other rules in their order, the last scopes of the paths and
+-- exclusions of these in buckets too.
+pub record IsReady (theme : Theme) (buckets : List (List Rule)) (others : List (ScopeSelector × StyleModifier)) (lasts : List (List Rule)) : Type 0 where
   pub singles : AreBuckets (single_rules theme) buckets
   pub all_others : others ≡ other_rules theme
   pub last_scopes : AreBuckets (last_rules (other_rules theme)) lasts
-  pub paths : pathless ≡ false → HavePaths (other_rules theme)

@@ -1,10 +1,14 @@
 -- The rules of a theme, the single ones apart from the others, and the candidates among them in turn.
-use Rattle.std.specs.Prelude.{◌≡◌, ℕ, ◌-◌, ◌*◌, ◌^◌, ◌<◌, Bool, false, List, [], ◌∷◌, length, if◌then◌else◌, Option, Some, None}
+use Rattle.std.specs.Prelude.{◌≡◌, ℕ, ◌-◌, ◌*◌, ◌^◌, ◌<◌, List, [], ◌∷◌, ◌++◌, length, if◌then◌else◌, Option, Some, None}
+use Rattle.std.specs.Option.{option_to_list}
 use Rattle.std.specs.List.{filter_map, flat_map, slice_get}
 use Rattle.syntect_scope.specs.declared.selector.ScopeSelector.{ScopeSelector}
 use Rattle.syntect_scope.specs.Atoms.{is_prefix}
 use Rattle.syntect_scope.specs.SelectorText.{sole_scope}
-use Rattle.syntect_style.specs.Candidates.{single_score, other_score, Score, Candidate, candidate, beats, deepest}
+use Rattle.syntect_style.specs.Candidates.{single_score, other_score, Score, Candidate, candidate, beats}
+use Rattle.syntect_scope.specs.Choice.{selector_score}
+use Rattle.syntect_theme.specs.declared.style.Color.{Color}
+use Rattle.syntect_theme.specs.declared.style.FontStyle.{FontStyle}
 use Rattle.syntect_theme.specs.declared.style.StyleModifier.{StyleModifier}
 use Rattle.syntect_theme.specs.declared.theme.ThemeItem.{ThemeItem}
 use Rattle.syntect_theme.specs.declared.theme.Theme.{Theme}
@@ -119,23 +123,27 @@ abbrev pub best_other : {V : Type 0} → (StyleModifier → Option V) → List (
     → List (ScopeSelector × StyleModifier) → Option (Candidate V)
 best_other attribute stack others = after_others attribute stack None others
 
--- the last scope of a selector's path
-abbrev pub last_scope : ScopeSelector → Option (List ℕ)
-last_scope selector = slice_get selector.path.scopes (length selector.path.scopes - 1)
+-- ---- which of them a scope on top can touch ----
 
--- the last scopes of the paths of rules, each as a single rule
+-- the last scope of a path, as a single rule
+abbrev pub last_rule : List (List ℕ) → StyleModifier → List Rule
+last_rule path m = option_to_list (rule_of (slice_get path (length path - 1)) m)
+
+-- the last scopes of a rule's exclusions and of its path
+abbrev pub lasts_of : ScopeSelector × StyleModifier → List Rule
+lasts_of o = flat_map (λ exclusion. last_rule exclusion.scopes o.1) o.0.excludes ++ last_rule o.0.path.scopes o.1
+
+-- those of rules
 abbrev pub last_rules : List (ScopeSelector × StyleModifier) → List Rule
-last_rules others = filter_map (λ o. rule_of (last_scope o.0) o.1) others
+last_rules others = flat_map lasts_of others
 
--- the last scope of a selector's path begins no scope of a stack
-abbrev pub IsOut : ScopeSelector → List (List ℕ) → Type 0
-IsOut selector stack = (last : List ℕ) × (last_scope selector ≡ Some last) × (deepest last stack ≡ None)
+-- each of these rules scores in the one stack what it scores in the other
+abbrev pub ScoreAlike : List (ScopeSelector × StyleModifier) → List (List ℕ) → List (List ℕ) → Type 0
+ScoreAlike [] a b = Unit {0}
+ScoreAlike (o ∷ others) a b = (selector_score o.0 a ≡ selector_score o.0 b) × ScoreAlike others a b
 
--- so it is with each of these rules
-abbrev pub AreOut : List (ScopeSelector × StyleModifier) → List (List ℕ) → Type 0
-AreOut [] stack = Unit {0}
-AreOut (o ∷ others) stack = IsOut o.0 stack × AreOut others stack
-
--- unless this says that they are reached, each of the other rules of a theme is out
-abbrev pub TellsOut : Bool → Theme → List (List ℕ) → Type 0
-TellsOut reached theme stack = reached ≡ false → AreOut (other_rules theme) stack
+-- for each attribute this is what the other rules of a theme come to in a stack
+pub record AreOthers (theme : Theme) (stack : List (List ℕ)) (of_text of_ground : Option (Candidate Color)) (of_font : Option (Candidate FontStyle)) : Type 0 where
+  pub foreground : of_text ≡ best_other (λ m. m.foreground) stack (other_rules theme)
+  pub background : of_ground ≡ best_other (λ m. m.background) stack (other_rules theme)
+  pub font_style : of_font ≡ best_other (λ m. m.font_style) stack (other_rules theme)

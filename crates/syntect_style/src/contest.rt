@@ -46,8 +46,6 @@ pub(crate) struct Standings {
     pub(crate) foreground: Option<(SingleScore, Color)>,
     pub(crate) background: Option<(SingleScore, Color)>,
     pub(crate) font_style: Option<(SingleScore, FontStyle)>,
-    /// Whether another rule may have a score.
-    pub(crate) reached: bool,
 }
 
 /// Whether a rule's scope begins this one.
@@ -72,7 +70,6 @@ pub(crate) fn offer_rules(best: &mut Standings, rules: &[Rule], top: Scope, plac
         ≡ after_top (λ m. m.background) top place (candidate_from best.old.background) rules.now }
     ensures font_style { candidate_from best.new.font_style
         ≡ after_top (λ m. m.font_style) top place (candidate_from best.old.font_style) rules.now }
-    ensures reached { best.new.reached ≡ best.old.reached }
 {
     for rule in rules {
         if rule.scope.is_prefix_of(top) {

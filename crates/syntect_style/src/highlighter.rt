@@ -1,17 +1,15 @@
 //! The style of a stack of scopes.
 ghost use Rattle.std.specs.Prelude.{◌≡◌, ◌+◌, ◌<◌, ◌^◌, ◌++◌, ◌∷◌, [], ℕ, List, length, false, IfOk};
-ghost use Rattle.std.specs.List.{filter, list_any};
-ghost use Rattle.syntect_scope.specs.Atoms.{is_prefix};
+ghost use Rattle.std.specs.List.{filter};
 ghost use Rattle.syntect_style.specs.Styling.{style_of, default_style, winners};
-ghost use Rattle.syntect_style.specs.Rules.{single_rules, other_rules, last_rules, other_from};
-ghost use Rattle.syntect_style.specs.Rules.{best_other, TellsOut};
+ghost use Rattle.syntect_style.specs.Rules.{single_rules, other_rules, last_rules, ScoreAlike};
 ghost use Rattle.syntect_style.specs.Buckets.{may_match, bucket_of};
-ghost use Rattle.syntect_style.specs.Kept.{AreStanding};
+ghost use Rattle.syntect_style.specs.Kept.{AreStanding, AreLarge, AreSmall};
 
 use crate::buckets::{bucket_of, bucketed};
 use crate::contest::{Standings, any_begins, offer_rules};
-use crate::others::{Other, OtherStandings, better, no_others, others_of};
-use crate::ready::{has_pathless, last_rules, push_others, push_rules};
+use crate::others::{Other, OtherStandings, SmallStandings, better, better_small, others_of};
+use crate::ready::{last_rules, push_others, push_rules};
 use crate::scores::Rule;
 use std::alloc::{AllocError, Global};
 use std::marker::Model;
@@ -29,10 +27,8 @@ pub struct Highlighter<'a> {
     buckets: Vec<Seq<Rule>>,
     /// The other rules.
     others: Vec<Other>,
-    /// The last scopes of their paths, in the same way.
+    /// The last scopes of their paths and exclusions, in the same way.
     lasts: Vec<Seq<Rule>>,
-    /// Whether one of them has no path.
-    pathless: bool,
 }
 
 impl<'a> Model for Highlighter<'a> {
@@ -46,7 +42,7 @@ impl<'a> Model for Highlighter<'a> {
     ghost view = { λ a. a.theme.now };
 
     ghost invariant = { λ a. IsReady a.theme.now
-        a.buckets.items (map rule_from a.others.items) a.lasts.items a.pathless };
+        a.buckets.items (map rule_from a.others.items) a.lasts.items };
 }
 
 impl<'a> Highlighter<'a> {
@@ -63,13 +59,11 @@ impl<'a> Highlighter<'a> {
         let buckets = bucketed(alloc, rules.as_slice())?;
         let last_rules = last_rules(alloc, others.as_slice())?;
         let lasts = bucketed(alloc, last_rules.as_slice())?;
-        let pathless = has_pathless(others.as_slice());
         Ok(Highlighter {
             theme,
             buckets,
             others,
             lasts,
-            pathless,
         })
     }
 
@@ -99,7 +93,8 @@ impl<'a> Highlighter<'a> {
     pub fn style_mod_for_stack(&self, stack: &[Scope]) -> Result<StyleModifier, AllocError>
         ensures { IfOk result (λ m. m ≡ winners self.now stack.now) }
     {
-        self.finished(self.standings_of(stack), stack)
+        let others = self.others_in(stack)?;
+        self.finished(self.standings_of(stack), &others)
     }
 
     /// What stands after the single rules.
@@ -121,7 +116,6 @@ impl<'a> Highlighter<'a> {
             foreground: None,
             background: None,
             font_style: None,
-            reached: self.pathless,
         }
     }
 
@@ -133,21 +127,17 @@ impl<'a> Highlighter<'a> {
             → AreStanding self.now (stack ++ top ∷ []) standings.new }
     {
         offer_rules(standings, self.rules_for(top), top, place);
-        standings.reached = self.reaches(standings.reached, top);
     }
 
-    /// Whether one of the other rules may have a score, with one scope more on top.
-    fn reaches(&self, before: bool, top: Scope) -> bool
-        ensures { result ≡ false → (before ≡ false)
-            × (list_any (λ r. is_prefix r.scope top) (last_rules (other_rules self.now)) ≡ false) }
+    /// Whether one of the other rules may have another score, with one scope more on top.
+    pub(crate) fn touches(&self, top: Scope) -> bool
+        ensures { result ≡ false → (stack : List (List ℕ))
+            → ScoreAlike (other_rules self.now) stack (stack ++ top ∷ []) }
     {
-        if before {
-            return true;
-        }
         any_begins(self.lasts_for(top), top)
     }
 
-    /// Of the last scopes of the other rules those that can begin a scope.
+    /// Of the last scopes of the other rules' paths and exclusions those that can begin a scope.
     fn lasts_for(&self, scope: Scope) -> &[Rule]
         ensures { result.now
             ≡ filter (may_match (bucket_of scope)) (last_rules (other_rules self.now)) }
@@ -162,41 +152,41 @@ impl<'a> Highlighter<'a> {
         self.buckets[bucket_of(scope)].as_slice()
     }
 
-    /// What stands after the other rules, none of which has a score if they are not reached.
-    fn others_standing(&self, reached: bool, stack: &[Scope]) -> Result<OtherStandings, AllocError>
-        ensures foreground { IfOk result (λ s. TellsOut reached self.now stack.now
-            → other_from s.foreground
-            ≡ best_other (λ m. m.foreground) stack.now (other_rules self.now)) }
-        ensures background { IfOk result (λ s. TellsOut reached self.now stack.now
-            → other_from s.background
-            ≡ best_other (λ m. m.background) stack.now (other_rules self.now)) }
-        ensures font_style { IfOk result (λ s. TellsOut reached self.now stack.now
-            → other_from s.font_style
-            ≡ best_other (λ m. m.font_style) stack.now (other_rules self.now)) }
+    /// What the other rules come to.
+    pub(crate) fn others_in(&self, stack: &[Scope]) -> Result<OtherStandings, AllocError>
+        ensures { IfOk result (AreLarge self.now stack.now) }
     {
-        if reached {
-            let all = others_of(self.others.as_slice(), stack)?;
-            return Ok(all);
-        }
-        Ok(no_others())
+        let all = others_of(self.others.as_slice(), stack)?;
+        Ok(all)
     }
 
-    /// The values that prevail, where these stand after the single rules.
+    /// The values that prevail, where these stand after the single rules and those are what the other rules come to.
     pub(crate) fn finished(
         &self,
         single: Standings,
-        stack: &[Scope],
+        others: &OtherStandings,
     ) -> Result<StyleModifier, AllocError>
-        ensures { IfOk result (λ m. AreStanding self.now stack.now single
-            → m ≡ winners self.now stack.now) }
+        ensures { IfOk result (λ m. (stack : List (List ℕ)) → AreStanding self.now stack single
+            → AreLarge self.now stack others.now → m ≡ winners self.now stack) }
     {
         let alloc = *self.others.allocator();
-        let other = self.others_standing(single.reached, stack)?;
         Ok(StyleModifier {
-            foreground: better(alloc, single.foreground, &other.foreground)?,
-            background: better(alloc, single.background, &other.background)?,
-            font_style: better(alloc, single.font_style, &other.font_style)?,
+            foreground: better(alloc, single.foreground, &others.foreground)?,
+            background: better(alloc, single.background, &others.background)?,
+            font_style: better(alloc, single.font_style, &others.font_style)?,
         })
+    }
+
+    /// The same, where the other rules' scores are small.
+    pub(crate) fn finished_small(&self, single: Standings, others: SmallStandings) -> StyleModifier
+        ensures { (stack : List (List ℕ)) → AreStanding self.now stack single
+            → AreSmall self.now stack others → result ≡ winners self.now stack }
+    {
+        StyleModifier {
+            foreground: better_small(single.foreground, others.foreground),
+            background: better_small(single.background, others.background),
+            font_style: better_small(single.font_style, others.font_style),
+        }
     }
 }
 

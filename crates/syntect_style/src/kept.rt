@@ -1,20 +1,28 @@
 //! What is known of the style of a stack and of its lower parts.
-ghost use Rattle.std.specs.Prelude.{◌≡◌, ◌≤◌, ◌<◌, ◌+◌, ◌++◌, ◌∷◌, [], true, Some, length, slice_get, IfOk, OnOk, OnErr};
-ghost use Rattle.syntect_style.specs.Kept.{AreKnown, AreStanding, scopes_of, lowest};
-ghost use Rattle.syntect_style.specs.Styling.{style_of};
+ghost use Rattle.std.specs.Prelude.{◌≡◌, ◌≤◌, ◌<◌, ◌+◌, ◌^◌, ◌++◌, ◌∷◌, [], true, Some, length, slice_get, take, IfOk, IfSome, OnOk, OnErr};
+ghost use Rattle.syntect_style.specs.Kept.{AreKnown, AreSmall, AreStanding, IsBase, IsKnown, scopes_of, lowest};
+ghost use Rattle.syntect_style.specs.Styling.{style_of, winners};
+ghost use Rattle.syntect_theme.specs.declared.theme.Theme.{Theme};
 
 use crate::contest::Standings;
 use crate::highlighter::Highlighter;
+use crate::others::SmallStandings;
 use std::alloc::{AllocError, Global};
 use std::marker::Model;
 use syntect_scope::scope::Scope;
-use syntect_theme::style::Style;
+use syntect_theme::style::{Style, StyleModifier};
 
-/// What is known of a stack, by its top scope: what stands after the single rules, and the style if it was shown.
+/// What is known of a stack, by its top scope.
 #[derive(Clone, Copy, Debug)]
 pub(crate) struct Kept {
     pub(crate) scope: Scope,
+    /// What stands after the single rules.
     pub(crate) single: Standings,
+    /// How many of its scopes, from the bottom, decide what the other rules come to.
+    pub(crate) base: usize,
+    /// What they come to, if it is known and their scores are small.
+    pub(crate) others: Option<SmallStandings>,
+    /// The style, if it was shown.
     pub(crate) style: Option<Style>,
 }
 
@@ -81,6 +89,32 @@ impl KeptStyles {
         self.entries[place - 1].single
     }
 
+    /// How many scopes below a place decide what the other rules come to.
+    fn base_below(&self, place: usize) -> usize
+        requires { place ≤ length self.now }
+        ensures { (theme : Theme) → AreKnown theme [] self.now
+            → IsBase theme (lowest place self.now) result }
+    {
+        if place == 0 {
+            return 0;
+        }
+        self.entries[place - 1].base
+    }
+
+    /// How many scopes do with one more on top, at a place.
+    fn base_with(&self, highlighter: &Highlighter<'_>, scope: Scope, place: usize) -> usize
+        requires within { place ≤ length self.now }
+        requires room { place + 1 < 2 ^ 64 }
+        ensures { AreKnown highlighter.now [] self.now
+            → IsBase highlighter.now (lowest place self.now ++ scope ∷ []) result }
+    {
+        if highlighter.touches(scope) {
+            place + 1
+        } else {
+            self.base_below(place)
+        }
+    }
+
     /// Goes from a stack that is known to the one with this scope more on top. What is known of that one is taken up
     /// again; else it is worked out, and what is known of other stacks above goes.
     pub(crate) fn push(
@@ -102,13 +136,63 @@ impl KeptStyles {
         }
         let mut single = self.below(highlighter, place);
         highlighter.raise(&mut single, scope, place);
+        let base = self.base_with(highlighter, scope, place);
         self.entries.truncate(place);
         self.entries.push(Kept {
             scope,
             single,
+            base,
+            others: None,
             style: None,
         })?;
         Ok(())
+    }
+
+    /// What the other rules come to in the lowest so many scopes, if it is known and their scores are small.
+    fn others_at(&self, count: usize) -> Option<SmallStandings>
+        ensures { IfSome result (λ others. (theme : Theme) → AreKnown theme [] self.now
+            → AreSmall theme (lowest count self.now) others) }
+    {
+        if count == 0 {
+            return None;
+        }
+        self.entries.get(count - 1)?.others
+    }
+
+    /// Keeps what the other rules come to in the lowest so many scopes.
+    fn keep_others(&mut self, count: usize, others: Option<SmallStandings>)
+        ensures scopes { scopes_of self.new ≡ scopes_of self.old }
+        ensures known { (theme : Theme)
+            → IfSome others (AreSmall theme (lowest count self.old))
+            → AreKnown theme [] self.old → AreKnown theme [] self.new }
+    {
+        if count > 0 && count <= self.entries.len() {
+            self.entries[count - 1].others = others;
+        }
+    }
+
+    /// The values that prevail in a stack of which this is known.
+    fn modifier(
+        &mut self,
+        highlighter: &Highlighter<'_>,
+        stack: &[Scope],
+        known: Kept,
+    ) -> Result<StyleModifier, AllocError>
+        ensures scopes { scopes_of self.new ≡ scopes_of self.old }
+        ensures known { lowest known.base self.old ≡ take known.base stack.now
+            → AreKnown highlighter.now [] self.old
+            → AreKnown highlighter.now [] self.new }
+        ensures value { IfOk result (λ m. lowest known.base self.old ≡ take known.base stack.now
+            → AreKnown highlighter.now [] self.old
+            → IsKnown highlighter.now stack.now known → m ≡ winners highlighter.now stack.now) }
+    {
+        if let Some(others) = self.others_at(known.base) {
+            return Ok(highlighter.finished_small(known.single, others));
+        }
+        let lower = stack.split_at(known.base.min(stack.len())).0;
+        let others = highlighter.others_in(lower)?;
+        self.keep_others(known.base, others.small());
+        highlighter.finished(known.single, &others)
     }
 
     /// The style of a stack that is known, whose top is at this place.
@@ -131,7 +215,7 @@ impl KeptStyles {
         if let Some(style) = known.style {
             return Ok(style);
         }
-        let modifier = highlighter.finished(known.single, stack)?;
+        let modifier = self.modifier(highlighter, stack, known)?;
         let style = highlighter.get_default().apply(modifier);
         self.entries[place].style = Some(style);
         Ok(style)

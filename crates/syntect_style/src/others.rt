@@ -1,5 +1,5 @@
 //! The contest of the rules whose selectors have several scopes, none, or exclusions.
-ghost use Rattle.std.specs.Prelude.{◌≡◌, false, map, None, IfOk, OnOk};
+ghost use Rattle.std.specs.Prelude.{◌≡◌, false, map, None, IfOk, IfSome, OnOk};
 ghost use Rattle.std.specs.Option.{option_map};
 ghost use Rattle.syntect_scope.specs.Choice.{selector_score};
 ghost use Rattle.syntect_style.specs.Rules.{against, candidate_from, other_from, other_candidate};
@@ -26,6 +26,14 @@ pub(crate) struct OtherStandings {
     pub(crate) foreground: Option<(MatchPower, Color)>,
     pub(crate) background: Option<(MatchPower, Color)>,
     pub(crate) font_style: Option<(MatchPower, FontStyle)>,
+}
+
+/// The same, where the scores are small.
+#[derive(Clone, Copy, Debug)]
+pub(crate) struct SmallStandings {
+    pub(crate) foreground: Option<(u64, Color)>,
+    pub(crate) background: Option<(u64, Color)>,
+    pub(crate) font_style: Option<(u64, FontStyle)>,
 }
 
 /// What stands before the first rule: nothing.
@@ -135,6 +143,58 @@ pub(crate) fn others_of(others: &[Other], stack: &[Scope]) -> Result<OtherStandi
         }
     }
     Ok(best)
+}
+
+/// A value with its score, if that is small.
+fn small<V: Copy>(best: &Option<(MatchPower, V)>) -> Option<Option<(u64, V)>>
+    ensures { IfSome result (λ small. other_from small ≡ other_from best.now) }
+{
+    match best {
+        None => Some(None),
+        Some((power, value)) => {
+            let power = power.to_u64()?;
+            Some(Some((power, *value)))
+        }
+    }
+}
+
+impl OtherStandings {
+    /// The same, if all scores are small.
+    pub(crate) fn small(&self) -> Option<SmallStandings>
+        ensures foreground { IfSome result (λ s. other_from s.foreground
+            ≡ other_from self.now.foreground) }
+        ensures background { IfSome result (λ s. other_from s.background
+            ≡ other_from self.now.background) }
+        ensures font_style { IfSome result (λ s. other_from s.font_style
+            ≡ other_from self.now.font_style) }
+    {
+        Some(SmallStandings {
+            foreground: small(&self.foreground)?,
+            background: small(&self.background)?,
+            font_style: small(&self.font_style)?,
+        })
+    }
+}
+
+/// The value of the one with the greater score: of equal scores that of the single rule. The other one's score is small.
+pub(crate) fn better_small<V: Copy>(
+    single: Option<(SingleScore, V)>,
+    other: Option<(u64, V)>,
+) -> Option<V>
+    ensures { result
+        ≡ option_map (λ c. c.value) (against (candidate_from single) (other_from other)) }
+{
+    let Some((power, of_other)) = other else {
+        return single.map(|c| c.1);
+    };
+    let Some((score, of_single)) = single else {
+        return Some(of_other);
+    };
+    Some(if score.is_below(power) {
+        of_other
+    } else {
+        of_single
+    })
 }
 
 /// The value of the one with the greater score: of equal scores that of the single rule.

@@ -1,11 +1,12 @@
 //! The rules of a theme, made ready: the single ones apart from the others.
-ghost use Rattle.std.specs.Prelude.{◌≡◌, ◌++◌, map, false, IfOk, OnOk};
-ghost use Rattle.syntect_style.specs.Rules.{item_rules, item_others, rule_from, last_rules};
-ghost use Rattle.syntect_style.specs.Buckets.{HavePaths};
+ghost use Rattle.std.specs.Prelude.{◌≡◌, ◌++◌, map, IfOk, OnOk};
+ghost use Rattle.syntect_style.specs.Rules.{item_rules, item_others, rule_from, last_rule, lasts_of, last_rules};
 
 use crate::others::Other;
 use crate::scores::Rule;
 use std::alloc::{AllocError, Global};
+use syntect_scope::scope::Scope;
+use syntect_theme::style::StyleModifier;
 use syntect_theme::theme::ThemeItem;
 
 /// Adds the single rules of an item.
@@ -39,30 +40,36 @@ pub(crate) fn push_others(others: &mut Vec<Other>, item: &ThemeItem) -> Result<(
     Ok(())
 }
 
-/// The last scopes of the paths of rules.
+/// Adds the last scope of a path, if it has one, as a single rule.
+fn push_last(rules: &mut Vec<Rule>, path: &[Scope], style: StyleModifier) -> Result<(), AllocError>
+    ensures { OnOk result (rules.new.items ≡ rules.old.items ++ last_rule path.now style) }
+{
+    if let Some(scope) = path.last() {
+        rules.push(Rule {
+            scope: *scope,
+            style,
+        })?;
+    }
+    Ok(())
+}
+
+/// Adds the last scopes of a rule's exclusions and of its path.
+fn push_lasts(rules: &mut Vec<Rule>, other: &Other) -> Result<(), AllocError>
+    ensures { OnOk result (rules.new.items ≡ rules.old.items ++ lasts_of (rule_from other.now)) }
+{
+    for exclusion in other.selector.excludes.as_slice() {
+        push_last(rules, exclusion.as_slice(), other.style)?;
+    }
+    push_last(rules, other.selector.path.as_slice(), other.style)
+}
+
+/// The last scopes of the exclusions and paths of rules.
 pub(crate) fn last_rules(alloc: Global, others: &[Other]) -> Result<Vec<Rule>, AllocError>
     ensures { IfOk result (λ rules. rules.items ≡ last_rules (map rule_from others.now)) }
 {
     let mut rules = Vec::new(alloc);
     for other in others {
-        if let Some(scope) = other.selector.path.as_slice().last() {
-            rules.push(Rule {
-                scope: *scope,
-                style: other.style,
-            })?;
-        }
+        push_lasts(&mut rules, other)?;
     }
     Ok(rules)
-}
-
-/// Whether a rule has no path.
-pub(crate) fn has_pathless(others: &[Other]) -> bool
-    ensures { result ≡ false → HavePaths (map rule_from others.now) }
-{
-    for other in others {
-        if other.selector.path.is_empty() {
-            return true;
-        }
-    }
-    false
 }

@@ -20,8 +20,11 @@ pub(crate) struct SingleScore {
     ghost room: { place + 1 < 2 ^ 64 },
 }
 
+/// How many base-8 digits a `u64` can have.
+const U64_PLACES: usize = 22;
+
 impl SingleScore {
-    ghost use Rattle.std.specs.Prelude.{◌≡◌, ◌*◌, ◌+◌, ◌<◌, ◌↔◌};
+    ghost use Rattle.std.specs.Prelude.{◌≡◌, ◌*◌, ◌+◌, ◌<◌, ◌↔◌, nat_lt};
     ghost use Rattle.syntect_style.specs.Candidates.{beats};
     ghost use Rattle.syntect_style.specs.Rules.{score_from};
 
@@ -36,6 +39,20 @@ impl SingleScore {
             8 => (self.place + 1, 1),
             atoms => (self.place, atoms),
         }
+    }
+
+    /// Whether it is less than a number.
+    pub(crate) fn is_below(&self, number: u64) -> bool
+        ensures { result ≡ nat_lt (self.now.atoms * 8 ^ self.now.place) number }
+    {
+        let (place, digit) = self.leading();
+        if digit == 0 {
+            return number > 0;
+        }
+        if place >= U64_PLACES {
+            return false;
+        }
+        u128::from(digit) * 8u128.pow(place as u32) < u128::from(number)
     }
 
     /// Whether it is the greater one, or an equal one at a lower place.

@@ -7,5 +7,4 @@ invariant-loop-rule l = record {
   foreground : after_top (λ m. m.foreground) l.top l.place (candidate_from l.best.foreground) (drop l.rule-index l.rules) ≡ after_top (λ m. m.foreground) l.top l.place (candidate_from l.fn.best.foreground) l.rules;
   background : after_top (λ m. m.background) l.top l.place (candidate_from l.best.background) (drop l.rule-index l.rules) ≡ after_top (λ m. m.background) l.top l.place (candidate_from l.fn.best.background) l.rules;
   font_style : after_top (λ m. m.font_style) l.top l.place (candidate_from l.best.font_style) (drop l.rule-index l.rules) ≡ after_top (λ m. m.font_style) l.top l.place (candidate_from l.fn.best.font_style) l.rules;
-  reached : l.best.reached ≡ l.fn.best.reached;
 }

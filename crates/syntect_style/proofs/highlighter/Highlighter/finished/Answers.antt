@@ -5,8 +5,8 @@ use Rattle.syntect_style.proofs.ContestTop.{value_stands}
 use Rattle.syntect_style.proofs.highlighter.Highlighter.finished.Goals as goal
 
 pub returns : goal.returns
-returns c = λ h.
-    winners_stand c.args.self.now c.args.stack.now (single_rules c.args.self.now) _ refl
-    (value_stands (λ m. m.foreground) c.args.self.now c.args.stack.now _ _ _ h.foreground (c.in_ok-other.ensures.foreground h.unreached) c.in_ok-better.ensures)
-    (value_stands (λ m. m.background) c.args.self.now c.args.stack.now _ _ _ h.background (c.in_ok-other.ensures.background h.unreached) c.in_ok-better-2.ensures)
-    (value_stands (λ m. m.font_style) c.args.self.now c.args.stack.now _ _ _ h.font_style (c.in_ok-other.ensures.font_style h.unreached) c.in_ok-better-3.ensures)
+returns c = λ stack h o.
+    winners_stand c.args.self.now stack (single_rules c.args.self.now) _ refl
+    (value_stands (λ m. m.foreground) c.args.self.now stack _ _ _ h.foreground o.foreground c.in_ok-better.ensures)
+    (value_stands (λ m. m.background) c.args.self.now stack _ _ _ h.background o.background c.in_ok-better-2.ensures)
+    (value_stands (λ m. m.font_style) c.args.self.now stack _ _ _ h.font_style o.font_style c.in_ok-better-3.ensures)
