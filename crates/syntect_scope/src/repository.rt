@@ -50,10 +50,20 @@ impl<T: Drop> From<AllocFailed<T>> for ParseScopeError {
 const MAX_ATOMS: usize = 65534;
 
 /// The texts of the atoms, numbered from 1 in the order in which they came. Contracts see the list of the texts.
-#[derive(Debug, Drop)]
+#[derive(Debug)]
 pub struct ScopeRepository {
     atoms: Vec<Text>,
     numbers: BTreeMap<String, u16>,
+}
+
+/// Written out, so that crates above call it and needn't prove each part's drop again.
+impl Drop for ScopeRepository {
+    fn drop(self) {
+        let ScopeRepository {
+            atoms: _,
+            numbers: _,
+        } = self;
+    }
 }
 
 impl Model for ScopeRepository {

@@ -20,7 +20,7 @@ use syntect_theme::theme::Theme;
 use syntect_values::seq::Seq;
 
 /// A theme, made ready to style stacks of scopes. Contracts see its theme.
-#[derive(Debug, Drop)]
+#[derive(Debug)]
 pub struct Highlighter<'a> {
     theme: &'a Theme,
     /// The rules of one scope, which are scored without large numbers: those that can match a scope, by its first atom.
@@ -29,6 +29,18 @@ pub struct Highlighter<'a> {
     others: Vec<Other>,
     /// The last scopes of their paths and exclusions, in the same way.
     lasts: Vec<Seq<Rule>>,
+}
+
+/// Written out, so that crates above call it and needn't prove each part's drop again.
+impl<'a> Drop for Highlighter<'a> {
+    fn drop(self) {
+        let Highlighter {
+            theme: _,
+            buckets: _,
+            others: _,
+            lasts: _,
+        } = self;
+    }
 }
 
 impl<'a> Model for Highlighter<'a> {

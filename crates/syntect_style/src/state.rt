@@ -14,7 +14,7 @@ use syntect_theme::style::Style;
 
 /// The stack of scopes after the texts so far. What is known of its style is kept with it, so a state belongs to
 /// one highlighter: the iterators take the same one for all texts. States are equal where their stacks are.
-#[derive(Debug, Drop)]
+#[derive(Debug)]
 #[derive_where(PartialEq, Eq)]
 pub struct HighlightState {
     path: ScopeStack,
@@ -24,6 +24,17 @@ pub struct HighlightState {
     /// How many of these are lower parts of this stack.
     #[derive_where(skip(EqHashOrd))]
     fits: usize,
+}
+
+/// Written out, so that crates above call it and needn't prove each part's drop again.
+impl Drop for HighlightState {
+    fn drop(self) {
+        let HighlightState {
+            path: _,
+            kept: _,
+            fits: _,
+        } = self;
+    }
 }
 
 impl HighlightState {
@@ -52,7 +63,12 @@ impl HighlightState {
     pub fn into_path(self) -> ScopeStack
         ensures { result ≡ path_of self }
     {
-        self.path
+        let HighlightState {
+            path,
+            kept: _,
+            fits: _,
+        } = self;
+        path
     }
 
     /// The same state once more.
