@@ -10,7 +10,7 @@ use Rattle.syntect_pattern.specs.Trees.{Anchor, Tree, one_of, anchor, seq, alt, 
 use Rattle.syntect_pattern.specs.Matches.{Groups, Member, matches, past, only_if, close, stands}
 use Rattle.syntect_engine.specs.declared.state.Next.{Next}
 use Rattle.syntect_engine.specs.declared.state.Search.{Search}
-use Rattle.syntect_engine.specs.Machine.{Work, On, tick, both, after_char, search, list_at, tree_at, now, ListFits, Fits, Goes}
+use Rattle.syntect_engine.specs.Machine.{Work, On, tick, both, after_char, search, list_at, tree_at, now, ListFits, Fits, FindsAlike, Goes}
 use Rattle.syntect_engine.proofs.FirstLaws.{search-first, first_each, finds}
 use Rattle.syntect_engine.proofs.MachineLaws.{pending-less}
 
@@ -107,3 +107,15 @@ module _ (s : List ℕ) (ts : List Tree) (node k : ℕ) where
       let B : Work = search s (tree_at s ts b) K x.place x.groups.items in
       goes_branch x a (tick (both A (tick B))) hf (entered x (tree_at s ts a) (tree_at s ts b) is)
       (sym (ap (option_or A.found) (dead-found s ts (tree_at s ts b) K x.place x.groups.items h) ∙ or_none A.found)) (omega arith)
+
+-- ---- branch after branch ----
+
+module _ (s : List ℕ) (ts : List Tree) where
+  pub alike-self : (next : Next) (x : Search) → Fits s next x → FindsAlike s ts next next x
+  alike-self next x hf = record { found = refl; steps = omega arith; fits = hf }
+
+  pub alike-more : (next next' next2 : Next) (x : Search) → FindsAlike s ts next next' x → Goes s ts next' x next2 x → FindsAlike s ts next next2 x
+  alike-more next next' next2 x a g = record { found = g.found ∙ a.found; steps = omega (arith, g.fewer, a.steps); fits = g.fits }
+
+  pub goes-alike : (next next' next2 : Next) (x : Search) → Goes s ts next x next' x → FindsAlike s ts next' next2 x → Goes s ts next x next2 x
+  goes-alike next next' next2 x g a = record { found = a.found ∙ g.found; fewer = omega (arith, g.fewer, a.steps); fits = a.fits }

@@ -44,11 +44,49 @@ module _ (s : List ℕ) (ts : List Tree) (node k : ℕ) where
       (entered old (one_of set) is ∙ ap (λ p. tick (go_on p (list_at s ts old.cells.items k) old.groups.items)) (sym e))
       hf.list b)
 
+  first_read : (old : Search) (a b : ℕ) (set : Set) → tree_at s ts node ≡ seq (tree_at s ts a) (tree_at s ts b) → tree_at s ts a ≡ one_of set
+      → now s ts (Next.Enter node k) old.cells.items old.place old.groups.items
+      ≡ tick (tick (go_on (after_char (holds set) (char_at s old.place) old.place) (λ j h. tick (search s (tree_at s ts b) (list_at s ts old.cells.items k) j h)) old.groups.items))
+  first_read old a b set is one =
+      entered old (seq (tree_at s ts a) (tree_at s ts b)) is ∙ ap (λ (t : Tree). tick (search s t (λ j h. tick (search s (tree_at s ts b) (list_at s ts old.cells.items k) j h)) old.place old.groups.items)) one
+
   pub goes_seq : (old new : Search) (a b : ℕ) → tree_at s ts node ≡ seq (tree_at s ts a) (tree_at s ts b) → Fits s (Next.Enter node k) old
       → new.cells.items ≡ old.cells.items ++ record { item = Run b; next = k } ∷ [] → new ≡ record old { cells = new.cells }
       → Goes s ts (Next.Enter node k) old (Next.Enter a (length old.cells.items + 1)) new
   goes_seq old new a b is hf hc ho =
       goes_cons s ts (Next.Enter node k) old new 0 a (record { item = Run b; next = k }) hf hc ho (entered old (seq (tree_at s ts a) (tree_at s ts b)) is) hf.list tt
+
+  -- the first part is one character: it is read, or there is none that fits
+  pub goes_seq_past : (old new : Search) (a b : ℕ) (set : Set) (next : Next) (place : Option ℕ)
+      → tree_at s ts node ≡ seq (tree_at s ts a) (tree_at s ts b) → tree_at s ts a ≡ one_of set → Fits s (Next.Enter node k) old
+      → place ≡ after_char (holds set) (char_at s old.place) old.place → IfSome place (λ j. IsCharBoundary s j)
+      → IfSome place (λ j. (next ≡ Next.Enter b k) × (new ≡ record old { place = j })) → IfNone place ((next ≡ Next.Fail) × (new ≡ old))
+      → Goes s ts (Next.Enter node k) old next new
+  goes_seq_past old new a b set next None is one hf e t some none =
+      rw none.0 (goes_to s ts (Next.Enter node k) Next.Fail old new 1 old.place hf
+      (ap (λ (x : Search). x.cells.items) none.1) (ap (λ (x : Search). x.groups.items) none.1) (ap (λ (x : Search). x.frames.items) none.1) (ap (λ (x : Search). x.place) none.1)
+      (first_read old a b set is one ∙ ap (λ p. tick (tick (go_on p (λ j h. tick (search s (tree_at s ts b) (list_at s ts old.cells.items k) j h)) old.groups.items))) (sym e))
+      tt hf.place)
+  goes_seq_past old new a b set next (Some j) is one hf e t some none =
+      rw some.0 (goes_to s ts (Next.Enter node k) (Next.Enter b k) old new 2 j hf
+      (ap (λ (x : Search). x.cells.items) some.1) (ap (λ (x : Search). x.groups.items) some.1) (ap (λ (x : Search). x.frames.items) some.1) (ap (λ (x : Search). x.place) some.1)
+      (first_read old a b set is one ∙ ap (λ p. tick (tick (go_on p (λ j h. tick (search s (tree_at s ts b) (list_at s ts old.cells.items k) j h)) old.groups.items))) (sym e))
+      hf.list t)
+
+  -- the first part is an anchor
+  pub goes_seq_anchor : (old : Search) (a b : ℕ) (c : Anchor) (holds : Bool) → tree_at s ts node ≡ seq (tree_at s ts a) (tree_at s ts b) → tree_at s ts a ≡ anchor c
+      → Fits s (Next.Enter node k) old → holds ≡ stands s c old.place
+      → (holds ≡ true → Goes s ts (Next.Enter node k) old (Next.Enter b k) old) × (holds ≡ false → Goes s ts (Next.Enter node k) old Next.Fail old)
+  goes_seq_anchor old a b c holds is one hf e = (
+    λ t. goes_on s ts (Next.Enter node k) (Next.Enter b k) old 2 hf (looked ∙ ap (λ x. tick (tick (work_if x then))) (sym e ∙ t)) hf.list,
+    λ f. goes_on s ts (Next.Enter node k) Next.Fail old 1 hf (looked ∙ ap (λ x. tick (tick (work_if x then))) (sym e ∙ f)) tt,
+  )
+    where
+      then : Work
+      then = tick (search s (tree_at s ts b) (list_at s ts old.cells.items k) old.place old.groups.items)
+
+      looked : now s ts (Next.Enter node k) old.cells.items old.place old.groups.items ≡ tick (tick (work_if (stands s c old.place) then))
+      looked = entered old (seq (tree_at s ts a) (tree_at s ts b)) is ∙ ap (λ (t : Tree). tick (search s t (λ j h. tick (search s (tree_at s ts b) (list_at s ts old.cells.items k) j h)) old.place old.groups.items)) one
 
   pub goes_group : (old new : Search) (n a : ℕ) → tree_at s ts node ≡ group n (tree_at s ts a) → Fits s (Next.Enter node k) old
       → new.cells.items ≡ old.cells.items ++ record { item = Close n old.place; next = k } ∷ [] → new ≡ record old { cells = new.cells }

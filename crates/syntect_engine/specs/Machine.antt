@@ -268,6 +268,12 @@ module _ (s : List ℕ) (ts : List Tree) where
     pub fewer : steps_of next' new < steps_of next old
     pub fits : Fits s next' new
 
+-- What comes next in place of the other finds the same, in no more steps, and everything fits.
+pub record FindsAlike (s : List ℕ) (ts : List Tree) (next next' : Next) (x : Search) : Type 0 where
+  pub found : found_by s ts next' x ≡ found_by s ts next x
+  pub steps : steps_of s ts next' x ≤ steps_of s ts next x
+  pub fits : Fits s next' x
+
 -- a frame of a stretch without the ends at which its list finds nothing
 pub record IsShorter (s : List ℕ) (ts : List Tree) (xs : List Cell) (frame shorter : Frame) : Type 0 where
   pub list : ℕ

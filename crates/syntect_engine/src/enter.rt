@@ -67,10 +67,60 @@ fn look_bound(negated: bool) -> Bound
 }
 
 impl Search {
-    ghost use Rattle.syntect_pattern.specs.Trees.{alt, repeat};
+    ghost use Rattle.syntect_pattern.specs.Trees.{alt, repeat, seq};
     ghost use Rattle.std.specs.Prelude.{slice_get};
     ghost use Rattle.syntect_pattern.specs.Matches.{Groups, same_text};
-    ghost use Rattle.syntect_engine.specs.Machine.{Fits, GroupsFit, Goes, EntersStretch};
+    ghost use Rattle.syntect_engine.specs.Machine.{Fits, FindsAlike, GroupsFit, Goes, EntersStretch};
+
+    /// Goes on with the node from the place, if there is one.
+    fn go_to(&mut self, place: Option<usize>, node: usize, list: usize) -> Next
+        ensures some { IfSome place (λ j. (result ≡ Next.Enter node list) × (self.new ≡ record self.old { place = j })) }
+        ensures none { IfNone place ((result ≡ Next.Fail) × (self.new ≡ self.old)) }
+    {
+        let Some(place) = place else {
+            return Next::Fail;
+        };
+        self.place = place;
+        Next::Enter { node, list }
+    }
+
+    /// Matches the first part of the node, and then the second. A first part that is one character or an anchor is looked at
+    /// here: most parts are, and the second needs no cell then.
+    fn enter_sequence(
+        &mut self,
+        program: &Program,
+        text: &str,
+        node: usize,
+        first: usize,
+        second: usize,
+        list: usize,
+    ) -> Result<Next, AllocError>
+        requires fits { Fits text.now (Next.Enter node list) self.old }
+        requires is { slice_index_or (trees_of program.now) node nothing ≡ seq (slice_index_or (trees_of program.now) first nothing) (slice_index_or (trees_of program.now) second nothing) }
+        ensures { IfOk result (λ next. Goes text.now (trees_of program.now) (Next.Enter node list) self.old next self.new) }
+    {
+        match program.node(first) {
+            Some(Node::Char(wanted)) => {
+                let place = past_char(text, self.place, *wanted);
+                Ok(self.go_to(place, second, list))
+            }
+            Some(Node::Class(class)) => {
+                let place = past_class(text, self.place, class);
+                Ok(self.go_to(place, second, list))
+            }
+            Some(Node::Anchor(anchor)) => {
+                if stands(text, self.place, *anchor) {
+                    Ok(Next::Enter { node: second, list })
+                } else {
+                    Ok(Next::Fail)
+                }
+            }
+            _ => {
+                let list = self.cons(Item::Run(second), list)?;
+                Ok(Next::Enter { node: first, list })
+            }
+        }
+    }
 
     /// Goes on with the list from the place, if there is one.
     fn go_on(&mut self, place: Option<usize>, list: usize) -> Next
@@ -120,8 +170,7 @@ impl Search {
                 Ok(self.go_on(place, list))
             }
             Node::Sequence(first, second) => {
-                let list = self.cons(Item::Run(*second), list)?;
-                Ok(Next::Enter { node: *first, list })
+                self.enter_sequence(program, text, node, *first, *second, list)
             }
             Node::Alternation(first, second) => {
                 self.enter_branches(program, text, node, *first, *second, list)
@@ -224,6 +273,22 @@ impl Search {
         Ok(Next::Fail)
     }
 
+    /// The node, or where it is an alternation whose first branch is dead, its second one, and so on: a long list of branches
+    /// is gone through here.
+    fn alive_branch(&self, program: &Program, text: &str, node: usize, list: usize) -> usize
+        requires { Fits text.now (Next.Enter node list) self.now }
+        ensures { FindsAlike text.now (trees_of program.now) (Next.Enter node list) (Next.Enter result list) self.now }
+    {
+        let mut branch = node;
+        while let Some(Node::Alternation(first, second)) = program.node(branch) {
+            if !program.is_dead(text, self.place, *first) {
+                return branch;
+            }
+            branch = *second;
+        }
+        branch
+    }
+
     /// Matches the first branch of the node, and keeps the second for later. A branch that is dead is passed over.
     fn enter_branches(
         &mut self,
@@ -239,7 +304,8 @@ impl Search {
         ensures { IfOk result (λ next. Goes text.now (trees_of program.now) (Next.Enter node list) self.old next self.new) }
     {
         if program.is_dead(text, self.place, first) {
-            return Ok(Next::Enter { node: second, list });
+            let node = self.alive_branch(program, text, second, list);
+            return Ok(Next::Enter { node, list });
         }
         if program.is_dead(text, self.place, second) {
             return Ok(Next::Enter { node: first, list });

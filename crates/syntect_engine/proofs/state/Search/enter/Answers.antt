@@ -3,7 +3,7 @@ use Rattle.syntect_pattern.specs.Sets.{range}
 use Rattle.syntect_pattern_table.specs.Table.{node_tree, set_of}
 use Rattle.syntect_pattern.specs.Anchors.{anchor_of}
 use Rattle.syntect_pattern_table.specs.Program.{trees_of}
-use Rattle.syntect_engine.proofs.EnterLaws.{goes_nothing, goes_past, goes_seq, goes_group, goes_anchor, goes_no_anchor, goes_same, atomic-ok, ahead-ok, behind-ok}
+use Rattle.syntect_engine.proofs.EnterLaws.{goes_nothing, goes_past, goes_group, goes_anchor, goes_no_anchor, goes_same, atomic-ok, ahead-ok, behind-ok}
 use Rattle.syntect_engine.proofs.ReachLaws.{few-starts}
 use Rattle.syntect_engine.proofs.state.Search.enter.Goals as goal
 
@@ -30,17 +30,10 @@ returns-in-Class c =
     (c.in-Some.ensures ∙ ap (node_tree (trees_of c.args.program.now)) c.in-Class.is)
     c.requires c.past_class-place.ensures.value c.past_class-place.ensures.boundary c.go_on-in-Class.ensures.some c.go_on-in-Class.ensures.none
 
-pub returns-in_ok-list-in-Sequence : goal.returns-in_ok-list-in-Sequence
-returns-in_ok-list-in-Sequence c =
-    rw c.in_ok-list-in-Sequence.ensures.list
-    (goes_seq c.args.text.now (trees_of c.args.program.now) c.args.node c.args.list c.args.self.now c.cons.new.self c.in-Sequence.first c.in-Sequence.second
-    (c.in-Some.ensures ∙ ap (node_tree (trees_of c.args.program.now)) c.in-Sequence.is)
-    c.requires c.in_ok-list-in-Sequence.ensures.cells c.in_ok-list-in-Sequence.ensures.others)
-
 pub returns-in_ok-list-in-Group : goal.returns-in_ok-list-in-Group
 returns-in_ok-list-in-Group c =
     rw c.in_ok-list-in-Group.ensures.list
-    (goes_group c.args.text.now (trees_of c.args.program.now) c.args.node c.args.list c.args.self.now c.cons-in-Group.new.self c.in-Group.number c.in-Group.body
+    (goes_group c.args.text.now (trees_of c.args.program.now) c.args.node c.args.list c.args.self.now c.cons.new.self c.in-Group.number c.in-Group.body
     (c.in-Some.ensures ∙ ap (node_tree (trees_of c.args.program.now)) c.in-Group.is)
     c.requires c.in_ok-list-in-Group.ensures.cells c.in_ok-list-in-Group.ensures.others)
 

@@ -1,14 +1,17 @@
 use Rattle.std.proofs.Common.{◌∷◌, ◌++◌, [], ◌∙◌, ap}
 use Rattle.syntect_pattern_table.specs.Program.{trees_of}
 use Rattle.syntect_engine.specs.declared.state.Frame.TheVariants as Frame
+use Rattle.syntect_engine.specs.declared.state.Next.{Next}
 use Rattle.syntect_engine.specs.declared.state.Search.{Search}
 use Rattle.syntect_engine.proofs.EnterLaws.{goes_alt}
-use Rattle.syntect_engine.proofs.DeadLaws.{goes_first, goes_second}
+use Rattle.syntect_engine.proofs.DeadLaws.{goes-alike, goes_first, goes_second}
 use Rattle.syntect_engine.proofs.state.Search.enter_branches.Goals as goal
 
 pub returns-then-is_dead : goal.returns-then-is_dead
 returns-then-is_dead c =
-    goes_second c.args.text.now (trees_of c.args.program.now) c.args.node c.args.list c.args.self.now c.args.first c.args.second c.requires.is c.requires.fits (c.is_dead.ensures c.if-is_dead.true)
+    goes-alike c.args.text.now (trees_of c.args.program.now) (Next.Enter c.args.node c.args.list) (Next.Enter c.args.second c.args.list) (Next.Enter c.alive_branch-node.result c.args.list) c.args.self.now
+    (goes_second c.args.text.now (trees_of c.args.program.now) c.args.node c.args.list c.args.self.now c.args.first c.args.second c.requires.is c.requires.fits (c.is_dead.ensures c.if-is_dead.true))
+    c.alive_branch-node.ensures
 
 pub returns-then-is_dead-2 : goal.returns-then-is_dead-2
 returns-then-is_dead-2 c =
