@@ -1,0 +1,220 @@
+-- States that are held, and lines that were read from them.
+use Rattle.std.proofs.Common.{◌≡◌, ℕ, ◌+◌, ◌-◌, ◌<◌, zero, suc, zero-add, suc-add, Some, None, Bool, true, false, IsTrue, ◌↔◌, map, List, [], ◌∷◌, ◌++◌, length, take, drop, refl, sym, ap, subst, ◌∙◌, arith, append-nil, append_assoc}
+use Rattle.std.specs.List.{slice_get}
+use Rattle.std.specs.Option.{option_map}
+use Rattle.std.proofs.lemmas.Bool.{false≢true}
+use Rattle.std.proofs.lemmas.Option.{slice_get-map}
+use Rattle.std.proofs.lemmas.List.{take_all}
+use Rattle.syntect_scope.specs.declared.stack.ScopeStack.{ScopeStack}
+use Rattle.syntect_style.specs.Pieces.{Keeps, path_of}
+use Rattle.syntect_theme.specs.declared.theme.Theme.{Theme}
+use Rattle.syntect_parsing.specs.Engine.{dialect}
+use Rattle.syntect_parsing.specs.Line.{Answer, AnswersAll, stack_before}
+use Rattle.syntect_parsing.specs.Stacks.{Remembers}
+use Rattle.syntect_parsing.specs.States.{standing}
+use Rattle.syntect_parsing.specs.declared.parser.Standing.{Standing}
+use Rattle.syntect_style.specs.declared.state.HighlightState.{HighlightState}
+use Rattle.syntect_contexts.specs.declared.syntax_reference.SyntaxReference.{SyntaxReference}
+use Rattle.syntect_grammar.specs.declared.syntax_set.SyntaxSet.{SyntaxSet}
+use Rattle.syntect.specs.Leads.{Past, RunsOrderly, and_then, theme_of, styles_of, reader_of}
+use Rattle.syntect_buffer.specs.States.{Holds, StandSame, and_all}
+use Rattle.syntect_buffer.specs.Kept.{Continues, IsReadFrom, AreReadFrom, ReadsOn, ending}
+use Rattle.syntect_buffer.specs.declared.states.LineStates.{LineStates}
+use Rattle.syntect_buffer.specs.declared.reading.Reading.{Reading}
+
+pub some_same : {X : Type 0} {x y : X} → Some x ≡ Some y → x ≡ y
+some_same e = cc
+
+pub none_is_some : {X : Type 0} {x : X} → None ≡ Some x → ⊥
+none_is_some e = cc
+
+-- ---- the same states ----
+
+-- states that stand where those of a past stand are held behind that past too, if they are held behind some past of the theme
+pub holds_same : (theme : Theme) (set : SyntaxSet) (was past : Past) (o n : LineStates) → was.theme ≡ theme → past.theme ≡ theme
+    → Holds was set o → Holds past set n → StandSame o n → Holds past set o
+holds_same theme set was past o n t u ho hn same =
+    let h = ho.holder in
+    let l = hn.is_past.leads in
+    let e : standing (reader_of hn.holder) ≡ standing (reader_of h) = hn.reader ∙ sym same.reader ∙ sym ho.reader in
+    let p : path_of (styles_of hn.holder) ≡ path_of (styles_of h) = ap path_of hn.styles ∙ sym same.styles ∙ sym (ap path_of ho.styles) in
+    let k : was.theme ≡ past.theme = t ∙ sym u in
+    record {
+      holder = h;
+      is_past = record {
+        built = hn.is_past.built;
+        leads = record {
+          start = l.start;
+          begins = l.begins;
+          run = subst (λ (s : Standing). AnswersAll dialect set past.lines l.start past.answers s) e l.run;
+          path = λ r. sym p ∙ l.path r ∙ ap (stack_before set) e;
+          remembers = λ b.
+              subst (λ (s : Standing). Remembers set s.levels (path_of (styles_of h))) e
+              (subst (λ (stack : ScopeStack). Remembers set (standing (reader_of hn.holder)).levels stack) p (l.remembers b));
+          theme_is = ho.is_past.leads.theme_is ∙ k;
+          keeps = subst (λ (x : Theme). Keeps x (styles_of h)) k ho.is_past.leads.keeps;
+        };
+      };
+      styles = ho.styles;
+      reader = ho.reader;
+    }
+
+-- lines that were read from states are as if read from each that stand where they stand
+pub read_from_same : (theme : Theme) (set : SyntaxSet) (was : Past) (o n : LineStates) → was.theme ≡ theme → Holds was set o → StandSame o n
+    → (ls : List (List ℕ)) (rs : List Reading) → AreReadFrom set theme o ls rs → AreReadFrom set theme n ls rs
+read_from_same theme set was o n t ho same [] [] h = tt
+read_from_same theme set was o n t ho same [] (r ∷ rs) h = absurd h
+read_from_same theme set was o n t ho same (l ∷ ls) [] h = absurd h
+read_from_same theme set was o n t ho same (l ∷ ls) (r ∷ rs) h = (record { continues = λ past u k. h.0.continues past u (holds_same theme set was past o n t u ho k same) }, h.1)
+
+-- where lines are orderly, states of the same reader are the same
+pub stand_same : (theme : Theme) (set : SyntaxSet) (was past : Past) (o n : LineStates) → was.syntax ≡ past.syntax → Holds was set o → Holds past set n
+    → RunsOrderly set was.syntax was.lines → RunsOrderly set past.syntax past.lines → standing o.reader ≡ standing n.reader → StandSame o n
+stand_same theme set was past o n s ho hn a b e =
+    let p : path_of (styles_of ho.holder) ≡ stack_before set (standing (reader_of ho.holder)) = ho.is_past.leads.path a in
+    let q : path_of (styles_of hn.holder) ≡ stack_before set (standing (reader_of hn.holder)) = hn.is_past.leads.path b in
+    let f : standing (reader_of ho.holder) ≡ standing (reader_of hn.holder) = ho.reader ∙ e ∙ sym hn.reader in
+    record {
+      reader = e;
+      styles = sym (ap path_of ho.styles) ∙ p ∙ ap (stack_before set) f ∙ sym q ∙ ap path_of hn.styles;
+    }
+
+-- ---- lists of lines ----
+
+-- the past behind some lines
+pub record Led (past : Past) (set : SyntaxSet) (lines : List (List ℕ)) (s : LineStates) : Type 0 where
+  pub answers : List Answer
+  pub holds : Holds (and_all past lines answers) set s
+
+past_none : (past : Past) → and_all past [] [] ≡ past
+past_none past =
+    ap (λ (ls : List (List ℕ)). record past { lines = ls; answers = past.answers ++ [] }) (append-nil past.lines)
+    ∙ ap (λ (xs : List Answer). record past { answers = xs }) (append-nil past.answers)
+
+past_more : (past : Past) (l : List ℕ) (a : Answer) (ls : List (List ℕ)) (more : List Answer) → and_all (and_then past l a) ls more ≡ and_all past (l ∷ ls) (a ∷ more)
+past_more past l a ls more =
+    ap (λ (xs : List (List ℕ)). record past { lines = xs; answers = (past.answers ++ a ∷ []) ++ more }) (append_assoc past.lines (l ∷ []) ls)
+    ∙ ap (λ (xs : List Answer). record past { lines = past.lines ++ (l ∷ ls); answers = xs }) (append_assoc past.answers (a ∷ []) more)
+
+-- the states after lines are held behind the past with these lines
+pub led : (theme : Theme) (set : SyntaxSet) (past : Past) (s : LineStates) → past.theme ≡ theme → Holds past set s
+    → (ls : List (List ℕ)) (rs : List Reading) → AreReadFrom set theme s ls rs → Led past set ls (ending s rs)
+led theme set past s t k [] [] h = record { answers = []; holds = subst (λ (p : Past). Holds p set s) (sym (past_none past)) k }
+led theme set past s t k [] (r ∷ rs) h = absurd h
+led theme set past s t k (l ∷ ls) [] h = absurd h
+led theme set past s t k (l ∷ ls) (r ∷ rs) h =
+    let c : Continues past set l r = h.0.continues past t k in
+    let d = led theme set (and_then past l c.given) r.after t c.holds ls rs h.1 in
+    record { answers = c.given ∷ d.answers; holds = subst (λ (p : Past). Holds p set (ending r.after rs)) (past_more past l c.given ls d.answers) d.holds }
+
+-- lines read one after another can be parted anywhere, and joined
+pub read_front : (theme : Theme) (set : SyntaxSet) (n : ℕ) (s : LineStates) (ls : List (List ℕ)) (rs : List Reading) → AreReadFrom set theme s ls rs → AreReadFrom set theme s (take n ls) (take n rs)
+read_front theme set zero s ls rs h = tt
+read_front theme set (suc n) s [] [] h = tt
+read_front theme set (suc n) s [] (r ∷ rs) h = absurd h
+read_front theme set (suc n) s (l ∷ ls) [] h = absurd h
+read_front theme set (suc n) s (l ∷ ls) (r ∷ rs) h = (h.0, read_front theme set n r.after ls rs h.1)
+
+pub read_rest : (theme : Theme) (set : SyntaxSet) (n : ℕ) (s : LineStates) (ls : List (List ℕ)) (rs : List Reading) → AreReadFrom set theme s ls rs
+    → AreReadFrom set theme (ending s (take n rs)) (drop n ls) (drop n rs)
+read_rest theme set zero s ls rs h = h
+read_rest theme set (suc n) s [] [] h = tt
+read_rest theme set (suc n) s [] (r ∷ rs) h = absurd h
+read_rest theme set (suc n) s (l ∷ ls) [] h = absurd h
+read_rest theme set (suc n) s (l ∷ ls) (r ∷ rs) h = read_rest theme set n r.after ls rs h.1
+
+pub read_joined : (theme : Theme) (set : SyntaxSet) (s : LineStates) (ls more : List (List ℕ)) (rs others : List Reading)
+    → AreReadFrom set theme s ls rs → AreReadFrom set theme (ending s rs) more others → AreReadFrom set theme s (ls ++ more) (rs ++ others)
+read_joined theme set s [] more [] others h k = k
+read_joined theme set s [] more (r ∷ rs) others h k = absurd h
+read_joined theme set s (l ∷ ls) more [] others h k = absurd h
+read_joined theme set s (l ∷ ls) more (r ∷ rs) others h k = (h.0, read_joined theme set r.after ls more rs others h.1 k)
+
+pub read_count : (theme : Theme) (set : SyntaxSet) (s : LineStates) (ls : List (List ℕ)) (rs : List Reading) → AreReadFrom set theme s ls rs → length ls ≡ length rs
+read_count theme set s [] [] h = refl
+read_count theme set s [] (r ∷ rs) h = absurd h
+read_count theme set s (l ∷ ls) [] h = absurd h
+read_count theme set s (l ∷ ls) (r ∷ rs) h = ap suc (read_count theme set r.after ls rs h.1)
+
+pub ending-append : (s : LineStates) (rs others : List Reading) → ending s (rs ++ others) ≡ ending (ending s rs) others
+ending-append s [] others = refl
+ending-append s (r ∷ rs) others = ending-append r.after rs others
+
+pub ending-add : (n k : ℕ) (s : LineStates) (rs : List Reading) → ending s (take (n + k) rs) ≡ ending (ending s (take n rs)) (take k (drop n rs))
+ending-add zero k s rs = rw zero-add refl
+ending-add (suc n) zero s [] = rw suc-add refl
+ending-add (suc n) (suc k) s [] = rw suc-add refl
+ending-add (suc n) k s (r ∷ rs) = rw suc-add (ending-add n k r.after rs)
+
+-- ---- lines read again ----
+
+-- the lines read again and those behind them were read one after another
+pub read_again : (theme : Theme) (set : SyntaxSet) (was past : Past) (o n : LineStates) → was.theme ≡ theme → past.theme ≡ theme → Holds was set o → Holds past set n
+    → (ls : List (List ℕ)) (rs ns : List Reading) → AreReadFrom set theme o ls rs → ReadsOn set theme n o ls rs ns
+    → (length ns < length ls → StandSame (ending o (take (length ns) rs)) (ending n ns)) → AreReadFrom set theme n ls (ns ++ drop (length ns) rs)
+read_again theme set was past o n t u ho hn [] [] [] h on stops = tt
+read_again theme set was past o n t u ho hn [] [] (m ∷ ns) h on stops = absurd on
+read_again theme set was past o n t u ho hn [] (r ∷ rs) ns h on stops = absurd h
+read_again theme set was past o n t u ho hn (l ∷ ls) [] ns h on stops = absurd h
+read_again theme set was past o n t u ho hn (l ∷ ls) (r ∷ rs) [] h on stops =
+    read_from_same theme set was o n t ho (stops (omega arith)) (l ∷ ls) (r ∷ rs) h
+read_again theme set was past o n t u ho hn (l ∷ ls) (r ∷ rs) (m ∷ ns) h on stops =
+    let c : Continues was set l r = h.0.continues was t ho in
+    let d : Continues past set l m = on.1.continues past u hn in
+    (on.1, read_again theme set (and_then was l c.given) (and_then past l d.given) r.after m.after t u c.holds d.holds ls rs ns h.1 on.2 (λ lt. stops (omega (arith, lt))))
+
+-- each of them starts from other states than before
+pub reads_apart : (theme : Theme) (set : SyntaxSet) (o n : LineStates) (ls : List (List ℕ)) (rs ns : List Reading) → ReadsOn set theme n o ls rs ns
+    → (k : ℕ) → k < length ns → ¬ (StandSame (ending o (take k rs)) (ending n (take k ns)))
+reads_apart theme set o n ls rs [] on k lt = absurd (omega arith)
+reads_apart theme set o n [] rs (m ∷ ns) on k lt = absurd on
+reads_apart theme set o n (l ∷ ls) [] (m ∷ ns) on k lt = absurd on
+reads_apart theme set o n (l ∷ ls) (r ∷ rs) (m ∷ ns) on zero lt = on.0
+reads_apart theme set o n (l ∷ ls) (r ∷ rs) (m ∷ ns) on (suc k) lt = reads_apart theme set r.after m.after ls rs ns on.2 k (omega arith)
+
+-- one more
+pub reads_more : (theme : Theme) (set : SyntaxSet) (o n : LineStates) (ls : List (List ℕ)) (rs ns : List Reading) (l : List ℕ) (m : Reading) → ReadsOn set theme n o ls rs ns
+    → slice_get ls (length ns) ≡ Some l → length ls ≡ length rs → ¬ (StandSame (ending o (take (length ns) rs)) (ending n ns)) → IsReadFrom set theme (ending n ns) l m
+    → ReadsOn set theme n o ls rs (ns ++ m ∷ [])
+reads_more theme set o n [] rs [] l m on at e not_same read = absurd (none_is_some at)
+reads_more theme set o n [] rs (y ∷ ns) l m on at e not_same read = absurd (none_is_some at)
+reads_more theme set o n (x ∷ ls) [] ns l m on at e not_same read = absurd (omega arith)
+reads_more theme set o n (x ∷ ls) (r ∷ rs) [] l m on at e not_same read =
+    (not_same, subst (λ (z : List ℕ). IsReadFrom set theme n z m) (sym (some_same at)) read, tt)
+reads_more theme set o n (x ∷ ls) (r ∷ rs) (y ∷ ns) l m on at e not_same read = (on.0, on.1, reads_more theme set r.after y.after ls rs ns l m on.2 at (omega arith) not_same read)
+
+-- ---- the states that readings leave ----
+
+pub ending_last : (s : LineStates) (rs : List Reading) (k : ℕ) (r : Reading) → slice_get rs k ≡ Some r → ending s (take (suc k) rs) ≡ r.after
+ending_last s [] k r e = absurd (none_is_some e)
+ending_last s (x ∷ rs) zero r e = ap (λ (y : Reading). y.after) (some_same e)
+ending_last s (x ∷ rs) (suc k) r e = ending_last x.after rs k r e
+
+pub ending_at : (s : LineStates) (rs : List Reading) (place : ℕ) (r : Reading) → 0 < place → slice_get rs (place - 1) ≡ Some r → r.after ≡ ending s (take place rs)
+ending_at s rs place r l e =
+    let n : suc (place - 1) ≡ place = omega arith in
+    sym (ending_last s rs (place - 1) r e) ∙ ap (λ k. ending s (take k rs)) n
+
+pub ending_all : (s : LineStates) (rs : List Reading) (r : Reading) → slice_get rs (length rs - 1) ≡ Some r → r.after ≡ ending s rs
+ending_all s [] r e = absurd (none_is_some e)
+ending_all s (x ∷ rs) r e =
+    ending_at s (x ∷ rs) (length (x ∷ rs)) r (omega arith) e ∙ ap (λ zs. ending s zs) (take_all (length (x ∷ rs)) (x ∷ rs) (omega arith))
+
+-- ---- tests and places ----
+
+pub not_true : (b : Bool) (P : Type 0) → (IsTrue b ↔ P) → b ≡ false → ¬ P
+not_true b P h e p = false≢true (sym e ∙ h.1 p)
+
+pub is_true : (b : Bool) (P : Type 0) → (IsTrue b ↔ P) → b ≡ true → P
+is_true b P h e = h.0 e
+
+get_behind : {X : Type 0} (xs : List X) (n k : ℕ) → slice_get (drop n xs) k ≡ slice_get xs (n + k)
+get_behind xs zero k = rw zero-add refl
+get_behind [] (suc n) zero = refl
+get_behind [] (suc n) (suc k) = refl
+get_behind (x ∷ xs) (suc n) k = rw suc-add (get_behind xs n k)
+
+-- the line that is read next
+pub line_at : {X Y : Type 0} (f : X → Y) (xs : List X) (place count at : ℕ) (x : X) → place + count ≡ at → slice_get xs at ≡ Some x → slice_get (drop place (map f xs)) count ≡ Some (f x)
+line_at f xs place count at x n e =
+    get_behind (map f xs) place count ∙ ap (λ k. slice_get (map f xs) k) n ∙ slice_get-map f xs at ∙ ap (λ o. option_map f o) e

@@ -1,0 +1,7 @@
+pub mod RangeLaws
+pub mod HeldLaws
+pub mod EditLaws
+pub mod FreshLaws
+pub mod LineLaws
+pub mod KeptLaws
+pub mod StartLaws

@@ -1,0 +1,68 @@
+-- One line, read from the states at its start.
+use Rattle.std.proofs.Common.{◌≡◌, ℕ, ◌+◌, ◌<◌, ◌^◌, List, ◌∷◌, ◌++◌, length, map, Result, Ok, Err, sym, ap, subst, ◌∙◌, refl, arith}
+use Rattle.std.specs.Borrow.{Bor}
+use Rattle.std.specs.Global.{Vec}
+use Rattle.std.specs.declared.ops.Range.{Range}
+use Rattle.syntect_theme.specs.declared.style.Style.{Style}
+use Rattle.syntect_theme.specs.declared.theme.Theme.{Theme}
+use Rattle.syntect_style.specs.Styling.{shown}
+use Rattle.syntect_style.specs.declared.state.HighlightState.{HighlightState}
+use Rattle.syntect_parsing.specs.Line.{Answer, Accepted, RefusedBy}
+use Rattle.syntect_parsing.specs.States.{standing}
+use Rattle.syntect_parsing.specs.declared.parser.ParseState.{ParseState}
+use Rattle.syntect_contexts.specs.declared.error.ParsingError.{ParsingError}
+use Rattle.syntect_grammar.specs.declared.syntax_set.SyntaxSet.{SyntaxSet}
+use Rattle.syntect_grammar.specs.declared.error.Error.{Error}
+use Rattle.syntect_grammar.specs.declared.error.Error.TheVariants as error
+use Rattle.syntect.specs.Leads.{Past, IsPast, RunsOrderly, styles_of, reader_of}
+use Rattle.syntect.specs.Leads as leads
+use Rattle.syntect.specs.declared.easy.HighlightLines.{HighlightLines}
+use Rattle.syntect_buffer.specs.Answers.{Follow, IsRefusal, styles_in, total, ranges_from}
+use Rattle.syntect_buffer.specs.States.{Holds}
+use Rattle.syntect_buffer.specs.Kept.{Continues, IsReadFrom}
+use Rattle.syntect_buffer.specs.declared.answer.LineAnswer.{LineAnswer}
+use Rattle.syntect_buffer.specs.declared.answer.LineAnswer.TheVariants as answer
+use Rattle.syntect_buffer.specs.declared.states.LineStates.{LineStates}
+use Rattle.syntect_buffer.specs.declared.reading.Reading.{Reading}
+use Rattle.syntect_buffer.proofs.RangeLaws.{ranges_follow, ranges_styled}
+
+-- a highlighter was resumed from the states at a line's start
+abbrev pub IsResumed : SyntaxSet → Theme → LineStates → HighlightLines → Type 0
+IsResumed set theme before h = (past : Past) (k : HighlightLines) → past.theme ≡ theme → IsPast past set k → styles_of k ≡ before.styles → standing (reader_of k) ≡ standing before.reader → IsPast past set h
+
+-- it was given the line
+abbrev pub IsGiven : SyntaxSet → HighlightLines → HighlightLines → Bor (List ℕ) → Result (Vec (Style × Bor (List ℕ))) Error → Type 0
+IsGiven set h new line r = (past : Past) → IsPast past set h → leads.Continues past set line new r
+
+-- an accepted line
+pub accepted_line : (set : SyntaxSet) (theme : Theme) (before : LineStates) (line : Bor (List ℕ)) (h new : HighlightLines) (pieces : Vec (Style × Bor (List ℕ))) (ranges : Vec (Style × Range ℕ)) (after : LineStates)
+    → IsResumed set theme before h → IsGiven set h new line (Ok pieces) → (total pieces.items < 2 ^ 64 → ranges.items ≡ ranges_from 0 pieces.items) → length line.now < 2 ^ 64
+    → after.styles ≡ styles_of new → after.reader ≡ reader_of new → IsReadFrom set theme before line.now (record { answer = answer.Pieces ranges; after = after })
+accepted_line set theme before line h new pieces ranges after resumed given cut short s r = record {
+  continues = λ past t k.
+      let a = given past (resumed past k.holder t k.is_past k.styles k.reader) in
+      let n : total pieces.items ≡ length line.now = ap length a.2.joined in
+      let e : ranges.items ≡ ranges_from 0 pieces.items = cut (omega arith) in
+      let f : Follow 0 (ranges_from 0 pieces.items) (0 + total pieces.items) = ranges_follow 0 pieces.items a.2.filled in
+      let m : 0 + total pieces.items ≡ length line.now = omega arith in
+      record {
+        given = Accepted a.0;
+        holds = record { holder = new; is_past = a.1; styles = sym s; reader = ap standing (sym r) };
+        answer = (
+          subst (λ (ps : List (Style × Range ℕ)). Follow 0 ps (length line.now)) (sym e) (subst (λ (to : ℕ). Follow 0 (ranges_from 0 pieces.items) to) m f),
+          λ o. ap styles_in e ∙ ranges_styled 0 pieces.items ∙ a.3 o,
+        );
+      };
+}
+
+-- a refused one
+pub refused_line : (set : SyntaxSet) (theme : Theme) (before : LineStates) (line : Bor (List ℕ)) (h new : HighlightLines) (e : ParsingError) (a : LineAnswer) (after : LineStates)
+    → IsResumed set theme before h → IsGiven set h new line (Err (error.ParsingError e)) → IsRefusal e a
+    → after.styles ≡ styles_of new → after.reader ≡ reader_of new → IsReadFrom set theme before line.now (record { answer = a; after = after })
+refused_line set theme before line h new e a after resumed given refusal s r = record {
+  continues = λ past t k. record {
+    given = RefusedBy e;
+    holds = record { holder = new; is_past = given past (resumed past k.holder t k.is_past k.styles k.reader); styles = sym s; reader = ap standing (sym r) };
+    answer = refusal;
+  };
+}

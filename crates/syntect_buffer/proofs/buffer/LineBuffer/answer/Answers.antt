@@ -1,0 +1,7 @@
+use Rattle.syntect_buffer.proofs.FreshLaws.{answer_at}
+use Rattle.syntect_buffer.proofs.buffer.LineBuffer.answer.Goals as goal
+
+pub returns-clause-fresh : goal.returns-clause-fresh
+returns-clause-fresh c =
+    rw (← c.self.view_is) (λ definitions b.
+    answer_at definitions c.self.inside.syntax_set.now c.self.inside.theme.now c.self.inside.syntax.now c.self.inside.kept c.args.place c.get.result.now c.self.invariant b c.get.ensures)

@@ -1,0 +1,50 @@
+-- Answers to lines, as a buffer keeps them.
+use Rattle.std.specs.Prelude.{◌≡◌, ℕ, ◌+◌, ◌-◌, ◌<◌, List, [], ◌∷◌, length, map, replicate}
+use Rattle.std.specs.Borrow.{Bor}
+use Rattle.std.specs.List.{flat_map}
+use Rattle.std.specs.declared.ops.Range.{Range}
+use Rattle.syntect_style.specs.Styling.{shown}
+use Rattle.syntect_theme.specs.declared.style.Style.{Style}
+use Rattle.syntect_theme.specs.declared.theme.Theme.{Theme}
+use Rattle.syntect_parsing.specs.Line.{Answer, Accepted, RefusedBy}
+use Rattle.syntect_contexts.specs.declared.error.ParsingError.{ParsingError}
+use Rattle.syntect_contexts.specs.declared.error.ParsingError.TheVariants as parsing
+use Rattle.syntect_grammar.specs.declared.error.Error.{Error}
+use Rattle.syntect_grammar.specs.declared.error.Error.TheVariants as error
+use Rattle.syntect_buffer.specs.declared.answer.LineAnswer.{LineAnswer}
+use Rattle.syntect_buffer.specs.declared.answer.LineAnswer.TheVariants as answer
+
+-- ---- ranges ----
+
+-- The ranges follow one another from a place to another one, and none is empty.
+abbrev pub Follow : ℕ → List (Style × Range ℕ) → ℕ → Type 0
+Follow from [] to = from ≡ to
+Follow from (p ∷ ps) to = (p.1.start ≡ from) × (from < p.1.end) × Follow p.1.end ps to
+
+-- the style of each byte of the ranges
+abbrev pub styles_in : List (Style × Range ℕ) → List Style
+styles_in ps = flat_map (λ p. replicate (p.1.end - p.1.start) p.0) ps
+
+-- how many bytes pieces have together
+abbrev pub total : List (Style × Bor (List ℕ)) → ℕ
+total pieces = length (flat_map (λ p. p.1.now) pieces)
+
+-- the ranges of pieces, the first of which begins at this place
+abbrev pub ranges_from : ℕ → List (Style × Bor (List ℕ)) → List (Style × Range ℕ)
+ranges_from from [] = []
+ranges_from from (p ∷ ps) = (p.0, record { start = from; end = from + length p.1.now }) ∷ ranges_from (from + length p.1.now) ps
+
+-- ---- answers ----
+
+-- The refusal is that of the reading, which is not want of memory.
+abbrev pub IsRefusal : ParsingError → LineAnswer → Type 0
+IsRefusal parsing.Memory a = ⊥
+IsRefusal e (answer.Refused (error.ParsingError f)) = f ≡ e
+IsRefusal e a = ⊥
+
+-- A buffer's answer is the one that a reading of the line comes to. Where that accepts the line, the ranges go from its start to
+-- its end, and where the lines are orderly, each byte has the theme's style for its scopes.
+abbrev pub IsAnswer : Type 0 → Theme → List ℕ → Answer → LineAnswer → Type 0
+IsAnswer orderly theme line (Accepted bytes) (answer.Pieces ps) = Follow 0 ps.items (length line) × (orderly → styles_in ps.items ≡ map (shown theme) bytes)
+IsAnswer orderly theme line (Accepted bytes) (answer.Refused e) = ⊥
+IsAnswer orderly theme line (RefusedBy e) a = IsRefusal e a

@@ -1,0 +1,75 @@
+-- A buffer against a fresh run over its lines.
+use Rattle.std.specs.Prelude.{◌≡◌, ◌≢◌, ℕ, ◌+◌, ◌<◌, ◌≤◌, List, [], ◌∷◌, ◌++◌, length, take, Some, slice_get}
+use Rattle.syntect_theme.specs.declared.theme.Theme.{Theme}
+use Rattle.syntect_parsing.specs.Engine.{dialect}
+use Rattle.syntect_parsing.specs.Line.{Answer, AnswersAll, start_of}
+use Rattle.syntect_parsing.specs.declared.parser.Standing.{Standing}
+use Rattle.syntect_contexts.specs.declared.syntax_reference.SyntaxReference.{SyntaxReference}
+use Rattle.syntect_grammar.specs.declared.syntax_set.SyntaxSet.{SyntaxSet}
+use Rattle.syntect.specs.Leads.{RunsOrderly}
+use Rattle.syntect_buffer.specs.Answers.{IsAnswer}
+use Rattle.syntect_buffer.specs.declared.answer.LineAnswer.{LineAnswer}
+
+-- What is seen of a buffer: what its lines are read with, the lines, and their answers.
+pub record Buffer : Type 0 where
+  pub syntax : SyntaxReference
+  pub set : SyntaxSet
+  pub theme : Theme
+  pub lines : List (List ℕ)
+  pub answers : List LineAnswer
+
+-- only lines and answers differ
+pub record IsReadWith (b : Buffer) (syntax : SyntaxReference) (set : SyntaxSet) (theme : Theme) : Type 0 where
+  pub syntax_is : b.syntax ≡ syntax
+  pub set_is : b.set ≡ set
+  pub theme_is : b.theme ≡ theme
+
+-- ---- answers ----
+
+-- All lines up to this place, given in order to a new highlighter, come to this answer at the last.
+pub record IsAnswerAt (b : Buffer) (place : ℕ) (answer : LineAnswer) : Type 0 where
+  pub start : Standing
+  pub before : List Answer
+  pub line : List ℕ
+  pub given : Answer
+  pub after : Standing
+  pub begins : start_of b.syntax ≡ Some start
+  pub line_is : slice_get b.lines place ≡ Some line
+  pub run : AnswersAll dialect b.set (take place b.lines ++ line ∷ []) start (before ++ given ∷ []) after
+  pub is_answer : IsAnswer (RunsOrderly b.set b.syntax (take place b.lines ++ line ∷ [])) b.theme line given answer
+
+-- ---- what an edit reads again ----
+
+-- so many lines, read one after another from the start of the syntax, lead to this state
+pub record LeadTo (b : Buffer) (count : ℕ) (state : Standing) : Type 0 where
+  pub start : Standing
+  pub answers : List Answer
+  pub begins : start_of b.syntax ≡ Some start
+  pub run : AnswersAll dialect b.set (take count b.lines) start answers state
+
+-- the line at one place before an edit and the one at another place after it start from the same state
+pub record StartsSame (before after : Buffer) (old new : ℕ) : Type 0 where
+  pub state : Standing
+  pub leads_old : LeadTo before old state
+  pub leads_new : LeadTo after new state
+
+-- they start from different ones
+pub record StartsApart (before after : Buffer) (old new : ℕ) : Type 0 where
+  pub old_state : Standing
+  pub new_state : Standing
+  pub leads_old : LeadTo before old old_state
+  pub leads_new : LeadTo after new new_state
+  pub apart : old_state ≢ new_state
+
+-- An edit left the lines unchanged that stood from `old` on, and now stand from `new` on. The first `count` of them start from
+-- another state than before (where all lines are orderly, before and after), and the next one, if there is one, from the same.
+pub record StartApart (before after : Buffer) (old new count : ℕ) : Type 0 where
+  pub within : new + count ≤ length after.lines
+  pub first : RunsOrderly before.set before.syntax before.lines → RunsOrderly after.set after.syntax after.lines
+      → (k : ℕ) → k < count → StartsApart before after (old + k) (new + k)
+  pub stops : new + count < length after.lines → StartsSame before after (old + count) (new + count)
+
+-- So many lines are read again: these that are new themselves, and the first unchanged ones behind them that start from
+-- another state than before.
+abbrev pub ReadsAgain : Buffer → Buffer → ℕ → ℕ → ℕ → ℕ → Type 0
+ReadsAgain before after own old new number = (count : ℕ) × (number ≡ own + count) × StartApart before after old new count

@@ -1,0 +1,84 @@
+-- What a buffer keeps of its lines, and what is read again.
+use Rattle.std.specs.Prelude.{◌≡◌, ℕ, ◌+◌, ◌<◌, ◌≤◌, List, [], ◌∷◌, ◌++◌, length, take, drop, map, string_bytes}
+use Rattle.syntect_theme.specs.declared.theme.Theme.{Theme}
+use Rattle.syntect_parsing.specs.Line.{Answer}
+use Rattle.syntect_loader.specs.declared.definition.SyntaxDefinition.{SyntaxDefinition}
+use Rattle.syntect_contexts.specs.declared.syntax_reference.SyntaxReference.{SyntaxReference}
+use Rattle.syntect_grammar.specs.declared.syntax_set.SyntaxSet.{SyntaxSet}
+use Rattle.syntect.specs.Built.{IsBuiltOf}
+use Rattle.syntect.specs.Leads.{Past, RunsOrderly, and_then}
+use Rattle.syntect_buffer.specs.Answers.{IsAnswer}
+use Rattle.syntect_buffer.specs.Fresh.{Buffer}
+use Rattle.syntect_buffer.specs.States.{Holds, StandSame, no_lines}
+use Rattle.syntect_buffer.specs.declared.states.LineStates.{LineStates}
+use Rattle.syntect_buffer.specs.declared.reading.Reading.{Reading}
+use Rattle.syntect_buffer.specs.declared.reading.Kept.{Kept}
+
+-- ---- one line ----
+
+-- behind a past the line is answered so, and the states are those after it
+pub record Continues (past : Past) (set : SyntaxSet) (line : List ℕ) (r : Reading) : Type 0 where
+  pub given : Answer
+  pub holds : Holds (and_then past line given) set r.after
+  pub answer : IsAnswer (RunsOrderly set past.syntax (past.lines ++ line ∷ [])) past.theme line given r.answer
+
+-- The line was read from these states: whatever past leads to them, the reading continues it.
+pub record IsReadFrom (set : SyntaxSet) (theme : Theme) (before : LineStates) (line : List ℕ) (r : Reading) : Type 0 where
+  pub continues : (past : Past) → past.theme ≡ theme → Holds past set before → Continues past set line r
+
+-- ---- lines one after another ----
+
+-- the states after readings that begin with these
+abbrev pub ending : LineStates → List Reading → LineStates
+ending s [] = s
+ending s (r ∷ rs) = ending r.after rs
+
+-- each line was read from the states that the reading before it left
+abbrev pub AreReadFrom : SyntaxSet → Theme → LineStates → List (List ℕ) → List Reading → Type 0
+AreReadFrom set theme s [] [] = Unit {0}
+AreReadFrom set theme s (l ∷ ls) (r ∷ rs) = IsReadFrom set theme s l r × AreReadFrom set theme r.after ls rs
+AreReadFrom set theme s ls rs = ⊥
+
+-- the texts of the lines
+abbrev pub lines_in : Kept → List (List ℕ)
+lines_in k = map string_bytes k.lines
+
+-- what is seen of a buffer
+abbrev pub seen : SyntaxReference → SyntaxSet → Theme → Kept → Buffer
+seen syntax set theme k = record { syntax = syntax; set = set; theme = theme; lines = lines_in k; answers = map (λ r. r.answer) k.readings }
+
+-- What a buffer keeps: there are as many readings as lines, and for all definitions that the set is built of, the first states are
+-- those before a text, and each line was read from the states that the one before it left.
+pub record IsKept (set : SyntaxSet) (theme : Theme) (syntax : SyntaxReference) (kept : Kept) : Type 0 where
+  pub count : length (lines_in kept) ≡ length kept.readings
+  pub starts : (definitions : List SyntaxDefinition) → IsBuiltOf set syntax definitions → Holds (no_lines definitions theme syntax) set kept.start
+  pub read : (definitions : List SyntaxDefinition) → IsBuiltOf set syntax definitions → AreReadFrom set theme kept.start (lines_in kept) kept.readings
+
+-- ---- lines read again ----
+
+-- Lines were read again one after another, each from other states than before: from `now` on the new ones, from `old` on the
+-- ones that stood there.
+abbrev pub ReadsOn : SyntaxSet → Theme → LineStates → LineStates → List (List ℕ) → List Reading → List Reading → Type 0
+ReadsOn set theme now old ls rs [] = Unit {0}
+ReadsOn set theme now old (l ∷ ls) (r ∷ rs) (n ∷ ns) = ¬ (StandSame old now) × IsReadFrom set theme now l n × ReadsOn set theme n.after r.after ls rs ns
+ReadsOn set theme now old ls rs (n ∷ ns) = ⊥
+
+-- The lines are read again up to, and without, the first one that starts from the same states as before, or to the end.
+pub record AreReadAgain (set : SyntaxSet) (theme : Theme) (now old : LineStates) (lines : List (List ℕ)) (readings again : List Reading) : Type 0 where
+  pub within : length again ≤ length lines
+  pub on : ReadsOn set theme now old lines readings again
+  pub stops : length again < length lines → StandSame (ending old (take (length again) readings)) (ending now again)
+
+-- ---- edits ----
+
+-- an edit puts these lines in place of those from one place to another, and so many lines are read again
+pub record IsEdited (set : SyntaxSet) (theme : Theme) (old new : Kept) (place behind : ℕ) (own : List (List ℕ)) (number : ℕ) : Type 0 where
+  pub readings : List Reading
+  pub again : List Reading
+  pub start_is : new.start ≡ old.start
+  pub lines_are : lines_in new ≡ take place (lines_in old) ++ (own ++ drop behind (lines_in old))
+  pub readings_are : new.readings ≡ take place old.readings ++ (readings ++ (again ++ drop (length again) (drop behind old.readings)))
+  pub own_read : AreReadFrom set theme (ending old.start (take place old.readings)) own readings
+  pub read_again : AreReadAgain set theme (ending (ending old.start (take place old.readings)) readings) (ending old.start (take behind old.readings))
+      (drop behind (lines_in old)) (drop behind old.readings) again
+  pub number_is : number ≡ length own + length again

@@ -1,0 +1,4 @@
+pub mod Answers
+pub mod Fresh
+pub mod Kept
+pub mod States

@@ -1,0 +1,47 @@
+//! The answer to a line.
+ghost use Rattle.std.specs.Prelude.{◌≡◌, ◌<◌, ◌^◌, IfOk};
+ghost use Rattle.syntect_buffer.specs.Answers.{IsRefusal, total, ranges_from};
+
+use std::alloc::{AllocError, Global};
+use std::ops::Range;
+use syntect_parsing::error::{Error, ParsingError};
+use syntect_theme::style::Style;
+
+/// What a highlighter answers to a line.
+#[derive(Drop)]
+pub enum LineAnswer {
+    /// The line is accepted. The ranges of its bytes follow one another from its start to its end, and none is empty; each
+    /// has its style.
+    Pieces(Vec<(Style, Range<usize>)>),
+    /// The line is refused, as it is by a new highlighter. That is never for want of memory.
+    Refused(Error),
+}
+
+/// The answer to a line that is refused so.
+pub(crate) fn refusal(e: ParsingError) -> Result<LineAnswer, AllocError>
+    ensures { IfOk result (IsRefusal e) }
+{
+    match e {
+        ParsingError::Memory => Err(AllocError),
+        e => Ok(LineAnswer::Refused(Error::ParsingError(e))),
+    }
+}
+
+/// The ranges of pieces that follow one another in a line.
+pub(crate) fn ranges_of(
+    alloc: Global,
+    pieces: &[(Style, &str)],
+) -> Result<Vec<(Style, Range<usize>)>, AllocError>
+    ensures { IfOk result (λ ranges. total pieces.now < 2 ^ 64
+        → ranges.items ≡ ranges_from 0 pieces.now) }
+{
+    let mut ranges = Vec::with_capacity(alloc, pieces.len())?;
+    let mut start = 0usize;
+    for (style, piece) in pieces {
+        // pieces of a line don't reach past its end, so that nothing is cut off here
+        let end = start.saturating_add(piece.len());
+        ranges.push((*style, start..end))?;
+        start = end;
+    }
+    Ok(ranges)
+}

@@ -1,0 +1,122 @@
+//! Readings of lines, one after another.
+ghost use Rattle.std.specs.Prelude.{◌≡◌, ◌+◌, ◌≤◌, length, take, drop, IfOk};
+ghost use Rattle.std.proofs.lemmas.List.Edits.{sets};
+ghost use Rattle.syntect_buffer.specs.Kept.{IsReadFrom, AreReadAgain, ending, lines_in};
+
+use crate::answer::{LineAnswer, ranges_of, refusal};
+use crate::states::{LineStates, copied, stand_same};
+use std::alloc::{AllocError, Global};
+use syntect::easy::HighlightLines;
+use syntect_blocks::blocks::Blocks;
+use syntect_parsing::error::Error;
+use syntect_parsing::syntax_set::SyntaxSet;
+use syntect_theme::theme::Theme;
+
+/// A line's answer, and the states after the line.
+#[derive(Drop)]
+pub(crate) struct Reading {
+    pub(crate) answer: LineAnswer,
+    pub(crate) after: LineStates,
+}
+
+/// The lines of a buffer, their readings, and the states before the first one.
+#[derive(Drop)]
+pub(crate) struct Kept {
+    pub(crate) start: LineStates,
+    pub(crate) lines: Blocks<String>,
+    pub(crate) readings: Blocks<Reading>,
+}
+
+/// Reads a line from the states at its start.
+pub(crate) fn read(
+    alloc: Global,
+    set: &SyntaxSet,
+    theme: &Theme,
+    before: &LineStates,
+    line: &str,
+) -> Result<Reading, AllocError>
+    ensures { IfOk result (λ r. IsReadFrom set.now theme.now before.now line.now r) }
+{
+    prove!(line.len() <= usize::MAX);
+    let styles = before.styles.clone()?;
+    let reader = copied(&before.reader)?;
+    let mut lines = HighlightLines::from_state(alloc, theme, styles, reader)?;
+    let answer = match lines.highlight_line(alloc, line, set) {
+        Ok(pieces) => LineAnswer::Pieces(ranges_of(alloc, pieces.as_slice())?),
+        Err(Error::ParsingError(e)) => refusal(e)?,
+        Err(_) => return Err(AllocError),
+    };
+    let (styles, reader) = lines.state();
+    Ok(Reading {
+        answer,
+        after: LineStates { styles, reader },
+    })
+}
+
+/// The states at the start of a line, where the first line starts from `start`; behind the last line, those after it.
+pub(crate) fn states_at<'a>(
+    start: &'a LineStates,
+    readings: &'a Blocks<Reading>,
+    place: usize,
+) -> &'a LineStates
+    requires { place ≤ length readings.now }
+    ensures { result.now ≡ ending start.now (take place readings.now) }
+{
+    if place == 0 {
+        start
+    } else {
+        &readings.get(place - 1).after
+    }
+}
+
+/// The states after some readings that begin with `now`.
+fn states_after<'a>(now: &'a LineStates, readings: &'a [Reading]) -> &'a LineStates
+    ensures { result.now ≡ ending now.now readings.now }
+{
+    match readings.last() {
+        Some(reading) => &reading.after,
+        None => now,
+    }
+}
+
+/// Reads lines again from a place on, where the states are now these: up to, and without, the first line that starts from
+/// the same states as before, or to the end.
+pub(crate) fn read_again(
+    alloc: Global,
+    set: &SyntaxSet,
+    theme: &Theme,
+    kept: &Kept,
+    place: usize,
+    now: &LineStates,
+) -> Result<Vec<Reading>, AllocError>
+    requires count { length kept.now.lines ≡ length kept.now.readings }
+    requires within { place ≤ length kept.now.readings }
+    ensures { IfOk result (λ again. AreReadAgain set.now theme.now now.now
+        (ending kept.now.start (take place kept.now.readings))
+        (drop place (lines_in kept.now)) (drop place kept.now.readings) again.items) }
+{
+    let mut again = Vec::new(alloc);
+    for at in place..kept.lines.len() {
+        let before = states_after(now, again.as_slice());
+        if stand_same(states_at(&kept.start, &kept.readings, at), before) {
+            break;
+        }
+        let reading = read(alloc, set, theme, before, kept.lines.get(at).as_str())?;
+        again.push(reading)?;
+    }
+    Ok(again)
+}
+
+/// Puts readings in place of those from a place on.
+pub(crate) fn renew(readings: &mut Blocks<Reading>, place: usize, again: Vec<Reading>)
+    requires { place + length again.items ≤ length readings.old }
+    ensures { readings.new ≡ sets readings.old place again.items }
+{
+    let count = readings.len();
+    prove!(place <= count);
+    let mut at = place;
+    for reading in again {
+        readings.set(at, reading);
+        at += 1;
+    }
+}
