@@ -1,5 +1,4 @@
 pub mod EntryLaws
-pub mod ItemLaws
 pub mod MergeLaws
 pub mod RankLaws
 pub mod SetLaws

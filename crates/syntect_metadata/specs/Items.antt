@@ -6,7 +6,10 @@ use Rattle.serde_json.specs.Data.{Data, Members, no_members, member}
 use Rattle.serde_json.specs.Find.{get, as_null, as_bool, as_str, as_object}
 use Rattle.syntect_metadata.specs.declared.error.MetadataError.{MetadataError}
 use Rattle.syntect_metadata.specs.declared.error.MetadataError.TheVariants.{BadItems}
+use Rattle.syntect_metadata.specs.declared.items.Comments.{Comments}
 use Rattle.syntect_metadata.specs.declared.items.MetadataItems.{MetadataItems}
+use Rattle.syntect_metadata.specs.declared.items.Pair.{Pair}
+use Rattle.syntect_metadata.specs.declared.items.Patterns.{Patterns}
 
 -- ---- keys ----
 
@@ -84,26 +87,57 @@ block_comment vars = first_some (block_marks vars (codes "TM_COMMENT_START") (co
     (first_some (block_marks vars (codes "TM_COMMENT_START_2") (codes "TM_COMMENT_END_2"))
     (block_marks vars (codes "TM_COMMENT_START_3") (codes "TM_COMMENT_END_3")))
 
+-- the variables, and what they say of comments
+abbrev pub comments_at : Option Data → Result Comments MetadataError
+comments_at vars = next (variables_at vars) (λ variables. Ok (record { variables = variables; line = line_comment vars; block = block_comment vars }))
+
+-- ---- patterns ----
+
+abbrev pub pair : Option (List ℕ) → Option (List ℕ) → Pair
+pair first second = record { first = first; second = second }
+
+-- the patterns of two keys
+abbrev pub pair_at : List ℕ → List ℕ → Data → Result Pair MetadataError
+pair_at first second d = next (pattern_at first d) (λ f. next (pattern_at second d) (λ s. Ok (pair f s)))
+
+-- the patterns of an object, each at its key
+abbrev pub patterns_of : Data → Result Patterns MetadataError
+patterns_of d =
+    next (pair_at (codes "increaseIndentPattern") (codes "decreaseIndentPattern") d) (λ indents.
+    next (pair_at (codes "bracketIndentNextLinePattern") (codes "disableIndentNextLinePattern") d) (λ next_line.
+    next (pattern_at (codes "unIndentedLinePattern") d) (λ unindented.
+    Ok (record { indents = indents; next_line = next_line; unindented = unindented }))))
+
 -- ---- items ----
+
+abbrev pub items_with : Patterns → Option Bool → Comments → MetadataItems
+items_with patterns parens comments = record {
+  increase_indent_pattern = patterns.indents.first;
+  decrease_indent_pattern = patterns.indents.second;
+  bracket_indent_next_line_pattern = patterns.next_line.first;
+  disable_indent_next_line_pattern = patterns.next_line.second;
+  unindented_line_pattern = patterns.unindented;
+  indent_parens = parens;
+  shell_variables = comments.variables;
+  line_comment = comments.line;
+  block_comment = comments.block;
+}
+
+-- the parts of items
+abbrev pub patterns_in : MetadataItems → Patterns
+patterns_in i = record {
+  indents = pair i.increase_indent_pattern i.decrease_indent_pattern;
+  next_line = pair i.bracket_indent_next_line_pattern i.disable_indent_next_line_pattern;
+  unindented = i.unindented_line_pattern;
+}
+
+abbrev pub comments_in : MetadataItems → Comments
+comments_in i = record { variables = i.shell_variables; line = i.line_comment; block = i.block_comment }
 
 -- what an object says; a key's value of a wrong kind is refused, and other keys are not looked at
 abbrev pub items_of : Data → Result MetadataItems MetadataError
 items_of d =
-    next (pattern_at (codes "increaseIndentPattern") d) (λ increase.
-    next (pattern_at (codes "decreaseIndentPattern") d) (λ decrease.
-    next (pattern_at (codes "bracketIndentNextLinePattern") d) (λ bracket.
-    next (pattern_at (codes "disableIndentNextLinePattern") d) (λ disable.
-    next (pattern_at (codes "unIndentedLinePattern") d) (λ unindented.
+    next (patterns_of d) (λ patterns.
     next (optional as_bool (get parens_key d)) (λ parens.
-    next (variables_at (get variables_key d)) (λ variables.
-    Ok (record {
-      increase_indent_pattern = increase;
-      decrease_indent_pattern = decrease;
-      bracket_indent_next_line_pattern = bracket;
-      disable_indent_next_line_pattern = disable;
-      unindented_line_pattern = unindented;
-      indent_parens = parens;
-      shell_variables = variables;
-      line_comment = line_comment (get variables_key d);
-      block_comment = block_comment (get variables_key d);
-    }))))))))
+    next (comments_at (get variables_key d)) (λ comments.
+    Ok (items_with patterns parens comments))))

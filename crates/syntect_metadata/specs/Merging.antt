@@ -82,9 +82,13 @@ merged_at text table = lookup (is_at (slice_cmp nat_cmp text)) table
 abbrev pub put_at : List ℕ → Merged → List (List ℕ × Merged) → List (List ℕ × Merged)
 put_at text m table = insert_entry (slice_cmp nat_cmp) (remove_entry (is_at (slice_cmp nat_cmp text)) table) text m
 
+-- a table with settings, added to what stands at a scope text
+abbrev pub with_settings : List ℕ → Members → List (List ℕ × Merged) → List (List ℕ × Merged)
+with_settings text settings table = put_at text (with_members settings (unwrap_or (merged_at text table) nothing)) table
+
 -- a table with an entry
 abbrev pub with_entry : RawMetadataEntry → List (List ℕ × Merged) → List (List ℕ × Merged)
-with_entry e table = put_at e.scope (with_members (members_view e.settings.entries) (unwrap_or (merged_at e.scope table) nothing)) table
+with_entry e table = with_settings e.scope (members_view e.settings.entries) table
 
 -- a table with entries, one after another
 abbrev pub with_entries : List RawMetadataEntry → List (List ℕ × Merged) → List (List ℕ × Merged)

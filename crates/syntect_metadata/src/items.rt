@@ -17,7 +17,7 @@ use syntect_values::table::Table;
 use syntect_values::text::Text;
 
 /// What is said of the lines in a scope.
-#[derive(Drop, PartialEq, Eq)]
+#[derive(PartialEq, Eq)]
 pub struct MetadataItems {
     /// The line behind one that this matches is indented by one more.
     pub increase_indent_pattern: Option<Regex>,
@@ -39,27 +39,126 @@ pub struct MetadataItems {
     pub block_comment: Option<(Text, Text)>,
 }
 
+/// Written out, so that crates above call it and needn't prove each part's drop again.
+impl Drop for MetadataItems {
+    fn drop(self) {
+        let MetadataItems {
+            increase_indent_pattern: _,
+            decrease_indent_pattern: _,
+            bracket_indent_next_line_pattern: _,
+            disable_indent_next_line_pattern: _,
+            unindented_line_pattern: _,
+            indent_parens: _,
+            shell_variables: _,
+            line_comment: _,
+            block_comment: _,
+        } = self;
+    }
+}
+
+/// Two patterns that there may be.
+#[derive(Drop)]
+pub(crate) struct Pair {
+    pub first: Option<Regex>,
+    pub second: Option<Regex>,
+}
+
+/// The patterns among items.
+#[derive(Drop)]
+pub(crate) struct Patterns {
+    /// By which lines are indented more and less.
+    pub indents: Pair,
+    /// By which the next line is indented, or is not.
+    pub next_line: Pair,
+    pub unindented: Option<Regex>,
+}
+
+/// The variables among items, and what they say of comments.
+#[derive(Drop)]
+pub(crate) struct Comments {
+    pub variables: Table<Text, Text>,
+    pub line: Option<Text>,
+    pub block: Option<(Text, Text)>,
+}
+
+/// Items of their parts.
+fn items_with(patterns: Patterns, indent_parens: Option<bool>, comments: Comments) -> MetadataItems
+    ensures { result ≡ items.items_with patterns indent_parens comments }
+{
+    let Patterns {
+        indents,
+        next_line,
+        unindented,
+    } = patterns;
+    let Pair {
+        first: increase,
+        second: decrease,
+    } = indents;
+    let Pair {
+        first: bracket,
+        second: disable,
+    } = next_line;
+    let Comments {
+        variables,
+        line,
+        block,
+    } = comments;
+    MetadataItems {
+        increase_indent_pattern: increase,
+        decrease_indent_pattern: decrease,
+        bracket_indent_next_line_pattern: bracket,
+        disable_indent_next_line_pattern: disable,
+        unindented_line_pattern: unindented,
+        indent_parens,
+        shell_variables: variables,
+        line_comment: line,
+        block_comment: block,
+    }
+}
+
 impl MetadataItems {
     /// Equal items.
     pub fn clone(&self, alloc: Global) -> Result<MetadataItems, AllocError>
         ensures { IfOk result (λ items. items ≡ self.now) }
     {
-        Ok(MetadataItems {
-            increase_indent_pattern: copied(alloc, &self.increase_indent_pattern)?,
-            decrease_indent_pattern: copied(alloc, &self.decrease_indent_pattern)?,
-            bracket_indent_next_line_pattern: copied(
-                alloc,
-                &self.bracket_indent_next_line_pattern,
-            )?,
-            disable_indent_next_line_pattern: copied(
-                alloc,
-                &self.disable_indent_next_line_pattern,
-            )?,
-            unindented_line_pattern: copied(alloc, &self.unindented_line_pattern)?,
-            indent_parens: self.indent_parens,
-            shell_variables: self.shell_variables.clone()?,
-            line_comment: self.line_comment.clone()?,
-            block_comment: self.block_comment.clone()?,
+        let patterns = self.patterns(alloc)?;
+        let comments = self.comments()?;
+        Ok(items_with(patterns, self.indent_parens, comments))
+    }
+
+    /// Equal patterns.
+    fn patterns(&self, alloc: Global) -> Result<Patterns, AllocError>
+        ensures { IfOk result (λ patterns. patterns ≡ items.patterns_in self.now) }
+    {
+        let indents = copied_pair(
+            alloc,
+            &self.increase_indent_pattern,
+            &self.decrease_indent_pattern,
+        )?;
+        let next_line = copied_pair(
+            alloc,
+            &self.bracket_indent_next_line_pattern,
+            &self.disable_indent_next_line_pattern,
+        )?;
+        let unindented = copied(alloc, &self.unindented_line_pattern)?;
+        Ok(Patterns {
+            indents,
+            next_line,
+            unindented,
+        })
+    }
+
+    /// Equal variables and marks.
+    fn comments(&self) -> Result<Comments, AllocError>
+        ensures { IfOk result (λ comments. comments ≡ items.comments_in self.now) }
+    {
+        let variables = self.shell_variables.clone()?;
+        let line = self.line_comment.clone()?;
+        let block = self.block_comment.clone()?;
+        Ok(Comments {
+            variables,
+            line,
+            block,
         })
     }
 }
@@ -72,6 +171,19 @@ fn copied(alloc: Global, pattern: &Option<Regex>) -> Result<Option<Regex>, Alloc
         Some(pattern) => Ok(Some(pattern.clone(alloc)?)),
         None => Ok(None),
     }
+}
+
+/// Two equal patterns.
+fn copied_pair(
+    alloc: Global,
+    first: &Option<Regex>,
+    second: &Option<Regex>,
+) -> Result<Pair, AllocError>
+    ensures { IfOk result (λ p. p ≡ items.pair first.now second.now) }
+{
+    let first = copied(alloc, first)?;
+    let second = copied(alloc, second)?;
+    Ok(Pair { first, second })
 }
 
 /// Whether an object has the key of a pattern.
@@ -111,6 +223,59 @@ fn pattern(alloc: Global, key: &str, settings: &Value) -> Result<Option<Regex>, 
             Ok(Some(Regex::new(alloc, text)?))
         }
         None => Err(MetadataError::BadItems),
+    }
+}
+
+/// The patterns of two keys.
+fn two_patterns(
+    alloc: Global,
+    first: &str,
+    second: &str,
+    settings: &Value,
+) -> Result<Pair, MetadataError>
+    ensures ok { IfOk result (λ p. items.pair_at first.now second.now (view settings.now) ≡ Ok p) }
+    ensures err { IfErr result (Refuses (items.pair_at first.now second.now (view settings.now))) }
+{
+    let first = match pattern(alloc, first, settings) {
+        Ok(first) => first,
+        Err(e) => return Err(e),
+    };
+    match pattern(alloc, second, settings) {
+        Ok(second) => Ok(Pair { first, second }),
+        Err(e) => Err(e),
+    }
+}
+
+/// The patterns of an object.
+fn patterns_of(alloc: Global, settings: &Value) -> Result<Patterns, MetadataError>
+    ensures ok { IfOk result (λ p. items.patterns_of (view settings.now) ≡ Ok p) }
+    ensures err { IfErr result (Refuses (items.patterns_of (view settings.now))) }
+{
+    let indents = match two_patterns(
+        alloc,
+        "increaseIndentPattern",
+        "decreaseIndentPattern",
+        settings,
+    ) {
+        Ok(indents) => indents,
+        Err(e) => return Err(e),
+    };
+    let next_line = match two_patterns(
+        alloc,
+        "bracketIndentNextLinePattern",
+        "disableIndentNextLinePattern",
+        settings,
+    ) {
+        Ok(next_line) => next_line,
+        Err(e) => return Err(e),
+    };
+    match pattern(alloc, "unIndentedLinePattern", settings) {
+        Ok(unindented) => Ok(Patterns {
+            indents,
+            next_line,
+            unindented,
+        }),
+        Err(e) => Err(e),
     }
 }
 
@@ -238,40 +403,42 @@ fn block_comment(
     }
 }
 
+/// The variables of an object, and what they say of comments.
+fn comments_of(alloc: Global, settings: &Value) -> Result<Comments, MetadataError>
+    ensures ok { IfOk result (λ c. items.comments_at (get items.variables_key (view settings.now))
+        ≡ Ok c) }
+    ensures err { IfErr result (Refuses
+        (items.comments_at (get items.variables_key (view settings.now)))) }
+{
+    let value = settings.get("shellVariables");
+    let variables = match variables(alloc, value) {
+        Ok(variables) => variables,
+        Err(e) => return Err(e),
+    };
+    let line = line_comment(alloc, value)?;
+    let block = block_comment(alloc, value)?;
+    Ok(Comments {
+        variables,
+        line,
+        block,
+    })
+}
+
 /// What an object says. A value of a wrong kind is `BadItems`, and keys that aren't known are not looked at.
 pub(crate) fn items(alloc: Global, settings: &Value) -> Result<MetadataItems, MetadataError>
     ensures ok { IfOk result (λ i. items.items_of (view settings.now) ≡ Ok i) }
     ensures err { IfErr result (Refuses (items.items_of (view settings.now))) }
 {
-    let increase_indent_pattern = pattern(alloc, "increaseIndentPattern", settings)?;
-    let decrease_indent_pattern = pattern(alloc, "decreaseIndentPattern", settings)?;
-    let bracket_indent_next_line_pattern = pattern(
-        alloc,
-        "bracketIndentNextLinePattern",
-        settings,
-    )?;
-    let disable_indent_next_line_pattern = pattern(
-        alloc,
-        "disableIndentNextLinePattern",
-        settings,
-    )?;
-    let unindented_line_pattern = pattern(alloc, "unIndentedLinePattern", settings)?;
-    let indent_parens = truth(settings.get("indentParens"))?;
-    let shell_variables = match variables(alloc, settings.get("shellVariables")) {
-        Ok(variables) => variables,
+    let patterns = match patterns_of(alloc, settings) {
+        Ok(patterns) => patterns,
         Err(e) => return Err(e),
     };
-    let line_comment = line_comment(alloc, settings.get("shellVariables"))?;
-    let block_comment = block_comment(alloc, settings.get("shellVariables"))?;
-    Ok(MetadataItems {
-        increase_indent_pattern,
-        decrease_indent_pattern,
-        bracket_indent_next_line_pattern,
-        disable_indent_next_line_pattern,
-        unindented_line_pattern,
-        indent_parens,
-        shell_variables,
-        line_comment,
-        block_comment,
-    })
+    let indent_parens = match truth(settings.get("indentParens")) {
+        Ok(indent_parens) => indent_parens,
+        Err(e) => return Err(e),
+    };
+    match comments_of(alloc, settings) {
+        Ok(comments) => Ok(items_with(patterns, indent_parens, comments)),
+        Err(e) => Err(e),
+    }
 }

@@ -162,6 +162,24 @@ fn or_nothing(alloc: Global, merged: Option<Merged>) -> Merged
     }
 }
 
+/// Adds settings to what stands at a scope text.
+fn add_settings(
+    alloc: Global,
+    scope: Text,
+    settings: Map<String, Value>,
+    table: &mut BTreeMap<Text, Merged>,
+) -> Result<(), AllocError>
+    ensures { OnOk result (table_seen table.new.entries
+        ≡ merging.with_settings scope (members_view settings.entries) (table_seen table.old.entries)) }
+{
+    let merged = or_nothing(alloc, table.remove(&scope));
+    let merged = with_members(alloc, settings, merged)?;
+    match table.insert(scope, merged) {
+        Ok(_) => Ok(()),
+        Err(_) => Err(AllocError),
+    }
+}
+
 /// Adds an entry to what stands at its scope text.
 fn add_entry(
     alloc: Global,
@@ -171,17 +189,8 @@ fn add_entry(
     ensures { OnOk result (table_seen table.new.entries
         ≡ merging.with_entry entry (table_seen table.old.entries)) }
 {
-    let RawMetadataEntry {
-        path: _path,
-        scope,
-        settings,
-    } = entry;
-    let merged = or_nothing(alloc, table.remove(&scope));
-    let merged = with_members(alloc, settings, merged)?;
-    match table.insert(scope, merged) {
-        Ok(_) => Ok(()),
-        Err(_) => Err(AllocError),
-    }
+    let (scope, settings) = entry.into_parts();
+    add_settings(alloc, scope, settings, table)
 }
 
 /// The entries put together.

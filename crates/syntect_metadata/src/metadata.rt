@@ -108,6 +108,14 @@ fn sets_of(
     Ok(sets)
 }
 
+impl Clone for Metadata {
+    ghost is_clone = { λ x y. y ≡ x };
+
+    fn clone(&self) -> Result<Metadata, AllocError> {
+        self.copied()
+    }
+}
+
 impl Metadata {
     /// No sets. Takes no memory.
     pub fn default(alloc: Global) -> Metadata
@@ -119,9 +127,10 @@ impl Metadata {
     }
 
     /// The same sets.
-    pub fn clone(&self, alloc: Global) -> Result<Metadata, AllocError>
+    fn copied(&self) -> Result<Metadata, AllocError>
         ensures { IfOk result (λ metadata. metadata ≡ self.now) }
     {
+        let alloc = self.scoped_metadata.allocator();
         let mut sets = Seq::new(alloc);
         for set in self.scoped_metadata.as_slice() {
             sets.push(set.clone(alloc)?)?;

@@ -20,7 +20,6 @@ use syntect_values::seq::Seq;
 use syntect_values::text::Text;
 
 /// What a file of metadata has: settings for the scopes that selectors match.
-#[derive(Drop)]
 pub struct RawMetadataEntry {
     /// The path of the file.
     pub path: Text,
@@ -28,6 +27,17 @@ pub struct RawMetadataEntry {
     pub scope: Text,
     /// The settings, as they were read.
     pub settings: Map<String, Value>,
+}
+
+/// Written out, so that crates above call it and needn't prove each part's drop again.
+impl Drop for RawMetadataEntry {
+    fn drop(self) {
+        let RawMetadataEntry {
+            path: _,
+            scope: _,
+            settings: _,
+        } = self;
+    }
 }
 
 /// Entries that are to be put together.
@@ -111,6 +121,19 @@ impl RawMetadataEntry {
         }
     }
 
+    /// The scope text and the settings.
+    pub(crate) fn into_parts(self) -> (Text, Map<String, Value>)
+        ensures scope { result.0 ≡ self.scope }
+        ensures settings { result.1 ≡ self.settings }
+    {
+        let RawMetadataEntry {
+            path: _,
+            scope,
+            settings,
+        } = self;
+        (scope, settings)
+    }
+
     /// An entry of the same path and scope text, and of the same settings.
     #[tactic(auto, using(crate::proofs::ValueLaws::same_members))]
     pub fn clone(&self) -> Result<RawMetadataEntry, AllocError>
@@ -160,5 +183,13 @@ impl LoadMetadata {
         Ok(LoadMetadata {
             loaded: self.loaded.clone()?,
         })
+    }
+}
+
+impl Clone for LoadMetadata {
+    ghost is_clone = { λ x y. AllZip AreAlike x.loaded y.loaded };
+
+    fn clone(&self) -> Result<LoadMetadata, AllocError> {
+        LoadMetadata::clone(self)
     }
 }

@@ -15,7 +15,7 @@ use syntect_scope::selector::ScopeSelectors;
 use syntect_values::text::Text;
 
 /// What is said of the lines where selectors match.
-#[derive(Drop, PartialEq, Eq)]
+#[derive(PartialEq, Eq)]
 pub struct MetadataSet {
     /// The text of the selectors.
     pub selector_string: Text,
@@ -23,6 +23,17 @@ pub struct MetadataSet {
     pub selector: ScopeSelectors,
     /// What is said there.
     pub items: MetadataItems,
+}
+
+/// Written out, so that crates above call it and needn't prove each part's drop again.
+impl Drop for MetadataSet {
+    fn drop(self) {
+        let MetadataSet {
+            selector_string: _,
+            selector: _,
+            items: _,
+        } = self;
+    }
 }
 
 impl MetadataSet {

@@ -1,0 +1,175 @@
+//! Entries that are put together.
+use crate::given::{Entry, loaded, metadata_of};
+use std::alloc::{AllocError, Global};
+use std::test::Fail;
+use syntect_metadata::metadata::Metadata;
+use syntect_metadata::set::MetadataSet;
+use syntect_scope::repository::ScopeRepository;
+use syntect_values::text::Text;
+
+/// Whether a set has this scope text, and this pattern by which lines are indented.
+fn is_set(set: &MetadataSet, text: &str, pattern: &str) -> bool {
+    match &set.items.increase_indent_pattern {
+        Some(increase) => {
+            (set.selector_string.as_str() == text) & (increase.regex_str() == pattern)
+        }
+        None => false,
+    }
+}
+
+/// Whether these are the sets, by their scope texts and patterns.
+fn are_sets(metadata: &Metadata, wanted: &[(&'static str, &'static str)]) -> bool {
+    if metadata.scoped_metadata.len() != wanted.len() {
+        return false;
+    }
+    for (set, (text, pattern)) in metadata.scoped_metadata.as_slice().iter().zip(wanted) {
+        if !is_set(set, text, pattern) {
+            return false;
+        }
+    }
+    true
+}
+
+/// What entries add to old ones.
+fn merged(alloc: Global, old: &[Entry], new: &[Entry]) -> Result<Metadata, AllocError> {
+    let mut repository = ScopeRepository::new(alloc);
+    let metadata = metadata_of(alloc, old, &mut repository)?;
+    metadata.merged_with_raw(alloc, loaded(alloc, new)?, &mut repository)
+}
+
+/// Whether old entries and new ones give these sets, and a copy of all has them too.
+fn give(
+    alloc: Global,
+    old: &[Entry],
+    new: &[Entry],
+    wanted: &[(&'static str, &'static str)],
+) -> bool {
+    let Ok(metadata) = merged(alloc, old, new) else {
+        return false;
+    };
+    match metadata.clone() {
+        Ok(copy) => are_sets(&metadata, wanted) & are_sets(&copy, wanted),
+        Err(_) => false,
+    }
+}
+
+#[test]
+fn paths_go_by_components(rt: HostRuntime) -> Result<(), Fail> {
+    // `-` stands before `/` as a byte, and yet `a` stands before `a-b`.
+    let entries = [
+        ("a-b/x", "s", "{\"increaseIndentPattern\":\"later\"}"),
+        ("a/x", "s", "{\"increaseIndentPattern\":\"earlier\"}"),
+    ];
+    assert!(rt; give(rt.alloc(), &[], &entries, &[("s", "later")]));
+    Ok(())
+}
+
+#[test]
+fn entries_of_one_path_in_their_order(rt: HostRuntime) -> Result<(), Fail> {
+    let entries = [
+        ("a", "s", "{\"increaseIndentPattern\":\"1\"}"),
+        ("a", "s", "{\"increaseIndentPattern\":\"2\"}"),
+    ];
+    assert!(rt; give(rt.alloc(), &[], &entries, &[("s", "2")]));
+    Ok(())
+}
+
+#[test]
+fn refused_sets_are_left_out(rt: HostRuntime) -> Result<(), Fail> {
+    let entries = [
+        ("1", "z", "{\"increaseIndentPattern\":\"1\"}"),
+        ("2", "skipped", "{\"a\":1}"),
+        ("3", "bad", "{\"indentParens\":\"x\"}"),
+        ("4", "1.2.3.4.5.6.7.8.9", "{\"indentParens\":true}"),
+        ("5", "b", "{\"increaseIndentPattern\":\"5\"}"),
+    ];
+    assert!(rt; give(rt.alloc(), &[], &entries, &[("b", "5"), ("z", "1")]));
+    Ok(())
+}
+
+#[test]
+fn new_sets_replace_old_ones(rt: HostRuntime) -> Result<(), Fail> {
+    let old = [
+        ("1", "c", "{\"increaseIndentPattern\":\"old c\"}"),
+        ("1", "a", "{\"increaseIndentPattern\":\"old a\"}"),
+        ("1", "b", "{\"increaseIndentPattern\":\"old b\"}"),
+    ];
+    // A new set that is refused replaces none.
+    let new = [
+        ("2", "b", "{\"increaseIndentPattern\":\"new b\"}"),
+        ("2", "aa", "{\"increaseIndentPattern\":\"new aa\"}"),
+        ("2", "c", "{\"increaseIndentPattern\":1}"),
+    ];
+    let wanted = [
+        ("a", "old a"),
+        ("aa", "new aa"),
+        ("b", "new b"),
+        ("c", "old c"),
+    ];
+    assert!(rt; give(rt.alloc(), &old, &new, &wanted));
+    Ok(())
+}
+
+/// Whether a set has exactly these variables.
+fn has_variables(
+    alloc: Global,
+    set: &MetadataSet,
+    wanted: &[(&'static str, &'static str)],
+) -> bool {
+    for (name, value) in wanted {
+        let Ok(name) = Text::from_str(alloc, name) else {
+            return false;
+        };
+        match set.items.shell_variables.get(&name) {
+            Some(text) if text.as_str() == *value => {}
+            _other => return false,
+        }
+    }
+    set.items.shell_variables.len() == wanted.len()
+}
+
+/// Whether entries give one set with these variables.
+fn variables(alloc: Global, entries: &[Entry], wanted: &[(&'static str, &'static str)]) -> bool {
+    let Ok(metadata) = merged(alloc, &[], entries) else {
+        return false;
+    };
+    match metadata.scoped_metadata.get(0) {
+        Some(set) => { (metadata.scoped_metadata.len() == 1) & has_variables(alloc, set, wanted) }
+        None => false,
+    }
+}
+
+#[test]
+fn variables_of_files(rt: HostRuntime) -> Result<(), Fail> {
+    let entries = [
+        (
+            "1",
+            "s",
+            "{\"shellVariables\":[{\"name\":\"TM_COMMENT_START\",\"value\":\"#\"},{\"name\":\"X\",\"value\":\"1\"}]}",
+        ),
+        (
+            "2",
+            "s",
+            "{\"shellVariables\":[{\"name\":\"X\",\"value\":\"2\"},{\"name\":\"Y\",\"value\":\"3\"}],\"other\":1}",
+        ),
+        // A list with one that is no variable adds none.
+        (
+            "3",
+            "s",
+            "{\"shellVariables\":[{\"name\":\"X\",\"value\":\"4\"},{\"name\":\"Z\"}]}",
+        ),
+        // Nor do null and lists in the place of objects.
+        ("4", "s", "{\"shellVariables\":null}"),
+        ("5", "s", "{\"shellVariables\":[[\"X\",\"5\"]]}"),
+    ];
+    let wanted = [("TM_COMMENT_START", "#"), ("X", "2"), ("Y", "3")];
+    assert!(rt; variables(rt.alloc(), &entries, &wanted));
+    Ok(())
+}
+
+#[test]
+fn null_variables_are_an_empty_object(rt: HostRuntime) -> Result<(), Fail> {
+    let entries = [("1", "s", "{\"shellVariables\":null}")];
+    assert!(rt; variables(rt.alloc(), &entries, &[]));
+    Ok(())
+}
