@@ -4,7 +4,6 @@ pub mod SameLaws
 pub mod WalkLaws
 pub mod FrameLaws
 pub mod FlatLaws
-mod PlaceLaws
 mod FindLaws
 pub mod FolderLaws
 pub mod ApartLaws

@@ -14,9 +14,9 @@ syntaxes_in set = set.syntaxes
 abbrev pub set_paths : SyntaxSet → List (List ℕ × ℕ)
 set_paths set = set.path_syntaxes
 
--- the set of these syntaxes, none of which was loaded from a file
+-- the set of these syntaxes, none of which was loaded from a file, without metadata
 abbrev pub set_of : List SyntaxReference → SyntaxSet
-set_of syntaxes = record { syntaxes = syntaxes; path_syntaxes = [] }
+set_of syntaxes = record { syntaxes = syntaxes; path_syntaxes = []; metadata = record { scoped_metadata = [] } }
 
 -- the contexts of each syntax of a set
 abbrev pub contexts_of : SyntaxSet → List (List Context)

@@ -4,8 +4,7 @@ pub mod Walk
 pub mod Flats
 pub mod Passing
 pub mod Link
-pub mod Places
-pub mod Walking
+pub mod Metadata
 pub mod Finding
 pub mod Folders
 pub mod Apart

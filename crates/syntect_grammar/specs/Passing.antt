@@ -5,6 +5,15 @@ use Rattle.syntect_base.specs.declared.loading.LoadingError.{LoadingError}
 use Rattle.syntect_base.specs.declared.loading.LoadingError.TheVariants as loading
 use Rattle.syntect_scope.specs.declared.stack.ScopeError.{ScopeError}
 use Rattle.syntect_scope.specs.declared.stack.ScopeError.TheVariants as scope
+use Rattle.syntect_scope.specs.declared.repository.ParseScopeError.{ParseScopeError}
+use Rattle.syntect_scope.specs.declared.repository.ParseScopeError.TheVariants as scope_text
+use Rattle.syntect_base.specs.declared.syntax.ParseSyntaxError.{ParseSyntaxError}
+use Rattle.syntect_base.specs.declared.syntax.ParseSyntaxError.TheVariants as syntax
+use Rattle.syntect_base.specs.declared.theme.ParseThemeError.{ParseThemeError}
+use Rattle.syntect_base.specs.declared.loading.SettingsError.{SettingsError}
+use Rattle.syntect_base.specs.Refusals.{from_theme, from_settings}
+use Rattle.syntect_regex.specs.declared.error.PatternError.{PatternError}
+use Rattle.syntect_regex.specs.declared.error.PatternError.TheVariants as pattern
 use Rattle.std.specs.IoError.{error_kind}
 use Rattle.std.specs.declared.io.Error.{Error as IoError}
 use Rattle.std.specs.declared.io.ErrorKind.{ErrorKind}
@@ -40,3 +49,30 @@ from_kind kind e = error.Io e
 
 abbrev pub from_io : IoError → Error
 from_io e = from_kind (error_kind e) e
+
+abbrev pub from_syntax : ParseSyntaxError → Error
+from_syntax syntax.Memory = error.Memory
+from_syntax syntax.InvalidYaml = error.ParseSyntax syntax.InvalidYaml
+from_syntax syntax.EmptyFile = error.ParseSyntax syntax.EmptyFile
+from_syntax (syntax.MissingMandatoryKey key) = error.ParseSyntax (syntax.MissingMandatoryKey key)
+from_syntax (syntax.RegexCompileError text e) = error.ParseSyntax (syntax.RegexCompileError text e)
+from_syntax (syntax.InvalidScope e) = error.ParseSyntax (syntax.InvalidScope e)
+from_syntax syntax.BadFileRef = error.ParseSyntax syntax.BadFileRef
+from_syntax syntax.MainMissing = error.ParseSyntax syntax.MainMissing
+from_syntax syntax.TypeMismatch = error.ParseSyntax syntax.TypeMismatch
+
+abbrev pub from_scope_text : ParseScopeError → Error
+from_scope_text scope_text.Memory = error.Memory
+from_scope_text scope_text.TooLong = error.ParseScope scope_text.TooLong
+from_scope_text scope_text.TooManyAtoms = error.ParseScope scope_text.TooManyAtoms
+
+abbrev pub from_pattern : PatternError → Error
+from_pattern pattern.Memory = error.Memory
+from_pattern pattern.NotAPattern = error.Pattern pattern.NotAPattern
+
+-- a refusal of a theme's value, or of its bytes
+abbrev pub from_theme_value : ParseThemeError → Error
+from_theme_value e = from_loading (from_theme e)
+
+abbrev pub from_settings_value : SettingsError → Error
+from_settings_value e = from_loading (from_settings e)

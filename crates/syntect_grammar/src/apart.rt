@@ -1,8 +1,9 @@
 //! Sets, taken apart again.
-ghost use Rattle.std.specs.Prelude.{◌≡◌, map, IfOk};
+ghost use Rattle.std.specs.Prelude.{◌≡◌, [], map, IfOk};
 ghost use Rattle.std.specs.List.{zip};
 ghost use Rattle.syntect_grammar.specs.Apart.{by_names, definition_of_syntax};
 ghost use Rattle.syntect_grammar.specs.Link.{definitions_in, paths_in, syntaxes_in, set_paths};
+ghost use Rattle.syntect_grammar.specs.Metadata.{entries_in, kept_sets, metadata_in};
 
 use crate::syntax_definition::{Context, SyntaxDefinition};
 use crate::syntax_set::{SyntaxReference, SyntaxSet, SyntaxSetBuilder};
@@ -55,18 +56,20 @@ fn definition_of(alloc: Global, syntax: SyntaxReference) -> Result<SyntaxDefinit
 
 impl SyntaxSet {
     /// A builder with the set's syntaxes as definitions, in their order, to which more can be added. References that were
-    /// linked keep their numbers, contexts keep their prototypes and marks, and paths stay. Without memory the set is
+    /// linked keep their numbers, contexts keep their prototypes and marks, and paths and metadata stay. Without memory the set is
     /// dropped.
     pub fn into_builder(self, alloc: Global) -> Result<SyntaxSetBuilder, AllocError>
         ensures definitions { IfOk result (λ builder. definitions_in builder ≡ map definition_of_syntax (syntaxes_in self)) }
         ensures paths { IfOk result (λ builder. paths_in builder ≡ set_paths self) }
+        ensures entries { IfOk result (λ builder. entries_in builder ≡ []) }
+        ensures metadata { IfOk result (λ builder. kept_sets builder ≡ metadata_in self) }
     {
-        let (syntaxes, paths) = self.into_parts();
+        let (syntaxes, paths, metadata) = self.into_parts();
         let mut definitions = Vec::with_capacity(alloc, syntaxes.len())?;
         for syntax in syntaxes.into_vec() {
             let definition = definition_of(alloc, syntax)?;
             definitions.push(definition)?;
         }
-        Ok(SyntaxSetBuilder::from_parts(Seq::from_vec(definitions), paths))
+        Ok(SyntaxSetBuilder::from_parts(alloc, Seq::from_vec(definitions), paths, metadata))
     }
 }

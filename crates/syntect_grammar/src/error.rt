@@ -2,13 +2,17 @@
 use std::alloc::{AllocError, AllocFailed};
 use std::io::ErrorKind;
 use std::{fmt, io};
-use syntect_base::loading::LoadingError;
+use syntect_base::loading::{LoadingError, SettingsError};
+use syntect_base::syntax::ParseSyntaxError;
+use syntect_base::theme::ParseThemeError;
 pub use syntect_contexts::error::ParsingError;
+use syntect_regex::error::PatternError;
+use syntect_scope::repository::ParseScopeError;
 use syntect_scope::stack::ScopeError;
 use thiserror::Error as ThisError;
 
-/// Why a call was refused for which several causes are possible.
-#[derive(Debug, Drop, ThisError)]
+/// Why a call was refused for which several causes are possible. `?` makes it of each refusal that a call answers.
+#[derive(Drop, ThisError)]
 pub enum Error {
     /// A file or a folder was not loaded.
     #[error("Loading error: {0}")]
@@ -31,6 +35,26 @@ pub enum Error {
     /// There was no memory.
     #[error("Memory")]
     Memory,
+    /// A text is no syntax definition. `?` alone makes it, as of what `SyntaxDefinition::load_from_str` answers.
+    #[error("Syntax error: {0}")]
+    ParseSyntax(ParseSyntaxError),
+    /// A text is no scope. `?` alone makes it.
+    #[error("Scope error: {0}")]
+    ParseScope(ParseScopeError),
+    /// A text is no pattern. `?` alone makes it.
+    #[error("Pattern error: {0}")]
+    Pattern(PatternError),
+}
+
+/// The message, with the cause where the message leaves it out: `main` shows it of an error that it answers.
+impl fmt::Debug for Error {
+    fn fmt<W: fmt::Write>(&self, f: &mut fmt::Formatter<W>) -> fmt::Result {
+        match self {
+            Error::LoadingError(e) => write!(f, "Loading error: {e:?}"),
+            Error::NoSyntax => write!(f, "{self}: no syntax fits the file"),
+            _ => write!(f, "{self}"),
+        }
+    }
 }
 
 impl From<AllocError> for Error {
@@ -124,5 +148,73 @@ impl From<fmt::Error> for Error {
 
     fn from(e: fmt::Error) -> Error {
         Error::Fmt(e)
+    }
+}
+
+/// Want of memory is passed on as such.
+impl From<ParseSyntaxError> for Error {
+    ghost use Rattle.std.specs.Prelude.{◌≡◌};
+    ghost use Rattle.syntect_grammar.specs.Passing.{from_syntax};
+
+    ghost from_gives = { λ e r. r ≡ from_syntax e };
+
+    fn from(e: ParseSyntaxError) -> Error {
+        match e {
+            ParseSyntaxError::Memory => Error::Memory,
+            e => Error::ParseSyntax(e),
+        }
+    }
+}
+
+/// Want of memory is passed on as such.
+impl From<ParseScopeError> for Error {
+    ghost use Rattle.std.specs.Prelude.{◌≡◌};
+    ghost use Rattle.syntect_grammar.specs.Passing.{from_scope_text};
+
+    ghost from_gives = { λ e r. r ≡ from_scope_text e };
+
+    fn from(e: ParseScopeError) -> Error {
+        match e {
+            ParseScopeError::Memory => Error::Memory,
+            e => Error::ParseScope(e),
+        }
+    }
+}
+
+/// Want of memory is passed on as such.
+impl From<PatternError> for Error {
+    ghost use Rattle.std.specs.Prelude.{◌≡◌};
+    ghost use Rattle.syntect_grammar.specs.Passing.{from_pattern};
+
+    ghost from_gives = { λ e r. r ≡ from_pattern e };
+
+    fn from(e: PatternError) -> Error {
+        match e {
+            PatternError::Memory => Error::Memory,
+            e => Error::Pattern(e),
+        }
+    }
+}
+
+/// As a refusal to load a theme. Want of memory is passed on as such.
+impl From<ParseThemeError> for Error {
+    ghost use Rattle.std.specs.Prelude.{◌≡◌};
+    ghost use Rattle.syntect_grammar.specs.Passing.{from_theme_value};
+
+    ghost from_gives = { λ e r. r ≡ from_theme_value e };
+
+    fn from(e: ParseThemeError) -> Error {
+        Error::from(LoadingError::from(e))
+    }
+}
+
+impl From<SettingsError> for Error {
+    ghost use Rattle.std.specs.Prelude.{◌≡◌};
+    ghost use Rattle.syntect_grammar.specs.Passing.{from_settings_value};
+
+    ghost from_gives = { λ e r. r ≡ from_settings_value e };
+
+    fn from(e: SettingsError) -> Error {
+        Error::from(LoadingError::from(e))
     }
 }

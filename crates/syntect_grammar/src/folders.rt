@@ -1,9 +1,10 @@
-//! Grammars from the files of folders.
+//! Grammars and metadata from the files of folders.
 ghost use Rattle.std.specs.Prelude.{◌≡◌, ◌≢◌, ℕ, Bool, true, false, IsUtf8, List, [], ◌∷◌, IfOk, OnOk, IfErr, OnErr};
 ghost use Rattle.std.specs.Path.{path_bytes, path_file_stem};
 ghost use Rattle.syntect_base.specs.declared.loading.LoadingError.TheVariants.{Memory};
-ghost use Rattle.syntect_grammar.specs.Folders.{is_grammar_path, IsSyntaxOf, RefusesSyntax, AddsSyntaxes, StopsAt, AddsFolder, RefusesFolder, no_definitions};
+ghost use Rattle.syntect_grammar.specs.Folders.{is_grammar_path, is_metadata_path, IsSyntaxOf, RefusesSyntax, AddsMetadata, AddsSyntaxes, StopsFile, StopsAt, AddsFolder, RefusesFolder, no_definitions};
 ghost use Rattle.syntect_grammar.specs.Link.{definitions_in, paths_in, syntaxes_in, set_paths, linked};
+ghost use Rattle.syntect_grammar.specs.Metadata.{metadata_in, IsMergedOf};
 ghost use Rattle.syntect_loader.specs.Loading.{loaded};
 ghost use Rattle.syntect_loader.specs.LoadingSteps.{Fails, Keeps};
 ghost use Rattle.syntect_grammar.specs.declared.syntax_set.SyntaxSetBuilder.{SyntaxSetBuilder as ABuilder};
@@ -17,6 +18,7 @@ use std::rt::Files;
 use syntect_base::loading::LoadingError;
 use syntect_base::syntax::ParseSyntaxError;
 use syntect_base::utils::files_below;
+use syntect_metadata::raw::RawMetadataEntry;
 use syntect_scope::repository::ScopeRepository;
 use syntect_values::text::Text;
 
@@ -28,6 +30,16 @@ fn is_grammar(path: &str) -> bool
         Some(extension) => extension == "sublime-syntax",
         None => false,
     }
+}
+
+/// Whether a file has metadata: its extension is `tmPreferences`, in this case.
+fn is_metadata(path: &str) -> bool
+    ensures { result ≡ is_metadata_path path.now }
+{
+    let Some(extension) = Path::new(path).extension() else {
+        return false;
+    };
+    extension == "tmPreferences"
 }
 
 /// The refusal of the text in a file that is no grammar, with the file's path. Want of memory is passed on as such.
@@ -75,10 +87,11 @@ fn load_file(
 }
 
 impl SyntaxSetBuilder {
-    /// Adds the grammars in a folder and in the folders below it, in the order of a walk: each folder's entries in the byte
-    /// order of their names, a subfolder's files at its place. A grammar's file has the extension `sublime-syntax`, in this
-    /// case; a syntax without a name has that of its file. Each is kept under its path, which is the folder's text and the
-    /// names, joined by `/`. `lines_include_newline` is as for `load_from_str`.
+    /// Adds the grammars and the metadata in a folder and in the folders below it, in the order of a walk: each folder's
+    /// entries in the byte order of their names, a subfolder's files at its place. A grammar's file has the extension
+    /// `sublime-syntax`, in this case; a syntax without a name has that of its file. Each is kept under its path, which is the
+    /// folder's text and the names, joined by `/`. `lines_include_newline` is as for `load_from_str`. A file of metadata has
+    /// the extension `tmPreferences`; one that gives no entry is passed over.
     ///
     /// A fault of the walk is `WalkDir`, and nothing is added. A file that cannot be read, or isn't UTF-8, is `Io`, and one
     /// that is no grammar is `ParseSyntax` with its path; the grammars before it stay added.
@@ -134,8 +147,8 @@ impl SyntaxSetBuilder {
         Ok(())
     }
 
-    #[tactic(auto, using(crate::proofs::FolderLaws::passes_over))]
-    /// Adds the grammar of a file, if it is a grammar's.
+    #[tactic(auto, using(crate::proofs::FolderLaws::passes_over, crate::proofs::FolderLaws::adds_metadata, crate::proofs::FolderLaws::no_room))]
+    /// Adds what is in a file, if it is a grammar's or has metadata.
     fn add_file(
         &mut self,
         files: &impl Files,
@@ -146,13 +159,55 @@ impl SyntaxSetBuilder {
     ) -> Result<(), LoadingError>
         ensures ok { OnOk result (AddsSyntaxes lines_include_newline (path.now ∷ []) repository.old self.old repository.new self.new) }
         ensures err { OnErr result (self.new ≡ self.old) }
-        ensures grammar { OnErr result (is_grammar_path path.now ≡ true) }
-        ensures refusal { IfErr result (RefusesSyntax lines_include_newline path.now repository.old) }
+        ensures refusal { IfErr result (StopsFile lines_include_newline path.now repository.old) }
         ensures kept { Keeps repository.old repository.new }
     {
-        if !is_grammar(path) {
-            return Ok(());
+        if is_grammar(path) {
+            return self.add_grammar(files, alloc, path, lines_include_newline, repository);
         }
+        if is_metadata(path) {
+            return self.add_metadata(files, alloc, path);
+        }
+        Ok(())
+    }
+
+    /// Adds the entry in a file of metadata, which is passed over where it gives none.
+    #[tactic(auto, using(crate::proofs::FolderLaws::one_entry))]
+    fn add_metadata(
+        &mut self,
+        files: &impl Files,
+        alloc: Global,
+        path: &str,
+    ) -> Result<(), LoadingError>
+        ensures ok { OnOk result (AddsMetadata path.now self.old self.new) }
+        ensures err { OnErr result (self.new ≡ self.old) }
+        ensures memory { IfErr result (λ e. e ≡ Memory) }
+    {
+        match RawMetadataEntry::load(files, alloc, Path::new(path)) {
+            Ok(entry) => match self.add_entry(entry) {
+                Ok(()) => Ok(()),
+                Err(_) => Err(LoadingError::Memory),
+            },
+            Err(LoadingError::Memory) => Err(LoadingError::Memory),
+            Err(_fault) => Ok(()),
+        }
+    }
+
+    /// Adds the grammar of a file.
+    fn add_grammar(
+        &mut self,
+        files: &impl Files,
+        alloc: Global,
+        path: &str,
+        lines_include_newline: bool,
+        repository: &mut ScopeRepository,
+    ) -> Result<(), LoadingError>
+        requires { is_grammar_path path.now ≡ true }
+        ensures ok { OnOk result (AddsSyntaxes lines_include_newline (path.now ∷ []) repository.old self.old repository.new self.new) }
+        ensures err { OnErr result (self.new ≡ self.old) }
+        ensures refusal { IfErr result (StopsFile lines_include_newline path.now repository.old) }
+        ensures kept { Keeps repository.old repository.new }
+    {
         let syntax = match load_file(files, alloc, path, lines_include_newline, repository) {
             Ok(syntax) => syntax,
             Err(e) => return Err(e),
@@ -168,16 +223,18 @@ impl SyntaxSetBuilder {
 }
 
 impl SyntaxSet {
-    /// A set of the grammars in a folder and in the folders below it, for lines without their line feeds: as
-    /// `add_from_folder` adds them to no definitions, and as `build` links them.
+    /// A set of the grammars and the metadata in a folder and in the folders below it, for lines without their line feeds:
+    /// as `add_from_folder` adds them to no definitions, and as `build` links them. With lines that end with theirs, as those
+    /// of `LinesWithEndings`, such grammars colour wrongly, in silence: these take `add_from_folder` with `true`.
+    #[tactic(auto, using(crate::proofs::FolderLaws::keeps_all))]
     pub fn load_from_folder(
         files: &impl Files,
         alloc: Global,
         folder: Path<'_>,
         repository: &mut ScopeRepository,
     ) -> Result<SyntaxSet, LoadingError>
-        ensures ok { IfOk result (λ set. (builder : ABuilder) × AddsFolder false (path_bytes folder.entry) repository.old no_definitions repository.new builder
-            × (syntaxes_in set ≡ linked (definitions_in builder)) × (set_paths set ≡ paths_in builder)) }
+        ensures ok { IfOk result (λ set. (builder : ABuilder) × (left : List (List ℕ)) × AddsFolder false (path_bytes folder.entry) repository.old no_definitions left builder
+            × (syntaxes_in set ≡ linked (definitions_in builder)) × (set_paths set ≡ paths_in builder) × IsMergedOf left builder repository.new (metadata_in set)) }
         ensures err { IfErr result (λ e. e ≢ Memory → (builder : ABuilder) × RefusesFolder false (path_bytes folder.entry) repository.old no_definitions e builder) }
         ensures kept { Keeps repository.old repository.new }
     {

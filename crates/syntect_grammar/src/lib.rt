@@ -10,7 +10,6 @@ mod finders;
 mod folders;
 mod heads;
 pub mod includes;
-mod match_iter;
 mod plain_text;
 pub mod syntax_definition;
 pub mod syntax_set;

@@ -2,6 +2,7 @@
 ghost use Rattle.std.specs.Prelude.{◌≡◌, false, None, IfErr, OnErr, OnOk};
 ghost use Rattle.syntect_loader.specs.Loading.{loaded};
 ghost use Rattle.syntect_loader.specs.LoadingSteps.{Fails, Keeps};
+ghost use Rattle.syntect_grammar.specs.Metadata.{entries_in, kept_sets};
 ghost use Rattle.syntect_grammar.specs.PlainText.{plain_text, AddsPlainText};
 
 use crate::syntax_definition::SyntaxDefinition;
@@ -23,6 +24,8 @@ impl SyntaxSetBuilder {
     ) -> Result<(), ParseSyntaxError>
         ensures ok { OnOk result (AddsPlainText self.old self.new repository.old repository.new) }
         ensures refused { IfErr result (Fails (loaded plain_text false None repository.old)) }
+        ensures entries { entries_in self.new ≡ entries_in self.old }
+        ensures metadata { kept_sets self.new ≡ kept_sets self.old }
         ensures err { OnErr result (self.new ≡ self.old) }
         ensures kept { Keeps repository.old repository.new }
     {

@@ -2,7 +2,6 @@
 //!
 //! The rules are those of Sublime Text's syntax definitions. A context has patterns that are tried in order; a match
 //! may open further contexts, put others in the place of the top one, or leave it.
-pub use crate::match_iter::{MatchIter, context_iter};
 pub use syntect_contexts::context::{
     CaptureMapping, Context, ContextId, ContextReference, HoldsContexts, MatchOperation,
     MatchPattern, Pattern,

@@ -1,9 +1,11 @@
 //! Syntaxes that are linked together.
-ghost use Rattle.std.specs.Prelude.{◌≡◌, [], ◌∷◌, ◌++◌, length, IfOk, IfSome, OnOk, OnErr};
+ghost use Rattle.std.specs.Prelude.{◌≡◌, [], ◌∷◌, ◌++◌, length, take, IfOk, IfSome, OnOk, OnErr};
 ghost use Rattle.std.specs.Option.{option_copied};
 ghost use Rattle.syntect_grammar.specs.Contexts.{context_at};
 ghost use Rattle.syntect_grammar.specs.Flats.{AreFlatsOf, pattern_at};
 ghost use Rattle.syntect_grammar.specs.Link.{definitions_in, paths_in, syntaxes_in, set_paths, linked};
+ghost use Rattle.syntect_grammar.specs.Metadata.{entries_in, kept_sets, metadata_in, IsMergedOf};
+ghost use Rattle.syntect_scope.specs.Repository.{IsRepository};
 
 use crate::heads::link_definitions;
 use crate::syntax_definition::{
@@ -14,24 +16,53 @@ use crate::walk::flats_walked;
 use std::alloc::{AllocError, AllocFailed, Global};
 pub use syntect_contexts::syntax_reference::SyntaxReference;
 use syntect_flats::flats::Flat;
+use syntect_metadata::metadata::Metadata;
+use syntect_metadata::raw::{LoadMetadata, RawMetadataEntry};
 use syntect_scope::repository::ScopeRepository;
 use syntect_values::seq::Seq;
 use syntect_values::text::Text;
 
 /// Syntaxes whose contexts are linked.
-#[derive(Clone, Drop)]
+#[derive(Clone)]
 pub struct SyntaxSet {
     syntaxes: Syntaxes,
     /// The paths of files that were loaded, each with the place of its syntax.
     path_syntaxes: Seq<(Text, usize)>,
+    metadata: Metadata,
+}
+
+/// Written out as the builder's is: crates above call it and needn't prove each part's drop again.
+impl Drop for SyntaxSet {
+    fn drop(self) {
+        let SyntaxSet {
+            syntaxes: _,
+            path_syntaxes: _,
+            metadata: _,
+        } = self;
+    }
 }
 
 /// Definitions that are to be linked.
-#[derive(Clone, Drop)]
+#[derive(Clone)]
 pub struct SyntaxSetBuilder {
     syntaxes: Seq<SyntaxDefinition>,
     /// The paths of files that were loaded, each with the place of its definition.
     path_syntaxes: Seq<(Text, usize)>,
+    /// Metadata of files that were loaded.
+    raw_metadata: LoadMetadata,
+    /// The metadata of the set that the builder was made of.
+    metadata: Metadata,
+}
+
+impl Drop for SyntaxSetBuilder {
+    fn drop(self) {
+        let SyntaxSetBuilder {
+            syntaxes: _,
+            path_syntaxes: _,
+            raw_metadata: _,
+            metadata: _,
+        } = self;
+    }
 }
 
 impl SyntaxSet {
@@ -39,10 +70,12 @@ impl SyntaxSet {
     pub fn new(alloc: Global) -> SyntaxSet
         ensures syntaxes { syntaxes_in result ≡ [] }
         ensures paths { set_paths result ≡ [] }
+        ensures metadata { metadata_in result ≡ [] }
     {
         SyntaxSet {
             syntaxes: Syntaxes::new(alloc),
             path_syntaxes: Seq::new(alloc),
+            metadata: Metadata::default(alloc),
         }
     }
 
@@ -50,6 +83,7 @@ impl SyntaxSet {
     pub fn default(alloc: Global) -> SyntaxSet
         ensures syntaxes { syntaxes_in result ≡ [] }
         ensures paths { set_paths result ≡ [] }
+        ensures metadata { metadata_in result ≡ [] }
     {
         SyntaxSet::new(alloc)
     }
@@ -59,6 +93,22 @@ impl SyntaxSet {
         ensures { result.now ≡ syntaxes_in self.now }
     {
         self.syntaxes.as_slice()
+    }
+
+    /// Its metadata.
+    pub fn metadata(&self) -> &Metadata
+        ensures { result.now.scoped_metadata ≡ metadata_in self.now }
+    {
+        &self.metadata
+    }
+
+    /// Puts metadata in the place of its own, which is dropped. All else stays.
+    pub fn set_metadata(&mut self, metadata: Metadata)
+        ensures metadata { metadata_in self.new ≡ metadata.scoped_metadata }
+        ensures syntaxes { syntaxes_in self.new ≡ syntaxes_in self.old }
+        ensures paths { set_paths self.new ≡ set_paths self.old }
+    {
+        self.metadata = metadata;
     }
 
     /// The paths of files that were loaded, each with the place of its syntax.
@@ -73,16 +123,18 @@ impl SyntaxSet {
         self.syntaxes.allocator()
     }
 
-    /// Its syntaxes, and the paths of files that were loaded, each with the place of its syntax.
-    pub(crate) fn into_parts(self) -> (Seq<SyntaxReference>, Seq<(Text, usize)>)
+    /// Its syntaxes, the paths of files that were loaded, each with the place of its syntax, and its metadata.
+    pub(crate) fn into_parts(self) -> (Seq<SyntaxReference>, Seq<(Text, usize)>, Metadata)
         ensures syntaxes { result.0 ≡ syntaxes_in self }
         ensures paths { result.1 ≡ set_paths self }
+        ensures metadata { result.2.scoped_metadata ≡ metadata_in self }
     {
         let SyntaxSet {
             syntaxes,
             path_syntaxes,
+            metadata,
         } = self;
-        (syntaxes.into_seq(), path_syntaxes)
+        (syntaxes.into_seq(), path_syntaxes, metadata)
     }
 
     /// The context of a number, if the set has it.
@@ -134,24 +186,35 @@ impl SyntaxSetBuilder {
     pub fn new(alloc: Global) -> SyntaxSetBuilder
         ensures definitions { definitions_in result ≡ [] }
         ensures paths { paths_in result ≡ [] }
+        ensures entries { entries_in result ≡ [] }
+        ensures metadata { kept_sets result ≡ [] }
     {
         SyntaxSetBuilder {
             syntaxes: Seq::new(alloc),
             path_syntaxes: Seq::new(alloc),
+            raw_metadata: LoadMetadata::default(alloc),
+            metadata: Metadata::default(alloc),
         }
     }
 
-    /// The builder of these definitions, with the paths of files that were loaded, each with the place of its definition.
+    /// The builder of these definitions, with the paths of files that were loaded, each with the place of its definition,
+    /// and with the metadata of a set.
     pub(crate) fn from_parts(
+        alloc: Global,
         syntaxes: Seq<SyntaxDefinition>,
         path_syntaxes: Seq<(Text, usize)>,
+        metadata: Metadata,
     ) -> SyntaxSetBuilder
         ensures definitions { definitions_in result ≡ syntaxes }
         ensures paths { paths_in result ≡ path_syntaxes }
+        ensures entries { entries_in result ≡ [] }
+        ensures metadata { kept_sets result ≡ metadata.scoped_metadata }
     {
         SyntaxSetBuilder {
             syntaxes,
             path_syntaxes,
+            raw_metadata: LoadMetadata::default(alloc),
+            metadata,
         }
     }
 
@@ -159,6 +222,8 @@ impl SyntaxSetBuilder {
     pub fn default(alloc: Global) -> SyntaxSetBuilder
         ensures definitions { definitions_in result ≡ [] }
         ensures paths { paths_in result ≡ [] }
+        ensures entries { entries_in result ≡ [] }
+        ensures metadata { kept_sets result ≡ [] }
     {
         SyntaxSetBuilder::new(alloc)
     }
@@ -167,10 +232,23 @@ impl SyntaxSetBuilder {
     pub fn add(&mut self, syntax: SyntaxDefinition) -> Result<(), AllocError>
         ensures ok { OnOk result (definitions_in self.new ≡ definitions_in self.old ++ syntax ∷ []) }
         ensures paths { paths_in self.new ≡ paths_in self.old }
+        ensures entries { entries_in self.new ≡ entries_in self.old }
+        ensures metadata { kept_sets self.new ≡ kept_sets self.old }
         ensures err { OnErr result (self.new ≡ self.old) }
     {
         self.syntaxes.push(syntax)?;
         Ok(())
+    }
+
+    /// Puts an entry of metadata last. Without memory for it the builder stays as it is.
+    pub(crate) fn add_entry(&mut self, entry: RawMetadataEntry) -> Result<(), AllocError>
+        ensures ok { OnOk result (entries_in self.new ≡ entries_in self.old ++ entry ∷ []) }
+        ensures definitions { definitions_in self.new ≡ definitions_in self.old }
+        ensures paths { paths_in self.new ≡ paths_in self.old }
+        ensures metadata { kept_sets self.new ≡ kept_sets self.old }
+        ensures err { OnErr result (self.new ≡ self.old) }
+    {
+        self.raw_metadata.add_raw(entry)
     }
 
     /// Puts a definition last that was loaded from the file of this path. Without memory for both the builder stays as it
@@ -182,6 +260,8 @@ impl SyntaxSetBuilder {
     ) -> Result<(), AllocError>
         ensures ok { OnOk result (definitions_in self.new ≡ definitions_in self.old ++ syntax ∷ []) }
         ensures paths { OnOk result (paths_in self.new ≡ paths_in self.old ++ (path, length (definitions_in self.old)) ∷ []) }
+        ensures entries { entries_in self.new ≡ entries_in self.old }
+        ensures metadata { kept_sets self.new ≡ kept_sets self.old }
         ensures err { OnErr result (self.new ≡ self.old) }
     {
         self.path_syntaxes.push((path, self.syntaxes.len()))?;
@@ -202,17 +282,17 @@ impl SyntaxSetBuilder {
     }
 
     /// Links the definitions into a set. Contexts are numbered in the byte order of their names.
-    ///
     /// A reference by name is linked to the context of that name in its own syntax, `$top_level_main` being `main`. A
     /// reference by scope or by the name of a syntax is linked to the last syntax of it: to the sub context, or to `main`.
     /// With a way out, where there is no such context, it is linked to `main` of the last syntax named `Plain Text`. A
     /// reference that has a number keeps it, and what cannot be linked stays as it is, unresolved.
-    ///
     /// A context without a prototype of its own is given the context `prototype` of its syntax, if it wants one and isn't
     /// reached from it. Contexts that include one with back references, over any number of includes, are marked as it is.
     /// First-line patterns are compiled.
-    ///
-    /// The repository is that of the definitions' scopes. Without memory the definitions are dropped.
+    /// The metadata of files becomes sets, in the order of scope texts. A builder that was made of a set keeps that set's
+    /// metadata, and a new set of equal scope text takes the place of an old one.
+    /// The repository is that of the definitions' scopes; it takes up the scopes of metadata, and the old atoms keep their
+    /// numbers. Without memory the definitions are dropped.
     pub fn build(
         self,
         alloc: Global,
@@ -220,16 +300,23 @@ impl SyntaxSetBuilder {
     ) -> Result<SyntaxSet, AllocError>
         ensures linked { IfOk result (λ set. syntaxes_in set ≡ linked (definitions_in self)) }
         ensures paths { IfOk result (λ set. set_paths set ≡ paths_in self) }
-        ensures repository { scope_repo.new ≡ scope_repo.old }
+        ensures metadata { IfOk result (λ set. IsMergedOf scope_repo.old self scope_repo.new (metadata_in set)) }
+        ensures whole { IsRepository scope_repo.new }
+        ensures kept { take (length scope_repo.old) scope_repo.new ≡ scope_repo.old }
     {
-        let _ = scope_repo;
+        scope_repo.is_whole();
         let SyntaxSetBuilder {
             syntaxes,
             path_syntaxes,
+            raw_metadata,
+            metadata,
         } = self;
+        let syntaxes = Syntaxes::from_linked(link_definitions(alloc, syntaxes)?)?;
+        let metadata = metadata.merged_with_raw(alloc, raw_metadata, scope_repo)?;
         Ok(SyntaxSet {
-            syntaxes: Syntaxes::from_linked(link_definitions(alloc, syntaxes)?)?,
+            syntaxes,
             path_syntaxes,
+            metadata,
         })
     }
 }

@@ -8,7 +8,7 @@ use Rattle.syntect_contexts.specs.Contexts.{is_same, match_in, match_of, target}
 use Rattle.syntect_grammar.specs.Contexts.{context_at, contexts_of}
 use Rattle.syntect_contexts.specs.Contexts.{count_contexts}
 use Rattle.syntect_grammar.specs.Patterns.{entries, included, walk, walk_patterns}
-use Rattle.syntect_grammar.specs.Places.{Place, entry_places, included_places, target_places, PlacesArePatterns}
+use Rattle.syntect_openings.specs.Places.{Place, entry_places, included_places, target_places, PlacesArePatterns}
 use Rattle.syntect_contexts.specs.declared.context.ContextId.{ContextId}
 use Rattle.syntect_contexts.specs.declared.context.MatchPattern.{MatchPattern}
 use Rattle.syntect_contexts.specs.declared.context.Pattern.{Pattern}

@@ -1,6 +1,6 @@
 //! Laws of sets and of what they are linked from.
 ghost use Rattle.syntect_grammar.specs.Patterns.{RoomIsNotFelt, RoomIsNotFeltAt};
-ghost use Rattle.syntect_grammar.specs.Places.{PlacesArePatterns};
+ghost use Rattle.syntect_openings.specs.Places.{PlacesArePatterns};
 ghost use Rattle.syntect_grammar.specs.PlainText.{PlainTextIsPlain};
 ghost use Rattle.syntect_linker.specs.Reached.{PrototypesReach, MarksReach};
 

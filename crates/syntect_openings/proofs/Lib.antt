@@ -1,1 +1,2 @@
 pub mod OpenLaws
+mod PlaceLaws

@@ -1,3 +1,5 @@
 pub mod Names
 pub mod Opens
 pub mod Openings
+pub mod Places
+pub mod Walking

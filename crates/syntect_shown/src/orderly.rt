@@ -1,10 +1,10 @@
 //! Which syntaxes of a set put back what their contexts clear in the order in which it was cleared, by a look at their
 //! definitions alone.
 use std::alloc::Global;
-use syntect_grammar::syntax_definition::{
+use syntect_grammar::syntax_set::{SyntaxReference, SyntaxSet};
+use syntect_openings::syntax_definition::{
     Context, ContextReference, MatchOperation, Pattern, context_iter,
 };
-use syntect_grammar::syntax_set::{SyntaxReference, SyntaxSet};
 
 /// The context that a reference stands for, if the set has it.
 fn context_of<'s>(set: &'s SyntaxSet, reference: &ContextReference) -> Option<&'s Context> {

@@ -8,8 +8,8 @@ use Rattle.syntect_contexts.specs.Contexts.{is_same, match_of, target}
 use Rattle.syntect_grammar.specs.Contexts.{contexts_of, context_at}
 use Rattle.syntect_contexts.specs.Contexts.{count_contexts}
 use Rattle.syntect_grammar.specs.Patterns.{patterns_in}
-use Rattle.syntect_grammar.specs.declared.match_iter.Waiting.{Waiting}
-use Rattle.syntect_grammar.specs.declared.match_iter.MatchIter.{MatchIter}
+use Rattle.syntect_openings.specs.declared.match_iter.Waiting.{Waiting}
+use Rattle.syntect_openings.specs.declared.match_iter.MatchIter.{MatchIter}
 use Rattle.syntect_contexts.specs.declared.context.ContextId.{ContextId}
 use Rattle.syntect_contexts.specs.declared.context.Pattern.{Pattern}
 use Rattle.syntect_contexts.specs.declared.context.Pattern.TheVariants.{Match, Include}

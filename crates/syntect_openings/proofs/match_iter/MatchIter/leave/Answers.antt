@@ -1,11 +1,11 @@
 use Rattle.std.proofs.Common.{◌≡◌, ℕ, ◌+◌, ◌-◌, ◌<◌, List, [], ◌∷◌, ◌++◌, length, drop, sym, arith}
-use Rattle.syntect_grammar.specs.Places.{path_of, places_from, places_behind}
-use Rattle.syntect_grammar.specs.Walking.{steps_from, steps_behind}
-use Rattle.syntect_grammar.proofs.PlaceLaws.{waiting_places, waiting_steps}
+use Rattle.syntect_openings.specs.Places.{path_of, places_from, places_behind}
+use Rattle.syntect_openings.specs.Walking.{steps_from, steps_behind}
+use Rattle.syntect_openings.proofs.PlaceLaws.{waiting_places, waiting_steps}
 use Rattle.syntect_contexts.specs.declared.context.Context.{Context}
 use Rattle.syntect_grammar.specs.declared.syntax_set.SyntaxSet.{SyntaxSet}
-use Rattle.syntect_grammar.specs.declared.match_iter.Waiting.{Waiting}
-use Rattle.syntect_grammar.proofs.match_iter.MatchIter.leave.Goals as goal
+use Rattle.syntect_openings.specs.declared.match_iter.Waiting.{Waiting}
+use Rattle.syntect_openings.proofs.match_iter.MatchIter.leave.Goals as goal
 
 places : (room : ℕ) (set : SyntaxSet) (ws ns : List Waiting) (w : Waiting) (c : Context) (k : ℕ) → ws ≡ ns ++ w ∷ [] → drop k c.patterns ≡ []
     → places_from (room - length ns) set (path_of ns) w.context.now w.next ++ places_behind room set [] ns ≡ places_from (room - length ws) set (path_of ws) c k ++ places_behind room set [] ws

@@ -1,9 +1,9 @@
 -- Where a walk is.
 use Rattle.std.proofs.Common.{◌≡◌, ℕ, ◌+◌, ◌-◌, List, [], ◌∷◌, ◌++◌, length, refl, ap, sym, ◌∙◌, arith, append-nil, length-append}
 use Rattle.std.proofs.lemmas.List.{append_assoc}
-use Rattle.syntect_grammar.specs.Places.{Place, path_of, places_from, places_behind}
-use Rattle.syntect_grammar.specs.Walking.{steps_from, steps_behind}
-use Rattle.syntect_grammar.specs.declared.match_iter.Waiting.{Waiting}
+use Rattle.syntect_openings.specs.Places.{Place, path_of, places_from, places_behind}
+use Rattle.syntect_openings.specs.Walking.{steps_from, steps_behind}
+use Rattle.syntect_openings.specs.declared.match_iter.Waiting.{Waiting}
 use Rattle.syntect_contexts.specs.declared.context.ContextId.{ContextId}
 use Rattle.syntect_contexts.specs.declared.context.Context.{Context}
 use Rattle.syntect_grammar.specs.declared.syntax_set.SyntaxSet.{SyntaxSet}

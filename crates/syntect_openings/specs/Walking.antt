@@ -4,11 +4,11 @@ use Rattle.std.specs.Option.{option_map_or}
 use Rattle.std.specs.List.{list_any}
 use Rattle.syntect_contexts.specs.Contexts.{is_same, target}
 use Rattle.syntect_grammar.specs.Contexts.{context_at}
-use Rattle.syntect_grammar.specs.Places.{path_of, room_of, walk_left}
-use Rattle.syntect_grammar.specs.declared.match_iter.Waiting.{Waiting}
-use Rattle.syntect_grammar.specs.declared.match_iter.MatchIter.{MatchIter}
-use Rattle.syntect_grammar.specs.declared.match_iter.Step.{Step}
-use Rattle.syntect_grammar.specs.declared.match_iter.Step.TheVariants.{Found, Goes, Ends}
+use Rattle.syntect_openings.specs.Places.{path_of, room_of, walk_left}
+use Rattle.syntect_openings.specs.declared.match_iter.Waiting.{Waiting}
+use Rattle.syntect_openings.specs.declared.match_iter.MatchIter.{MatchIter}
+use Rattle.syntect_openings.specs.declared.match_iter.Step.{Step}
+use Rattle.syntect_openings.specs.declared.match_iter.Step.TheVariants.{Found, Goes, Ends}
 use Rattle.syntect_contexts.specs.declared.context.ContextId.{ContextId}
 use Rattle.syntect_contexts.specs.declared.context.Pattern.{Pattern}
 use Rattle.syntect_contexts.specs.declared.context.Pattern.TheVariants.{Match, Include}

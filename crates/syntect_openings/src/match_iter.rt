@@ -4,13 +4,13 @@ ghost use Rattle.std.specs.List.{list_any};
 ghost use Rattle.std.specs.Iterator.{at_most};
 ghost use Rattle.syntect_contexts.specs.Contexts.{is_same, target};
 ghost use Rattle.syntect_grammar.specs.Contexts.{contexts_of};
-ghost use Rattle.syntect_grammar.specs.Places.{GivesPlace, included_places, items_left, path_of, places_from, places_in, places_left, target_places, room_of, walk_left};
-ghost use Rattle.syntect_grammar.specs.Walking.{StepsTo, included_steps, target_steps, steps_from, steps_left};
+ghost use Rattle.syntect_openings.specs.Places.{GivesPlace, included_places, items_left, path_of, places_from, places_in, places_left, target_places, room_of, walk_left};
+ghost use Rattle.syntect_openings.specs.Walking.{StepsTo, included_steps, target_steps, steps_from, steps_left};
 
-use crate::includes::room_in;
-use crate::syntax_definition::{Context, ContextId, ContextReference, Pattern};
-use crate::syntax_set::SyntaxSet;
 use std::alloc::{AllocError, Global};
+use syntect_grammar::includes::room_in;
+use syntect_grammar::syntax_definition::{Context, ContextId, ContextReference, Pattern};
+use syntect_grammar::syntax_set::SyntaxSet;
 
 /// A context that waits for the end of an include: its next entry, and what the include names.
 #[derive(Clone, Copy)]

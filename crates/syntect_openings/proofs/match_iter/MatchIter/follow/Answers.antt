@@ -1,11 +1,11 @@
 use Rattle.std.proofs.Common.{◌≡◌, ℕ, ◌+◌, ◌-◌, ◌<◌, List, [], ◌∷◌, ◌++◌, length, arith}
-use Rattle.syntect_grammar.specs.Places.{Place, path_of, places_from, places_behind}
-use Rattle.syntect_grammar.specs.Walking.{steps_from, steps_behind}
-use Rattle.syntect_grammar.proofs.PlaceLaws.{pushed_places, pushed_steps}
+use Rattle.syntect_openings.specs.Places.{Place, path_of, places_from, places_behind}
+use Rattle.syntect_openings.specs.Walking.{steps_from, steps_behind}
+use Rattle.syntect_openings.proofs.PlaceLaws.{pushed_places, pushed_steps}
 use Rattle.syntect_contexts.specs.declared.context.Context.{Context}
 use Rattle.syntect_grammar.specs.declared.syntax_set.SyntaxSet.{SyntaxSet}
-use Rattle.syntect_grammar.specs.declared.match_iter.Waiting.{Waiting}
-use Rattle.syntect_grammar.proofs.match_iter.MatchIter.follow.Goals as goal
+use Rattle.syntect_openings.specs.declared.match_iter.Waiting.{Waiting}
+use Rattle.syntect_openings.proofs.match_iter.MatchIter.follow.Goals as goal
 
 -- what the walk gives after a context began to wait
 places : (room : ℕ) (set : SyntaxSet) (ws ns : List Waiting) (w : Waiting) (c : Context) (given : List Place) → ns ≡ ws ++ w ∷ []

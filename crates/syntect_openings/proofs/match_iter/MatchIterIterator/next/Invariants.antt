@@ -1,7 +1,7 @@
 use Rattle.std.proofs.Common.{◌≡◌, false}
-use Rattle.syntect_grammar.specs.Places.{walk_left}
-use Rattle.syntect_grammar.specs.Walking.{steps_left}
-use Rattle.syntect_grammar.proofs.match_iter.MatchIterIterator.next.Given as goal
+use Rattle.syntect_openings.specs.Places.{walk_left}
+use Rattle.syntect_openings.specs.Walking.{steps_left}
+use Rattle.syntect_openings.proofs.match_iter.MatchIterIterator.next.Given as goal
 
 abbrev pub invariant-loop-context : goal.invariant-loop-context
 invariant-loop-context l = record {

@@ -1,0 +1,17 @@
+use Rattle.std.proofs.Common.{◌≢◌, ℕ, List, subst, rules}
+use Rattle.syntect_base.specs.declared.loading.LoadingError.TheVariants.{Memory}
+use Rattle.syntect_grammar.specs.Folders.{passed_over}
+use Rattle.syntect_grammar.proofs.FolderLaws.{one_entry}
+use Rattle.syntect_metadata.specs.Entries.{IsEntryOf}
+use Rattle.syntect_grammar.proofs.syntax_set.SyntaxSetBuilder.add_metadata.Goals as goal
+
+pub returns-in-Ok-add_entry-clause-ok : goal.returns-in-Ok-add_entry-clause-ok
+returns-in-Ok-add_entry-clause-ok g c =
+    one_entry c.args.path.now c.in-Ok.ensures.ok.0 c.args.self.now c.add_entry.new.self c.in-Ok.entry
+    (subst (λ (p : List ℕ). IsEntryOf p c.in-Ok.ensures.ok.0 c.in-Ok.entry) c.new.ensures c.in-Ok.ensures.ok.1)
+    c.in-Ok-add_entry.ensures.ok c.add_entry.ensures.definitions c.add_entry.ensures.paths c.add_entry.ensures.metadata
+
+pub returns-in-Err : goal.returns-in-Err
+returns-in-Err g c =
+    let other : c.in-Err._fault ≢ Memory = search rules in
+    record { ok = passed_over c.in-Err.ensures.err other; err = tt; memory = tt }
