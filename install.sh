@@ -81,7 +81,7 @@ prove() {
     cd "$lane/crates/$1" || return 1
     if [ "$1" = "$program" ]; then
         # once built it shows a file, so that what is installed has run
-        rt run --jobs "$2" -- "$here/examples/grammars" "$here/examples/dusk.tmTheme" html "$here/examples/texts/settings.ini"
+        rt run --jobs "$2" -- "$here/examples/grammars" "$here/examples/dusk.json" html "$here/examples/texts/settings.ini"
     else
         rt lib --jobs "$2"
     fi

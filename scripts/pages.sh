@@ -15,10 +15,10 @@ folder=$(cd "$folder" && pwd)
 
 # the first run proves and builds the program
 cd "$here/crates/syntect_pages"
-rt run -- css "$here/examples/dawn.tmTheme" "$here/examples/dusk.tmTheme" > /dev/null
+rt run -- css "$here/examples/dawn.json" "$here/examples/dusk.json" > /dev/null
 pages=$here/crates/syntect_pages/out/syntect_pages
 
 cd "$here/examples"
 "$pages" html grammars texts/orbit.rs pages.css > "$folder/orbit.html"
-"$pages" css dawn.tmTheme dusk.tmTheme > "$folder/pages.css"
-"$pages" tex grammars dawn.tmTheme texts/orbit.rs > "$folder/orbit.tex"
+"$pages" css dawn.json dusk.json > "$folder/pages.css"
+"$pages" tex grammars dawn.json texts/orbit.rs > "$folder/orbit.tex"

@@ -45,3 +45,6 @@ operation_refused g line after ops (error.LoadingError e) a r = absurd r
 operation_refused g line after ops (error.Fmt e) a r = absurd r
 operation_refused g line after ops (error.Io e) a r = absurd r
 operation_refused g line after ops error.NoSyntax a r = absurd r
+operation_refused g line after ops (error.ParseSyntax e) a r = absurd r
+operation_refused g line after ops (error.ParseScope e) a r = absurd r
+operation_refused g line after ops (error.Pattern e) a r = absurd r

@@ -109,6 +109,9 @@ not_read set path (error.ScopeError e) n = absurd n
 not_read set path (error.LoadingError e) n = absurd n
 not_read set path (error.Fmt e) n = absurd n
 not_read set path error.NoSyntax n = absurd n
+not_read set path (error.ParseSyntax e) n = absurd n
+not_read set path (error.ParseScope e) n = absurd n
+not_read set path (error.Pattern e) n = absurd n
 
 pub no_start_for : (set : SyntaxSet) (path : List ℕ) (syntax : SyntaxReference) (e : Error) → IsSyntaxFor set path syntax → LacksStart syntax e → HasNoLines set path e
 no_start_for set path syntax (error.Io e) s l = tt
@@ -118,6 +121,9 @@ no_start_for set path syntax (error.ScopeError e) s l = absurd l
 no_start_for set path syntax (error.LoadingError e) s l = absurd l
 no_start_for set path syntax (error.Fmt e) s l = absurd l
 no_start_for set path syntax error.NoSyntax s l = absurd l
+no_start_for set path syntax (error.ParseSyntax e) s l = absurd l
+no_start_for set path syntax (error.ParseScope e) s l = absurd l
+no_start_for set path syntax (error.Pattern e) s l = absurd l
 
 -- ---- pages ----
 

@@ -195,3 +195,6 @@ continues past set line h (Err (error.LoadingError e)) b l = absurd l
 continues past set line h (Err (error.Fmt e)) b l = absurd l
 continues past set line h (Err (error.Io e)) b l = absurd l
 continues past set line h (Err error.NoSyntax) b l = absurd l
+continues past set line h (Err (error.ParseSyntax e)) b l = absurd l
+continues past set line h (Err (error.ParseScope e)) b l = absurd l
+continues past set line h (Err (error.Pattern e)) b l = absurd l

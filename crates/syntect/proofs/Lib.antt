@@ -9,3 +9,4 @@ pub mod OrderlyLaws
 pub mod ReaderLaws
 pub mod RowLaws
 pub mod FileLaws
+pub mod LoadedSetLaws

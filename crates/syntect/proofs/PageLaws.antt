@@ -127,6 +127,9 @@ no_page set definitions theme syntax text left page line rest h new (error.Loadi
 no_page set definitions theme syntax text left page line rest h new (error.Fmt e) s l f = absurd l
 no_page set definitions theme syntax text left page line rest h new (error.Io e) s l f = absurd l
 no_page set definitions theme syntax text left page line rest h new error.NoSyntax s l f = absurd l
+no_page set definitions theme syntax text left page line rest h new (error.ParseSyntax e) s l f = absurd l
+no_page set definitions theme syntax text left page line rest h new (error.ParseScope e) s l f = absurd l
+no_page set definitions theme syntax text left page line rest h new (error.Pattern e) s l f = absurd l
 
 pub no_start : (set : SyntaxSet) (syntax : SyntaxReference) (text : List ℕ) (e : Error) → LacksStart syntax e → HasNoPage set syntax text e
 no_start set syntax text (error.ParsingError e) l = inl l
@@ -136,3 +139,6 @@ no_start set syntax text (error.LoadingError e) l = absurd l
 no_start set syntax text (error.Fmt e) l = absurd l
 no_start set syntax text (error.Io e) l = absurd l
 no_start set syntax text error.NoSyntax l = absurd l
+no_start set syntax text (error.ParseSyntax e) l = absurd l
+no_start set syntax text (error.ParseScope e) l = absurd l
+no_start set syntax text (error.Pattern e) l = absurd l

@@ -95,6 +95,9 @@ stopped_at_line set definitions theme syntax had left after last bytes rows line
 stopped_at_line set definitions theme syntax had left after last bytes rows line h new (error.Io e) s l g k u = absurd l
 stopped_at_line set definitions theme syntax had left after last bytes rows line h new (error.LoadingError e) s l g k u = absurd l
 stopped_at_line set definitions theme syntax had left after last bytes rows line h new error.NoSyntax s l g k u = absurd l
+stopped_at_line set definitions theme syntax had left after last bytes rows line h new (error.ParseSyntax e) s l g k u = absurd l
+stopped_at_line set definitions theme syntax had left after last bytes rows line h new (error.ParseScope e) s l g k u = absurd l
+stopped_at_line set definitions theme syntax had left after last bytes rows line h new (error.Pattern e) s l g k u = absurd l
 
 pub stopped_by_fault : (set : SyntaxSet) (syntax : SyntaxReference) (had : Option (List ℕ)) (e : Error) → IsReadFault e → HasStopped set syntax had e
 stopped_by_fault set syntax had (error.ParsingError e) f = absurd f
@@ -104,6 +107,9 @@ stopped_by_fault set syntax had (error.Fmt e) f = absurd f
 stopped_by_fault set syntax had (error.Io e) f = let t = some_text had in (t.0, t.1, tt)
 stopped_by_fault set syntax had (error.LoadingError e) f = absurd f
 stopped_by_fault set syntax had error.NoSyntax f = absurd f
+stopped_by_fault set syntax had (error.ParseSyntax e) f = absurd f
+stopped_by_fault set syntax had (error.ParseScope e) f = absurd f
+stopped_by_fault set syntax had (error.Pattern e) f = absurd f
 
 pub no_page_of_bytes : (set : SyntaxSet) (syntax : SyntaxReference) (had : Option (List ℕ)) (e : Error) → LacksStart syntax e
     → (text : List ℕ) × IsTextOf had text × HasNoPageOfBytes set syntax text e

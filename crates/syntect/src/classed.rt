@@ -47,7 +47,6 @@ pub fn line_tokens_to_classed_spans(
 }
 
 /// Writes the lines of a text, one after another, as nested spans with classes.
-#[derive(Drop)]
 pub struct ClassedHTMLGenerator<'a> {
     syntax_set: &'a SyntaxSet,
     repository: &'a ScopeRepository,
@@ -55,6 +54,20 @@ pub struct ClassedHTMLGenerator<'a> {
     parse_state: ParseState,
     scope_stack: ScopeStack,
     html: String,
+}
+
+/// Written out, so that crates above call it and needn't prove each part's drop again.
+impl<'a> Drop for ClassedHTMLGenerator<'a> {
+    fn drop(self) {
+        let ClassedHTMLGenerator {
+            syntax_set: _,
+            repository: _,
+            style: _,
+            parse_state: _,
+            scope_stack: _,
+            html: _,
+        } = self;
+    }
 }
 
 impl<'a> ClassedHTMLGenerator<'a> {

@@ -28,11 +28,21 @@ use syntect_theme::style::Style;
 use syntect_theme::theme::Theme;
 
 /// Highlights lines that are given one after another.
-#[derive(Drop)]
 pub struct HighlightLines<'a> {
     highlighter: Highlighter<'a>,
     parse_state: ParseState,
     highlight_state: HighlightState,
+}
+
+/// Written out, so that crates above call it and needn't prove each part's drop again.
+impl<'a> Drop for HighlightLines<'a> {
+    fn drop(self) {
+        let HighlightLines {
+            highlighter: _,
+            parse_state: _,
+            highlight_state: _,
+        } = self;
+    }
 }
 
 impl<'a> HighlightLines<'a> {
@@ -88,7 +98,13 @@ impl<'a> HighlightLines<'a> {
         ensures highlight { result.0 ≡ styles_of self.entry }
         ensures parse { result.1 ≡ reader_of self.entry }
     {
-        (self.highlight_state, self.parse_state)
+        let HighlightLines {
+            highlighter,
+            parse_state,
+            highlight_state,
+        } = self;
+        drop(highlighter);
+        (highlight_state, parse_state)
     }
 
     /// The styled pieces of the next line, which join to it. The set has to be that of the syntax. A refusal, that of
@@ -139,7 +155,8 @@ pub struct HighlightFile<'a, F> {
 impl<'a, F: Read + Drop> HighlightFile<'a, F> {
     /// Opens a file, at its first line, and the state before that line under this theme. Its syntax is the one that
     /// `SyntaxSet::find_syntax_for_file` finds, or else plain text; of a first line that is longer than the reader's buffer
-    /// the front that stands there is looked at. The file is opened once, so that it may be a pipe.
+    /// the front that stands there is looked at. The file is opened once, so that it may be a pipe. A byte order mark, U+FEFF,
+    /// at its start stands in the first piece.
     ///
     /// `Io` where the file is not opened, or not read to find the syntax; `NoSyntax` where no syntax fits and the set has no
     /// `Plain Text`; `MissingMainContext` where the syntax has no context `__start`.

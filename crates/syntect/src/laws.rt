@@ -3,6 +3,7 @@ ghost use Rattle.std.specs.Prelude.{List, All};
 ghost use Rattle.syntect_loader.specs.declared.definition.SyntaxDefinition.{SyntaxDefinition as ADefinition};
 ghost use Rattle.syntect_parsing.specs.Refusals.{AreByName};
 ghost use Rattle.syntect.specs.Built.{IsPlain, IsLoaded};
+ghost use Rattle.syntect.specs.Loaded.{BuildersHold, FindsOwn, LoadedSetsMeet};
 ghost use Rattle.syntect.specs.Promises.{LoadedIsPlain, LoadedStay, NothingIsCleared, AllRunOrderly, PastsStay, LoadedGiveScopes};
 ghost use Rattle.syntect.specs.Rows.{RowsBegin, RowsGoOn, RowsEnd};
 
@@ -21,6 +22,16 @@ pub fn loaded_sets_stay()
     ensures plain { (definitions : List ADefinition) → All IsLoaded definitions → All IsPlain definitions }
     ensures named { (definitions : List ADefinition) → All IsLoaded definitions → AreByName definitions }
     ensures stay { LoadedStay }
+{
+    syntect_grammar::laws::loaded_by_name();
+}
+
+/// A set that a builder links of grammars which were loaded, from texts or from folders, and a syntax that is found in it meet
+/// all that `highlighted_html_for_string`, the other pages and `HighlightLines::highlight_line` have as premises.
+pub fn loaded_sets_are_built()
+    ensures builders { BuildersHold }
+    ensures found { FindsOwn }
+    ensures premises { LoadedSetsMeet }
 {
     syntect_grammar::laws::loaded_by_name();
 }

@@ -7,6 +7,7 @@
 
 mod classed;
 pub mod easy;
+pub mod explain;
 pub mod highlighting;
 pub mod html;
 pub mod laws;

@@ -1,5 +1,13 @@
 //! Scopes, grammars, sets of them and the reading of lines.
+pub mod metadata;
+
 pub use syntect_base::syntax::ParseSyntaxError;
+pub use syntect_metadata::error::MetadataError;
+pub use syntect_metadata::items::MetadataItems;
+pub use syntect_metadata::metadata::Metadata;
+pub use syntect_metadata::raw::{LoadMetadata, RawMetadataEntry};
+pub use syntect_metadata::scoped::ScopedMetadata;
+pub use syntect_metadata::set::MetadataSet;
 pub use syntect_parsing::parser::{ParseState, ParsingError};
 pub use syntect_parsing::syntax_definition;
 pub use syntect_parsing::syntax_definition::SyntaxDefinition;

@@ -2,8 +2,8 @@
 use crate::syntax::ParseSyntaxError;
 use crate::theme::ParseThemeError;
 use std::alloc::{AllocError, AllocFailed};
-use std::io;
 use std::io::ErrorKind;
+use std::{fmt, io};
 use thiserror::Error;
 
 /// Why the bytes of a theme or of metadata are no value.
@@ -17,8 +17,12 @@ pub enum SettingsError {
     Memory,
 }
 
+/// What is to be known of a file that holds no settings.
+pub const NO_SETTINGS: &str = "the text is no JSON, or a number in it is no whole one; \
+docs/THEMES.md says how to make a property list JSON";
+
 /// Why a file or a folder was not loaded.
-#[derive(Debug, Drop, Error)]
+#[derive(Drop, Error)]
 pub enum LoadingError {
     /// The files of a folder were not found.
     #[error("error finding all the files in a directory")]
@@ -44,6 +48,19 @@ pub enum LoadingError {
     /// There was no memory.
     #[error("Memory")]
     Memory,
+}
+
+/// The message, with the cause where the message leaves it out: `main` shows it of an error that it answers.
+impl fmt::Debug for LoadingError {
+    fn fmt<W: fmt::Write>(&self, f: &mut fmt::Formatter<W>) -> fmt::Result {
+        match self {
+            LoadingError::ParseTheme(e) => write!(f, "{self}: {e}"),
+            LoadingError::ReadSettings(SettingsError::Json) => {
+                write!(f, "{self}: {NO_SETTINGS}")
+            }
+            _ => write!(f, "{self}"),
+        }
+    }
 }
 
 impl From<AllocError> for SettingsError {

@@ -3,9 +3,10 @@ use Rattle.std.proofs.Common.{◌≡◌, ℕ, Bool, true, false, List, [], ◌�
 use Rattle.std.specs.Prelude.{Option, None, IfOk}
 use Rattle.std.proofs.lemmas.List.Elements.{All-append, All-cons, All-nil}
 use Rattle.syntect_theme.specs.declared.theme.Theme.{Theme}
-use Rattle.syntect_grammar.specs.Folders.{AddsSyntaxes, AddsFolder, no_more, other, grammar}
+use Rattle.syntect_grammar.specs.Folders.{AddsSyntaxes, AddsFolder, no_more, other, grammar, metadata, entry_added, passed_over}
 use Rattle.syntect_grammar.specs.Folders.{no_definitions}
 use Rattle.syntect_grammar.specs.Link.{definitions_in, paths_in, syntaxes_in, set_paths, linked}
+use Rattle.syntect_grammar.specs.Metadata.{entries_in, kept_sets, metadata_in, IsMergedOf}
 use Rattle.syntect_loader.specs.Loading.{loaded}
 use Rattle.syntect_grammar.specs.PlainText.{plain_text, AddsPlainText}
 use Rattle.syntect_loader.specs.declared.definition.SyntaxDefinition.{SyntaxDefinition}
@@ -39,7 +40,9 @@ plain_first law old new before after a e =
 
 plain_more : LoadsPlain → (newlines : Bool) (files old new : List (List ℕ)) (builder all : SyntaxSetBuilder) → All IsPlain (definitions_in builder) → AddsSyntaxes newlines files old builder new all → All IsPlain (definitions_in all)
 plain_more law newlines _ _ _ _ _ p no_more = p
-plain_more law newlines _ _ _ _ _ p (other e a) = plain_more law newlines _ _ _ _ _ p a
+plain_more law newlines _ _ _ _ _ p (other e f a) = plain_more law newlines _ _ _ _ _ p a
+plain_more law newlines _ _ _ _ _ p (metadata e (entry_added i) a) = plain_more law newlines _ _ _ _ _ p a
+plain_more law newlines _ _ _ _ _ p (metadata e (passed_over f n) a) = plain_more law newlines _ _ _ _ _ p a
 plain_more law newlines _ _ _ builder _ p (grammar {d = d} e l a) =
     plain_more law newlines _ _ _ _ _ (All-append IsPlain (definitions_in builder) (d ∷ []) p (one_plain d (law _ _ _ _ _ _ l.loads))) a
 
@@ -49,26 +52,32 @@ set_built law folder repository set s = (
   record {
     links = s.syntaxes;
     plain =
-        plain_more law true s.adds_folder.files s.left repository s.plain s.all
+        plain_more law true s.adds_folder.files s.left s.found s.plain s.all
         (plain_first law no_definitions s.plain [] s.left s.adds_plain refl) s.adds_folder.adds;
   },
 )
 
-pub set_of : (folder : List ℕ) (start plain all : SyntaxSetBuilder) (before left after : List (List ℕ)) (set : SyntaxSet) → before ≡ [] → definitions_in start ≡ [] → paths_in start ≡ []
-    → AddsPlainText start plain before left → AddsFolder true folder left plain after all → syntaxes_in set ≡ linked (definitions_in all) → set_paths set ≡ paths_in all → IsSetOf folder after set
-set_of folder start plain all before left after set e d p a b f g = record {
+pub set_of : (folder : List ℕ) (start plain all : SyntaxSetBuilder) (before left found after : List (List ℕ)) (set : SyntaxSet) → before ≡ [] → definitions_in start ≡ [] → paths_in start ≡ []
+    → entries_in start ≡ [] → kept_sets start ≡ [] → entries_in plain ≡ entries_in start → kept_sets plain ≡ kept_sets start
+    → AddsPlainText start plain before left → AddsFolder true folder left plain found all → syntaxes_in set ≡ linked (definitions_in all) → set_paths set ≡ paths_in all
+    → IsMergedOf found all after (metadata_in set) → IsSetOf folder after set
+set_of folder start plain all before left found after set e d p es ks same_es same_ks a b f g m = record {
   plain = plain;
   all = all;
   left = left;
+  found = found;
   adds_plain = record {
     definition = a.definition;
     loads = ap (λ repo. loaded plain_text false None repo) (sym e) ∙ a.loads;
     definitions = a.definitions ∙ ap (λ ds. ds ++ a.definition ∷ []) d;
     paths = a.paths ∙ p;
   };
+  no_entries = same_es ∙ es;
+  nothing_kept = same_ks ∙ ks;
   adds_folder = b;
   syntaxes = f;
   paths = g;
+  metadata = m;
 }
 
 -- ---- the text of a format ----
@@ -103,4 +112,7 @@ never_writing (error.ParsingError x) h = cc
 never_writing (error.ScopeError x) h = cc
 never_writing (error.Fmt x) h = cc
 never_writing error.NoSyntax h = cc
+never_writing (error.ParseSyntax e) h = cc
+never_writing (error.ParseScope e) h = cc
+never_writing (error.Pattern e) h = cc
 never_writing error.Memory h = cc

@@ -25,4 +25,7 @@ fault_of (error.ParsingError e) = Highlighting
 fault_of (error.ScopeError e) = Highlighting
 fault_of (error.Fmt e) = Highlighting
 fault_of error.NoSyntax = Highlighting
+fault_of (error.ParseSyntax e) = Highlighting
+fault_of (error.ParseScope e) = Highlighting
+fault_of (error.Pattern e) = Highlighting
 fault_of error.Memory = Highlighting

@@ -5,6 +5,7 @@ use Rattle.syntect_theme.specs.declared.theme.Theme.{Theme}
 use Rattle.syntect_grammar.specs.Folders.{AddsFolder}
 use Rattle.syntect_grammar.specs.Folders.{no_definitions}
 use Rattle.syntect_grammar.specs.Link.{definitions_in, paths_in, syntaxes_in, set_paths, linked}
+use Rattle.syntect_grammar.specs.Metadata.{entries_in, kept_sets, metadata_in, IsMergedOf}
 use Rattle.syntect_grammar.specs.PlainText.{AddsPlainText}
 use Rattle.syntect_grammar.specs.declared.syntax_set.SyntaxSet.{SyntaxSet}
 use Rattle.syntect_grammar.specs.declared.syntax_set.SyntaxSetBuilder.{SyntaxSetBuilder}
@@ -14,16 +15,20 @@ use Rattle.syntect_cat.specs.Words.{words_for}
 use Rattle.syntect_cat.specs.declared.job.Format.{Format}
 use Rattle.syntect_cat.specs.declared.job.Format.TheVariants.{Html, Terminal}
 
--- The set links the syntax of plain text and the grammars in a folder, read for lines with newlines and with a repository that
--- was empty and has become this one.
+-- The set links the syntax of plain text and the grammars in a folder, read for lines with newlines, and has the metadata there.
+-- All is read with a repository that was empty and has become this one.
 pub record IsSetOf (folder : List ℕ) (repository : List (List ℕ)) (set : SyntaxSet) : Type 0 where
   pub plain : SyntaxSetBuilder
   pub all : SyntaxSetBuilder
   pub left : List (List ℕ)
+  pub found : List (List ℕ)
   pub adds_plain : AddsPlainText no_definitions plain [] left
-  pub adds_folder : AddsFolder true folder left plain repository all
+  pub no_entries : entries_in plain ≡ []
+  pub nothing_kept : kept_sets plain ≡ []
+  pub adds_folder : AddsFolder true folder left plain found all
   pub syntaxes : syntaxes_in set ≡ linked (definitions_in all)
   pub paths : set_paths set ≡ paths_in all
+  pub metadata : IsMergedOf found all repository (metadata_in set)
 
 -- the text of a format shows what some file of this path holds
 abbrev pub ShowsFile : Format → SyntaxSet → Theme → List ℕ → List ℕ → Type 0

@@ -21,7 +21,8 @@ use syntect_scope::repository::ScopeRepository;
 use syntect_theme::theme::Theme;
 use syntect_theme_files::theme_set::ThemeSet;
 
-/// Plain text and the grammars in a folder, linked, for lines with newlines.
+/// Plain text and the grammars and metadata in a folder, linked, for lines with newlines.
+#[tactic(auto, using(crate::proofs::ShownLaws::set_of))]
 fn load_syntaxes(
     files: &impl Files,
     alloc: Global,

@@ -44,8 +44,7 @@ pub fn refuses_unresolved()
     ensures { RefusesUnresolved }
 {}
 
-/// A text that begins in a context that is never left and has a scope of its own has a scope on each byte of each line
-/// that is accepted.
+/// A text that begins in a context with a scope that is never left has a scope on each byte of each accepted line.
 #[tactic(auto, using(crate::proofs::StandingLaws::bytes_have_scopes))]
 pub fn bytes_have_scopes()
     ensures { BytesHaveScopes }

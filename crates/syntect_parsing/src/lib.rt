@@ -13,4 +13,5 @@ mod position;
 mod search;
 mod turn;
 
-pub use syntect_grammar::{error, syntax_definition, syntax_set, yaml_load};
+pub use syntect_grammar::{error, syntax_set, yaml_load};
+pub use syntect_openings::syntax_definition;

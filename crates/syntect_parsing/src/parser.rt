@@ -48,11 +48,8 @@ impl Clone for Level {
     }
 }
 
-/// Where a reader of lines stands between two of them: the open levels, lowest first, the cuts, and a mark that no line was
-/// accepted yet.
-///
-/// A cut is the height at which a match from a `with_prototype` found the levels; prototypes of the levels below the
-/// last cut are out of sight.
+/// Where a reader of lines stands between two: the open levels, lowest first, the cuts, and whether no line was accepted.
+/// A cut is the height that a match from a `with_prototype` found; prototypes of levels below the last are out of sight.
 #[derive(Clone, Drop, PartialEq, Eq)]
 pub struct Standing {
     pub levels: Seq<Level>,
@@ -62,10 +59,20 @@ pub struct Standing {
 
 /// What is kept between two lines: where the reader stands, and how many turns it made so far, which contracts alone see.
 /// Two states are equal that stand alike, whatever they count.
-#[derive(Clone, Drop, PartialEq, Eq)]
+#[derive(Clone, PartialEq, Eq)]
 pub struct ParseState {
     standing: Standing,
     count: TurnCount,
+}
+
+/// Written out, so that crates above call it and needn't prove each part's drop again.
+impl Drop for ParseState {
+    fn drop(self) {
+        let ParseState {
+            standing: _,
+            count: _,
+        } = self;
+    }
 }
 
 /// The number of a syntax's `__start`.
@@ -106,7 +113,6 @@ impl ParseState {
     /// empty stack. A refusal leaves the state as it was: `MissingMainContext` where no context is open any more,
     /// `UnresolvedContextReference` where a match that was picked names what isn't linked, `MissingContext` where the set lacks
     /// what it names, the open context or a prototype that is to be looked at, and `Memory`.
-    ///
     /// The state counts the turns: an accepted line takes exactly those of its reading, a refused one no more, and neither
     /// more than `levels + (r + 1) * 1001 * (bytes + 1)`, with `r` the longest list of contexts that a match of the set opens.
     pub fn parse_line(

@@ -314,8 +314,7 @@ fn passes_over(part: &Part<'_>, flat: &Flat, places: Places) -> bool
     are_apart(flat.begins, places) && (!flat.has_captures || part.opening.is_none())
 }
 
-/// What is found with the patterns of a part more. `places` covers what stands from the place up to the last that is
-/// looked at.
+/// What is found with a part's patterns more. `places` covers what stands from the place up to the last one.
 fn with_flats<'s>(
     set: &'s SyntaxSet,
     part: &Part<'_>,
@@ -453,8 +452,7 @@ pub fn char_len(line: &str, place: usize) -> usize
     }
 }
 
-/// What a turn does: it takes the first match of least start that doesn't go round in circles, or else passes over a
-/// character, or else ends the line.
+/// What a turn does: it takes the first match of least start that doesn't loop, or passes over a character, or ends.
 pub fn choose<'m, 's>(line: &str, p: &Position, best: &'m Best<'s>) -> Choice<'m, 's>
     requires within { p.now.place ≤ length line.now }
     requires boundary { IsCharBoundary line.now p.now.place }

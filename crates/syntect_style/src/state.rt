@@ -64,11 +64,11 @@ impl HighlightState {
         ensures { result ≡ path_of self }
     {
         let HighlightState {
-            path,
+            path: stack,
             kept: _,
             fits: _,
         } = self;
-        path
+        stack
     }
 
     /// The same state once more.

@@ -104,6 +104,9 @@ module _ (definitions : List SyntaxDefinition) (set : SyntaxSet) (theme : Theme)
   refusal_of is m l s (error.Fmt e) r = absurd r
   refusal_of is m l s (error.Io e) r = absurd r
   refusal_of is m l s error.NoSyntax r = absurd r
+  refusal_of is m l s (error.ParseSyntax e) r = absurd r
+  refusal_of is m l s (error.ParseScope e) r = absurd r
+  refusal_of is m l s (error.Pattern e) r = absurd r
 
 pub returns-in_err-highlight_line-clause-refused : goal.returns-in_err-highlight_line-clause-refused
 returns-in_err-highlight_line-clause-refused c = λ plain names stays.

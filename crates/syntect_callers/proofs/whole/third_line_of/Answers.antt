@@ -47,6 +47,9 @@ module _ (repository : List (List ℕ)) (g h : List ℕ) (l : Load repository g 
     named (error.Fmt x) k = (l, k)
     named (error.Io x) k = (l, k)
     named error.NoSyntax k = (l, k)
+    named (error.ParseSyntax e) k = (l, k)
+    named (error.ParseScope e) k = (l, k)
+    named (error.Pattern e) k = (l, k)
     named error.Memory k = tt
 
     refused : (r : Pieces) → IfErr r (IsRefusal both lines) → IfErr r (IsRefusalOf repository g h lines)

@@ -1,0 +1,81 @@
+//! `syntect_pager FOLDER THEME FILE` shows a text file in a terminal, highlighted by the grammars of a folder and a theme.
+#![tactic(auto)]
+
+use anyhow::{Result, bail};
+use std::path::Path;
+use std::rt::Files;
+use std::{env, fs};
+use syntect::Error;
+use syntect::easy::HighlightLines;
+use syntect::explain::why_not_loaded;
+use syntect::highlighting::{Theme, ThemeSet};
+use syntect::parsing::{ScopeRepository, SyntaxReference, SyntaxSet, SyntaxSetBuilder};
+use syntect::util::{LinesWithEndings, as_24_bit_terminal_escaped};
+
+/// Plain text and the grammars in a folder, for lines with their newlines.
+fn load_set(
+    rt: &(impl AllocGlobal + Files),
+    folder: Path<'_>,
+    repository: &mut ScopeRepository,
+) -> Result<SyntaxSet> {
+    let mut builder = SyntaxSetBuilder::new(rt.alloc());
+    builder.add_plain_text_syntax(rt.alloc(), repository)?;
+    if let Err(e) = builder.add_from_folder(rt, rt.alloc(), folder, true, repository) {
+        bail!("{}", why_not_loaded(rt, rt.alloc(), folder, &e)?);
+    }
+    Ok(builder.build(rt.alloc(), repository)?)
+}
+
+fn load_theme(
+    rt: &(impl AllocGlobal + Files),
+    path: Path<'_>,
+    repository: &mut ScopeRepository,
+) -> Result<Theme> {
+    match ThemeSet::get_theme(rt, rt.alloc(), path, repository) {
+        Ok(theme) => Ok(theme),
+        Err(e) => bail!("{}", why_not_loaded(rt, rt.alloc(), path, &e)?),
+    }
+}
+
+/// The syntax of a file, or else plain text.
+fn find_syntax<'s>(
+    rt: &(impl AllocGlobal + Files),
+    set: &'s SyntaxSet,
+    path: Path<'_>,
+) -> Result<&'s SyntaxReference> {
+    match set.find_syntax_for_file(rt, rt.alloc(), path)? {
+        Some(syntax) => Ok(syntax),
+        None => Ok(set.find_syntax_plain_text().ok_or(Error::NoSyntax)?),
+    }
+}
+
+/// Prints a text's lines, highlighted, and puts the terminal's own colours back.
+fn print_lines(
+    rt: &(impl AllocGlobal + Print),
+    text: &str,
+    set: &SyntaxSet,
+    syntax: &SyntaxReference,
+    theme: &Theme,
+) -> Result<()> {
+    let mut lines = HighlightLines::new(rt.alloc(), syntax, theme)?;
+    for line in LinesWithEndings::from(text) {
+        let pieces = lines.highlight_line(rt.alloc(), line, set)?;
+        let shown = as_24_bit_terminal_escaped(rt.alloc(), pieces.as_slice(), false)?;
+        print!(rt; "{shown}")?;
+    }
+    print!(rt; "\x1b[0m")?;
+    Ok(())
+}
+
+fn main(rt: HostRuntime) -> Result<()> {
+    let words: Vec<String> = env::args(&rt)?.skip(1).collect(rt.alloc())?;
+    let [folder, theme, path] = words.as_slice() else {
+        bail!("usage: syntect_pager FOLDER THEME FILE");
+    };
+    let mut repository = ScopeRepository::new(rt.alloc());
+    let set = load_set(&rt, Path::new(folder.as_str()), &mut repository)?;
+    let theme = load_theme(&rt, Path::new(theme.as_str()), &mut repository)?;
+    let syntax = find_syntax(&rt, &set, Path::new(path.as_str()))?;
+    let text = fs::read_to_string(&rt, path.as_str())?;
+    print_lines(&rt, text.as_str(), &set, syntax, &theme)
+}
