@@ -7,7 +7,7 @@ use Rattle.std.specs.Cmp.Lexicographic.{pointwise}
 use Rattle.std.specs.Path.{path_file_name, path_extension}
 use Rattle.std.specs.Str.{str_eq_ignore_ascii_case}
 use Rattle.syntect_grammar.specs.Finding.{found_by_name, found_by_extension, found_by_token, found_by_file_name, found_by_first_line, last_fitting, has_extension, fits_line, without_mark}
-use Rattle.syntect_grammar.specs.Folders.{AddsSyntaxes, AddsFolder, no_more, other, grammar}
+use Rattle.syntect_grammar.specs.Folders.{AddsSyntaxes, AddsFolder, AddsMetadata, entry_added, passed_over, no_more, other, grammar, metadata}
 use Rattle.syntect_grammar.specs.Link.{definitions_in, syntaxes_in, linked}
 use Rattle.syntect_grammar.specs.PlainText.{AddsPlainText}
 use Rattle.syntect_loader.specs.Loading.{loaded}
@@ -32,11 +32,17 @@ one_more ds d h l = All-append IsLoaded ds (d ∷ []) h (All-cons IsLoaded d [] 
 holds_more : (old new : SyntaxSetBuilder) (d : SyntaxDefinition) → HoldsLoaded old → IsLoaded d → definitions_in new ≡ definitions_in old ++ d ∷ [] → HoldsLoaded new
 holds_more old new d h l e = subst (All IsLoaded) (sym e) (one_more (definitions_in old) d h l)
 
+-- metadata leaves the definitions
+holds_entry : (path : List ℕ) (old new : SyntaxSetBuilder) → HoldsLoaded old → AddsMetadata path old new → HoldsLoaded new
+holds_entry path old _ h (entry_added e) = h
+holds_entry path old _ h (passed_over e n) = h
+
 holds_files : (newlines : Bool) (files before after : List (List ℕ)) (builder all : SyntaxSetBuilder) → HoldsLoaded builder → AddsSyntaxes newlines files before builder after all → HoldsLoaded all
 holds_files newlines _ _ _ _ _ h no_more = h
-holds_files newlines _ _ _ _ _ h (other e a) = holds_files newlines _ _ _ _ _ h a
+holds_files newlines _ _ _ _ _ h (other e f a) = holds_files newlines _ _ _ _ _ h a
 holds_files newlines _ _ _ builder _ h (grammar {d = d} e l a) =
     holds_files newlines _ _ _ _ _ (one_more (definitions_in builder) d h (loaded_as _ _ _ _ _ _ l.loads)) a
+holds_files newlines _ _ _ builder _ h (metadata {path = path} {next = next} e m a) = holds_files newlines _ _ _ _ _ (holds_entry path builder next h m) a
 
 pub builders_hold : BuildersHold
 builders_hold = record {
