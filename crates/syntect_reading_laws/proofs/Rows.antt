@@ -98,6 +98,7 @@ set_of contexts = record {
     contexts = contexts;
   } ∷ [];
   path_syntaxes = [];
+  metadata = record { scoped_metadata = [] };
 }
 
 -- `__start` is 0, `__main` is 1, `main` is 2, and then the others
