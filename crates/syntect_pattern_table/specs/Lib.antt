@@ -4,3 +4,4 @@ pub mod Program
 pub mod Builder
 pub mod Starts
 pub mod Needs
+pub mod Looks

@@ -2,9 +2,10 @@
 ghost use Rattle.std.specs.Prelude.{◌≡◌, ◌≤◌, ◌<◌, ◌-◌, ℕ, [], List, IfOk, IfNone, IsCharBoundary, length, min, slice_index, slice_index_or, true, false};
 ghost use Rattle.syntect_pattern_table.specs.Table.{IsOrdered, trees};
 ghost use Rattle.syntect_pattern_table.specs.Builder.{tree_in};
+ghost use Rattle.syntect_pattern_table.specs.Looks.{AreLooks};
 ghost use Rattle.syntect_pattern_table.specs.Starts.{AreFirsts, AreStarts};
 
-use crate::looks::{has_group, in_look};
+use crate::looks::{group_in, looks_of};
 use crate::node::Node;
 use crate::starts::{Places, flags_of, is_in, places_of, start_at};
 use memchr::memchr;
@@ -26,8 +27,11 @@ pub struct Program {
     pub firsts: Seq<Places>,
     /// A byte that stands at the place of each match or behind it, if one is known.
     pub needed: Option<u8>,
+    /// Whether the first groups stand in lookarounds.
+    pub looks: Seq<Option<bool>>,
     pub ghost ordered: { IsOrdered nodes },
     pub ghost begun: { AreFirsts firsts (trees nodes) },
+    pub ghost looked: { AreLooks nodes root looks },
 }
 
 impl Program {
@@ -55,6 +59,7 @@ impl Program {
     {
         let firsts = places_of(alloc, nodes.as_slice())?;
         let starts = flags_of(alloc, firsts.as_slice()[root])?;
+        let looks = looks_of(alloc, nodes.as_slice(), root, groups)?;
         Ok(Program {
             nodes,
             root,
@@ -62,6 +67,7 @@ impl Program {
             starts,
             firsts,
             needed,
+            looks,
         })
     }
 
@@ -76,18 +82,14 @@ impl Program {
     pub fn group(&self, number: usize) -> Option<bool>
         ensures { (tree : Tree) → IsProgramOf self.now tree → result ≡ group_in_look tree number }
     {
-        if number == 0 {
-            return Some(false);
+        if let Some(found) = self.looks.get(number) {
+            return *found;
         }
         let nodes = self.nodes.as_slice();
         if self.root >= nodes.len() {
             return None;
         }
-        if has_group(nodes, self.root, number) {
-            Some(in_look(nodes, self.root, number, false))
-        } else {
-            None
-        }
+        group_in(nodes, self.root, number)
     }
 
     /// Whether no match of the node begins at the place, as what stands there tells.

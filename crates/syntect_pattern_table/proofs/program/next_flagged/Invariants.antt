@@ -1,4 +1,4 @@
-use Rattle.std.proofs.Common.{◌≡◌, ◌≤◌, ◌<◌, ◌-◌, ℕ, length, get_or, min, true, false}
+use Rattle.std.proofs.Common.{◌≡◌, ◌≤◌, ◌<◌, ◌-◌, ℕ, get_or, min, true, false}
 use Rattle.syntect_pattern_table.proofs.program.next_flagged.Given as goal
 
 abbrev pub invariant-loop-next : goal.invariant-loop-next
