@@ -3,8 +3,8 @@ use Rattle.std.proofs.Common.{◌≡◌, ◌≢◌, ℕ, zero, suc, ◌+◌, ◌
 use Rattle.std.specs.Prelude.{IsCharBoundary, IfOk, OnOk, Result, Ok, Err}
 use Rattle.std.specs.Option.{option_or}
 use Rattle.std.proofs.lemmas.List.{reverse-append}
-use Rattle.syntect_pattern.specs.Trees.{Tree, repeat}
-use Rattle.syntect_pattern.specs.Matches.{Groups, Member}
+use Rattle.syntect_pattern.specs.Trees.{Anchor, Tree, anchor, repeat}
+use Rattle.syntect_pattern.specs.Matches.{Groups, Member, stands}
 use Rattle.syntect_engine.specs.declared.state.Turns.{Turns}
 use Rattle.syntect_engine.specs.declared.state.Item.TheVariants.{Run, Close, Again}
 use Rattle.syntect_engine.specs.declared.state.Cell.{Cell}
@@ -161,6 +161,11 @@ module _ (s : List ℕ) (ts : List Tree) (t : Turns) (greedy : Bool) (least : �
 
 -- -- Ends of a stretch
 
+found_if : (b : Bool) (w : Work) → w.found ≡ None → (work_if b w).found ≡ None
+unfolding none
+found_if true w h = h
+found_if false w h = refl
+
 module _ (s : List ℕ) (ts : List Tree) (xs : List Cell) (c : Cell) (list : ℕ) (some : list ≢ 0) (hc : CellsFit s xs) (hl : list ≤ length xs) (is : get_or xs (list - 1) c ≡ c) (i : ℕ) where
   -- a list that begins with a node without a match
   pub list-run : (node : ℕ) → c.item ≡ Run node → IsDead s i (tree_at s ts node) → (g : Groups) → (list_at s ts xs list i g).found ≡ None
@@ -177,6 +182,14 @@ module _ (s : List ℕ) (ts : List Tree) (xs : List Cell) (c : Cell) (list : ℕ
       let K : On = list_at s ts xs c.next in
       ap (λ (k : On). (k i g).found) (leave-cell s ts xs c list some hc hl is)
       ∙ ap (λ it. (on_item s ts it K i g).found) e ∙ h (set g n (Some (a, i)))
+
+  -- a list that begins with an anchor, which reads nothing
+  pub list-anchor : (node : ℕ) (a : Anchor) → c.item ≡ Run node → tree_at s ts node ≡ anchor a → ((g : Groups) → (list_at s ts xs c.next i g).found ≡ None) → (g : Groups) → (list_at s ts xs list i g).found ≡ None
+  unfolding tick
+  list-anchor node a e t h g =
+      let K : On = list_at s ts xs c.next in
+      ap (λ (k : On). (k i g).found) (leave-cell s ts xs c list some hc hl is)
+      ∙ ap (λ it. (on_item s ts it K i g).found) e ∙ ap (λ (tree : Tree). (search s tree K i g).found) t ∙ found_if (stands s a i) (K i g) (h g)
 
 places-skip : (K : On) (g : Groups) (m c j : ℕ) → m ≤ c → ((p : ℕ) → p < m → (K (j - p) g).found ≡ None)
     → ((at_places K (c - m) (j - m) g).found ≡ (at_places K c j g).found) × ((at_places K (c - m) (j - m) g).count + m ≤ (at_places K c j g).count)

@@ -5,11 +5,12 @@ ghost use Rattle.syntect_pattern_table.specs.Program.{trees_of};
 ghost use Rattle.syntect_engine.specs.Machine.{CellsFit, FramesFit, IsShorter, list_at};
 
 use crate::state::{Frame, Item, Search};
+use syntect_pattern_table::node::Node;
 use syntect_pattern_table::program::Program;
 
 impl Search {
     /// How many of these places, this one and those right before it, are passed over, the last one first, until the list may
-    /// find something, as the byte there tells.
+    /// find something, as the byte there tells. What reads nothing, an anchor or a group's end, is looked past.
     pub fn dead_ends(
         &self,
         program: &Program,
@@ -31,7 +32,10 @@ impl Search {
         }
         let cell = self.cells[list - 1];
         match cell.item {
-            Item::Run(node) => program.dead_ends(text, place, count, node),
+            Item::Run(node) => match program.node(node) {
+                Some(Node::Anchor(_)) => self.dead_ends(program, text, cell.next, count, place),
+                _ => program.dead_ends(text, place, count, node),
+            },
             Item::Close { group: _, start: _ } => {
                 self.dead_ends(program, text, cell.next, count, place)
             }
