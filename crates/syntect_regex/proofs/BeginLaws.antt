@@ -26,7 +26,7 @@ start-bound s i = elim (cases_lt i (length s)) [
 ]
 
 -- a place where no match begins is passed over, also one past the end
-found-next : (s : List ℕ) (tree : Tree) (i : ℕ) → found_at s tree i ≡ None → found s tree i ≡ found s tree (i + 1)
+pub found-next : (s : List ℕ) (tree : Tree) (i : ℕ) → found_at s tree i ≡ None → found s tree i ≡ found s tree (i + 1)
 found-next s tree i e = elim (cases_lt (length s) i) [
   | inl l ↦ found-past s tree i l ∙ sym (found-past s tree (i + 1) (omega (arith, l)))
   | inr l ↦ rw add-one (found-step s tree i l e)

@@ -1,2 +1,3 @@
 pub mod RegionLaws
 pub mod BeginLaws
+pub mod HereLaws

@@ -1,5 +1,5 @@
 -- What a search leaves in a region.
-use Rattle.std.specs.Prelude.{◌≡◌, ℕ, ◌+◌, Bool, true, false, List, Option, Some, None, ◌⊎◌, is_some, unwrap_or, nat_eq, option_and_then}
+use Rattle.std.specs.Prelude.{◌≡◌, ℕ, ◌+◌, Bool, true, false, List, Option, Some, None, ◌⊎◌, is_some, unwrap_or, nat_eq, option_and_then, slice_index_or}
 use Rattle.std.specs.Option.{option_eq}
 use Rattle.std.specs.Ordering.{on, eq_of_both}
 use Rattle.std.specs.Cmp.{IsEquivalence, and_equiv, on_equiv, nat_eq_equiv}
@@ -42,6 +42,20 @@ TakesUpTo match from last old false new = (new ≡ old) × (match from ≡ match
 -- the same of the program's matches
 abbrev pub TakesNear : List ℕ → Program → ℕ → ℕ → Groups → Bool → Groups → Type 0
 TakesNear s p from last old answer new = (tree : Tree) → IsProgramOf p tree → TakesUpTo (found s tree) from last old answer new
+
+-- a match with these groups begins at the place
+abbrev pub BeginsAt : Groups → ℕ → Type 0
+BeginsAt groups place = (start end : ℕ) → slice_index_or groups 0 None ≡ Some (start, end) → start ≡ place
+
+-- The answer says whether a match begins at the place: then the new groups are the match's, and else the old ones stay, and
+-- what is found from the place on is found from behind it.
+abbrev pub TakesAt : (ℕ → Option Groups) → ℕ → Groups → Bool → Groups → Type 0
+TakesAt match place old true new = (match place ≡ Some new) × BeginsAt new place
+TakesAt match place old false new = (new ≡ old) × (match place ≡ match (place + 1))
+
+-- the same of the program's matches
+abbrev pub TakesHere : List ℕ → Program → ℕ → Groups → Bool → Groups → Type 0
+TakesHere s p place old answer new = (tree : Tree) → IsProgramOf p tree → TakesAt (found s tree) place old answer new
 
 -- the value that was handed in and the one that was left, if one was lent
 abbrev pub Leaves : {R : Type 0} → (R → R → Type 0) → Option (MutBor R) → Unit {0} ⊎ ((MutBor R × Unit {0}) ⊎ ⊥) → Type 0

@@ -10,7 +10,7 @@ ghost use Rattle.syntect_pattern_table.specs.Starts.{is_in};
 ghost use Rattle.syntect_regex.specs.declared.error.PatternError.{PatternError};
 ghost use Rattle.syntect_regex.specs.Begins.{NoneBeginsOutside};
 ghost use Rattle.syntect_regex.specs.Escape.{is_special, escaped_char, escaped};
-ghost use Rattle.syntect_regex.specs.Region.{TakesMatch, TakesUpTo, Leaves, pattern_begins};
+ghost use Rattle.syntect_regex.specs.Region.{TakesAt, TakesMatch, TakesUpTo, Leaves, pattern_begins};
 
 use crate::error::PatternError;
 use crate::region::Region;
@@ -149,6 +149,24 @@ impl Regex {
             return Ok(false);
         };
         region.find_up_to(program, text, begin, last)
+    }
+
+    /// Whether a match begins at the place, a byte position. Where one does, the region has the groups of the first one; else,
+    /// and where memory is wanting, the region stays, and a search from behind the place on finds what one from the place on
+    /// does.
+    pub fn match_at(
+        &self,
+        text: &str,
+        place: usize,
+        region: &mut Region,
+    ) -> Result<bool, AllocError>
+        ensures ok { IfOk result (λ found. TakesAt (pattern_found self.now text.now) place region.old found region.new) }
+        ensures err { OnErr result (region.new ≡ region.old) }
+    {
+        let Some(program) = &self.program else {
+            return Ok(false);
+        };
+        region.find_at(program, text, place)
     }
 
     /// Searches as `search_into` does, where a region is perhaps lent. Without one the memory of the search is let go.

@@ -1,7 +1,7 @@
 //! Where the groups of a match stand.
 ghost use Rattle.std.specs.Prelude.{◌≡◌, ◌≤◌, ◌↔◌, true, [], IfOk, OnErr, None, slice_index_or};
 ghost use Rattle.syntect_pattern.specs.Matches.{Groups};
-ghost use Rattle.syntect_regex.specs.Region.{Takes, TakesNear, same_groups, same_groups-equiv};
+ghost use Rattle.syntect_regex.specs.Region.{Takes, TakesHere, TakesNear, same_groups, same_groups-equiv};
 ghost use Rattle.std.specs.Cmp.{partial_equiv_from_equiv};
 
 use std::alloc::{AllocError, Global};
@@ -97,6 +97,23 @@ impl Region {
             mem::swap(&mut self.positions, &mut self.search.groups);
         }
         Ok(is_found)
+    }
+
+    /// The same for this place alone.
+    pub(crate) fn find_at(
+        &mut self,
+        program: &Program,
+        text: &str,
+        place: usize,
+    ) -> Result<bool, AllocError>
+        ensures found { IfOk result (λ b. TakesHere text.now program.now place self.old b self.new) }
+        ensures err { OnErr result (self.new ≡ self.old) }
+    {
+        let is_here = self.search.begins_at(program, text, place)?;
+        if is_here {
+            mem::swap(&mut self.positions, &mut self.search.groups);
+        }
+        Ok(is_here)
     }
 }
 
