@@ -1,1 +1,1 @@
-pub mod WindowLaws
+pub mod RowLaws

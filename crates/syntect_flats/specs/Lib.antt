@@ -1,2 +1,2 @@
 pub mod Entered
-pub mod Windows
+pub mod Rows

@@ -1,7 +1,7 @@
-//! Flat lists of patterns: what is kept of a pattern, which contexts a walk has entered, and what stands in a stretch of a
-//! line, by which patterns are passed over.
+//! Flat lists of patterns: what is kept of a pattern, which patterns can begin where something stands, and which contexts a
+//! walk has entered.
 #![tactic(auto)]
 
 pub mod entered;
 pub mod flats;
-pub mod window;
+pub mod list;

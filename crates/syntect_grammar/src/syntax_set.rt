@@ -16,6 +16,7 @@ use crate::walk::flats_walked;
 use std::alloc::{AllocError, AllocFailed, Global};
 pub use syntect_contexts::syntax_reference::SyntaxReference;
 use syntect_flats::flats::Flat;
+use syntect_flats::list::FlatList;
 use syntect_metadata::metadata::Metadata;
 use syntect_metadata::raw::{LoadMetadata, RawMetadataEntry};
 use syntect_scope::repository::ScopeRepository;
@@ -147,15 +148,15 @@ impl SyntaxSet {
     /// The patterns of the walk of the context of a number, which stands on its own include path, as far as who looks for
     /// the first that passes a test can tell: a pattern that the walk gives again may be left out. None where they are not
     /// kept: of a context that the set lacks, and of grammars whose includes would make too many of them.
-    pub fn flats_of(&self, id: ContextId) -> Option<&[Flat]>
+    pub fn flats_of(&self, id: ContextId) -> Option<&FlatList>
         ensures { IfSome result (λ flats. AreFlatsOf self.now id flats.now) }
     {
         self.syntaxes.flats_of(id)
     }
 
     /// The same of any context, walked now.
-    pub fn flats_walked(&self, alloc: Global, id: ContextId) -> Result<Vec<Flat>, AllocError>
-        ensures { IfOk result (λ flats. AreFlatsOf self.now id flats.items) }
+    pub fn flats_walked(&self, alloc: Global, id: ContextId) -> Result<FlatList, AllocError>
+        ensures { IfOk result (λ flats. AreFlatsOf self.now id flats) }
     {
         flats_walked(alloc, self.syntaxes(), id)
     }

@@ -9,7 +9,7 @@ use crate::walk::{FlatTable, context_at, flat_table};
 use std::alloc::{AllocError, Global};
 use std::marker::Model;
 use syntect_contexts::syntax_reference::SyntaxReference;
-use syntect_flats::flats::Flat;
+use syntect_flats::list::FlatList;
 use syntect_values::seq::Seq;
 
 /// Linked syntaxes, seen as their list. What is kept of them, so that it needn't be looked for again, stands here.
@@ -89,7 +89,7 @@ impl Syntaxes {
     }
 
     /// The patterns of the walk of the context of a number, if they are kept.
-    pub fn flats_of(&self, id: ContextId) -> Option<&[Flat]>
+    pub fn flats_of(&self, id: ContextId) -> Option<&FlatList>
         ensures { IfSome result (λ flats. AreFlatsOf (set_of self.now) id flats.now) }
     {
         flats_at(&self.flats, id)
@@ -97,7 +97,7 @@ impl Syntaxes {
 }
 
 /// Those that a table holds for a context, if it holds any.
-fn flats_at(table: &FlatTable, id: ContextId) -> Option<&[Flat]>
+fn flats_at(table: &FlatTable, id: ContextId) -> Option<&FlatList>
     ensures { option_copied result ≡ flats_at table.now id }
 {
     let Some(lists) = table.get(id.syntax_index) else {
@@ -106,8 +106,5 @@ fn flats_at(table: &FlatTable, id: ContextId) -> Option<&[Flat]>
     let Some(kept) = lists.get(id.context_index) else {
         return None;
     };
-    match kept {
-        Some(flats) => Some(flats.as_slice()),
-        None => None,
-    }
+    kept.as_ref()
 }

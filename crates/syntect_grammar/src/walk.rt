@@ -14,10 +14,11 @@ use std::alloc::{AllocError, Global};
 use syntect_contexts::syntax_reference::SyntaxReference;
 use syntect_flats::entered::Entered;
 use syntect_flats::flats::Flat;
+use syntect_flats::list::FlatList;
 use syntect_values::seq::Seq;
 
 /// The flat lists of contexts, by the place of their syntax and their own in that: none of one whose walk was given up.
-pub(crate) type FlatTable = Seq<Seq<Option<Seq<Flat>>>>;
+pub(crate) type FlatTable = Seq<Seq<Option<FlatList>>>;
 
 /// How many steps the walks of a syntax's contexts may take for each entry, before no further lists are kept. Grammars that
 /// people write take a tenth of it; a long row of includes would ask for the square of its length.
@@ -101,12 +102,12 @@ pub(crate) fn flats_walked(
     alloc: Global,
     syntaxes: &[SyntaxReference],
     id: ContextId,
-) -> Result<Vec<Flat>, AllocError>
-    ensures { IfOk result (λ flats. AreFlatsOf (set_of syntaxes.now) id flats.items) }
+) -> Result<FlatList, AllocError>
+    ensures { IfOk result (λ flats. AreFlatsOf (set_of syntaxes.now) id flats) }
 {
     let mut walker = Walker::new(alloc, syntaxes)?;
     let _ = walker.walk(syntaxes, id, &mut None)?;
-    Ok(walker.flats)
+    FlatList::new(alloc, walker.flats)
 }
 
 impl Walker {
@@ -199,11 +200,12 @@ impl Walker {
         syntaxes: &[SyntaxReference],
         id: ContextId,
         steps: &mut Option<usize>,
-    ) -> Result<Option<Seq<Flat>>, AllocError>
+    ) -> Result<Option<FlatList>, AllocError>
         ensures { IfOk result (λ kept. IfSome kept (AreFlatsOf (set_of syntaxes.now) id)) }
     {
         if self.walk(syntaxes, id, steps)? {
-            Ok(Some(Seq::from_slice(alloc, self.flats.as_slice())?))
+            let flats = Vec::from_slice(alloc, self.flats.as_slice())?;
+            Ok(Some(FlatList::new(alloc, flats)?))
         } else {
             Ok(None)
         }
@@ -215,7 +217,7 @@ impl Walker {
         alloc: Global,
         syntaxes: &[SyntaxReference],
         syntax_index: usize,
-    ) -> Result<Seq<Option<Seq<Flat>>>, AllocError>
+    ) -> Result<Seq<Option<FlatList>>, AllocError>
         requires { syntax_index < length syntaxes.now }
         ensures { IfOk result (λ lists. AreListsOf (set_of syntaxes.now) syntax_index lists) }
     {
