@@ -17,7 +17,7 @@ use Rattle.syntect_style.specs.Pieces.{Joins, IsStyled, Keeps, path_of}
 use Rattle.syntect_theme.specs.declared.style.Style.{Style}
 use Rattle.syntect_theme.specs.declared.theme.Theme.{Theme}
 use Rattle.syntect_style.specs.declared.state.HighlightState.{HighlightState}
-use Rattle.syntect_parsing.specs.Engine.{dialect}
+use Rattle.syntect_winner.specs.Engine.{dialect}
 use Rattle.syntect_parsing.specs.Laws.{AnswersMore, StackIsOpen}
 use Rattle.syntect_parsing.specs.Line.{Answer, Accepted, RefusedBy, Answers, accepts, refuses, none, start, start_id, start_of, stack_before, HasPlainStart}
 use Rattle.syntect_parsing.specs.Meaning.{Means, Accepts, MayRefuse}

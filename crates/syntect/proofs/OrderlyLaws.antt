@@ -15,8 +15,8 @@ use Rattle.syntect_contexts.specs.declared.context.MatchOperation.TheVariants as
 use Rattle.syntect_contexts.specs.declared.syntax_reference.SyntaxReference.{SyntaxReference}
 use Rattle.syntect_loader.specs.declared.definition.SyntaxDefinition.{SyntaxDefinition}
 use Rattle.syntect_grammar.specs.declared.syntax_set.SyntaxSet.{SyntaxSet}
-use Rattle.syntect_parsing.specs.declared.parser.Level.{Level}
-use Rattle.syntect_parsing.specs.Chain.{last}
+use Rattle.syntect_winner.specs.declared.level.Level.{Level}
+use Rattle.syntect_winner.specs.Chain.{last}
 use Rattle.syntect_parsing.specs.Open.{ClearsNothing}
 use Rattle.syntect_parsing.specs.Operations.{clear_nothing}
 use Rattle.syntect_parsing.specs.Orderly.{is_orderly}

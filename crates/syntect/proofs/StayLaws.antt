@@ -5,11 +5,11 @@ use Rattle.std.specs.Option.{option_map, option_and_then}
 use Rattle.std.specs.List.{list_all}
 use Rattle.std.specs.Cmp.Lexicographic.{pointwise}
 use Rattle.syntect_grammar.specs.Contexts.{context_at, part_of}
-use Rattle.syntect_parsing.specs.Chain.{walk, room_in}
+use Rattle.syntect_winner.specs.Chain.{walk, room_in}
 use Rattle.syntect_grammar.specs.Link.{names_of, body_of}
 use Rattle.syntect_grammar.specs.Link.{linked_definition, syntaxes_in}
 use Rattle.syntect_linker.specs.LinkedContexts.{linked_context, linked_match}
-use Rattle.syntect_parsing.specs.Engine.{dialect}
+use Rattle.syntect_winner.specs.Engine.{dialect}
 use Rattle.syntect_parsing.specs.Line.{start, start_id, start_of, Answer, AnswersAll}
 use Rattle.syntect_loader.specs.Loading as loading
 use Rattle.syntect_parsing.specs.Refusals.{lone_patterns, stays, AreByName, KnowNoNumber, IsClosed, LinksClosed}

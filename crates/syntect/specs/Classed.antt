@@ -5,7 +5,7 @@ use Rattle.syntect_scope.specs.declared.stack.ScopeStackOp.{ScopeStackOp}
 use Rattle.syntect_classed.specs.Classes.{prefix_of, closing_tag}
 use Rattle.syntect_classed.specs.Marks.{marks, written, stack_after, some_refused}
 use Rattle.syntect_classed.specs.declared.style.ClassStyle.{ClassStyle}
-use Rattle.syntect_parsing.specs.Engine.{dialect}
+use Rattle.syntect_winner.specs.Engine.{dialect}
 use Rattle.syntect_parsing.specs.Meaning.{Accepts, MayRefuse}
 use Rattle.syntect_parsing.specs.States.{standing}
 use Rattle.syntect_parsing.specs.declared.parser.Standing.{Standing}

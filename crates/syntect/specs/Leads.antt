@@ -5,7 +5,7 @@ use Rattle.std.specs.Global.{Vec}
 use Rattle.syntect_style.specs.Pieces.{Joins, IsStyled, Keeps, path_of}
 use Rattle.syntect_theme.specs.declared.style.Style.{Style}
 use Rattle.syntect_theme.specs.declared.theme.Theme.{Theme}
-use Rattle.syntect_parsing.specs.Engine.{dialect}
+use Rattle.syntect_winner.specs.Engine.{dialect}
 use Rattle.syntect_parsing.specs.Line.{Answer, Accepted, RefusedBy, AnswersAll, start_of, stack_before, HasPlainStart}
 use Rattle.syntect_parsing.specs.Orderly.{IsOrderlyRun}
 use Rattle.syntect_parsing.specs.Stacks.{Remembers}

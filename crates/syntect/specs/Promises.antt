@@ -7,7 +7,7 @@ use Rattle.syntect_loader.specs.declared.definition.SyntaxDefinition.{SyntaxDefi
 use Rattle.syntect_contexts.specs.declared.syntax_reference.SyntaxReference.{SyntaxReference}
 use Rattle.syntect_grammar.specs.declared.syntax_set.SyntaxSet.{SyntaxSet}
 use Rattle.syntect_parsing.specs.declared.parser.Standing.{Standing}
-use Rattle.syntect_parsing.specs.Engine.{dialect}
+use Rattle.syntect_winner.specs.Engine.{dialect}
 use Rattle.syntect_parsing.specs.Line.{Answer, AnswersAll, start_of}
 use Rattle.syntect_parsing.specs.Open.{ClearsNothing}
 use Rattle.syntect_parsing.specs.Standing.{GiveScopes}

@@ -3,7 +3,7 @@ use Rattle.std.proofs.Common.{◌≡◌, ◌≢◌, ℕ, ◌+◌, ◌<◌, ◌�
 use Rattle.std.specs.List.{slice_get}
 use Rattle.std.proofs.lemmas.List.{take-append-drop, take-append-le, take_all, length-take-le}
 use Rattle.syntect_theme.specs.declared.theme.Theme.{Theme}
-use Rattle.syntect_parsing.specs.Engine.{dialect}
+use Rattle.syntect_winner.specs.Engine.{dialect}
 use Rattle.syntect_parsing.specs.Line.{Answer, AnswersAll}
 use Rattle.syntect_parsing.specs.States.{standing}
 use Rattle.syntect_parsing.specs.declared.parser.Standing.{Standing}

@@ -8,7 +8,7 @@ use Rattle.std.proofs.lemmas.List.{take_all}
 use Rattle.syntect_scope.specs.declared.stack.ScopeStack.{ScopeStack}
 use Rattle.syntect_style.specs.Pieces.{Keeps, path_of}
 use Rattle.syntect_theme.specs.declared.theme.Theme.{Theme}
-use Rattle.syntect_parsing.specs.Engine.{dialect}
+use Rattle.syntect_winner.specs.Engine.{dialect}
 use Rattle.syntect_parsing.specs.Line.{Answer, AnswersAll, stack_before}
 use Rattle.syntect_parsing.specs.Stacks.{Remembers}
 use Rattle.syntect_parsing.specs.States.{standing}

@@ -1,11 +1,11 @@
 -- A line has no reading and a refusal, and answers go on.
 use Rattle.std.proofs.Common.{◌≡◌, ℕ, ◌+◌, List, [], ◌∷◌, ◌++◌, refl, ap, sym, ◌∙◌}
-use Rattle.syntect_parsing.specs.Engine.{Engine}
+use Rattle.syntect_winner.specs.Engine.{Engine}
 use Rattle.syntect_parsing.specs.Scopes.{Scopes}
 use Rattle.syntect_parsing.specs.Line.{Answer, Goes, Ends, Refused, turn, Reads, ends, goes, Refuses, now, later, ReadsLine, RefusesLine, no_level, in_turn, none, one_more, at_start}
 use Rattle.syntect_parsing.specs.Laws.{NeverBoth, AnswersMore, AnswersJoin, AnswersPart}
 use Rattle.syntect_grammar.specs.declared.syntax_set.SyntaxSet.{SyntaxSet}
-use Rattle.syntect_parsing.specs.declared.position.Position.{Position}
+use Rattle.syntect_winner.specs.declared.position.Position.{Position}
 use Rattle.syntect_parsing.specs.States.{Standing}
 use Rattle.syntect_contexts.specs.declared.error.ParsingError.{ParsingError}
 

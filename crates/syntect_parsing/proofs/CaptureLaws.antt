@@ -11,7 +11,7 @@ use Rattle.syntect_scope.specs.Replay.{Replay, InOrder, replay, replayed, pushes
 use Rattle.syntect_pattern.specs.Nesting.{AreNested, is_before, is_after, is_around, is_inside}
 use Rattle.syntect_parsing.specs.Scopes.{Scopes, Capture, covers, is_longer, put, longer_first}
 use Rattle.syntect_parsing.specs.Operations.{captures_at, capture_operations}
-use Rattle.syntect_parsing.proofs.ListLaws.{tested_true}
+use Rattle.syntect_winner.proofs.ListLaws.{tested_true}
 use Rattle.syntect_parsing.proofs.CountLaws.{Counts, counts_nothing, counts_then, counts_pushes}
 use Rattle.syntect_parsing.proofs.OrderLaws.{order-append, order-pushes}
 use Rattle.syntect_parsing.proofs.ReplayLaws.{At, replay-append, at_op, at_pushes, at_move}

@@ -5,9 +5,9 @@ use Rattle.std.specs.List.{filter_map, flat_map, cons_option}
 use Rattle.std.specs.Option.{option_map_or}
 use Rattle.std.specs.Str.{IsUtf8}
 use Rattle.std.proofs.lemmas.Bool.Decides.{nat_tests}
-use Rattle.syntect_parsing.specs.Engine.{dialect}
+use Rattle.syntect_winner.specs.Engine.{dialect}
 use Rattle.syntect_contexts.specs.Substitution.{Groups}
-use Rattle.syntect_parsing.specs.Turn.{Live, group_at}
+use Rattle.syntect_winner.specs.Turn.{Live, group_at}
 use Rattle.syntect_parsing.specs.Scopes.{Scopes, Capture, effect, captures}
 use Rattle.syntect_parsing.specs.Laws.{LaysGroupsOut, LaysOut}
 use Rattle.syntect_parsing.specs.Candidates.{marks_of, seen_mark, mark_operations}

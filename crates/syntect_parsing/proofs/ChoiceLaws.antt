@@ -2,24 +2,26 @@
 use Rattle.std.proofs.Common.{◌≡◌, ℕ, true, List, [], Option, Some, None, refl, sym, ◌∙◌, ap}
 use Rattle.std.specs.Option.{option_map_or}
 use Rattle.std.specs.Str.{IsUtf8}
-use Rattle.syntect_parsing.specs.Engine.{dialect}
-use Rattle.syntect_parsing.specs.Chain.{Member, chain, last}
-use Rattle.syntect_parsing.specs.Turn.{Live, Take, End, live, winner, trimmed}
+use Rattle.syntect_winner.specs.Engine.{dialect}
+use Rattle.syntect_winner.specs.Chain.{Member, chain, last}
+use Rattle.syntect_parsing.specs.Turn.{trimmed}
+use Rattle.syntect_winner.specs.Turn.{Live, Take, End, live, winner}
 use Rattle.syntect_parsing.specs.Line.{Step, step}
 use Rattle.syntect_grammar.specs.declared.syntax_set.SyntaxSet.{SyntaxSet}
-use Rattle.syntect_parsing.specs.Laws.{FindsInText}
+use Rattle.syntect_winner.specs.Found.{FindsInText}
 use Rattle.syntect_parsing.specs.Refusals.{Picks}
 use Rattle.syntect_parsing.specs.Orderly.{is_orderly, IsOrderlyTurn}
 use Rattle.syntect_grammar.specs.Contexts.{context_at}
 use Rattle.syntect_contexts.specs.declared.context.Context.{Context}
-use Rattle.syntect_parsing.specs.States.{Level}
-use Rattle.syntect_parsing.specs.Candidates.{chosen, live_in, StandsChosen}
-use Rattle.syntect_parsing.proofs.Places.{winner_ends, IsChoiceOnBoundary}
-use Rattle.syntect_parsing.specs.declared.position.Position.{Position}
-use Rattle.syntect_parsing.specs.Best.{choice_by}
-use Rattle.syntect_parsing.specs.declared.search.Best.{Best}
-use Rattle.syntect_parsing.specs.declared.search.Choice.{Choice}
-use Rattle.syntect_parsing.specs.declared.search.Choice.TheVariants as code
+use Rattle.syntect_winner.specs.declared.level.Level.{Level}
+use Rattle.syntect_parsing.specs.Candidates.{StandsChosen}
+use Rattle.syntect_winner.specs.Candidates.{chosen, live_in}
+use Rattle.syntect_winner.proofs.Places.{winner_ends, IsChoiceOnBoundary}
+use Rattle.syntect_winner.specs.declared.position.Position.{Position}
+use Rattle.syntect_winner.specs.Best.{choice_by}
+use Rattle.syntect_winner.specs.declared.search.Best.{Best}
+use Rattle.syntect_winner.specs.declared.search.Choice.{Choice}
+use Rattle.syntect_winner.specs.declared.search.Choice.TheVariants as code
 
 by_kind : (finds : FindsInText dialect) (line : List ℕ) (u : IsUtf8 line) (place : ℕ) (c : Choice) → IsChoiceOnBoundary dialect finds line u place (chosen line place c) → StandsChosen line place c
 by_kind finds line u place (code.Take m) h = h

@@ -5,7 +5,7 @@ use Rattle.std.proofs.lemmas.Bool.Decides.{nat_tests}
 use Rattle.std.specs.Option.{option_to_list}
 use Rattle.syntect_contexts.specs.Substitution.{Opening}
 use Rattle.syntect_parsing.specs.Turn.{new_level, new_levels}
-use Rattle.syntect_parsing.proofs.ListLaws.{drop_at, tested_true, tested_false}
+use Rattle.syntect_winner.proofs.ListLaws.{drop_at, tested_true, tested_false}
 use Rattle.syntect_contexts.specs.declared.context.ContextId.{ContextId}
 use Rattle.syntect_grammar.specs.declared.syntax_set.SyntaxSet.{SyntaxSet}
 

@@ -1,10 +1,7 @@
 pub mod AnswerLaws
-pub mod Finds
 pub mod Falls
-pub mod Places
 pub mod Open
 pub mod DialectLaws
-pub mod ListLaws
 pub mod SearchLaws
 pub mod LevelLaws
 pub mod ReplayLaws
@@ -18,8 +15,6 @@ pub mod MarkLaws
 pub mod CapturedLaws
 pub mod SortLaws
 pub mod ShowLaws
-pub mod BestLaws
-pub mod PartLaws
 pub mod ChainLaws
 pub mod ChoiceLaws
 pub mod TakeLaws

@@ -8,7 +8,7 @@ use Rattle.std.proofs.lemmas.Option.{slice_get-map}
 use Rattle.std.proofs.lemmas.List.Quantifiers.{position-Some}
 use Rattle.syntect_grammar.specs.Contexts.{context_at, contexts_of}
 use Rattle.syntect_contexts.specs.Contexts.{target}
-use Rattle.syntect_parsing.specs.Turn.{named, list_of}
+use Rattle.syntect_winner.specs.Turn.{named, list_of}
 use Rattle.syntect_grammar.specs.Link.{syntaxes_in, linked, linked_from, linked_definition}
 use Rattle.syntect_linker.specs.LinkedContexts.{linked_contexts, linked_context, linked_pattern, linked_operation}
 use Rattle.syntect_grammar.specs.Link.{names_of, head_of, heads_from, body_of}

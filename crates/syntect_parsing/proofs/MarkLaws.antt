@@ -11,7 +11,7 @@ use Rattle.syntect_parsing.specs.Scopes.{Scopes, Capture, is_longer, put, longer
 use Rattle.syntect_parsing.specs.Operations.{captures_at, capture_operations}
 use Rattle.syntect_parsing.specs.Sorting.{put_behind, in_order}
 use Rattle.syntect_parsing.specs.Candidates.{end_mark, start_mark, marks_of, seen_mark, mark_operations}
-use Rattle.syntect_parsing.proofs.ListLaws.{tested_true, tested_false}
+use Rattle.syntect_winner.proofs.ListLaws.{tested_true, tested_false}
 use Rattle.syntect_openings.proofs.OpenLaws.{pushes_append}
 use Rattle.syntect_parsing.proofs.CaptureLaws.{Each, each_put}
 use Rattle.syntect_parsing.specs.declared.captures.Mark.{Mark}

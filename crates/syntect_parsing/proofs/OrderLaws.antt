@@ -11,7 +11,7 @@ use Rattle.syntect_contexts.specs.declared.context.MatchOperation.TheVariants as
 use Rattle.syntect_grammar.specs.declared.syntax_set.SyntaxSet.{SyntaxSet}
 use Rattle.syntect_parsing.specs.Visible.{clearing, top_clearing, top_part}
 use Rattle.syntect_parsing.specs.Operations.{clears, restores, opens_below, opens_here, operations_below, operations_behind, metas, contents, opens, none, clear_nothing, top_count}
-use Rattle.syntect_parsing.specs.States.{Level}
+use Rattle.syntect_winner.specs.declared.level.Level.{Level}
 use Rattle.syntect_scope.specs.declared.stack.ScopeStackOp.{ScopeStackOp}
 use Rattle.syntect_scope.specs.Replay.{InOrder, AllApply, Replay, replay, replayed, pushes, pops}
 

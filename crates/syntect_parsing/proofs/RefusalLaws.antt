@@ -3,11 +3,12 @@ use Rattle.std.proofs.Common.{◌≡◌, ◌≢◌, ℕ, zero, suc, ◌+◌, ◌
 use Rattle.std.specs.List.{filter_map, flat_map, cons_option}
 use Rattle.std.specs.Option.{option_map, option_map_or, option_to_list, option_and_then, option_or}
 use Rattle.syntect_contexts.specs.Substitution.{Opening}
-use Rattle.syntect_parsing.specs.Engine.{Engine}
+use Rattle.syntect_winner.specs.Engine.{Engine}
 use Rattle.syntect_grammar.specs.Contexts.{context_at, part_of}
 use Rattle.syntect_contexts.specs.Contexts.{target}
-use Rattle.syntect_parsing.specs.Chain.{Member, chain, last, patterns_of, members, in_sight, prototypes_in}
-use Rattle.syntect_parsing.specs.Turn.{Live, Choice, Take, Skip, End, live, missing, named, refusal, list_of, winner, trimmed, levels_after, levels_by, opened, new_levels, without_last, position_after}
+use Rattle.syntect_winner.specs.Chain.{Member, chain, last, patterns_of, members, in_sight, prototypes_in}
+use Rattle.syntect_parsing.specs.Turn.{trimmed, levels_after, levels_by, opened, new_levels, without_last, position_after}
+use Rattle.syntect_winner.specs.Turn.{Live, Choice, Take, Skip, End, live, missing, named, refusal, list_of, winner}
 use Rattle.syntect_parsing.specs.Scopes.{Scopes, scopes_passed}
 use Rattle.syntect_parsing.specs.Line.{Step, Goes, Ends, Refused, turn, turn_on, turn_in, step, unless_refused, Reads, ends, goes, Refuses, now, later, Reaches, here, further, RefusesLine, no_level, in_turn, Answer, Answers, accepts, refuses, AnswersAll, none, one_more, at_start, start}
 use Rattle.syntect_parsing.specs.Refusals.{Picks, NamesUnresolved, unresolved_of, IsClosed, IsNeverLeft, stays, lone_patterns, RefusesUnresolved}
@@ -20,8 +21,9 @@ use Rattle.syntect_contexts.specs.declared.context.MatchOperation.TheVariants as
 use Rattle.syntect_contexts.specs.declared.context.MatchPattern.{MatchPattern}
 use Rattle.syntect_contexts.specs.declared.context.Context.{Context}
 use Rattle.syntect_grammar.specs.declared.syntax_set.SyntaxSet.{SyntaxSet}
-use Rattle.syntect_parsing.specs.States.{Level, Standing}
-use Rattle.syntect_parsing.specs.declared.position.Position.{Position}
+use Rattle.syntect_parsing.specs.States.{Standing}
+use Rattle.syntect_winner.specs.declared.level.Level.{Level}
+use Rattle.syntect_winner.specs.declared.position.Position.{Position}
 use Rattle.syntect_contexts.specs.declared.error.ParsingError.{ParsingError}
 use Rattle.syntect_contexts.specs.declared.error.ParsingError.TheVariants as error
 

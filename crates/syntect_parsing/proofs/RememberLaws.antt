@@ -7,8 +7,9 @@ use Rattle.syntect_scope.specs.declared.stack.ClearAmount.{ClearAmount}
 use Rattle.syntect_scope.specs.Replay.{Replay, AllApply, replay, pushes, pops}
 use Rattle.syntect_contexts.specs.Substitution.{Opening}
 use Rattle.syntect_contexts.specs.Contexts.{Scopes, target}
-use Rattle.syntect_parsing.specs.Chain.{last}
-use Rattle.syntect_parsing.specs.Turn.{Live, without_last, new_levels, levels_by}
+use Rattle.syntect_winner.specs.Chain.{last}
+use Rattle.syntect_parsing.specs.Turn.{without_last, new_levels, levels_by}
+use Rattle.syntect_winner.specs.Turn.{Live}
 use Rattle.syntect_parsing.specs.Visible.{clearing, top_clearing, top_part}
 use Rattle.syntect_parsing.specs.Scopes.{Capture}
 use Rattle.syntect_parsing.specs.Stacks.{Remembers, count_clearing}
@@ -21,7 +22,7 @@ use Rattle.syntect_contexts.specs.declared.context.ContextReference.{ContextRefe
 use Rattle.syntect_contexts.specs.declared.context.MatchOperation.{MatchOperation}
 use Rattle.syntect_contexts.specs.declared.context.MatchOperation.TheVariants as op
 use Rattle.syntect_grammar.specs.declared.syntax_set.SyntaxSet.{SyntaxSet}
-use Rattle.syntect_parsing.specs.States.{Level}
+use Rattle.syntect_winner.specs.declared.level.Level.{Level}
 
 match_counts : (a b c s e : ℕ) (S : Scopes) (cs : List Capture) (below behind : List (ℕ × ScopeStackOp)) → Counts a b below → Counts b c behind → Counts a c (operations s e S cs below behind)
 match_counts a b c s e S cs below behind f g =

@@ -5,7 +5,7 @@ use Rattle.std.proofs.lemmas.Str.{IsCharBoundary-start}
 use Rattle.std.proofs.lemmas.List.{append-nil}
 use Rattle.syntect_scope.specs.declared.stack.ScopeStackOp.{ScopeStackOp}
 use Rattle.syntect_scope.specs.Replay.{InOrder, AllApply, before_text, replay, pushes}
-use Rattle.syntect_parsing.specs.Engine.{dialect}
+use Rattle.syntect_winner.specs.Engine.{dialect}
 use Rattle.syntect_parsing.specs.Scopes.{Scopes}
 use Rattle.syntect_parsing.specs.Stacks.{IsAt, Remembers, onto, stack_of}
 use Rattle.syntect_scope.specs.declared.stack.ScopeStack.{ScopeStack}
@@ -19,7 +19,7 @@ use Rattle.syntect_parsing.proofs.BoundLaws.{CountSoFar, count-start, count-more
 use Rattle.syntect_parsing.proofs.OrderLaws.{order-append, order-pushes, apply-append}
 use Rattle.syntect_parsing.proofs.ReplayLaws.{replay-append, at_onto}
 use Rattle.syntect_grammar.specs.declared.syntax_set.SyntaxSet.{SyntaxSet}
-use Rattle.syntect_parsing.specs.declared.position.Position.{Position}
+use Rattle.syntect_winner.specs.declared.position.Position.{Position}
 use Rattle.syntect_parsing.specs.States.{Standing}
 use Rattle.syntect_contexts.specs.declared.error.ParsingError.{ParsingError}
 use Rattle.syntect_contexts.specs.declared.error.ParsingError.TheVariants as error

@@ -10,15 +10,16 @@ use Rattle.syntect_scope.specs.declared.stack.ClearAmount.{ClearAmount}
 use Rattle.syntect_scope.specs.Replay.{Replay, InOrder, replay, pushes, pops}
 use Rattle.syntect_grammar.specs.Contexts.{context_at, part_of}
 use Rattle.syntect_contexts.specs.Contexts.{target}
-use Rattle.syntect_parsing.specs.Chain.{last}
-use Rattle.syntect_parsing.specs.Engine.{dialect}
-use Rattle.syntect_parsing.specs.Turn.{Live, without_last, levels_by}
+use Rattle.syntect_winner.specs.Chain.{last}
+use Rattle.syntect_winner.specs.Engine.{dialect}
+use Rattle.syntect_parsing.specs.Turn.{without_last, levels_by}
+use Rattle.syntect_winner.specs.Turn.{Live}
 use Rattle.syntect_parsing.specs.Visible.{top_clearing, top_part, left_by, opened_on, visible, visible_base}
 use Rattle.syntect_parsing.specs.Scopes.{Scopes, Capture, covers, captures, scopes_passed}
 use Rattle.syntect_parsing.specs.Operations.{operations, operations_of, operations_below, operations_behind, operations_pushed, operations_set, capture_operations, metas, contents, opens, none, clear_nothing, opens_here, restores}
 use Rattle.syntect_parsing.specs.Orderly.{is_orderly}
 use Rattle.syntect_parsing.specs.Stacks.{IsAt, onto, cleared, enter, stack_of}
-use Rattle.syntect_parsing.proofs.ListLaws.{tested_true}
+use Rattle.syntect_winner.proofs.ListLaws.{tested_true}
 use Rattle.syntect_parsing.proofs.ReplayLaws.{replay-append, at_onto, at_pops, at_move}
 use Rattle.syntect_parsing.proofs.OrderLaws.{order-append, order-pushes, order-pops, order-below, order-behind}
 use Rattle.syntect_parsing.proofs.CaptureLaws.{AreLaidOut, EndOnBoundaries, over, captures_shown, captures_in_order}
@@ -30,7 +31,7 @@ use Rattle.syntect_contexts.specs.declared.context.Context.{Context}
 use Rattle.syntect_contexts.specs.declared.context.MatchOperation.{MatchOperation}
 use Rattle.syntect_contexts.specs.declared.context.MatchOperation.TheVariants as op
 use Rattle.syntect_grammar.specs.declared.syntax_set.SyntaxSet.{SyntaxSet}
-use Rattle.syntect_parsing.specs.States.{Level}
+use Rattle.syntect_winner.specs.declared.level.Level.{Level}
 
 -- From one stack the operations at the start lead to a second, on which the match's scopes and those of its captures stand,
 -- and the operations at the end lead from that one to a third.

@@ -11,7 +11,7 @@ use Rattle.syntect_scope.specs.declared.stack.ClearAmount.TheVariants.{TopN, All
 use Rattle.syntect_contexts.specs.Substitution.{Opening}
 use Rattle.syntect_grammar.specs.Contexts.{context_at, part_of}
 use Rattle.syntect_contexts.specs.Contexts.{Scopes, target}
-use Rattle.syntect_parsing.specs.Chain.{last}
+use Rattle.syntect_winner.specs.Chain.{last}
 use Rattle.syntect_parsing.specs.Turn.{without_last, new_levels}
 use Rattle.syntect_parsing.specs.Visible.{clearing, top_clearing, top_part, left_by, opened_on, visible, visible_base}
 use Rattle.syntect_parsing.specs.Stacks.{onto, cleared, enter, stack_of}
@@ -22,7 +22,7 @@ use Rattle.syntect_contexts.specs.declared.context.MatchOperation.TheVariants as
 use Rattle.syntect_contexts.specs.declared.context.Context.{Context}
 use Rattle.syntect_contexts.specs.declared.context.ContextId.{ContextId}
 use Rattle.syntect_grammar.specs.declared.syntax_set.SyntaxSet.{SyntaxSet}
-use Rattle.syntect_parsing.specs.States.{Level}
+use Rattle.syntect_winner.specs.declared.level.Level.{Level}
 
 -- ---- lists ----
 

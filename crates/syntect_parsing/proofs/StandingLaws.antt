@@ -2,10 +2,11 @@
 use Rattle.std.proofs.Common.{◌≡◌, ◌≢◌, ℕ, zero, suc, ◌-◌, true, false, List, [], ◌∷◌, ◌++◌, length, Option, Some, None, refl}
 use Rattle.std.specs.Prelude.{replicate, map}
 use Rattle.std.specs.List.{flat_map, range_with_len}
-use Rattle.syntect_parsing.specs.Engine.{Engine}
+use Rattle.syntect_winner.specs.Engine.{Engine}
 use Rattle.syntect_grammar.specs.Contexts.{context_at, part_of}
-use Rattle.syntect_parsing.specs.Chain.{chain, last, prototypes_in}
-use Rattle.syntect_parsing.specs.Turn.{Choice, Take, Skip, End, live, missing, refusal, winner, trimmed, without_last, position_after, char_len}
+use Rattle.syntect_winner.specs.Chain.{chain, last, prototypes_in}
+use Rattle.syntect_parsing.specs.Turn.{trimmed, without_last, position_after}
+use Rattle.syntect_winner.specs.Turn.{Choice, Take, Skip, End, live, missing, refusal, winner, char_len}
 use Rattle.syntect_parsing.specs.Scopes.{Scopes, scopes_at, scopes_passed}
 use Rattle.syntect_parsing.specs.Visible.{visible, visible_base}
 use Rattle.syntect_parsing.specs.Open.{open_scopes, base, ClearsNothing}
@@ -19,8 +20,9 @@ use Rattle.syntect_contexts.specs.declared.context.MatchOperation.{MatchOperatio
 use Rattle.syntect_contexts.specs.declared.context.MatchOperation.TheVariants as op
 use Rattle.syntect_contexts.specs.declared.context.Context.{Context}
 use Rattle.syntect_grammar.specs.declared.syntax_set.SyntaxSet.{SyntaxSet}
-use Rattle.syntect_parsing.specs.States.{Level, Standing}
-use Rattle.syntect_parsing.specs.declared.position.Position.{Position}
+use Rattle.syntect_parsing.specs.States.{Standing}
+use Rattle.syntect_winner.specs.declared.level.Level.{Level}
+use Rattle.syntect_winner.specs.declared.position.Position.{Position}
 use Rattle.syntect_contexts.specs.declared.error.ParsingError.{ParsingError}
 
 -- ---- lists of scopes that are not empty ----

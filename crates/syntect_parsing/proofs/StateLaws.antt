@@ -10,7 +10,8 @@ use Rattle.syntect_regex.specs.Region.{same_span, same_groups}
 use Rattle.syntect_contexts.specs.Substitution.{Opening, Groups}
 use Rattle.syntect_contexts.specs.declared.context.ContextId.{ContextId}
 use Rattle.syntect_openings.specs.Openings.{same_opening}
-use Rattle.syntect_parsing.specs.States.{Level, Standing}
+use Rattle.syntect_parsing.specs.States.{Standing}
+use Rattle.syntect_winner.specs.declared.level.Level.{Level}
 
 lists : {X : Type 0} {same : X → X → Bool} → ((a b : X) → Decides (same a b) (a ≡ b)) → (xs ys : List X) → Decides (pointwise same xs ys) (xs ≡ ys)
 lists each xs ys = slice_eq-Decides each xs ys _ refl

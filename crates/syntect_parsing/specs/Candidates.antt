@@ -1,59 +1,25 @@
--- Members of a chain and their matches, as the reader of a line keeps them.
+-- What matches do, as the reader of a line keeps it.
 use Rattle.std.specs.Prelude.{◌≡◌, ℕ, ◌+◌, ◌-◌, ◌<◌, ◌==◌, List, [], ◌∷◌, length, map, Option, Some, unwrap_or, if◌then◌else◌}
-use Rattle.std.specs.Option.{option_copied, option_map_or}
 use Rattle.std.specs.List.{flat_map}
 use Rattle.syntect_pattern.specs.Pattern.{pattern_found}
 use Rattle.syntect_scope.specs.declared.stack.ScopeStackOp.{ScopeStackOp}
 use Rattle.syntect_scope.specs.declared.stack.ScopeStackOp.TheVariants.{Pop}
 use Rattle.syntect_scope.specs.Replay.{pushes}
 use Rattle.syntect_contexts.specs.Substitution.{Opening}
-use Rattle.syntect_parsing.specs.Chain.{Member, chain, last}
-use Rattle.syntect_parsing.specs.Engine.{Engine}
-use Rattle.syntect_grammar.specs.Contexts.{context_at}
 use Rattle.syntect_grammar.specs.declared.syntax_set.SyntaxSet.{SyntaxSet}
-use Rattle.syntect_parsing.specs.declared.position.Position.{Position}
-use Rattle.syntect_parsing.specs.Turn.{Live, char_len, live}
+use Rattle.syntect_winner.specs.Turn.{char_len}
+use Rattle.syntect_winner.specs.Candidates.{text_of}
 use Rattle.syntect_parsing.specs.Scopes.{Scopes, Capture}
-use Rattle.syntect_parsing.specs.Laws.{StandsIn}
+use Rattle.syntect_winner.specs.Found.{StandsIn}
 use Rattle.syntect_parsing.specs.Operations.{capture_operations, operations, operations_of}
-use Rattle.syntect_parsing.specs.States.{Level}
-use Rattle.syntect_parsing.specs.Turn as turn
+use Rattle.syntect_winner.specs.declared.level.Level.{Level}
 use Rattle.syntect_contexts.specs.declared.context.MatchOperation.{MatchOperation}
 use Rattle.syntect_contexts.specs.declared.context.MatchOperation.TheVariants as op
-use Rattle.syntect_parsing.specs.declared.position.Record.{Record}
-use Rattle.syntect_parsing.specs.declared.search.Entry.{Entry}
+use Rattle.syntect_winner.specs.declared.position.Record.{Record}
 use Rattle.syntect_parsing.specs.declared.captures.Mark.{Mark}
-use Rattle.syntect_parsing.specs.declared.search.Candidate.{Candidate}
-use Rattle.syntect_parsing.specs.declared.search.Choice.{Choice}
-use Rattle.syntect_parsing.specs.declared.search.Choice.TheVariants as code
-
-abbrev pub member_of : Entry → Member
-member_of e = record { pattern = e.pattern.now; opening = option_copied e.opening; from_with_prototype = e.from_with_prototype }
-
--- the text of the pattern that a candidate was searched with
-abbrev pub text_of : Candidate → List ℕ
-text_of c = unwrap_or c.substituted c.pattern.now.regex
-
--- the match that a candidate stands for, in this line from this place on
-abbrev pub seen : List ℕ → ℕ → Candidate → Live
-seen line place c = record {
-  pattern = c.pattern.now;
-  from_with_prototype = c.from_with_prototype;
-  searched = text_of c;
-  groups = unwrap_or (pattern_found (text_of c) line place) [];
-  start = c.start;
-  end = c.end;
-}
-
-abbrev pub chosen : List ℕ → ℕ → Choice → turn.Choice
-chosen line place (code.Take c) = turn.Take (seen line place c.now)
-chosen line place code.Skip = turn.Skip
-chosen line place code.End = turn.End
-
--- the matches that a turn has to choose from, once cuts are dropped
-abbrev pub live_in : Engine → SyntaxSet → List ℕ → Position → List Live
-live_in engine set line p =
-    option_map_or (λ top. option_map_or (λ c. live engine line p (chain set p top c)) (context_at set top.context) []) (last p.levels) []
+use Rattle.syntect_winner.specs.declared.search.Candidate.{Candidate}
+use Rattle.syntect_winner.specs.declared.search.Choice.{Choice}
+use Rattle.syntect_winner.specs.declared.search.Choice.TheVariants as code
 
 -- that match as the opening match of the levels that it opens
 abbrev pub opening_by : List ℕ → ℕ → Candidate → Opening

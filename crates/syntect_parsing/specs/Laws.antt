@@ -1,11 +1,11 @@
 -- Laws of reading.
-use Rattle.std.specs.Prelude.{◌≡◌, ℕ, ◌≤◌, max, List, [], ◌∷◌, ◌++◌, length, Some, false}
+use Rattle.std.specs.Prelude.{◌≡◌, ℕ, max, List, [], ◌∷◌, ◌++◌, length, Some, false}
 use Rattle.std.specs.Option.{option_map_or}
-use Rattle.std.specs.Str.{IsUtf8, IsCharBoundary}
+use Rattle.std.specs.Str.{IsUtf8}
 use Rattle.syntect_pattern.specs.Nesting.{Span, AreNested, LiesIn}
-use Rattle.syntect_parsing.specs.Engine.{Engine}
+use Rattle.syntect_winner.specs.Engine.{Engine}
 use Rattle.syntect_contexts.specs.Substitution.{Groups}
-use Rattle.syntect_parsing.specs.Turn.{group_at, list_of}
+use Rattle.syntect_winner.specs.Turn.{group_at, list_of}
 use Rattle.syntect_parsing.specs.Scopes.{Scopes}
 use Rattle.syntect_parsing.specs.Line.{Answer, Answers, AnswersAll, ReadsLine, RefusesLine, HasPlainStart}
 use Rattle.syntect_contexts.specs.declared.context.Pattern.{Pattern}
@@ -36,19 +36,6 @@ AnswersPart = (engine : Engine) (set : SyntaxSet) (lines more : List (List ℕ))
     → AnswersAll engine set (lines ++ more) state all after
     → (answers : List Answer) × (others : List Answer) × (between : Standing) × (all ≡ answers ++ others)
     × AnswersAll engine set lines state answers between × AnswersAll engine set more between others after
-
--- a match at these ends stands in the text, not before the place, and on character boundaries
-pub record StandsIn (text : List ℕ) (place start end : ℕ) : Type 0 where
-  pub from : place ≤ start
-  pub ordered : start ≤ end
-  pub within : end ≤ length text
-  pub starts : IsCharBoundary text start
-  pub ends : IsCharBoundary text end
-
--- every match that is found stands so
-abbrev pub FindsInText : Engine → Type 0
-FindsInText engine = (pattern text : List ℕ) (place start end : ℕ) (groups : Groups)
-    → IsUtf8 text → engine.found pattern text place ≡ Some groups → group_at groups 0 ≡ Some (start, end) → StandsIn text place start end
 
 -- The whole match stands from the start to the end. Each group of a match that stands in no lookaround lies in it, on
 -- character boundaries, and each two of these groups are apart or one in the other.

@@ -1,6 +1,4 @@
 pub mod States
-pub mod Engine
-pub mod Chain
 pub mod Turn
 pub mod Visible
 pub mod Scopes
@@ -10,9 +8,6 @@ pub mod Line
 pub mod Laws
 pub mod Sorting
 pub mod Candidates
-pub mod Parts
-pub mod Passing
-pub mod Best
 pub mod Operations
 pub mod Refusals
 pub mod Orderly

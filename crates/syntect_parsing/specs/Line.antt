@@ -2,10 +2,11 @@
 use Rattle.std.specs.Prelude.{◌≡◌, ◌≢◌, ℕ, ◌+◌, ◌-◌, true, false, List, [], ◌∷◌, ◌++◌, length, take, replicate, codes, Option, Some, None, if◌then◌else◌}
 use Rattle.std.specs.Option.{option_map, option_map_or}
 use Rattle.syntect_contexts.specs.Contexts.{named_in}
-use Rattle.syntect_parsing.specs.Engine.{Engine}
+use Rattle.syntect_winner.specs.Engine.{Engine}
 use Rattle.syntect_grammar.specs.Contexts.{context_at, part_of}
-use Rattle.syntect_parsing.specs.Chain.{chain, prototypes_in, last}
-use Rattle.syntect_parsing.specs.Turn.{Choice, Take, Skip, End, live, winner, missing, refusal, position_after, skipped, trimmed, char_len}
+use Rattle.syntect_winner.specs.Chain.{chain, prototypes_in, last}
+use Rattle.syntect_parsing.specs.Turn.{position_after, skipped, trimmed}
+use Rattle.syntect_winner.specs.Turn.{Choice, Take, Skip, End, live, winner, missing, refusal, char_len}
 use Rattle.syntect_parsing.specs.Scopes.{Scopes, scopes_passed}
 use Rattle.syntect_parsing.specs.Visible.{visible}
 use Rattle.syntect_parsing.specs.Stacks.{onto, stack_of}
@@ -15,8 +16,9 @@ use Rattle.syntect_contexts.specs.declared.context.ContextId.{ContextId}
 use Rattle.syntect_contexts.specs.declared.context.Context.{Context}
 use Rattle.syntect_contexts.specs.declared.syntax_reference.SyntaxReference.{SyntaxReference}
 use Rattle.syntect_grammar.specs.declared.syntax_set.SyntaxSet.{SyntaxSet}
-use Rattle.syntect_parsing.specs.States.{Level, Standing}
-use Rattle.syntect_parsing.specs.declared.position.Position.{Position}
+use Rattle.syntect_parsing.specs.States.{Standing}
+use Rattle.syntect_winner.specs.declared.level.Level.{Level}
+use Rattle.syntect_winner.specs.declared.position.Position.{Position}
 use Rattle.syntect_contexts.specs.declared.error.ParsingError.{ParsingError}
 use Rattle.syntect_contexts.specs.declared.error.ParsingError.TheVariants as error
 

@@ -5,7 +5,7 @@ use Rattle.syntect_parsing.specs.Stacks.{IsAt, Remembers}
 use Rattle.syntect_scope.specs.declared.stack.ScopeStack.{ScopeStack}
 use Rattle.syntect_parsing.specs.Orderly.{IsOrderlyLine}
 use Rattle.syntect_scope.specs.Replay.{InOrder, AllApply, replay, before_text, pushes}
-use Rattle.syntect_parsing.specs.Engine.{Engine}
+use Rattle.syntect_winner.specs.Engine.{Engine}
 use Rattle.syntect_parsing.specs.Scopes.{Scopes}
 use Rattle.syntect_parsing.specs.Line.{ReadsLine, RefusesLine, stack_before, first_push, start_of, HasPlainStart}
 use Rattle.syntect_contexts.specs.declared.syntax_reference.SyntaxReference.{SyntaxReference}

@@ -11,7 +11,7 @@ use Rattle.syntect_contexts.specs.declared.context.ContextId.{ContextId}
 use Rattle.syntect_contexts.specs.declared.context.MatchOperation.{MatchOperation}
 use Rattle.syntect_contexts.specs.declared.context.MatchOperation.TheVariants as op
 use Rattle.syntect_grammar.specs.declared.syntax_set.SyntaxSet.{SyntaxSet}
-use Rattle.syntect_parsing.specs.States.{Level}
+use Rattle.syntect_winner.specs.declared.level.Level.{Level}
 
 -- of each level its `meta_scope`, then its `meta_content_scope`
 abbrev pub open_scopes : SyntaxSet → List Level → Scopes

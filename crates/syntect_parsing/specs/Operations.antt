@@ -12,7 +12,7 @@ use Rattle.syntect_contexts.specs.declared.context.ContextReference.{ContextRefe
 use Rattle.syntect_contexts.specs.declared.context.MatchOperation.{MatchOperation}
 use Rattle.syntect_contexts.specs.declared.context.MatchOperation.TheVariants as op
 use Rattle.syntect_grammar.specs.declared.syntax_set.SyntaxSet.{SyntaxSet}
-use Rattle.syntect_parsing.specs.States.{Level}
+use Rattle.syntect_winner.specs.declared.level.Level.{Level}
 
 -- At a place the captures that end there are popped in the order of the list, each by one operation. Then those that begin
 -- there are pushed, longer ones first.

@@ -2,17 +2,18 @@
 use Rattle.std.specs.Prelude.{◌≡◌, ℕ, Bool, true, ◌&&◌, List, ◌∷◌, ◌++◌, drop, is_none}
 use Rattle.std.specs.List.{filter_map}
 use Rattle.syntect_contexts.specs.Contexts.{target}
-use Rattle.syntect_parsing.specs.Engine.{Engine}
+use Rattle.syntect_winner.specs.Engine.{Engine}
 use Rattle.syntect_parsing.specs.Visible.{top_clearing}
 use Rattle.syntect_parsing.specs.Operations.{clear_nothing}
-use Rattle.syntect_parsing.specs.Turn.{Live}
+use Rattle.syntect_winner.specs.Turn.{Live}
 use Rattle.syntect_parsing.specs.Line.{Answer, AnswersAll, Reaches, at_start}
 use Rattle.syntect_parsing.specs.Refusals.{Picks}
 use Rattle.syntect_contexts.specs.declared.context.MatchOperation.{MatchOperation}
 use Rattle.syntect_contexts.specs.declared.context.MatchOperation.TheVariants as op
 use Rattle.syntect_grammar.specs.declared.syntax_set.SyntaxSet.{SyntaxSet}
-use Rattle.syntect_parsing.specs.declared.position.Position.{Position}
-use Rattle.syntect_parsing.specs.States.{Level, Standing}
+use Rattle.syntect_winner.specs.declared.position.Position.{Position}
+use Rattle.syntect_parsing.specs.States.{Standing}
+use Rattle.syntect_winner.specs.declared.level.Level.{Level}
 
 -- no context of a push or set clears behind its first, and a set leaves no context that clears
 abbrev pub is_orderly : SyntaxSet → List Level → MatchOperation → Bool

@@ -3,11 +3,12 @@ pub use Rattle.syntect_loader.specs.Named.{is_direct, NamesNoNumber, KnowNoNumbe
 use Rattle.std.specs.Prelude.{◌≡◌, ℕ, Bool, true, false, List, [], ◌∷◌, ◌++◌, find, Option, Some, None, is_none}
 use Rattle.std.specs.List.{filter_map, flat_map, list_all}
 use Rattle.std.specs.Option.{option_to_list}
-use Rattle.syntect_parsing.specs.Engine.{Engine}
+use Rattle.syntect_winner.specs.Engine.{Engine}
 use Rattle.syntect_grammar.specs.Contexts.{context_at, part_of}
 use Rattle.syntect_contexts.specs.Contexts.{target}
-use Rattle.syntect_parsing.specs.Chain.{chain, last, patterns_of}
-use Rattle.syntect_parsing.specs.Turn.{Live, Take, live, missing, named, trimmed, winner}
+use Rattle.syntect_winner.specs.Chain.{chain, last, patterns_of}
+use Rattle.syntect_parsing.specs.Turn.{trimmed}
+use Rattle.syntect_winner.specs.Turn.{Live, Take, live, missing, named, winner}
 use Rattle.syntect_parsing.specs.Line.{AnswersAll, Answer, Reaches, RefusesLine, at_start, start}
 use Rattle.syntect_grammar.specs.Link.{syntaxes_in, linked}
 use Rattle.syntect_contexts.specs.declared.context.ContextId.{ContextId}
@@ -20,8 +21,9 @@ use Rattle.syntect_contexts.specs.declared.context.Pattern.TheVariants.{Match, I
 use Rattle.syntect_contexts.specs.declared.context.Context.{Context}
 use Rattle.syntect_loader.specs.declared.definition.SyntaxDefinition.{SyntaxDefinition}
 use Rattle.syntect_grammar.specs.declared.syntax_set.SyntaxSet.{SyntaxSet}
-use Rattle.syntect_parsing.specs.States.{Level, Standing}
-use Rattle.syntect_parsing.specs.declared.position.Position.{Position}
+use Rattle.syntect_parsing.specs.States.{Standing}
+use Rattle.syntect_winner.specs.declared.level.Level.{Level}
+use Rattle.syntect_winner.specs.declared.position.Position.{Position}
 use Rattle.syntect_contexts.specs.declared.error.ParsingError.{ParsingError}
 use Rattle.syntect_contexts.specs.declared.error.ParsingError.TheVariants as error
 

@@ -10,7 +10,7 @@ use Rattle.syntect_grammar.specs.Contexts.{part_of}
 use Rattle.syntect_contexts.specs.Contexts.{Scopes}
 use Rattle.syntect_contexts.specs.declared.context.ContextId.{ContextId}
 use Rattle.syntect_parsing.specs.Visible.{clearing}
-use Rattle.syntect_parsing.specs.States.{Level}
+use Rattle.syntect_winner.specs.declared.level.Level.{Level}
 use Rattle.syntect_grammar.specs.declared.syntax_set.SyntaxSet.{SyntaxSet}
 
 -- scopes put on a stack

@@ -4,15 +4,15 @@ use Rattle.syntect_scope.specs.declared.stack.ScopeStackOp.{ScopeStackOp}
 use Rattle.std.specs.Str.{IsCharBoundary}
 use Rattle.syntect_scope.specs.Replay.{Replay, InOrder, AllApply, replay}
 use Rattle.syntect_grammar.specs.Contexts.{contexts_of}
-use Rattle.syntect_parsing.specs.Engine.{Engine}
+use Rattle.syntect_winner.specs.Engine.{Engine}
 use Rattle.syntect_parsing.specs.Scopes.{Scopes}
 use Rattle.syntect_parsing.specs.Stacks.{IsAt, Remembers, stack_of}
 use Rattle.syntect_parsing.specs.Line.{Step, Goes, Ends, Refused, turn}
 use Rattle.syntect_parsing.specs.Laws.{longest}
 use Rattle.syntect_parsing.specs.Orderly.{IsOrderlyTurn}
 use Rattle.syntect_grammar.specs.declared.syntax_set.SyntaxSet.{SyntaxSet}
-use Rattle.syntect_parsing.specs.declared.position.TheConstants.{MOST_IDLE}
-use Rattle.syntect_parsing.specs.declared.position.Position.{Position}
+use Rattle.syntect_winner.specs.declared.position.TheConstants.{MOST_IDLE}
+use Rattle.syntect_winner.specs.declared.position.Position.{Position}
 use Rattle.syntect_contexts.specs.declared.error.ParsingError.{ParsingError}
 use Rattle.syntect_contexts.specs.declared.error.ParsingError.TheVariants as error
 

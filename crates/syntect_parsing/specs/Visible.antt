@@ -7,14 +7,14 @@ use Rattle.syntect_scope.specs.declared.stack.ClearAmount.{ClearAmount}
 use Rattle.syntect_scope.specs.declared.stack.ClearAmount.TheVariants.{TopN, All}
 use Rattle.syntect_grammar.specs.Contexts.{part_of}
 use Rattle.syntect_contexts.specs.Contexts.{Scopes, target}
-use Rattle.syntect_parsing.specs.Chain.{last}
+use Rattle.syntect_winner.specs.Chain.{last}
 use Rattle.syntect_parsing.specs.Turn.{without_last}
 use Rattle.syntect_contexts.specs.declared.context.Context.{Context}
 use Rattle.syntect_contexts.specs.declared.context.ContextId.{ContextId}
 use Rattle.syntect_contexts.specs.declared.context.MatchOperation.{MatchOperation}
 use Rattle.syntect_contexts.specs.declared.context.MatchOperation.TheVariants as op
 use Rattle.syntect_grammar.specs.declared.syntax_set.SyntaxSet.{SyntaxSet}
-use Rattle.syntect_parsing.specs.States.{Level}
+use Rattle.syntect_winner.specs.declared.level.Level.{Level}
 
 -- how much the top level's context clears, and a part of that context
 abbrev pub top_clearing : SyntaxSet → List Level → Option ClearAmount

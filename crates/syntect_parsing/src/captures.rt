@@ -2,18 +2,19 @@
 ghost use Rattle.std.specs.Prelude.{◌≡◌, ◌≤◌, ◌<◌, ◌&&◌, nat_lt, nat_le, not, IsTrue, length, map, IfOk, IfSome, OnOk, IsCharBoundary, unwrap_or, Option, None, Some};
 ghost use Rattle.std.specs.Option.{option_map};
 ghost use Rattle.std.specs.List.{flat_map, filter_map};
-ghost use Rattle.syntect_parsing.specs.Engine.{dialect};
-ghost use Rattle.syntect_parsing.specs.Turn.{group_at};
+ghost use Rattle.syntect_winner.specs.Engine.{dialect};
+ghost use Rattle.syntect_winner.specs.Turn.{group_at};
 ghost use Rattle.syntect_parsing.specs.Scopes.{Scopes, effect, captures};
-ghost use Rattle.syntect_parsing.specs.Laws.{StandsIn};
+ghost use Rattle.syntect_winner.specs.Found.{StandsIn};
 ghost use Rattle.syntect_parsing.specs.Sorting.{in_order};
-ghost use Rattle.syntect_parsing.specs.Candidates.{seen, text_of, seen_mark, marks_of, AreMarksOf};
+ghost use Rattle.syntect_parsing.specs.Candidates.{seen_mark, marks_of, AreMarksOf};
+ghost use Rattle.syntect_winner.specs.Candidates.{seen, text_of};
 
-use crate::search::Candidate;
 use std::alloc::{AllocError, Global};
 use syntect_regex::region::Region;
 use syntect_scope::scope::Scope;
 use syntect_values::seq::Seq;
+use syntect_winner::search::Candidate;
 
 /// Where scopes of a capture are pushed or popped.
 #[derive(Clone, Copy)]

@@ -4,17 +4,15 @@ ghost use Rattle.std.specs.Option.{option_copied, option_and_then};
 ghost use Rattle.syntect_grammar.specs.Contexts.{context_at};
 ghost use Rattle.syntect_parsing.specs.Operations.{operations_pushed, operations_set, metas, restores, all_below};
 ghost use Rattle.syntect_parsing.specs.Visible.{top_clearing, top_part};
-ghost use Rattle.syntect_parsing.specs.Engine.{dialect};
+ghost use Rattle.syntect_winner.specs.Engine.{dialect};
 ghost use Rattle.syntect_parsing.specs.Scopes.{Capture, captures};
-ghost use Rattle.syntect_parsing.specs.Laws.{StandsIn};
-ghost use Rattle.syntect_parsing.specs.Candidates.{seen, marks_operations, AreMarksOf, operations_between, operations_by};
-ghost use Rattle.syntect_parsing.specs.Chain.{last};
+ghost use Rattle.syntect_winner.specs.Found.{StandsIn};
+ghost use Rattle.syntect_parsing.specs.Candidates.{marks_operations, AreMarksOf, operations_between, operations_by};
+ghost use Rattle.syntect_winner.specs.Candidates.{seen};
+ghost use Rattle.syntect_winner.specs.Chain.{last};
 ghost use Rattle.syntect_scope.specs.Replay.{pushes, pops};
 
 use crate::captures::{Mark, capture_marks};
-use crate::parser::Level;
-use crate::position::Position;
-use crate::search::Candidate;
 use std::alloc::{AllocError, Global};
 use syntect_grammar::syntax_definition::{Context, ContextReference, MatchOperation};
 use syntect_grammar::syntax_set::SyntaxSet;
@@ -24,6 +22,9 @@ use syntect_openings::references::{
 };
 use syntect_regex::region::Region;
 use syntect_scope::stack::{ClearAmount, ScopeStackOp};
+use syntect_winner::level::Level;
+use syntect_winner::position::Position;
+use syntect_winner::search::Candidate;
 
 /// The top level's context, if the set has it.
 fn top_of<'s>(set: &'s SyntaxSet, levels: &[Level]) -> Option<&'s Context>

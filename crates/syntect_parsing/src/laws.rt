@@ -1,8 +1,10 @@
 //! Laws of reading.
-ghost use Rattle.syntect_parsing.specs.Laws.{NeverBoth, AnswersMore, StackIsOpen, FindsInText, LaysGroupsOut};
+ghost use Rattle.syntect_parsing.specs.Laws.{NeverBoth, AnswersMore, StackIsOpen, LaysGroupsOut};
 ghost use Rattle.syntect_parsing.specs.Refusals.{RefusesUnresolved, LinksClosed};
 ghost use Rattle.syntect_parsing.specs.Standing.{BytesHaveScopes};
-ghost use Rattle.syntect_parsing.specs.Engine.{dialect};
+ghost use Rattle.syntect_winner.specs.Engine.{dialect};
+
+pub use syntect_winner::laws::dialect_finds_in_text;
 
 /// No line is both accepted and refused.
 #[tactic(auto, using(crate::proofs::AnswerLaws::never_both))]
@@ -21,13 +23,6 @@ pub fn answers_more()
 pub fn stack_is_open()
     ensures { StackIsOpen }
 {}
-
-/// What the dialect finds stands in the text, on character boundaries: so the laws hold of it.
-pub fn dialect_finds_in_text()
-    ensures { FindsInText dialect }
-{
-    syntect_pattern_laws::matches_are_laid_out();
-}
 
 /// The groups of a match that stand in no lookaround lie in the match, and each two of them are apart or one in the other:
 /// so their scopes are pushed and popped as on a stack.

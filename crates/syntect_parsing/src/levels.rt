@@ -4,13 +4,12 @@ ghost use Rattle.std.specs.Option.{option_map_or, option_and_then};
 ghost use Rattle.std.specs.List.{list_any};
 ghost use Rattle.syntect_grammar.specs.Contexts.{context_at};
 ghost use Rattle.syntect_contexts.specs.Contexts.{target};
-ghost use Rattle.syntect_parsing.specs.Turn.{uses_backrefs, new_level, new_levels, levels_after, list_of, position_after};
-ghost use Rattle.syntect_parsing.specs.Candidates.{seen, opening_by, record_at};
-ghost use Rattle.syntect_parsing.specs.Chain.{last};
+ghost use Rattle.syntect_parsing.specs.Turn.{uses_backrefs, new_level, new_levels, levels_after, position_after};
+ghost use Rattle.syntect_winner.specs.Turn.{list_of};
+ghost use Rattle.syntect_parsing.specs.Candidates.{opening_by, record_at};
+ghost use Rattle.syntect_winner.specs.Candidates.{seen};
+ghost use Rattle.syntect_winner.specs.Chain.{last};
 
-use crate::parser::Level;
-use crate::position::{MOST_IDLE, Position, Record};
-use crate::search::Candidate;
 use std::alloc::{AllocError, Global};
 use std::mem;
 use syntect_grammar::syntax_definition::{ContextId, ContextReference, MatchOperation};
@@ -20,6 +19,9 @@ use syntect_openings::opening::Opening;
 use syntect_regex::region::Region;
 use syntect_values::seq::Seq;
 use syntect_values::text::Text;
+use syntect_winner::level::Level;
+use syntect_winner::position::{MOST_IDLE, Position, Record};
+use syntect_winner::search::Candidate;
 
 /// Whether a context is marked as using back references.
 fn uses_backrefs(set: &SyntaxSet, id: ContextId) -> bool

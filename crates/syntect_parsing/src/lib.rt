@@ -4,13 +4,10 @@
 #![tactic(auto)]
 
 mod captures;
-mod chain;
 mod emit;
 pub mod laws;
 mod levels;
 pub mod parser;
-mod position;
-mod search;
 mod turn;
 
 pub use syntect_grammar::{error, syntax_set, yaml_load};

@@ -3,50 +3,26 @@ ghost use Rattle.std.specs.Prelude.{◌≡◌, ◌≢◌, ◌↔◌, ◌+◌, �
 ghost use Rattle.std.specs.Option.{option_to_list, option_map_or};
 ghost use Rattle.syntect_scope.specs.Replay.{pushes};
 ghost use Rattle.syntect_grammar.specs.Contexts.{part_of};
-ghost use Rattle.syntect_parsing.specs.Chain.{last};
-ghost use Rattle.syntect_parsing.specs.Engine.{dialect};
+ghost use Rattle.syntect_winner.specs.Chain.{last};
+ghost use Rattle.syntect_winner.specs.Engine.{dialect};
 ghost use Rattle.syntect_parsing.specs.Line.{start_id, start_of, at_start, first_push};
 ghost use Rattle.syntect_parsing.specs.Meaning.{MayLackStart, Accepts, MayRefuse};
 ghost use Rattle.syntect_parsing.specs.States.{standing, turns_made};
 ghost use Rattle.syntect_parsing.specs.Bound.{TakesTurns, TakesAll, TakesNoMore, IsTold, most_turns};
 
-use crate::laws::dialect_finds_in_text;
-use crate::position::Position;
-use crate::search::Regions;
 use crate::turn::turn;
 use std::alloc::{AllocError, AllocFailed, Global};
 pub use syntect_grammar::error::ParsingError;
 use syntect_grammar::syntax_definition::{ContextId, ContextReference};
 use syntect_grammar::syntax_set::{SyntaxReference, SyntaxSet};
-use syntect_openings::opening::Opening;
 use syntect_scope::scope::Scope;
 use syntect_scope::stack::ScopeStackOp;
 use syntect_turns::count::TurnCount;
 use syntect_values::seq::Seq;
-
-/// An open context, its prototypes, and the match that opened it where that is kept.
-#[derive(Drop, PartialEq, Eq)]
-pub struct Level {
-    pub context: ContextId,
-    pub prototypes: Seq<ContextId>,
-    pub opening: Option<Opening>,
-}
-
-impl Clone for Level {
-    ghost is_clone = { λ x y. y ≡ x };
-
-    fn clone(&self) -> Result<Level, AllocError> {
-        let opening = match &self.opening {
-            Some(opening) => Some(opening.clone(self.prototypes.allocator())?),
-            None => None,
-        };
-        Ok(Level {
-            context: self.context,
-            prototypes: self.prototypes.clone()?,
-            opening,
-        })
-    }
-}
+use syntect_winner::laws::dialect_finds_in_text;
+pub use syntect_winner::level::Level;
+use syntect_winner::position::Position;
+use syntect_winner::search::Regions;
 
 /// Where a reader of lines stands between two: the open levels, lowest first, the cuts, and whether no line was accepted.
 /// A cut is the height that a match from a `with_prototype` found; prototypes of levels below the last are out of sight.

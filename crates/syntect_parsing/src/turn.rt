@@ -1,22 +1,20 @@
 //! One turn of reading a line.
 ghost use Rattle.std.specs.Prelude.{◌≡◌, ◌≤◌, ◌<◌, nat_lt, filter, length, IfOk, IfErr, IsCharBoundary, Some, ◌+◌, true};
-ghost use Rattle.syntect_parsing.specs.Engine.{dialect};
-ghost use Rattle.syntect_parsing.specs.Chain.{last};
-ghost use Rattle.syntect_parsing.specs.Turn.{trimmed, skipped, char_len, winner, Take};
+ghost use Rattle.syntect_winner.specs.Engine.{dialect};
+ghost use Rattle.syntect_winner.specs.Chain.{last};
+ghost use Rattle.syntect_parsing.specs.Turn.{trimmed, skipped};
+ghost use Rattle.syntect_winner.specs.Turn.{char_len, winner, Take};
 ghost use Rattle.syntect_parsing.specs.Line.{step, turn_on};
-ghost use Rattle.syntect_parsing.specs.Laws.{StandsIn};
-ghost use Rattle.syntect_parsing.specs.Candidates.{seen, live_in};
-ghost use Rattle.syntect_parsing.specs.Best.{AreGroupsOf, choice_by};
+ghost use Rattle.syntect_winner.specs.Found.{StandsIn};
+ghost use Rattle.syntect_winner.specs.Candidates.{seen, live_in};
+ghost use Rattle.syntect_winner.specs.Best.{AreGroupsOf, choice_by};
 ghost use Rattle.syntect_parsing.specs.Orderly.{is_orderly};
 ghost use Rattle.syntect_parsing.specs.Step.{MakesStep, RefusesStep, Turns, RefusesTurn};
 
-use crate::chain::{missing_prototype, parts_of};
 use crate::emit::emit;
-use crate::laws::{dialect_finds_in_text, dialect_lays_groups_out};
+use crate::laws::dialect_lays_groups_out;
 use crate::levels::apply;
 use crate::parser::ParsingError;
-use crate::position::{MOST_IDLE, Position};
-use crate::search::{Best, Candidate, Choice, Regions, best_of_chain, char_len, choose};
 use std::alloc::Global;
 use std::mem;
 use syntect_grammar::syntax_set::SyntaxSet;
@@ -25,6 +23,11 @@ use syntect_regex::region::Region;
 use syntect_scope::stack::ScopeStackOp;
 use syntect_turns::count::TurnCount;
 use syntect_values::seq::Seq;
+use syntect_winner::chain::{missing_prototype, parts_of};
+use syntect_winner::laws::dialect_finds_in_text;
+use syntect_winner::position::{MOST_IDLE, Position};
+use syntect_winner::search::{Best, Candidate, Choice, Regions, char_len, choose};
+use syntect_winner::sweep::best_of_chain;
 
 fn drop_from(cuts: &mut Vec<usize>, height: usize)
     ensures { cuts.new.items ≡ filter (λ c. nat_lt c height) cuts.old.items }

@@ -3,18 +3,19 @@ use Rattle.std.proofs.Common.{ℕ, List, Option, Some, None}
 use Rattle.std.specs.Str.{IsUtf8, IsCharBoundary}
 use Rattle.std.proofs.lemmas.Str.{IsCharBoundary-start}
 use Rattle.syntect_grammar.specs.Contexts.{context_at}
-use Rattle.syntect_parsing.specs.Chain.{last, chain, prototypes_in}
-use Rattle.syntect_parsing.specs.Engine.{Engine}
-use Rattle.syntect_parsing.specs.declared.position.Position.{Position}
-use Rattle.syntect_parsing.specs.Turn.{Live, Choice, Take, Skip, End, live, winner, missing, refusal, position_after, trimmed}
+use Rattle.syntect_winner.specs.Chain.{last, chain, prototypes_in}
+use Rattle.syntect_winner.specs.Engine.{Engine}
+use Rattle.syntect_winner.specs.declared.position.Position.{Position}
+use Rattle.syntect_parsing.specs.Turn.{position_after, trimmed}
+use Rattle.syntect_winner.specs.Turn.{Live, Choice, Take, Skip, End, live, winner, missing, refusal}
 use Rattle.syntect_parsing.specs.Scopes.{scopes_passed}
 use Rattle.syntect_parsing.specs.Line.{Step, Goes, Ends, Refused, turn, turn_on, turn_in, step, unless_refused, at_start, Reaches, here, further}
-use Rattle.syntect_parsing.specs.Laws.{FindsInText}
+use Rattle.syntect_winner.specs.Found.{FindsInText}
 use Rattle.syntect_reading_laws.specs.Laws.{PlacesAreBoundaries}
-use Rattle.syntect_parsing.proofs.Places.{past_here, winner_ends, IsChoiceOnBoundary}
+use Rattle.syntect_winner.proofs.Places.{past_here, winner_ends, IsChoiceOnBoundary}
 use Rattle.syntect_contexts.specs.declared.context.Context.{Context}
 use Rattle.syntect_grammar.specs.declared.syntax_set.SyntaxSet.{SyntaxSet}
-use Rattle.syntect_parsing.specs.declared.parser.Level.{Level}
+use Rattle.syntect_winner.specs.declared.level.Level.{Level}
 use Rattle.syntect_contexts.specs.declared.error.ParsingError.{ParsingError}
 
 module _ (engine : Engine) (finds : FindsInText engine) (line : List ℕ) (u : IsUtf8 line) where

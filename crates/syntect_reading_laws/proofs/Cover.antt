@@ -3,21 +3,22 @@ use Rattle.std.proofs.Common.{◌≡◌, ℕ, zero, suc, ◌+◌, ◌-◌, ◌�
 use Rattle.std.proofs.lemmas.List.{length-replicate, length-map}
 use Rattle.std.specs.List.{range_with_len, filter_map, cons_option}
 use Rattle.std.proofs.lemmas.Bool.Decides.{nat_tests}
-use Rattle.syntect_parsing.specs.Engine.{Engine}
+use Rattle.syntect_winner.specs.Engine.{Engine}
 use Rattle.syntect_contexts.specs.Substitution.{Groups}
 use Rattle.syntect_grammar.specs.Contexts.{context_at}
-use Rattle.syntect_parsing.specs.Chain.{Member, last, chain, prototypes_in}
-use Rattle.syntect_parsing.specs.Turn.{Live, Choice, Take, Skip, End, counts, counted, matched, live, live_match, searched_text, group_at, choice_of, winner, is_least, loops, char_len, missing, refusal, position_after, trimmed}
+use Rattle.syntect_winner.specs.Chain.{Member, last, chain, prototypes_in}
+use Rattle.syntect_parsing.specs.Turn.{position_after, trimmed}
+use Rattle.syntect_winner.specs.Turn.{Live, Choice, Take, Skip, End, counts, counted, matched, live, live_match, searched_text, group_at, choice_of, winner, is_least, loops, char_len, missing, refusal}
 use Rattle.syntect_parsing.specs.Scopes.{Scopes, scopes_passed, scopes_at}
 use Rattle.syntect_parsing.specs.Visible.{visible, visible_base}
 use Rattle.syntect_parsing.specs.Line.{Step, Goes, Ends, Refused, turn, turn_on, turn_in, step, unless_refused, ended, Reads, ends, goes, at_start}
 use Rattle.syntect_reading_laws.specs.Laws.{CoversLine}
-use Rattle.syntect_parsing.proofs.Finds.{FindsInOrder, finds_in_order}
+use Rattle.syntect_winner.proofs.Finds.{FindsInOrder, finds_in_order}
 use Rattle.syntect_contexts.specs.declared.context.Context.{Context}
 use Rattle.syntect_grammar.specs.declared.syntax_set.SyntaxSet.{SyntaxSet}
-use Rattle.syntect_parsing.specs.declared.parser.Level.{Level}
+use Rattle.syntect_winner.specs.declared.level.Level.{Level}
 use Rattle.syntect_parsing.specs.declared.parser.Standing.{Standing}
-use Rattle.syntect_parsing.specs.declared.position.Position.{Position}
+use Rattle.syntect_winner.specs.declared.position.Position.{Position}
 use Rattle.syntect_contexts.specs.declared.error.ParsingError.{ParsingError}
 
 length_range : (n from : ℕ) → length (range_with_len from n) ≡ n

@@ -1,18 +1,18 @@
 -- Each line is accepted or refused, within a bound.
 use Rattle.std.proofs.Common.{◌≡◌, ◌≢◌, ◌⊎◌, inl, inr, ℕ, zero, suc, ◌+◌, ◌-◌, ◌*◌, ◌≤◌, ◌<◌, List, [], ◌∷◌, length, refl, sym, ◌∙◌, arith}
-use Rattle.syntect_parsing.specs.Engine.{Engine}
+use Rattle.syntect_winner.specs.Engine.{Engine}
 use Rattle.syntect_grammar.specs.Contexts.{contexts_of}
 use Rattle.syntect_parsing.specs.Scopes.{Scopes}
 use Rattle.syntect_parsing.specs.Line.{Step, Goes, Ends, Refused, turn, ReadsLine, RefusesLine, no_level, in_turn, at_start}
 use Rattle.syntect_parsing.specs.Laws.{longest}
 use Rattle.syntect_reading_laws.specs.Laws.{turn_bound, EachLineEnds}
 use Rattle.syntect_parsing.proofs.Falls.{left, IsReady, Falls, turn_falls}
-use Rattle.syntect_parsing.proofs.Finds.{FindsInOrder, finds_in_order}
+use Rattle.syntect_winner.proofs.Finds.{FindsInOrder, finds_in_order}
 use Rattle.syntect_reading_laws.proofs.Run.{Outcome, Accepts, RefusedWith, Unfinished, onto, from_step, run, Means, sound}
 use Rattle.syntect_grammar.specs.declared.syntax_set.SyntaxSet.{SyntaxSet}
-use Rattle.syntect_parsing.specs.declared.parser.Level.{Level}
+use Rattle.syntect_winner.specs.declared.level.Level.{Level}
 use Rattle.syntect_parsing.specs.declared.parser.Standing.{Standing}
-use Rattle.syntect_parsing.specs.declared.position.Position.{Position}
+use Rattle.syntect_winner.specs.declared.position.Position.{Position}
 use Rattle.syntect_contexts.specs.declared.error.ParsingError.{ParsingError}
 use Rattle.syntect_contexts.specs.declared.error.ParsingError.TheVariants as error
 

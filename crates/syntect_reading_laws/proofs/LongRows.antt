@@ -16,7 +16,7 @@ use Rattle.syntect_pattern.specs.Grammar.{tree_of, whole, body, passed, quantifi
 use Rattle.std.specs.Str.{chars}
 use Rattle.syntect_parsing.specs.Line.{turn, Reads, at_start}
 use Rattle.syntect_reading_laws.proofs.Run.{sound}
-use Rattle.syntect_parsing.specs.Engine.{dialect}
+use Rattle.syntect_winner.specs.Engine.{dialect}
 use Rattle.syntect_reading_laws.proofs.Rows.{grammar, context, pattern, to, t, tops, level, on, at_first}
 use Rattle.syntect_contexts.specs.declared.context.MatchOperation.TheVariants as op
 use Rattle.syntect_grammar.specs.declared.syntax_set.SyntaxSet.{SyntaxSet}

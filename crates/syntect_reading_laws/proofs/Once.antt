@@ -1,12 +1,12 @@
 -- A line has one reading or one refusal.
 use Rattle.std.proofs.Common.{◌≡◌, ℕ, ◌+◌, List, [], ◌∷◌, ◌++◌, refl, ap, sym, ◌∙◌}
-use Rattle.syntect_parsing.specs.Engine.{Engine}
+use Rattle.syntect_winner.specs.Engine.{Engine}
 use Rattle.syntect_parsing.specs.Scopes.{Scopes}
 use Rattle.syntect_parsing.specs.Line.{Goes, Ends, Refused, turn, Reads, ends, goes, Refuses, now, later, RefusesLine, no_level, in_turn, Answer, Accepted, RefusedBy, Answers, accepts, refuses, AnswersAll, none, one_more, at_start}
 use Rattle.syntect_parsing.proofs.AnswerLaws.{goes_of, line_not_both}
 use Rattle.syntect_reading_laws.specs.Laws.{ReadsOnce, RefusesOnce, AnswersOnce}
 use Rattle.syntect_grammar.specs.declared.syntax_set.SyntaxSet.{SyntaxSet}
-use Rattle.syntect_parsing.specs.declared.position.Position.{Position}
+use Rattle.syntect_winner.specs.declared.position.Position.{Position}
 use Rattle.syntect_parsing.specs.declared.parser.Standing.{Standing}
 use Rattle.syntect_contexts.specs.declared.error.ParsingError.{ParsingError}
 

@@ -16,7 +16,7 @@ use Rattle.syntect_pattern.specs.Grammar.{tree_of, whole, body, passed, quantifi
 use Rattle.std.specs.Str.{chars}
 use Rattle.syntect_regex.specs.Escape.{is_special}
 use Rattle.syntect_grammar.specs.Contexts.{context_at}
-use Rattle.syntect_parsing.specs.Chain.{patterns_in, patterns_of}
+use Rattle.syntect_winner.specs.Chain.{patterns_in, patterns_of}
 use Rattle.syntect_parsing.specs.Scopes.{Scopes}
 use Rattle.syntect_parsing.specs.Line.{turn, Reads, Refuses, at_start, start, Accepted, RefusedBy, accepts, refuses, no_level, in_turn, AnswersAll, none, one_more, stack_before, first_push, HasPlainStart}
 use Rattle.syntect_parsing.specs.Visible.{visible, visible_base}
@@ -25,7 +25,7 @@ use Rattle.syntect_scope.specs.declared.stack.ScopeStackOp.TheVariants.{Push, Po
 use Rattle.syntect_scope.specs.Stack.{plain as plain_stack}
 use Rattle.syntect_scope.specs.Replay.{replay, before_text, bytes_to}
 use Rattle.syntect_reading_laws.proofs.Run.{sound}
-use Rattle.syntect_parsing.specs.Engine.{dialect}
+use Rattle.syntect_winner.specs.Engine.{dialect}
 use Rattle.syntect_contexts.specs.declared.context.ContextId.{ContextId}
 use Rattle.syntect_contexts.specs.declared.context.ContextReference.{ContextReference}
 use Rattle.syntect_contexts.specs.declared.context.ContextReference.TheVariants.{Direct, ByScope}
@@ -38,7 +38,7 @@ use Rattle.syntect_contexts.specs.declared.context.Context.{Context}
 use Rattle.syntect_grammar.specs.declared.syntax_set.SyntaxSet.{SyntaxSet}
 use Rattle.syntect_parsing.specs.Stacks.{onto}
 use Rattle.syntect_scope.specs.Stack.{plain as bare}
-use Rattle.syntect_parsing.specs.declared.parser.Level.{Level}
+use Rattle.syntect_winner.specs.declared.level.Level.{Level}
 use Rattle.syntect_parsing.specs.declared.parser.Standing.{Standing}
 use Rattle.syntect_contexts.specs.declared.error.ParsingError.TheVariants as error
 

@@ -4,13 +4,14 @@ use Rattle.std.specs.Str.{IsUtf8, IsCharBoundary}
 use Rattle.syntect_grammar.specs.Contexts.{contexts_of}
 use Rattle.syntect_contexts.specs.declared.error.ParsingError.{ParsingError}
 use Rattle.syntect_grammar.specs.declared.syntax_set.SyntaxSet.{SyntaxSet}
-use Rattle.syntect_parsing.specs.Engine.{Engine}
-use Rattle.syntect_parsing.specs.Laws.{FindsInText, longest}
+use Rattle.syntect_winner.specs.Engine.{Engine}
+use Rattle.syntect_parsing.specs.Laws.{longest}
+use Rattle.syntect_winner.specs.Found.{FindsInText}
 use Rattle.syntect_parsing.specs.Line.{Answer, AnswersAll, ReadsLine, RefusesLine, Reaches, at_start}
 use Rattle.syntect_parsing.specs.Scopes.{Scopes}
 use Rattle.syntect_parsing.specs.declared.parser.Standing.{Standing}
-use Rattle.syntect_parsing.specs.declared.position.TheConstants.{MOST_IDLE}
-use Rattle.syntect_parsing.specs.declared.position.Position.{Position}
+use Rattle.syntect_winner.specs.declared.position.TheConstants.{MOST_IDLE}
+use Rattle.syntect_winner.specs.declared.position.Position.{Position}
 
 -- A line that is accepted has one reading.
 abbrev pub ReadsOnce : Type 0

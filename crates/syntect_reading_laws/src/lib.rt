@@ -3,7 +3,7 @@
 #![tactic(auto)]
 
 ghost use Rattle.std.specs.Prelude.{◌≡◌};
-ghost use Rattle.syntect_parsing.specs.declared.position.TheConstants.{MOST_LEVELS, MOST_IDLE};
+ghost use Rattle.syntect_winner.specs.declared.position.TheConstants.{MOST_LEVELS, MOST_IDLE};
 ghost use Rattle.syntect_parsing.specs.Laws.{AnswersJoin, AnswersPart};
 ghost use Rattle.syntect_parsing.specs.Open.{StackHasVisible, OpenIsVisible};
 ghost use Rattle.syntect_reading_laws.specs.Laws.{ReadsOnce, RefusesOnce, AnswersOnce, CoversLine, EachLineEnds, PlacesAreBoundaries};

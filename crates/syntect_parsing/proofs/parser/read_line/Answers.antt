@@ -1,6 +1,6 @@
 use Rattle.std.proofs.Common.{false, rules}
-use Rattle.syntect_parsing.specs.Engine.{dialect}
-use Rattle.syntect_parsing.proofs.Finds.{finds_in_order}
+use Rattle.syntect_winner.specs.Engine.{dialect}
+use Rattle.syntect_winner.proofs.Finds.{finds_in_order}
 use Rattle.syntect_parsing.proofs.Falls.{goes_falls}
 use Rattle.syntect_parsing.proofs.BoundLaws.{count-end, count-refused, count-bound, count-told}
 use Rattle.syntect_parsing.proofs.Runs.{so_far-start, so_far-more, so_far-end, so_far-refused}

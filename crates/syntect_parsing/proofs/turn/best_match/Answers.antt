@@ -1,7 +1,7 @@
 use Rattle.std.proofs.Common.{rules, map, find, ap, ◌∙◌}
 use Rattle.std.specs.List.{flat_map}
-use Rattle.syntect_parsing.specs.Parts.{seen_part, part_members}
-use Rattle.syntect_parsing.proofs.PartLaws.{parts_make_chain}
+use Rattle.syntect_winner.specs.Parts.{seen_part, part_members}
+use Rattle.syntect_winner.proofs.PartLaws.{parts_make_chain}
 use Rattle.syntect_parsing.proofs.ChainLaws.{chain_wins, chain_steps}
 use Rattle.syntect_parsing.proofs.turn.best_match.Goals as goal
 

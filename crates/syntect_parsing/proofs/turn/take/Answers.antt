@@ -1,5 +1,5 @@
 use Rattle.std.proofs.Common.{refl}
-use Rattle.syntect_parsing.specs.Candidates.{seen}
+use Rattle.syntect_winner.specs.Candidates.{seen}
 use Rattle.syntect_parsing.proofs.CapturedLaws.{captures_laid_out, captures_on_boundaries}
 use Rattle.syntect_parsing.proofs.TakeLaws.{take_makes}
 use Rattle.syntect_parsing.proofs.turn.take.Goals as goal

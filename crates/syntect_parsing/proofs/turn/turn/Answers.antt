@@ -1,9 +1,9 @@
 use Rattle.std.proofs.Common.{◌≡◌, true, ◌∙◌, ap}
 use Rattle.syntect_parsing.specs.Orderly.{is_orderly}
-use Rattle.syntect_parsing.specs.Engine.{dialect}
-use Rattle.syntect_parsing.specs.Candidates.{seen, chosen}
-use Rattle.syntect_parsing.specs.Chain.{last}
-use Rattle.syntect_parsing.specs.Turn.{Take, Skip}
+use Rattle.syntect_winner.specs.Engine.{dialect}
+use Rattle.syntect_winner.specs.Candidates.{seen, chosen}
+use Rattle.syntect_winner.specs.Chain.{last}
+use Rattle.syntect_winner.specs.Turn.{Take, Skip}
 use Rattle.syntect_parsing.specs.Line.{step, turn_on}
 use Rattle.syntect_parsing.proofs.ChoiceLaws.{choice_stands, step_chosen, taken_orderly}
 use Rattle.syntect_parsing.proofs.WholeTurnLaws.{turn_refused, turn_refused_by, turn_makes, turn_ends, skip_makes}

@@ -1,0 +1,9 @@
+pub mod ListLaws
+pub mod DialectLaws
+pub mod Finds
+pub mod Places
+pub mod BestLaws
+pub mod PartLaws
+pub mod RunLaws
+pub mod AheadLaws
+pub mod SweepLaws

@@ -1,0 +1,12 @@
+use Rattle.std.proofs.Common.{◌≡◌, ◌++◌, find, drop}
+use Rattle.std.specs.Prelude.{is_none}
+use Rattle.std.specs.List.{flat_map}
+use Rattle.std.specs.Option.{option_to_list}
+use Rattle.syntect_grammar.specs.Contexts.{context_at}
+use Rattle.syntect_winner.specs.Chain.{prototypes_in}
+use Rattle.syntect_winner.proofs.chain.missing_prototype.Given as goal
+
+abbrev pub invariant-loop-level : goal.invariant-loop-level
+invariant-loop-level l =
+    find (λ id. is_none (context_at l.set id)) (flat_map (λ k. k.prototypes) (drop l.level-index l.level-items) ++ option_to_list l.context.prototype)
+    ≡ find (λ id. is_none (context_at l.set id)) (prototypes_in l.p l.context)

@@ -1,0 +1,96 @@
+-- How far a turn has looked, pattern by pattern.
+use Rattle.std.specs.Prelude.{◌≡◌, ℕ, ◌+◌, ◌<◌, ◌≤◌, ◌⊎◌, Bool, true, false, List, [], ◌∷◌, ◌++◌, length, Option, Some, None, unwrap_or, slice_index_or}
+use Rattle.std.specs.List.{cons_option, flat_map}
+use Rattle.std.specs.Option.{option_copied}
+use Rattle.syntect_pattern.specs.Pattern.{pattern_found}
+use Rattle.syntect_contexts.specs.Substitution.{Groups}
+use Rattle.syntect_contexts.specs.declared.context.MatchPattern.{MatchPattern}
+use Rattle.syntect_flats.specs.declared.flats.Flat.{Flat}
+use Rattle.syntect_grammar.specs.Flats.{AreFlatsOf, pattern_at}
+use Rattle.syntect_grammar.specs.declared.syntax_set.SyntaxSet.{SyntaxSet}
+use Rattle.syntect_regex.specs.Region.{BeginsAt}
+use Rattle.syntect_winner.specs.Best.{IsBest}
+use Rattle.syntect_winner.specs.Chain.{Member}
+use Rattle.syntect_winner.specs.Engine.{dialect}
+use Rattle.syntect_winner.specs.Parts.{flat_members, part_member, part_members}
+use Rattle.syntect_winner.specs.Turn.{Live, live, live_match, searched_text}
+use Rattle.syntect_winner.specs.declared.chain.Part.{Part}
+use Rattle.syntect_winner.specs.declared.position.Position.{Position}
+use Rattle.syntect_winner.specs.declared.search.Best.{Best}
+use Rattle.syntect_winner.specs.declared.sweep.Kept.{Kept}
+use Rattle.syntect_winner.specs.declared.sweep.Kept.TheVariants as kept
+use Rattle.syntect_winner.specs.declared.sweep.Run.{Run}
+
+-- the patterns of a flat list, wherever it is kept
+abbrev pub list_in : Kept → List Flat
+list_in (kept.Lent flats) = flats.now
+list_in (kept.Own flats) = flats
+
+-- each pattern at the places of a flat list is searched in this form, or as it stands
+abbrev pub AreReplaced : SyntaxSet → Part → List Flat → List (Option (List ℕ)) → Type 0
+AreReplaced set part flats replaced = (k : ℕ) (d : Flat) (m : MatchPattern) → k < length flats → pattern_at set (slice_index_or flats k d) ≡ Some m
+    → unwrap_or (slice_index_or replaced k None) m.regex ≡ searched_text dialect m (option_copied part.opening)
+
+-- the flat list is that of the part's context, and its patterns are searched in the form that the opening match asks for
+pub record IsRun (set : SyntaxSet) (run : Run) : Type 0 where
+  pub flats : AreFlatsOf set run.part.id (list_in run.flats)
+  pub replaced : AreReplaced set run.part (list_in run.flats) run.replaced.items
+
+-- A search of a member from the turn's place on finds what one from this place on finds; or matches were lost, since they
+-- don't count, and the member has none that counts.
+abbrev pub IsAhead : List ℕ → Position → Bool → ℕ → Member → Type 0
+IsAhead line p lost i m =
+    (pattern_found (searched_text dialect m.pattern m.opening) line p.place ≡ pattern_found (searched_text dialect m.pattern m.opening) line i)
+    ⊎ ((lost ≡ true) × (live_match dialect (length p.levels) line p.place m ≡ None))
+
+-- so it is with all patterns of a part from an index on,
+abbrev pub AreAheadFrom : SyntaxSet → List ℕ → Position → Bool → ℕ → Run → ℕ → Type 0
+AreAheadFrom set line p lost i run from = (k : ℕ) (d : Flat) (m : MatchPattern) → from ≤ k → k < length (list_in run.flats)
+    → pattern_at set (slice_index_or (list_in run.flats) k d) ≡ Some m → IsAhead line p lost i (part_member run.part m)
+
+-- with those before it,
+abbrev pub AreAheadUpTo : SyntaxSet → List ℕ → Position → Bool → ℕ → Run → ℕ → Type 0
+AreAheadUpTo set line p lost i run to = (k : ℕ) (d : Flat) (m : MatchPattern) → k < to → k < length (list_in run.flats)
+    → pattern_at set (slice_index_or (list_in run.flats) k d) ≡ Some m → IsAhead line p lost i (part_member run.part m)
+
+-- with all of them,
+abbrev pub AreAhead : SyntaxSet → List ℕ → Position → Bool → ℕ → Run → Type 0
+AreAhead set line p lost i run = AreAheadFrom set line p lost i run 0
+
+-- and with all parts of a chain
+abbrev pub AllAhead : SyntaxSet → List ℕ → Position → Bool → ℕ → List Run → Type 0
+AllAhead set line p lost i runs = (k : ℕ) (r : Run) → k < length runs → AreAhead set line p lost i (slice_index_or runs k r)
+
+-- the members of the chain that a part stands for
+abbrev pub run_members : SyntaxSet → Run → List Member
+run_members set run = part_members set run.part
+
+-- a search of the member from the place on finds these groups, and there
+abbrev pub FindsHere : List ℕ → ℕ → Member → Groups → Type 0
+FindsHere line i m groups = (pattern_found (searched_text dialect m.pattern m.opening) line i ≡ Some groups) × BeginsAt groups i
+
+-- the best of these matches, where all that begin before this place were looked for and there are none
+pub record IsBestAt (line : List ℕ) (p : Position) (i : ℕ) (ms : List Live) (b : Best) : Type 0 where
+  pub best : IsBest line p i ms b
+  pub here : b.is_match ≡ true → b.start ≡ i
+
+-- The best of some matches is now the best of them and of a member's; and as long as none is found here, the member is ahead.
+pub record AddsMember (line : List ℕ) (p : Position) (i : ℕ) (lost : Bool) (m : Member) (ms : List Live) (b : Best) : Type 0 where
+  pub best : IsBestAt line p i (ms ++ cons_option (live_match dialect (length p.levels) line p.place m) []) b
+  pub ahead : b.is_match ≡ false → IsAhead line p lost (i + 1) m
+
+-- the same of the pattern of a part at an index
+pub record AddsAt (set : SyntaxSet) (line : List ℕ) (p : Position) (i : ℕ) (lost : Bool) (run : Run) (index : ℕ) (ms : List Live) (b : Best) : Type 0 where
+  pub best : (d : Flat) → IsBestAt line p i (ms ++ live dialect line p (flat_members set run.part (slice_index_or (list_in run.flats) index d ∷ []))) b
+  pub ahead : (d : Flat) (m : MatchPattern) → b.is_match ≡ false → pattern_at set (slice_index_or (list_in run.flats) index d) ≡ Some m
+      → IsAhead line p lost (i + 1) (part_member run.part m)
+
+-- the same of a part's patterns
+pub record AddsRun (set : SyntaxSet) (line : List ℕ) (p : Position) (i : ℕ) (lost : Bool) (run : Run) (ms : List Live) (b : Best) : Type 0 where
+  pub best : IsBestAt line p i (ms ++ live dialect line p (part_members set run.part)) b
+  pub ahead : b.is_match ≡ false → AreAhead set line p lost (i + 1) run
+
+-- the same of all parts of a chain
+pub record AddsAll (set : SyntaxSet) (line : List ℕ) (p : Position) (i : ℕ) (lost : Bool) (runs : List Run) (b : Best) : Type 0 where
+  pub best : IsBestAt line p i (live dialect line p (flat_map (run_members set) runs)) b
+  pub ahead : b.is_match ≡ false → AllAhead set line p lost (i + 1) runs

@@ -1,0 +1,43 @@
+-- Members of a chain and their matches, as the reader of a line keeps them.
+use Rattle.std.specs.Prelude.{ℕ, List, [], unwrap_or}
+use Rattle.std.specs.Option.{option_copied, option_map_or}
+use Rattle.syntect_pattern.specs.Pattern.{pattern_found}
+use Rattle.syntect_winner.specs.Chain.{Member, chain, last}
+use Rattle.syntect_winner.specs.Engine.{Engine}
+use Rattle.syntect_grammar.specs.Contexts.{context_at}
+use Rattle.syntect_grammar.specs.declared.syntax_set.SyntaxSet.{SyntaxSet}
+use Rattle.syntect_winner.specs.declared.position.Position.{Position}
+use Rattle.syntect_winner.specs.Turn.{Live, live}
+use Rattle.syntect_winner.specs.Turn as turn
+use Rattle.syntect_winner.specs.declared.search.Entry.{Entry}
+use Rattle.syntect_winner.specs.declared.search.Candidate.{Candidate}
+use Rattle.syntect_winner.specs.declared.search.Choice.{Choice}
+use Rattle.syntect_winner.specs.declared.search.Choice.TheVariants as code
+
+abbrev pub member_of : Entry → Member
+member_of e = record { pattern = e.pattern.now; opening = option_copied e.opening; from_with_prototype = e.from_with_prototype }
+
+-- the text of the pattern that a candidate was searched with
+abbrev pub text_of : Candidate → List ℕ
+text_of c = unwrap_or c.substituted c.pattern.now.regex
+
+-- the match that a candidate stands for, in this line from this place on
+abbrev pub seen : List ℕ → ℕ → Candidate → Live
+seen line place c = record {
+  pattern = c.pattern.now;
+  from_with_prototype = c.from_with_prototype;
+  searched = text_of c;
+  groups = unwrap_or (pattern_found (text_of c) line place) [];
+  start = c.start;
+  end = c.end;
+}
+
+abbrev pub chosen : List ℕ → ℕ → Choice → turn.Choice
+chosen line place (code.Take c) = turn.Take (seen line place c.now)
+chosen line place code.Skip = turn.Skip
+chosen line place code.End = turn.End
+
+-- the matches that a turn has to choose from, once cuts are dropped
+abbrev pub live_in : Engine → SyntaxSet → List ℕ → Position → List Live
+live_in engine set line p =
+    option_map_or (λ top. option_map_or (λ c. live engine line p (chain set p top c)) (context_at set top.context) []) (last p.levels) []

@@ -1,0 +1,418 @@
+//! What a turn finds: it looks at place after place, and at each tries the patterns that can begin with what stands there, in
+//! the order of the chain.
+ghost use Rattle.std.specs.Prelude.{◌≡◌, ◌≤◌, ◌<◌, ◌+◌, ◌++◌, [], List, ℕ, length, map, IfOk, Some, None, true, false, slice_index_or, unwrap_or};
+ghost use Rattle.std.specs.Option.{option_copied};
+ghost use Rattle.std.specs.List.{All, flat_map, list_any};
+ghost use Rattle.syntect_contexts.specs.declared.context.MatchPattern.{MatchPattern as APattern};
+ghost use Rattle.syntect_grammar.specs.Flats.{AreFlatsOf, pattern_at};
+ghost use Rattle.syntect_pattern_table.specs.Starts.{is_in};
+ghost use Rattle.syntect_winner.specs.Ahead.{AddsAll, AddsAt, AddsMember, AddsRun, AllAhead, AreAhead, AreAheadFrom, AreReplaced, FindsHere, IsAhead, IsBestAt, IsRun, list_in};
+ghost use Rattle.syntect_contexts.specs.Substitution.{Groups};
+ghost use Rattle.syntect_winner.specs.Best.{AreGroupsOf, IsBest, choice_by};
+ghost use Rattle.syntect_winner.specs.Candidates.{member_of};
+ghost use Rattle.syntect_winner.specs.Engine.{dialect};
+ghost use Rattle.syntect_winner.specs.Parts.{part_member, part_members};
+ghost use Rattle.syntect_winner.specs.Turn.{Live, live, searched_text, winner};
+
+use crate::chain::Part;
+use crate::laws::dialect_finds_in_text;
+use crate::position::Position;
+use crate::search::{Best, Candidate, Entry, Regions, counts, led_by, search_entry, substituted};
+use std::alloc::{AllocError, Global};
+use syntect_flats::flats::Flat;
+use syntect_flats::list::FlatList;
+use syntect_grammar::syntax_definition::MatchPattern;
+use syntect_grammar::syntax_set::SyntaxSet;
+use syntect_pattern_table::starts::start_at;
+use syntect_regex::regex::Regex;
+
+/// A flat list: one that the set keeps, or one of this turn alone.
+#[derive(Drop)]
+pub enum Kept<'s> {
+    Lent(&'s FlatList),
+    Own(FlatList),
+}
+
+/// A part of the chain with the patterns that it stands for.
+#[derive(Drop)]
+pub struct Run<'s, 'p> {
+    pub part: Part<'p>,
+    pub flats: Kept<'s>,
+    /// What is searched in place of each pattern; empty where each is searched as it stands.
+    pub replaced: Vec<Option<Regex>>,
+}
+
+/// The list itself.
+fn list_in<'k>(kept: &'k Kept<'_>) -> &'k FlatList
+    ensures { result.now ≡ list_in kept.now }
+{
+    match kept {
+        Kept::Lent(flats) => flats,
+        Kept::Own(flats) => flats,
+    }
+}
+
+/// What is searched in place of the pattern that stands at a place, if it uses back references.
+fn replacement(set: &SyntaxSet, part: &Part<'_>, flat: &Flat) -> Result<Option<Regex>, AllocError>
+    ensures { IfOk result (λ r. (m : APattern) → pattern_at set.now flat.now ≡ Some m
+        → unwrap_or r m.regex ≡ searched_text dialect m (option_copied part.now.opening)) }
+{
+    match set.pattern_at(flat) {
+        Some(pattern) => substituted(&Entry {
+            pattern,
+            opening: part.opening,
+            from_with_prototype: part.from_with_prototype,
+        }),
+        None => Ok(None),
+    }
+}
+
+/// Whether a pattern of the list uses back references.
+fn has_captures(flats: &[Flat]) -> bool
+    ensures { result ≡ list_any (λ f. f.has_captures) flats.now }
+{
+    flats.iter().any(|flat| { flat.has_captures })
+}
+
+/// What is searched in place of each pattern of a part; nothing where each is searched as it stands.
+fn replaced_in(
+    alloc: Global,
+    set: &SyntaxSet,
+    part: &Part<'_>,
+    flats: &[Flat],
+) -> Result<Vec<Option<Regex>>, AllocError>
+    requires { AreFlatsOf set.now part.now.id flats.now }
+    ensures { IfOk result (λ v. AreReplaced set.now part.now flats.now v.items) }
+{
+    let mut replaced = Vec::new(alloc);
+    if part.opening.is_none() || !has_captures(flats) {
+        return Ok(replaced);
+    }
+    for flat in flats {
+        replaced.push(replacement(set, part, flat)?)?;
+    }
+    Ok(replaced)
+}
+
+/// A part with its patterns.
+fn run_of<'s, 'p>(
+    alloc: Global,
+    set: &'s SyntaxSet,
+    part: &Part<'p>,
+) -> Result<Run<'s, 'p>, AllocError>
+    ensures part { IfOk result (λ r. r.part ≡ part.now) }
+    ensures run { IfOk result (IsRun set.now) }
+{
+    let flats = match set.flats_of(part.id) {
+        Some(flats) => Kept::Lent(flats),
+        None => Kept::Own(set.flats_walked(alloc, part.id)?),
+    };
+    let replaced = replaced_in(alloc, set, part, list_in(&flats).as_slice())?;
+    Ok(Run {
+        part: *part,
+        flats,
+        replaced,
+    })
+}
+
+/// The parts of a chain with their patterns.
+fn runs_of<'s, 'p>(
+    alloc: Global,
+    set: &'s SyntaxSet,
+    parts: &[Part<'p>],
+) -> Result<Vec<Run<'s, 'p>>, AllocError>
+    ensures parts { IfOk result (λ v. map (λ r. r.part) v.items ≡ parts.now) }
+    ensures runs { IfOk result (λ v. All (IsRun set.now) v.items) }
+{
+    let mut runs = Vec::with_capacity(alloc, parts.len())?;
+    for part in parts {
+        runs.push(run_of(alloc, set, part)?)?;
+    }
+    Ok(runs)
+}
+
+/// The index of the next pattern of a part, from this one on, that can begin where this stands; or one behind the list.
+fn next_in(run: &Run<'_, '_>, x: u8, from: usize) -> usize
+    requires { x < 130 }
+    ensures later { from ≤ result }
+    ensures plain { from < result → run.now.replaced.items ≡ [] }
+    ensures passed { (k : ℕ) (d : Flat) → from ≤ k → k < result
+        → k < length (list_in run.now.flats)
+        → is_in (slice_index_or (list_in run.now.flats) k d).begins x ≡ false }
+{
+    if run.replaced.is_empty() {
+        list_in(&run.flats).next(x, from)
+    } else {
+        from
+    }
+}
+
+/// What is found with a member of the chain more that is searched in this form, where a match of it was lost: it is searched
+/// from the turn's place on.
+fn with_searched<'s>(
+    entry: &Entry<'s, '_>,
+    line: &str,
+    p: &Position,
+    place: usize,
+    best: Best<'s>,
+    regions: &mut Regions,
+) -> Result<Best<'s>, AllocError>
+    requires { p.now.place ≤ place }
+    ensures groups { IfOk result (λ b.
+        AreGroupsOf line.now p.now.place best.entry.candidate regions.old.best
+        → AreGroupsOf line.now p.now.place b.candidate regions.new.best) }
+    ensures grows { IfOk result (λ b. b.is_match ≡ false → best.entry.is_match ≡ false) }
+    ensures best { (ms : List Live) (g : Groups) → IsAhead line.now p.now true place (member_of entry.now)
+        → FindsHere line.now place (member_of entry.now) g → best.entry.candidate ≡ None
+        → IsBestAt line.now p.now place ms best.entry
+        → IfOk result (AddsMember line.now p.now place true (member_of entry.now) ms) }
+{
+    dialect_finds_in_text();
+    match search_entry(
+        entry,
+        line,
+        p.place,
+        place,
+        p.levels.len(),
+        &mut regions.searched,
+    )? {
+        Some(m) => {
+            if m.start <= place {
+                regions.keep();
+                Ok(led_by(line, p, m))
+            } else {
+                Ok(best)
+            }
+        }
+        None => Ok(best),
+    }
+}
+
+/// What is searched: what stands in the pattern's place, or the pattern.
+fn regex_of<'r>(pattern: &'r MatchPattern, replaced: Option<&'r Regex>) -> &'r Regex
+    ensures { result.now ≡ unwrap_or (option_copied replaced.entry) pattern.now.regex }
+{
+    match replaced {
+        Some(regex) => regex,
+        None => &pattern.regex,
+    }
+}
+
+/// A copy of what stands in a pattern's place.
+fn owned(alloc: Global, replaced: Option<&Regex>) -> Result<Option<Regex>, AllocError>
+    ensures { IfOk result (λ r. r ≡ option_copied replaced.entry) }
+{
+    match replaced {
+        Some(regex) => Ok(Some(regex.clone(alloc)?)),
+        None => Ok(None),
+    }
+}
+
+/// What is searched in place of the pattern at an index.
+fn replaced_at<'r>(run: &'r Run<'_, '_>, index: usize) -> Option<&'r Regex>
+    ensures { option_copied result ≡ slice_index_or run.now.replaced.items index None }
+{
+    run.replaced.get(index)?.as_ref()
+}
+
+/// What is found with a member of the chain more, none of whose matches that count begins before the place. `lost` tells
+/// whether matches were passed over, since they don't count.
+fn with_entry<'s>(
+    alloc: Global,
+    entry: &Entry<'s, '_>,
+    replaced: Option<&Regex>,
+    line: &str,
+    p: &Position,
+    place: usize,
+    best: Best<'s>,
+    lost: &mut bool,
+    regions: &mut Regions,
+) -> Result<Best<'s>, AllocError>
+    requires order { p.now.place ≤ place }
+    requires text { unwrap_or (option_copied replaced) entry.now.pattern.now.regex
+        ≡ searched_text dialect entry.now.pattern.now (option_copied entry.now.opening) }
+    ensures lost { lost.old ≡ true → lost.new ≡ true }
+    ensures groups { IsAhead line.now p.now lost.old place (member_of entry.now)
+        → IfOk result (λ b.
+        AreGroupsOf line.now p.now.place best.entry.candidate regions.old.best
+        → AreGroupsOf line.now p.now.place b.candidate regions.new.best) }
+    ensures grows { IfOk result (λ b. b.is_match ≡ false → best.entry.is_match ≡ false) }
+    ensures best { (ms : List Live) → IsAhead line.now p.now lost.old place (member_of entry.now)
+        → best.entry.candidate ≡ None → IsBestAt line.now p.now place ms best.entry
+        → IfOk result (AddsMember line.now p.now place lost.new (member_of entry.now) ms) }
+{
+    dialect_finds_in_text();
+    let regex = regex_of(entry.pattern, replaced);
+    if !regex.match_at(line, place, &mut regions.searched)? {
+        return Ok(best);
+    }
+    if *lost {
+        return with_searched(entry, line, p, place, best, regions);
+    }
+    let Some((start, end)) = regions.searched.pos(0) else {
+        *lost = true;
+        return Ok(best);
+    };
+    if !counts(p.levels.len(), &entry.pattern.operation, start, end) {
+        *lost = true;
+        return Ok(best);
+    }
+    let substituted = owned(alloc, replaced)?;
+    regions.keep();
+    Ok(led_by(
+        line,
+        p,
+        Candidate {
+            pattern: entry.pattern,
+            substituted,
+            from_with_prototype: entry.from_with_prototype,
+            start,
+            end,
+        },
+    ))
+}
+
+/// What is found with the pattern of a part at an index more.
+fn with_pattern<'s>(
+    alloc: Global,
+    set: &'s SyntaxSet,
+    run: &Run<'s, '_>,
+    index: usize,
+    line: &str,
+    p: &Position,
+    place: usize,
+    best: Best<'s>,
+    lost: &mut bool,
+    regions: &mut Regions,
+) -> Result<Best<'s>, AllocError>
+    requires order { p.now.place ≤ place }
+    requires run { IsRun set.now run.now }
+    requires inside { index < length (list_in run.now.flats) }
+    ensures lost { lost.old ≡ true → lost.new ≡ true }
+    ensures groups { AreAheadFrom set.now line.now p.now lost.old place run.now index
+        → IfOk result (λ b.
+        AreGroupsOf line.now p.now.place best.entry.candidate regions.old.best
+        → AreGroupsOf line.now p.now.place b.candidate regions.new.best) }
+    ensures grows { IfOk result (λ b. b.is_match ≡ false → best.entry.is_match ≡ false) }
+    ensures best { (ms : List Live) → AreAheadFrom set.now line.now p.now lost.old place run.now index
+        → best.entry.candidate ≡ None → IsBestAt line.now p.now place ms best.entry
+        → IfOk result (AddsAt set.now line.now p.now place lost.new run.now index ms) }
+{
+    let flat = list_in(&run.flats).as_slice()[index];
+    let Some(pattern) = set.pattern_at(&flat) else {
+        return Ok(best);
+    };
+    let entry = Entry {
+        pattern,
+        opening: run.part.opening,
+        from_with_prototype: run.part.from_with_prototype,
+    };
+    let replaced = replaced_at(run, index);
+    with_entry(alloc, &entry, replaced, line, p, place, best, lost, regions)
+}
+
+/// What is found with the patterns of a part more, none of whose matches that count begins before the place.
+fn with_run<'s>(
+    alloc: Global,
+    set: &'s SyntaxSet,
+    run: &Run<'s, '_>,
+    line: &str,
+    p: &Position,
+    place: usize,
+    best: Best<'s>,
+    lost: &mut bool,
+    regions: &mut Regions,
+) -> Result<Best<'s>, AllocError>
+    requires order { p.now.place ≤ place }
+    requires run { IsRun set.now run.now }
+    ensures lost { lost.old ≡ true → lost.new ≡ true }
+    ensures groups { AreAhead set.now line.now p.now lost.old place run.now → IfOk result (λ b.
+        AreGroupsOf line.now p.now.place best.entry.candidate regions.old.best
+        → AreGroupsOf line.now p.now.place b.candidate regions.new.best) }
+    ensures grows { IfOk result (λ b. b.is_match ≡ false → best.entry.is_match ≡ false) }
+    ensures best { (ms : List Live) → AreAhead set.now line.now p.now lost.old place run.now
+        → IsBestAt line.now p.now place ms best.entry
+        → IfOk result (AddsRun set.now line.now p.now place lost.new run.now ms) }
+{
+    dialect_finds_in_text();
+    let x = start_at(line, place);
+    let count = list_in(&run.flats).as_slice().len();
+    let mut best = best;
+    let mut index = next_in(run, x, 0);
+    while index < count && best.candidate.is_none() {
+        best = with_pattern(alloc, set, run, index, line, p, place, best, lost, regions)?;
+        index = next_in(run, x, index + 1);
+    }
+    Ok(best)
+}
+
+/// What a chain has at a place, where none of its matches that count begins before.
+fn best_at<'s>(
+    alloc: Global,
+    set: &'s SyntaxSet,
+    runs: &[Run<'s, '_>],
+    line: &str,
+    p: &Position,
+    place: usize,
+    lost: &mut bool,
+    regions: &mut Regions,
+) -> Result<Best<'s>, AllocError>
+    requires order { p.now.place ≤ place }
+    requires within { place ≤ length line.now }
+    requires runs { All (IsRun set.now) runs.now }
+    ensures lost { lost.old ≡ true → lost.new ≡ true }
+    ensures groups { AllAhead set.now line.now p.now lost.old place runs.now → IfOk result (λ b.
+        AreGroupsOf line.now p.now.place b.candidate regions.new.best) }
+    ensures best { AllAhead set.now line.now p.now lost.old place runs.now
+        → IfOk result (AddsAll set.now line.now p.now place lost.new runs.now) }
+{
+    let mut best = Best {
+        start: place + 1,
+        is_match: false,
+        candidate: None,
+    };
+    for run in runs {
+        best = with_run(alloc, set, run, line, p, place, best, lost, regions)?;
+    }
+    Ok(best)
+}
+
+/// What a chain has: the places are gone through from the turn's own on, up to the first where a match begins that counts.
+pub fn best_of_chain<'s>(
+    alloc: Global,
+    set: &'s SyntaxSet,
+    parts: &[Part<'_>],
+    line: &str,
+    p: &Position,
+    regions: &mut Regions,
+) -> Result<Best<'s>, AllocError>
+    requires within { p.now.place ≤ length line.now }
+    ensures groups { IfOk result (λ b.
+        AreGroupsOf line.now p.now.place b.candidate regions.new.best) }
+    ensures best { IfOk result (λ b. choice_by line.now p.now.place b ≡ winner line.now p.now
+        (live dialect line.now p.now (flat_map (part_members set.now) parts.now))) }
+{
+    dialect_finds_in_text();
+    let runs = runs_of(alloc, set, parts)?;
+    let mut lost = false;
+    let mut place = p.place;
+    'places: loop {
+        let found = best_at(
+            alloc,
+            set,
+            runs.as_slice(),
+            line,
+            p,
+            place,
+            &mut lost,
+            regions,
+        )?;
+        if found.is_match {
+            return Ok(found);
+        }
+        if place >= line.len() {
+            return Ok(found);
+        }
+        place += 1;
+    }
+}
