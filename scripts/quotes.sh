@@ -3,8 +3,8 @@
 #
 #   sh scripts/quotes.sh
 #
-# README.md quotes the program crates/syntect_pager/src/main.rt and its line of crates.txt, whole. Ends with status 1, and shows
-# where they differ, if they do.
+# README.md quotes the program crates/syntect_pager/src/main.rt and its line of crates.txt, whole, and docs/CALLING.md the proof
+# of crates/syntect_callers/src/folder.rt. Ends with status 1, and shows where they differ, if they do.
 set -eu
 
 cd "$(dirname "$0")/.."
@@ -20,6 +20,7 @@ same() {
 }
 
 same README.md rust crates/syntect_pager/src/main.rt
+same docs/CALLING.md antt crates/syntect_callers/proofs/folder/page_by_folder/Answers.antt
 grep -qFx "    $(grep '^syntect_pager:' crates.txt)" README.md || {
     echo "quotes.sh: README.md does not quote the line of syntect_pager in crates.txt" >&2
     status=1

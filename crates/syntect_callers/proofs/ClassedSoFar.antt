@@ -5,7 +5,7 @@ use Rattle.syntect_scope.specs.Stack.{plain}
 use Rattle.syntect_scope.specs.Replay.{Replay, replay, replayed, before_text, bytes_to}
 use Rattle.syntect_scope.specs.declared.stack.ScopeStack.{ScopeStack}
 use Rattle.syntect_scope.specs.declared.stack.ScopeStackOp.{ScopeStackOp}
-use Rattle.syntect_parsing.specs.Engine.{dialect}
+use Rattle.syntect_winner.specs.Engine.{dialect}
 use Rattle.syntect_parsing.specs.Laws.{AnswersMore, StackIsOpen}
 use Rattle.std.specs.Prelude.{Option, None}
 use Rattle.std.specs.Option.{option_map}

@@ -1,7 +1,7 @@
 -- What a reader of a page with classes sees.
 use Rattle.std.specs.Prelude.{◌≡◌, ◌⊎◌, ℕ, List, [], ◌∷◌, ◌++◌, map, Some}
 use Rattle.std.specs.List.{flat_map}
-use Rattle.syntect_parsing.specs.Engine.{dialect}
+use Rattle.syntect_winner.specs.Engine.{dialect}
 use Rattle.syntect_parsing.specs.Line.{Accepted, AnswersAll, start_of}
 use Rattle.syntect_parsing.specs.declared.parser.Standing.{Standing}
 use Rattle.syntect_writers.specs.Lines.{lines_of}

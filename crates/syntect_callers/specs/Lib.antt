@@ -1,3 +1,4 @@
+pub mod Folders
 pub mod Third
 pub mod Grammars
 pub mod ClassedPages

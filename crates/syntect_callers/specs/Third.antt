@@ -5,7 +5,7 @@ use Rattle.std.specs.Global.{Vec}
 use Rattle.syntect_style.specs.Pieces.{Joins, IsStyled}
 use Rattle.syntect_theme.specs.declared.style.Style.{Style}
 use Rattle.syntect_theme.specs.declared.theme.Theme.{Theme}
-use Rattle.syntect_parsing.specs.Engine.{dialect}
+use Rattle.syntect_winner.specs.Engine.{dialect}
 use Rattle.syntect_grammar.specs.Link.{linked, syntaxes_in}
 use Rattle.syntect_grammar.specs.declared.syntax_set.SyntaxSet.{SyntaxSet}
 use Rattle.syntect_parsing.specs.Line.{Accepted, AnswersAll, start_of}

@@ -4,5 +4,6 @@
 #![tactic(auto)]
 
 pub mod classed;
+pub mod folder;
 pub mod third;
 pub mod whole;

@@ -1,0 +1,7 @@
+//! Tests of what programs meet: what refusals tell, what `?` makes of them, and a page by a folder of grammars.
+#![tactic(auto)]
+
+#[cfg(test)]
+mod files;
+#[cfg(test)]
+mod taken;
