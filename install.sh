@@ -80,25 +80,59 @@ prove() {
     done
     cd "$lane/crates/$1" || return 1
     if [ "$1" = "$program" ]; then
-        # once built it shows a file, so that what is installed has run
+        # Once built it shows a file, so that what is installed has run
         rt run --jobs "$2" -- "$here/examples/grammars" "$here/examples/dusk.json" html "$here/examples/texts/settings.ini"
     else
         rt lib --jobs "$2"
     fi
 }
 
-# waits for a crate's libraries and for a free processor, proves it, and says so
-work() {
+# The crates of the longest chain, by the seconds in docs/gate.tsv: nothing is done before its last one is, so each of
+# them has a job for each processor, whatever stands beside it.
+longest() {
+    awk -v crate="$program" '
+        function reach(name, words, n, i) {
+            if (name in far) return far[name]
+            far[name] = 0
+            n = split(uses[name], words, " ")
+            for (i = 1; i <= n; i++)
+                if (words[i] in uses && reach(words[i]) > far[name]) {
+                    far[name] = far[words[i]]
+                    next_one[name] = words[i]
+                }
+            far[name] += seconds[name] + 1
+            return far[name]
+        }
+        FNR == NR { if (!/^#/) seconds[$1] = $2; next }
+        /^[^#]/ { split($0, parts, ":"); uses[parts[1]] = parts[2] }
+        END { reach(crate); for (name = crate; name != ""; name = next_one[name]) print name }
+    ' "$here/docs/gate.tsv" "$here/crates.txt"
+}
+
+# how many jobs a crate beside the longest chain has: more than one where it takes so long that it would hold it up
+jobs_of() {
+    awk -v crate="$1" -v processors="$processors" '
+        $1 == crate { print ($2 > 200 && processors > 1) ? int((processors + 1) / 2) : 1; said = 1 }
+        END { if (!said) print 1 }
+    ' "$here/docs/gate.tsv"
+}
+
+# waits until a crate's libraries stand
+ready() {
     for library in $(named "$1"); do
         until [ -e "$state/$library.done" ]; do
-            [ ! -e "$state/failed" ] || return 0
+            [ ! -e "$state/failed" ] || return 1
             sleep 0.2
         done
     done
+}
+
+# waits for one of the places beside the longest chain, and takes it
+taken() {
     slot=none
     while [ "$slot" = none ]; do
-        [ ! -e "$state/failed" ] || return 0
-        for number in $(seq "$processors"); do
+        [ ! -e "$state/failed" ] || return 1
+        for number in $(seq "$others"); do
             if mkdir "$state/slot.$number" 2> /dev/null; then
                 slot=$number
                 break
@@ -106,9 +140,17 @@ work() {
         done
         [ "$slot" != none ] || sleep 0.2
     done
-    # those that are ready together share the processors
-    sleep 1
-    jobs=$((processors / $(ls "$state" | grep -c '^slot')))
+}
+
+# waits for what a crate needs, proves it, and says so
+work() {
+    ready "$1" || return 0
+    slot=none
+    jobs=$processors
+    if ! echo "$chain" | grep -qx "$1"; then
+        jobs=$(jobs_of "$1")
+        taken || return 0
+    fi
     if ( prove "$1" "$jobs" ) > "$build/$1.log" 2>&1 < /dev/null; then
         : > "$state/$1.done"
         now=$(($(date +%s) - start))
@@ -117,12 +159,15 @@ work() {
         : > "$state/failed"
         echo "install.sh: $1 is not proved; what was said stands in $build/$1.log" >&2
     fi
-    rmdir "$state/slot.$slot"
+    [ "$slot" = none ] || rmdir "$state/slot.$slot"
 }
 
 crates=$(below "$program")
 all=$(echo "$crates" | wc -l)
+chain=$(longest)
 processors=$(getconf _NPROCESSORS_ONLN 2> /dev/null || echo 1)
+# beside a crate of the longest chain, so many others are proved at a time
+others=$((processors > 2 ? processors - 1 : 1))
 start=$(date +%s)
 state=$(mktemp -d)
 trap 'rm -rf "$state"' EXIT
