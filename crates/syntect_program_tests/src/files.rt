@@ -135,7 +135,8 @@ fn a_page_by_a_folder(rt: HostRuntime) -> Result<(), Fail> {
     let theme = ThemeSet::load_from_reader(alloc, &mut bytes, &mut repository)?;
     let path = folder.as_path();
     let page = page_by_folder(&rt, alloc, path, "t", &theme, " hello", &mut repository)?;
-    let expected = "<pre style=\"background-color:#020202;\">\n<span style=\"color:#010101;\"> </span><span style=\"color:#030303;\">hello</span></pre>\n";
+    let expected =
+        "<pre style=\"background-color:#020202;\">\n<span style=\"color:#010101;\"> </span><span style=\"color:#030303;\">hello</span></pre>\n";
     assert_eq!(rt; page.as_str(), expected);
     fs::remove_dir_all(&rt, path)?;
     Ok(())

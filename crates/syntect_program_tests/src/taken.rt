@@ -146,8 +146,9 @@ fn unresolved_references_are_named(rt: HostRuntime) -> Result<(), Fail> {
         outside.as_str(),
         "Parsing error: Tried to use a ContextReference that has not been resolved yet: 'part' of the syntax 'C'"
     );
-    let by_scope = match read(alloc, "scope:source.c", &mut repository) {
-        Err(Error::ParsingError(e)) => why_not_read(alloc, &repository, &e)?,
+    let answer = read(alloc, "scope:source.c", &mut repository);
+    let by_scope = match &answer {
+        Err(Error::ParsingError(e)) => why_not_read(alloc, &repository, e)?,
         _ => String::new(alloc),
     };
     assert_eq!(rt;

@@ -134,7 +134,8 @@ fn missing_of(set: &SyntaxSet, ids: &[ContextId]) -> Option<ContextId>
 /// The first prototype of the chain that the set lacks.
 #[tactic(auto, using(crate::proofs::ListLaws::find_at))]
 pub fn missing_prototype(set: &SyntaxSet, p: &Position, context: &Context) -> Option<ContextId>
-    ensures { result ≡ find (λ id. is_none (context_at set.now id)) (prototypes_in p.now context.now) }
+    ensures { result ≡ find (λ id. is_none (context_at set.now id))
+        (prototypes_in p.now context.now) }
 {
     for level in in_sight(p) {
         if let Some(id) = missing_of(set, level.prototypes.as_slice()) {

@@ -150,7 +150,8 @@ pub fn search_entry<'s>(
 ) -> Result<Option<Candidate<'s>>, AllocError>
     requires order { place ≤ last }
     ensures near { IfOk result (λ m. IsNear
-        (live_match dialect height line.now place (member_of entry.now)) last (option_map (seen line.now place) m)) }
+        (live_match dialect height line.now place (member_of entry.now)) last
+        (option_map (seen line.now place) m)) }
     ensures groups { IfOk result (λ m. AreGroupsOf line.now place m region.new) }
 {
     dialect_finds_in_text();

@@ -162,7 +162,8 @@ fn with_searched<'s>(
         AreGroupsOf line.now p.now.place best.entry.candidate regions.old.best
         → AreGroupsOf line.now p.now.place b.candidate regions.new.best) }
     ensures grows { IfOk result (λ b. b.is_match ≡ false → best.entry.is_match ≡ false) }
-    ensures best { (ms : List Live) (g : Groups) → IsAhead line.now p.now true place (member_of entry.now)
+    ensures best { (ms : List Live) (g : Groups)
+        → IsAhead line.now p.now true place (member_of entry.now)
         → FindsHere line.now place (member_of entry.now) g → best.entry.candidate ≡ None
         → IsBestAt line.now p.now place ms best.entry
         → IfOk result (AddsMember line.now p.now place true (member_of entry.now) ms) }
@@ -294,7 +295,8 @@ fn with_pattern<'s>(
         AreGroupsOf line.now p.now.place best.entry.candidate regions.old.best
         → AreGroupsOf line.now p.now.place b.candidate regions.new.best) }
     ensures grows { IfOk result (λ b. b.is_match ≡ false → best.entry.is_match ≡ false) }
-    ensures best { (ms : List Live) → AreAheadFrom set.now line.now p.now lost.old place run.now index
+    ensures best { (ms : List Live)
+        → AreAheadFrom set.now line.now p.now lost.old place run.now index
         → best.entry.candidate ≡ None → IsBestAt line.now p.now place ms best.entry
         → IfOk result (AddsAt set.now line.now p.now place lost.new run.now index ms) }
 {
