@@ -1,10 +1,10 @@
 -- Rows of bits, and what is passed over by them.
-use Rattle.std.proofs.Common.{◌≡◌, ◌==◌, ◌<◌, ◌≤◌, ◌+◌, ◌-◌, ◌*◌, ◌/◌, ◌%◌, ◌^◌, ℕ, zero, suc, Bool, true, false, List, [], ◌∷◌, length, get_or, refl, sym, ap, ◌∙◌, arith, inl, inr, bit_or}
+use Rattle.std.proofs.Common.{◌≡◌, ◌==◌, ◌<◌, ◌≤◌, ◌+◌, ◌-◌, ◌*◌, ◌/◌, ◌%◌, ◌^◌, ℕ, Bool, true, false, List, length, get_or, refl, sym, ap, ◌∙◌, arith, inl, inr, bit_or}
 use Rattle.std.specs.Int.{bit_at, w64}
 use Rattle.std.specs.Prelude.{slice_set}
 use Rattle.std.proofs.lemmas.Bool.{cases_lt}
 use Rattle.std.proofs.lemmas.Bool.Decides.{eqb_tells}
-use Rattle.std.proofs.lemmas.List.{get_or-set_same, get_or-set_other, get_or_past}
+use Rattle.std.proofs.lemmas.List.{get_or-set_same, get_or-set_other, get_or_past, get_or_default}
 use Rattle.std.proofs.lemmas.Nat.{shr-shr}
 use Rattle.std.proofs.Math.Nat.{div-eq_of_lt}
 use Rattle.std.proofs.Math.Pow.{pow_mono}
@@ -30,17 +30,12 @@ stays_set word bit b l e = elim (eqb_tells b bit) [
   | inr f ↦ ap (λ m. m == 1) (bit_at_set_other w64 word bit l b f.1) ∙ e
 ]
 
-at_place : (rows : List ℕ) (i d e : ℕ) → i < length rows → get_or rows i d ≡ get_or rows i e
-at_place [] i d e l = absurd (omega arith)
-at_place (x ∷ xs) zero d e l = refl
-at_place (x ∷ xs) (suc i) d e l = at_place xs i d e (omega arith)
-
 pub bit_other : (rows : List ℕ) (place bit word : ℕ) → place < length rows → bit < 64 → word ≡ get_or rows place word
     → (p b : ℕ) → has_bit rows p b ≡ true → has_bit (slice_set rows place (bit_or word (1 * 2 ^ bit % 2 ^ 64))) p b ≡ true
 bit_other rows place bit word l m same p b e = elim (eqb_tells p place) [
   | inl t ↦ rw t.1
       (ap (λ w. bit_at w b == 1) (get_or-set_same rows place (bit_or word (1 * 2 ^ bit % 2 ^ 64)) 18446744073709551615 l)
-      ∙ stays_set word bit b m (ap (λ w. bit_at w b == 1) (same ∙ at_place rows place word 18446744073709551615 l ∙ ap (λ q. get_or rows q 18446744073709551615) (sym t.1)) ∙ e))
+      ∙ stays_set word bit b m (ap (λ w. bit_at w b == 1) (same ∙ get_or_default rows place word 18446744073709551615 l ∙ ap (λ q. get_or rows q 18446744073709551615) (sym t.1)) ∙ e))
   | inr f ↦ ap (λ w. bit_at w b == 1) (get_or-set_other rows place p (bit_or word (1 * 2 ^ bit % 2 ^ 64)) 18446744073709551615 f.1) ∙ e
 ]
 

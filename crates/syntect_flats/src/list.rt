@@ -93,7 +93,7 @@ fn rows_of(alloc: Global, words: u16, flats: &[Flat]) -> Result<Vec<u64>, AllocE
     Ok(rows)
 }
 
-/// The least index from this one on of a pattern that can begin where this stands, or the list's length.
+/// The same, pattern by pattern.
 fn next_tested(flats: &[Flat], x: u8, from: usize) -> usize
     requires { x < 130 }
     ensures later { from ≤ result }
@@ -132,8 +132,9 @@ impl FlatList {
         self.flats.as_slice()
     }
 
-    /// The least index from this one on of a pattern that can begin where this stands, an ASCII character, 128 for any other
-    /// one, or 129 for the end; or one behind the list.
+    /// An index not below this one: no pattern from this one up to it can begin where this stands, an ASCII character, 128 for
+    /// any other one, or 129 for the end. That the pattern there can begin so, unless the list ends, is what makes a search
+    /// fast; no contract says it.
     pub fn next(&self, x: u8, from: usize) -> usize
         requires { x < 130 }
         ensures later { from ≤ result }

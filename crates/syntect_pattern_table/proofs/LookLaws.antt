@@ -1,6 +1,7 @@
 -- From a node to its parts.
-use Rattle.std.proofs.Common.{◌≡◌, ◌<◌, ◌≤◌, ◌+◌, ◌++◌, [], ◌∷◌, zero, suc, inl, inr, length-append, arith, ℕ, ◌&&◌, ◌||◌, nat_lt, Bool, true, false, List, length, get_or, refl, sym, ◌∙◌, ap, Option, None}
-use Rattle.std.proofs.lemmas.List.{get_or_default, get_or_past}
+use Rattle.std.proofs.Common.{◌≡◌, ◌<◌, ◌≤◌, ◌+◌, ◌++◌, [], ◌∷◌, inl, inr, length-append, arith, ℕ, ◌&&◌, ◌||◌, nat_lt, Bool, true, false, List, length, get_or, refl, sym, ◌∙◌, ap, Option, None}
+use Rattle.std.proofs.lemmas.List.{get_or_default, get_or_past, get_or_append_left}
+use Rattle.std.proofs.Math.Seq.{get_or-append_seam}
 use Rattle.std.proofs.lemmas.Bool.{cases_lt, ltb-true}
 use Rattle.syntect_pattern.specs.Trees.{Tree, nothing, group, has_group, in_look, group_in_look}
 use Rattle.syntect_pattern_table.specs.Program.{IsProgramOf}
@@ -78,23 +79,14 @@ group-past p tree is n l =
 
 -- -- What is kept of the first groups
 
-kept-before : (xs ys : List (Option Bool)) (n : ℕ) → n < length xs → get_or (xs ++ ys) n None ≡ get_or xs n None
-kept-before [] ys n l = absurd (omega arith)
-kept-before (x ∷ xs) ys zero l = refl
-kept-before (x ∷ xs) ys (suc n) l = kept-before xs ys n (omega arith)
-
-kept-last : (xs : List (Option Bool)) (y : Option Bool) → get_or (xs ++ y ∷ []) (length xs) None ≡ y
-kept-last [] y = refl
-kept-last (x ∷ xs) y = kept-last xs y
-
 pub looks-more : (nodes : List Node) (root : ℕ) (looks new : List (Option Bool)) (at : ℕ) (look : Option Bool) → new ≡ looks ++ look ∷ [] → length looks ≡ at → AreLooks nodes root looks
     → ((tree : Tree) → tree_in nodes root ≡ group 0 tree → look ≡ group_in_look tree at) → (length new ≡ at + 1) × AreLooks nodes root new
 looks-more nodes root looks new at look e f h one = (omega (arith, ap length e, f, length-append looks (look ∷ [])), λ n tree l is. rw e (by n tree (omega (arith, l, ap length e, length-append looks (look ∷ []))) is))
   where
     by : (n : ℕ) (tree : Tree) → n < length looks + 1 → tree_in nodes root ≡ group 0 tree → get_or (looks ++ look ∷ []) n None ≡ group_in_look tree n
     by n tree l is = elim (cases_lt n (length looks)) [
-      | inl a ↦ kept-before looks (look ∷ []) n a ∙ h n tree a is
+      | inl a ↦ get_or_append_left looks (look ∷ []) None n a ∙ h n tree a is
       | inr a ↦
           let same : n ≡ length looks = omega (arith, a, l) in
-          ap (λ k. get_or (looks ++ look ∷ []) k None) same ∙ kept-last looks look ∙ one tree is ∙ ap (group_in_look tree) (sym (same ∙ f))
+          ap (λ k. get_or (looks ++ look ∷ []) k None) same ∙ get_or-append_seam looks look [] None ∙ one tree is ∙ ap (group_in_look tree) (sym (same ∙ f))
     ]

@@ -41,9 +41,6 @@ module _ (line : List ℕ) (p : Position) (m : Member) where
   pub ahead_first : (lost : Bool) → IsAhead line p lost p.place m
   ahead_first lost = inl refl
 
-  pub ahead_lost : (lost : Bool) (i : ℕ) → lost ≡ true → live_of ≡ None → IsAhead line p lost i m
-  ahead_lost lost i k n = inr (k, n)
-
   module _ (finds : FindsInText dialect) (u : IsUtf8 line) where
     starts : (i : ℕ) (o : Option Live) → IfEnds line i o → IfSome o (λ k. i ≤ k.start)
     starts i None h = tt
@@ -71,18 +68,6 @@ module _ (line : List ℕ) (p : Position) (m : Member) where
   found_here : (lost : Bool) (i : ℕ) (g : Groups) → lost ≡ false → IsAhead line p lost i m → FindsHere line i m g → pattern_found text line p.place ≡ Some g
   found_here lost i g n (inl e) h = e ∙ h.0
   found_here lost i g n (inr k) h = let f : false ≡ true = sym n ∙ k.0 in cc
-
-  -- one whose whole match has no place is none
-  pub nowhere : (lost : Bool) (i : ℕ) (g : Groups) → lost ≡ false → IsAhead line p lost i m → FindsHere line i m g → get_or g 0 None ≡ None → live_of ≡ None
-  nowhere lost i g n a h e =
-      let found : pattern_found text line p.place ≡ Some g = found_here lost i g n a h in
-      let at : group_at g 0 ≡ None = sym (whole g) ∙ e in
-      rw (found, at) refl
-
-  pub uncounted : (lost : Bool) (i s x : ℕ) (g : Groups) → lost ≡ false → IsAhead line p lost i m → FindsHere line i m g → get_or g 0 None ≡ Some (s, x)
-      → counts (length p.levels) m.pattern.operation s x ≡ false → live_of ≡ None
-  uncounted lost i s x g n a h e f =
-      not_counted line (length p.levels) p.place s x m text g refl (found_here lost i g n a h) e f
 
   -- one that counts is what the turn has of the member
   pub counted_here : (lost : Bool) (i : ℕ) (c : Candidate) (g : Groups) → lost ≡ false → IsAhead line p lost i m → FindsHere line i m g → get_or g 0 None ≡ Some (c.start, c.end)

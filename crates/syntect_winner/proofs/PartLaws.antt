@@ -1,10 +1,10 @@
 -- What a turn finds in the parts of a chain.
-use Rattle.std.proofs.Common.{◌≡◌, ℕ, zero, suc, ◌+◌, ◌<◌, ◌==◌, ◌&&◌, ◌||◌, nat_le, not, Bool, true, false, List, [], ◌∷◌, ◌++◌, find, get_or, length, map, take, Option, Some, None, refl, sym, ap, ◌∙◌, arith, append_assoc, if◌then◌else◌}
+use Rattle.std.proofs.Common.{◌≡◌, ℕ, suc, ◌+◌, ◌<◌, ◌==◌, ◌&&◌, ◌||◌, nat_le, not, Bool, true, false, List, [], ◌∷◌, ◌++◌, find, get_or, length, map, take, Option, Some, None, refl, sym, ap, ◌∙◌, arith, append_assoc, if◌then◌else◌}
 use Rattle.std.specs.Prelude.{IfSome, is_some}
 use Rattle.std.specs.List.{list_any, cons_option, filter_map, flat_map}
 use Rattle.std.specs.Option.{option_copied, option_to_list}
 use Rattle.std.specs.Str.{IsUtf8}
-use Rattle.std.proofs.lemmas.List.{append-nil}
+use Rattle.std.proofs.lemmas.List.{append-nil, get_or_default}
 use Rattle.std.proofs.lemmas.List.Elements.{filter_map-append}
 use Rattle.std.proofs.Math.Seq.{take-suc}
 use Rattle.syntect_contexts.specs.Substitution.{Opening}
@@ -79,16 +79,11 @@ module _ (finds : FindsInText dialect) (set : SyntaxSet) (line : List ℕ) (u : 
       map_append [] ns = refl
       map_append (m ∷ ms) ns = ap (λ l. member m ∷ l) (map_append ms ns)
 
-  at_place : (flats : List Flat) (i : ℕ) (d e : Flat) → i < length flats → get_or flats i d ≡ get_or flats i e
-  at_place [] i d e l = absurd (omega arith)
-  at_place (x ∷ xs) zero d e l = refl
-  at_place (x ∷ xs) (suc i) d e l = at_place xs i d e (omega arith)
-
   pub flats_more : (ms : List Live) (flats : List Flat) (i : ℕ) (d : Flat) → i < length flats
       → (ms ++ found_in (take i flats)) ++ found_in (get_or flats i d ∷ []) ≡ ms ++ found_in (take (i + 1) flats)
   flats_more ms flats i d l =
       let next : suc i ≡ i + 1 = omega arith in
-      let here : get_or flats i d ≡ get_or flats i (get_or flats i d) = at_place flats i d (get_or flats i d) l in
+      let here : get_or flats i d ≡ get_or flats i (get_or flats i d) = get_or_default flats i d (get_or flats i d) l in
       let front : take i flats ++ get_or flats i d ∷ [] ≡ take (suc i) flats =
       sym (take-suc flats i (get_or flats i d) l ∙ ap (λ x. take i flats ++ x ∷ []) (sym here)) in
       append_assoc ms (found_in (take i flats)) (found_in (get_or flats i d ∷ []))

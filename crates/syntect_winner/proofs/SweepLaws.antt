@@ -5,7 +5,8 @@ use Rattle.std.specs.List.{cons_option, flat_map}
 use Rattle.std.specs.Option.{option_copied}
 use Rattle.std.specs.Str.{IsUtf8}
 use Rattle.std.proofs.lemmas.Bool.{cases_lt}
-use Rattle.std.proofs.lemmas.List.{append-nil}
+use Rattle.std.proofs.lemmas.List.{append-nil, get_or_default, take_all}
+use Rattle.std.proofs.Math.Seq.{take-length}
 use Rattle.std.proofs.lemmas.List.Elements.{All-get_or}
 use Rattle.syntect_pattern_table.specs.Starts.{is_in, start_at}
 use Rattle.syntect_regex.specs.Begins.{NoneBeginsOutside}
@@ -62,13 +63,7 @@ module _ (finds : FindsInText dialect) (set : SyntaxSet) (line : List ℕ) (u : 
   one_more b ms fs j d l h = subst (λ xs. IsBestAt line p i xs b) (flats_more finds set line u p run.part ms fs j d l) h
 
   past : (fs : List Flat) (j k : ℕ) → length fs ≤ j → length fs ≤ k → take j fs ≡ take k fs
-  past fs j k l m = whole fs j l ∙ sym (whole fs k m)
-    where
-      whole : (xs : List Flat) (n : ℕ) → length xs ≤ n → take n xs ≡ xs
-      whole [] zero l = refl
-      whole [] (suc n) l = refl
-      whole (x ∷ xs) zero l = absurd (omega arith)
-      whole (x ∷ xs) (suc n) l = ap (λ ys. x ∷ ys) (whole xs n (omega arith))
+  past fs j k l m = take_all j fs l ∙ sym (take_all k fs m)
 
   pub more : (b : Best) (ms : List Live) (fs : List Flat) (j n : ℕ) → IsBestAt line p i (ms ++ found_in (take j fs)) b
       → ((k : ℕ) (d : Flat) → j ≤ k → k < j + n → k < length fs → Stays b (get_or fs k d)) → IsBestAt line p i (ms ++ found_in (take (j + n) fs)) b
@@ -167,20 +162,12 @@ module _ (finds : FindsInText dialect) (set : SyntaxSet) (line : List ℕ) (u : 
     -- the list was gone through, or one is found and all others begin no earlier
     pub run_done : IsBestAt line p i (ms ++ found_in (take index flats)) b → (length flats ≤ index) ⊎ ((c : Candidate) × (b.candidate ≡ Some c))
         → AreAheadFrom set line p lost i run index → IsBestAt line p i (ms ++ live dialect line p (part_members set run.part)) b
-    run_done h (inl l) a = ended (subst (λ xs. IsBestAt line p i (ms ++ found_in xs) b) (past flats index (length flats) l (omega arith) ∙ whole flats) h)
-      where
-        whole : (xs : List Flat) → take (length xs) xs ≡ xs
-        whole [] = refl
-        whole (x ∷ xs) = ap (λ ys. x ∷ ys) (whole xs)
+    run_done h (inl l) a = ended (subst (λ xs. IsBestAt line p i (ms ++ found_in xs) b) (take_all index flats l) h)
     run_done h (inr c) a = elim (cases_lt index (length flats)) [
-      | inl l ↦ ended (subst (λ xs. IsBestAt line p i (ms ++ found_in xs) b) (whole flats)
+      | inl l ↦ ended (subst (λ xs. IsBestAt line p i (ms ++ found_in xs) b) (take-length flats)
           (up_to b ms flats index (length flats) (omega (arith, l)) h (λ q d j k z. kept b c.0 (get_or flats q d) lost c.1 (λ m e. a q d m j z e))))
-      | inr l ↦ ended (subst (λ xs. IsBestAt line p i (ms ++ found_in xs) b) (past flats index (length flats) l (omega arith) ∙ whole flats) h)
+      | inr l ↦ ended (subst (λ xs. IsBestAt line p i (ms ++ found_in xs) b) (take_all index flats l) h)
     ]
-      where
-        whole : (xs : List Flat) → take (length xs) xs ≡ xs
-        whole [] = refl
-        whole (x ∷ xs) = ap (λ ys. x ∷ ys) (whole xs)
 
     pub run_ended : IsBestAt line p i (ms ++ found_in (take index flats)) b → (b.is_match ≡ false → AreAheadUpTo set line p lost (i + 1) run index)
         → (length flats ≤ index) ⊎ ((c : Candidate) × (b.candidate ≡ Some c)) → AreAheadFrom set line p lost i run index → AddsRun set line p i lost run ms b
@@ -215,14 +202,9 @@ module _ (set : SyntaxSet) (line : List ℕ) (p : Position) (i : ℕ) where
     | inl a ↦ ahead_still line p (part_member (get_or runs k r).part m) old lost (i + 1) h (before k r a z q d m f w g)
     | inr a ↦
         let same : k ≡ j = omega (arith, a, n) in
-        let here : get_or runs k r ≡ x = ap (λ y. get_or runs y r) same ∙ at_place runs j r x l ∙ sym e in
+        let here : get_or runs k r ≡ x = ap (λ y. get_or runs y r) same ∙ get_or_default runs j r x l ∙ sym e in
         (subst (λ y. AreAhead set line p lost (i + 1) y) (sym here) (added.ahead is)) q d m f w g
   ]
-    where
-      at_place : (xs : List Run) (y : ℕ) (a c : Run) → y < length xs → get_or xs y a ≡ get_or xs y c
-      at_place [] y a c l = absurd (omega arith)
-      at_place (v ∷ vs) zero a c l = refl
-      at_place (v ∷ vs) (suc y) a c l = at_place vs y a c (omega arith)
 
   pub one_ahead : (lost more : Bool) (runs : List Run) (j : ℕ) (x : Run) → j < length runs → x ≡ get_or runs j x → (lost ≡ true → more ≡ true) → AllAhead set line p lost i runs → AreAhead set line p more i x
   one_ahead lost more runs j x l e h a k d m f w g =
@@ -231,15 +213,9 @@ module _ (set : SyntaxSet) (line : List ℕ) (p : Position) (i : ℕ) where
   pub runs_end : (lost : Bool) (b : Best) (runs : List Run) (j : ℕ) → length runs ≤ j → IsBestAt line p i (live dialect line p (flat_map (run_members set) (take j runs))) b
       → (b.is_match ≡ false → AheadUpTo lost (i + 1) runs j) → AddsAll set line p i lost runs b
   runs_end lost b runs j l h a = record {
-    best = subst (λ rs. IsBestAt line p i (live dialect line p (flat_map (run_members set) rs)) b) (whole runs j l) h;
+    best = subst (λ rs. IsBestAt line p i (live dialect line p (flat_map (run_members set) rs)) b) (take_all j runs l) h;
     ahead = λ is k r z. a is k r (omega (arith, z, l)) z;
   }
-    where
-      whole : (xs : List Run) (n : ℕ) → length xs ≤ n → take n xs ≡ xs
-      whole [] zero l = refl
-      whole [] (suc n) l = refl
-      whole (x ∷ xs) zero l = absurd (omega arith)
-      whole (x ∷ xs) (suc n) l = ap (λ ys. x ∷ ys) (whole xs n (omega arith))
 
 -- nothing is found before the first part is gone through
 pub none_yet : (line : List ℕ) (p : Position) (i : ℕ) (b : Best) → p.place ≤ i → b.start ≡ i + 1 → b.is_match ≡ false → b.candidate ≡ None → IsBestAt line p i [] b

@@ -131,7 +131,8 @@ fn runs_of<'s, 'p>(
     Ok(runs)
 }
 
-/// The index of the next pattern of a part, from this one on, that can begin where this stands; or one behind the list.
+/// An index of a part, not below this one: no pattern from this one up to it can begin where this stands. Where patterns are
+/// replaced none is passed over, since what they begin with is known of them as they stand.
 fn next_in(run: &Run<'_, '_>, x: u8, from: usize) -> usize
     requires { x < 130 }
     ensures later { from ≤ result }
