@@ -1,22 +1,23 @@
 -- Whether a match begins at a place.
-use Rattle.std.proofs.Common.{◌≡◌, ℕ, zero, suc, ◌+◌, ◌<◌, ◌≤◌, nat_le, Bool, true, false, List, [], ◌∷◌, length, map, get_or, Option, Some, None, refl, sym, ap, ◌∙◌, arith, inl, inr}
+use Rattle.std.proofs.Common.{◌≡◌, ℕ, ◌<◌, ◌≤◌, nat_le, Bool, true, false, List, [], ◌∷◌, length, map, get_or, Some, None, refl, sym, ap, ◌∙◌, arith, inl, inr}
 use Rattle.std.specs.Prelude.{slice_get, slice_set, option_map, if◌then◌else◌}
 use Rattle.std.proofs.lemmas.Bool.{cases_lt}
 use Rattle.std.proofs.lemmas.Bool.Decides.{nat_tests}
 use Rattle.syntect_pattern.specs.Text.{is_boundary}
 use Rattle.syntect_pattern.specs.Trees.{Tree, group}
-use Rattle.syntect_pattern.specs.Matches.{Groups, Member, close, matches, unset, found, found_at}
+use Rattle.syntect_pattern.specs.Matches.{Groups, Member, close, matches, unset, found_at}
 use Rattle.syntect_engine.proofs.FindLaws.{found-here, found_at-between}
 use Rattle.syntect_engine.specs.Machine.{FindsAt, groups_of}
 use Rattle.syntect_engine.specs.declared.state.Search.{Search}
-use Rattle.syntect_pattern_table.specs.Program.{IsProgramOf}
 use Rattle.syntect_pattern_table.specs.declared.program.Program.{Program}
-use Rattle.syntect_regex.specs.Region.{BeginsAt, TakesAt, TakesHere}
+use Rattle.syntect_regex.specs.Region.{BeginsAt, TakesHere}
 use Rattle.syntect_regex.proofs.BeginLaws.{found-next}
 
 -- the group that a match closes last begins where the match does
 closed : (i j : ℕ) (h g : Groups) → slice_set h 0 (Some (i, j)) ≡ g → BeginsAt g i
-closed i j [] g e start end f = let n : None ≡ Some (start, end) = ap (λ (x : Groups). get_or x 0 None) e ∙ f in cc
+closed i j [] g e start end f =
+    let q : ℕ × ℕ = (start, end) in
+    let n : None ≡ Some q = ap (λ (x : Groups). get_or x 0 None) e ∙ f in cc
 closed i j (x ∷ xs) g e start end f =
     let p : ℕ × ℕ = (i, j) in
     let q : ℕ × ℕ = (start, end) in

@@ -7,7 +7,7 @@ use Rattle.std.specs.Cmp.Lexicographic.{pointwise, lists_equiv, options_equiv}
 use Rattle.std.proofs.Common.{MutBor, inl, inr}
 use Rattle.syntect_pattern.specs.Trees.{Tree}
 use Rattle.syntect_pattern.specs.Matches.{Groups, found, found_at}
-use Rattle.syntect_pattern.specs.Pattern.{pattern_tree}
+use Rattle.syntect_pattern.specs.Pattern.{pattern_found, pattern_tree}
 use Rattle.syntect_pattern_table.specs.Program.{IsProgramOf}
 use Rattle.syntect_pattern_table.specs.declared.program.Program.{Program}
 
@@ -52,6 +52,10 @@ BeginsAt groups place = (start end : ℕ) → slice_index_or groups 0 None ≡ S
 abbrev pub TakesAt : (ℕ → Option Groups) → ℕ → Groups → Bool → Groups → Type 0
 TakesAt match place old true new = (match place ≡ Some new) × BeginsAt new place
 TakesAt match place old false new = (new ≡ old) × (match place ≡ match (place + 1))
+
+-- the same of a pattern's matches in a text
+abbrev pub TriesAt : List ℕ → List ℕ → ℕ → Groups → Bool → Groups → Type 0
+TriesAt pattern text place old answer new = TakesAt (pattern_found pattern text) place old answer new
 
 -- the same of the program's matches
 abbrev pub TakesHere : List ℕ → Program → ℕ → Groups → Bool → Groups → Type 0

@@ -10,7 +10,7 @@ ghost use Rattle.syntect_pattern_table.specs.Starts.{is_in};
 ghost use Rattle.syntect_regex.specs.declared.error.PatternError.{PatternError};
 ghost use Rattle.syntect_regex.specs.Begins.{NoneBeginsOutside};
 ghost use Rattle.syntect_regex.specs.Escape.{is_special, escaped_char, escaped};
-ghost use Rattle.syntect_regex.specs.Region.{TakesAt, TakesMatch, TakesUpTo, Leaves, pattern_begins};
+ghost use Rattle.syntect_regex.specs.Region.{TakesMatch, TakesUpTo, TriesAt, Leaves, pattern_begins};
 
 use crate::error::PatternError;
 use crate::region::Region;
@@ -160,7 +160,7 @@ impl Regex {
         place: usize,
         region: &mut Region,
     ) -> Result<bool, AllocError>
-        ensures ok { IfOk result (λ found. TakesAt (pattern_found self.now text.now) place region.old found region.new) }
+        ensures ok { IfOk result (λ b. TriesAt self.now text.now place region.old b region.new) }
         ensures err { OnErr result (region.new ≡ region.old) }
     {
         let Some(program) = &self.program else {
