@@ -20,3 +20,16 @@ fn keeps_a_region_without_a_match(rt: HostRuntime) -> Result<(), Fail> {
     assert_eq!(rt; regex.regex_str(), "b");
     Ok(())
 }
+
+#[test]
+fn tells_where_a_match_begins(rt: HostRuntime) -> Result<(), Fail> {
+    let regex = Regex::new(rt.alloc(), String::from_str(rt.alloc(), "(?<=a)b|c")?)?;
+    let mut region = Region::default(rt.alloc());
+    assert!(rt; !regex.match_at("abc", 0, &mut region)?);
+    assert_eq!(rt; region.pos(0), None);
+    assert!(rt; regex.match_at("abc", 1, &mut region)?);
+    assert_eq!(rt; region.pos(0), Some((1, 2)));
+    assert!(rt; !regex.match_at("abc", 3, &mut region)?);
+    assert_eq!(rt; region.pos(0), Some((1, 2)));
+    Ok(())
+}
