@@ -10,7 +10,8 @@ use Rattle.syntect_pattern.specs.Trees.{Anchor, Tree, one_of, anchor, seq, alt, 
 use Rattle.syntect_pattern.specs.Matches.{Groups, Member, matches, past, only_if, close, stands}
 use Rattle.syntect_engine.specs.declared.state.Next.{Next}
 use Rattle.syntect_engine.specs.declared.state.Search.{Search}
-use Rattle.syntect_engine.specs.Machine.{Work, On, tick, both, after_char, search, list_at, tree_at, now, ListFits, Fits, FindsAlike, Goes}
+use Rattle.syntect_engine.specs.Machine.{Work, On, tick, both, search, list_at, tree_at, now, ListFits, Fits, FindsAlike, Goes}
+use Rattle.syntect_ways.specs.Steps.{after_char}
 use Rattle.syntect_engine.proofs.FirstLaws.{search-first, first_each, finds}
 use Rattle.syntect_engine.proofs.MachineLaws.{pending-less}
 

@@ -13,7 +13,8 @@ use Rattle.syntect_engine.specs.declared.state.Cell.{Cell}
 use Rattle.syntect_engine.specs.declared.state.Frame.{Frame}
 use Rattle.syntect_engine.specs.declared.state.Next.{Next}
 use Rattle.syntect_engine.specs.declared.state.Search.{Search}
-use Rattle.syntect_engine.specs.Machine.{Work, On, none, done, tick, both, work_if, at_each, at_end, ends_at, at_places, at_start, bounded, outcome, look_bound, list_at, search, tree_at, after_char, go_on, turns_of, pending, now, total, steps_of, Fits, Goes}
+use Rattle.syntect_engine.specs.Machine.{Work, On, none, done, tick, both, work_if, at_each, ends_at, at_places, at_start, bounded, outcome, look_bound, list_at, search, tree_at, go_on, turns_of, pending, now, total, steps_of, Fits, Goes}
+use Rattle.syntect_ways.specs.Steps.{at_end, after_char}
 use Rattle.syntect_engine.proofs.StepLaws.{goes_by, goes_to, goes_on, goes_cons, goes_choice, pending-ticks}
 use Rattle.syntect_engine.proofs.MachineLaws.{list_at-nil, list_at-seam, pending-less, CellsFit-push}
 use Rattle.syntect_engine.proofs.ReachLaws.{Few}

@@ -1,11 +1,11 @@
 -- The least place that has a match.
-use Rattle.std.proofs.Common.{◌≡◌, ℕ, zero, suc, ◌+◌, ◌-◌, ◌<◌, ◌≤◌, ◌&&◌, ◌||◌, Bool, true, false, nat_le, nat_lt, List, length, get_or, refl, sym, ◌∙◌, ap, arith, Some, None, inl, inr, ◌⊎◌}
-use Rattle.std.proofs.lemmas.Bool.{cases_lt, le-leb, lt-ltb}
+use Rattle.std.proofs.Common.{◌≡◌, ℕ, zero, suc, ◌+◌, ◌-◌, ◌<◌, ◌≤◌, Bool, true, false, List, length, get_or, refl, sym, ◌∙◌, ap, arith, Some, None, inl, inr}
+use Rattle.std.proofs.lemmas.Bool.{cases_lt}
 use Rattle.std.proofs.lemmas.Str.{IsCharBoundary-start}
-use Rattle.std.specs.Prelude.{IsCharBoundary, IsUtf8, slice_get, slice_index, option_map, replicate, if◌then◌else◌, IsTrue, ◌↔◌}
+use Rattle.std.specs.Prelude.{IsCharBoundary, IsUtf8, slice_get, option_map, replicate, if◌then◌else◌}
 use Rattle.std.specs.Option.{option_or}
-use Rattle.std.proofs.lemmas.Bool.Decides.{nat_tests}
 use Rattle.syntect_pattern.specs.Text.{is_boundary}
+use Rattle.syntect_ways.proofs.BoundaryLaws.{boundary-true}
 use Rattle.syntect_pattern.specs.Trees.{Tree, nothing, group}
 use Rattle.syntect_pattern.specs.Matches.{Groups, Member, matches, unset, found_at, found_within, found}
 use Rattle.syntect_pattern_table.specs.Program.{trees_of, IsProgramOf}
@@ -13,45 +13,9 @@ use Rattle.syntect_pattern_table.specs.declared.program.Program.{Program}
 use Rattle.syntect_engine.specs.declared.state.Search.{Search}
 use Rattle.syntect_engine.specs.Machine.{is_start, match_of, groups_of}
 
-is_either : (b : Bool) → (b ≡ true) ⊎ (b ≡ false)
-is_either true = inl refl
-is_either false = inr refl
-
-pub boundary-true : (s : List ℕ) (i : ℕ) → is_boundary s i ≡ true → IsCharBoundary s i
-unfolding is_boundary
-boundary-true s i h = (grind (arith, nat_tests), λ a b. grind (arith, nat_tests))
-
 pub start-boundary : (s : List ℕ) → IsUtf8 s → (i : ℕ) → is_start s i ≡ true → IsCharBoundary s i
 start-boundary s u zero h = IsCharBoundary-start s u
 start-boundary s u (suc i) h = boundary-true s (suc i) h
-
-or-true : (a : Bool) → (a || true) ≡ true
-or-true true = refl
-or-true false = refl
-
-pub true-boundary : (s : List ℕ) (i : ℕ) → IsCharBoundary s i → is_boundary s i ≡ true
-unfolding is_boundary
-true-boundary s i h =
-    let b : ℕ = slice_index s i in
-    let inside : nat_le i (length s) ≡ true = le-leb i (length s) h.0 in
-    let rest : ((nat_le (length s) i || nat_lt b 128) || nat_le 192 b) ≡ true =
-    elim (cases_lt i (length s)) as (λ _. ((nat_le (length s) i || nat_lt b 128) || nat_le 192 b) ≡ true) [
-      | inl p ↦ elim (cases_lt b 128) as (λ _. ((nat_le (length s) i || nat_lt b 128) || nat_le 192 b) ≡ true) [
-        | inl q ↦ ap (λ (c : Bool). (nat_le (length s) i || c) || nat_le 192 b) (lt-ltb b 128 q) ∙ ap (λ (c : Bool). c || nat_le 192 b) (or-true (nat_le (length s) i))
-        | inr q ↦ ap (λ (c : Bool). (nat_le (length s) i || nat_lt b 128) || c) (le-leb 192 b (h.1 p q)) ∙ or-true (nat_le (length s) i || nat_lt b 128)
-      ]
-      | inr p ↦ ap (λ (c : Bool). (c || nat_lt b 128) || nat_le 192 b) (le-leb (length s) i p)
-    ] in
-    ap (λ (c : Bool). c && ((nat_le (length s) i || nat_lt b 128) || nat_le 192 b)) inside ∙ rest
-
--- the test of std is that of the definition
-pub boundary-test : (s : List ℕ) (i : ℕ) (b : Bool) → (IsTrue b ↔ IsCharBoundary s i) → b ≡ is_boundary s i
-boundary-test s i true h = sym (true-boundary s i (h.0 refl))
-boundary-test s i false h =
-    elim (is_either (is_boundary s i)) [
-      | inl e ↦ absurd (let f : false ≡ true = h.1 (boundary-true s i e) in cc)
-      | inr e ↦ sym e
-    ]
 
 groups-match : (b : Bool) (x : Search) → groups_of b x ≡ option_map (λ (m : Member). m.1) (match_of b x)
 groups-match true x = refl

@@ -9,7 +9,8 @@ use Rattle.syntect_pattern.specs.Sets.{holds}
 use Rattle.syntect_pattern.specs.Trees.{Tree, nothing, one_of, anchor, same, seq, alt, repeat, group, atomic, ahead, behind}
 use Rattle.syntect_pattern.specs.Matches.{Groups, Member, Way, matches, turns, only_if, past, close, stands, look, ending_at, ending_here, or_else}
 use Rattle.syntect_pattern.specs.Matches as pattern
-use Rattle.syntect_engine.specs.Machine.{Work, On, none, one, done, tick, both, work_if, ends_at, at_places, at_start, bounded, outcome, look_bound, search, search_turns, at_each, go_on, after_char, one_less, end}
+use Rattle.syntect_engine.specs.Machine.{Work, On, none, one, done, tick, both, work_if, ends_at, at_places, at_start, bounded, outcome, look_bound, search, search_turns, at_each, go_on, one_less, end}
+use Rattle.syntect_ways.specs.Steps.{after_char}
 use Rattle.syntect_engine.specs.declared.state.Bound.{Bound}
 use Rattle.syntect_engine.specs.Machine as machine
 

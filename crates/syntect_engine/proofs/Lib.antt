@@ -1,4 +1,3 @@
-pub mod TextLaws
 pub mod WorkLaws
 pub mod MachineLaws
 pub mod StepLaws
@@ -13,3 +12,4 @@ pub mod RunLaws
 pub mod FindLaws
 pub mod StretchLaws
 pub mod PassLaws
+pub mod KnowLaws

@@ -39,10 +39,6 @@ pub if_ok_along : {A M E : Type 0} (r : Result A E) (f : A → M) (a b : M) → 
 if_ok_along (Ok x) f a b e h = h ∙ e
 if_ok_along (Err x) f a b e h = tt
 
-pub if_ok_map : {A E : Type 0} (r : Result A E) (P Q : A → Type 0) → ((x : A) → P x → Q x) → IfOk r P → IfOk r Q
-if_ok_map (Ok x) P Q f h = f x h
-if_ok_map (Err x) P Q f h = tt
-
 pub none_holds : {A : Type 0} (o : Option A) (P : Type 0) → o ≡ None → IfNone o P → P
 none_holds None P e h = h
 none_holds (Some x) P e h = cc

@@ -16,7 +16,8 @@ use Rattle.syntect_engine.specs.declared.state.Cell.{Cell}
 use Rattle.syntect_engine.specs.declared.state.Next.{Next}
 use Rattle.syntect_engine.specs.declared.state.Search.{Search}
 use Rattle.syntect_engine.specs.declared.state.Frame.{Frame}
-use Rattle.syntect_engine.specs.Machine.{Work, On, none, tick, both, search, search_turns, after_char, after_turn, go_on, work_if, list_at, tree_at, at_places, pending, total, Fits, Goes, found_by, steps_of}
+use Rattle.syntect_engine.specs.Machine.{Work, On, none, tick, both, search, search_turns, after_turn, go_on, work_if, list_at, tree_at, at_places, pending, total, Fits, Goes, found_by, steps_of}
+use Rattle.syntect_ways.specs.Steps.{after_char}
 use Rattle.syntect_engine.specs.Stretches.{IsStretch}
 use Rattle.syntect_engine.proofs.MachineLaws.{pending-less}
 

@@ -1,6 +1,5 @@
 -- What a search still has to do: the match that it finds first, and how many steps it has left.
 use Rattle.std.specs.Prelude.{◌≡◌, ℕ, zero, suc, ◌+◌, ◌-◌, ◌≤◌, ◌<◌, Bool, true, false, List, [], ◌∷◌, ◌++◌, length, take, reverse, Option, Some, None, option_map, if◌then◌else◌, ◌==◌, slice_get, slice_set, slice_index_or, IsCharBoundary}
-use Rattle.std.specs.Char.{len_utf8}
 use Rattle.std.specs.Option.{option_or}
 use Rattle.syntect_pattern.specs.Text.{char_at, is_boundary}
 use Rattle.syntect_pattern.specs.Sets.{holds}
@@ -8,6 +7,7 @@ use Rattle.syntect_pattern.specs.Trees.{Tree, nothing, one_of, anchor, same, seq
 use Rattle.syntect_pattern.specs.Matches.{Groups, Member, stands, same_text, found, found_at}
 use Rattle.syntect_pattern_table.specs.Program.{IsProgramOf}
 use Rattle.syntect_pattern_table.specs.declared.program.Program.{Program}
+use Rattle.syntect_ways.specs.Steps.{after_char}
 use Rattle.syntect_engine.specs.declared.state.Turns.{Turns}
 use Rattle.syntect_engine.specs.declared.state.Item.{Item}
 use Rattle.syntect_engine.specs.declared.state.Item.TheVariants.{Run, Close, Again, EndsAt}
@@ -41,11 +41,6 @@ both w x = record { found = option_or w.found x.found; count = w.count + x.count
 -- what is done at a place with these groups
 abbrev pub On : Type 0
 On = ℕ → Groups → Work
-
--- the place after the character, if it passes the test
-abbrev pub after_char : (ℕ → Bool) → Option ℕ → ℕ → Option ℕ
-after_char test None i = None
-after_char test (Some c) i = if test c then Some (i + len_utf8 c) else None
 
 -- k at the place, if there is one
 abbrev pub go_on : Option ℕ → On → Groups → Work
@@ -126,11 +121,6 @@ bounded b w k i g = record { found = (outcome b w.found k i g).found; count = w.
 abbrev pub look_bound : Bool → Bound
 look_bound true = Bound.Fails
 look_bound false = Bound.Holds
-
--- a match that ends at the place without changing groups, if there is one
-abbrev pub at_end : Option ℕ → Groups → List Member
-at_end None g = []
-at_end (Some j) g = (j, g) ∷ []
 
 module _ (s : List ℕ) where
   -- a match can begin at the place: it is 0, or a character begins there or the text ends

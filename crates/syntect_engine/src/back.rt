@@ -2,9 +2,9 @@
 ghost use Rattle.std.specs.Prelude.{◌≡◌, ℕ, ◌++◌, ◌∷◌, [], ◌<◌, ◌≤◌, length, IfOk, IfSome, IfNone, IsSome, OnOk, reverse, slice_index_or, slice_set, None, Some, Option};
 
 use crate::state::{Bound, Frame, Item, Next, Search};
-use crate::text::is_boundary;
 use std::alloc::AllocError;
 use syntect_pattern_table::program::Program;
+use syntect_ways::text::is_boundary;
 
 impl Search {
     ghost use Rattle.syntect_pattern_table.specs.Program.{trees_of};

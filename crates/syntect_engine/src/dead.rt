@@ -4,10 +4,10 @@ ghost use Rattle.syntect_pattern.specs.Trees.{nothing};
 ghost use Rattle.syntect_pattern.specs.Matches.{Groups, matches};
 ghost use Rattle.syntect_pattern_table.specs.Program.{trees_of};
 
-use crate::anchor::stands;
-use crate::enter::{past_char, past_class};
 use syntect_pattern_table::node::Node;
 use syntect_pattern_table::program::Program;
+use syntect_ways::anchor::stands;
+use syntect_ways::past::{past_char, past_class};
 
 /// How many parts are looked into.
 const LOOKS: u32 = 8;

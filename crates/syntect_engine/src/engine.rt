@@ -1,31 +1,50 @@
 //! The search of a pattern: a machine whose choices stand in lists of its own.
-ghost use Rattle.std.specs.Prelude.{◌≡◌, ◌≤◌, IfOk, slice_index_or, None, IsCharBoundary};
+ghost use Rattle.std.specs.Prelude.{◌≡◌, ◌≤◌, IfOk, OnOk, slice_index_or, None, IsCharBoundary};
 
 use crate::dead::is_dead;
+use crate::outlook::Outlook;
 use crate::state::{Next, Search};
-use crate::text::is_boundary;
 use std::alloc::AllocError;
 use syntect_pattern_table::program::Program;
+use syntect_ways::text::is_boundary;
 
 impl Search {
     ghost use Rattle.syntect_pattern_table.specs.Program.{trees_of};
     ghost use Rattle.std.specs.Prelude.{replicate, slice_get};
     ghost use Rattle.syntect_pattern.specs.Trees.{nothing};
     ghost use Rattle.syntect_pattern.specs.Matches.{matches};
+    ghost use Rattle.syntect_engine.specs.Outlooks.{Knows};
     ghost use Rattle.syntect_engine.specs.Machine.{Fits, found_by, match_of, groups_of, FindsAt, FindsGroups, FindsUpTo};
 
     /// Takes steps until a match is found or nothing is left to try.
-    fn run(&mut self, program: &Program, text: &str, start: Next) -> Result<bool, AllocError>
-        requires { Fits text.now start self.old }
-        ensures { IfOk result (λ found. match_of found self.new ≡ found_by text.now (trees_of program.now) start self.old) }
+    fn run(
+        &mut self,
+        program: &Program,
+        text: &str,
+        start: Next,
+        outlook: &mut Outlook,
+    ) -> Result<bool, AllocError>
+        requires fits { Fits text.now start self.old }
+        requires knows { Knows text.now (trees_of program.now) outlook.old }
+        ensures knows { OnOk result (Knows text.now (trees_of program.now) outlook.new) }
+        ensures found { IfOk result (λ found. match_of found self.new
+            ≡ found_by text.now (trees_of program.now) start self.old) }
     {
         let mut next = start;
         'steps: loop {
             next = match next {
                 Next::Enter { node, list } => self.enter(program, text, node, list)?,
                 Next::Turn { turns, list } => self.turn(program, text, turns, list)?,
-                Next::Leave { list } => self.leave(program, text, list)?,
+                Next::Leave { list } => {
+                    let cells = self.cells.as_slice();
+                    if outlook.stops(program, text, cells, list, self.place)? {
+                        Next::Fail
+                    } else {
+                        self.leave(program, text, list)?
+                    }
+                }
                 Next::Fail => {
+                    outlook.count(program, text)?;
                     let Some(next) = self.back(program, text)? else {
                         return Ok(false);
                     };
@@ -43,16 +62,27 @@ impl Search {
 
     /// Whether the program matches at the place. Where it does, the search's place is the match's end, and its groups are
     /// the match's.
-    pub fn is_at(&mut self, program: &Program, text: &str, place: usize) -> Result<bool, AllocError>
-        requires { IsCharBoundary text.now place }
-        ensures { IfOk result (λ found. match_of found self.new ≡ slice_get (matches text.now (slice_index_or (trees_of program.now) program.now.root nothing) place (replicate program.now.groups None)) 0) }
+    fn is_at(
+        &mut self,
+        program: &Program,
+        text: &str,
+        place: usize,
+        outlook: &mut Outlook,
+    ) -> Result<bool, AllocError>
+        requires place { IsCharBoundary text.now place }
+        requires knows { Knows text.now (trees_of program.now) outlook.old }
+        ensures knows { OnOk result (Knows text.now (trees_of program.now) outlook.new) }
+        ensures found { IfOk result (λ found. match_of found self.new
+            ≡ slice_get (matches text.now
+            (slice_index_or (trees_of program.now) program.now.root nothing) place
+            (replicate program.now.groups None)) 0) }
     {
         self.begin(program.groups, place)?;
         let start = Next::Enter {
             node: program.root,
             list: 0,
         };
-        self.run(program, text, start)
+        self.run(program, text, start, outlook)
     }
 
     /// Whether a match begins at the place, which it does on boundaries of characters alone. Where it does, the search's
@@ -65,6 +95,23 @@ impl Search {
     ) -> Result<bool, AllocError>
         ensures { IfOk result (λ found. FindsAt text.now program.now place (groups_of found self.new)) }
     {
+        let mut outlook = Outlook::new(*self.frames.allocator(), program, text);
+        self.begins_here(program, text, place, &mut outlook)
+    }
+
+    /// The same, with an outlook for the text.
+    fn begins_here(
+        &mut self,
+        program: &Program,
+        text: &str,
+        place: usize,
+        outlook: &mut Outlook,
+    ) -> Result<bool, AllocError>
+        requires { Knows text.now (trees_of program.now) outlook.old }
+        ensures knows { OnOk result (Knows text.now (trees_of program.now) outlook.new) }
+        ensures finds { IfOk result (λ found.
+            FindsAt text.now program.now place (groups_of found self.new)) }
+    {
         if !is_boundary(text, place) {
             return Ok(false);
         }
@@ -74,7 +121,10 @@ impl Search {
         if is_dead(program, text, place, program.root) {
             return Ok(false);
         }
-        self.is_at(program, text, place)
+        if outlook.rules_out(program, text, place)? {
+            return Ok(false);
+        }
+        self.is_at(program, text, place, outlook)
     }
 
     /// Whether the program matches at the place or at a later one, of which the least counts. Where it does, the search's
@@ -88,6 +138,7 @@ impl Search {
         let Some(first) = program.behind_needed(text, begin) else {
             return Ok(false);
         };
+        let mut outlook = Outlook::new(*self.frames.allocator(), program, text);
         let mut place = begin;
         let mut behind = first;
         while place <= text.len() {
@@ -98,7 +149,7 @@ impl Search {
                 };
                 behind = next;
             }
-            if self.begins_at(program, text, place)? {
+            if self.begins_here(program, text, place, &mut outlook)? {
                 return Ok(true);
             }
             place += 1;
@@ -123,6 +174,7 @@ impl Search {
         } else {
             text.len()
         };
+        let mut outlook = Outlook::new(*self.frames.allocator(), program, text);
         let mut place = begin;
         let mut behind = 0;
         while place <= last && place <= text.len() {
@@ -136,7 +188,7 @@ impl Search {
                 };
                 behind = needed;
             }
-            let begins = self.begins_at(program, text, place)?;
+            let begins = self.begins_here(program, text, place, &mut outlook)?;
             if begins {
                 return Ok(true);
             }

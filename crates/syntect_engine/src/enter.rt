@@ -1,49 +1,20 @@
 //! A node is matched at a place.
 ghost use Rattle.std.specs.Prelude.{◌≡◌, List, ℕ, ◌-◌, ◌<◌, ◌^◌, ◌++◌, ◌∷◌, [], length, OnOk, IfOk, IfSome, IfNone, slice_index_or, None, Option, IsCharBoundary, suc, true, false};
-ghost use Rattle.syntect_pattern.specs.Sets.{holds, range};
-ghost use Rattle.syntect_pattern.specs.Text.{char_at};
-ghost use Rattle.syntect_pattern_table.specs.Table.{set_of};
-ghost use Rattle.syntect_engine.specs.Machine.{after_char, at_end, look_bound};
+ghost use Rattle.syntect_engine.specs.Machine.{look_bound};
+ghost use Rattle.syntect_ways.specs.Steps.{at_end};
 ghost use Rattle.syntect_engine.specs.Reaches.{AreEnough};
 ghost use Rattle.syntect_pattern_table.specs.Program.{trees_of};
 ghost use Rattle.syntect_pattern.specs.Trees.{nothing};
 
-use crate::anchor::stands;
 use crate::reach::reach;
 use crate::state::{Bound, Frame, Item, Next, Search, Turns};
 use crate::stretch::stretch;
-use crate::text::{char_at, past_text};
 use std::alloc::AllocError;
-use syntect_pattern_table::node::{Class, Node};
+use syntect_pattern_table::node::Node;
 use syntect_pattern_table::program::Program;
-
-/// The place behind the character at the place, if it is this one.
-pub fn past_char(text: &str, place: usize, wanted: char) -> Option<usize>
-    requires { IsCharBoundary text.now place }
-    ensures value { result ≡ after_char (holds (range wanted wanted)) (char_at text.now place) place }
-    ensures boundary { IfSome result (λ j. IsCharBoundary text.now j) }
-{
-    let c = char_at(text, place)?;
-    if c == wanted {
-        Some(place + c.len_utf8())
-    } else {
-        None
-    }
-}
-
-/// The place behind the character at the place, if the class holds it.
-pub fn past_class(text: &str, place: usize, class: &Class) -> Option<usize>
-    requires { IsCharBoundary text.now place }
-    ensures value { result ≡ after_char (holds (set_of class.now)) (char_at text.now place) place }
-    ensures boundary { IfSome result (λ j. IsCharBoundary text.now j) }
-{
-    let c = char_at(text, place)?;
-    if class.holds(c) {
-        Some(place + c.len_utf8())
-    } else {
-        None
-    }
-}
+use syntect_ways::anchor::stands;
+use syntect_ways::past::{past_char, past_class};
+use syntect_ways::text::past_text;
 
 /// How many parts of a pattern can lie in one another where it is told how far a lookbehind reaches.
 const REACH_DEPTH: u32 = 32;

@@ -11,11 +11,11 @@ use crate::laws::dialect_finds_in_text;
 use crate::position::{MOST_IDLE, MOST_LEVELS, Position};
 use std::alloc::{AllocError, Global};
 use std::mem;
-use syntect_engine::text::char_at;
 use syntect_grammar::syntax_definition::{MatchOperation, MatchPattern};
 use syntect_openings::opening::Opening;
 use syntect_regex::regex::Regex;
 use syntect_regex::region::Region;
+use syntect_ways::text::char_at;
 
 /// Where searches put the groups of their matches, and the groups of the best match so far.
 #[derive(Drop)]

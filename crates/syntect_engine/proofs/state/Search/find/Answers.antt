@@ -1,4 +1,4 @@
-use Rattle.std.proofs.Common.{◌≡◌, sym, ◌∙◌, ap, arith, Some, None, add-one, suc, length}
+use Rattle.std.proofs.Common.{◌≡◌, refl, sym, ◌∙◌, ap, arith, Some, None, add-one, suc, length}
 use Rattle.syntect_pattern.specs.Matches.{found_at}
 use Rattle.syntect_engine.specs.Machine.{groups_of}
 use Rattle.syntect_engine.proofs.FindLaws.{found-here, found-step, found-past, found-jump}
@@ -8,25 +8,28 @@ pub returns-then-branch : goal.returns-then-branch
 returns-then-branch c = λ tree is.
     let s = c.args.text.now in
     let next = c.next_start-place.result in
-    let groups = c.begins_at.new.self.groups.items in
+    let groups = c.begins_here.new.self.groups.items in
     let here : found_at s tree next ≡ Some groups =
-    sym (c.in_ok-begins_at.ensures tree is) ∙ ap (λ b. groups_of b c.begins_at.new.self) c.if-branch.true in
+    sym (c.in_ok-begins_here.ensures.finds tree is) ∙ ap (λ b. groups_of b c.begins_here.new.self) c.if-branch.true in
     sym (found-here s tree next groups c.next_start-place.ensures.inside here)
     ∙ sym (found-jump s tree c.loop-place.place next c.next_start-place.ensures.later (omega (arith, c.next_start-place.ensures.inside)) (λ k p q. c.next_start-place.ensures.skipped k p q tree is))
-    ∙ c.loop-place.invariant tree is
+    ∙ c.loop-place.invariant.same tree is
 
 pub loop-place-preserved : goal.loop-place-preserved
-loop-place-preserved c = λ tree is.
-    let s = c.args.text.now in
-    let next = c.next_start-place.result in
-    let nothing_here : found_at s tree next ≡ None =
-    sym (c.in_ok-begins_at.ensures tree is) ∙ ap (λ b. groups_of b c.begins_at.new.self) c.if-branch.false in
-    rw add-one (sym (found-step s tree next c.next_start-place.ensures.inside nothing_here)
-    ∙ sym (found-jump s tree c.loop-place.place next c.next_start-place.ensures.later (omega (arith, c.next_start-place.ensures.inside)) (λ k p q. c.next_start-place.ensures.skipped k p q tree is))
-    ∙ c.loop-place.invariant tree is)
+loop-place-preserved c = record {
+  same = λ tree is.
+      let s = c.args.text.now in
+      let next = c.next_start-place.result in
+      let nothing_here : found_at s tree next ≡ None =
+      sym (c.in_ok-begins_here.ensures.finds tree is) ∙ ap (λ b. groups_of b c.begins_here.new.self) c.if-branch.false in
+      rw add-one (sym (found-step s tree next c.next_start-place.ensures.inside nothing_here)
+      ∙ sym (found-jump s tree c.loop-place.place next c.next_start-place.ensures.later (omega (arith, c.next_start-place.ensures.inside)) (λ k p q. c.next_start-place.ensures.skipped k p q tree is))
+      ∙ c.loop-place.invariant.same tree is);
+  knows = c.in_ok-begins_here.ensures.knows;
+}
 
 pub returns : goal.returns
-returns c = λ tree is. sym (found-past c.args.text.now tree c.loop-place.place (omega arith)) ∙ c.loop-place.invariant tree is
+returns c = λ tree is. sym (found-past c.args.text.now tree c.loop-place.place (omega arith)) ∙ c.loop-place.invariant.same tree is
 
 pub returns-in_default-behind_needed : goal.returns-in_default-behind_needed
 returns-in_default-behind_needed c = λ tree is.
@@ -36,7 +39,7 @@ returns-in_default-behind_needed c = λ tree is.
     sym (found-past s tree (suc (length s)) (omega arith))
     ∙ sym (found-jump s tree next (suc (length s)) (omega (arith, inside)) (omega arith) (λ k p q. c.in_default-behind_needed.ensures k p tree is))
     ∙ sym (found-jump s tree c.loop-place.place next c.next_start-place.ensures.later (omega (arith, inside)) (λ k p q. c.next_start-place.ensures.skipped k p q tree is))
-    ∙ c.loop-place.invariant tree is
+    ∙ c.loop-place.invariant.same tree is
 
 pub returns-in_default : goal.returns-in_default
 returns-in_default c = λ tree is.
@@ -46,3 +49,6 @@ returns-in_default c = λ tree is.
 
 pub returns-then-begin-text : goal.returns-then-begin-text
 returns-then-begin-text c = λ tree is. sym (found-past c.args.text.now tree c.args.begin (omega arith))
+
+pub loop-place-init : goal.loop-place-init
+loop-place-init c = record { same = λ tree is. refl; knows = c.new-outlook.ensures }

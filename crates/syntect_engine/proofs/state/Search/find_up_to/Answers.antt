@@ -1,9 +1,9 @@
-use Rattle.std.proofs.Common.{◌≡◌, ◌≤◌, sym, ◌∙◌, ap, arith, Some, None, add-one, suc, length}
+use Rattle.std.proofs.Common.{◌≡◌, ◌≤◌, refl, sym, ◌∙◌, ap, arith, Some, None, add-one, suc, length}
 use Rattle.syntect_pattern.specs.Matches.{found, found_at}
 use Rattle.syntect_engine.specs.Machine.{groups_of}
 use Rattle.syntect_engine.proofs.FindLaws.{found-here, found-step, found-past, found-jump, found-never}
 use Rattle.syntect_engine.proofs.state.Search.find_up_to.Goals as goal
-use Rattle.syntect_engine.proofs.state.Search.find_up_to.Goals.{then-last-text, else-last-text}
+use Rattle.syntect_engine.proofs.state.Search.find_up_to.Goals.{then-last-text, else-last-text, then-loop-place-test+else-place-text, else-loop-place-test}
 
 pub returns-then-place-last : goal.returns-then-place-last
 returns-then-place-last c = λ tree is.
@@ -43,13 +43,13 @@ returns-then-begins c = λ tree is.
     let s = c.args.text.now in
     let next = c.next_start_up_to-place.result in
     let inside = c.next_start_up_to-place.ensures.inside in
-    let groups = c.begins_at.new.self.groups.items in
+    let groups = c.begins_here.new.self.groups.items in
     let within : next ≤ length s = elim c.if-last-text.branch [
       | then-last-text w ↦ omega (arith, inside, w.end-is, w.if-last-text.true)
       | else-last-text w ↦ omega (arith, inside, w.end-is)
     ] in
     let here : found_at s tree next ≡ Some groups =
-    sym (c.in_ok-begins.ensures tree is) ∙ ap (λ b. groups_of b c.begins_at.new.self) c.if-begins.true in
+    sym (c.in_ok-begins.ensures.finds tree is) ∙ ap (λ b. groups_of b c.begins_here.new.self) c.if-begins.true in
     sym (c.loop-place.invariant.same tree is)
     ∙ found-jump s tree c.loop-place.place next c.next_start_up_to-place.ensures.later (omega (arith, within)) (λ k p q. c.next_start_up_to-place.ensures.skipped k p q tree is)
     ∙ found-here s tree next groups within here
@@ -65,20 +65,32 @@ loop-place-preserved c =
     ] in
     record {
       within = omega (arith, c.if-place-last.false);
+      knows = c.in_ok-begins.ensures.knows;
       same = λ tree is.
           let nothing_here : found_at s tree next ≡ None =
-          sym (c.in_ok-begins.ensures tree is) ∙ ap (λ b. groups_of b c.begins_at.new.self) c.if-begins.false in
+          sym (c.in_ok-begins.ensures.finds tree is) ∙ ap (λ b. groups_of b c.begins_here.new.self) c.if-begins.false in
           rw add-one (sym (found-step s tree next within nothing_here)
           ∙ sym (found-jump s tree c.loop-place.place next c.next_start_up_to-place.ensures.later (omega (arith, within)) (λ k p q. c.next_start_up_to-place.ensures.skipped k p q tree is))
           ∙ c.loop-place.invariant.same tree is);
     }
 
-pub returns-else-place-text : goal.returns-else-place-text
-returns-else-place-text c = λ tree is.
+pub returns : goal.returns
+returns c = λ tree is.
     let s = c.args.text.now in
     let place = c.loop-place.place in
-    let past = c.if-place-text.false in
     let near = c.loop-place.invariant.within in
-    sym (c.loop-place.invariant.same tree is)
-    ∙ found-past s tree place (omega (arith, past))
-    ∙ sym (found-past s tree (suc c.args.last) (omega (arith, past, near)))
+    elim c.loop-place-test.branch [
+      | then-loop-place-test+else-place-text w ↦
+          sym (c.loop-place.invariant.same tree is)
+          ∙ found-past s tree place (omega (arith, w.if-place-text.false))
+          ∙ sym (found-past s tree (suc c.args.last) (omega (arith, w.if-place-text.false, near)))
+      | else-loop-place-test w ↦
+          sym (c.loop-place.invariant.same tree is) ∙ ap (found s tree) (let at : place ≡ suc c.args.last = omega (arith, near, w.loop-place-test.false) in at)
+    ]
+
+pub loop-place-init : goal.loop-place-init
+loop-place-init c = record {
+  within = omega (arith, c.requires);
+  same = λ tree is. refl;
+  knows = c.new-outlook.ensures;
+}

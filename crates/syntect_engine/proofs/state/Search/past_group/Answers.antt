@@ -1,7 +1,7 @@
 use Rattle.std.proofs.Common.{Some, Option, ℕ, List, refl, sym, ◌∙◌, ap}
 use Rattle.std.specs.Prelude.{slice_get}
 use Rattle.std.proofs.lemmas.Option.{slice_get_read}
-use Rattle.syntect_engine.proofs.TextLaws.{same_text-falls, same_text-stands}
+use Rattle.syntect_ways.proofs.TextLaws.{same_text-falls, same_text-stands}
 use Rattle.syntect_engine.proofs.state.Search.past_group.Goals as goal
 
 pub returns-then-from-to-clause-value : goal.returns-then-from-to-clause-value

@@ -1,0 +1,3 @@
+pub mod TextLaws
+pub mod BoundaryLaws
+pub mod WayLaws
