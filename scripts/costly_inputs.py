@@ -1,0 +1,151 @@
+#!/usr/bin/env python3
+"""Runs syncat over grammars and texts that are made to cost, and prints the time and the memory that each takes.
+
+    python3 scripts/costly_inputs.py SYNCAT [NAME..]
+
+SYNCAT is the built program; with names only those inputs are run. Each run has 1 MB of stack and 120 seconds. It prints a row
+of a table for each: its name, the status with the line on standard error, the seconds and the most memory in MB; the status is
+1 if a run ends by a signal or past its time.
+"""
+
+import os
+import resource
+import subprocess
+import sys
+import tempfile
+import time
+
+SECONDS = 120
+STACK = 1 << 20
+THEME = '{"settings":[{"settings":{"foreground":"#010101"}},{"scope":"word","settings":{"foreground":"#030303"}}]}'
+HEAD = "name: T\nscope: source.t\nfile_extensions: [t]\n"
+
+
+def contexts(text, variables=""):
+    return HEAD + variables + "contexts:\n" + text
+
+
+def main_of(pattern):
+    return contexts(f"  main:\n    - match: '{pattern}'\n      scope: word\n")
+
+
+def fan_out():
+    """Each context includes the next one twice."""
+    rows = ["  main:\n    - include: c0\n"]
+    rows += [f"  c{n}:\n    - include: c{n + 1}\n    - include: c{n + 1}\n" for n in range(16)]
+    return contexts("".join(rows) + "  c16:\n    - match: x\n      scope: word\n"), "axb\n" * 20
+
+
+def doubling():
+    """Each variable has the one before it twice."""
+    rows = ["variables:\n  v0: a\n"] + [f"  v{n}: '{{{{v{n - 1}}}}}{{{{v{n - 1}}}}}'\n" for n in range(1, 16)]
+    return contexts("  main:\n    - match: '{{v15}}'\n      scope: word\n", "".join(rows)), "aaaa\n"
+
+
+def naming_each_other():
+    """Each variable names all others."""
+    names = [f"v{n}" for n in range(40)]
+    rows = ["variables:\n"] + [f"  {a}: '" + "".join(f"{{{{{b}}}}}" for b in names if b != a) + "'\n" for a in names]
+    return contexts("  main:\n    - match: '{{v0}}x'\n      scope: word\n", "".join(rows)), "x\n"
+
+
+def sets_go_round():
+    return (
+        contexts("  main:\n    - match: (?=x)\n      set: two\n  two:\n    - match: (?=x)\n      set: main\n"),
+        "x" * 200 + "\n",
+    )
+
+
+def prototypes_go_round():
+    """A context that pushes itself with a prototype, as often as that has an effect."""
+    text = "  main:\n    - match: x\n      push: main\n      with_prototype:\n        - match: y\n          scope: word\n"
+    return contexts(text), "x" * 120 + "y" * 2000 + "\n"
+
+
+def captures():
+    """A pattern with many captures; two hundred groups can stand in one another, and more stand side by side."""
+    count = 100000
+    rows = "".join(f"        {n}: a\n" for n in range(1, count + 1))
+    return contexts(f"  main:\n    - match: '{'(a)' * count}'\n      captures:\n{rows}"), "a" * count + "\n"
+
+
+def many_contexts():
+    rows = ["  main:\n    - match: x\n      push: c0\n"]
+    rows += [f"  c{n}:\n    - match: x\n      set: c{n + 1}\n" for n in range(100000)]
+    return contexts("".join(rows) + "  c100000:\n    - match: x\n      pop: true\n"), "x" * 100 + "\n"
+
+
+def nested_flow(depth):
+    return HEAD + "contexts: {main: []}\nx: " + "[" * depth + "]" * depth + "\n", "a\n"
+
+
+def cost(pattern, text):
+    return main_of(pattern), text
+
+
+INPUTS = {
+    "includes that fan out, 2^16 entries": fan_out,
+    "variables that double, 2^15 characters": doubling,
+    "40 variables that name each other": naming_each_other,
+    "sets that go round, 200 places": sets_go_round,
+    "99 prototypes on 2000 places": prototypes_go_round,
+    "a pattern of 100000 groups, each captured": captures,
+    "100000 contexts": many_contexts,
+    "lists nested 99 deep": lambda: nested_flow(99),
+    "lists nested 100000 deep": lambda: nested_flow(100000),
+    "200 groups in one another": lambda: cost("(" * 200 + "a" + ")" * 200, "a\n"),
+    "100000 groups in one another": lambda: cost("(" * 100000 + "a" + ")" * 100000, "a\n"),
+    "a loop in a loop, (a*)*b on 20 places": lambda: cost("(a*)*b", "a" * 20 + "\n"),
+    "a lookbehind over a line of 10000 bytes": lambda: cost("(?<=x.*)y", "a" * 10000 + "\n"),
+    "a line of 10 MB, a word": lambda: cost("\\w+", "a" * 10000000 + "\n"),
+    "a line of 1 MB, words": lambda: cost("\\w+", "ab " * 333333 + "\n"),
+    "a line of 10 MB, (a|b)*": lambda: cost("(a|b)*", "a" * 10000000 + "\n"),
+    "100000 lines": lambda: cost("\\w+", "ab cd\n" * 100000),
+}
+
+
+def limited():
+    resource.setrlimit(resource.RLIMIT_STACK, (STACK, STACK))
+    resource.setrlimit(resource.RLIMIT_CORE, (0, 0))
+
+
+def run(syncat, name):
+    """Whether a run ends by itself; prints its row."""
+    grammar, text = INPUTS[name]()
+    with tempfile.TemporaryDirectory() as folder:
+        os.mkdir(os.path.join(folder, "folder"))
+        for file, data in (("folder/a.sublime-syntax", grammar), ("theme.tmTheme", THEME), ("text.t", text)):
+            with open(os.path.join(folder, file), "w") as out:
+                out.write(data)
+        begin = time.monotonic()
+        with open(os.path.join(folder, "out"), "wb") as out, open(os.path.join(folder, "err"), "wb") as err:
+            words = [syncat, "folder", "theme.tmTheme", "html", "text.t"]
+            child = subprocess.Popen(words, cwd=folder, stdout=out, stderr=err, preexec_fn=limited)
+            status, used = None, None
+            while time.monotonic() - begin < SECONDS and status is None:
+                pid, status_word, usage = os.wait4(child.pid, os.WNOHANG)
+                if pid:
+                    status, used = os.waitstatus_to_exitcode(status_word), usage
+                else:
+                    time.sleep(0.002)
+            if status is None:
+                child.kill()
+                _, _, used = os.wait4(child.pid, 0)
+        spent = time.monotonic() - begin
+        with open(os.path.join(folder, "err")) as err:
+            told = err.read().strip()
+        size = os.path.getsize(os.path.join(folder, "out"))
+    answer = f"page of {size} bytes" if status == 0 else "past its time" if status is None else f"{status} {told}".strip()
+    print(f"| {name} | {answer} | {spent:.2f} | {used.ru_maxrss / 1024:.0f} |", flush=True)
+    return status in (0, 1)
+
+
+def main():
+    if len(sys.argv) < 2:
+        sys.exit(__doc__)
+    print("| Input | Answer | Seconds | MB |\n|---|---|---|---|", flush=True)
+    good = [run(os.path.abspath(sys.argv[1]), name) for name in sys.argv[2:] or INPUTS]
+    sys.exit(0 if all(good) else 1)
+
+
+main()

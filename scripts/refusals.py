@@ -1,0 +1,151 @@
+#!/usr/bin/env python3
+"""Has each request of a program for memory refused in turn, and each of its reads and writes fail or be short.
+
+    python3 scripts/refusals.py PROGRAM WORD..
+
+PROGRAM is run with these words, as syncat with its four: each run has to end as the undisturbed one, or with status 1 (2 where not even
+its words can be read), one line on standard error and, unless a write fails, nothing on standard output. A short read or write must change nothing.
+
+It needs cc and a C library whose allocation can be replaced (glibc on Linux). It prints a line for each call or each kind of
+fault with its figures, and each wrong run; its status is 1 if there is one.
+"""
+
+import os
+import subprocess
+import sys
+import tempfile
+from collections import Counter
+from concurrent.futures import ThreadPoolExecutor
+
+# What stands before the C library: counts requests, and refuses the one whose number it is given.
+LAYER = r"""
+#define _GNU_SOURCE
+#include <errno.h>
+#include <fcntl.h>
+#include <stdio.h>
+#include <stdlib.h>
+#include <sys/syscall.h>
+#include <unistd.h>
+extern void *__libc_malloc(size_t), *__libc_calloc(size_t, size_t), *__libc_realloc(void *, size_t);
+extern void *__libc_memalign(size_t, size_t);
+static long memory, reads, writes, at_memory = -1, at_read = -1, at_write = -1, short_read = -1, short_write = -1;
+static long number(const char *name) { const char *text = getenv(name); return text ? atol(text) : -1; }
+__attribute__((constructor)) static void begin(void) {
+    at_memory = number("REFUSE_MEMORY"); at_read = number("REFUSE_READ"); at_write = number("REFUSE_WRITE");
+    short_read = number("SHORT_READ"); short_write = number("SHORT_WRITE");
+    memory = reads = writes = 0;
+}
+__attribute__((destructor)) static void end(void) {
+    const char *name = getenv("REFUSE_COUNTS");
+    char text[100];
+    if (!name) return;
+    int length = snprintf(text, sizeof text, "%ld %ld %ld\n", memory, reads, writes);
+    int file = syscall(SYS_openat, AT_FDCWD, name, O_WRONLY | O_CREAT | O_TRUNC, 0600);
+    syscall(SYS_write, file, text, length);
+    syscall(SYS_close, file);
+}
+static int refused(void) { if (++memory != at_memory) return 0; errno = ENOMEM; return 1; }
+void *malloc(size_t size) { return refused() ? 0 : __libc_malloc(size); }
+void *calloc(size_t count, size_t size) { return refused() ? 0 : __libc_calloc(count, size); }
+void *realloc(void *old, size_t size) { return refused() ? 0 : __libc_realloc(old, size); }
+void *aligned_alloc(size_t step, size_t size) { return refused() ? 0 : __libc_memalign(step, size); }
+int posix_memalign(void **place, size_t step, size_t size) {
+    if (refused() || !(*place = __libc_memalign(step, size))) return ENOMEM;
+    return 0;
+}
+static ssize_t moved(long call, int file, const void *bytes, size_t size, long count, long fails, long one) {
+    if (count == fails) { errno = EIO; return -1; }
+    return syscall(call, file, bytes, count == one && size > 1 ? 1 : size);
+}
+ssize_t read(int file, void *bytes, size_t size) {
+    return moved(SYS_read, file, bytes, size, ++reads, at_read, short_read);
+}
+ssize_t __read(int file, void *bytes, size_t size) { return read(file, bytes, size); }
+ssize_t write(int file, const void *bytes, size_t size) {
+    return moved(SYS_write, file, bytes, size, ++writes, at_write, short_write);
+}
+ssize_t __write(int file, const void *bytes, size_t size) { return write(file, bytes, size); }
+"""
+
+KINDS = ["REFUSE_MEMORY", "REFUSE_READ", "SHORT_READ", "REFUSE_WRITE", "SHORT_WRITE"]
+WORKERS = 2
+
+
+class Runs:
+    """Runs of a program behind the layer."""
+
+    def __init__(self, work, program, folder):
+        self.layer = os.path.join(work, "layer.so")
+        self.counts = os.path.join(work, "counts")
+        self.program = program
+        self.folder = folder
+        source = os.path.join(work, "layer.c")
+        with open(source, "w") as file:
+            file.write(LAYER)
+        subprocess.run(["cc", "-O1", "-shared", "-fPIC", "-fno-builtin", "-w", "-o", self.layer, source], check=True)
+
+    def run(self, words, **more):
+        """Status, standard output and standard error; a status below 0 is a signal, and none is time that ran out."""
+        env = {"LD_PRELOAD": self.layer, **{name: str(value) for name, value in more.items()}}
+        try:
+            done = subprocess.run(
+                [self.program, *words], cwd=self.folder, env=env, capture_output=True, timeout=60, stdin=subprocess.DEVNULL
+            )
+        except subprocess.TimeoutExpired:
+            return (None, b"", b"")
+        return (done.returncode, done.stdout, done.stderr)
+
+    def counted(self, words):
+        """The undisturbed run, and how many requests, reads and writes it makes."""
+        outcome = self.run(words, REFUSE_COUNTS=self.counts)
+        with open(self.counts) as file:
+            memory, reads, writes = (int(word) for word in file.read().split())
+        return outcome, {"MEMORY": memory, "READ": reads, "WRITE": writes}
+
+    def each(self, words, kind, count):
+        """The runs in which the first, the second and each further one is disturbed."""
+        with ThreadPoolExecutor(WORKERS) as pool:
+            return list(pool.map(lambda number: self.run(words, **{kind: number}), range(1, count + 1)))
+
+
+def is_fault(outcome, kind, whole):
+    """Whether a run ends with status 1, or 2 where the words cannot be read, and one line, and with no text but a front of the whole where a write fails."""
+    status, out, err = outcome
+    front = whole.startswith(out) if kind == "REFUSE_WRITE" else out == b""
+    told = err.count(b"\n") == 1 or (kind == "REFUSE_WRITE" and err == b"")
+    return status in (1, 2) and front and told
+
+
+def program(runs, words):
+    """A program with its words."""
+    outcome, counts = runs.counted(words)
+    print(f"undisturbed: status {outcome[0]}, {len(outcome[1])} bytes, {counts}")
+    wrong = False
+    for kind in KINDS:
+        figures = Counter()
+        for number, disturbed in enumerate(runs.each(words, kind, counts[kind.split("_")[1]]), 1):
+            if disturbed == outcome:
+                verdict = "as undisturbed"
+            elif not kind.startswith("SHORT") and is_fault(disturbed, kind, outcome[1]):
+                verdict = disturbed[2].decode(errors="replace").strip() or "no line"
+            else:
+                verdict = "WRONG"
+                wrong = True
+                print(f"{kind} {number}: {disturbed[0]} {disturbed[1][:200]} {disturbed[2][:200]}")
+            figures[verdict] += 1
+        told = ", ".join(f"{value} {verdict}" for verdict, value in sorted(figures.items()))
+        print(f"{kind.lower().replace('_', ' ')}: {told}", flush=True)
+    return wrong
+
+
+def main():
+    words = sys.argv[1:]
+    if not words:
+        sys.exit(__doc__)
+    path = os.path.abspath(words[0])
+    with tempfile.TemporaryDirectory() as work:
+        wrong = program(Runs(work, path, os.getcwd()), words[1:])
+    sys.exit(1 if wrong else 0)
+
+
+main()
