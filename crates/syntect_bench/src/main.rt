@@ -107,7 +107,7 @@ const FILES_OF_PATTERNS: [(&str, (u32, u32)); 2] = [
 /// The file of queries, each behind the answer that Oniguruma gives, and how many there are.
 const ANSWERED: &str = "queries.tsv";
 
-const ANSWERED_QUERIES: u32 = 1516;
+const ANSWERED_QUERIES: u32 = 1524;
 
 /// Prints whether something comes out as it is written, and answers that.
 fn print_outcome(rt: &impl Print, label: &str, comes_out: bool) -> io::Result<bool> {
