@@ -1,5 +1,5 @@
 -- The least place that has a match.
-use Rattle.std.proofs.Common.{◌≡◌, ℕ, zero, suc, ◌+◌, ◌-◌, ◌<◌, ◌≤◌, Bool, true, false, List, length, get_or, refl, sym, ◌∙◌, ap, arith, Some, None, inl, inr}
+use Rattle.std.proofs.Common.{◌≡◌, ℕ, zero, suc, ◌+◌, ◌-◌, ◌<◌, ◌≤◌, Bool, true, false, List, [], length, get_or, refl, sym, ◌∙◌, ap, arith, Some, None, inl, inr}
 use Rattle.std.proofs.lemmas.Bool.{cases_lt}
 use Rattle.std.proofs.lemmas.Str.{IsCharBoundary-start}
 use Rattle.std.specs.Prelude.{IsCharBoundary, IsUtf8, slice_get, option_map, replicate, if◌then◌else◌}
@@ -31,6 +31,17 @@ module _ (s : List ℕ) (p : Program) (tree : Tree) (h : IsProgramOf p tree) whe
       groups-match b x
       ∙ ap (option_map (λ (m : Member). m.1))
       (e ∙ ap (λ (t : Tree). slice_get (matches s t i (replicate p.groups None)) 0) h.root
+      ∙ ap (λ (n : ℕ). slice_get (matches s (group 0 tree) i (replicate n None)) 0) h.groups)
+      ∙ ap (λ (c : Bool). if c then option_map (λ (m : Member). m.1) (slice_get (matches s (group 0 tree) i (unset s tree)) 0) else None) (sym at)
+
+  pub found_at-lost : (i : ℕ) → is_boundary s i ≡ true
+      → matches s (get_or (trees_of p) p.root nothing) i (replicate p.groups None) ≡ []
+      → None ≡ found_at s tree i
+  unfolding found_at
+  found_at-lost i at e =
+      ap (option_map (λ (m : Member). m.1))
+      (sym (ap (λ (ms : List Member). slice_get ms 0) e)
+      ∙ ap (λ (t : Tree). slice_get (matches s t i (replicate p.groups None)) 0) h.root
       ∙ ap (λ (n : ℕ). slice_get (matches s (group 0 tree) i (replicate n None)) 0) h.groups)
       ∙ ap (λ (c : Bool). if c then option_map (λ (m : Member). m.1) (slice_get (matches s (group 0 tree) i (unset s tree)) 0) else None) (sym at)
 

@@ -1,5 +1,6 @@
 //! The search of a pattern: a machine whose choices stand in lists of its own.
-ghost use Rattle.std.specs.Prelude.{◌≡◌, ◌≤◌, IfOk, OnOk, slice_index_or, None, IsCharBoundary};
+ghost use Rattle.std.specs.Prelude.{◌≡◌, ◌≤◌, IfOk, OnOk, slice_index_or, None, IsCharBoundary, true, false};
+ghost use Rattle.syntect_engine.specs.Machine.{FindsAt};
 
 use crate::dead::is_dead;
 use crate::outlook::Outlook;
@@ -8,13 +9,28 @@ use std::alloc::AllocError;
 use syntect_pattern_table::program::Program;
 use syntect_ways::text::is_boundary;
 
+/// Whether no match begins at the place, as far as the characters there tell.
+#[inline]
+fn is_lost(program: &Program, text: &str, place: usize) -> bool
+    ensures lost { result ≡ true → FindsAt text.now program.now place None }
+    ensures boundary { result ≡ false → IsCharBoundary text.now place }
+{
+    if !is_boundary(text, place) {
+        return true;
+    }
+    if program.is_dead(text, place, program.root) {
+        return true;
+    }
+    is_dead(program, text, place, program.root)
+}
+
 impl Search {
     ghost use Rattle.syntect_pattern_table.specs.Program.{trees_of};
     ghost use Rattle.std.specs.Prelude.{replicate, slice_get};
     ghost use Rattle.syntect_pattern.specs.Trees.{nothing};
     ghost use Rattle.syntect_pattern.specs.Matches.{matches};
     ghost use Rattle.syntect_engine.specs.Outlooks.{Knows};
-    ghost use Rattle.syntect_engine.specs.Machine.{Fits, found_by, match_of, groups_of, FindsAt, FindsGroups, FindsUpTo};
+    ghost use Rattle.syntect_engine.specs.Machine.{Fits, found_by, match_of, groups_of, FindsGroups, FindsUpTo};
 
     /// Takes steps until a match is found or nothing is left to try.
     fn run(
@@ -93,10 +109,14 @@ impl Search {
         text: &str,
         place: usize,
     ) -> Result<bool, AllocError>
-        ensures { IfOk result (λ found. FindsAt text.now program.now place (groups_of found self.new)) }
+        ensures { IfOk result (λ found.
+            FindsAt text.now program.now place (groups_of found self.new)) }
     {
+        if is_lost(program, text, place) {
+            return Ok(false);
+        }
         let mut outlook = Outlook::new(*self.frames.allocator(), program, text);
-        self.begins_here(program, text, place, &mut outlook)
+        self.is_at(program, text, place, &mut outlook)
     }
 
     /// The same, with an outlook for the text.
@@ -112,13 +132,7 @@ impl Search {
         ensures finds { IfOk result (λ found.
             FindsAt text.now program.now place (groups_of found self.new)) }
     {
-        if !is_boundary(text, place) {
-            return Ok(false);
-        }
-        if program.is_dead(text, place, program.root) {
-            return Ok(false);
-        }
-        if is_dead(program, text, place, program.root) {
+        if is_lost(program, text, place) {
             return Ok(false);
         }
         if outlook.rules_out(program, text, place)? {
@@ -130,7 +144,8 @@ impl Search {
     /// Whether the program matches at the place or at a later one, of which the least counts. Where it does, the search's
     /// groups are the match's.
     pub fn find(&mut self, program: &Program, text: &str, begin: usize) -> Result<bool, AllocError>
-        ensures { IfOk result (λ found. FindsGroups text.now program.now begin (groups_of found self.new)) }
+        ensures { IfOk result (λ found.
+            FindsGroups text.now program.now begin (groups_of found self.new)) }
     {
         if begin > text.len() {
             return Ok(false);
@@ -167,7 +182,8 @@ impl Search {
         last: usize,
     ) -> Result<bool, AllocError>
         requires { begin ≤ last }
-        ensures { IfOk result (λ found. FindsUpTo text.now program.now begin last (groups_of found self.new)) }
+        ensures { IfOk result (λ found.
+            FindsUpTo text.now program.now begin last (groups_of found self.new)) }
     {
         let end = if last < text.len() {
             last + 1

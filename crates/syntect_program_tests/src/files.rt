@@ -28,7 +28,7 @@ const THEME: &str =
     r##"{"settings":[{"settings":{"foreground":"#010101","background":"#020202"}},{"scope":"word","settings":{"foreground":"#030303"}},{"scope":"word","settings":{"foreground":"none"}}]}"##;
 
 /// A folder of this name among the temporary files.
-fn folder(rt: &HostRuntime, name: &str) -> Result<PathBuf, Fail> {
+pub fn folder(rt: &HostRuntime, name: &str) -> Result<PathBuf, Fail> {
     let mut folder = env::temp_dir(rt)?;
     folder.push(name)?;
     let _ = fs::remove_dir_all(rt, folder.as_path());

@@ -4,4 +4,6 @@
 #[cfg(test)]
 mod files;
 #[cfg(test)]
+mod metadata;
+#[cfg(test)]
 mod taken;
