@@ -1,7 +1,7 @@
 -- What a turn finds at a place in a part of the chain, and in all parts.
 use Rattle.std.proofs.Common.{◌≡◌, ℕ, zero, suc, ◌+◌, ◌-◌, ◌<◌, ◌≤◌, ◌⊎◌, Bool, true, false, List, [], ◌∷◌, ◌++◌, get_or, length, map, take, Option, Some, None, refl, sym, ap, subst, ◌∙◌, arith, inl, inr}
 use Rattle.std.specs.Prelude.{is_some}
-use Rattle.std.specs.List.{cons_option, flat_map}
+use Rattle.std.specs.List.{All, cons_option, flat_map}
 use Rattle.std.specs.Option.{option_copied}
 use Rattle.std.specs.Str.{IsUtf8}
 use Rattle.std.proofs.lemmas.Bool.{cases_lt}
@@ -14,7 +14,7 @@ use Rattle.syntect_contexts.specs.declared.context.MatchPattern.{MatchPattern}
 use Rattle.syntect_grammar.specs.Flats.{pattern_at, Tells}
 use Rattle.syntect_grammar.specs.declared.syntax_set.SyntaxSet.{SyntaxSet}
 use Rattle.syntect_flats.specs.declared.flats.Flat.{Flat}
-use Rattle.syntect_winner.specs.Ahead.{AddsAll, AddsAt, AddsRun, AllAhead, AreAhead, AreAheadFrom, AreAheadUpTo, IsAhead, IsBestAt, IsRun, list_in, run_members}
+use Rattle.syntect_winner.specs.Ahead.{AddsAll, AddsAt, AddsRun, AllAhead, AreAhead, AreAheadFrom, AreAheadUpTo, IsAhead, IsBare, IsBestAt, IsRun, list_in, run_members}
 use Rattle.syntect_winner.specs.Engine.{dialect}
 use Rattle.syntect_winner.specs.Found.{FindsInText}
 use Rattle.syntect_winner.specs.Parts.{flat_members, part_member, part_members}
@@ -241,6 +241,14 @@ runs_members set runs parts e = by runs ∙ ap (flat_map (part_members set)) e
 
 pub all_first : (set : SyntaxSet) (line : List ℕ) (p : Position) (lost : Bool) (runs : List Run) → AllAhead set line p lost p.place runs
 all_first set line p lost runs k r z q d m f w g = ahead_first line p (part_member (get_or runs k r).part m) lost
+
+-- ---- places where nothing can begin ----
+
+module _ (finds : FindsInText dialect) (set : SyntaxSet) (line : List ℕ) (u : IsUtf8 line) (p : Position) (runs : List Run) (all : All (IsRun set) runs) (lost : Bool) where
+  pub passed_place : (i : ℕ) → All (IsBare (start_at line i)) runs → AllAhead set line p lost i runs → AllAhead set line p lost (i + 1) runs
+  passed_place i bare ahead k r l q d m z w e =
+      let run : Run = get_or runs k r in
+      begun_ahead finds set line u p i run (all k r l) lost (length (list_in run.flats)) (bare k r l).plain (λ j f _ n _. (bare k r l).out j f n) (ahead k r l) q d m w w e
 
 -- ---- the winner of the chain ----
 

@@ -3,6 +3,7 @@ use Rattle.std.specs.Prelude.{◌≡◌, ℕ, ◌+◌, ◌<◌, ◌≤◌, ◌�
 use Rattle.std.specs.List.{cons_option, flat_map}
 use Rattle.std.specs.Option.{option_copied}
 use Rattle.syntect_pattern.specs.Pattern.{pattern_found}
+use Rattle.syntect_pattern_table.specs.Starts.{is_in}
 use Rattle.syntect_contexts.specs.Substitution.{Groups}
 use Rattle.syntect_contexts.specs.declared.context.MatchPattern.{MatchPattern}
 use Rattle.syntect_flats.specs.declared.flats.Flat.{Flat}
@@ -60,6 +61,11 @@ AreAhead set line p lost i run = AreAheadFrom set line p lost i run 0
 -- and with all parts of a chain
 abbrev pub AllAhead : SyntaxSet → List ℕ → Position → Bool → ℕ → List Run → Type 0
 AllAhead set line p lost i runs = (k : ℕ) (r : Run) → k < length runs → AreAhead set line p lost i (slice_index_or runs k r)
+
+-- no pattern of the part can begin where this stands, and each is searched as it stands
+pub record IsBare (x : ℕ) (run : Run) : Type 0 where
+  pub plain : 0 < length (list_in run.flats) → run.replaced.items ≡ []
+  pub out : (k : ℕ) (d : Flat) → k < length (list_in run.flats) → is_in (slice_index_or (list_in run.flats) k d).begins x ≡ false
 
 -- the members of the chain that a part stands for
 abbrev pub run_members : SyntaxSet → Run → List Member

@@ -10,6 +10,7 @@ ghost use Rattle.syntect_winner.specs.Candidates.{member_of, seen, text_of, chos
 use crate::laws::dialect_finds_in_text;
 use crate::position::{MOST_IDLE, MOST_LEVELS, Position};
 use std::alloc::{AllocError, Global};
+use std::marker::Model;
 use std::mem;
 use syntect_grammar::syntax_definition::{MatchOperation, MatchPattern};
 use syntect_openings::opening::Opening;
@@ -49,12 +50,44 @@ pub struct Entry<'s, 'p> {
     pub from_with_prototype: bool,
 }
 
+/// A pattern in a place of its own, so that what holds it is small and quickly moved. Seen as the pattern.
+#[derive(Drop)]
+pub struct OwnRegex {
+    regex: Box<Regex>,
+}
+
+impl Model for OwnRegex {
+    ghost use Rattle.std.specs.Prelude.{List, ℕ};
+
+    ghost Value = { List ℕ };
+
+    ghost view = { λ own. own.regex.value };
+}
+
+impl OwnRegex {
+    /// The pattern, put into a place of its own.
+    pub fn new(alloc: Global, regex: Regex) -> Result<OwnRegex, AllocError>
+        ensures { IfOk result (λ own. own ≡ regex) }
+    {
+        Ok(OwnRegex {
+            regex: Box::new(alloc, regex)?,
+        })
+    }
+
+    /// The pattern.
+    pub fn regex(&self) -> &Regex
+        ensures { result.now ≡ self.now }
+    {
+        &self.regex
+    }
+}
+
 /// A match of a pattern of the chain.
 #[derive(Drop)]
 pub struct Candidate<'s> {
     pub pattern: &'s MatchPattern,
     /// What was searched in its place, if back references were replaced.
-    pub substituted: Option<Regex>,
+    pub substituted: Option<OwnRegex>,
     pub from_with_prototype: bool,
     pub start: usize,
     pub end: usize,
@@ -108,7 +141,10 @@ impl<'s> Candidate<'s> {
     pub fn regex(&self) -> &Regex
         ensures { result.now ≡ text_of self.now }
     {
-        searched(self.pattern, &self.substituted)
+        match &self.substituted {
+            Some(own) => own.regex(),
+            None => &self.pattern.regex,
+        }
     }
 }
 
@@ -139,8 +175,19 @@ pub fn substituted(entry: &Entry<'_, '_>) -> Result<Option<Regex>, AllocError>
     }
 }
 
+/// What is searched in a pattern's place, in a place of its own.
+pub fn owned(alloc: Global, substituted: Option<Regex>) -> Result<Option<OwnRegex>, AllocError>
+    ensures { IfOk result (λ own. own ≡ substituted) }
+{
+    match substituted {
+        Some(regex) => Ok(Some(OwnRegex::new(alloc, regex)?)),
+        None => Ok(None),
+    }
+}
+
 /// The match of a pattern of the chain from the place on, if it has one that counts, unless it begins behind `last`.
 pub fn search_entry<'s>(
+    alloc: Global,
     entry: &Entry<'s, '_>,
     line: &str,
     place: usize,
@@ -164,6 +211,7 @@ pub fn search_entry<'s>(
         return Ok(None);
     };
     if counts(height, &entry.pattern.operation, start, end) {
+        let substituted = owned(alloc, substituted)?;
         Ok(Some(Candidate {
             pattern: entry.pattern,
             substituted,

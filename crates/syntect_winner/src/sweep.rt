@@ -1,12 +1,14 @@
 //! What a turn finds: it looks at place after place, and at each tries the patterns that can begin with what stands there, in
 //! the order of the chain.
-ghost use Rattle.std.specs.Prelude.{◌≡◌, ◌≤◌, ◌<◌, ◌+◌, ◌++◌, [], List, ℕ, length, map, IfOk, Some, None, true, false, slice_index_or, unwrap_or};
+ghost use Rattle.std.specs.Prelude.{◌≡◌, ◌≤◌, ◌<◌, ◌+◌, ◌++◌, [], Bool, List, ℕ, length, map, IfOk, Some, None, true, false, slice_index_or, unwrap_or};
 ghost use Rattle.std.specs.Option.{option_copied};
 ghost use Rattle.std.specs.List.{All, flat_map, list_any};
 ghost use Rattle.syntect_contexts.specs.declared.context.MatchPattern.{MatchPattern as APattern};
 ghost use Rattle.syntect_grammar.specs.Flats.{AreFlatsOf, pattern_at};
+ghost use Rattle.syntect_grammar.specs.declared.syntax_set.SyntaxSet.{SyntaxSet as ASet};
+ghost use Rattle.syntect_winner.specs.declared.position.Position.{Position as APosition};
 ghost use Rattle.syntect_pattern_table.specs.Starts.{is_in};
-ghost use Rattle.syntect_winner.specs.Ahead.{AddsAll, AddsAt, AddsMember, AddsRun, AllAhead, AreAhead, AreAheadFrom, AreReplaced, FindsHere, IsAhead, IsBestAt, IsRun, list_in};
+ghost use Rattle.syntect_winner.specs.Ahead.{AddsAll, AddsAt, AddsMember, AddsRun, AllAhead, AreAhead, AreAheadFrom, AreReplaced, FindsHere, IsAhead, IsBare, IsBestAt, IsRun, list_in};
 ghost use Rattle.syntect_contexts.specs.Substitution.{Groups};
 ghost use Rattle.syntect_winner.specs.Best.{AreGroupsOf, IsBest, choice_by};
 ghost use Rattle.syntect_winner.specs.Candidates.{member_of};
@@ -17,7 +19,9 @@ ghost use Rattle.syntect_winner.specs.Turn.{Live, live, searched_text, winner};
 use crate::chain::Part;
 use crate::laws::dialect_finds_in_text;
 use crate::position::Position;
-use crate::search::{Best, Candidate, Entry, Regions, counts, led_by, search_entry, substituted};
+use crate::search::{
+    Best, Candidate, Entry, OwnRegex, Regions, counts, led_by, search_entry, substituted,
+};
 use std::alloc::{AllocError, Global};
 use syntect_flats::flats::Flat;
 use syntect_flats::list::FlatList;
@@ -148,9 +152,49 @@ fn next_in(run: &Run<'_, '_>, x: u8, from: usize) -> usize
     }
 }
 
+/// Whether no pattern of the part can begin where this stands.
+fn is_bare(run: &Run<'_, '_>, x: u8) -> bool
+    requires { x < 130 }
+    ensures { result ≡ true → IsBare x run.now }
+{
+    next_in(run, x, 0) >= list_in(&run.flats).as_slice().len()
+}
+
+/// Whether that is so of all parts.
+fn are_bare(runs: &[Run<'_, '_>], x: u8) -> bool
+    requires { x < 130 }
+    ensures { result ≡ true → All (IsBare x) runs.now }
+{
+    for run in runs {
+        if !is_bare(run, x) {
+            return false;
+        }
+    }
+    true
+}
+
+/// The first place, from this one on, with something there that a pattern can begin with; the line's end at the latest. No
+/// member that was ahead has a match before it.
+fn next_place(runs: &[Run<'_, '_>], line: &str, place: usize) -> usize
+    requires { place ≤ length line.now }
+    ensures later { place ≤ result }
+    ensures within { result ≤ length line.now }
+    ensures ahead { (set : ASet) (p : APosition) (lost : Bool) → All (IsRun set) runs.now
+        → AllAhead set line.now p lost place runs.now
+        → AllAhead set line.now p lost result runs.now }
+{
+    dialect_finds_in_text();
+    let mut next = place;
+    while next < line.len() && are_bare(runs, start_at(line, next)) {
+        next += 1;
+    }
+    next
+}
+
 /// What is found with a member of the chain more that is searched in this form, where a match of it was lost: it is searched
 /// from the turn's place on.
 fn with_searched<'s>(
+    alloc: Global,
     entry: &Entry<'s, '_>,
     line: &str,
     p: &Position,
@@ -171,6 +215,7 @@ fn with_searched<'s>(
 {
     dialect_finds_in_text();
     match search_entry(
+        alloc,
         entry,
         line,
         p.place,
@@ -201,11 +246,11 @@ fn regex_of<'r>(pattern: &'r MatchPattern, replaced: Option<&'r Regex>) -> &'r R
 }
 
 /// A copy of what stands in a pattern's place.
-fn owned(alloc: Global, replaced: Option<&Regex>) -> Result<Option<Regex>, AllocError>
+fn copy_of(alloc: Global, replaced: Option<&Regex>) -> Result<Option<OwnRegex>, AllocError>
     ensures { IfOk result (λ r. r ≡ option_copied replaced.entry) }
 {
     match replaced {
-        Some(regex) => Ok(Some(regex.clone(alloc)?)),
+        Some(regex) => Ok(Some(OwnRegex::new(alloc, regex.clone(alloc)?)?)),
         None => Ok(None),
     }
 }
@@ -249,7 +294,7 @@ fn with_entry<'s>(
         return Ok(best);
     }
     if *lost {
-        return with_searched(entry, line, p, place, best, regions);
+        return with_searched(alloc, entry, line, p, place, best, regions);
     }
     let Some((start, end)) = regions.searched.pos(0) else {
         *lost = true;
@@ -259,7 +304,7 @@ fn with_entry<'s>(
         *lost = true;
         return Ok(best);
     }
-    let substituted = owned(alloc, replaced)?;
+    let substituted = copy_of(alloc, replaced)?;
     regions.keep();
     Ok(led_by(
         line,
@@ -400,22 +445,23 @@ pub fn best_of_chain<'s>(
     let mut lost = false;
     let mut place = p.place;
     'places: loop {
+        let next = next_place(runs.as_slice(), line, place);
         let found = best_at(
             alloc,
             set,
             runs.as_slice(),
             line,
             p,
-            place,
+            next,
             &mut lost,
             regions,
         )?;
         if found.is_match {
             return Ok(found);
         }
-        if place >= line.len() {
+        if next >= line.len() {
             return Ok(found);
         }
-        place += 1;
+        place = next + 1;
     }
 }

@@ -1,15 +1,43 @@
+use Rattle.std.proofs.Common.{arith}
 use Rattle.syntect_winner.proofs.SweepLaws.{chain_ended, chain_won}
 use Rattle.syntect_winner.proofs.sweep.best_of_chain.Goals as goal
 
 pub best_at-requires-clause-runs : goal.best_at-requires-clause-runs
-best_at-requires-clause-runs c = rw c.as_slice.ensures.value c.in_ok-runs.ensures.runs
+best_at-requires-clause-runs c = rw c.as_slice-in-places.ensures.value c.in_ok-runs.ensures.runs
+
+pub returns-then-found-clause-groups : goal.returns-then-found-clause-groups
+returns-then-found-clause-groups c = c.in_ok-found.ensures.groups (rw c.as_slice-in-places.ensures.value (rw c.as_slice.ensures.value at c.next_place-next.ensures.ahead c.args.set.now c.args.p.now c.places.lost c.in_ok-runs.ensures.runs c.places.invariant.ahead))
 
 pub returns-then-found-clause-best : goal.returns-then-found-clause-best
 returns-then-found-clause-best c =
-    chain_won c.args.set.now c.args.line.now c.args.p.now c.places.place c.best_at.new.lost c.as_slice.result.now c.args.parts.now c.in_ok-found.found
-    (rw c.as_slice.ensures.value c.in_ok-runs.ensures.parts) (c.in_ok-found.ensures.best (rw c.as_slice.ensures.value c.places.invariant.ahead)) c.if-found.true
+    chain_won c.args.set.now c.args.line.now c.args.p.now c.next_place-next.result c.best_at.new.lost c.as_slice-in-places.result.now c.args.parts.now c.in_ok-found.found
+    (rw c.as_slice-in-places.ensures.value c.in_ok-runs.ensures.parts) (c.in_ok-found.ensures.best (rw c.as_slice-in-places.ensures.value (rw c.as_slice.ensures.value at c.next_place-next.ensures.ahead c.args.set.now c.args.p.now c.places.lost c.in_ok-runs.ensures.runs c.places.invariant.ahead))) c.if-found.true
 
-pub returns-then-place-line-clause-best : goal.returns-then-place-line-clause-best
-returns-then-place-line-clause-best c =
-    chain_ended c.args.set.now c.args.line.now c.args.p.now c.places.place c.best_at.new.lost c.as_slice.result.now c.args.parts.now c.in_ok-found.found c.dialect_finds_in_text.ensures c.utf8.line c.if-place-line.true
-    (rw c.as_slice.ensures.value c.in_ok-runs.ensures.parts) (c.in_ok-found.ensures.best (rw c.as_slice.ensures.value c.places.invariant.ahead)) c.if-found.false
+pub returns-then-next-line-clause-groups : goal.returns-then-next-line-clause-groups
+returns-then-next-line-clause-groups c = c.in_ok-found.ensures.groups (rw c.as_slice-in-places.ensures.value (rw c.as_slice.ensures.value at c.next_place-next.ensures.ahead c.args.set.now c.args.p.now c.places.lost c.in_ok-runs.ensures.runs c.places.invariant.ahead))
+
+pub returns-then-next-line-clause-best : goal.returns-then-next-line-clause-best
+returns-then-next-line-clause-best c =
+    chain_ended c.args.set.now c.args.line.now c.args.p.now c.next_place-next.result c.best_at.new.lost c.as_slice-in-places.result.now c.args.parts.now c.in_ok-found.found c.dialect_finds_in_text.ensures c.utf8.line c.if-next-line.true
+    (rw c.as_slice-in-places.ensures.value c.in_ok-runs.ensures.parts) (c.in_ok-found.ensures.best (rw c.as_slice-in-places.ensures.value (rw c.as_slice.ensures.value at c.next_place-next.ensures.ahead c.args.set.now c.args.p.now c.places.lost c.in_ok-runs.ensures.runs c.places.invariant.ahead))) c.if-found.false
+
+pub places-preserved-else-next-line : goal.places-preserved-else-next-line
+places-preserved-else-next-line c = record {
+  near = omega (arith, c.places.invariant.near, c.next_place-next.ensures.later);
+  within = omega (arith, c.if-next-line.false);
+  ahead = rw c.as_slice-in-places.ensures.value at (c.in_ok-found.ensures.best (rw c.as_slice-in-places.ensures.value (rw c.as_slice.ensures.value at c.next_place-next.ensures.ahead c.args.set.now c.args.p.now c.places.lost c.in_ok-runs.ensures.runs c.places.invariant.ahead))).ahead c.if-found.false;
+}
+
+pub places-preserved-else-next-line-2 : goal.places-preserved-else-next-line-2
+places-preserved-else-next-line-2 c = record {
+  near = omega (arith, c.places.invariant.near, c.next_place-next.ensures.later);
+  within = omega (arith, c.if-next-line.false);
+  ahead = rw c.as_slice-in-places.ensures.value at (c.in_ok-found.ensures.best (rw c.as_slice-in-places.ensures.value (rw c.as_slice.ensures.value at c.next_place-next.ensures.ahead c.args.set.now c.args.p.now c.places.lost c.in_ok-runs.ensures.runs c.places.invariant.ahead))).ahead c.if-found.false;
+}
+
+pub places-preserved : goal.places-preserved
+places-preserved c = record {
+  near = omega (arith, c.places.invariant.near, c.next_place-next.ensures.later);
+  within = omega (arith, c.if-next-line.false);
+  ahead = rw c.as_slice-in-places.ensures.value at (c.in_ok-found.ensures.best (rw c.as_slice-in-places.ensures.value (rw c.as_slice.ensures.value at c.next_place-next.ensures.ahead c.args.set.now c.args.p.now c.places.lost c.in_ok-runs.ensures.runs c.places.invariant.ahead))).ahead c.if-found.false;
+}
