@@ -13,11 +13,11 @@ type File = (&'static str, &'static str);
 const FIRST: [File; 5] = [
     (
         "one.tmPreferences",
-        r#"{"scope":"source.rust","settings":{"increaseIndentPattern":"\\{$","shellVariables":[{"name":"TM_COMMENT_START","value":"// "}]}}"#,
+        r#"{"scope":"source.rust","settings":{"increaseIndentPattern":"^.*\\{$","shellVariables":[{"name":"TM_COMMENT_START","value":"// "}]}}"#,
     ),
     (
         "two.tmPreferences",
-        r#"{"scope":"source.rust","settings":{"increaseIndentPattern":"\\($"}}"#,
+        r#"{"scope":"source.rust","settings":{"increaseIndentPattern":"^.*\\($"}}"#,
     ),
     (
         "c.tmPreferences",
@@ -29,7 +29,7 @@ const FIRST: [File; 5] = [
     ),
     (
         ".tmPreferences",
-        r#"{"scope":"source.rust","settings":{"increaseIndentPattern":"x$"}}"#,
+        r#"{"scope":"source.rust","settings":{"increaseIndentPattern":"^.*x$"}}"#,
     ),
 ];
 
