@@ -176,7 +176,7 @@ pub fn substituted(entry: &Entry<'_, '_>) -> Result<Option<Regex>, AllocError>
 }
 
 /// What is searched in a pattern's place, in a place of its own.
-pub fn owned(alloc: Global, substituted: Option<Regex>) -> Result<Option<OwnRegex>, AllocError>
+fn owned(alloc: Global, substituted: Option<Regex>) -> Result<Option<OwnRegex>, AllocError>
     ensures { IfOk result (λ own. own ≡ substituted) }
 {
     match substituted {

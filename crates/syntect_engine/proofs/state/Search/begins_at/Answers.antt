@@ -1,4 +1,4 @@
-use Rattle.std.proofs.Common.{◌≡◌, List, Bool, get_or, replicate, None}
+use Rattle.std.proofs.Common.{◌≡◌, Bool, get_or, replicate, None}
 use Rattle.std.specs.Prelude.{slice_get}
 use Rattle.syntect_pattern.specs.Trees.{nothing}
 use Rattle.syntect_pattern.specs.Matches.{matches}
