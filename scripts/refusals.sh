@@ -3,8 +3,8 @@
 #
 #   sh scripts/refusals.sh
 #
-# The program crates/syntect_edit_refusals shows some edits: the buffer before an edit, the answer, the buffer behind it, and
-# after the answer Memory the same edit once more. It is proved and built first, with the Rattle kit's command rt, where it
+# The program crates/syntect_bench shows some edits: the buffer before an edit, the answer, the buffer behind it, and after the
+# answer Memory the same edit once more. It is proved and built first, with the Rattle kit's command rt, where it
 # isn't yet. Then it is run with one request for memory refused, from the first request of an edit to the last, by a small
 # library in C that stands before the system's own; the C compiler is CC, or else cc.
 #
@@ -16,9 +16,9 @@ set -eu
 here=$(cd "$(dirname "$0")/.." && pwd)
 folder=$(mktemp -d)
 trap 'rm -rf "$folder"' EXIT
-cd "$here/crates/syntect_edit_refusals"
-[ -x out/syntect_edit_refusals ] || rt run > /dev/null
-program=$here/crates/syntect_edit_refusals/out/syntect_edit_refusals
+cd "$here/crates/syntect_bench"
+[ -x out/syntect_bench ] || rt run -- shown edits > /dev/null
+program=$here/crates/syntect_bench/out/syntect_bench
 
 cat > "$folder/refuse.c" <<'END'
 #define _GNU_SOURCE
@@ -107,6 +107,6 @@ refuse_each() {
     echo "$edits edits: $((request - first)) requests; to $answered of them the answer was Memory"
 }
 
-refuse_each
-refuse_each long
+refuse_each shown edits
+refuse_each shown edits long
 exit "$status"

@@ -9,6 +9,9 @@ use crate::modes::{MODES, Runs, fits, number_at, word_at};
 use std::process::ExitCode;
 use std::rt::{Clock, Files};
 use std::{env, io};
+use syntect_edit_trials::rows::run_edit_rows;
+use syntect_edit_trials::shown::show_edits;
+use syntect_edit_trials::tried::{time_edits_of, try_file};
 use syntect_queries::patterns::time_patterns;
 use syntect_queries::queries::{answers, count_answers, count_patterns, time_queries};
 use syntect_queries::searches::time_searches;
@@ -56,7 +59,7 @@ fn run(
 ) -> io::Result<ExitCode> {
     let (first, second) = (word_at(words, 1), word_at(words, 2));
     match runs {
-        Runs::Row => Ok(ExitCode::from(u8::from(!show_row(rt, first)?))),
+        Runs::Row => Ok(status_of(show_row(rt, first)?)),
         Runs::Answers => answers(rt, first),
         Runs::Themes => show_themes(rt, first),
         Runs::Styles => show_styles(rt, first, second),
@@ -64,12 +67,40 @@ fn run(
         Runs::Orderly => show_asked(rt, first, Asked::Orderly),
         Runs::Syntaxes => show_asked(rt, first, Asked::Syntaxes(second)),
         Runs::Scopes => show_asked(rt, first, Asked::Scopes(second)),
+        Runs::ShownEdits => Ok(status_of(show_edits(rt, false)?)),
+        Runs::ShownLongEdit => Ok(status_of(show_edits(rt, true)?)),
+        Runs::RandomEdits | Runs::TimeEdits => run_edits(rt, runs, words),
         Runs::TimeAtoms => time_atoms(rt),
         Runs::TimeSearches => time_searches(rt),
         Runs::TimeDocuments => time_documents(rt, second),
         Runs::TimeLoads => time_loads(rt, second),
         Runs::TimeStyles => time_styles(rt, second),
         _ => run_rounds(rt, runs, words),
+    }
+}
+
+/// The status of what comes out, or doesn't.
+fn status_of(comes_out: bool) -> ExitCode {
+    ExitCode::from(u8::from(!comes_out))
+}
+
+/// Edits the text of a file, as the words ask for.
+fn run_edits(
+    rt: &(impl Print + Eprint + AllocGlobal + Files + Clock),
+    runs: Runs,
+    words: &[String],
+) -> io::Result<ExitCode> {
+    match (runs, number_at(words, 4), number_at(words, 5)) {
+        (Runs::RandomEdits, Some(edits), Some(seed)) => {
+            let files = (word_at(words, 1), word_at(words, 2), word_at(words, 3));
+            Ok(status_of(try_file(rt, files, edits, seed)?))
+        }
+        (Runs::TimeEdits, _, Some(place)) => {
+            let files = (word_at(words, 2), word_at(words, 3), word_at(words, 4));
+            let rounds = number_at(words, 6).unwrap_or(1);
+            Ok(status_of(time_edits_of(rt, files, place, rounds)?))
+        }
+        _ => usage(rt),
     }
 }
 
@@ -128,11 +159,26 @@ fn run_patterns(rt: &(impl Print + AllocGlobal + Files)) -> io::Result<bool> {
     Ok(all)
 }
 
+/// What edits that look random are done on: grammars, a theme and a text; and how many edits there are, from which seed.
+const EDITED: (&str, &str, &str) = ("edited/grammars", "edited/dusk.json", "edited/backup.sh");
+
+const EDITS: u32 = 400;
+
+const SEED: u32 = 1;
+
+/// Edits that look random, and edits that are shown. Answers whether all comes out.
+fn run_trials(rt: &(impl Print + Eprint + AllocGlobal + Files)) -> io::Result<bool> {
+    let all = try_file(rt, EDITED, EDITS, SEED)?;
+    Ok(all & show_edits(rt, false)?)
+}
+
 /// Runs each example. The status is 0 if all come out as they are written, else 1.
-fn run_rows(rt: &(impl Print + AllocGlobal + Files)) -> io::Result<ExitCode> {
+fn run_rows(rt: &(impl Print + Eprint + AllocGlobal + Files)) -> io::Result<ExitCode> {
     let mut all = run_calls(rt)?;
     all &= run_row_files(rt)?;
     all &= run_scope_rows(rt)?;
+    all &= run_edit_rows(rt)?;
     all &= run_patterns(rt)?;
-    Ok(ExitCode::from(u8::from(!all)))
+    all &= run_trials(rt)?;
+    Ok(status_of(all))
 }

@@ -19,6 +19,13 @@ pub enum Runs {
     Syntaxes,
     /// Prints the scopes of a text by the grammars of a folder.
     Scopes,
+    /// Does edits that look random on the text of a file, and prints how many lines differ from a new highlighter's.
+    RandomEdits,
+    /// Shows some edits, or one of a text of as many lines as a block of a buffer has.
+    ShownEdits,
+    ShownLongEdit,
+    /// Prints how long edits of a line take.
+    TimeEdits,
     /// Prints how long a repository takes for 60000 new atoms.
     TimeAtoms,
     /// Prints how long searches take a character.
@@ -40,7 +47,7 @@ pub enum Runs {
 }
 
 /// The words of each, in capitals what stands for any word.
-pub const MODES: [(&str, Runs); 17] = [
+pub const MODES: [(&str, Runs); 21] = [
     ("row FILE", Runs::Row),
     ("answers FILE", Runs::Answers),
     ("themes FOLDER", Runs::Themes),
@@ -49,6 +56,10 @@ pub const MODES: [(&str, Runs); 17] = [
     ("orderly FOLDER", Runs::Orderly),
     ("which FOLDER LIST", Runs::Syntaxes),
     ("scopes FOLDER FILE", Runs::Scopes),
+    ("edits FOLDER THEME FILE N SEED", Runs::RandomEdits),
+    ("shown edits", Runs::ShownEdits),
+    ("shown edits long", Runs::ShownLongEdit),
+    ("time edits FOLDER THEME FILE LINE N", Runs::TimeEdits),
     ("time atoms", Runs::TimeAtoms),
     ("time searches", Runs::TimeSearches),
     ("time yaml FOLDER", Runs::TimeDocuments),

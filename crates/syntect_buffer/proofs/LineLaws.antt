@@ -1,5 +1,5 @@
 -- One line, read from the states at its start.
-use Rattle.std.proofs.Common.{◌≡◌, ℕ, ◌+◌, ◌<◌, ◌^◌, List, ◌∷◌, ◌++◌, length, map, Result, Ok, Err, sym, ap, subst, ◌∙◌, refl, arith}
+use Rattle.std.proofs.Common.{◌≡◌, ℕ, ◌+◌, ◌<◌, ◌^◌, List, ◌∷◌, ◌++◌, length, map, Result, Ok, Err, sym, ap, subst, ◌∙◌, refl, arith, inl, inr}
 use Rattle.std.specs.Borrow.{Bor}
 use Rattle.std.specs.Global.{Vec}
 use Rattle.std.specs.declared.ops.Range.{Range}
@@ -18,12 +18,13 @@ use Rattle.syntect.specs.Leads.{Past, IsPast, RunsOrderly, styles_of, reader_of}
 use Rattle.syntect.specs.Leads as leads
 use Rattle.syntect.specs.declared.easy.HighlightLines.{HighlightLines}
 use Rattle.syntect_buffer.specs.Answers.{Follow, IsRefusal, styles_in, total, ranges_from}
-use Rattle.syntect_buffer.specs.States.{Holds}
+use Rattle.syntect_buffer.specs.States.{Holds, IsLeft}
 use Rattle.syntect_buffer.specs.Kept.{Continues, IsReadFrom}
 use Rattle.syntect_buffer.specs.declared.answer.LineAnswer.{LineAnswer}
 use Rattle.syntect_buffer.specs.declared.answer.LineAnswer.TheVariants as answer
 use Rattle.syntect_buffer.specs.declared.states.LineStates.{LineStates}
 use Rattle.syntect_buffer.specs.declared.reading.Reading.{Reading}
+use Rattle.syntect_buffer.proofs.HeldLaws.{holds_same}
 use Rattle.syntect_buffer.proofs.RangeLaws.{ranges_follow, ranges_styled}
 
 -- a highlighter was resumed from the states at a line's start
@@ -66,3 +67,19 @@ refused_line set theme before line h new e a after resumed given refusal s r = r
     answer = refusal;
   };
 }
+
+-- what a line leaves may be kept as the states before it, where those after it stand alike
+pub left_read : (set : SyntaxSet) (theme : Theme) (before : LineStates) (line : List ℕ) (a : LineAnswer) (after left : LineStates)
+    → IsReadFrom set theme before line (record { answer = a; after = after }) → IsLeft before after left → IsReadFrom set theme before line (record { answer = a; after = left })
+left_read set theme before line a after left h (inl e) = subst (λ (s : LineStates). IsReadFrom set theme before line (record { answer = a; after = s })) (sym e) h
+left_read set theme before line a after left h (inr same) =
+    let kept : IsReadFrom set theme before line (record { answer = a; after = before }) = record {
+      continues = λ past t k.
+          let c = h.continues past t k in
+          record {
+            given = c.given;
+            holds = holds_same theme set past (leads.and_then past line c.given) before after t t k c.holds same.1;
+            answer = c.answer;
+          };
+    } in
+    subst (λ (s : LineStates). IsReadFrom set theme before line (record { answer = a; after = s })) (sym same.0) kept

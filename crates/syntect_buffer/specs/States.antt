@@ -1,5 +1,5 @@
 -- The states at the start of a line, and pasts that lead there.
-use Rattle.std.specs.Prelude.{◌≡◌, ℕ, List, [], ◌∷◌, ◌++◌}
+use Rattle.std.specs.Prelude.{◌≡◌, ◌⊎◌, ℕ, List, [], ◌∷◌, ◌++◌}
 use Rattle.syntect_style.specs.Pieces.{path_of}
 use Rattle.syntect_theme.specs.declared.theme.Theme.{Theme}
 use Rattle.syntect_parsing.specs.Line.{Answer}
@@ -15,6 +15,10 @@ use Rattle.syntect_buffer.specs.declared.states.LineStates.{LineStates}
 pub record StandSame (a b : LineStates) : Type 0 where
   pub reader : standing a.reader ≡ standing b.reader
   pub styles : path_of a.styles ≡ path_of b.styles
+
+-- What a line leaves: the states that were there before it, where those after it stand alike, or else those after it.
+abbrev pub IsLeft : LineStates → LineStates → LineStates → Type 0
+IsLeft before after left = (left ≡ after) ⊎ ((left ≡ before) × StandSame before after)
 
 -- a highlighter with this past holds these states
 pub record Holds (past : Past) (set : SyntaxSet) (s : LineStates) : Type 0 where

@@ -8,7 +8,7 @@ ghost use Rattle.syntect_buffer.specs.Fresh.{IsReadWith, IsAnswerAt, ReadsAgain}
 use crate::answer::LineAnswer;
 use crate::edits::{insert_at, remove_at, set_at};
 use crate::reading::Kept;
-use crate::states::LineStates;
+use crate::states::{LineStates, SharedStates};
 use std::alloc::{AllocError, Global};
 use std::marker::Model;
 use syntect::easy::HighlightLines;
@@ -61,7 +61,7 @@ impl<'a> LineBuffer<'a> {
             syntax_set,
             theme,
             kept: Kept {
-                start: LineStates { styles, reader },
+                start: SharedStates::new(alloc, LineStates { styles, reader })?,
                 lines: Blocks::new(alloc),
                 readings: Blocks::new(alloc),
             },

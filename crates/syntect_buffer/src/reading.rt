@@ -4,7 +4,7 @@ ghost use Rattle.std.proofs.lemmas.List.Edits.{sets};
 ghost use Rattle.syntect_buffer.specs.Kept.{IsReadFrom, AreReadAgain, ending, lines_in};
 
 use crate::answer::{LineAnswer, ranges_of, refusal};
-use crate::states::{LineStates, copied, stand_same};
+use crate::states::{LineStates, SharedStates, copied, left, stand_same};
 use std::alloc::{AllocError, Global};
 use syntect::easy::HighlightLines;
 use syntect_blocks::blocks::Blocks;
@@ -16,13 +16,13 @@ use syntect_theme::theme::Theme;
 #[derive(Drop)]
 pub(crate) struct Reading {
     pub(crate) answer: LineAnswer,
-    pub(crate) after: LineStates,
+    pub(crate) after: SharedStates,
 }
 
 /// The lines of a buffer, their readings, and the states before the first one.
 #[derive(Drop)]
 pub(crate) struct Kept {
-    pub(crate) start: LineStates,
+    pub(crate) start: SharedStates,
     pub(crate) lines: Blocks<String>,
     pub(crate) readings: Blocks<Reading>,
 }
@@ -32,14 +32,15 @@ pub(crate) fn read(
     alloc: Global,
     set: &SyntaxSet,
     theme: &Theme,
-    before: &LineStates,
+    before: &SharedStates,
     line: &str,
 ) -> Result<Reading, AllocError>
     ensures { IfOk result (λ r. IsReadFrom set.now theme.now before.now line.now r) }
 {
     prove!(line.len() <= usize::MAX);
-    let styles = before.styles.clone()?;
-    let reader = copied(&before.reader)?;
+    let states = before.states();
+    let styles = states.styles.clone()?;
+    let reader = copied(&states.reader)?;
     let mut lines = HighlightLines::from_state(alloc, theme, styles, reader)?;
     let answer = match lines.highlight_line(alloc, line, set) {
         Ok(pieces) => LineAnswer::Pieces(ranges_of(alloc, pieces.as_slice())?),
@@ -47,18 +48,16 @@ pub(crate) fn read(
         Err(_) => return Err(AllocError),
     };
     let (styles, reader) = lines.state();
-    Ok(Reading {
-        answer,
-        after: LineStates { styles, reader },
-    })
+    let after = left(alloc, before, LineStates { styles, reader })?;
+    Ok(Reading { answer, after })
 }
 
 /// The states at the start of a line, where the first line starts from `start`; behind the last line, those after it.
 pub(crate) fn states_at<'a>(
-    start: &'a LineStates,
+    start: &'a SharedStates,
     readings: &'a Blocks<Reading>,
     place: usize,
-) -> &'a LineStates
+) -> &'a SharedStates
     requires { place ≤ length readings.now }
     ensures { result.now ≡ ending start.now (take place readings.now) }
 {
@@ -70,7 +69,7 @@ pub(crate) fn states_at<'a>(
 }
 
 /// The states after some readings that begin with `now`.
-fn states_after<'a>(now: &'a LineStates, readings: &'a [Reading]) -> &'a LineStates
+fn states_after<'a>(now: &'a SharedStates, readings: &'a [Reading]) -> &'a SharedStates
     ensures { result.now ≡ ending now.now readings.now }
 {
     match readings.last() {
@@ -87,7 +86,7 @@ pub(crate) fn read_again(
     theme: &Theme,
     kept: &Kept,
     place: usize,
-    now: &LineStates,
+    now: &SharedStates,
 ) -> Result<Vec<Reading>, AllocError>
     requires count { length kept.now.lines ≡ length kept.now.readings }
     requires within { place ≤ length kept.now.readings }

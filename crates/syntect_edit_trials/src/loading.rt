@@ -5,8 +5,15 @@ use std::rt::Files;
 use syntect::highlighting::{Theme, ThemeSet};
 use syntect::parsing::{ScopeRepository, SyntaxReference, SyntaxSet, SyntaxSetBuilder};
 
+/// What texts are read with.
+#[derive(Drop)]
+pub struct Given {
+    pub set: SyntaxSet,
+    pub theme: Theme,
+}
+
 /// Plain text and the grammars in a folder, for lines with their newlines.
-pub fn set_of(
+fn set_of(
     files: &impl Files,
     alloc: Global,
     folder: &str,
@@ -19,6 +26,14 @@ pub fn set_of(
         .add_from_folder(files, alloc, folder, true, repository)
         .ok()?;
     builder.build(alloc, repository).ok()
+}
+
+/// Plain text, the grammars in a folder, and the theme of a file.
+pub fn given_of(files: &impl Files, alloc: Global, folder: &str, theme: &str) -> Option<Given> {
+    let mut repository = ScopeRepository::new(alloc);
+    let set = set_of(files, alloc, folder, &mut repository)?;
+    let theme = ThemeSet::get_theme(files, alloc, Path::new(theme), &mut repository).ok()?;
+    Some(Given { set, theme })
 }
 
 /// The syntax of a file.
@@ -35,14 +50,4 @@ pub fn syntax_of<'s>(
         Some(syntax) => Some(syntax),
         None => set.find_syntax_plain_text(),
     }
-}
-
-/// The theme of a file.
-pub fn theme_of(
-    files: &impl Files,
-    alloc: Global,
-    path: &str,
-    repository: &mut ScopeRepository,
-) -> Option<Theme> {
-    ThemeSet::get_theme(files, alloc, Path::new(path), repository).ok()
 }

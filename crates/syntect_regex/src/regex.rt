@@ -22,11 +22,20 @@ use syntect_pattern_table::program::Program;
 use syntect_pattern_table::starts::Places;
 
 /// A pattern, ready to be searched. It is its text: equal texts are equal patterns.
-#[derive(Drop)]
 pub struct Regex {
     text: String,
     /// None if the text is no pattern.
     program: Option<Program>,
+}
+
+/// Written out, so that crates above call it and needn't prove each part's drop again.
+impl Drop for Regex {
+    fn drop(self) {
+        let Regex {
+            text: _,
+            program: _,
+        } = self;
+    }
 }
 
 impl Model for Regex {

@@ -12,10 +12,19 @@ use syntect_pattern_table::program::Program;
 
 /// Where each group of a match stands, from 0, which is the whole match. A region also keeps the memory of the last search
 /// for the next one: to search many times, hand in the same one.
-#[derive(Drop)]
 pub struct Region {
     positions: Vec<Option<Span>>,
     search: Search,
+}
+
+/// Written out, so that crates above call it and needn't prove each part's drop again.
+impl Drop for Region {
+    fn drop(self) {
+        let Region {
+            positions: _,
+            search: _,
+        } = self;
+    }
 }
 
 impl Model for Region {

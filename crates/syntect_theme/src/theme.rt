@@ -23,7 +23,7 @@ pub enum UnderlineOption {
 }
 
 /// A theme: its rules, and the colours of what stands round the text.
-#[derive(Debug, Drop, PartialEq)]
+#[derive(Debug, PartialEq)]
 pub struct Theme {
     /// Its name.
     pub name: Option<Text>,
@@ -33,6 +33,18 @@ pub struct Theme {
     pub settings: ThemeSettings,
     /// The rules, in order.
     pub scopes: Seq<ThemeItem>,
+}
+
+/// Written out, so that crates above call it and needn't prove each part's drop again.
+impl Drop for Theme {
+    fn drop(self) {
+        let Theme {
+            name: _,
+            author: _,
+            settings: _,
+            scopes: _,
+        } = self;
+    }
 }
 
 /// The colours of an editor. `foreground` and `background` are also those of text that no rule styles.
@@ -101,12 +113,19 @@ pub struct ThemeSettings {
 }
 
 /// A rule: where it acts, and what it changes.
-#[derive(Debug, Drop, PartialEq)]
+#[derive(Debug, PartialEq)]
 pub struct ThemeItem {
     /// Where it acts.
     pub scope: ScopeSelectors,
     /// What it changes.
     pub style: StyleModifier,
+}
+
+/// Written out, so that crates above call it and needn't prove each part's drop again.
+impl Drop for ThemeItem {
+    fn drop(self) {
+        let ThemeItem { scope: _, style: _ } = self;
+    }
 }
 
 impl Theme {

@@ -280,7 +280,7 @@ pub(crate) fn theme(
     ensures kept { take (length repository.old) repository.new ≡ repository.old }
 {
     repository.is_whole();
-    let theme = match head(alloc, value) {
+    let mut theme = match head(alloc, value) {
         Ok(theme) => theme,
         Err(e) => return Err(e),
     };
@@ -288,6 +288,6 @@ pub(crate) fn theme(
         Ok(items) => items,
         Err(e) => return Err(e),
     };
-    let scopes = rules(alloc, later(items), repository)?;
-    Ok(Theme { scopes, ..theme })
+    theme.scopes = rules(alloc, later(items), repository)?;
+    Ok(theme)
 }

@@ -3,7 +3,7 @@ use Rattle.syntect_parsing.specs.States.{standing}
 use Rattle.syntect_buffer.specs.Kept.{IsReadFrom}
 use Rattle.syntect_buffer.specs.declared.answer.LineAnswer.{LineAnswer}
 use Rattle.syntect_buffer.specs.declared.states.LineStates.{LineStates}
-use Rattle.syntect_buffer.proofs.LineLaws.{IsResumed, accepted_line, refused_line}
+use Rattle.syntect_buffer.proofs.LineLaws.{IsResumed, accepted_line, refused_line, left_read}
 use Rattle.syntect_buffer.proofs.reading.read.Goals as goal
 use Rattle.syntect_buffer.proofs.reading.read.Goals.{in-Ok+in_ok-ranges_of-in-Ok, in-Err-ParsingError+in_ok-answer-in-Err-ParsingError}
 
@@ -14,10 +14,13 @@ returns c =
     let before = c.args.before.now in
     let after : LineStates = record { styles = c.state-styles.result.0; reader = c.state-styles.result.1 } in
     let resumed : IsResumed set theme before c.in_ok-lines.lines =
-    λ past k t p e f. c.in_ok-lines.ensures.leads past set k t p (e ∙ sym c.in_ok-styles.ensures) (f ∙ sym (ap standing c.in_ok-reader.ensures)) in
-    elim c.match-highlight_line.branch [
+    λ past k t p e f. c.in_ok-lines.ensures.leads past set k t p
+    (e ∙ ap (λ (s : LineStates). s.styles) (sym c.states-states.ensures) ∙ sym c.in_ok-styles.ensures)
+    (f ∙ ap (λ (s : LineStates). standing s.reader) (sym c.states-states.ensures) ∙ sym (ap standing c.in_ok-reader.ensures)) in
+    let read : IsReadFrom set theme before c.args.line.now (record { answer = c.match-highlight_line.answer; after = after }) = elim c.match-highlight_line.branch [
       | in-Ok+in_ok-ranges_of-in-Ok w ↦ subst (λ (a : LineAnswer). IsReadFrom set theme before c.args.line.now (record { answer = a; after = after })) (sym w.answer-is)
           (accepted_line set theme before c.args.line c.in_ok-lines.lines c.highlight_line.new.self w.in-Ok.pieces w.in_ok-ranges_of-in-Ok.field-0 after resumed w.in-Ok.ensures.answered (rw w.as_slice.ensures.value at w.in_ok-ranges_of-in-Ok.ensures) (omega (arith, c.if-prove.false)) c.state-styles.ensures.highlight c.state-styles.ensures.parse)
       | in-Err-ParsingError+in_ok-answer-in-Err-ParsingError w ↦ subst (λ (a : LineAnswer). IsReadFrom set theme before c.args.line.now (record { answer = a; after = after })) (sym w.answer-is)
-          (refused_line set theme before c.args.line c.in_ok-lines.lines c.highlight_line.new.self w.in-Err-ParsingError.e w.in_ok-answer-in-Err-ParsingError.answer after resumed (rw w.in-Err-ParsingError.field-0-is at w.in-Err-ParsingError.ensures.answered) (rw w.in-Err-ParsingError.field-0-is at w.in_ok-answer-in-Err-ParsingError.ensures) c.state-styles.ensures.highlight c.state-styles.ensures.parse)
-    ]
+          (refused_line set theme before c.args.line c.in_ok-lines.lines c.highlight_line.new.self w.in-Err-ParsingError.e w.in_ok-answer-in-Err-ParsingError.answer after resumed (rw w.in-Err-ParsingError.field-0-is at w.in-Err-ParsingError.ensures.answered) w.in_ok-answer-in-Err-ParsingError.ensures c.state-styles.ensures.highlight c.state-styles.ensures.parse)
+    ] in
+    left_read set theme before c.args.line.now c.match-highlight_line.answer after c.in_ok-after.after read c.in_ok-after.ensures

@@ -1,6 +1,9 @@
+use Rattle.std.proofs.Common.{ap, ◌∙◌}
+use Rattle.syntect_buffer.specs.declared.states.LineStates.{LineStates}
 use Rattle.syntect_buffer.proofs.StartLaws.{kept_none}
 use Rattle.syntect_buffer.proofs.buffer.LineBuffer.new.Goals as goal
 
 pub invariant_of-result : goal.invariant_of-result
 invariant_of-result c =
-    kept_none c.args.syntax_set.now c.args.theme.now c.args.syntax.now c.in-Ok.lines _ c.in-Ok.ensures.leads c.state-styles.ensures.highlight c.state-styles.ensures.parse (cc) (cc)
+    kept_none c.args.syntax_set.now c.args.theme.now c.args.syntax.now c.in-Ok.lines _ c.in-Ok.ensures.leads
+    (ap (λ (s : LineStates). s.styles) c.in_ok-new.ensures ∙ c.state-styles.ensures.highlight) (ap (λ (s : LineStates). s.reader) c.in_ok-new.ensures ∙ c.state-styles.ensures.parse) (cc) (cc)

@@ -1,4 +1,5 @@
-//! The edits.
+//! The edits that are shown.
+use crate::given::Edit;
 
 /// A text of lines that ends with the word that it began with.
 const DOCUMENT: &str =
@@ -8,14 +9,6 @@ const DOCUMENT: &str =
 const LACKING: &str =
     "name: T\nscope: source.t\ncontexts:\n  main:\n    - match: x\n      push: scope:source.none\n";
 
-/// An edit at a line.
-#[derive(Clone, Copy)]
-pub enum Edit {
-    Insert(usize, &'static str),
-    Set(usize, &'static str),
-    Remove(usize),
-}
-
 /// An edit of a text.
 pub struct Case {
     pub name: &'static str,
@@ -23,7 +16,7 @@ pub struct Case {
     /// The lines of the text, and how often they stand in it.
     pub lines: &'static [&'static str],
     pub times: u32,
-    pub edit: Edit,
+    pub edit: Edit<'static>,
 }
 
 const LINES: &[&str] = &["<<EOT\n", "x\n", "EOT\n", "y\n"];

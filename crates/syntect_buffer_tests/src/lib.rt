@@ -1,9 +1,0 @@
-//! Tests of a buffer of lines, by values from outside.
-//!
-//! They stand in a crate of their own, since a crate that has tests is proved a second time with them.
-#![tactic(auto)]
-
-#[cfg(test)]
-mod given;
-#[cfg(test)]
-mod rows;
