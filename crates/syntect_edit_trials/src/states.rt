@@ -8,6 +8,7 @@ use syntect_buffer::answer::LineAnswer;
 use syntect_buffer::buffer::LineBuffer;
 
 /// The lines of a buffer without their newlines, each in brackets with its answer. Written without memory of its own.
+#[derive(Clone, Copy)]
 pub struct Lines<'b, 'a>(pub &'b LineBuffer<'a>);
 
 /// Writes styled ranges: the bytes of each and its foreground.

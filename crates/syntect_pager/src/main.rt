@@ -14,26 +14,30 @@ use syntect::util::{LinesWithEndings, as_24_bit_terminal_escaped};
 
 /// Plain text and the grammars in a folder, for lines with their newlines.
 fn load_set(
-    rt: &(impl AllocGlobal + Files),
+    rt: &(impl AllocGlobal + Eprint + Files),
     folder: Path<'_>,
     repository: &mut ScopeRepository,
 ) -> Result<SyntaxSet> {
     let mut builder = SyntaxSetBuilder::new(rt.alloc());
     builder.add_plain_text_syntax(rt.alloc(), repository)?;
     if let Err(e) = builder.add_from_folder(rt, rt.alloc(), folder, true, repository) {
-        bail!("{}", why_not_loaded(rt, rt.alloc(), folder, &e)?);
+        eprintln!(rt; "{}", why_not_loaded(rt, rt.alloc(), folder, &e)?)?;
+        bail!("no grammars");
     }
     Ok(builder.build(rt.alloc(), repository)?)
 }
 
 fn load_theme(
-    rt: &(impl AllocGlobal + Files),
+    rt: &(impl AllocGlobal + Eprint + Files),
     path: Path<'_>,
     repository: &mut ScopeRepository,
 ) -> Result<Theme> {
     match ThemeSet::get_theme(rt, rt.alloc(), path, repository) {
         Ok(theme) => Ok(theme),
-        Err(e) => bail!("{}", why_not_loaded(rt, rt.alloc(), path, &e)?),
+        Err(e) => {
+            eprintln!(rt; "{}", why_not_loaded(rt, rt.alloc(), path, &e)?)?;
+            bail!("no theme")
+        }
     }
 }
 
