@@ -71,8 +71,8 @@ refused_line set theme before line h new e a after resumed given refusal s r = r
 -- what a line leaves may be kept as the states before it, where those after it stand alike
 pub left_read : (set : SyntaxSet) (theme : Theme) (before : LineStates) (line : List ℕ) (a : LineAnswer) (after left : LineStates)
     → IsReadFrom set theme before line (record { answer = a; after = after }) → IsLeft before after left → IsReadFrom set theme before line (record { answer = a; after = left })
-left_read set theme before line a after left h (inl e) = subst (λ (s : LineStates). IsReadFrom set theme before line (record { answer = a; after = s })) (sym e) h
-left_read set theme before line a after left h (inr same) =
+left_read set theme before line a after left h (inr e) = subst (λ (s : LineStates). IsReadFrom set theme before line (record { answer = a; after = s })) (sym e.0) h
+left_read set theme before line a after left h (inl same) =
     let kept : IsReadFrom set theme before line (record { answer = a; after = before }) = record {
       continues = λ past t k.
           let c = h.continues past t k in

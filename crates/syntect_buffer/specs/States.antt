@@ -18,7 +18,7 @@ pub record StandSame (a b : LineStates) : Type 0 where
 
 -- What a line leaves: the states that were there before it, where those after it stand alike, or else those after it.
 abbrev pub IsLeft : LineStates → LineStates → LineStates → Type 0
-IsLeft before after left = (left ≡ after) ⊎ ((left ≡ before) × StandSame before after)
+IsLeft before after left = ((left ≡ before) × StandSame before after) ⊎ ((left ≡ after) × ¬ (StandSame before after))
 
 -- a highlighter with this past holds these states
 pub record Holds (past : Past) (set : SyntaxSet) (s : LineStates) : Type 0 where
