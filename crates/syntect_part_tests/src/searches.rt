@@ -14,6 +14,13 @@ fn keeps_a_region_without_a_match(rt: HostRuntime) -> Result<(), Fail> {
     assert!(rt; region == before);
     assert_eq!(rt; region.pos(0), Some((1, 2)));
     assert_eq!(rt; region.pos(1), None);
+    Ok(())
+}
+
+#[test]
+fn copies_are_searched_alike(rt: HostRuntime) -> Result<(), Fail> {
+    let regex = Regex::new(rt.alloc(), String::from_str(rt.alloc(), "b")?)?;
+    let copy = regex.clone(rt.alloc())?;
     assert!(rt; !regex.is_match(rt.alloc(), "ab")?);
     assert!(rt; regex.is_match(rt.alloc(), "ba")?);
     assert!(rt; regex == copy);

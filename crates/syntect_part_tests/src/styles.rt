@@ -82,6 +82,18 @@ fn the_deepest_place_counts(rt: HostRuntime) -> io::Result<()> {
     assert_eq!(rt; highlighter.get_default().apply(modifier), style);
     assert_eq!(rt; highlighter.style_for_stack(&[a, b])?.foreground, SECOND);
     assert_eq!(rt; highlighter.style_for_stack(&[])?, Style::default());
+    Ok(())
+}
+
+#[test]
+fn the_deepest_place_counts_piece_by_piece(rt: HostRuntime) -> io::Result<()> {
+    let alloc = rt.alloc();
+    let mut repository = ScopeRepository::new(alloc);
+    let a = scope(&mut repository, "a");
+    let b = scope(&mut repository, "b");
+    let theme = theme_of(alloc, &[(a, ON_TEXT), (b, OTHER_ON_TEXT)])?;
+    let highlighter = Highlighter::new(alloc, &theme)?;
+    let style = Style::default().apply(ON_TEXT);
     let mut state = HighlightState::new(&highlighter, ScopeStack::new(alloc));
     let changes = [
         (0, ScopeStackOp::Push(a)),
@@ -189,7 +201,7 @@ fn a_refused_operation_ends_the_pieces(rt: HostRuntime) -> io::Result<()> {
 }
 
 #[test]
-fn copies_and_defaults(rt: HostRuntime) -> io::Result<()> {
+fn copies_of_themes(rt: HostRuntime) -> io::Result<()> {
     let alloc = rt.alloc();
     one_prevails::<Color>();
     let mut item = ThemeItem::default(alloc);
@@ -200,6 +212,12 @@ fn copies_and_defaults(rt: HostRuntime) -> io::Result<()> {
     let mut theme = Theme::default(alloc);
     theme.scopes.push(item.clone()?)?;
     assert!(rt; theme.clone()? == theme);
+    Ok(())
+}
+
+#[test]
+fn copies_of_settings_and_scores(rt: HostRuntime) -> io::Result<()> {
+    let alloc = rt.alloc();
     let mut settings = ThemeSettings::default();
     settings.caret = Some(SECOND);
     settings.popup_css = Some(Text::from_str(alloc, "p {}")?);

@@ -33,12 +33,18 @@ fn pair(alloc: Global, x: u16, y: u16) -> Result<Seq<u16>, AllocError> {
     Ok(seq)
 }
 
-#[test]
-fn sequences(rt: HostRuntime) -> io::Result<()> {
-    let alloc = rt.alloc();
+/// Two sequences in a sequence.
+fn two_pairs(alloc: Global) -> Result<Seq<Seq<u16>>, AllocError> {
     let mut outer = Seq::new(alloc);
     outer.push(pair(alloc, 1, 2)?)?;
     outer.push(pair(alloc, 3, 4)?)?;
+    Ok(outer)
+}
+
+#[test]
+fn equal_sequences(rt: HostRuntime) -> io::Result<()> {
+    let alloc = rt.alloc();
+    let outer = two_pairs(alloc)?;
     let mut other = Seq::new(alloc);
     other.push(pair(alloc, 1, 2)?)?;
     assert!(rt; !same(&outer, &other));
@@ -46,10 +52,24 @@ fn sequences(rt: HostRuntime) -> io::Result<()> {
     assert!(rt; same(&outer, &other));
     assert_eq!(rt; outer.len(), 2);
     assert!(rt; outer.get(2).is_none());
+    Ok(())
+}
+
+#[test]
+fn shorter_sequences(rt: HostRuntime) -> io::Result<()> {
+    let alloc = rt.alloc();
+    let outer = two_pairs(alloc)?;
+    let mut other = two_pairs(alloc)?;
     other.truncate(1);
     assert!(rt; other < outer);
     assert!(rt; other.pop().is_some());
     assert!(rt; other.is_empty());
+    Ok(())
+}
+
+#[test]
+fn longer_sequences(rt: HostRuntime) -> io::Result<()> {
+    let alloc = rt.alloc();
     let mut flat = pair(alloc, 5, 6)?;
     flat.extend_from_slice(&[7])?;
     assert_eq!(rt; flat.iter().copied().max(), Some(7));

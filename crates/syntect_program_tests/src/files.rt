@@ -72,18 +72,20 @@ fn grammars_are_named_with_line_and_column(rt: HostRuntime) -> Result<(), Fail> 
     assert_eq!(rt; none.as_str(), "");
     let mut file = folder.clone()?;
     file.push("a.sublime-syntax")?;
-    fs::write(&rt, file.as_path(), "scope: s\n")?;
-    let key = told_of_grammars(&rt, folder.as_path())?;
-    assert_eq!(rt;
-        key.as_str(),
-        "/a.sublime-syntax: Missing mandatory key in YAML file: contexts"
-    );
-    fs::write(&rt, file.as_path(), "scope: s\ncontexts:\n\tmain: []\n")?;
-    let yaml = told_of_grammars(&rt, folder.as_path())?;
-    assert_eq!(rt;
-        yaml.as_str(),
-        "/a.sublime-syntax:3:1: Invalid YAML file syntax"
-    );
+    for (text, wanted) in [
+        (
+            "scope: s\n",
+            "/a.sublime-syntax: Missing mandatory key in YAML file: contexts",
+        ),
+        (
+            "scope: s\ncontexts:\n\tmain: []\n",
+            "/a.sublime-syntax:3:1: Invalid YAML file syntax",
+        ),
+    ] {
+        fs::write(&rt, file.as_path(), text)?;
+        let told = told_of_grammars(&rt, folder.as_path())?;
+        assert_eq!(rt; told.as_str(), wanted);
+    }
     fs::remove_dir_all(&rt, folder.as_path())?;
     let nothing = told_of_grammars(&rt, folder.as_path())?;
     assert_eq!(rt;
@@ -98,24 +100,22 @@ fn themes_are_named_with_what_helps(rt: HostRuntime) -> Result<(), Fail> {
     let folder = folder(&rt, "syntect_told_themes")?;
     let mut file = folder.clone()?;
     file.push("a.json")?;
-    fs::write(&rt, file.as_path(), "<?xml version=\"1.0\"?>\n<plist/>\n")?;
-    let xml = told_of_theme(&rt, file.as_path())?;
-    assert_eq!(rt;
-        xml.as_str(),
-        ": this is XML; docs/THEMES.md says how to make it JSON"
-    );
-    fs::write(&rt, file.as_path(), "{\"name\":1.5}")?;
-    let float = told_of_theme(&rt, file.as_path())?;
-    assert_eq!(rt;
-        float.as_str(),
-        ": Invalid syntax theme settings: the text is no JSON, or a number in it is no whole one; docs/THEMES.md says how to make a property list JSON"
-    );
-    fs::write(&rt, file.as_path(), "[]")?;
-    let list = told_of_theme(&rt, file.as_path())?;
-    assert_eq!(rt; list.as_str(), ": Invalid syntax theme: Incorrect syntax");
-    fs::write(&rt, file.as_path(), "{\"settings\":[{\"settings\":{}}]}")?;
-    let theme = told_of_theme(&rt, file.as_path())?;
-    assert_eq!(rt; theme.as_str(), "");
+    for (text, wanted) in [
+        (
+            "<?xml version=\"1.0\"?>\n<plist/>\n",
+            ": this is XML; docs/THEMES.md says how to make it JSON",
+        ),
+        (
+            "{\"name\":1.5}",
+            ": Invalid syntax theme settings: the text is no JSON, or a number in it is no whole one; docs/THEMES.md says how to make a property list JSON",
+        ),
+        ("[]", ": Invalid syntax theme: Incorrect syntax"),
+        ("{\"settings\":[{\"settings\":{}}]}", ""),
+    ] {
+        fs::write(&rt, file.as_path(), text)?;
+        let told = told_of_theme(&rt, file.as_path())?;
+        assert_eq!(rt; told.as_str(), wanted);
+    }
     fs::remove_dir_all(&rt, folder.as_path())?;
     let nothing = told_of_theme(&rt, file.as_path())?;
     assert!(rt; nothing.as_str().starts_with(": error reading a file: "));

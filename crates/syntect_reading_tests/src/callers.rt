@@ -31,18 +31,36 @@ const THREE: Color = Color {
 };
 
 #[test]
-fn pages_and_third_lines(rt: HostRuntime) -> Result<(), Fail> {
+fn pages_of_one_line(rt: HostRuntime) -> Result<(), Fail> {
     let alloc = rt.alloc();
     let mut repository = ScopeRepository::new(alloc);
     let mut bytes = THEME.as_bytes();
     let theme: Theme = ThemeSet::load_from_reader(alloc, &mut bytes, &mut repository)?;
     let page = page_of(alloc, &mut repository, HEREDOC, &theme, "<<E\n")?;
     assert!(rt; page.is_some_and(|page| page.as_str() == PAGE));
+    Ok(())
+}
+
+#[test]
+fn third_lines_of_grammars(rt: HostRuntime) -> Result<(), Fail> {
+    let alloc = rt.alloc();
+    let mut repository = ScopeRepository::new(alloc);
+    let mut bytes = THEME.as_bytes();
+    let theme: Theme = ThemeSet::load_from_reader(alloc, &mut bytes, &mut repository)?;
     let grammars = (HEREDOC, "scope: s\ncontexts: {main: []}\n");
     let lines = ("<<E\n", "x\n", "E\n");
     let pieces = third_line_of(alloc, &mut repository, grammars, &theme, lines)?;
     let pieces = pieces.ok_or("no pieces")?;
     assert_eq!(rt; pieces.len(), 2);
+    Ok(())
+}
+
+#[test]
+fn third_lines_of_a_builder(rt: HostRuntime) -> Result<(), Fail> {
+    let alloc = rt.alloc();
+    let mut repository = ScopeRepository::new(alloc);
+    let mut bytes = THEME.as_bytes();
+    let theme: Theme = ThemeSet::load_from_reader(alloc, &mut bytes, &mut repository)?;
     let definition = SyntaxDefinition::load_from_str(alloc, HEREDOC, true, None, &mut repository)?;
     let mut builder = SyntaxSetBuilder::new(alloc);
     builder.add(definition)?;
