@@ -1,12 +1,12 @@
 -- The repository grows at its end, and numbers stay.
 use Rattle.std.proofs.Common.{◌≡◌, ◌==◌, ℕ, zero, suc, ◌+◌, ◌≤◌, ◌<◌, Bool, true, false, List, [], ◌∷◌, ◌++◌, length, take, refl, ap, sym, ◌∙◌, ◌||◌, arith, Option, Some, None, is_some, if◌then◌else◌, length-append, append_assoc, map, drop, get_or, Bor}
-use Rattle.std.specs.Option.{option_map_or, option_map}
+use Rattle.std.specs.Option.{option_map_or, option_map, unwrap_or}
 use Rattle.std.specs.Prelude.{Result, Ok, Err, IsErrOf}
 use Rattle.std.specs.List.{position_from, list_any, join_with_byte}
 use Rattle.std.proofs.lemmas.List.Folds.{list_any-append}
 use Rattle.std.proofs.lemmas.Slice.Eq.{bytes_eq-Decides}
 use Rattle.std.proofs.lemmas.Bool.Decides.{nat_tests, same_from_decides, Decides-like}
-use Rattle.std.proofs.lemmas.List.{append-nil, length-take, take-append-le}
+use Rattle.std.proofs.lemmas.List.{append-nil, drop_all, length-take, take-append-le}
 use Rattle.std.specs.Str.{bytes_eq}
 use Rattle.syntect_scope.specs.declared.repository.ParseScopeError.TheVariants.{TooLong, TooManyAtoms}
 use Rattle.std.specs.Prelude.{nat_lt}
@@ -73,18 +73,34 @@ number_last r t e =
     let z : length r + 0 ≡ length r = omega arith in
     (rw n refl, rw (found_last (bytes_eq t) r t 0 (bytes_eq_same t) n, z) refl)
 
--- what the rest of the texts adds, when one of them was added
-pub texts_step : (self : List (List ℕ)) (parts : List (Bor (List ℕ))) (i : ℕ) (d : Bor (List ℕ)) → i < length parts
-    → with_atoms self (map (λ x. x.now) (drop i parts)) ≡ with_atoms (with_atom self (get_or parts i d).now) (map (λ x. x.now) (drop (i + 1) parts))
-texts_step self [] i d l = absurd (omega arith)
-texts_step self (p ∷ parts) zero d l = refl
-texts_step self (p ∷ parts) (suc i) d l = let z : suc i + 1 ≡ suc (i + 1) = omega arith in rw z (texts_step self parts i d (omega arith))
+-- a place is within the list
+place_within : {X : Type 0} (p : X → Bool) (xs : List X) (i k : ℕ) → position_from p i xs ≡ Some k → k < length xs + i
+place_within p [] i k e = cc
+place_within p (x ∷ xs) i k e = by_test (p x) (place_within p xs (i + 1) k) e
+  where
+    by_test : (b : Bool) → (position_from p (i + 1) xs ≡ Some k → k < length xs + (i + 1)) → (if b then Some i else position_from p (i + 1) xs) ≡ Some k → k < suc (length xs) + i
+    by_test true rest h = let same : i ≡ k = cc in omega (arith, same)
+    by_test false rest h = omega (arith, rest h)
 
-pub numbers_step : (all : List (List ℕ)) (scope : List ℕ) (parts : List (Bor (List ℕ))) (i : ℕ) (d : Bor (List ℕ)) → i < length parts
-    → scope ++ map (number_in all) (map (λ x. x.now) (drop i parts)) ≡ (scope ++ number_in all (get_or parts i d).now ∷ []) ++ map (number_in all) (map (λ x. x.now) (drop (i + 1) parts))
+-- a text that gets the next number is new
+pub absent_new : (r : List (List ℕ)) (t : List ℕ) (held n : ℕ) (o : Option ℕ) → held ≡ length r → o ≡ option_map (λ i. i + 1) (place_in r t) → n ≡ unwrap_or o (held + 1) → n ≡ held + 1 → (n ≡ length r + 1) × (place_in r t ≡ None)
+absent_new r t held n o h p e k = (omega (arith, h, k), by_place (place_in r t) refl (e ∙ ap (λ (x : Option ℕ). unwrap_or x (held + 1)) p))
+  where
+    by_place : (x : Option ℕ) → place_in r t ≡ x → n ≡ unwrap_or (option_map (λ i. i + 1) x) (held + 1) → x ≡ None
+    by_place None a f = refl
+    by_place (Some i) a f = absurd (omega (arith, place_within (bytes_eq t) r 0 i a, f, k, h))
+
+-- what the rest of the texts adds, when one of them was added
+pub texts_step : (self texts : List (List ℕ)) (i : ℕ) (d : List ℕ) → i < length texts → with_atoms self (drop i texts) ≡ with_atoms (with_atom self (get_or texts i d)) (drop (i + 1) texts)
+texts_step self [] i d l = absurd (omega arith)
+texts_step self (t ∷ texts) zero d l = refl
+texts_step self (t ∷ texts) (suc i) d l = let z : suc i + 1 ≡ suc (i + 1) = omega arith in rw z (texts_step self texts i d (omega arith))
+
+pub numbers_step : (all : List (List ℕ)) (scope : List ℕ) (texts : List (List ℕ)) (i : ℕ) (d : List ℕ) → i < length texts
+    → scope ++ map (number_in all) (drop i texts) ≡ (scope ++ number_in all (get_or texts i d) ∷ []) ++ map (number_in all) (drop (i + 1) texts)
 numbers_step all scope [] i d l = absurd (omega arith)
-numbers_step all scope (p ∷ parts) zero d l = sym (append_assoc scope _ _)
-numbers_step all scope (p ∷ parts) (suc i) d l = let z : suc i + 1 ≡ suc (i + 1) = omega arith in rw z (numbers_step all scope parts i d (omega arith))
+numbers_step all scope (t ∷ texts) zero d l = sym (append_assoc scope _ _)
+numbers_step all scope (t ∷ texts) (suc i) d l = let z : suc i + 1 ≡ suc (i + 1) = omega arith in rw z (numbers_step all scope texts i d (omega arith))
 
 pub front_stays : (old self ts : List (List ℕ)) → take (length old) self ≡ old → take (length old) (with_atoms self ts) ≡ old
 front_stays old self ts e =
@@ -93,22 +109,28 @@ front_stays old self ts e =
     rw (g.1, take-append-le (length old) self g.0 n) e
 
 -- one more number is given
-pub given_more : (d : Bor (List ℕ)) {new : List (List ℕ)} {n : ℕ} (old self : List (List ℕ)) (scope : List ℕ) (parts : List (Bor (List ℕ))) (i : ℕ) → i < length parts
-    → new ≡ with_atom self (get_or parts i d).now → n ≡ number_in new (get_or parts i d).now
-    → with_atoms self (map (λ x. x.now) (drop i parts)) ≡ with_atoms old (map (λ x. x.now) parts)
-    → scope ++ map (number_in (with_atoms old (map (λ x. x.now) parts))) (map (λ x. x.now) (drop i parts)) ≡ map (number_in (with_atoms old (map (λ x. x.now) parts))) (map (λ x. x.now) parts)
-    → (scope ++ n ∷ []) ++ map (number_in (with_atoms old (map (λ x. x.now) parts))) (map (λ x. x.now) (drop (i + 1) parts)) ≡ map (number_in (with_atoms old (map (λ x. x.now) parts))) (map (λ x. x.now) parts)
-given_more d {new} {n} old self scope parts i l e f a g =
-    let nn : n ≡ number_in (with_atoms old (map (λ x. x.now) parts)) (get_or parts i d).now =
-    f ∙ ap (λ (k : List (List ℕ)). number_in k (get_or parts i d).now) e ∙ sym (number_stays self (map (λ x. x.now) (drop (i + 1) parts)) (get_or parts i d).now)
-    ∙ ap (λ (k : List (List ℕ)). number_in k (get_or parts i d).now) (sym (texts_step self parts i d l) ∙ a) in
-    rw nn (sym (numbers_step (with_atoms old (map (λ x. x.now) parts)) scope parts i d l) ∙ g)
+pub given_more : (d : List ℕ) {new : List (List ℕ)} {n : ℕ} (old self : List (List ℕ)) (scope : List ℕ) (texts : List (List ℕ)) (i : ℕ) → i < length texts
+    → new ≡ with_atom self (get_or texts i d) → n ≡ number_in new (get_or texts i d) → with_atoms self (drop i texts) ≡ with_atoms old texts
+    → scope ++ map (number_in (with_atoms old texts)) (drop i texts) ≡ map (number_in (with_atoms old texts)) texts
+    → (scope ++ n ∷ []) ++ map (number_in (with_atoms old texts)) (drop (i + 1) texts) ≡ map (number_in (with_atoms old texts)) texts
+given_more d {new} {n} old self scope texts i l e f a g =
+    let nn : n ≡ number_in (with_atoms old texts) (get_or texts i d) =
+    f ∙ ap (λ (k : List (List ℕ)). number_in k (get_or texts i d)) e ∙ sym (number_stays self (drop (i + 1) texts) (get_or texts i d))
+    ∙ ap (λ (k : List (List ℕ)). number_in k (get_or texts i d)) (sym (texts_step self texts i d l) ∙ a) in
+    rw nn (sym (numbers_step (with_atoms old texts) scope texts i d l) ∙ g)
 
-pub too_many_grows : (d : Bor (List ℕ)) (old self : List (List ℕ)) (parts : List (Bor (List ℕ))) (i : ℕ) → i < length parts
-    → with_atoms self (map (λ x. x.now) (drop i parts)) ≡ with_atoms old (map (λ x. x.now) parts)
-    → 65534 < length (with_atom self (get_or parts i d).now) → 65534 < length (with_atoms old (map (λ x. x.now) parts))
-too_many_grows d old self parts i l a m =
-    omega (arith, ap length (sym (texts_step self parts i d l) ∙ a), length_grows (with_atom self (get_or parts i d).now) (map (λ x. x.now) (drop (i + 1) parts)))
+pub too_many_grows : (d : List ℕ) (old self texts : List (List ℕ)) (i : ℕ) → i < length texts → with_atoms self (drop i texts) ≡ with_atoms old texts
+    → 65534 < length (with_atom self (get_or texts i d)) → 65534 < length (with_atoms old texts)
+too_many_grows d old self texts i l a m = omega (arith, ap length (sym (texts_step self texts i d l) ∙ a), length_grows (with_atom self (get_or texts i d)) (drop (i + 1) texts))
+
+-- none is left
+pub all_given : (old self texts : List (List ℕ)) (i : ℕ) (scope : List ℕ) → i ≡ length texts → with_atoms self (drop i texts) ≡ with_atoms old texts
+    → scope ++ map (number_in (with_atoms old texts)) (drop i texts) ≡ map (number_in (with_atoms old texts)) texts → (self ≡ with_atoms old texts) × (scope ≡ map (number_in self) texts)
+all_given old self texts i scope e a g =
+    let rest : drop i texts ≡ [] = drop_all i texts (omega (arith, e)) in
+    let whole : self ≡ with_atoms old texts = ap (λ (ts : List (List ℕ)). with_atoms self ts) (sym rest) ∙ a in
+    let numbers : scope ≡ map (number_in (with_atoms old texts)) texts = sym (append-nil scope) ∙ ap (λ (ts : List (List ℕ)). scope ++ map (number_in (with_atoms old texts)) ts) (sym rest) ∙ g in
+    (whole, numbers ∙ ap (λ (r : List (List ℕ)). map (number_in r) texts) (sym whole))
 
 -- ---- each text stands once ----
 
@@ -179,6 +201,15 @@ numbers_more xs t n e h q = by_case (bytes_eq t q) refl
         let z : n ≡ length xs + 0 + 1 = omega (arith, e) in
         ap Some z ∙ ap (λ (o : Option ℕ). option_map (λ i. i + 1) o) (sym last) ∙ ap (λ (u : List ℕ). option_map (λ i. i + 1) (place_in (xs ++ t ∷ []) u)) same_text
     by_case false s = ap (λ (o : Option ℕ). option_map (λ i. i + 1) o) (sym (place_other q t xs 0 (bytes_eq_sym q t ∙ s)))
+
+-- the numbers of all texts, once that of a new one has been taken back
+pub numbers_back : (xs : List (List ℕ)) (t : List ℕ) (n : ℕ) → place_in xs t ≡ None → (q : List ℕ)
+    → (if bytes_eq t q then None else if bytes_eq t q then Some n else option_map (λ i. i + 1) (place_in xs q)) ≡ option_map (λ i. i + 1) (place_in xs q)
+numbers_back xs t n h q = by_case (bytes_eq t q) refl
+  where
+    by_case : (b : Bool) → bytes_eq t q ≡ b → (if b then None else if b then Some n else option_map (λ i. i + 1) (place_in xs q)) ≡ option_map (λ i. i + 1) (place_in xs q)
+    by_case true s = ap (λ (o : Option ℕ). option_map (λ i. i + 1) o) (sym h) ∙ ap (λ (u : List ℕ). option_map (λ i. i + 1) (place_in xs u)) ((bytes_eq-Decides t q).0 s)
+    by_case false s = refl
 
 -- the numbers of all texts, once the last one has been taken back
 pub numbers_less : (xs : List (List ℕ)) (t : List ℕ) → IsDistinct (xs ++ t ∷ []) → (q : List ℕ) → (if bytes_eq t q then None else option_map (λ i. i + 1) (place_in (xs ++ t ∷ []) q)) ≡ option_map (λ i. i + 1) (place_in xs q)

@@ -18,10 +18,14 @@ abbrev pub without_dots : List ℕ → List ℕ
 without_dots [] = []
 without_dots (b ∷ bs) = onto b (without_dots bs)
 
+-- the parts of a text between its dots
+abbrev pub between_dots : List ℕ → List (List ℕ)
+between_dots text = slice_split (λ b. b == 46) text
+
 -- the texts of the atoms that a text names: none for the empty text, else the parts between dots
 abbrev pub atom_texts : List ℕ → List (List ℕ)
 atom_texts [] = []
-atom_texts (b ∷ bs) = slice_split (λ b. b == 46) (without_dots (b ∷ bs))
+atom_texts (b ∷ bs) = between_dots (without_dots (b ∷ bs))
 
 -- ---- the repository ----
 

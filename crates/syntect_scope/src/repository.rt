@@ -1,9 +1,10 @@
 //! The repository of atoms: their texts, each with its number.
-ghost use Rattle.std.specs.Prelude.{◌≡◌, ◌≢◌, ◌==◌, ◌<◌, ◌≤◌, ◌+◌, ◌-◌, ◌↔◌, [], ◌∷◌, ◌++◌, length, map, take, List, ℕ, IsTrue, IsErr, IfOk, OnOk, OnErr, IfErr, IsErrOf, IfSome, IfNone, string_bytes, None};
+ghost use Rattle.std.specs.Prelude.{◌≡◌, ◌≢◌, ◌==◌, ◌<◌, ◌≤◌, ◌+◌, ◌-◌, ◌↔◌, [], ◌∷◌, ◌++◌, length, map, take, List, ℕ, IsTrue, IsErr, IfOk, OnOk, OnErr, IfErr, IsErrOf, IfSome, IfNone, string_bytes, None, Some, if◌then◌else◌, unwrap_or};
+ghost use Rattle.std.specs.BTreeMap.{get_by_text};
 ghost use Rattle.std.specs.Option.{option_copied, option_map};
 ghost use Rattle.std.specs.List.{slice_split};
-ghost use Rattle.std.specs.Str.{trim};
-ghost use Rattle.syntect_scope.specs.Repository.{atom_in, atom_text, atom_texts, place_in, scope_in, scope_text, with_atom, with_atoms, with_scopes, first_refusal, MayRefuse, number_in, without_dots, IsRepository};
+ghost use Rattle.std.specs.Str.{bytes_eq, trim};
+ghost use Rattle.syntect_scope.specs.Repository.{between_dots, atom_in, atom_text, atom_texts, place_in, scope_in, scope_text, with_atom, with_atoms, with_scopes, first_refusal, MayRefuse, number_in, without_dots, IsRepository};
 ghost use Rattle.syntect_scope.specs.Stack.{plain};
 ghost use Rattle.syntect_scope.specs.Words.{words};
 ghost use Rattle.syntect_scope.specs.declared.repository.ParseScopeError.TheVariants.{Memory};
@@ -79,16 +80,9 @@ impl Model for ScopeRepository {
     ghost invariant = { λ a. IsRepository a.atoms.items × ((t : List ℕ) → get_by_text a.numbers t ≡ option_map (λ i. i + 1) (place_in a.atoms.items t)) };
 }
 
-/// The parts of a text between its dots.
-fn parts_of(alloc: Global, s: &str) -> Result<Vec<&str>, AllocError>
-    ensures { IfOk result (λ v. map (λ x. x.now) v.items ≡ slice_split (λ b. b == 46) s.now) }
-{
-    s.split('.').collect(alloc)
-}
-
 /// How many parts a text has between its dots.
 fn count_parts(s: &str) -> usize
-    ensures { result ≡ length (slice_split (λ b. b == 46) s.now) }
+    ensures { result ≡ length (between_dots s.now) }
 {
     s.split('.').count()
 }
@@ -105,6 +99,30 @@ pub fn words_of(alloc: Global, s: &str) -> Result<Vec<&str>, AllocError>
     ensures { IfOk result (λ v. map (λ x. x.now) v.items ≡ words s.now) }
 {
     s.split_whitespace().collect(alloc)
+}
+
+/// Puts a copy of a text last.
+fn push_text(atoms: &mut Vec<Text>, part: &str) -> Result<(), AllocError>
+    ensures ok { OnOk result (atoms.new.items ≡ atoms.old.items ++ part.now ∷ []) }
+    ensures err { OnErr result (atoms.new.items ≡ atoms.old.items) }
+{
+    atoms.push(Text::from_str(*atoms.allocator(), part)?)?;
+    Ok(())
+}
+
+/// The number of a text, which is `next` from now on where it had none.
+fn number_or(
+    alloc: Global,
+    numbers: &mut BTreeMap<String, u16>,
+    part: &str,
+    next: u16,
+) -> Result<u16, AllocError>
+    ensures number { IfOk result (λ n. n ≡ unwrap_or (get_by_text numbers.old part.now) next) }
+    ensures ok { IfOk result (λ n. (t : List ℕ) → get_by_text numbers.new t ≡ (if bytes_eq part.now t then Some n else get_by_text numbers.old t)) }
+    ensures err { OnErr result ((t : List ℕ) → get_by_text numbers.new t ≡ get_by_text numbers.old t) }
+{
+    let key = String::from_str(alloc, part)?;
+    Ok(*numbers.entry(key)?.or_insert(next))
 }
 
 impl ScopeRepository {
@@ -125,7 +143,7 @@ impl ScopeRepository {
     {
         let mut copy = ScopeRepository::new(*self.atoms.allocator());
         for text in &self.atoms {
-            if copy.add(text.as_str()).is_err() {
+            if copy.number(text.as_str()).is_err() {
                 return Err(AllocError);
             }
         }
@@ -151,33 +169,7 @@ impl ScopeRepository {
         self.numbers.get(part).copied()
     }
 
-    /// Takes up an atom that it does not have, and answers its number.
-    fn add(&mut self, part: &str) -> Result<u16, ParseScopeError>
-        requires { place_in self.old part.now ≡ None }
-        ensures ok { IfOk result (λ n. (self.new ≡ self.old ++ part.now ∷ []) × (n ≡ length self.old + 1)) }
-        ensures room { OnOk result (length self.old < 65534) }
-        ensures too_many { IfErr result (λ e. e ≡ ParseScopeError.TooManyAtoms → 65534 ≤ length self.old) }
-        ensures too_long { IfErr result (λ e. e ≢ ParseScopeError.TooLong) }
-        ensures err { OnErr result (self.new ≡ self.old) }
-    {
-        if self.atoms.len() >= MAX_ATOMS {
-            return Err(ParseScopeError::TooManyAtoms);
-        }
-        let n = self.atoms.len() as u16 + 1;
-        let alloc = *self.atoms.allocator();
-        let key = String::from_str(alloc, part)?;
-        self.atoms.push(Text::from_str(alloc, part)?)?;
-        match self.numbers.insert(key, n) {
-            Ok(_) => Ok(n),
-            Err(_) => {
-                let _ = self.atoms.pop();
-                Err(ParseScopeError::Memory)
-            }
-        }
-    }
-
     /// The number of an atom, which it takes up unless it has it.
-    #[tactic(auto, using(crate::proofs::RepositoryLaws::number_last, crate::proofs::RepositoryLaws::whole_more))]
     fn number(&mut self, part: &str) -> Result<u16, ParseScopeError>
         ensures ok { IfOk result (λ n. (self.new ≡ with_atom self.old part.now) × (n ≡ number_in self.new part.now)) }
         ensures positive { IfOk result (λ n. 0 < n) }
@@ -186,9 +178,22 @@ impl ScopeRepository {
         ensures too_long { IfErr result (λ e. e ≢ ParseScopeError.TooLong) }
         ensures err { OnErr result (self.new ≡ self.old) }
     {
-        match self.known(part) {
-            Some(n) => Ok(n),
-            None => self.add(part),
+        let held = self.atoms.len();
+        if held >= MAX_ATOMS {
+            return self.known(part).ok_or(ParseScopeError::TooManyAtoms);
+        }
+        let alloc = *self.atoms.allocator();
+        let next = held as u16 + 1;
+        let number = number_or(alloc, &mut self.numbers, part, next)?;
+        if number != next {
+            return Ok(number);
+        }
+        match push_text(&mut self.atoms, part) {
+            Ok(()) => Ok(number),
+            Err(_) => {
+                let _ = self.numbers.remove(part);
+                Err(ParseScopeError::Memory)
+            }
         }
     }
 
@@ -219,18 +224,19 @@ impl ScopeRepository {
         }
     }
 
-    /// The numbers of the parts, which it takes up. After an `Err` it may have more atoms at its end.
-    fn numbers(&mut self, parts: &[&str]) -> Result<Scope, ParseScopeError>
-        requires { length parts.now ≤ 8 }
-        ensures ok { IfOk result (λ s. (self.new ≡ with_atoms self.old (map (λ x. x.now) parts.now)) × (s ≡ map (number_in self.new) (map (λ x. x.now) parts.now))) }
+    /// The numbers of a text's parts between its dots, which it takes up. After an `Err` it may have more atoms at its
+    /// end.
+    fn numbers(&mut self, text: &str) -> Result<Scope, ParseScopeError>
+        requires { length (between_dots text.now) ≤ 8 }
+        ensures ok { IfOk result (λ s. (self.new ≡ with_atoms self.old (between_dots text.now)) × (s ≡ map (number_in self.new) (between_dots text.now))) }
         ensures whole { OnOk result (IsRepository self.new) }
-        ensures too_many { IfErr result (λ e. e ≡ ParseScopeError.TooManyAtoms → 65534 < length (with_atoms self.old (map (λ x. x.now) parts.now))) }
+        ensures too_many { IfErr result (λ e. e ≡ ParseScopeError.TooManyAtoms → 65534 < length (with_atoms self.old (between_dots text.now))) }
         ensures too_long { IfErr result (λ e. e ≢ ParseScopeError.TooLong) }
         ensures err { OnErr result (take (length self.old) self.new ≡ self.old) }
     {
         let _ = &self.atoms;
         let mut scope = Scope::empty();
-        for part in parts {
+        for part in text.split('.') {
             match self.number(part) {
                 Ok(n) => scope.push(n),
                 Err(e) => return Err(e),
@@ -259,9 +265,8 @@ impl ScopeRepository {
         if count_parts(text) > 8 {
             return Err(ParseScopeError::TooLong);
         }
-        let parts = parts_of(*self.atoms.allocator(), text)?;
         let held = self.atoms.len();
-        match self.numbers(parts.as_slice()) {
+        match self.numbers(text) {
             Ok(scope) => Ok(scope),
             Err(e) => {
                 self.forget(held);
