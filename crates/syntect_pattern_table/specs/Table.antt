@@ -9,7 +9,7 @@ use Rattle.syntect_pattern_table.specs.declared.node.Node.{Node}
 
 -- what a class holds
 abbrev pub set_of : Class → Set
-set_of c = set_in c.parts c.root
+set_of c = set_in c.body.value.parts c.body.value.root
 
 -- the tree of a node, from those of the nodes before it
 abbrev pub node_tree : List Tree → Node → Tree

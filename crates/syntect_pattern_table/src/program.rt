@@ -57,6 +57,8 @@ impl Program {
         ensures starts { IfOk result (λ p. AreStarts p.starts (tree_in nodes root)) }
         ensures needed { IfOk result (λ p. p.needed ≡ needed) }
     {
+        let mut nodes = nodes;
+        nodes.shrink_to_fit();
         let firsts = places_of(alloc, nodes.as_slice())?;
         let starts = flags_of(alloc, firsts.as_slice()[root])?;
         let looks = looks_of(alloc, nodes.as_slice(), root, groups)?;

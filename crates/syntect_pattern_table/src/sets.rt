@@ -138,9 +138,9 @@ fn is_wide_at(parts: &[Part], root: usize) -> bool
     }
 }
 
-/// A set of characters, made of parts, with its ASCII characters beside.
+/// What a class is made of.
 #[derive(Debug, Drop)]
-pub struct Class {
+struct ClassBody {
     parts: Seq<Part>,
     root: usize,
     /// A bit for each ASCII character.
@@ -152,6 +152,13 @@ pub struct Class {
     ghost widened: { wide ≡ is_wide (set_in parts root) },
 }
 
+/// A set of characters, made of parts, with its ASCII characters beside. It stands in a place of its own: most nodes of a
+/// table are no classes, and are to be small.
+#[derive(Debug, Drop)]
+pub struct Class {
+    body: Box<ClassBody>,
+}
+
 impl Class {
     ghost use Rattle.syntect_pattern_table.specs.Table.{set_of};
 
@@ -160,13 +167,18 @@ impl Class {
         requires { AreOrdered parts }
         ensures { IfOk result (λ s. set_of s ≡ set_in parts root) }
     {
+        let mut parts = parts;
+        parts.shrink_to_fit();
         let ascii = ascii_bits(alloc, parts.as_slice(), root)?;
         let wide = is_wide_at(parts.as_slice(), root);
-        Ok(Class {
+        let body = ClassBody {
             parts,
             root,
             ascii,
             wide,
+        };
+        Ok(Class {
+            body: Box::new(alloc, body)?,
         })
     }
 
@@ -174,14 +186,14 @@ impl Class {
     pub fn ascii(&self) -> u128
         ensures { AreFlags result (set_of self.now) }
     {
-        self.ascii
+        self.body.ascii
     }
 
     /// Whether it can hold a character beyond ASCII, as far as its form tells.
     pub fn is_wide(&self) -> bool
         ensures { result ≡ is_wide (set_of self.now) }
     {
-        self.wide
+        self.body.wide
     }
 
     /// Whether the character is in the set.
@@ -189,9 +201,9 @@ impl Class {
         ensures { result ≡ holds (set_of self.now) c }
     {
         if c.is_ascii() {
-            has_bit(self.ascii, c as u32)
+            has_bit(self.body.ascii, c as u32)
         } else {
-            holds_at(self.parts.as_slice(), self.root, c)
+            holds_at(self.body.parts.as_slice(), self.body.root, c)
         }
     }
 }

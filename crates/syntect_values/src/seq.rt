@@ -109,6 +109,15 @@ impl<T> Seq<T> {
     }
 }
 
+impl<T> Seq<T> {
+    /// Gives back the memory that its elements don't need, where that can be done.
+    pub fn shrink_to_fit(&mut self)
+        ensures { self.new ≡ self.old }
+    {
+        self.items.shrink_to_fit();
+    }
+}
+
 impl<T: Drop> Seq<T> {
     /// Keeps the first `n` elements.
     pub fn truncate(&mut self, n: usize)
