@@ -2,61 +2,61 @@
 use Rattle.std.proofs.Common.{◌≡◌, ℕ, ◌+◌, ◌<◌, ◌≤◌, ◌⊎◌, Bool, true, false, List, [], ◌∷◌, ◌++◌, get_or, length, Option, Some, None, refl, sym, subst, ◌∙◌, arith, inl, inr, if◌then◌else◌}
 use Rattle.std.specs.Prelude.{IfSome}
 use Rattle.std.specs.List.{cons_option}
-use Rattle.std.specs.Str.{IsUtf8}
 use Rattle.syntect_pattern.specs.Pattern.{pattern_found}
 use Rattle.syntect_regex.specs.Region.{BeginsAt, TakesAt}
 use Rattle.syntect_contexts.specs.Substitution.{Groups}
 use Rattle.syntect_winner.specs.Ahead.{AddsMember, FindsHere, IsAhead, IsBestAt}
 use Rattle.syntect_winner.specs.Best.{IsBest}
-use Rattle.syntect_winner.specs.Candidates.{seen, text_of}
+use Rattle.syntect_winner.specs.Candidates.{text_of}
 use Rattle.syntect_winner.specs.Chain.{Member}
 use Rattle.syntect_winner.specs.Engine.{dialect}
 use Rattle.syntect_winner.specs.Found.{FindsInText}
-use Rattle.syntect_winner.specs.Turn.{Live, counts, group_at, live_match, loops, searched_text}
+use Rattle.syntect_winner.specs.Reader.{match_of, search_of, seen_by}
+use Rattle.syntect_winner.specs.Turn.{Live, counts, group_at, loops, searched_text}
 use Rattle.syntect_winner.proofs.BestLaws.{best_led, best_same, not_counted}
 use Rattle.syntect_winner.proofs.PartLaws.{best_skipped}
 use Rattle.syntect_winner.proofs.Places.{IfEnds, matched_ends}
-use Rattle.syntect_winner.specs.declared.position.Position.{Position}
+use Rattle.syntect_winner.specs.declared.reader.LineReader.{LineReader}
 use Rattle.syntect_winner.specs.declared.search.Best.{Best}
 use Rattle.syntect_winner.specs.declared.search.Candidate.{Candidate}
 
 -- ---- one member ----
 
-module _ (line : List ℕ) (p : Position) (m : Member) where
+module _ (reader : LineReader) (m : Member) where
   abbrev text : List ℕ
   text = searched_text dialect m.pattern m.opening
 
   abbrev live_of : Option Live
-  live_of = live_match dialect (length p.levels) line p.place m
+  live_of = match_of reader m
 
-  pub ahead_next : (lost : Bool) (i : ℕ) → IsAhead line p lost i m → pattern_found text line i ≡ pattern_found text line (i + 1) → IsAhead line p lost (i + 1) m
+  pub ahead_next : (lost : Bool) (i : ℕ) → IsAhead reader lost i m → search_of reader i m ≡ search_of reader (i + 1) m → IsAhead reader lost (i + 1) m
   ahead_next lost i (inl e) f = inl (e ∙ f)
   ahead_next lost i (inr h) f = inr h
 
   -- what was ahead stays so when more is lost
-  pub ahead_still : (lost more : Bool) (i : ℕ) → (lost ≡ true → more ≡ true) → IsAhead line p lost i m → IsAhead line p more i m
+  pub ahead_still : (lost more : Bool) (i : ℕ) → (lost ≡ true → more ≡ true) → IsAhead reader lost i m → IsAhead reader more i m
   ahead_still lost more i k (inl e) = inl e
   ahead_still lost more i k (inr h) = inr (k h.0, h.1)
 
-  pub ahead_first : (lost : Bool) → IsAhead line p lost p.place m
+  pub ahead_first : (lost : Bool) → IsAhead reader lost reader.position.now.place m
   ahead_first lost = inl refl
 
-  module _ (finds : FindsInText dialect) (u : IsUtf8 line) where
-    starts : (i : ℕ) (o : Option Live) → IfEnds line i o → IfSome o (λ k. i ≤ k.start)
+  module _ (finds : FindsInText dialect) where
+    starts : (i : ℕ) (o : Option Live) → IfEnds reader.line.now i o → IfSome o (λ k. i ≤ k.start)
     starts i None h = tt
     starts i (Some k) h = h.from
 
     -- a match of a member that is ahead begins no earlier
-    pub ahead_starts : (lost : Bool) (i : ℕ) → IsAhead line p lost i m → IfSome live_of (λ k. i ≤ k.start)
+    pub ahead_starts : (lost : Bool) (i : ℕ) → IsAhead reader lost i m → IfSome live_of (λ k. i ≤ k.start)
     ahead_starts lost i (inl e) =
-        rw e (starts i _ (matched_ends dialect finds line u (length p.levels) i m text (pattern_found text line i) (λ groups s x g k. finds text line i s x groups u g k)))
+        rw e (starts i _ (matched_ends dialect finds reader.line.now reader.text (length reader.position.now.levels) i m text (search_of reader i m) (λ groups s x g k. finds text reader.line.now i s x groups reader.text g k)))
     ahead_starts lost i (inr h) = rw h.1 tt
 
     behind : (i : ℕ) (o : Option Live) → IfSome o (λ k. i + 1 ≤ k.start) → IfSome o (λ k. i < k.start)
     behind i None h = tt
     behind i (Some k) h = omega (arith, h)
 
-    pub ahead_behind : (lost : Bool) (i : ℕ) → IsAhead line p lost (i + 1) m → IfSome live_of (λ k. i < k.start)
+    pub ahead_behind : (lost : Bool) (i : ℕ) → IsAhead reader lost (i + 1) m → IfSome live_of (λ k. i < k.start)
     ahead_behind lost i h = behind i live_of (ahead_starts lost (i + 1) h)
 
   -- ---- a match begins here ----
@@ -65,49 +65,49 @@ module _ (line : List ℕ) (p : Position) (m : Member) where
   whole [] = refl
   whole (x ∷ xs) = refl
 
-  found_here : (lost : Bool) (i : ℕ) (g : Groups) → lost ≡ false → IsAhead line p lost i m → FindsHere line i m g → pattern_found text line p.place ≡ Some g
+  found_here : (lost : Bool) (i : ℕ) (g : Groups) → lost ≡ false → IsAhead reader lost i m → FindsHere reader i m g → search_of reader reader.position.now.place m ≡ Some g
   found_here lost i g n (inl e) h = e ∙ h.0
   found_here lost i g n (inr k) h = let f : false ≡ true = sym n ∙ k.0 in cc
 
   -- one that counts is what the turn has of the member
-  pub counted_here : (lost : Bool) (i : ℕ) (c : Candidate) (g : Groups) → lost ≡ false → IsAhead line p lost i m → FindsHere line i m g → get_or g 0 None ≡ Some (c.start, c.end)
-      → counts (length p.levels) m.pattern.operation c.start c.end ≡ true → c.pattern.now ≡ m.pattern → c.from_with_prototype ≡ m.from_with_prototype → text_of c ≡ text
-      → (live_of ≡ Some (seen line p.place c)) × (g ≡ (seen line p.place c).groups) × (c.start ≡ i)
+  pub counted_here : (lost : Bool) (i : ℕ) (c : Candidate) (g : Groups) → lost ≡ false → IsAhead reader lost i m → FindsHere reader i m g → get_or g 0 None ≡ Some (c.start, c.end)
+      → counts (length reader.position.now.levels) m.pattern.operation c.start c.end ≡ true → c.pattern.now ≡ m.pattern → c.from_with_prototype ≡ m.from_with_prototype → text_of c ≡ text
+      → (live_of ≡ Some (seen_by reader c)) × (g ≡ (seen_by reader c).groups) × (c.start ≡ i)
   counted_here lost i c g n a h e f pattern from same =
-      let found : pattern_found text line p.place ≡ Some g = found_here lost i g n a h in
+      let found : search_of reader reader.position.now.place m ≡ Some g = found_here lost i g n a h in
       let at : group_at g 0 ≡ Some (c.start, c.end) = sym (whole g) ∙ e in
       (rw (found, at, f, same, found, pattern, from) refl, rw (same, found) refl, h.1 c.start c.end e)
 
   -- where a match begins here, and none that counts is found up to here, the member has none that counts
-  pub none_here : (lost : Bool) (i : ℕ) (g : Groups) → IsAhead line p lost i m → FindsHere line i m g → IfSome live_of (λ k. i < k.start) → live_of ≡ None
+  pub none_here : (lost : Bool) (i : ℕ) (g : Groups) → IsAhead reader lost i m → FindsHere reader i m g → IfSome live_of (λ k. i < k.start) → live_of ≡ None
   none_here lost i g (inr k) h b = k.1
   none_here lost i g (inl e) h b = by (get_or g 0 None) refl
     where
-      found : pattern_found text line p.place ≡ Some g
+      found : search_of reader reader.position.now.place m ≡ Some g
       found = e ∙ h.0
 
-      counted : (s x : ℕ) → get_or g 0 None ≡ Some (s, x) → (t : Bool) → counts (length p.levels) m.pattern.operation s x ≡ t → live_of ≡ None
+      counted : (s x : ℕ) → get_or g 0 None ≡ Some (s, x) → (t : Bool) → counts (length reader.position.now.levels) m.pattern.operation s x ≡ t → live_of ≡ None
       counted s x f true c =
           let at : group_at g 0 ≡ Some (s, x) = sym (whole g) ∙ f in
           let is : live_of ≡ Some (record { pattern = m.pattern; from_with_prototype = m.from_with_prototype; searched = text; groups = g; start = s; end = x }) = rw (found, at, c) refl in
           let later : i < s = rw is at b in
           absurd (omega (arith, later, h.1 s x f))
-      counted s x f false c = not_counted line (length p.levels) p.place s x m text g refl found f c
+      counted s x f false c = not_counted reader.line.now (length reader.position.now.levels) reader.position.now.place s x m text g refl found f c
 
       by : (o : Option (ℕ × ℕ)) → get_or g 0 None ≡ o → live_of ≡ None
       by None f = let at : group_at g 0 ≡ None = sym (whole g) ∙ f in rw (found, at) refl
-      by (Some (s, x)) f = counted s x f (counts (length p.levels) m.pattern.operation s x) refl
+      by (Some (s, x)) f = counted s x f (counts (length reader.position.now.levels) m.pattern.operation s x) refl
 
 -- ---- the best with one member more ----
 
-module _ (line : List ℕ) (p : Position) (i : ℕ) where
-  pub no_match : (b : Best) (ms : List Live) (c : Candidate) → IsBest line p i ms b → b.candidate ≡ Some c → b.is_match ≡ false → ⊥
+module _ (reader : LineReader) (i : ℕ) where
+  pub no_match : (b : Best) (ms : List Live) (c : Candidate) → IsBest reader.line.now reader.position.now i ms b → b.candidate ≡ Some c → b.is_match ≡ false → ⊥
   no_match b ms c h e f = let k : Some c ≡ None = sym e ∙ (h.none f).1 in cc
 
   -- where one is found already, a member that is ahead changes nothing
-  pub best_kept : (b : Best) (ms : List Live) (c : Candidate) (o : Option Live) → IsBestAt line p i ms b → b.candidate ≡ Some c → IfSome o (λ k. i ≤ k.start) → IsBestAt line p i (ms ++ cons_option o []) b
+  pub best_kept : (b : Best) (ms : List Live) (c : Candidate) (o : Option Live) → IsBestAt reader i ms b → b.candidate ≡ Some c → IfSome o (λ k. i ≤ k.start) → IsBestAt reader i (ms ++ cons_option o []) b
   best_kept b ms c o h e l = record {
-    best = best_same line p i b ms o h.best (λ k f. (from b.is_match refl k f, λ _ n. absurd (let q : Some c ≡ None = sym e ∙ n in cc)));
+    best = best_same reader.line.now reader.position.now i b ms o h.best (λ k f. (from b.is_match refl k f, λ _ n. absurd (let q : Some c ≡ None = sym e ∙ n in cc)));
     here = h.here;
   }
     where
@@ -120,15 +120,15 @@ module _ (line : List ℕ) (p : Position) (i : ℕ) where
       from false t k f = absurd (no_match b ms c h.best e t)
 
   -- a member whose match begins behind the place changes nothing
-  pub best_passed_by : (b : Best) (ms : List Live) (o : Option Live) → IsBestAt line p i ms b → IfSome o (λ k. i < k.start) → IsBestAt line p i (ms ++ cons_option o []) b
-  best_passed_by b ms o h l = record { best = best_skipped line p i b ms o h.best l; here = h.here }
+  pub best_passed_by : (b : Best) (ms : List Live) (o : Option Live) → IsBestAt reader i ms b → IfSome o (λ k. i < k.start) → IsBestAt reader i (ms ++ cons_option o []) b
+  best_passed_by b ms o h l = record { best = best_skipped reader.line.now reader.position.now i b ms o h.best l; here = h.here }
 
   -- a match at the place is the best, where none that goes on is found yet
-  pub best_taken_at : (b : Best) (ms : List Live) (o : Option Live) (m : Candidate) (new : Best) → IsBestAt line p i ms b → b.candidate ≡ None → o ≡ Some (seen line p.place m)
-      → p.place ≤ m.start → m.start ≡ i → new.start ≡ m.start → new.is_match ≡ true → new.candidate ≡ (if loops p (seen line p.place m) then None else Some m)
-      → IsBestAt line p i (ms ++ cons_option o []) new
+  pub best_taken_at : (b : Best) (ms : List Live) (o : Option Live) (m : Candidate) (new : Best) → IsBestAt reader i ms b → b.candidate ≡ None → o ≡ Some (seen_by reader m)
+      → reader.position.now.place ≤ m.start → m.start ≡ i → new.start ≡ m.start → new.is_match ≡ true → new.candidate ≡ (if loops reader.position.now (seen_by reader m) then None else Some m)
+      → IsBestAt reader i (ms ++ cons_option o []) new
   best_taken_at b ms o m new h n e from at s is c = rw e (record {
-    best = best_led line p i b ms m new h.best (leads b.is_match refl) from s is c;
+    best = best_led reader.line.now reader.position.now i b ms m new h.best (leads b.is_match refl) from s is c;
     here = λ _. omega (arith, s, at);
   })
     where
@@ -140,61 +140,61 @@ module _ (line : List ℕ) (p : Position) (i : ℕ) where
 
   module _ (m : Member) where
     -- nothing begins here
-    pub adds_none : FindsInText dialect → IsUtf8 line → (lost : Bool) (b : Best) (ms : List Live) → IsAhead line p lost i m → IsBestAt line p i ms b
-        → pattern_found (searched_text dialect m.pattern m.opening) line i ≡ pattern_found (searched_text dialect m.pattern m.opening) line (i + 1) → AddsMember line p i lost m ms b
-    adds_none finds u lost b ms a h e =
-        let next : IsAhead line p lost (i + 1) m = ahead_next line p m lost i a e in
-        record { best = best_passed_by b ms _ h (ahead_behind line p m finds u lost i next); ahead = λ _. next }
+    pub adds_none : FindsInText dialect → (lost : Bool) (b : Best) (ms : List Live) → IsAhead reader lost i m → IsBestAt reader i ms b
+        → search_of reader i m ≡ search_of reader (i + 1) m → AddsMember reader i lost m ms b
+    adds_none finds lost b ms a h e =
+        let next : IsAhead reader lost (i + 1) m = ahead_next reader m lost i a e in
+        record { best = best_passed_by b ms _ h (ahead_behind reader m finds lost i next); ahead = λ _. next }
 
     -- it has no match that counts
-    pub adds_lost : (lost : Bool) (b : Best) (ms : List Live) → lost ≡ true → live_match dialect (length p.levels) line p.place m ≡ None → IsBestAt line p i ms b → AddsMember line p i lost m ms b
+    pub adds_lost : (lost : Bool) (b : Best) (ms : List Live) → lost ≡ true → match_of reader m ≡ None → IsBestAt reader i ms b → AddsMember reader i lost m ms b
     adds_lost lost b ms k n h = record {
       best = best_passed_by b ms _ h (rw n tt);
       ahead = λ _. inr (k, n);
     }
 
     -- one that counts begins here
-    pub adds_taken : (lost : Bool) (b : Best) (ms : List Live) (c : Candidate) (new : Best) → IsBestAt line p i ms b → b.candidate ≡ None
-        → live_match dialect (length p.levels) line p.place m ≡ Some (seen line p.place c) → p.place ≤ c.start → c.start ≡ i
-        → new.start ≡ c.start → new.is_match ≡ true → new.candidate ≡ (if loops p (seen line p.place c) then None else Some c) → AddsMember line p i lost m ms new
+    pub adds_taken : (lost : Bool) (b : Best) (ms : List Live) (c : Candidate) (new : Best) → IsBestAt reader i ms b → b.candidate ≡ None
+        → match_of reader m ≡ Some (seen_by reader c) → reader.position.now.place ≤ c.start → c.start ≡ i
+        → new.start ≡ c.start → new.is_match ≡ true → new.candidate ≡ (if loops reader.position.now (seen_by reader c) then None else Some c) → AddsMember reader i lost m ms new
     adds_taken lost b ms c new h n e from at s is d = record {
       best = best_taken_at b ms _ c new h n e from at s is d;
       ahead = λ f. absurd (let k : true ≡ false = sym is ∙ f in cc);
     }
 
-    pub adds_counted : (lost : Bool) (b : Best) (ms : List Live) (c : Candidate) (new : Best) (g : Groups) → p.place ≤ i → lost ≡ false → IsAhead line p lost i m → FindsHere line i m g
-        → get_or g 0 None ≡ Some (c.start, c.end) → counts (length p.levels) m.pattern.operation c.start c.end ≡ true → c.pattern.now ≡ m.pattern → c.from_with_prototype ≡ m.from_with_prototype
-        → text_of c ≡ searched_text dialect m.pattern m.opening → IsBestAt line p i ms b → b.candidate ≡ None
-        → new.start ≡ c.start → new.is_match ≡ true → new.candidate ≡ (if loops p (seen line p.place c) then None else Some c) → AddsMember line p i lost m ms new
+    pub adds_counted : (lost : Bool) (b : Best) (ms : List Live) (c : Candidate) (new : Best) (g : Groups) → reader.position.now.place ≤ i → lost ≡ false → IsAhead reader lost i m → FindsHere reader i m g
+        → get_or g 0 None ≡ Some (c.start, c.end) → counts (length reader.position.now.levels) m.pattern.operation c.start c.end ≡ true → c.pattern.now ≡ m.pattern → c.from_with_prototype ≡ m.from_with_prototype
+        → text_of c ≡ searched_text dialect m.pattern m.opening → IsBestAt reader i ms b → b.candidate ≡ None
+        → new.start ≡ c.start → new.is_match ≡ true → new.candidate ≡ (if loops reader.position.now (seen_by reader c) then None else Some c) → AddsMember reader i lost m ms new
     adds_counted lost b ms c new g l k a f at counted pattern from same h n s is d =
-        let here : (live_match dialect (length p.levels) line p.place m ≡ Some (seen line p.place c)) × (g ≡ (seen line p.place c).groups) × (c.start ≡ i) =
-        counted_here line p m lost i c g k a f at counted pattern from same in
+        let here : (match_of reader m ≡ Some (seen_by reader c)) × (g ≡ (seen_by reader c).groups) × (c.start ≡ i) =
+        counted_here reader m lost i c g k a f at counted pattern from same in
         adds_taken lost b ms c new h n here.0 (omega (arith, l, here.2)) here.2 s is d
 
     -- one that was searched from the turn's place on begins here,
-    pub adds_searched : FindsInText dialect → IsUtf8 line → (b : Best) (ms : List Live) (c : Candidate) (new : Best) → p.place ≤ i → IsAhead line p true i m → IsBestAt line p i ms b → b.candidate ≡ None
-        → live_match dialect (length p.levels) line p.place m ≡ Some (seen line p.place c) → c.start ≤ i
-        → new.start ≡ c.start → new.is_match ≡ true → new.candidate ≡ (if loops p (seen line p.place c) then None else Some c) → AddsMember line p i true m ms new
-    adds_searched finds u b ms c new l a h n e near s is d =
-        let from : i ≤ c.start = rw e at (ahead_starts line p m finds u true i a) in
+    pub adds_searched : FindsInText dialect → (b : Best) (ms : List Live) (c : Candidate) (new : Best) → reader.position.now.place ≤ i → IsAhead reader true i m → IsBestAt reader i ms b → b.candidate ≡ None
+        → match_of reader m ≡ Some (seen_by reader c) → c.start ≤ i
+        → new.start ≡ c.start → new.is_match ≡ true → new.candidate ≡ (if loops reader.position.now (seen_by reader c) then None else Some c) → AddsMember reader i true m ms new
+    adds_searched finds b ms c new l a h n e near s is d =
+        let from : i ≤ c.start = rw e at (ahead_starts reader m finds true i a) in
         adds_taken true b ms c new h n e (omega (arith, l, from)) (omega (arith, near, from)) s is d
 
     -- or it begins behind it, so that what begins here doesn't count
-    pub adds_unsearched : (b : Best) (ms : List Live) (g : Groups) → IsAhead line p true i m → FindsHere line i m g → IfSome (live_match dialect (length p.levels) line p.place m) (λ k. i < k.start) → IsBestAt line p i ms b
-        → AddsMember line p i true m ms b
-    adds_unsearched b ms g a h l k = adds_lost true b ms refl (none_here line p m true i g a h l) k
+    pub adds_unsearched : (b : Best) (ms : List Live) (g : Groups) → IsAhead reader true i m → FindsHere reader i m g → IfSome (match_of reader m) (λ k. i < k.start) → IsBestAt reader i ms b
+        → AddsMember reader i true m ms b
+    adds_unsearched b ms g a h l k = adds_lost true b ms refl (none_here reader m true i g a h l) k
 
 -- the groups of what leads are those that were kept
-pub groups_led : (line : List ℕ) (p : Position) (c : Candidate) (x : Option Candidate) (t : Bool) (g : Groups) → x ≡ (if t then None else Some c) → g ≡ (seen line p.place c).groups
-    → (m : Candidate) → x ≡ Some m → g ≡ (seen line p.place m).groups
-groups_led line p c x true g e h m f = let n : None ≡ Some m = sym e ∙ f in cc
-groups_led line p c x false g e h m f = let n : Some c ≡ Some m = sym e ∙ f in subst (λ (k : Candidate). g ≡ (seen line p.place k).groups) (some_same c m n) h
+pub groups_led : (reader : LineReader) (c : Candidate) (x : Option Candidate) (t : Bool) (g : Groups) → x ≡ (if t then None else Some c) → g ≡ (seen_by reader c).groups
+    → (m : Candidate) → x ≡ Some m → g ≡ (seen_by reader m).groups
+groups_led reader c x true g e h m f = let n : None ≡ Some m = sym e ∙ f in cc
+groups_led reader c x false g e h m f = let n : Some c ≡ Some m = sym e ∙ f in subst (λ (k : Candidate). g ≡ (seen_by reader k).groups) (some_same c m n) h
   where
     some_same : (a b : Candidate) → Some a ≡ Some b → a ≡ b
     some_same a b q = cc
 
-pub led_behind : (line : List ℕ) (p : Position) (i : ℕ) (o : Option Live) (c : Candidate) → o ≡ Some (seen line p.place c) → i < c.start → IfSome o (λ k. i < k.start)
-led_behind line p i o c e l = rw e l
+pub led_behind : (reader : LineReader) (i : ℕ) (o : Option Live) (c : Candidate) → o ≡ Some (seen_by reader c) → i < c.start → IfSome o (λ k. i < k.start)
+led_behind reader i o c e l = rw e l
 
 -- what a try at a place tells of the text that is searched
 pub none_from : (line : List ℕ) (i : ℕ) (text searched : List ℕ) (old new : Groups) (found : Bool) → searched ≡ text → TakesAt (pattern_found searched line) i old found new → found ≡ false
@@ -208,9 +208,9 @@ found_from line i text searched old new true e t f = (rw e at t.0, t.1)
 found_from line i text searched old new false e t f = cc
 
 -- where a match that counts begins here, the groups that were kept are those of what leads
-pub groups_counted : (line : List ℕ) (p : Position) (m : Member) (lost : Bool) (i : ℕ) (c : Candidate) (x : Option Candidate) (g kept : Groups) → x ≡ (if loops p (seen line p.place c) then None else Some c) → kept ≡ g
-    → lost ≡ false → IsAhead line p lost i m → FindsHere line i m g → get_or g 0 None ≡ Some (c.start, c.end) → counts (length p.levels) m.pattern.operation c.start c.end ≡ true
+pub groups_counted : (reader : LineReader) (m : Member) (lost : Bool) (i : ℕ) (c : Candidate) (x : Option Candidate) (g kept : Groups) → x ≡ (if loops reader.position.now (seen_by reader c) then None else Some c) → kept ≡ g
+    → lost ≡ false → IsAhead reader lost i m → FindsHere reader i m g → get_or g 0 None ≡ Some (c.start, c.end) → counts (length reader.position.now.levels) m.pattern.operation c.start c.end ≡ true
     → c.pattern.now ≡ m.pattern → c.from_with_prototype ≡ m.from_with_prototype → text_of c ≡ searched_text dialect m.pattern m.opening
-    → (k : Candidate) → x ≡ Some k → kept ≡ (seen line p.place k).groups
-groups_counted line p m lost i c x g kept e same n a f at counted pattern from text k is =
-    groups_led line p c x (loops p (seen line p.place c)) kept e (same ∙ (counted_here line p m lost i c g n a f at counted pattern from text).1) k is
+    → (k : Candidate) → x ≡ Some k → kept ≡ (seen_by reader k).groups
+groups_counted reader m lost i c x g kept e same n a f at counted pattern from text k is =
+    groups_led reader c x (loops reader.position.now (seen_by reader c)) kept e (same ∙ (counted_here reader m lost i c g n a f at counted pattern from text).1) k is

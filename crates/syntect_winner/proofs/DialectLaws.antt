@@ -1,5 +1,5 @@
 -- What the dialect finds stands in the text.
-use Rattle.std.proofs.Common.{◌≡◌, ℕ, List, Option, Some, None, refl, ap, ◌∙◌, arith}
+use Rattle.std.proofs.Common.{◌≡◌, ℕ, List, length, Option, Some, None, refl, ap, ◌∙◌, arith}
 use Rattle.std.specs.Prelude.{slice_get}
 use Rattle.std.specs.Option.{option_flatten}
 use Rattle.std.specs.Str.{IsUtf8}
@@ -7,11 +7,12 @@ use Rattle.syntect_pattern.specs.Trees.{Tree}
 use Rattle.syntect_pattern.specs.Matches.{found}
 use Rattle.syntect_pattern.specs.Pattern.{pattern_tree}
 use Rattle.syntect_pattern.specs.Reading.{◌>>=◌}
+use Rattle.syntect_pattern.specs.Found.{FindsPatternMatches}
 use Rattle.syntect_pattern.specs.Nesting.{FindsMatches, IsMatch, LiesIn}
 use Rattle.syntect_contexts.specs.Substitution.{Groups}
 use Rattle.syntect_winner.specs.Engine.{dialect}
 use Rattle.syntect_winner.specs.Turn.{group_at}
-use Rattle.syntect_winner.specs.Found.{FindsInText, StandsIn}
+use Rattle.syntect_winner.specs.Found.{FindsInText, FindsOnBoundaries, StandsIn}
 
 set_at : (groups : Groups) (start end : ℕ) (o : Option (Option (ℕ × ℕ))) → slice_get groups 0 ≡ o → option_flatten o ≡ Some (start, end) → slice_get groups 0 ≡ Some (Some (start, end))
 set_at groups start end None e f = cc
@@ -30,3 +31,6 @@ by_tree law text (Some tree) place start end groups u f g = stands law text tree
 
 pub finds_in_text : FindsMatches → FindsInText dialect
 finds_in_text law pattern text place start end groups u f g = by_tree law text (pattern_tree pattern) place start end groups u f g
+
+pub finds_on_boundaries : FindsPatternMatches → FindsOnBoundaries dialect
+finds_on_boundaries law pattern text place groups u f n at e = let lies : LiesIn text 0 (length text) at = (law pattern text place groups u f).is_match.lie n at e in (lies.starts, lies.ends)

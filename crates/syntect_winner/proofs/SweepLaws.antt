@@ -3,7 +3,6 @@ use Rattle.std.proofs.Common.{◌≡◌, ℕ, zero, suc, ◌+◌, ◌-◌, ◌<�
 use Rattle.std.specs.Prelude.{is_some}
 use Rattle.std.specs.List.{All, cons_option, flat_map}
 use Rattle.std.specs.Option.{option_copied}
-use Rattle.std.specs.Str.{IsUtf8}
 use Rattle.std.proofs.lemmas.Bool.{cases_lt}
 use Rattle.std.proofs.lemmas.List.{append-nil, get_or_default, take_all}
 use Rattle.std.proofs.Math.Seq.{take-length}
@@ -19,100 +18,101 @@ use Rattle.syntect_winner.specs.Engine.{dialect}
 use Rattle.syntect_winner.specs.Found.{FindsInText}
 use Rattle.syntect_winner.specs.Parts.{flat_members, part_member, part_members}
 use Rattle.syntect_winner.specs.Best.{IsBest, choice_by}
-use Rattle.syntect_winner.specs.Turn.{Live, live, live_match, searched_text, winner}
+use Rattle.syntect_winner.specs.Reader.{match_of, matches_of}
+use Rattle.syntect_winner.specs.Turn.{Live, searched_text, winner}
 use Rattle.syntect_winner.proofs.AheadLaws.{ahead_behind, ahead_first, ahead_next, ahead_starts, ahead_still, best_kept, best_passed_by, no_match}
 use Rattle.syntect_winner.proofs.BestLaws.{best_at_end, best_wins}
 use Rattle.syntect_winner.proofs.PartLaws.{flats_end, flats_more, live_more}
 use Rattle.syntect_winner.specs.declared.chain.Part.{Part}
-use Rattle.syntect_winner.specs.declared.position.Position.{Position}
+use Rattle.syntect_winner.specs.declared.reader.LineReader.{LineReader}
 use Rattle.syntect_winner.specs.declared.search.Best.{Best}
 use Rattle.syntect_winner.specs.declared.search.Candidate.{Candidate}
 use Rattle.syntect_winner.specs.declared.sweep.Run.{Run}
 
-module _ (finds : FindsInText dialect) (set : SyntaxSet) (line : List ℕ) (u : IsUtf8 line) (p : Position) (i : ℕ) (run : Run) where
+module _ (finds : FindsInText dialect) (reader : LineReader) (i : ℕ) (run : Run) where
   abbrev flats : List Flat
   flats = list_in run.flats
 
   abbrev found_in : List Flat → List Live
-  found_in fs = live dialect line p (flat_members set run.part fs)
+  found_in fs = matches_of reader (flat_members reader.set.now run.part fs)
 
   -- with this pattern more a best stays the best
   abbrev Stays : Best → Flat → Type 0
-  Stays b f = (xs : List Live) → IsBestAt line p i xs b → IsBestAt line p i (xs ++ found_in (f ∷ [])) b
+  Stays b f = (xs : List Live) → IsBestAt reader i xs b → IsBestAt reader i (xs ++ found_in (f ∷ [])) b
 
   -- ---- one pattern ----
 
-  stays_by : (b : Best) (f : Flat) (o : Option MatchPattern) → pattern_at set f ≡ o
-      → ((m : MatchPattern) → o ≡ Some m → (xs : List Live) → IsBestAt line p i xs b → IsBestAt line p i (xs ++ cons_option (live_match dialect (length p.levels) line p.place (part_member run.part m)) []) b)
+  stays_by : (b : Best) (f : Flat) (o : Option MatchPattern) → pattern_at reader.set.now f ≡ o
+      → ((m : MatchPattern) → o ≡ Some m → (xs : List Live) → IsBestAt reader i xs b → IsBestAt reader i (xs ++ cons_option (match_of reader (part_member run.part m)) []) b)
       → Stays b f
-  stays_by b f None e h xs k = rw e (subst (λ l. IsBestAt line p i l b) (sym (append-nil xs)) k)
+  stays_by b f None e h xs k = rw e (subst (λ l. IsBestAt reader i l b) (sym (append-nil xs)) k)
   stays_by b f (Some m) e h xs k = rw e (h m refl xs k)
 
   -- one that is ahead, where a best is found already
-  kept : (b : Best) (c : Candidate) (f : Flat) (lost : Bool) → b.candidate ≡ Some c → ((m : MatchPattern) → pattern_at set f ≡ Some m → IsAhead line p lost i (part_member run.part m)) → Stays b f
-  kept b c f lost e h = stays_by b f (pattern_at set f) refl (λ m g xs k. best_kept line p i b xs c _ k e (ahead_starts line p (part_member run.part m) finds u lost i (h m g)))
+  kept : (b : Best) (c : Candidate) (f : Flat) (lost : Bool) → b.candidate ≡ Some c → ((m : MatchPattern) → pattern_at reader.set.now f ≡ Some m → IsAhead reader lost i (part_member run.part m)) → Stays b f
+  kept b c f lost e h = stays_by b f (pattern_at reader.set.now f) refl (λ m g xs k. best_kept reader i b xs c _ k e (ahead_starts reader (part_member run.part m) finds lost i (h m g)))
 
   -- one that is ahead of this place too
-  passed : (b : Best) (f : Flat) (lost : Bool) → ((m : MatchPattern) → pattern_at set f ≡ Some m → IsAhead line p lost (i + 1) (part_member run.part m)) → Stays b f
-  passed b f lost h = stays_by b f (pattern_at set f) refl (λ m g xs k. best_passed_by line p i b xs _ k (ahead_behind line p (part_member run.part m) finds u lost i (h m g)))
+  passed : (b : Best) (f : Flat) (lost : Bool) → ((m : MatchPattern) → pattern_at reader.set.now f ≡ Some m → IsAhead reader lost (i + 1) (part_member run.part m)) → Stays b f
+  passed b f lost h = stays_by b f (pattern_at reader.set.now f) refl (λ m g xs k. best_passed_by reader i b xs _ k (ahead_behind reader (part_member run.part m) finds lost i (h m g)))
 
   -- ---- patterns one after another ----
 
-  one_more : (b : Best) (ms : List Live) (fs : List Flat) (j : ℕ) (d : Flat) → j < length fs → IsBestAt line p i ((ms ++ found_in (take j fs)) ++ found_in (get_or fs j d ∷ [])) b
-      → IsBestAt line p i (ms ++ found_in (take (j + 1) fs)) b
-  one_more b ms fs j d l h = subst (λ xs. IsBestAt line p i xs b) (flats_more finds set line u p run.part ms fs j d l) h
+  one_more : (b : Best) (ms : List Live) (fs : List Flat) (j : ℕ) (d : Flat) → j < length fs → IsBestAt reader i ((ms ++ found_in (take j fs)) ++ found_in (get_or fs j d ∷ [])) b
+      → IsBestAt reader i (ms ++ found_in (take (j + 1) fs)) b
+  one_more b ms fs j d l h = subst (λ xs. IsBestAt reader i xs b) (flats_more finds reader.set.now reader.line.now reader.text reader.position.now run.part ms fs j d l) h
 
   past : (fs : List Flat) (j k : ℕ) → length fs ≤ j → length fs ≤ k → take j fs ≡ take k fs
   past fs j k l m = take_all j fs l ∙ sym (take_all k fs m)
 
-  pub more : (b : Best) (ms : List Live) (fs : List Flat) (j n : ℕ) → IsBestAt line p i (ms ++ found_in (take j fs)) b
-      → ((k : ℕ) (d : Flat) → j ≤ k → k < j + n → k < length fs → Stays b (get_or fs k d)) → IsBestAt line p i (ms ++ found_in (take (j + n) fs)) b
-  more b ms fs j zero h f = let e : j ≡ j + 0 = omega arith in subst (λ k. IsBestAt line p i (ms ++ found_in (take k fs)) b) e h
+  pub more : (b : Best) (ms : List Live) (fs : List Flat) (j n : ℕ) → IsBestAt reader i (ms ++ found_in (take j fs)) b
+      → ((k : ℕ) (d : Flat) → j ≤ k → k < j + n → k < length fs → Stays b (get_or fs k d)) → IsBestAt reader i (ms ++ found_in (take (j + n) fs)) b
+  more b ms fs j zero h f = let e : j ≡ j + 0 = omega arith in subst (λ k. IsBestAt reader i (ms ++ found_in (take k fs)) b) e h
   more b ms fs j (suc n) h f =
-      let before : IsBestAt line p i (ms ++ found_in (take (j + n) fs)) b = more b ms fs j n h (λ k d l m q. f k d l (omega (arith, m)) q) in
+      let before : IsBestAt reader i (ms ++ found_in (take (j + n) fs)) b = more b ms fs j n h (λ k d l m q. f k d l (omega (arith, m)) q) in
       let e : j + n + 1 ≡ j + suc n = omega arith in
       elim (cases_lt (j + n) (length fs)) [
-        | inl l ↦ subst (λ k. IsBestAt line p i (ms ++ found_in (take k fs)) b) e (by fs refl l before)
-        | inr l ↦ subst (λ xs. IsBestAt line p i (ms ++ found_in xs) b) (past fs (j + n) (j + suc n) l (omega (arith, l))) before
+        | inl l ↦ subst (λ k. IsBestAt reader i (ms ++ found_in (take k fs)) b) e (by fs refl l before)
+        | inr l ↦ subst (λ xs. IsBestAt reader i (ms ++ found_in xs) b) (past fs (j + n) (j + suc n) l (omega (arith, l))) before
       ]
     where
-      by : (xs : List Flat) → fs ≡ xs → j + n < length fs → IsBestAt line p i (ms ++ found_in (take (j + n) fs)) b → IsBestAt line p i (ms ++ found_in (take (j + n + 1) fs)) b
+      by : (xs : List Flat) → fs ≡ xs → j + n < length fs → IsBestAt reader i (ms ++ found_in (take (j + n) fs)) b → IsBestAt reader i (ms ++ found_in (take (j + n + 1) fs)) b
       by [] s l k = absurd (omega (arith, l, ap length s))
       by (x ∷ xs) s l k = one_more b ms fs (j + n) x l (f (j + n) x (omega arith) (omega arith) l _ k)
 
-  pub up_to : (b : Best) (ms : List Live) (fs : List Flat) (j k : ℕ) → j ≤ k → IsBestAt line p i (ms ++ found_in (take j fs)) b
-      → ((q : ℕ) (d : Flat) → j ≤ q → q < k → q < length fs → Stays b (get_or fs q d)) → IsBestAt line p i (ms ++ found_in (take k fs)) b
+  pub up_to : (b : Best) (ms : List Live) (fs : List Flat) (j k : ℕ) → j ≤ k → IsBestAt reader i (ms ++ found_in (take j fs)) b
+      → ((q : ℕ) (d : Flat) → j ≤ q → q < k → q < length fs → Stays b (get_or fs q d)) → IsBestAt reader i (ms ++ found_in (take k fs)) b
   up_to b ms fs j k l h f =
       let e : j + (k - j) ≡ k = omega arith in
-      subst (λ n. IsBestAt line p i (ms ++ found_in (take n fs)) b) e (more b ms fs j (k - j) h (λ q d a c z. f q d a (omega (arith, c)) z))
+      subst (λ n. IsBestAt reader i (ms ++ found_in (take n fs)) b) e (more b ms fs j (k - j) h (λ q d a c z. f q d a (omega (arith, c)) z))
 
   -- ---- patterns that can't begin with what stands here ----
 
-  module _ (r : IsRun set run) where
+  module _ (r : IsRun reader.set.now run) where
     -- the text that is searched is the pattern's own, where none is replaced
-    own_text : (k : ℕ) (d : Flat) (m : MatchPattern) → k < length flats → pattern_at set (get_or flats k d) ≡ Some m → run.replaced.items ≡ [] → m.regex ≡ searched_text dialect m (option_copied run.part.opening)
+    own_text : (k : ℕ) (d : Flat) (m : MatchPattern) → k < length flats → pattern_at reader.set.now (get_or flats k d) ≡ Some m → run.replaced.items ≡ [] → m.regex ≡ searched_text dialect m (option_copied run.part.opening)
     own_text k d m l e n = (rw n at (r.replaced k d m l e))
 
-    pub passes : (lost : Bool) (k : ℕ) (d : Flat) → k < length flats → run.replaced.items ≡ [] → is_in (get_or flats k d).begins (start_at line i) ≡ false
-        → ((m : MatchPattern) → pattern_at set (get_or flats k d) ≡ Some m → IsAhead line p lost i (part_member run.part m))
-        → (m : MatchPattern) → pattern_at set (get_or flats k d) ≡ Some m → IsAhead line p lost (i + 1) (part_member run.part m)
+    pub passes : (lost : Bool) (k : ℕ) (d : Flat) → k < length flats → run.replaced.items ≡ [] → is_in (get_or flats k d).begins (start_at reader.line.now i) ≡ false
+        → ((m : MatchPattern) → pattern_at reader.set.now (get_or flats k d) ≡ Some m → IsAhead reader lost i (part_member run.part m))
+        → (m : MatchPattern) → pattern_at reader.set.now (get_or flats k d) ≡ Some m → IsAhead reader lost (i + 1) (part_member run.part m)
     passes lost k d l n out a m e =
-        let told : Tells set (get_or flats k d) = All-get_or (Tells set) flats k d l r.flats.tells in
+        let told : Tells reader.set.now (get_or flats k d) = All-get_or (Tells reader.set.now) flats k d l r.flats.tells in
         let begins : (((get_or flats k d).has_captures ≡ m.has_captures)) × NoneBeginsOutside (get_or flats k d).begins m.regex = rw e at told in
         let same : m.regex ≡ searched_text dialect m (option_copied run.part.opening) = own_text k d m l e n in
-        ahead_next line p (part_member run.part m) lost i (a m e) (rw same at (begins.1 line u i out))
+        ahead_next reader (part_member run.part m) lost i (a m e) (rw same at (begins.1 reader.line.now reader.text i out))
 
     -- those between two indexes that can't begin here change nothing,
     pub skipped : (lost : Bool) (b : Best) (ms : List Live) (j k : ℕ) → j ≤ k → (j < k → run.replaced.items ≡ [])
-        → ((q : ℕ) (d : Flat) → j ≤ q → q < k → q < length flats → is_in (get_or flats q d).begins (start_at line i) ≡ false) → AreAheadFrom set line p lost i run j
-        → IsBestAt line p i (ms ++ found_in (take j flats)) b → IsBestAt line p i (ms ++ found_in (take k flats)) b
+        → ((q : ℕ) (d : Flat) → j ≤ q → q < k → q < length flats → is_in (get_or flats q d).begins (start_at reader.line.now i) ≡ false) → AreAheadFrom reader lost i run j
+        → IsBestAt reader i (ms ++ found_in (take j flats)) b → IsBestAt reader i (ms ++ found_in (take k flats)) b
     skipped lost b ms j k l plain out ahead h =
         up_to b ms flats j k l h (λ q d a c z. passed b (get_or flats q d) lost (passes lost q d z (plain (omega (arith, a, c))) (out q d a c z) (λ m e. ahead q d m a z e)))
 
     -- and are ahead of this place too
     pub skipped_ahead : (lost : Bool) (j k : ℕ) → (j < k → run.replaced.items ≡ [])
-        → ((q : ℕ) (d : Flat) → j ≤ q → q < k → q < length flats → is_in (get_or flats q d).begins (start_at line i) ≡ false) → AreAheadFrom set line p lost i run j
-        → AreAheadUpTo set line p lost (i + 1) run j → AreAheadUpTo set line p lost (i + 1) run k
+        → ((q : ℕ) (d : Flat) → j ≤ q → q < k → q < length flats → is_in (get_or flats q d).begins (start_at reader.line.now i) ≡ false) → AreAheadFrom reader lost i run j
+        → AreAheadUpTo reader lost (i + 1) run j → AreAheadUpTo reader lost (i + 1) run k
     skipped_ahead lost j k plain out ahead before q d m l z e = elim (cases_lt q j) [
       | inl a ↦ before q d m a z e
       | inr a ↦ passes lost q d z (plain (omega (arith, a, l))) (out q d a l z) (λ n f. ahead q d n a z f) m e
@@ -120,62 +120,62 @@ module _ (finds : FindsInText dialect) (set : SyntaxSet) (line : List ℕ) (u : 
 
     -- the same of those before an index
     pub begun : (lost : Bool) (b : Best) (ms : List Live) (k : ℕ) → (0 < k → run.replaced.items ≡ [])
-        → ((q : ℕ) (d : Flat) → 0 ≤ q → q < k → q < length flats → is_in (get_or flats q d).begins (start_at line i) ≡ false) → AreAhead set line p lost i run
-        → IsBestAt line p i ms b → IsBestAt line p i (ms ++ found_in (take k flats)) b
-    begun lost b ms k plain out ahead h = skipped lost b ms 0 k (omega arith) plain out ahead (subst (λ xs. IsBestAt line p i xs b) (sym (append-nil ms)) h)
+        → ((q : ℕ) (d : Flat) → 0 ≤ q → q < k → q < length flats → is_in (get_or flats q d).begins (start_at reader.line.now i) ≡ false) → AreAhead reader lost i run
+        → IsBestAt reader i ms b → IsBestAt reader i (ms ++ found_in (take k flats)) b
+    begun lost b ms k plain out ahead h = skipped lost b ms 0 k (omega arith) plain out ahead (subst (λ xs. IsBestAt reader i xs b) (sym (append-nil ms)) h)
 
     pub begun_ahead : (lost : Bool) (k : ℕ) → (0 < k → run.replaced.items ≡ [])
-        → ((q : ℕ) (d : Flat) → 0 ≤ q → q < k → q < length flats → is_in (get_or flats q d).begins (start_at line i) ≡ false) → AreAhead set line p lost i run
-        → AreAheadUpTo set line p lost (i + 1) run k
+        → ((q : ℕ) (d : Flat) → 0 ≤ q → q < k → q < length flats → is_in (get_or flats q d).begins (start_at reader.line.now i) ≡ false) → AreAhead reader lost i run
+        → AreAheadUpTo reader lost (i + 1) run k
     begun_ahead lost k plain out ahead = skipped_ahead lost 0 k plain out ahead (λ q d m l. absurd (omega (arith, l)))
 
   -- ---- the pattern at an index ----
 
-  pub stepped : (lost : Bool) (b : Best) (ms : List Live) (index : ℕ) → index < length flats → AddsAt set line p i lost run index (ms ++ found_in (take index flats)) b
-      → IsBestAt line p i (ms ++ found_in (take (index + 1) flats)) b
+  pub stepped : (lost : Bool) (b : Best) (ms : List Live) (index : ℕ) → index < length flats → AddsAt reader i lost run index (ms ++ found_in (take index flats)) b
+      → IsBestAt reader i (ms ++ found_in (take (index + 1) flats)) b
   stepped lost b ms index l added = by flats refl l
     where
-      by : (xs : List Flat) → flats ≡ xs → index < length flats → IsBestAt line p i (ms ++ found_in (take (index + 1) flats)) b
+      by : (xs : List Flat) → flats ≡ xs → index < length flats → IsBestAt reader i (ms ++ found_in (take (index + 1) flats)) b
       by [] s l = absurd (omega (arith, l, ap length s))
       by (x ∷ xs) s l = one_more b ms flats index x l (added.best x)
 
-  pub stepped_ahead : (lost : Bool) (b : Best) (ms : List Live) (index : ℕ) → AddsAt set line p i lost run index ms b → b.is_match ≡ false
-      → AreAheadUpTo set line p lost (i + 1) run index → AreAheadUpTo set line p lost (i + 1) run (index + 1)
+  pub stepped_ahead : (lost : Bool) (b : Best) (ms : List Live) (index : ℕ) → AddsAt reader i lost run index ms b → b.is_match ≡ false
+      → AreAheadUpTo reader lost (i + 1) run index → AreAheadUpTo reader lost (i + 1) run (index + 1)
   stepped_ahead lost b ms index added is before k d m l z e = elim (cases_lt k index) [
     | inl a ↦ before k d m a z e
-    | inr a ↦ let same : k ≡ index = omega (arith, a, l) in added.ahead d m is (sym (ap (λ j. pattern_at set (get_or flats j d)) same) ∙ e)
+    | inr a ↦ let same : k ≡ index = omega (arith, a, l) in added.ahead d m is (sym (ap (λ j. pattern_at reader.set.now (get_or flats j d)) same) ∙ e)
   ]
 
   -- what was ahead stays so when more is lost
-  pub still_from : (lost more : Bool) (index : ℕ) → (lost ≡ true → more ≡ true) → AreAhead set line p lost i run → AreAheadFrom set line p more i run index
-  still_from lost more index h a k d m l z e = ahead_still line p (part_member run.part m) lost more i h (a k d m (omega arith) z e)
+  pub still_from : (lost more : Bool) (index : ℕ) → (lost ≡ true → more ≡ true) → AreAhead reader lost i run → AreAheadFrom reader more i run index
+  still_from lost more index h a k d m l z e = ahead_still reader (part_member run.part m) lost more i h (a k d m (omega arith) z e)
 
-  pub still_up_to : (lost more : Bool) (at index : ℕ) → (lost ≡ true → more ≡ true) → AreAheadUpTo set line p lost at run index → AreAheadUpTo set line p more at run index
-  still_up_to lost more at index h a k d m l z e = ahead_still line p (part_member run.part m) lost more at h (a k d m l z e)
+  pub still_up_to : (lost more : Bool) (at index : ℕ) → (lost ≡ true → more ≡ true) → AreAheadUpTo reader lost at run index → AreAheadUpTo reader more at run index
+  still_up_to lost more at index h a k d m l z e = ahead_still reader (part_member run.part m) lost more at h (a k d m l z e)
 
   -- ---- all patterns of a part ----
 
-  module _ (r : IsRun set run) (lost : Bool) (b : Best) (ms : List Live) (index : ℕ) where
-    ended : IsBestAt line p i (ms ++ found_in flats) b → IsBestAt line p i (ms ++ live dialect line p (part_members set run.part)) b
-    ended h = record { best = flats_end finds set line u p run.part i b ms flats r.flats.finds h.best; here = h.here }
+  module _ (r : IsRun reader.set.now run) (lost : Bool) (b : Best) (ms : List Live) (index : ℕ) where
+    ended : IsBestAt reader i (ms ++ found_in flats) b → IsBestAt reader i (ms ++ matches_of reader (part_members reader.set.now run.part)) b
+    ended h = record { best = flats_end finds reader.set.now reader.line.now reader.text reader.position.now run.part i b ms flats r.flats.finds h.best; here = h.here }
 
     -- the list was gone through, or one is found and all others begin no earlier
-    pub run_done : IsBestAt line p i (ms ++ found_in (take index flats)) b → (length flats ≤ index) ⊎ ((c : Candidate) × (b.candidate ≡ Some c))
-        → AreAheadFrom set line p lost i run index → IsBestAt line p i (ms ++ live dialect line p (part_members set run.part)) b
-    run_done h (inl l) a = ended (subst (λ xs. IsBestAt line p i (ms ++ found_in xs) b) (take_all index flats l) h)
+    pub run_done : IsBestAt reader i (ms ++ found_in (take index flats)) b → (length flats ≤ index) ⊎ ((c : Candidate) × (b.candidate ≡ Some c))
+        → AreAheadFrom reader lost i run index → IsBestAt reader i (ms ++ matches_of reader (part_members reader.set.now run.part)) b
+    run_done h (inl l) a = ended (subst (λ xs. IsBestAt reader i (ms ++ found_in xs) b) (take_all index flats l) h)
     run_done h (inr c) a = elim (cases_lt index (length flats)) [
-      | inl l ↦ ended (subst (λ xs. IsBestAt line p i (ms ++ found_in xs) b) (take-length flats)
+      | inl l ↦ ended (subst (λ xs. IsBestAt reader i (ms ++ found_in xs) b) (take-length flats)
           (up_to b ms flats index (length flats) (omega (arith, l)) h (λ q d j k z. kept b c.0 (get_or flats q d) lost c.1 (λ m e. a q d m j z e))))
-      | inr l ↦ ended (subst (λ xs. IsBestAt line p i (ms ++ found_in xs) b) (take_all index flats l) h)
+      | inr l ↦ ended (subst (λ xs. IsBestAt reader i (ms ++ found_in xs) b) (take_all index flats l) h)
     ]
 
-    pub run_ended : IsBestAt line p i (ms ++ found_in (take index flats)) b → (b.is_match ≡ false → AreAheadUpTo set line p lost (i + 1) run index)
-        → (length flats ≤ index) ⊎ ((c : Candidate) × (b.candidate ≡ Some c)) → AreAheadFrom set line p lost i run index → AddsRun set line p i lost run ms b
+    pub run_ended : IsBestAt reader i (ms ++ found_in (take index flats)) b → (b.is_match ≡ false → AreAheadUpTo reader lost (i + 1) run index)
+        → (length flats ≤ index) ⊎ ((c : Candidate) × (b.candidate ≡ Some c)) → AreAheadFrom reader lost i run index → AddsRun reader i lost run ms b
     run_ended h ahead o a = record { best = run_done h o a; ahead = by o }
       where
-        by : (length flats ≤ index) ⊎ ((c : Candidate) × (b.candidate ≡ Some c)) → b.is_match ≡ false → AreAhead set line p lost (i + 1) run
+        by : (length flats ≤ index) ⊎ ((c : Candidate) × (b.candidate ≡ Some c)) → b.is_match ≡ false → AreAhead reader lost (i + 1) run
         by (inl l) is k d m z w e = ahead is k d m (omega (arith, l, w)) w e
-        by (inr c) is k d m z w e = absurd (no_match line p i b (ms ++ found_in (take index flats)) c.0 h.best c.1 is)
+        by (inr c) is k d m z w e = absurd (no_match reader i b (ms ++ found_in (take index flats)) c.0 h.best c.1 is)
 
 pub none_held : (o : Option Candidate) → is_some o ≡ false → o ≡ None
 none_held None e = refl
@@ -187,39 +187,39 @@ one_held (Some c) e = (c, refl)
 
 -- ---- all parts of a chain ----
 
-module _ (set : SyntaxSet) (line : List ℕ) (p : Position) (i : ℕ) where
+module _ (reader : LineReader) (i : ℕ) where
   -- the first parts are ahead of a place
   abbrev pub AheadUpTo : Bool → ℕ → List Run → ℕ → Type 0
-  AheadUpTo lost at runs to = (k : ℕ) (r : Run) → k < to → k < length runs → AreAhead set line p lost at (get_or runs k r)
+  AheadUpTo lost at runs to = (k : ℕ) (r : Run) → k < to → k < length runs → AreAhead reader lost at (get_or runs k r)
 
-  pub runs_more : (lost : Bool) (b : Best) (runs : List Run) (j : ℕ) (x : Run) → j < length runs → x ≡ get_or runs j x → AddsRun set line p i lost x (live dialect line p (flat_map (run_members set) (take j runs))) b
-      → IsBestAt line p i (live dialect line p (flat_map (run_members set) (take (j + 1) runs))) b
-  runs_more lost b runs j x l e added = subst (λ xs. IsBestAt line p i xs b) (live_more line p (run_members set) runs j x l e) added.best
+  pub runs_more : (lost : Bool) (b : Best) (runs : List Run) (j : ℕ) (x : Run) → j < length runs → x ≡ get_or runs j x → AddsRun reader i lost x (matches_of reader (flat_map (run_members reader.set.now) (take j runs))) b
+      → IsBestAt reader i (matches_of reader (flat_map (run_members reader.set.now) (take (j + 1) runs))) b
+  runs_more lost b runs j x l e added = subst (λ xs. IsBestAt reader i xs b) (live_more reader.line.now reader.position.now (run_members reader.set.now) runs j x l e) added.best
 
-  pub runs_ahead : (old lost : Bool) (b : Best) (ms : List Live) (runs : List Run) (j : ℕ) (x : Run) → j < length runs → x ≡ get_or runs j x → (old ≡ true → lost ≡ true) → AddsRun set line p i lost x ms b → b.is_match ≡ false
+  pub runs_ahead : (old lost : Bool) (b : Best) (ms : List Live) (runs : List Run) (j : ℕ) (x : Run) → j < length runs → x ≡ get_or runs j x → (old ≡ true → lost ≡ true) → AddsRun reader i lost x ms b → b.is_match ≡ false
       → AheadUpTo old (i + 1) runs j → AheadUpTo lost (i + 1) runs (j + 1)
   runs_ahead old lost b ms runs j x l e h added is before k r n z q d m f w g = elim (cases_lt k j) [
-    | inl a ↦ ahead_still line p (part_member (get_or runs k r).part m) old lost (i + 1) h (before k r a z q d m f w g)
+    | inl a ↦ ahead_still reader (part_member (get_or runs k r).part m) old lost (i + 1) h (before k r a z q d m f w g)
     | inr a ↦
         let same : k ≡ j = omega (arith, a, n) in
         let here : get_or runs k r ≡ x = ap (λ y. get_or runs y r) same ∙ get_or_default runs j r x l ∙ sym e in
-        (subst (λ y. AreAhead set line p lost (i + 1) y) (sym here) (added.ahead is)) q d m f w g
+        (subst (λ y. AreAhead reader lost (i + 1) y) (sym here) (added.ahead is)) q d m f w g
   ]
 
-  pub one_ahead : (lost more : Bool) (runs : List Run) (j : ℕ) (x : Run) → j < length runs → x ≡ get_or runs j x → (lost ≡ true → more ≡ true) → AllAhead set line p lost i runs → AreAhead set line p more i x
+  pub one_ahead : (lost more : Bool) (runs : List Run) (j : ℕ) (x : Run) → j < length runs → x ≡ get_or runs j x → (lost ≡ true → more ≡ true) → AllAhead reader lost i runs → AreAhead reader more i x
   one_ahead lost more runs j x l e h a k d m f w g =
-      ahead_still line p (part_member x.part m) lost more i h ((subst (λ y. AreAhead set line p lost i y) (sym e) (a j x l)) k d m f w g)
+      ahead_still reader (part_member x.part m) lost more i h ((subst (λ y. AreAhead reader lost i y) (sym e) (a j x l)) k d m f w g)
 
-  pub runs_end : (lost : Bool) (b : Best) (runs : List Run) (j : ℕ) → length runs ≤ j → IsBestAt line p i (live dialect line p (flat_map (run_members set) (take j runs))) b
-      → (b.is_match ≡ false → AheadUpTo lost (i + 1) runs j) → AddsAll set line p i lost runs b
+  pub runs_end : (lost : Bool) (b : Best) (runs : List Run) (j : ℕ) → length runs ≤ j → IsBestAt reader i (matches_of reader (flat_map (run_members reader.set.now) (take j runs))) b
+      → (b.is_match ≡ false → AheadUpTo lost (i + 1) runs j) → AddsAll reader i lost runs b
   runs_end lost b runs j l h a = record {
-    best = subst (λ rs. IsBestAt line p i (live dialect line p (flat_map (run_members set) rs)) b) (take_all j runs l) h;
+    best = subst (λ rs. IsBestAt reader i (matches_of reader (flat_map (run_members reader.set.now) rs)) b) (take_all j runs l) h;
     ahead = λ is k r z. a is k r (omega (arith, z, l)) z;
   }
 
 -- nothing is found before the first part is gone through
-pub none_yet : (line : List ℕ) (p : Position) (i : ℕ) (b : Best) → p.place ≤ i → b.start ≡ i + 1 → b.is_match ≡ false → b.candidate ≡ None → IsBestAt line p i [] b
-none_yet line p i b l s is n = record {
+pub none_yet : (reader : LineReader) (i : ℕ) (b : Best) → reader.position.now.place ≤ i → b.start ≡ i + 1 → b.is_match ≡ false → b.candidate ≡ None → IsBestAt reader i [] b
+none_yet reader i b l s is n = record {
   best = record {
     least = refl;
     first = λ f. absurd (let e : true ≡ false = sym f ∙ is in cc);
@@ -239,29 +239,29 @@ runs_members set runs parts e = by runs ∙ ap (flat_map (part_members set)) e
     by [] = refl
     by (r ∷ rs) = ap (λ l. part_members set r.part ++ l) (by rs)
 
-pub all_first : (set : SyntaxSet) (line : List ℕ) (p : Position) (lost : Bool) (runs : List Run) → AllAhead set line p lost p.place runs
-all_first set line p lost runs k r z q d m f w g = ahead_first line p (part_member (get_or runs k r).part m) lost
+pub all_first : (reader : LineReader) (lost : Bool) (runs : List Run) → AllAhead reader lost reader.position.now.place runs
+all_first reader lost runs k r z q d m f w g = ahead_first reader (part_member (get_or runs k r).part m) lost
 
 -- ---- places where nothing can begin ----
 
-module _ (finds : FindsInText dialect) (set : SyntaxSet) (line : List ℕ) (u : IsUtf8 line) (p : Position) (runs : List Run) (all : All (IsRun set) runs) (lost : Bool) where
-  pub passed_place : (i : ℕ) → All (IsBare (start_at line i)) runs → AllAhead set line p lost i runs → AllAhead set line p lost (i + 1) runs
+module _ (finds : FindsInText dialect) (reader : LineReader) (runs : List Run) (all : All (IsRun reader.set.now) runs) (lost : Bool) where
+  pub passed_place : (i : ℕ) → All (IsBare (start_at reader.line.now i)) runs → AllAhead reader lost i runs → AllAhead reader lost (i + 1) runs
   passed_place i bare ahead k r l q d m z w e =
       let run : Run = get_or runs k r in
-      begun_ahead finds set line u p i run (all k r l) lost (length (list_in run.flats)) (bare k r l).plain (λ j f _ n _. (bare k r l).out j f n) (ahead k r l) q d m w w e
+      begun_ahead finds reader i run (all k r l) lost (length (list_in run.flats)) (bare k r l).plain (λ j f _ n _. (bare k r l).out j f n) (ahead k r l) q d m w w e
 
 -- ---- the winner of the chain ----
 
-module _ (set : SyntaxSet) (line : List ℕ) (p : Position) (i : ℕ) (lost : Bool) (runs : List Run) (parts : List Part) (b : Best) where
-  of_parts : map (λ r. r.part) runs ≡ parts → AddsAll set line p i lost runs b → IsBest line p i (live dialect line p (flat_map (part_members set) parts)) b
-  of_parts e added = subst (λ ms. IsBest line p i (live dialect line p ms) b) (runs_members set runs parts e) added.best.best
+module _ (reader : LineReader) (i : ℕ) (lost : Bool) (runs : List Run) (parts : List Part) (b : Best) where
+  of_parts : map (λ r. r.part) runs ≡ parts → AddsAll reader i lost runs b → IsBest reader.line.now reader.position.now i (matches_of reader (flat_map (part_members reader.set.now) parts)) b
+  of_parts e added = subst (λ ms. IsBest reader.line.now reader.position.now i (matches_of reader ms) b) (runs_members reader.set.now runs parts e) added.best.best
 
   -- where one begins at this place, it wins,
-  pub chain_won : map (λ r. r.part) runs ≡ parts → AddsAll set line p i lost runs b → b.is_match ≡ true
-      → choice_by line p.place b ≡ winner line p (live dialect line p (flat_map (part_members set) parts))
-  chain_won e added is = best_wins line p i b (live dialect line p (flat_map (part_members set) parts)) (of_parts e added) is
+  pub chain_won : map (λ r. r.part) runs ≡ parts → AddsAll reader i lost runs b → b.is_match ≡ true
+      → choice_by reader.line.now reader.position.now.place b ≡ winner reader.line.now reader.position.now (matches_of reader (flat_map (part_members reader.set.now) parts))
+  chain_won e added is = best_wins reader.line.now reader.position.now i b (matches_of reader (flat_map (part_members reader.set.now) parts)) (of_parts e added) is
 
   -- and at the line's end there is none
-  pub chain_ended : FindsInText dialect → IsUtf8 line → length line ≤ i → map (λ r. r.part) runs ≡ parts → AddsAll set line p i lost runs b → b.is_match ≡ false
-      → choice_by line p.place b ≡ winner line p (live dialect line p (flat_map (part_members set) parts))
-  chain_ended finds u l e added is = best_at_end finds line u p (flat_map (part_members set) parts) i b l (of_parts e added) is
+  pub chain_ended : FindsInText dialect → length reader.line.now ≤ i → map (λ r. r.part) runs ≡ parts → AddsAll reader i lost runs b → b.is_match ≡ false
+      → choice_by reader.line.now reader.position.now.place b ≡ winner reader.line.now reader.position.now (matches_of reader (flat_map (part_members reader.set.now) parts))
+  chain_ended finds l e added is = best_at_end finds reader.line.now reader.text reader.position.now (flat_map (part_members reader.set.now) parts) i b l (of_parts e added) is

@@ -2,7 +2,6 @@
 use Rattle.std.specs.Prelude.{◌≡◌, ℕ, ◌+◌, ◌<◌, ◌≤◌, ◌⊎◌, Bool, true, false, List, [], ◌∷◌, ◌++◌, length, Option, Some, None, unwrap_or, slice_index_or}
 use Rattle.std.specs.List.{cons_option, flat_map}
 use Rattle.std.specs.Option.{option_copied}
-use Rattle.syntect_pattern.specs.Pattern.{pattern_found}
 use Rattle.syntect_pattern_table.specs.Starts.{is_in}
 use Rattle.syntect_contexts.specs.Substitution.{Groups}
 use Rattle.syntect_contexts.specs.declared.context.MatchPattern.{MatchPattern}
@@ -14,9 +13,10 @@ use Rattle.syntect_winner.specs.Best.{IsBest}
 use Rattle.syntect_winner.specs.Chain.{Member}
 use Rattle.syntect_winner.specs.Engine.{dialect}
 use Rattle.syntect_winner.specs.Parts.{flat_members, part_member, part_members}
-use Rattle.syntect_winner.specs.Turn.{Live, live, live_match, searched_text}
+use Rattle.syntect_winner.specs.Reader.{match_of, matches_of, search_of}
+use Rattle.syntect_winner.specs.Turn.{Live, searched_text}
 use Rattle.syntect_winner.specs.declared.chain.Part.{Part}
-use Rattle.syntect_winner.specs.declared.position.Position.{Position}
+use Rattle.syntect_winner.specs.declared.reader.LineReader.{LineReader}
 use Rattle.syntect_winner.specs.declared.search.Best.{Best}
 use Rattle.syntect_winner.specs.declared.sweep.Kept.{Kept}
 use Rattle.syntect_winner.specs.declared.sweep.Kept.TheVariants as kept
@@ -37,30 +37,30 @@ pub record IsRun (set : SyntaxSet) (run : Run) : Type 0 where
   pub flats : AreFlatsOf set run.part.id (list_in run.flats)
   pub replaced : AreReplaced set run.part (list_in run.flats) run.replaced.items
 
--- A search of a member from the turn's place on finds what one from this place on finds; or matches were lost, since they
+-- A search of a member from the reader's place on finds what one from this place on finds; or matches were lost, since they
 -- don't count, and the member has none that counts.
-abbrev pub IsAhead : List ℕ → Position → Bool → ℕ → Member → Type 0
-IsAhead line p lost i m =
-    (pattern_found (searched_text dialect m.pattern m.opening) line p.place ≡ pattern_found (searched_text dialect m.pattern m.opening) line i)
-    ⊎ ((lost ≡ true) × (live_match dialect (length p.levels) line p.place m ≡ None))
+abbrev pub IsAhead : LineReader → Bool → ℕ → Member → Type 0
+IsAhead reader lost i m =
+    (search_of reader reader.position.now.place m ≡ search_of reader i m)
+    ⊎ ((lost ≡ true) × (match_of reader m ≡ None))
 
 -- so it is with all patterns of a part from an index on,
-abbrev pub AreAheadFrom : SyntaxSet → List ℕ → Position → Bool → ℕ → Run → ℕ → Type 0
-AreAheadFrom set line p lost i run from = (k : ℕ) (d : Flat) (m : MatchPattern) → from ≤ k → k < length (list_in run.flats)
-    → pattern_at set (slice_index_or (list_in run.flats) k d) ≡ Some m → IsAhead line p lost i (part_member run.part m)
+abbrev pub AreAheadFrom : LineReader → Bool → ℕ → Run → ℕ → Type 0
+AreAheadFrom reader lost i run from = (k : ℕ) (d : Flat) (m : MatchPattern) → from ≤ k → k < length (list_in run.flats)
+    → pattern_at reader.set.now (slice_index_or (list_in run.flats) k d) ≡ Some m → IsAhead reader lost i (part_member run.part m)
 
 -- with those before it,
-abbrev pub AreAheadUpTo : SyntaxSet → List ℕ → Position → Bool → ℕ → Run → ℕ → Type 0
-AreAheadUpTo set line p lost i run to = (k : ℕ) (d : Flat) (m : MatchPattern) → k < to → k < length (list_in run.flats)
-    → pattern_at set (slice_index_or (list_in run.flats) k d) ≡ Some m → IsAhead line p lost i (part_member run.part m)
+abbrev pub AreAheadUpTo : LineReader → Bool → ℕ → Run → ℕ → Type 0
+AreAheadUpTo reader lost i run to = (k : ℕ) (d : Flat) (m : MatchPattern) → k < to → k < length (list_in run.flats)
+    → pattern_at reader.set.now (slice_index_or (list_in run.flats) k d) ≡ Some m → IsAhead reader lost i (part_member run.part m)
 
 -- with all of them,
-abbrev pub AreAhead : SyntaxSet → List ℕ → Position → Bool → ℕ → Run → Type 0
-AreAhead set line p lost i run = AreAheadFrom set line p lost i run 0
+abbrev pub AreAhead : LineReader → Bool → ℕ → Run → Type 0
+AreAhead reader lost i run = AreAheadFrom reader lost i run 0
 
 -- and with all parts of a chain
-abbrev pub AllAhead : SyntaxSet → List ℕ → Position → Bool → ℕ → List Run → Type 0
-AllAhead set line p lost i runs = (k : ℕ) (r : Run) → k < length runs → AreAhead set line p lost i (slice_index_or runs k r)
+abbrev pub AllAhead : LineReader → Bool → ℕ → List Run → Type 0
+AllAhead reader lost i runs = (k : ℕ) (r : Run) → k < length runs → AreAhead reader lost i (slice_index_or runs k r)
 
 -- no pattern of the part can begin where this stands, and each is searched as it stands
 pub record IsBare (x : ℕ) (run : Run) : Type 0 where
@@ -72,31 +72,31 @@ abbrev pub run_members : SyntaxSet → Run → List Member
 run_members set run = part_members set run.part
 
 -- a search of the member from the place on finds these groups, and there
-abbrev pub FindsHere : List ℕ → ℕ → Member → Groups → Type 0
-FindsHere line i m groups = (pattern_found (searched_text dialect m.pattern m.opening) line i ≡ Some groups) × BeginsAt groups i
+abbrev pub FindsHere : LineReader → ℕ → Member → Groups → Type 0
+FindsHere reader i m groups = (search_of reader i m ≡ Some groups) × BeginsAt groups i
 
 -- the best of these matches, where all that begin before this place were looked for and there are none
-pub record IsBestAt (line : List ℕ) (p : Position) (i : ℕ) (ms : List Live) (b : Best) : Type 0 where
-  pub best : IsBest line p i ms b
+pub record IsBestAt (reader : LineReader) (i : ℕ) (ms : List Live) (b : Best) : Type 0 where
+  pub best : IsBest reader.line.now reader.position.now i ms b
   pub here : b.is_match ≡ true → b.start ≡ i
 
 -- The best of some matches is now the best of them and of a member's; and as long as none is found here, the member is ahead.
-pub record AddsMember (line : List ℕ) (p : Position) (i : ℕ) (lost : Bool) (m : Member) (ms : List Live) (b : Best) : Type 0 where
-  pub best : IsBestAt line p i (ms ++ cons_option (live_match dialect (length p.levels) line p.place m) []) b
-  pub ahead : b.is_match ≡ false → IsAhead line p lost (i + 1) m
+pub record AddsMember (reader : LineReader) (i : ℕ) (lost : Bool) (m : Member) (ms : List Live) (b : Best) : Type 0 where
+  pub best : IsBestAt reader i (ms ++ cons_option (match_of reader m) []) b
+  pub ahead : b.is_match ≡ false → IsAhead reader lost (i + 1) m
 
 -- the same of the pattern of a part at an index
-pub record AddsAt (set : SyntaxSet) (line : List ℕ) (p : Position) (i : ℕ) (lost : Bool) (run : Run) (index : ℕ) (ms : List Live) (b : Best) : Type 0 where
-  pub best : (d : Flat) → IsBestAt line p i (ms ++ live dialect line p (flat_members set run.part (slice_index_or (list_in run.flats) index d ∷ []))) b
-  pub ahead : (d : Flat) (m : MatchPattern) → b.is_match ≡ false → pattern_at set (slice_index_or (list_in run.flats) index d) ≡ Some m
-      → IsAhead line p lost (i + 1) (part_member run.part m)
+pub record AddsAt (reader : LineReader) (i : ℕ) (lost : Bool) (run : Run) (index : ℕ) (ms : List Live) (b : Best) : Type 0 where
+  pub best : (d : Flat) → IsBestAt reader i (ms ++ matches_of reader (flat_members reader.set.now run.part (slice_index_or (list_in run.flats) index d ∷ []))) b
+  pub ahead : (d : Flat) (m : MatchPattern) → b.is_match ≡ false → pattern_at reader.set.now (slice_index_or (list_in run.flats) index d) ≡ Some m
+      → IsAhead reader lost (i + 1) (part_member run.part m)
 
 -- the same of a part's patterns
-pub record AddsRun (set : SyntaxSet) (line : List ℕ) (p : Position) (i : ℕ) (lost : Bool) (run : Run) (ms : List Live) (b : Best) : Type 0 where
-  pub best : IsBestAt line p i (ms ++ live dialect line p (part_members set run.part)) b
-  pub ahead : b.is_match ≡ false → AreAhead set line p lost (i + 1) run
+pub record AddsRun (reader : LineReader) (i : ℕ) (lost : Bool) (run : Run) (ms : List Live) (b : Best) : Type 0 where
+  pub best : IsBestAt reader i (ms ++ matches_of reader (part_members reader.set.now run.part)) b
+  pub ahead : b.is_match ≡ false → AreAhead reader lost (i + 1) run
 
 -- the same of all parts of a chain
-pub record AddsAll (set : SyntaxSet) (line : List ℕ) (p : Position) (i : ℕ) (lost : Bool) (runs : List Run) (b : Best) : Type 0 where
-  pub best : IsBestAt line p i (live dialect line p (flat_map (run_members set) runs)) b
-  pub ahead : b.is_match ≡ false → AllAhead set line p lost (i + 1) runs
+pub record AddsAll (reader : LineReader) (i : ℕ) (lost : Bool) (runs : List Run) (b : Best) : Type 0 where
+  pub best : IsBestAt reader i (matches_of reader (flat_map (run_members reader.set.now) runs)) b
+  pub ahead : b.is_match ≡ false → AllAhead reader lost (i + 1) runs

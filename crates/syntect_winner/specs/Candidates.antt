@@ -1,5 +1,5 @@
 -- Members of a chain and their matches, as the reader of a line keeps them.
-use Rattle.std.specs.Prelude.{ℕ, List, [], unwrap_or}
+use Rattle.std.specs.Prelude.{◌≡◌, ℕ, List, [], unwrap_or}
 use Rattle.std.specs.Option.{option_copied, option_map_or}
 use Rattle.syntect_pattern.specs.Pattern.{pattern_found}
 use Rattle.syntect_winner.specs.Chain.{Member, chain, last}
@@ -34,8 +34,14 @@ seen line place c = record {
 
 abbrev pub chosen : List ℕ → ℕ → Choice → turn.Choice
 chosen line place (code.Take c) = turn.Take (seen line place c.now)
-chosen line place code.Skip = turn.Skip
+chosen line place (code.Skip next) = turn.Skip
 chosen line place code.End = turn.End
+
+-- where a character is passed over, the reader goes on at this place
+abbrev pub SkipsTo : ℕ → Choice → Type 0
+SkipsTo place (code.Take c) = Unit {0}
+SkipsTo place (code.Skip next) = next ≡ place
+SkipsTo place code.End = Unit {0}
 
 -- the matches that a turn has to choose from, once cuts are dropped
 abbrev pub live_in : Engine → SyntaxSet → List ℕ → Position → List Live

@@ -1,7 +1,7 @@
 -- What is found in a text stands in it.
 use Rattle.std.specs.Prelude.{◌≡◌, ℕ, ◌≤◌, List, length, Some}
 use Rattle.std.specs.Str.{IsUtf8, IsCharBoundary}
-use Rattle.syntect_contexts.specs.Substitution.{Groups}
+use Rattle.syntect_contexts.specs.Substitution.{Groups, AreOnBoundaries}
 use Rattle.syntect_winner.specs.Engine.{Engine}
 use Rattle.syntect_winner.specs.Turn.{group_at}
 
@@ -17,3 +17,7 @@ pub record StandsIn (text : List ℕ) (place start end : ℕ) : Type 0 where
 abbrev pub FindsInText : Engine → Type 0
 FindsInText engine = (pattern text : List ℕ) (place start end : ℕ) (groups : Groups)
     → IsUtf8 text → engine.found pattern text place ≡ Some groups → group_at groups 0 ≡ Some (start, end) → StandsIn text place start end
+
+-- each group of a match that is found begins and ends on character boundaries
+abbrev pub FindsOnBoundaries : Engine → Type 0
+FindsOnBoundaries engine = (pattern text : List ℕ) (place : ℕ) (groups : Groups) → IsUtf8 text → engine.found pattern text place ≡ Some groups → AreOnBoundaries text groups

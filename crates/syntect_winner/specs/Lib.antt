@@ -4,5 +4,6 @@ pub mod Turn
 pub mod Found
 pub mod Candidates
 pub mod Parts
+pub mod Reader
 pub mod Ahead
 pub mod Best

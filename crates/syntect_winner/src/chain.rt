@@ -8,7 +8,8 @@ ghost use Rattle.syntect_winner.specs.Parts.{seen_part, parts_by, level_parts, p
 
 use crate::level::Level;
 use crate::position::Position;
-use std::alloc::{AllocError, Global};
+use crate::reader::LineReader;
+use std::alloc::AllocError;
 use syntect_grammar::syntax_definition::{Context, ContextId};
 use syntect_grammar::syntax_set::SyntaxSet;
 use syntect_openings::opening::Opening;
@@ -101,15 +102,15 @@ fn add_prototype<'p>(
 
 /// The parts of a turn's chain.
 pub fn parts_of<'p>(
-    alloc: Global,
-    p: &'p Position,
+    reader: &LineReader<'_, 'p>,
     top: &'p Level,
     context: &Context,
 ) -> Result<Vec<Part<'p>>, AllocError>
-    ensures { IfOk result (λ v. map seen_part v.items ≡ parts_of p.now top.now context.now) }
+    ensures { IfOk result (λ v. map seen_part v.items
+        ≡ parts_of reader.now.position.now top.now context.now) }
 {
-    let mut parts = Vec::new(alloc);
-    add_levels(in_sight(p), &mut parts)?;
+    let mut parts = Vec::new(reader.alloc);
+    add_levels(in_sight(reader.position), &mut parts)?;
     add_prototype(context.prototype, &mut parts)?;
     parts.push(Part {
         id: top.context,
@@ -133,17 +134,17 @@ fn missing_of(set: &SyntaxSet, ids: &[ContextId]) -> Option<ContextId>
 
 /// The first prototype of the chain that the set lacks.
 #[tactic(auto, using(crate::proofs::ListLaws::find_at))]
-pub fn missing_prototype(set: &SyntaxSet, p: &Position, context: &Context) -> Option<ContextId>
-    ensures { result ≡ find (λ id. is_none (context_at set.now id))
-        (prototypes_in p.now context.now) }
+pub fn missing_prototype(reader: &LineReader<'_, '_>, context: &Context) -> Option<ContextId>
+    ensures { result ≡ find (λ id. is_none (context_at reader.now.set.now id))
+        (prototypes_in reader.now.position.now context.now) }
 {
-    for level in in_sight(p) {
-        if let Some(id) = missing_of(set, level.prototypes.as_slice()) {
+    for level in in_sight(reader.position) {
+        if let Some(id) = missing_of(reader.set, level.prototypes.as_slice()) {
             return Some(id);
         }
     }
     let id = context.prototype?;
-    if set.context_at(id).is_none() {
+    if reader.set.context_at(id).is_none() {
         Some(id)
     } else {
         None

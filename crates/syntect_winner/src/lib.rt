@@ -6,5 +6,6 @@ pub mod chain;
 pub mod laws;
 pub mod level;
 pub mod position;
+pub mod reader;
 pub mod search;
 pub mod sweep;

@@ -1,14 +1,15 @@
 //! Which match a turn takes.
-ghost use Rattle.std.specs.Prelude.{◌≡◌, ◌≤◌, ◌++◌, ◌∷◌, [], List, ℕ, length, IfOk, IsCharBoundary, unwrap_or, if◌then◌else◌, true, false, Some, None};
+ghost use Rattle.std.specs.Prelude.{◌≡◌, ◌≤◌, ◌+◌, IfOk, unwrap_or, if◌then◌else◌, true, false, Some, None};
 ghost use Rattle.std.specs.Option.{option_map, option_copied};
-ghost use Rattle.std.specs.List.{cons_option, flat_map};
 ghost use Rattle.syntect_winner.specs.Engine.{dialect};
-ghost use Rattle.syntect_winner.specs.Turn.{Live, live, live_match, searched_text, loops, counts, turns_back, winner, char_len};
-ghost use Rattle.syntect_winner.specs.Best.{AreGroupsOf, IsNear, choice_by};
-ghost use Rattle.syntect_winner.specs.Candidates.{member_of, seen, text_of, chosen};
+ghost use Rattle.syntect_winner.specs.Turn.{searched_text, loops, counts, turns_back, char_len};
+ghost use Rattle.syntect_winner.specs.Best.{IsNear, choice_by};
+ghost use Rattle.syntect_winner.specs.Candidates.{SkipsTo, member_of, text_of, chosen};
+ghost use Rattle.syntect_winner.specs.Reader.{AreGroupsBy, match_of, seen_by};
 
 use crate::laws::dialect_finds_in_text;
 use crate::position::{MOST_IDLE, MOST_LEVELS, Position};
+use crate::reader::LineReader;
 use std::alloc::{AllocError, Global};
 use std::marker::Model;
 use std::mem;
@@ -122,7 +123,8 @@ impl<'s> Best<'s> {
 #[derive(Clone, Copy)]
 pub enum Choice<'m, 's> {
     Take(&'m Candidate<'s>),
-    Skip,
+    /// Up to this place.
+    Skip(usize),
     End,
 }
 
@@ -185,33 +187,30 @@ fn owned(alloc: Global, substituted: Option<Regex>) -> Result<Option<OwnRegex>, 
     }
 }
 
-/// The match of a pattern of the chain from the place on, if it has one that counts, unless it begins behind `last`.
+/// The match of a pattern of the chain from the reader's place on, if it has one that counts, unless it begins behind `last`.
 pub fn search_entry<'s>(
-    alloc: Global,
+    reader: &LineReader<'_, '_>,
     entry: &Entry<'s, '_>,
-    line: &str,
-    place: usize,
     last: usize,
-    height: usize,
     region: &mut Region,
 ) -> Result<Option<Candidate<'s>>, AllocError>
-    requires order { place ≤ last }
-    ensures near { IfOk result (λ m. IsNear
-        (live_match dialect height line.now place (member_of entry.now)) last
-        (option_map (seen line.now place) m)) }
-    ensures groups { IfOk result (λ m. AreGroupsOf line.now place m region.new) }
+    requires order { reader.now.position.now.place ≤ last }
+    ensures near { IfOk result (λ m. IsNear (match_of reader.now (member_of entry.now)) last
+        (option_map (seen_by reader.now) m)) }
+    ensures groups { IfOk result (λ m. AreGroupsBy reader.now m region.new) }
 {
     dialect_finds_in_text();
     let substituted = substituted(entry)?;
     let regex = searched(entry.pattern, &substituted);
-    if !regex.search_up_to(line, place, last, region)? {
+    if !regex.search_up_to(reader.line, reader.position.place, last, region)? {
         return Ok(None);
     }
     let Some((start, end)) = region.pos(0) else {
         return Ok(None);
     };
+    let height = reader.position.levels.len();
     if counts(height, &entry.pattern.operation, start, end) {
-        let substituted = owned(alloc, substituted)?;
+        let substituted = owned(reader.alloc, substituted)?;
         Ok(Some(Candidate {
             pattern: entry.pattern,
             substituted,
@@ -240,21 +239,21 @@ fn turns_back(p: &Position, operation: &MatchOperation) -> bool
 }
 
 /// Whether a match would.
-fn loops(line: &str, p: &Position, m: &Candidate<'_>) -> bool
-    ensures { result ≡ loops p.now (seen line.now p.now.place m.now) }
+fn loops(reader: &LineReader<'_, '_>, m: &Candidate<'_>) -> bool
+    ensures { result ≡ loops reader.now.position.now (seen_by reader.now m.now) }
 {
-    m.end == p.place && turns_back(p, &m.pattern.operation)
+    m.end == reader.position.place && turns_back(reader.position, &m.pattern.operation)
 }
 
 /// What is found once this match is: it begins first.
-pub fn led_by<'s>(line: &str, p: &Position, m: Candidate<'s>) -> Best<'s>
+pub fn led_by<'s>(reader: &LineReader<'_, '_>, m: Candidate<'s>) -> Best<'s>
     ensures start { result.start ≡ m.entry.start }
     ensures is_match { result.is_match ≡ true }
-    ensures candidate { result.candidate
-        ≡ (if loops p.now (seen line.now p.now.place m.entry) then None else Some m.entry) }
+    ensures candidate { result.candidate ≡ (if loops reader.now.position.now
+        (seen_by reader.now m.entry) then None else Some m.entry) }
 {
     let start = m.start;
-    let candidate = if loops(line, p, &m) { None } else { Some(m) };
+    let candidate = if loops(reader, &m) { None } else { Some(m) };
     Best {
         start,
         is_match: true,
@@ -262,30 +261,31 @@ pub fn led_by<'s>(line: &str, p: &Position, m: Candidate<'s>) -> Best<'s>
     }
 }
 
-/// How many bytes the character at a place has.
-pub fn char_len(line: &str, place: usize) -> usize
-    requires within { place ≤ length line.now }
-    requires boundary { IsCharBoundary line.now place }
-    ensures value { result ≡ char_len line.now place }
-    ensures bound { result ≤ 4 }
+/// The place behind the character that the reader stands before, or behind the end by one.
+fn past_character(reader: &LineReader<'_, '_>) -> usize
+    ensures { result ≡ reader.now.position.now.place
+        + char_len reader.now.line.now reader.now.position.now.place }
 {
-    match char_at(line, place) {
-        Some(c) => c.len_utf8(),
-        None => 1,
+    let place = reader.position.place;
+    match char_at(reader.line, place) {
+        Some(c) => place + c.len_utf8(),
+        None => place + 1,
     }
 }
 
 /// What a turn does: it takes the first match of least start that doesn't loop, or passes over a character, or ends.
-pub fn choose<'m, 's>(line: &str, p: &Position, best: &'m Best<'s>) -> Choice<'m, 's>
-    requires within { p.now.place ≤ length line.now }
-    requires boundary { IsCharBoundary line.now p.now.place }
-    ensures { chosen line.now p.now.place result ≡ choice_by line.now p.now.place best.now }
+pub fn choose<'m, 's>(reader: &LineReader<'_, '_>, best: &'m Best<'s>) -> Choice<'m, 's>
+    ensures chosen { chosen reader.now.line.now reader.now.position.now.place result
+        ≡ choice_by reader.now.line.now reader.now.position.now.place best.now }
+    ensures skips { SkipsTo (reader.now.position.now.place
+        + char_len reader.now.line.now reader.now.position.now.place) result }
 {
     if let Some(m) = &best.candidate {
         return Choice::Take(m);
     }
-    if best.is_match && p.place + char_len(line, p.place) < line.len() {
-        Choice::Skip
+    let next = past_character(reader);
+    if best.is_match && next < reader.line.len() {
+        Choice::Skip(next)
     } else {
         Choice::End
     }

@@ -1,24 +1,23 @@
 //! What a turn finds: it looks at place after place, and at each tries the patterns that can begin with what stands there, in
 //! the order of the chain.
-ghost use Rattle.std.specs.Prelude.{◌≡◌, ◌≤◌, ◌<◌, ◌+◌, ◌++◌, [], Bool, List, ℕ, length, map, IfOk, Some, None, true, false, slice_index_or, unwrap_or};
+ghost use Rattle.std.specs.Prelude.{◌≡◌, ◌≤◌, ◌<◌, ◌+◌, [], Bool, List, ℕ, length, map, IfOk, Some, None, true, false, slice_index_or, unwrap_or};
 ghost use Rattle.std.specs.Option.{option_copied};
 ghost use Rattle.std.specs.List.{All, flat_map, list_any};
 ghost use Rattle.syntect_contexts.specs.declared.context.MatchPattern.{MatchPattern as APattern};
 ghost use Rattle.syntect_grammar.specs.Flats.{AreFlatsOf, pattern_at};
-ghost use Rattle.syntect_grammar.specs.declared.syntax_set.SyntaxSet.{SyntaxSet as ASet};
-ghost use Rattle.syntect_winner.specs.declared.position.Position.{Position as APosition};
 ghost use Rattle.syntect_pattern_table.specs.Starts.{is_in};
 ghost use Rattle.syntect_winner.specs.Ahead.{AddsAll, AddsAt, AddsMember, AddsRun, AllAhead, AreAhead, AreAheadFrom, AreReplaced, FindsHere, IsAhead, IsBare, IsBestAt, IsRun, list_in};
 ghost use Rattle.syntect_contexts.specs.Substitution.{Groups};
-ghost use Rattle.syntect_winner.specs.Best.{AreGroupsOf, IsBest, choice_by};
+ghost use Rattle.syntect_winner.specs.Best.{choice_by};
 ghost use Rattle.syntect_winner.specs.Candidates.{member_of};
 ghost use Rattle.syntect_winner.specs.Engine.{dialect};
-ghost use Rattle.syntect_winner.specs.Parts.{part_member, part_members};
-ghost use Rattle.syntect_winner.specs.Turn.{Live, live, searched_text, winner};
+ghost use Rattle.syntect_winner.specs.Parts.{part_members};
+ghost use Rattle.syntect_winner.specs.Reader.{AreGroupsBy, matches_of};
+ghost use Rattle.syntect_winner.specs.Turn.{Live, searched_text, winner};
 
 use crate::chain::Part;
 use crate::laws::dialect_finds_in_text;
-use crate::position::Position;
+use crate::reader::LineReader;
 use crate::search::{
     Best, Candidate, Entry, OwnRegex, Regions, counts, led_by, search_entry, substituted,
 };
@@ -80,38 +79,33 @@ fn has_captures(flats: &[Flat]) -> bool
 
 /// What is searched in place of each pattern of a part; nothing where each is searched as it stands.
 fn replaced_in(
-    alloc: Global,
-    set: &SyntaxSet,
+    reader: &LineReader<'_, '_>,
     part: &Part<'_>,
     flats: &[Flat],
 ) -> Result<Vec<Option<Regex>>, AllocError>
-    requires { AreFlatsOf set.now part.now.id flats.now }
-    ensures { IfOk result (λ v. AreReplaced set.now part.now flats.now v.items) }
+    requires { AreFlatsOf reader.now.set.now part.now.id flats.now }
+    ensures { IfOk result (λ v. AreReplaced reader.now.set.now part.now flats.now v.items) }
 {
-    let mut replaced = Vec::new(alloc);
+    let mut replaced = Vec::new(reader.alloc);
     if part.opening.is_none() || !has_captures(flats) {
         return Ok(replaced);
     }
     for flat in flats {
-        replaced.push(replacement(set, part, flat)?)?;
+        replaced.push(replacement(reader.set, part, flat)?)?;
     }
     Ok(replaced)
 }
 
 /// A part with its patterns.
-fn run_of<'s, 'p>(
-    alloc: Global,
-    set: &'s SyntaxSet,
-    part: &Part<'p>,
-) -> Result<Run<'s, 'p>, AllocError>
+fn run_of<'s, 'p>(reader: &LineReader<'s, '_>, part: &Part<'p>) -> Result<Run<'s, 'p>, AllocError>
     ensures part { IfOk result (λ r. r.part ≡ part.now) }
-    ensures run { IfOk result (IsRun set.now) }
+    ensures run { IfOk result (IsRun reader.now.set.now) }
 {
-    let flats = match set.flats_of(part.id) {
+    let flats = match reader.set.flats_of(part.id) {
         Some(flats) => Kept::Lent(flats),
-        None => Kept::Own(set.flats_walked(alloc, part.id)?),
+        None => Kept::Own(reader.set.flats_walked(reader.alloc, part.id)?),
     };
-    let replaced = replaced_in(alloc, set, part, list_in(&flats).as_slice())?;
+    let replaced = replaced_in(reader, part, list_in(&flats).as_slice())?;
     Ok(Run {
         part: *part,
         flats,
@@ -121,16 +115,15 @@ fn run_of<'s, 'p>(
 
 /// The parts of a chain with their patterns.
 fn runs_of<'s, 'p>(
-    alloc: Global,
-    set: &'s SyntaxSet,
+    reader: &LineReader<'s, '_>,
     parts: &[Part<'p>],
 ) -> Result<Vec<Run<'s, 'p>>, AllocError>
     ensures parts { IfOk result (λ v. map (λ r. r.part) v.items ≡ parts.now) }
-    ensures runs { IfOk result (λ v. All (IsRun set.now) v.items) }
+    ensures runs { IfOk result (λ v. All (IsRun reader.now.set.now) v.items) }
 {
-    let mut runs = Vec::with_capacity(alloc, parts.len())?;
+    let mut runs = Vec::with_capacity(reader.alloc, parts.len())?;
     for part in parts {
-        runs.push(run_of(alloc, set, part)?)?;
+        runs.push(run_of(reader, part)?)?;
     }
     Ok(runs)
 }
@@ -175,17 +168,16 @@ fn are_bare(runs: &[Run<'_, '_>], x: u8) -> bool
 
 /// The first place, from this one on, with something there that a pattern can begin with; the line's end at the latest. No
 /// member that was ahead has a match before it.
-fn next_place(runs: &[Run<'_, '_>], line: &str, place: usize) -> usize
-    requires { place ≤ length line.now }
+fn next_place(reader: &LineReader<'_, '_>, runs: &[Run<'_, '_>], place: usize) -> usize
+    requires { place ≤ length reader.now.line.now }
     ensures later { place ≤ result }
-    ensures within { result ≤ length line.now }
-    ensures ahead { (set : ASet) (p : APosition) (lost : Bool) → All (IsRun set) runs.now
-        → AllAhead set line.now p lost place runs.now
-        → AllAhead set line.now p lost result runs.now }
+    ensures within { result ≤ length reader.now.line.now }
+    ensures ahead { (lost : Bool) → All (IsRun reader.now.set.now) runs.now
+        → AllAhead reader.now lost place runs.now → AllAhead reader.now lost result runs.now }
 {
     dialect_finds_in_text();
     let mut next = place;
-    while next < line.len() && are_bare(runs, start_at(line, next)) {
+    while next < reader.line.len() && are_bare(runs, start_at(reader.line, next)) {
         next += 1;
     }
     next
@@ -194,39 +186,29 @@ fn next_place(runs: &[Run<'_, '_>], line: &str, place: usize) -> usize
 /// What is found with a member of the chain more that is searched in this form, where a match of it was lost: it is searched
 /// from the turn's place on.
 fn with_searched<'s>(
-    alloc: Global,
+    reader: &LineReader<'_, '_>,
     entry: &Entry<'s, '_>,
-    line: &str,
-    p: &Position,
     place: usize,
     best: Best<'s>,
     regions: &mut Regions,
 ) -> Result<Best<'s>, AllocError>
-    requires { p.now.place ≤ place }
+    requires { reader.now.position.now.place ≤ place }
     ensures groups { IfOk result (λ b.
-        AreGroupsOf line.now p.now.place best.entry.candidate regions.old.best
-        → AreGroupsOf line.now p.now.place b.candidate regions.new.best) }
+        AreGroupsBy reader.now best.entry.candidate regions.old.best
+        → AreGroupsBy reader.now b.candidate regions.new.best) }
     ensures grows { IfOk result (λ b. b.is_match ≡ false → best.entry.is_match ≡ false) }
     ensures best { (ms : List Live) (g : Groups)
-        → IsAhead line.now p.now true place (member_of entry.now)
-        → FindsHere line.now place (member_of entry.now) g → best.entry.candidate ≡ None
-        → IsBestAt line.now p.now place ms best.entry
-        → IfOk result (AddsMember line.now p.now place true (member_of entry.now) ms) }
+        → IsAhead reader.now true place (member_of entry.now)
+        → FindsHere reader.now place (member_of entry.now) g → best.entry.candidate ≡ None
+        → IsBestAt reader.now place ms best.entry
+        → IfOk result (AddsMember reader.now place true (member_of entry.now) ms) }
 {
     dialect_finds_in_text();
-    match search_entry(
-        alloc,
-        entry,
-        line,
-        p.place,
-        place,
-        p.levels.len(),
-        &mut regions.searched,
-    )? {
+    match search_entry(reader, entry, place, &mut regions.searched)? {
         Some(m) => {
             if m.start <= place {
                 regions.keep();
-                Ok(led_by(line, p, m))
+                Ok(led_by(reader, m))
             } else {
                 Ok(best)
             }
@@ -265,50 +247,48 @@ fn replaced_at<'r>(run: &'r Run<'_, '_>, index: usize) -> Option<&'r Regex>
 /// What is found with a member of the chain more, none of whose matches that count begins before the place. `lost` tells
 /// whether matches were passed over, since they don't count.
 fn with_entry<'s>(
-    alloc: Global,
+    reader: &LineReader<'_, '_>,
     entry: &Entry<'s, '_>,
     replaced: Option<&Regex>,
-    line: &str,
-    p: &Position,
     place: usize,
     best: Best<'s>,
     lost: &mut bool,
     regions: &mut Regions,
 ) -> Result<Best<'s>, AllocError>
-    requires order { p.now.place ≤ place }
+    requires order { reader.now.position.now.place ≤ place }
     requires text { unwrap_or (option_copied replaced) entry.now.pattern.now.regex
         ≡ searched_text dialect entry.now.pattern.now (option_copied entry.now.opening) }
     ensures lost { lost.old ≡ true → lost.new ≡ true }
-    ensures groups { IsAhead line.now p.now lost.old place (member_of entry.now)
+    ensures groups { IsAhead reader.now lost.old place (member_of entry.now)
         → IfOk result (λ b.
-        AreGroupsOf line.now p.now.place best.entry.candidate regions.old.best
-        → AreGroupsOf line.now p.now.place b.candidate regions.new.best) }
+        AreGroupsBy reader.now best.entry.candidate regions.old.best
+        → AreGroupsBy reader.now b.candidate regions.new.best) }
     ensures grows { IfOk result (λ b. b.is_match ≡ false → best.entry.is_match ≡ false) }
-    ensures best { (ms : List Live) → IsAhead line.now p.now lost.old place (member_of entry.now)
-        → best.entry.candidate ≡ None → IsBestAt line.now p.now place ms best.entry
-        → IfOk result (AddsMember line.now p.now place lost.new (member_of entry.now) ms) }
+    ensures best { (ms : List Live) → IsAhead reader.now lost.old place (member_of entry.now)
+        → best.entry.candidate ≡ None → IsBestAt reader.now place ms best.entry
+        → IfOk result (AddsMember reader.now place lost.new (member_of entry.now) ms) }
 {
     dialect_finds_in_text();
     let regex = regex_of(entry.pattern, replaced);
-    if !regex.match_at(line, place, &mut regions.searched)? {
+    if !regex.match_at(reader.line, place, &mut regions.searched)? {
         return Ok(best);
     }
     if *lost {
-        return with_searched(alloc, entry, line, p, place, best, regions);
+        return with_searched(reader, entry, place, best, regions);
     }
     let Some((start, end)) = regions.searched.pos(0) else {
         *lost = true;
         return Ok(best);
     };
-    if !counts(p.levels.len(), &entry.pattern.operation, start, end) {
+    let height = reader.position.levels.len();
+    if !counts(height, &entry.pattern.operation, start, end) {
         *lost = true;
         return Ok(best);
     }
-    let substituted = copy_of(alloc, replaced)?;
+    let substituted = copy_of(reader.alloc, replaced)?;
     regions.keep();
     Ok(led_by(
-        line,
-        p,
+        reader,
         Candidate {
             pattern: entry.pattern,
             substituted,
@@ -321,33 +301,29 @@ fn with_entry<'s>(
 
 /// What is found with the pattern of a part at an index more.
 fn with_pattern<'s>(
-    alloc: Global,
-    set: &'s SyntaxSet,
+    reader: &LineReader<'s, '_>,
     run: &Run<'s, '_>,
     index: usize,
-    line: &str,
-    p: &Position,
     place: usize,
     best: Best<'s>,
     lost: &mut bool,
     regions: &mut Regions,
 ) -> Result<Best<'s>, AllocError>
-    requires order { p.now.place ≤ place }
-    requires run { IsRun set.now run.now }
+    requires order { reader.now.position.now.place ≤ place }
+    requires run { IsRun reader.now.set.now run.now }
     requires inside { index < length (list_in run.now.flats) }
     ensures lost { lost.old ≡ true → lost.new ≡ true }
-    ensures groups { AreAheadFrom set.now line.now p.now lost.old place run.now index
+    ensures groups { AreAheadFrom reader.now lost.old place run.now index
         → IfOk result (λ b.
-        AreGroupsOf line.now p.now.place best.entry.candidate regions.old.best
-        → AreGroupsOf line.now p.now.place b.candidate regions.new.best) }
+        AreGroupsBy reader.now best.entry.candidate regions.old.best
+        → AreGroupsBy reader.now b.candidate regions.new.best) }
     ensures grows { IfOk result (λ b. b.is_match ≡ false → best.entry.is_match ≡ false) }
-    ensures best { (ms : List Live)
-        → AreAheadFrom set.now line.now p.now lost.old place run.now index
-        → best.entry.candidate ≡ None → IsBestAt line.now p.now place ms best.entry
-        → IfOk result (AddsAt set.now line.now p.now place lost.new run.now index ms) }
+    ensures best { (ms : List Live) → AreAheadFrom reader.now lost.old place run.now index
+        → best.entry.candidate ≡ None → IsBestAt reader.now place ms best.entry
+        → IfOk result (AddsAt reader.now place lost.new run.now index ms) }
 {
     let flat = list_in(&run.flats).as_slice()[index];
-    let Some(pattern) = set.pattern_at(&flat) else {
+    let Some(pattern) = reader.set.pattern_at(&flat) else {
         return Ok(best);
     };
     let entry = Entry {
@@ -356,39 +332,36 @@ fn with_pattern<'s>(
         from_with_prototype: run.part.from_with_prototype,
     };
     let replaced = replaced_at(run, index);
-    with_entry(alloc, &entry, replaced, line, p, place, best, lost, regions)
+    with_entry(reader, &entry, replaced, place, best, lost, regions)
 }
 
 /// What is found with the patterns of a part more, none of whose matches that count begins before the place.
 fn with_run<'s>(
-    alloc: Global,
-    set: &'s SyntaxSet,
+    reader: &LineReader<'s, '_>,
     run: &Run<'s, '_>,
-    line: &str,
-    p: &Position,
     place: usize,
     best: Best<'s>,
     lost: &mut bool,
     regions: &mut Regions,
 ) -> Result<Best<'s>, AllocError>
-    requires order { p.now.place ≤ place }
-    requires run { IsRun set.now run.now }
+    requires order { reader.now.position.now.place ≤ place }
+    requires run { IsRun reader.now.set.now run.now }
     ensures lost { lost.old ≡ true → lost.new ≡ true }
-    ensures groups { AreAhead set.now line.now p.now lost.old place run.now → IfOk result (λ b.
-        AreGroupsOf line.now p.now.place best.entry.candidate regions.old.best
-        → AreGroupsOf line.now p.now.place b.candidate regions.new.best) }
+    ensures groups { AreAhead reader.now lost.old place run.now → IfOk result (λ b.
+        AreGroupsBy reader.now best.entry.candidate regions.old.best
+        → AreGroupsBy reader.now b.candidate regions.new.best) }
     ensures grows { IfOk result (λ b. b.is_match ≡ false → best.entry.is_match ≡ false) }
-    ensures best { (ms : List Live) → AreAhead set.now line.now p.now lost.old place run.now
-        → IsBestAt line.now p.now place ms best.entry
-        → IfOk result (AddsRun set.now line.now p.now place lost.new run.now ms) }
+    ensures best { (ms : List Live) → AreAhead reader.now lost.old place run.now
+        → IsBestAt reader.now place ms best.entry
+        → IfOk result (AddsRun reader.now place lost.new run.now ms) }
 {
     dialect_finds_in_text();
-    let x = start_at(line, place);
+    let x = start_at(reader.line, place);
     let count = list_in(&run.flats).as_slice().len();
     let mut best = best;
     let mut index = next_in(run, x, 0);
     while index < count && best.candidate.is_none() {
-        best = with_pattern(alloc, set, run, index, line, p, place, best, lost, regions)?;
+        best = with_pattern(reader, run, index, place, best, lost, regions)?;
         index = next_in(run, x, index + 1);
     }
     Ok(best)
@@ -396,23 +369,20 @@ fn with_run<'s>(
 
 /// What a chain has at a place, where none of its matches that count begins before.
 fn best_at<'s>(
-    alloc: Global,
-    set: &'s SyntaxSet,
+    reader: &LineReader<'s, '_>,
     runs: &[Run<'s, '_>],
-    line: &str,
-    p: &Position,
     place: usize,
     lost: &mut bool,
     regions: &mut Regions,
 ) -> Result<Best<'s>, AllocError>
-    requires order { p.now.place ≤ place }
-    requires within { place ≤ length line.now }
-    requires runs { All (IsRun set.now) runs.now }
+    requires order { reader.now.position.now.place ≤ place }
+    requires within { place ≤ length reader.now.line.now }
+    requires runs { All (IsRun reader.now.set.now) runs.now }
     ensures lost { lost.old ≡ true → lost.new ≡ true }
-    ensures groups { AllAhead set.now line.now p.now lost.old place runs.now → IfOk result (λ b.
-        AreGroupsOf line.now p.now.place b.candidate regions.new.best) }
-    ensures best { AllAhead set.now line.now p.now lost.old place runs.now
-        → IfOk result (AddsAll set.now line.now p.now place lost.new runs.now) }
+    ensures groups { AllAhead reader.now lost.old place runs.now → IfOk result (λ b.
+        AreGroupsBy reader.now b.candidate regions.new.best) }
+    ensures best { AllAhead reader.now lost.old place runs.now
+        → IfOk result (AddsAll reader.now place lost.new runs.now) }
 {
     let mut best = Best {
         start: place + 1,
@@ -420,46 +390,33 @@ fn best_at<'s>(
         candidate: None,
     };
     for run in runs {
-        best = with_run(alloc, set, run, line, p, place, best, lost, regions)?;
+        best = with_run(reader, run, place, best, lost, regions)?;
     }
     Ok(best)
 }
 
 /// What a chain has: the places are gone through from the turn's own on, up to the first where a match begins that counts.
 pub fn best_of_chain<'s>(
-    alloc: Global,
-    set: &'s SyntaxSet,
+    reader: &LineReader<'s, '_>,
     parts: &[Part<'_>],
-    line: &str,
-    p: &Position,
     regions: &mut Regions,
 ) -> Result<Best<'s>, AllocError>
-    requires within { p.now.place ≤ length line.now }
-    ensures groups { IfOk result (λ b.
-        AreGroupsOf line.now p.now.place b.candidate regions.new.best) }
-    ensures best { IfOk result (λ b. choice_by line.now p.now.place b ≡ winner line.now p.now
-        (live dialect line.now p.now (flat_map (part_members set.now) parts.now))) }
+    ensures groups { IfOk result (λ b. AreGroupsBy reader.now b.candidate regions.new.best) }
+    ensures best { IfOk result (λ b. choice_by reader.now.line.now reader.now.position.now.place b
+        ≡ winner reader.now.line.now reader.now.position.now
+        (matches_of reader.now (flat_map (part_members reader.now.set.now) parts.now))) }
 {
     dialect_finds_in_text();
-    let runs = runs_of(alloc, set, parts)?;
+    let runs = runs_of(reader, parts)?;
     let mut lost = false;
-    let mut place = p.place;
+    let mut place = reader.position.place;
     'places: loop {
-        let next = next_place(runs.as_slice(), line, place);
-        let found = best_at(
-            alloc,
-            set,
-            runs.as_slice(),
-            line,
-            p,
-            next,
-            &mut lost,
-            regions,
-        )?;
+        let next = next_place(reader, runs.as_slice(), place);
+        let found = best_at(reader, runs.as_slice(), next, &mut lost, regions)?;
         if found.is_match {
             return Ok(found);
         }
-        if next >= line.len() {
+        if next >= reader.line.len() {
             return Ok(found);
         }
         place = next + 1;

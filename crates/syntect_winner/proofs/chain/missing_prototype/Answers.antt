@@ -10,7 +10,7 @@ use Rattle.syntect_winner.proofs.chain.missing_prototype.Goals as goal
 
 pub returns-in-Some : goal.returns-in-Some
 returns-in-Some c =
-    let f : ContextId → Bool = λ id. is_none (context_at c.args.set.now id) in
+    let f : ContextId → Bool = λ id. is_none (context_at c.args.reader.now.set.now id) in
     let rest : List ContextId = flat_map (λ (l : Level). l.prototypes) (drop (c.loop-level.level-index + 1) c.in_sight-level-items.result.now) ++ option_to_list c.args.context.now.prototype in
     let k = find_at f (λ (l : Level). l.prototypes) c.in_sight-level-items.result.now (option_to_list c.args.context.now.prototype) c.loop-level.level-index c.level-item.result c.loop-level-test.true c.level-item.is in
     let e : Some c.in-Some.id ≡ find f c.as_slice.result.now = sym c.in-Some.is ∙ c.missing_of.ensures in
@@ -19,7 +19,7 @@ returns-in-Some c =
 
 pub loop-level-preserved : goal.loop-level-preserved
 loop-level-preserved c =
-    let f : ContextId → Bool = λ id. is_none (context_at c.args.set.now id) in
+    let f : ContextId → Bool = λ id. is_none (context_at c.args.reader.now.set.now id) in
     let rest : List ContextId = flat_map (λ (l : Level). l.prototypes) (drop (c.loop-level.level-index + 1) c.in_sight-level-items.result.now) ++ option_to_list c.args.context.now.prototype in
     let k = find_at f (λ (l : Level). l.prototypes) c.in_sight-level-items.result.now (option_to_list c.args.context.now.prototype) c.loop-level.level-index c.level-item.result c.loop-level-test.true c.level-item.is in
     let e : None ≡ find f c.as_slice.result.now = sym c.in_default.is ∙ c.missing_of.ensures in

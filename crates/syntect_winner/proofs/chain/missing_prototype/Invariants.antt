@@ -8,5 +8,5 @@ use Rattle.syntect_winner.proofs.chain.missing_prototype.Given as goal
 
 abbrev pub invariant-loop-level : goal.invariant-loop-level
 invariant-loop-level l =
-    find (λ id. is_none (context_at l.set id)) (flat_map (λ k. k.prototypes) (drop l.level-index l.level-items) ++ option_to_list l.context.prototype)
-    ≡ find (λ id. is_none (context_at l.set id)) (prototypes_in l.p l.context)
+    find (λ id. is_none (context_at l.reader.set.now id)) (flat_map (λ k. k.prototypes) (drop l.level-index l.level-items) ++ option_to_list l.context.prototype)
+    ≡ find (λ id. is_none (context_at l.reader.set.now id)) (prototypes_in l.reader.position.now l.context)

@@ -6,38 +6,38 @@ pub best_at-requires-clause-runs : goal.best_at-requires-clause-runs
 best_at-requires-clause-runs c = rw c.as_slice-in-places.ensures.value c.in_ok-runs.ensures.runs
 
 pub returns-then-found-clause-groups : goal.returns-then-found-clause-groups
-returns-then-found-clause-groups c = c.in_ok-found.ensures.groups (rw c.as_slice-in-places.ensures.value (rw c.as_slice.ensures.value at c.next_place-next.ensures.ahead c.args.set.now c.args.p.now c.places.lost c.in_ok-runs.ensures.runs c.places.invariant.ahead))
+returns-then-found-clause-groups c = c.in_ok-found.ensures.groups (rw c.as_slice-in-places.ensures.value (rw c.as_slice.ensures.value at c.next_place-next.ensures.ahead c.places.lost c.in_ok-runs.ensures.runs c.places.invariant.ahead))
 
 pub returns-then-found-clause-best : goal.returns-then-found-clause-best
 returns-then-found-clause-best c =
-    chain_won c.args.set.now c.args.line.now c.args.p.now c.next_place-next.result c.best_at.new.lost c.as_slice-in-places.result.now c.args.parts.now c.in_ok-found.found
-    (rw c.as_slice-in-places.ensures.value c.in_ok-runs.ensures.parts) (c.in_ok-found.ensures.best (rw c.as_slice-in-places.ensures.value (rw c.as_slice.ensures.value at c.next_place-next.ensures.ahead c.args.set.now c.args.p.now c.places.lost c.in_ok-runs.ensures.runs c.places.invariant.ahead))) c.if-found.true
+    chain_won c.args.reader.now c.next_place-next.result c.best_at.new.lost c.as_slice-in-places.result.now c.args.parts.now c.in_ok-found.found
+    (rw c.as_slice-in-places.ensures.value c.in_ok-runs.ensures.parts) (c.in_ok-found.ensures.best (rw c.as_slice-in-places.ensures.value (rw c.as_slice.ensures.value at c.next_place-next.ensures.ahead c.places.lost c.in_ok-runs.ensures.runs c.places.invariant.ahead))) c.if-found.true
 
-pub returns-then-next-line-clause-groups : goal.returns-then-next-line-clause-groups
-returns-then-next-line-clause-groups c = c.in_ok-found.ensures.groups (rw c.as_slice-in-places.ensures.value (rw c.as_slice.ensures.value at c.next_place-next.ensures.ahead c.args.set.now c.args.p.now c.places.lost c.in_ok-runs.ensures.runs c.places.invariant.ahead))
+pub returns-then-next-reader-clause-groups : goal.returns-then-next-reader-clause-groups
+returns-then-next-reader-clause-groups c = c.in_ok-found.ensures.groups (rw c.as_slice-in-places.ensures.value (rw c.as_slice.ensures.value at c.next_place-next.ensures.ahead c.places.lost c.in_ok-runs.ensures.runs c.places.invariant.ahead))
 
-pub returns-then-next-line-clause-best : goal.returns-then-next-line-clause-best
-returns-then-next-line-clause-best c =
-    chain_ended c.args.set.now c.args.line.now c.args.p.now c.next_place-next.result c.best_at.new.lost c.as_slice-in-places.result.now c.args.parts.now c.in_ok-found.found c.dialect_finds_in_text.ensures c.utf8.line c.if-next-line.true
-    (rw c.as_slice-in-places.ensures.value c.in_ok-runs.ensures.parts) (c.in_ok-found.ensures.best (rw c.as_slice-in-places.ensures.value (rw c.as_slice.ensures.value at c.next_place-next.ensures.ahead c.args.set.now c.args.p.now c.places.lost c.in_ok-runs.ensures.runs c.places.invariant.ahead))) c.if-found.false
+pub returns-then-next-reader-clause-best : goal.returns-then-next-reader-clause-best
+returns-then-next-reader-clause-best c =
+    chain_ended c.args.reader.now c.next_place-next.result c.best_at.new.lost c.as_slice-in-places.result.now c.args.parts.now c.in_ok-found.found c.dialect_finds_in_text.ensures c.if-next-reader.true
+    (rw c.as_slice-in-places.ensures.value c.in_ok-runs.ensures.parts) (c.in_ok-found.ensures.best (rw c.as_slice-in-places.ensures.value (rw c.as_slice.ensures.value at c.next_place-next.ensures.ahead c.places.lost c.in_ok-runs.ensures.runs c.places.invariant.ahead))) c.if-found.false
 
-pub places-preserved-else-next-line : goal.places-preserved-else-next-line
-places-preserved-else-next-line c = record {
+pub places-preserved-else-next-reader : goal.places-preserved-else-next-reader
+places-preserved-else-next-reader c = record {
   near = omega (arith, c.places.invariant.near, c.next_place-next.ensures.later);
-  within = omega (arith, c.if-next-line.false);
-  ahead = rw c.as_slice-in-places.ensures.value at (c.in_ok-found.ensures.best (rw c.as_slice-in-places.ensures.value (rw c.as_slice.ensures.value at c.next_place-next.ensures.ahead c.args.set.now c.args.p.now c.places.lost c.in_ok-runs.ensures.runs c.places.invariant.ahead))).ahead c.if-found.false;
+  within = omega (arith, c.if-next-reader.false);
+  ahead = rw c.as_slice-in-places.ensures.value at (c.in_ok-found.ensures.best (rw c.as_slice-in-places.ensures.value (rw c.as_slice.ensures.value at c.next_place-next.ensures.ahead c.places.lost c.in_ok-runs.ensures.runs c.places.invariant.ahead))).ahead c.if-found.false;
 }
 
-pub places-preserved-else-next-line-2 : goal.places-preserved-else-next-line-2
-places-preserved-else-next-line-2 c = record {
+pub places-preserved-else-next-reader-2 : goal.places-preserved-else-next-reader-2
+places-preserved-else-next-reader-2 c = record {
   near = omega (arith, c.places.invariant.near, c.next_place-next.ensures.later);
-  within = omega (arith, c.if-next-line.false);
-  ahead = rw c.as_slice-in-places.ensures.value at (c.in_ok-found.ensures.best (rw c.as_slice-in-places.ensures.value (rw c.as_slice.ensures.value at c.next_place-next.ensures.ahead c.args.set.now c.args.p.now c.places.lost c.in_ok-runs.ensures.runs c.places.invariant.ahead))).ahead c.if-found.false;
+  within = omega (arith, c.if-next-reader.false);
+  ahead = rw c.as_slice-in-places.ensures.value at (c.in_ok-found.ensures.best (rw c.as_slice-in-places.ensures.value (rw c.as_slice.ensures.value at c.next_place-next.ensures.ahead c.places.lost c.in_ok-runs.ensures.runs c.places.invariant.ahead))).ahead c.if-found.false;
 }
 
 pub places-preserved : goal.places-preserved
 places-preserved c = record {
   near = omega (arith, c.places.invariant.near, c.next_place-next.ensures.later);
-  within = omega (arith, c.if-next-line.false);
-  ahead = rw c.as_slice-in-places.ensures.value at (c.in_ok-found.ensures.best (rw c.as_slice-in-places.ensures.value (rw c.as_slice.ensures.value at c.next_place-next.ensures.ahead c.args.set.now c.args.p.now c.places.lost c.in_ok-runs.ensures.runs c.places.invariant.ahead))).ahead c.if-found.false;
+  within = omega (arith, c.if-next-reader.false);
+  ahead = rw c.as_slice-in-places.ensures.value at (c.in_ok-found.ensures.best (rw c.as_slice-in-places.ensures.value (rw c.as_slice.ensures.value at c.next_place-next.ensures.ahead c.places.lost c.in_ok-runs.ensures.runs c.places.invariant.ahead))).ahead c.if-found.false;
 }

@@ -8,8 +8,8 @@ pub loop-next-preserved : goal.loop-next-preserved
 loop-next-preserved c = record {
   later = omega (arith, c.loop-next.invariant.later);
   within = omega (arith, c.loop-next-test.true);
-  ahead = λ set p lost all h.
-      passed_place c.dialect_finds_in_text.ensures set c.args.line.now c.utf8.line p c.args.runs.now all lost c.loop-next.next
+  ahead = λ lost all h.
+      passed_place c.dialect_finds_in_text.ensures c.args.reader.now c.args.runs.now all lost c.loop-next.next
       (subst (λ x. All (IsBare x) c.args.runs.now) c.start_at.ensures.value (c.are_bare.ensures c.if-are_bare.true))
-      (c.loop-next.invariant.ahead set p lost all h);
+      (c.loop-next.invariant.ahead lost all h);
 }

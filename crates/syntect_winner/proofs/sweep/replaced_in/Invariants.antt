@@ -5,5 +5,5 @@ use Rattle.syntect_winner.proofs.sweep.replaced_in.Given as goal
 abbrev pub invariant-loop-flat : goal.invariant-loop-flat
 invariant-loop-flat l = record {
   count : length l.replaced.items ≡ l.flat-index;
-  replaced : Replaced l.set l.part l.flats l.flat-index l.replaced.items;
+  replaced : Replaced l.reader.set.now l.part l.flats l.flat-index l.replaced.items;
 }

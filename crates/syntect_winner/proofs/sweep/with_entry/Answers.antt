@@ -5,20 +5,20 @@ use Rattle.syntect_winner.proofs.sweep.with_entry.Goals as goal
 
 pub returns-then-not-branch-clause-best : goal.returns-then-not-branch-clause-best
 returns-then-not-branch-clause-best c = λ ms a n h.
-    adds_none c.args.line.now c.args.p.now c.args.place (member_of c.args.entry.now) c.dialect_finds_in_text.ensures c.utf8.line c.args.lost.now c.args.best ms a h
-    (none_from c.args.line.now c.args.place _ c.regex_of-regex.result.now _ _ c.in_ok-match_at.field-0 (c.regex_of-regex.ensures ∙ c.requires.text) c.in_ok-match_at.ensures.ok c.if-not-branch.true)
+    adds_none c.args.reader.now c.args.place (member_of c.args.entry.now) c.dialect_finds_in_text.ensures c.args.lost.now c.args.best ms a h
+    (none_from c.args.reader.now.line.now c.args.place _ c.regex_of-regex.result.now _ _ c.in_ok-match_at.field-0 (c.regex_of-regex.ensures ∙ c.requires.text) c.in_ok-match_at.ensures.ok c.if-not-branch.true)
 
 pub returns-clause-groups : goal.returns-clause-groups
 returns-clause-groups c = λ a h.
-    groups_counted c.args.line.now c.args.p.now (member_of c.args.entry.now) c.args.lost.now c.args.place _ c.led_by.result.candidate c.match_at.new.region c.keep.new.self.best c.led_by.ensures.candidate c.keep.ensures c.if-lost.false a
-    (found_from c.args.line.now c.args.place _ c.regex_of-regex.result.now _ _ c.in_ok-match_at.field-0 (c.regex_of-regex.ensures ∙ c.requires.text) c.in_ok-match_at.ensures.ok c.if-not-branch.false)
-    (sym c.pos.ensures ∙ c.in-Some.is) (rw c.len.ensures at (sym c.if-not-counts.ensures)) refl refl
+    groups_counted c.args.reader.now (member_of c.args.entry.now) c.args.lost.now c.args.place _ c.led_by.result.candidate c.match_at.new.region c.keep.new.self.best c.led_by.ensures.candidate c.keep.ensures c.if-lost.false a
+    (found_from c.args.reader.now.line.now c.args.place _ c.regex_of-regex.result.now _ _ c.in_ok-match_at.field-0 (c.regex_of-regex.ensures ∙ c.requires.text) c.in_ok-match_at.ensures.ok c.if-not-branch.false)
+    (sym c.pos.ensures ∙ c.in-Some.is) (rw c.len-height.ensures at (sym c.if-not-counts.ensures)) refl refl
     (ap (λ r. unwrap_or r c.args.entry.now.pattern.now.regex) c.in_ok-substituted.ensures ∙ c.requires.text)
 
 pub returns-clause-best : goal.returns-clause-best
 returns-clause-best c = λ ms a n h.
-    adds_counted c.args.line.now c.args.p.now c.args.place (member_of c.args.entry.now) c.args.lost.now c.args.best ms _ c.led_by.result c.match_at.new.region c.requires.order c.if-lost.false a
-    (found_from c.args.line.now c.args.place _ c.regex_of-regex.result.now _ _ c.in_ok-match_at.field-0 (c.regex_of-regex.ensures ∙ c.requires.text) c.in_ok-match_at.ensures.ok c.if-not-branch.false)
-    (sym c.pos.ensures ∙ c.in-Some.is) (rw c.len.ensures at (sym c.if-not-counts.ensures)) refl refl
+    adds_counted c.args.reader.now c.args.place (member_of c.args.entry.now) c.args.lost.now c.args.best ms _ c.led_by.result c.match_at.new.region c.requires.order c.if-lost.false a
+    (found_from c.args.reader.now.line.now c.args.place _ c.regex_of-regex.result.now _ _ c.in_ok-match_at.field-0 (c.regex_of-regex.ensures ∙ c.requires.text) c.in_ok-match_at.ensures.ok c.if-not-branch.false)
+    (sym c.pos.ensures ∙ c.in-Some.is) (rw c.len-height.ensures at (sym c.if-not-counts.ensures)) refl refl
     (ap (λ r. unwrap_or r c.args.entry.now.pattern.now.regex) c.in_ok-substituted.ensures ∙ c.requires.text)
     h n c.led_by.ensures.start c.led_by.ensures.is_match c.led_by.ensures.candidate

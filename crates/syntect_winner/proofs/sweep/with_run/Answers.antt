@@ -1,8 +1,7 @@
 use Rattle.std.proofs.Common.{◌+◌, ◌++◌, take, inl, inr}
 use Rattle.syntect_winner.specs.Ahead.{list_in}
-use Rattle.syntect_winner.specs.Engine.{dialect}
 use Rattle.syntect_winner.specs.Parts.{flat_members}
-use Rattle.syntect_winner.specs.Turn.{live}
+use Rattle.syntect_winner.specs.Reader.{matches_of}
 use Rattle.syntect_winner.proofs.SweepLaws.{begun, begun_ahead, none_held, one_held, run_ended, skipped, skipped_ahead, stepped, stepped_ahead, still_from, still_up_to}
 use Rattle.syntect_winner.proofs.sweep.with_run.Goals.{then-loop-index-test+else-is_none, else-loop-index-test}
 use Rattle.syntect_winner.proofs.sweep.with_run.Goals as goal
@@ -13,10 +12,10 @@ loop-index-init c = record {
   groups = λ a h. h;
   grows = λ h. h;
   best = λ ms a h.
-      begun c.dialect_finds_in_text.ensures c.args.set.now c.args.line.now c.utf8.line c.args.p.now c.args.place c.args.run.now c.requires.run c.args.lost.now c.args.best ms c.next_in-index.result
+      begun c.dialect_finds_in_text.ensures c.args.reader.now c.args.place c.args.run.now c.requires.run c.args.lost.now c.args.best ms c.next_in-index.result
       c.next_in-index.ensures.plain (rw c.start_at-x.ensures.value at c.next_in-index.ensures.passed) a h;
   ahead = λ ms a h is.
-      begun_ahead c.dialect_finds_in_text.ensures c.args.set.now c.args.line.now c.utf8.line c.args.p.now c.args.place c.args.run.now c.requires.run c.args.lost.now c.next_in-index.result
+      begun_ahead c.dialect_finds_in_text.ensures c.args.reader.now c.args.place c.args.run.now c.requires.run c.args.lost.now c.next_in-index.result
       c.next_in-index.ensures.plain (rw c.start_at-x.ensures.value at c.next_in-index.ensures.passed) a;
 }
 
@@ -25,37 +24,37 @@ loop-index-preserved c = record {
   lost = λ h. c.in_ok-best.ensures.lost (c.loop-index.invariant.lost h);
   groups = λ a h.
       c.in_ok-best.ensures.groups
-      (still_from c.dialect_finds_in_text.ensures c.args.set.now c.args.line.now c.utf8.line c.args.p.now c.args.place c.args.run.now c.args.lost.now c.loop-index.lost c.loop-index.index c.loop-index.invariant.lost a)
+      (still_from c.dialect_finds_in_text.ensures c.args.reader.now c.args.place c.args.run.now c.args.lost.now c.loop-index.lost c.loop-index.index c.loop-index.invariant.lost a)
       (c.loop-index.invariant.groups a h);
   grows = λ h. c.loop-index.invariant.grows (c.in_ok-best.ensures.grows h);
   best = λ ms a h.
-      skipped c.dialect_finds_in_text.ensures c.args.set.now c.args.line.now c.utf8.line c.args.p.now c.args.place c.args.run.now c.requires.run c.with_pattern.new.lost c.in_ok-best.best ms (c.loop-index.index + 1) c.next_in-index-in-loop-index.result
+      skipped c.dialect_finds_in_text.ensures c.args.reader.now c.args.place c.args.run.now c.requires.run c.with_pattern.new.lost c.in_ok-best.best ms (c.loop-index.index + 1) c.next_in-index-in-loop-index.result
       c.next_in-index-in-loop-index.ensures.later c.next_in-index-in-loop-index.ensures.plain (rw c.start_at-x.ensures.value at c.next_in-index-in-loop-index.ensures.passed)
-      (still_from c.dialect_finds_in_text.ensures c.args.set.now c.args.line.now c.utf8.line c.args.p.now c.args.place c.args.run.now c.args.lost.now c.with_pattern.new.lost (c.loop-index.index + 1) (λ x. c.in_ok-best.ensures.lost (c.loop-index.invariant.lost x)) a)
-      (stepped c.dialect_finds_in_text.ensures c.args.set.now c.args.line.now c.utf8.line c.args.p.now c.args.place c.args.run.now c.with_pattern.new.lost c.in_ok-best.best ms c.loop-index.index
+      (still_from c.dialect_finds_in_text.ensures c.args.reader.now c.args.place c.args.run.now c.args.lost.now c.with_pattern.new.lost (c.loop-index.index + 1) (λ x. c.in_ok-best.ensures.lost (c.loop-index.invariant.lost x)) a)
+      (stepped c.dialect_finds_in_text.ensures c.args.reader.now c.args.place c.args.run.now c.with_pattern.new.lost c.in_ok-best.best ms c.loop-index.index
       (rw (c.as_slice-count.ensures, c.list_in.ensures) at c.loop-index-test.true)
-      (c.in_ok-best.ensures.best (ms ++ live dialect c.args.line.now c.args.p.now (flat_members c.args.set.now c.args.run.now.part (take c.loop-index.index (list_in c.args.run.now.flats))))
-      (still_from c.dialect_finds_in_text.ensures c.args.set.now c.args.line.now c.utf8.line c.args.p.now c.args.place c.args.run.now c.args.lost.now c.loop-index.lost c.loop-index.index c.loop-index.invariant.lost a)
+      (c.in_ok-best.ensures.best (ms ++ matches_of c.args.reader.now (flat_members c.args.reader.now.set.now c.args.run.now.part (take c.loop-index.index (list_in c.args.run.now.flats))))
+      (still_from c.dialect_finds_in_text.ensures c.args.reader.now c.args.place c.args.run.now c.args.lost.now c.loop-index.lost c.loop-index.index c.loop-index.invariant.lost a)
       (none_held c.loop-index.best.candidate c.if-is_none.ensures) (c.loop-index.invariant.best ms a h)));
   ahead = λ ms a h is.
-      skipped_ahead c.dialect_finds_in_text.ensures c.args.set.now c.args.line.now c.utf8.line c.args.p.now c.args.place c.args.run.now c.requires.run c.with_pattern.new.lost (c.loop-index.index + 1) c.next_in-index-in-loop-index.result
+      skipped_ahead c.dialect_finds_in_text.ensures c.args.reader.now c.args.place c.args.run.now c.requires.run c.with_pattern.new.lost (c.loop-index.index + 1) c.next_in-index-in-loop-index.result
       c.next_in-index-in-loop-index.ensures.plain (rw c.start_at-x.ensures.value at c.next_in-index-in-loop-index.ensures.passed)
-      (still_from c.dialect_finds_in_text.ensures c.args.set.now c.args.line.now c.utf8.line c.args.p.now c.args.place c.args.run.now c.args.lost.now c.with_pattern.new.lost (c.loop-index.index + 1) (λ x. c.in_ok-best.ensures.lost (c.loop-index.invariant.lost x)) a)
-      (stepped_ahead c.dialect_finds_in_text.ensures c.args.set.now c.args.line.now c.utf8.line c.args.p.now c.args.place c.args.run.now c.with_pattern.new.lost c.in_ok-best.best _ c.loop-index.index
-      (c.in_ok-best.ensures.best (ms ++ live dialect c.args.line.now c.args.p.now (flat_members c.args.set.now c.args.run.now.part (take c.loop-index.index (list_in c.args.run.now.flats))))
-      (still_from c.dialect_finds_in_text.ensures c.args.set.now c.args.line.now c.utf8.line c.args.p.now c.args.place c.args.run.now c.args.lost.now c.loop-index.lost c.loop-index.index c.loop-index.invariant.lost a)
+      (still_from c.dialect_finds_in_text.ensures c.args.reader.now c.args.place c.args.run.now c.args.lost.now c.with_pattern.new.lost (c.loop-index.index + 1) (λ x. c.in_ok-best.ensures.lost (c.loop-index.invariant.lost x)) a)
+      (stepped_ahead c.dialect_finds_in_text.ensures c.args.reader.now c.args.place c.args.run.now c.with_pattern.new.lost c.in_ok-best.best _ c.loop-index.index
+      (c.in_ok-best.ensures.best (ms ++ matches_of c.args.reader.now (flat_members c.args.reader.now.set.now c.args.run.now.part (take c.loop-index.index (list_in c.args.run.now.flats))))
+      (still_from c.dialect_finds_in_text.ensures c.args.reader.now c.args.place c.args.run.now c.args.lost.now c.loop-index.lost c.loop-index.index c.loop-index.invariant.lost a)
       (none_held c.loop-index.best.candidate c.if-is_none.ensures) (c.loop-index.invariant.best ms a h))
       is
-      (still_up_to c.dialect_finds_in_text.ensures c.args.set.now c.args.line.now c.utf8.line c.args.p.now c.args.place c.args.run.now c.loop-index.lost c.with_pattern.new.lost (c.args.place + 1) c.loop-index.index c.in_ok-best.ensures.lost
+      (still_up_to c.dialect_finds_in_text.ensures c.args.reader.now c.args.place c.args.run.now c.loop-index.lost c.with_pattern.new.lost (c.args.place + 1) c.loop-index.index c.in_ok-best.ensures.lost
       (c.loop-index.invariant.ahead ms a h (c.in_ok-best.ensures.grows is))));
 }
 
 pub returns-clause-best : goal.returns-clause-best
 returns-clause-best c = λ ms a h.
-    run_ended c.dialect_finds_in_text.ensures c.args.set.now c.args.line.now c.utf8.line c.args.p.now c.args.place c.args.run.now c.requires.run c.loop-index.lost c.loop-index.best ms c.loop-index.index
+    run_ended c.dialect_finds_in_text.ensures c.args.reader.now c.args.place c.args.run.now c.requires.run c.loop-index.lost c.loop-index.best ms c.loop-index.index
     (c.loop-index.invariant.best ms a h) (c.loop-index.invariant.ahead ms a h)
     (elim c.loop-index-test.branch [
       | then-loop-index-test+else-is_none w ↦ inr (one_held c.loop-index.best.candidate w.if-is_none.ensures)
       | else-loop-index-test w ↦ inl (rw (c.as_slice-count.ensures, c.list_in.ensures) at w.loop-index-test.false)
     ])
-    (still_from c.dialect_finds_in_text.ensures c.args.set.now c.args.line.now c.utf8.line c.args.p.now c.args.place c.args.run.now c.args.lost.now c.loop-index.lost c.loop-index.index c.loop-index.invariant.lost a)
+    (still_from c.dialect_finds_in_text.ensures c.args.reader.now c.args.place c.args.run.now c.args.lost.now c.loop-index.lost c.loop-index.index c.loop-index.invariant.lost a)

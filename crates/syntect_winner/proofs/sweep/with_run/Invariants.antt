@@ -1,20 +1,19 @@
 use Rattle.std.proofs.Common.{◌≡◌, ◌+◌, ◌++◌, ◌-◌, List, take, true, false}
 use Rattle.syntect_winner.specs.Ahead.{AreAhead, AreAheadUpTo, IsBestAt, list_in}
-use Rattle.syntect_winner.specs.Best.{AreGroupsOf}
-use Rattle.syntect_winner.specs.Engine.{dialect}
 use Rattle.syntect_winner.specs.Parts.{flat_members}
-use Rattle.syntect_winner.specs.Turn.{Live, live}
+use Rattle.syntect_winner.specs.Reader.{AreGroupsBy, matches_of}
+use Rattle.syntect_winner.specs.Turn.{Live}
 use Rattle.syntect_winner.proofs.sweep.with_run.Given as goal
 
 abbrev pub invariant-loop-index : goal.invariant-loop-index
 invariant-loop-index l = record {
   lost : l.fn.lost ≡ true → l.lost ≡ true;
-  groups : AreAhead l.set l.line l.p l.fn.lost l.place l.run → AreGroupsOf l.line l.p.place l.fn.best.candidate l.fn.regions.best → AreGroupsOf l.line l.p.place l.best.candidate l.regions.best;
+  groups : AreAhead l.reader l.fn.lost l.place l.run → AreGroupsBy l.reader l.fn.best.candidate l.fn.regions.best → AreGroupsBy l.reader l.best.candidate l.regions.best;
   grows : l.best.is_match ≡ false → l.fn.best.is_match ≡ false;
-  best : (ms : List Live) → AreAhead l.set l.line l.p l.fn.lost l.place l.run → IsBestAt l.line l.p l.place ms l.fn.best
-      → IsBestAt l.line l.p l.place (ms ++ live dialect l.line l.p (flat_members l.set l.run.part (take l.index (list_in l.run.flats)))) l.best;
-  ahead : (ms : List Live) → AreAhead l.set l.line l.p l.fn.lost l.place l.run → IsBestAt l.line l.p l.place ms l.fn.best
-      → l.best.is_match ≡ false → AreAheadUpTo l.set l.line l.p l.lost (l.place + 1) l.run l.index;
+  best : (ms : List Live) → AreAhead l.reader l.fn.lost l.place l.run → IsBestAt l.reader l.place ms l.fn.best
+      → IsBestAt l.reader l.place (ms ++ matches_of l.reader (flat_members l.reader.set.now l.run.part (take l.index (list_in l.run.flats)))) l.best;
+  ahead : (ms : List Live) → AreAhead l.reader l.fn.lost l.place l.run → IsBestAt l.reader l.place ms l.fn.best
+      → l.best.is_match ≡ false → AreAheadUpTo l.reader l.lost (l.place + 1) l.run l.index;
 }
 
 abbrev pub decreases-loop-index : goal.decreases-loop-index
