@@ -25,7 +25,7 @@ use Rattle.syntect_winner.specs.declared.search.Choice.TheVariants as code
 
 by_kind : (finds : FindsInText dialect) (line : List ℕ) (u : IsUtf8 line) (place : ℕ) (c : Choice) → IsChoiceOnBoundary dialect finds line u place (chosen line place c) → StandsChosen line place c
 by_kind finds line u place (code.Take m) h = h
-by_kind finds line u place code.Skip h = h
+by_kind finds line u place (code.Skip next) h = h
 by_kind finds line u place code.End h = h
 
 -- the matches that a turn has to choose from are those of some members

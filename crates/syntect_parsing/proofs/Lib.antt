@@ -2,7 +2,7 @@ pub mod AnswerLaws
 pub mod Falls
 pub mod Open
 pub mod DialectLaws
-pub mod SearchLaws
+pub mod TakenLaws
 pub mod LevelLaws
 pub mod ReplayLaws
 pub mod StackLaws

@@ -1,14 +1,13 @@
 -- What matches do, as the reader of a line keeps it.
-use Rattle.std.specs.Prelude.{◌≡◌, ℕ, ◌+◌, ◌-◌, ◌<◌, ◌==◌, List, [], ◌∷◌, length, map, Option, Some, unwrap_or, if◌then◌else◌}
+use Rattle.std.specs.Prelude.{◌≡◌, ℕ, ◌+◌, ◌-◌, ◌<◌, ◌==◌, List, [], ◌∷◌, length, map, Option, Some, if◌then◌else◌}
 use Rattle.std.specs.List.{flat_map}
-use Rattle.syntect_pattern.specs.Pattern.{pattern_found}
 use Rattle.syntect_scope.specs.declared.stack.ScopeStackOp.{ScopeStackOp}
 use Rattle.syntect_scope.specs.declared.stack.ScopeStackOp.TheVariants.{Pop}
 use Rattle.syntect_scope.specs.Replay.{pushes}
-use Rattle.syntect_contexts.specs.Substitution.{Opening}
+use Rattle.syntect_contexts.specs.Substitution.{Groups, Opening}
 use Rattle.syntect_grammar.specs.declared.syntax_set.SyntaxSet.{SyntaxSet}
-use Rattle.syntect_winner.specs.Turn.{char_len}
-use Rattle.syntect_winner.specs.Candidates.{text_of}
+use Rattle.syntect_winner.specs.Turn.{Live, char_len}
+use Rattle.syntect_winner.specs.Candidates.{seen, text_of}
 use Rattle.syntect_parsing.specs.Scopes.{Scopes, Capture}
 use Rattle.syntect_winner.specs.Found.{StandsIn}
 use Rattle.syntect_parsing.specs.Operations.{capture_operations, operations, operations_of}
@@ -17,13 +16,34 @@ use Rattle.syntect_contexts.specs.declared.context.MatchOperation.{MatchOperatio
 use Rattle.syntect_contexts.specs.declared.context.MatchOperation.TheVariants as op
 use Rattle.syntect_winner.specs.declared.position.Record.{Record}
 use Rattle.syntect_parsing.specs.declared.captures.Mark.{Mark}
+use Rattle.syntect_parsing.specs.declared.taken.Taken.{Taken}
 use Rattle.syntect_winner.specs.declared.search.Candidate.{Candidate}
 use Rattle.syntect_winner.specs.declared.search.Choice.{Choice}
 use Rattle.syntect_winner.specs.declared.search.Choice.TheVariants as code
 
+-- the match that a candidate stands for, with these groups
+abbrev pub live_with : Candidate → Groups → Live
+live_with c groups = record {
+  pattern = c.pattern.now;
+  from_with_prototype = c.from_with_prototype;
+  searched = text_of c;
+  groups = groups;
+  start = c.start;
+  end = c.end;
+}
+
+-- the match that is taken
+abbrev pub live_of : Taken → Live
+live_of t = live_with t.candidate.now t.region.now
+
+-- it stands in the line, not before this place, and its groups are those of a search from there on
+pub record IsTakenFrom (place : ℕ) (t : Taken) : Type 0 where
+  pub stands : StandsIn t.line.now place t.candidate.now.start t.candidate.now.end
+  pub found : t.region.now ≡ (seen t.line.now place t.candidate.now).groups
+
 -- that match as the opening match of the levels that it opens
-abbrev pub opening_by : List ℕ → ℕ → Candidate → Opening
-opening_by line place c = record { region = unwrap_or (pattern_found (text_of c) line place) []; line = line }
+abbrev pub opening_by : Taken → Opening
+opening_by t = record { region = t.region.now; line = t.line.now }
 
 -- the record after an operation at the place itself, where there were so many levels
 abbrev pub record_at : ℕ → ℕ → Option Record → MatchOperation → Option Record
@@ -35,7 +55,7 @@ record_at place height before op.None = before
 -- what is taken stands in the line, not before the place, and on character boundaries; what is passed over is in the line
 abbrev pub StandsChosen : List ℕ → ℕ → Choice → Type 0
 StandsChosen line place (code.Take m) = StandsIn line place m.now.start m.now.end
-StandsChosen line place code.Skip = place + char_len line place < length line
+StandsChosen line place (code.Skip next) = place + char_len line place < length line
 StandsChosen line place code.End = Unit {0}
 
 -- ---- the scopes of captures, as they are put in order ----

@@ -1,17 +1,16 @@
 //! The scopes of the groups of a match.
-ghost use Rattle.std.specs.Prelude.{◌≡◌, ◌≤◌, ◌<◌, ◌&&◌, nat_lt, nat_le, not, IsTrue, length, map, IfOk, IfSome, OnOk, IsCharBoundary, unwrap_or, Option, None, Some};
+ghost use Rattle.std.specs.Prelude.{◌≡◌, ◌<◌, ◌&&◌, nat_lt, nat_le, not, IsTrue, map, IfOk, IfSome, OnOk};
 ghost use Rattle.std.specs.Option.{option_map};
 ghost use Rattle.std.specs.List.{flat_map, filter_map};
 ghost use Rattle.syntect_winner.specs.Engine.{dialect};
 ghost use Rattle.syntect_winner.specs.Turn.{group_at};
 ghost use Rattle.syntect_parsing.specs.Scopes.{Scopes, effect, captures};
-ghost use Rattle.syntect_winner.specs.Found.{StandsIn};
 ghost use Rattle.syntect_parsing.specs.Sorting.{in_order};
-ghost use Rattle.syntect_parsing.specs.Candidates.{seen_mark, marks_of, AreMarksOf};
-ghost use Rattle.syntect_winner.specs.Candidates.{seen, text_of};
+ghost use Rattle.syntect_parsing.specs.Candidates.{live_of, seen_mark, marks_of, AreMarksOf};
+ghost use Rattle.syntect_winner.specs.Candidates.{text_of};
 
-use std::alloc::{AllocError, Global};
-use syntect_regex::region::Region;
+use crate::taken::Taken;
+use std::alloc::AllocError;
 use syntect_scope::scope::Scope;
 use syntect_values::seq::Seq;
 use syntect_winner::search::Candidate;
@@ -27,19 +26,13 @@ pub struct Mark<'s> {
 
 /// Where a group of a match stands, if a capture of it has effect: it was set to a stretch that isn't empty and lies in
 /// the match, and stands in no lookaround of the pattern that was searched.
-fn effect(
-    line: &str,
-    place: usize,
-    m: &Candidate<'_>,
-    region: &Region,
-    group: usize,
-) -> Option<(usize, usize)>
+fn effect(taken: &Taken<'_, '_>, group: usize) -> Option<(usize, usize)>
     ensures stands { (scopes : Scopes) → option_map (λ at. record { start = at.0; end = at.1; scopes = scopes }) result
-        ≡ effect dialect (seen line.now place m.now) group scopes (group_at region.now group) }
+        ≡ effect dialect (live_of taken.now) group scopes (group_at taken.now.region.now group) }
     ensures rises { IfSome result (λ at. at.0 < at.1) }
 {
-    let at = region.pos(group)?;
-    if has_effect(line, place, m, group, at) {
+    let at = taken.region.pos(group)?;
+    if has_effect(taken.candidate, group, at) {
         Some(at)
     } else {
         None
@@ -47,8 +40,9 @@ fn effect(
 }
 
 /// Whether a capture of a group that stands here has effect.
-fn has_effect(line: &str, place: usize, m: &Candidate<'_>, group: usize, at: (usize, usize)) -> bool
-    ensures stands { result ≡ (nat_lt at.0 at.1 && nat_le m.now.start at.0 && nat_le at.1 m.now.end && not (dialect.in_lookaround (seen line.now place m.now).searched group)) }
+fn has_effect(m: &Candidate<'_>, group: usize, at: (usize, usize)) -> bool
+    ensures stands { result ≡ (nat_lt at.0 at.1 && nat_le m.now.start at.0 && nat_le at.1 m.now.end
+        && not (dialect.in_lookaround (text_of m.now) group)) }
     ensures rises { IsTrue result → at.0 < at.1 }
 {
     let (start, end) = at;
@@ -64,18 +58,16 @@ fn in_lookaround(m: &Candidate<'_>, group: usize) -> bool
 
 /// The marks of the captures that have effect, in the order of the list, each with its end before its start.
 fn collect_marks<'s>(
-    alloc: Global,
-    line: &str,
-    place: usize,
-    m: &Candidate<'_>,
-    region: &Region,
+    taken: &Taken<'_, '_>,
     captures: &'s [(usize, Seq<Scope>)],
 ) -> Result<Vec<Mark<'s>>, AllocError>
-    ensures { IfOk result (λ v. map seen_mark v.items ≡ flat_map marks_of (filter_map (λ entry. effect dialect (seen line.now place m.now) entry.0 entry.1 (group_at region.now entry.0)) captures.now)) }
+    ensures { IfOk result (λ v. map seen_mark v.items ≡ flat_map marks_of (filter_map
+        (λ entry. effect dialect (live_of taken.now) entry.0 entry.1
+        (group_at taken.now.region.now entry.0)) captures.now)) }
 {
-    let mut marks = Vec::new(alloc);
+    let mut marks = Vec::new(taken.alloc);
     for (group, scopes) in captures {
-        if let Some((start, end)) = effect(line, place, m, region, *group) {
+        if let Some((start, end)) = effect(taken, *group) {
             let scopes = scopes.as_slice();
             marks.push(Mark {
                 place: end,
@@ -100,27 +92,19 @@ fn sort_marks(marks: &mut Vec<Mark<'_>>) -> Result<(), AllocError>
     marks.sort_by_key(|m| m.place)
 }
 
-/// What the captures of a match with these groups push and pop, in order. Takes no memory where the pattern has no captures.
-pub fn capture_marks<'s>(
-    alloc: Global,
-    line: &str,
-    place: usize,
-    m: &Candidate<'s>,
-    region: &Region,
-) -> Result<Vec<Mark<'s>>, AllocError>
-    requires groups { region.now ≡ (seen line.now place m.now).groups }
-    requires stands { StandsIn line.now place m.now.start m.now.end }
-    ensures { IfOk result (λ v. AreMarksOf m.now
-        (captures dialect (seen line.now place m.now)) v.items) }
+/// What the captures of a match push and pop, in order. Takes no memory where the pattern has no captures.
+pub fn capture_marks<'s>(taken: &Taken<'s, '_>) -> Result<Vec<Mark<'s>>, AllocError>
+    ensures { IfOk result (λ v. AreMarksOf taken.now.candidate.now
+        (captures dialect (live_of taken.now)) v.items) }
 {
-    let pattern = m.pattern;
+    let pattern = taken.candidate.pattern;
     let Some(captures) = &pattern.captures else {
-        return Ok(Vec::new(alloc));
+        return Ok(Vec::new(taken.alloc));
     };
     if captures.is_empty() {
-        return Ok(Vec::new(alloc));
+        return Ok(Vec::new(taken.alloc));
     }
-    let mut marks = collect_marks(alloc, line, place, m, region, captures.as_slice())?;
+    let mut marks = collect_marks(taken, captures.as_slice())?;
     sort_marks(&mut marks)?;
     Ok(marks)
 }

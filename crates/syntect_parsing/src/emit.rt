@@ -1,29 +1,26 @@
 //! The operations of a match.
-ghost use Rattle.std.specs.Prelude.{◌≡◌, ◌<◌, ◌≤◌, ◌+◌, ◌++◌, List, length, OnOk, IsCharBoundary};
+ghost use Rattle.std.specs.Prelude.{◌≡◌, ◌<◌, ◌+◌, ◌++◌, List, length, OnOk};
 ghost use Rattle.std.specs.Option.{option_copied, option_and_then};
 ghost use Rattle.syntect_grammar.specs.Contexts.{context_at};
 ghost use Rattle.syntect_parsing.specs.Operations.{operations_pushed, operations_set, metas, restores, all_below};
 ghost use Rattle.syntect_parsing.specs.Visible.{top_clearing, top_part};
 ghost use Rattle.syntect_winner.specs.Engine.{dialect};
 ghost use Rattle.syntect_parsing.specs.Scopes.{Capture, captures};
-ghost use Rattle.syntect_winner.specs.Found.{StandsIn};
-ghost use Rattle.syntect_parsing.specs.Candidates.{marks_operations, AreMarksOf, operations_between, operations_by};
-ghost use Rattle.syntect_winner.specs.Candidates.{seen};
+ghost use Rattle.syntect_parsing.specs.Candidates.{live_of, marks_operations, AreMarksOf, operations_between, operations_by};
 ghost use Rattle.syntect_winner.specs.Chain.{last};
 ghost use Rattle.syntect_scope.specs.Replay.{pushes, pops};
 
 use crate::captures::{Mark, capture_marks};
-use std::alloc::{AllocError, Global};
+use crate::taken::Taken;
+use std::alloc::AllocError;
 use syntect_grammar::syntax_definition::{Context, ContextReference, MatchOperation};
 use syntect_grammar::syntax_set::SyntaxSet;
 use syntect_openings::references::{
     Ops, clear_nothing, count_metas, no_contents, open_below, open_here, pop_scopes, push_metas,
     push_opens, push_scopes, restore,
 };
-use syntect_regex::region::Region;
 use syntect_scope::stack::{ClearAmount, ScopeStackOp};
 use syntect_winner::level::Level;
-use syntect_winner::position::Position;
 use syntect_winner::search::Candidate;
 
 /// The top level's context, if the set has it.
@@ -176,23 +173,11 @@ fn emit_all(
     }
 }
 
-/// The operations of a match, which finds the levels of this position.
-pub fn emit(
-    alloc: Global,
-    ops: &mut Ops,
-    set: &SyntaxSet,
-    line: &str,
-    p: &Position,
-    m: &Candidate<'_>,
-    region: &Region,
-) -> Result<(), AllocError>
-    requires within { p.now.place ≤ length line.now }
-    requires boundary { IsCharBoundary line.now p.now.place }
-    requires groups { region.now ≡ (seen line.now p.now.place m.now).groups }
-    requires stands { StandsIn line.now p.now.place m.now.start m.now.end }
-    ensures { OnOk result (ops.new.items ≡ ops.old.items ++ operations_by m.now
-        (captures dialect (seen line.now p.now.place m.now)) set.now p.now.levels) }
+/// The operations of a match, which finds these levels.
+pub fn emit(ops: &mut Ops, taken: &Taken<'_, '_>, levels: &[Level]) -> Result<(), AllocError>
+    ensures { OnOk result (ops.new.items ≡ ops.old.items ++ operations_by taken.now.candidate.now
+        (captures dialect (live_of taken.now)) taken.now.set.now levels.now) }
 {
-    let marks = capture_marks(alloc, line, p.place, m, region)?;
-    emit_all(ops, set, p.levels.as_slice(), m, marks.as_slice())
+    let marks = capture_marks(taken)?;
+    emit_all(ops, taken.set, levels, taken.candidate, marks.as_slice())
 }

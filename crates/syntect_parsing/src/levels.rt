@@ -1,22 +1,20 @@
 //! The levels that a match opens and leaves.
-ghost use Rattle.std.specs.Prelude.{◌≡◌, ◌≤◌, ◌++◌, [], length, IfOk, true, false, IsCharBoundary, ◌==◌, ◌+◌, ◌<◌, if◌then◌else◌};
+ghost use Rattle.std.specs.Prelude.{◌≡◌, ◌≤◌, ◌++◌, [], IfOk, ◌==◌, ◌+◌, ◌<◌, if◌then◌else◌};
 ghost use Rattle.std.specs.Option.{option_map_or, option_and_then};
 ghost use Rattle.std.specs.List.{list_any};
-ghost use Rattle.syntect_grammar.specs.Contexts.{context_at};
 ghost use Rattle.syntect_contexts.specs.Contexts.{target};
 ghost use Rattle.syntect_parsing.specs.Turn.{uses_backrefs, new_level, new_levels, levels_after, position_after};
 ghost use Rattle.syntect_winner.specs.Turn.{list_of};
-ghost use Rattle.syntect_parsing.specs.Candidates.{opening_by, record_at};
-ghost use Rattle.syntect_winner.specs.Candidates.{seen};
+ghost use Rattle.syntect_parsing.specs.Candidates.{live_of, opening_by, record_at};
 ghost use Rattle.syntect_winner.specs.Chain.{last};
 
+use crate::taken::Taken;
 use std::alloc::{AllocError, Global};
 use std::mem;
 use syntect_grammar::syntax_definition::{ContextId, ContextReference, MatchOperation};
 use syntect_grammar::syntax_set::SyntaxSet;
 use syntect_openings::names::targets;
 use syntect_openings::opening::Opening;
-use syntect_regex::region::Region;
 use syntect_values::seq::Seq;
 use syntect_values::text::Text;
 use syntect_winner::level::Level;
@@ -46,38 +44,27 @@ fn any_uses_backrefs(set: &SyntaxSet, ids: &[ContextId]) -> bool
 }
 
 /// The match as an opening match.
-fn opening_by(
-    alloc: Global,
-    line: &str,
-    place: usize,
-    m: &Candidate<'_>,
-) -> Result<Opening, AllocError>
-    requires within { place ≤ length line.now }
-    requires boundary { IsCharBoundary line.now place }
-    ensures { IfOk result (λ o. o ≡ opening_by line.now place m.now) }
+fn opening_by(taken: &Taken<'_, '_>) -> Result<Opening, AllocError>
+    ensures { IfOk result (λ o. o ≡ opening_by taken.now) }
 {
-    let mut region = Region::new(alloc);
-    let _ = m.regex().search_into(line, place, line.len(), &mut region)?;
-    Ok(Opening::new(region, Text::from_str(alloc, line)?))
+    let region = taken.region.clone(taken.alloc)?;
+    let line = Text::from_str(taken.alloc, taken.line)?;
+    Ok(Opening::new(region, line))
 }
 
 /// A level that a match opens.
 fn new_level(
-    alloc: Global,
-    set: &SyntaxSet,
-    line: &str,
-    place: usize,
-    m: &Candidate<'_>,
+    taken: &Taken<'_, '_>,
     context: ContextId,
     prototypes: Seq<ContextId>,
 ) -> Result<Level, AllocError>
-    requires within { place ≤ length line.now }
-    requires boundary { IsCharBoundary line.now place }
-    ensures { IfOk result (λ l. l ≡ new_level set.now (opening_by line.now place m.now) context prototypes) }
+    ensures { IfOk result (λ l. l
+        ≡ new_level taken.now.set.now (opening_by taken.now) context prototypes) }
 {
-    let keeps = uses_backrefs(set, context) || any_uses_backrefs(set, prototypes.as_slice());
+    let keeps = uses_backrefs(taken.set, context)
+        || any_uses_backrefs(taken.set, prototypes.as_slice());
     let opening = if keeps {
-        Some(opening_by(alloc, line, place, m)?)
+        Some(opening_by(taken)?)
     } else {
         None
     };
@@ -98,66 +85,45 @@ fn with_prototype_of(m: &Candidate<'_>) -> Option<ContextId>
 /// Opens levels: the first keeps these prototypes, the last has the `with_prototype` after its own.
 #[tactic(auto, using(crate::proofs::LevelLaws::one_level))]
 fn open_levels(
-    alloc: Global,
-    set: &SyntaxSet,
-    line: &str,
-    place: usize,
-    m: &Candidate<'_>,
+    taken: &Taken<'_, '_>,
     kept: Seq<ContextId>,
     ids: &[ContextId],
     levels: &mut Seq<Level>,
 ) -> Result<(), AllocError>
-    requires within { place ≤ length line.now }
-    requires boundary { IsCharBoundary line.now place }
     ensures { IfOk result (λ _. levels.new ≡ levels.old
-        ++ new_levels set.now (opening_by line.now place m.now) kept (option_and_then target m.now.pattern.now.with_prototype) ids.now) }
+        ++ new_levels taken.now.set.now (opening_by taken.now) kept
+        (option_and_then target taken.now.candidate.now.pattern.now.with_prototype) ids.now) }
 {
-    let with_prototype = with_prototype_of(m);
+    let with_prototype = with_prototype_of(taken.candidate);
     let mut prototypes = kept;
     for (i, id) in ids.iter().enumerate() {
-        let mut own = mem::replace(&mut prototypes, Seq::new(alloc));
+        let mut own = mem::replace(&mut prototypes, Seq::new(taken.alloc));
         if i + 1 == ids.len() {
             if let Some(last) = with_prototype {
                 own.push(last)?;
             }
         }
-        levels.push(new_level(alloc, set, line, place, m, *id, own)?)?;
+        levels.push(new_level(taken, *id, own)?)?;
     }
     Ok(())
 }
 
 /// The levels after a match.
-fn apply_operation(
-    alloc: Global,
-    set: &SyntaxSet,
-    line: &str,
-    place: usize,
-    m: &Candidate<'_>,
-    levels: &mut Seq<Level>,
-) -> Result<(), AllocError>
-    requires within { place ≤ length line.now }
-    requires boundary { IsCharBoundary line.now place }
-    ensures { IfOk result (λ _. levels.new ≡ levels_after set.now line.now levels.old (seen line.now place m.now)) }
+fn apply_operation(taken: &Taken<'_, '_>, levels: &mut Seq<Level>) -> Result<(), AllocError>
+    ensures { IfOk result (λ _. levels.new
+        ≡ levels_after taken.now.set.now taken.now.line.now levels.old (live_of taken.now)) }
 {
-    match &m.pattern.operation {
+    let alloc = taken.alloc;
+    match &taken.candidate.pattern.operation {
         MatchOperation::Push(refs) => {
             let ids = targets(alloc, refs.as_slice())?;
-            open_levels(
-                alloc,
-                set,
-                line,
-                place,
-                m,
-                Seq::new(alloc),
-                ids.as_slice(),
-                levels,
-            )
+            open_levels(taken, Seq::new(alloc), ids.as_slice(), levels)
         }
         MatchOperation::Set(refs) => {
             let ids = targets(alloc, refs.as_slice())?;
             let kept = prototypes_of_last(alloc, levels.as_slice())?;
             let _ = levels.pop();
-            open_levels(alloc, set, line, place, m, kept, ids.as_slice(), levels)
+            open_levels(taken, kept, ids.as_slice(), levels)
         }
         MatchOperation::Pop => {
             let _ = levels.pop();
@@ -206,20 +172,14 @@ fn count_idle(p: &mut Position, height: usize, m: &Candidate<'_>)
 }
 
 /// Where the reader stands after a match.
-pub fn apply(
-    alloc: Global,
-    set: &SyntaxSet,
-    line: &str,
-    p: &mut Position,
-    m: &Candidate<'_>,
-) -> Result<(), AllocError>
-    requires within { p.old.place ≤ length line.now }
-    requires boundary { IsCharBoundary line.now p.old.place }
+pub fn apply(taken: &Taken<'_, '_>, p: &mut Position) -> Result<(), AllocError>
     requires few { p.old.idle ≤ MOST_IDLE }
-    ensures { IfOk result (λ _. p.new ≡ position_after set.now line.now p.old (seen line.now p.old.place m.now)) }
+    ensures { IfOk result (λ _. p.new
+        ≡ position_after taken.now.set.now taken.now.line.now p.old (live_of taken.now)) }
 {
+    let m = taken.candidate;
     let height = p.levels.as_slice().len();
-    apply_operation(alloc, set, line, p.place, m, &mut p.levels)?;
+    apply_operation(taken, &mut p.levels)?;
     if m.from_with_prototype {
         p.cuts.push(height)?;
     }

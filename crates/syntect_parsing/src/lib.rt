@@ -8,6 +8,7 @@ mod emit;
 pub mod laws;
 mod levels;
 pub mod parser;
+mod taken;
 mod turn;
 
 pub use syntect_grammar::{error, syntax_set, yaml_load};

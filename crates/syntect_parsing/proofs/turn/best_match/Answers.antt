@@ -7,14 +7,14 @@ use Rattle.syntect_parsing.proofs.turn.best_match.Goals as goal
 
 pub returns-clause-chosen : goal.returns-clause-chosen
 returns-clause-chosen c =
-    chain_steps c.args.set.now c.args.line.now c.args.p.now c.in-Some.top.now c.in-Some-context_at.context.now (flat_map (part_members c.args.set.now) c.as_slice-2.result.now) c.in_ok-best_of_chain.field-0
+    chain_steps c.args.reader.now.set.now c.args.reader.now.line.now c.args.reader.now.position.now c.in-Some.top.now c.in-Some-context_at.context.now (flat_map (part_members c.args.reader.now.set.now) c.as_slice-2.result.now) c.in_ok-best_of_chain.field-0
     (search rules) (search rules) (λ f. ap (find f)
-    (parts_make_chain c.args.set.now c.args.p.now c.in-Some.top.now c.in-Some-context_at.context.now c.as_slice-2.result.now
+    (parts_make_chain c.args.reader.now.set.now c.args.reader.now.position.now c.in-Some.top.now c.in-Some-context_at.context.now c.as_slice-2.result.now
     (ap (map seen_part) c.as_slice-2.ensures.value ∙ c.in_ok-parts.ensures))) c.in_ok-best_of_chain.ensures.best c.in_default-missing_prototype.ensures
 
 pub returns-clause-wins : goal.returns-clause-wins
 returns-clause-wins c =
-    chain_wins c.args.set.now c.args.line.now c.args.p.now c.in-Some.top.now c.in-Some-context_at.context.now (flat_map (part_members c.args.set.now) c.as_slice-2.result.now) c.in_ok-best_of_chain.field-0
+    chain_wins c.args.reader.now.set.now c.args.reader.now.line.now c.args.reader.now.position.now c.in-Some.top.now c.in-Some-context_at.context.now (flat_map (part_members c.args.reader.now.set.now) c.as_slice-2.result.now) c.in_ok-best_of_chain.field-0
     (search rules) (search rules) (λ f. ap (find f)
-    (parts_make_chain c.args.set.now c.args.p.now c.in-Some.top.now c.in-Some-context_at.context.now c.as_slice-2.result.now
+    (parts_make_chain c.args.reader.now.set.now c.args.reader.now.position.now c.in-Some.top.now c.in-Some-context_at.context.now c.as_slice-2.result.now
     (ap (map seen_part) c.as_slice-2.ensures.value ∙ c.in_ok-parts.ensures))) c.in_ok-best_of_chain.ensures.best
