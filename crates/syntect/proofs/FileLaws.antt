@@ -1,6 +1,8 @@
 -- Syntaxes of files.
-use Rattle.std.proofs.Common.{◌≡◌, ℕ, suc, Bool, List, [], ◌∷◌, ◌++◌, sym, ap, ◌∙◌, inl, inr, subst, Result, Ok, Err}
-use Rattle.std.specs.Prelude.{Option, Some, None, IfOk, IfErr, IsUtf8, slice_get, find, reverse, ◌⊎◌}
+use Rattle.std.proofs.Common.{◌≡◌, ℕ, suc, Bool, List, [], ◌∷◌, ◌++◌, refl, sym, ap, ◌∙◌, inl, inr, subst, Result, Ok, Err}
+use Rattle.std.specs.Io.{StartsWith}
+use Rattle.std.specs.Io.BufRead.{take_through}
+use Rattle.std.specs.Prelude.{Option, Some, None, IfSome, IfOk, IfErr, IsUtf8, slice_get, find, reverse, ◌⊎◌}
 use Rattle.std.specs.Option.{option_or}
 use Rattle.std.proofs.lemmas.Bool.{cases_Bool}
 use Rattle.std.proofs.lemmas.List.{reverse-append}
@@ -14,7 +16,7 @@ use Rattle.syntect_loader.specs.declared.definition.SyntaxDefinition.{SyntaxDefi
 use Rattle.syntect_grammar.specs.declared.error.Error.{Error}
 use Rattle.syntect_grammar.specs.declared.error.Error.TheVariants as error
 use Rattle.syntect.specs.Built.{IsBuilt, IsBuiltOf}
-use Rattle.syntect.specs.Files.{IsSyntaxFor, HasNoLines, IsPageOfFile, HasNoPageOfFile}
+use Rattle.syntect.specs.Files.{IsSyntaxFor, IsToldSyntax, HasNoLines, IsPageOfFile, HasNoPageOfFile}
 use Rattle.syntect.specs.Leads.{LacksStart}
 use Rattle.syntect.specs.Pages.{IsPageOfBytes, IsStopped, IsReadFault}
 
@@ -98,6 +100,27 @@ plain_syntax set path line syntax u n e f = is_syntax set path line syntax u (ap
 
 pub no_syntax : (set : SyntaxSet) (path line : List ℕ) → IsUtf8 line → None ≡ found_by_file_name set path → None ≡ found_by_first_line set line → None ≡ found_plain_text set → HasNoLines set path error.NoSyntax
 no_syntax set path line u n e f = (line, u, ap (λ found. option_or found (found_plain_text set)) (sym (none_told set path line n e)) ∙ sym f)
+
+-- ---- what the first line that is left tells ----
+
+module _ (set : SyntaxSet) (path : List ℕ) (left : Option (List ℕ)) (syntax : SyntaxReference) where
+  nothing_asked : (o : Option (List ℕ)) → IfSome o (λ xs. StartsWith (take_through 10 xs) [])
+  nothing_asked None = tt
+  nothing_asked (Some xs) = refl
+
+  pub told_by_name : Some syntax ≡ found_by_file_name set path → IsToldSyntax set path left syntax
+  unfolding named_syntax is_syntax
+  told_by_name e = record { is_for = named_syntax set path syntax e; front = nothing_asked left }
+
+  pub told_by_line : (line : List ℕ) → IsUtf8 line → IfSome left (λ xs. StartsWith (take_through 10 xs) line) → None ≡ found_by_file_name set path → Some syntax ≡ found_by_first_line set line
+      → IsToldSyntax set path left syntax
+  unfolding found_syntax is_syntax
+  told_by_line line u h e f = record { is_for = found_syntax set path line syntax u e f; front = h }
+
+  pub told_by_none : (line : List ℕ) → IsUtf8 line → IfSome left (λ xs. StartsWith (take_through 10 xs) line) → None ≡ found_by_file_name set path → None ≡ found_by_first_line set line
+      → Some syntax ≡ found_plain_text set → IsToldSyntax set path left syntax
+  unfolding plain_syntax is_syntax
+  told_by_none line u h n e f = record { is_for = plain_syntax set path line syntax u n e f; front = h }
 
 -- ---- no lines ----
 

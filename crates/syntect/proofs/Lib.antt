@@ -8,5 +8,6 @@ pub mod StayLaws
 pub mod OrderlyLaws
 pub mod ReaderLaws
 pub mod RowLaws
+pub mod NewlineLaws
 pub mod FileLaws
 pub mod LoadedSetLaws

@@ -1,5 +1,7 @@
 -- What is shown of a file. Of what a file holds nothing is known.
-use Rattle.std.specs.Prelude.{◌≡◌, ℕ, List, Some, None, IsUtf8, slice_get, ◌⊎◌}
+use Rattle.std.specs.Prelude.{◌≡◌, ℕ, List, Option, Some, None, IfSome, IsUtf8, slice_get, ◌⊎◌}
+use Rattle.std.specs.Io.{StartsWith}
+use Rattle.std.specs.Io.BufRead.{take_through}
 use Rattle.std.specs.Option.{option_or}
 use Rattle.syntect_theme.specs.declared.theme.Theme.{Theme}
 use Rattle.syntect_grammar.specs.Finding.{found_for_file, found_plain_text}
@@ -18,6 +20,12 @@ pub record IsSyntaxFor (set : SyntaxSet) (path : List ℕ) (syntax : SyntaxRefer
   pub found : option_or (found_for_file set path line) (found_plain_text set) ≡ Some syntax
   pub place : ℕ
   pub among : slice_get (syntaxes_in set) place ≡ Some syntax
+
+-- It is that syntax; and where it is known what is left of the file, the line that was asked is a front of the first one
+-- that is left.
+pub record IsToldSyntax (set : SyntaxSet) (path : List ℕ) (left : Option (List ℕ)) (syntax : SyntaxReference) : Type 0 where
+  pub is_for : IsSyntaxFor set path syntax
+  pub front : IfSome left (λ xs. StartsWith (take_through 10 xs) is_for.line)
 
 -- no line of a file is read: no syntax is there for it, or the syntax has no `__start`, or the file is not read, or there was
 -- no memory

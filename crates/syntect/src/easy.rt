@@ -1,7 +1,9 @@
 //! Lines to styled pieces, of texts and of files.
+ghost use Rattle.std.specs.Io.Buffered.{reader_remaining};
+ghost use Rattle.std.specs.Io.KnownBytes.{Keeps};
 ghost use Rattle.std.specs.Prelude.{◌≡◌, ◌++◌, ◌∷◌, [], List, ℕ, IfOk, IfErr, OnErr};
 ghost use Rattle.std.specs.Path.{path_bytes};
-ghost use Rattle.syntect.specs.Files.{IsSyntaxFor, HasNoLines};
+ghost use Rattle.syntect.specs.Files.{IsSyntaxFor, IsToldSyntax, HasNoLines};
 ghost use Rattle.syntect.specs.Leads.{Leads};
 ghost use Rattle.syntect_contexts.specs.declared.syntax_reference.SyntaxReference.{SyntaxReference as ASyntax};
 ghost use Rattle.syntect_grammar.specs.declared.syntax_set.SyntaxSet.{SyntaxSet as ASet};
@@ -169,6 +171,11 @@ impl<'a, F: Read + Drop> HighlightFile<'a, F> {
         theme: &'a Theme,
     ) -> Result<HighlightFile<'a, F>, Error>
         ensures leads { IfOk result (λ file. (syntax : ASyntax) × IsSyntaxFor ss.now (path_bytes path.entry) syntax × Leads ss.now theme.now syntax [] [] file.highlight_lines) }
+        // what the file had when it was opened, if that is known, is what the reader has left
+        ensures unread { IfOk result (λ file. (opened : F) × (syntax : ASyntax)
+            × Keeps (F.remaining opened) (reader_remaining F.remaining file.reader)
+            × IsToldSyntax ss.now (path_bytes path.entry) (F.remaining opened) syntax
+            × Leads ss.now theme.now syntax [] [] file.highlight_lines) }
         ensures refused { IfErr result (HasNoLines ss.now (path_bytes path.entry)) }
     {
         let file = match fs::open(files, path) {
@@ -194,19 +201,25 @@ impl<'a, F: Read + Drop> HighlightFile<'a, F> {
 }
 
 /// The syntax of a file that a reader has opened, or else plain text. The reader's bytes stay.
-#[tactic(auto, using(crate::proofs::FileLaws::named_syntax, crate::proofs::FileLaws::found_syntax, crate::proofs::FileLaws::plain_syntax, crate::proofs::FileLaws::no_syntax, crate::proofs::FileLaws::not_read))]
+#[tactic(auto, using(crate::proofs::FileLaws::told_by_name, crate::proofs::FileLaws::no_syntax, crate::proofs::FileLaws::not_read))]
 fn syntax_for<'s, R: BufRead>(
     reader: &mut R,
     path: Path<'_>,
     ss: &'s SyntaxSet,
 ) -> Result<&'s SyntaxReference, Error>
-    ensures found { IfOk result (λ syntax. IsSyntaxFor ss.now (path_bytes path.entry) syntax.now) }
+    ensures found { IfOk result (λ syntax.
+        IsToldSyntax ss.now (path_bytes path.entry) (R.remaining reader.old) syntax.now) }
+    ensures keeps { Keeps (R.remaining reader.old) (R.remaining reader.new) }
     ensures refused { IfErr result (HasNoLines ss.now (path_bytes path.entry)) }
 {
     if let Some(syntax) = ss.find_syntax_by_file_name(path) {
         return Ok(syntax);
     }
-    let line = match first_line(reader) {
+    let bytes = match reader.fill_buf() {
+        Ok(bytes) => bytes,
+        Err(e) => return Err(Error::from(e)),
+    };
+    let line = match first_line(bytes) {
         Ok(line) => line,
         Err(e) => return Err(e),
     };

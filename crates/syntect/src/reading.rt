@@ -1,5 +1,8 @@
 //! The lines of a reader, one by one.
-ghost use Rattle.std.specs.Prelude.{◌≡◌, IfOk, IfErr};
+ghost use Rattle.std.specs.Prelude.{◌≡◌, ◌==◌, IfOk, IfErr};
+ghost use Rattle.std.specs.Io.{StartsWith};
+ghost use Rattle.std.specs.Io.BufRead.{take_through};
+ghost use Rattle.std.specs.List.{position};
 ghost use Rattle.std.specs.Str.{IsUtf8};
 ghost use Rattle.syntect.specs.Pages.{IsReadFault};
 ghost use Rattle.syntect.specs.Rows.{can_go_on, GivesNext};
@@ -47,16 +50,27 @@ pub fn text_of(bytes: &[u8]) -> Result<&str, Error>
     }
 }
 
+/// The place of the first newline.
+fn newline_in(bytes: &[u8]) -> Option<usize>
+    ensures { result ≡ position (λ b. b == 10) bytes.now }
+{
+    bytes.iter().position(|b| *b == b'\n')
+}
+
 /// The bytes up to and with the first newline, or all of them.
-fn up_to_newline(bytes: &[u8]) -> &[u8] {
-    match bytes.iter().position(|b| *b == b'\n') {
+fn up_to_newline(bytes: &[u8]) -> &[u8]
+    ensures { result.now ≡ take_through 10 bytes.now }
+{
+    match newline_in(bytes) {
         Some(at) => bytes.split_at(at + 1).0,
         None => bytes,
     }
 }
 
 /// Bytes without their last character, if that isn't whole. Bytes that are no UTF-8 elsewhere stay as they are.
-fn whole_characters(bytes: &[u8]) -> &[u8] {
+fn whole_characters(bytes: &[u8]) -> &[u8]
+    ensures { StartsWith bytes.now result.now }
+{
     match str::from_utf8(bytes) {
         Ok(_) => bytes,
         Err(e) => match e.error_len() {
@@ -66,13 +80,13 @@ fn whole_characters(bytes: &[u8]) -> &[u8] {
     }
 }
 
-/// The first line of what a reader has left, as far as it stands in its buffer, which is filled where it is empty. The
-/// bytes stay in the reader. `Io` where reading fails, or the line is not UTF-8.
-pub fn first_line<R: BufRead>(reader: &mut R) -> Result<&str, Error>
+/// The first line of bytes that are the front of a text, without a character that is cut off where the line goes on. `Io` where
+/// the line is not UTF-8.
+pub fn first_line(bytes: &[u8]) -> Result<&str, Error>
     ensures line { IfOk result (λ line. IsUtf8 line.now) }
+    ensures front { IfOk result (λ line. StartsWith (take_through 10 bytes.now) line.now) }
     ensures err { IfErr result (IsReadFault) }
 {
-    let bytes = reader.fill_buf()?;
     let line = up_to_newline(bytes);
     if line.len() < bytes.len() {
         text_of(line)
