@@ -1,25 +1,25 @@
 -- What a buffer shows against a fresh run.
-use Rattle.std.proofs.Common.{◌≡◌, ◌≢◌, ℕ, ◌+◌, ◌<◌, ◌≤◌, zero, suc, List, [], ◌∷◌, ◌++◌, length, take, drop, map, Some, Result, Ok, Err, IfOk, OnOk, OnErr, refl, sym, ap, subst, ◌∙◌, arith, append_assoc, length-append, length-drop}
+use Rattle.std.proofs.Common.{◌≡◌, ℕ, ◌+◌, ◌≤◌, zero, suc, List, [], ◌∷◌, ◌++◌, length, take, drop, Some, Result, Ok, Err, IfOk, OnOk, OnErr, refl, sym, ap, subst, ◌∙◌, arith, append_assoc, length-append, length-drop}
 use Rattle.std.specs.List.{slice_get}
 use Rattle.std.proofs.lemmas.List.{take-append-drop, take-append-le, take_all, length-take-le}
 use Rattle.syntect_theme.specs.declared.theme.Theme.{Theme}
 use Rattle.syntect_winner.specs.Engine.{dialect}
-use Rattle.syntect_parsing.specs.Line.{Answer, AnswersAll}
+use Rattle.syntect_parsing.specs.Line.{AnswersAll}
 use Rattle.syntect_parsing.specs.States.{standing}
 use Rattle.syntect_parsing.specs.declared.parser.Standing.{Standing}
 use Rattle.syntect_loader.specs.declared.definition.SyntaxDefinition.{SyntaxDefinition}
 use Rattle.syntect_contexts.specs.declared.syntax_reference.SyntaxReference.{SyntaxReference}
 use Rattle.syntect_grammar.specs.declared.syntax_set.SyntaxSet.{SyntaxSet}
 use Rattle.syntect.specs.Built.{IsBuiltOf}
-use Rattle.syntect.specs.Leads.{Past, RunsOrderly, and_then, reader_of}
-use Rattle.syntect_buffer.specs.Fresh.{Buffer, IsAnswerAt, LeadTo, StartsSame, StartsApart, StartApart, ReadsAgain}
+use Rattle.syntect.specs.Leads.{Past, RunsOrderly, reader_of}
+use Rattle.syntect_buffer.specs.Fresh.{IsAnswerAt, LeadTo, StartApart, ReadsAgain}
 use Rattle.syntect_buffer.specs.States.{Holds, StandSame, no_lines, and_all}
-use Rattle.syntect_buffer.specs.Kept.{Continues, IsReadFrom, AreReadFrom, AreReadAgain, IsKept, IsEdited, ending, lines_in, seen}
+use Rattle.syntect_buffer.specs.Kept.{Continues, AreMarked, IsReadFrom, AreReadFrom, IsKept, IsEdited, ending, lines_in, seen}
 use Rattle.syntect_buffer.specs.declared.states.LineStates.{LineStates}
 use Rattle.syntect_buffer.specs.declared.reading.Reading.{Reading}
 use Rattle.syntect_buffer.specs.declared.reading.Kept.{Kept}
 use Rattle.syntect_buffer.proofs.EditLaws.{take_behind, length-renewed}
-use Rattle.syntect_buffer.proofs.HeldLaws.{Led, some_same, none_is_some, led, stand_same, read_front, read_rest, read_joined, read_count, read_again, reads_apart, ending-append, ending-add}
+use Rattle.syntect_buffer.proofs.HeldLaws.{Led, some_same, none_is_some, led, stand_same, read_front, read_rest, read_joined, read_count, read_again, reads_apart, marked_read, marked_front, marked_rest, marked_joined, marked_again, ending-append, ending-add}
 
 -- lines before an orderly run's end are one
 orderly_front : (set : SyntaxSet) (syntax : SyntaxReference) (xs ys : List (List ℕ)) → RunsOrderly set syntax (xs ++ ys) → RunsOrderly set syntax xs
@@ -115,10 +115,27 @@ module _ (set : SyntaxSet) (theme : Theme) (syntax : SyntaxReference) (old new :
       read_joined theme set old.start (take place ls) (own ++ drop behind ls) (take place rs) (e.readings ++ (e.again ++ drop (length e.again) (drop behind rs))) front
       (read_joined theme set s own (drop behind ls) e.readings (e.again ++ drop (length e.again) (drop behind rs)) e.own_read rest)
 
+  -- the marks of what the edit leaves
+  marks_on : IsKept set theme syntax old → (e : IsEdited set theme old new place behind own number)
+      → AreMarked old.start (take place old.readings ++ (e.readings ++ (e.again ++ drop (length e.again) (drop behind old.readings))))
+  marks_on k e =
+      let ls = lines_in old in
+      let rs = old.readings in
+      let s : LineStates = ending old.start (take place rs) in
+      let o : LineStates = ending old.start (take behind rs) in
+      let n : LineStates = ending s e.readings in
+      let rest : List Reading = e.again ++ drop (length e.again) (drop behind rs) in
+      let count : length (drop behind ls) ≡ length (drop behind rs) = omega (arith, k.count, length-drop behind ls, length-drop behind rs) in
+      let last : AreMarked n rest =
+      marked_again theme set o n (drop behind ls) (drop behind rs) e.again count (marked_rest behind old.start rs k.marked) e.read_again.on e.read_again.stops in
+      marked_joined old.start (take place rs) (e.readings ++ rest) (marked_front place old.start rs k.marked)
+      (marked_joined s e.readings rest (marked_read theme set s own e.readings e.own_read) last)
+
   -- the buffer keeps after an edit what it has to
   pub kept_edited : place ≤ length old.readings → behind ≤ length old.readings → IsKept set theme syntax old → IsEdited set theme old new place behind own number → IsKept set theme syntax new
   kept_edited l m k e = record {
     count = ap length e.lines_are ∙ counts ∙ sym (ap length e.readings_are);
+    marked = rw (e.start_is, e.readings_are) (marks_on k e);
     starts = λ definitions b. subst (λ (s : LineStates). Holds (no_lines definitions theme syntax) set s) (sym e.start_is) (k.starts definitions b);
     read = λ definitions b.
         rw (e.start_is, e.lines_are, e.readings_are) (read_on definitions b k e);

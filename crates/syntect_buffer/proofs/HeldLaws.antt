@@ -13,12 +13,10 @@ use Rattle.syntect_parsing.specs.Line.{Answer, AnswersAll, stack_before}
 use Rattle.syntect_parsing.specs.Stacks.{Remembers}
 use Rattle.syntect_parsing.specs.States.{standing}
 use Rattle.syntect_parsing.specs.declared.parser.Standing.{Standing}
-use Rattle.syntect_style.specs.declared.state.HighlightState.{HighlightState}
-use Rattle.syntect_contexts.specs.declared.syntax_reference.SyntaxReference.{SyntaxReference}
 use Rattle.syntect_grammar.specs.declared.syntax_set.SyntaxSet.{SyntaxSet}
-use Rattle.syntect.specs.Leads.{Past, RunsOrderly, and_then, theme_of, styles_of, reader_of}
+use Rattle.syntect.specs.Leads.{Past, RunsOrderly, and_then, styles_of, reader_of}
 use Rattle.syntect_buffer.specs.States.{Holds, StandSame, and_all}
-use Rattle.syntect_buffer.specs.Kept.{Continues, IsReadFrom, AreReadFrom, ReadsOn, ending}
+use Rattle.syntect_buffer.specs.Kept.{Continues, IsMarked, AreMarked, IsReadFrom, AreReadFrom, ReadsOn, ending}
 use Rattle.syntect_buffer.specs.declared.states.LineStates.{LineStates}
 use Rattle.syntect_buffer.specs.declared.reading.Reading.{Reading}
 
@@ -29,6 +27,15 @@ pub none_is_some : {X : Type 0} {x : X} → None ≡ Some x → ⊥
 none_is_some e = cc
 
 -- ---- the same states ----
+
+pub alike_here : (a : LineStates) → StandSame a a
+alike_here a = record { reader = refl; styles = refl }
+
+pub alike_back : (a b : LineStates) → StandSame a b → StandSame b a
+alike_back a b s = record { reader = sym s.reader; styles = sym s.styles }
+
+pub alike_on : (a b c : LineStates) → StandSame a b → StandSame b c → StandSame a c
+alike_on a b c s t = record { reader = s.reader ∙ t.reader; styles = s.styles ∙ t.styles }
 
 -- states that stand where those of a past stand are held behind that past too, if they are held behind some past of the theme
 pub holds_same : (theme : Theme) (set : SyntaxSet) (was past : Past) (o n : LineStates) → was.theme ≡ theme → past.theme ≡ theme
@@ -65,7 +72,12 @@ pub read_from_same : (theme : Theme) (set : SyntaxSet) (was : Past) (o n : LineS
 read_from_same theme set was o n t ho same [] [] h = tt
 read_from_same theme set was o n t ho same [] (r ∷ rs) h = absurd h
 read_from_same theme set was o n t ho same (l ∷ ls) [] h = absurd h
-read_from_same theme set was o n t ho same (l ∷ ls) (r ∷ rs) h = (record { continues = λ past u k. h.0.continues past u (holds_same theme set was past o n t u ho k same) }, h.1)
+read_from_same theme set was o n t ho same (l ∷ ls) (r ∷ rs) h =
+    let first : IsReadFrom set theme n l r = record {
+      marked = λ m. alike_on n o r.after (alike_back o n same) (h.0.marked m);
+      continues = λ past u k. h.0.continues past u (holds_same theme set was past o n t u ho k same);
+    } in
+    (first, h.1)
 
 -- where lines are orderly, states of the same reader are the same
 pub stand_same : (theme : Theme) (set : SyntaxSet) (was past : Past) (o n : LineStates) → was.syntax ≡ past.syntax → Holds was set o → Holds past set n
@@ -183,12 +195,69 @@ reads_more theme set o n (x ∷ ls) (r ∷ rs) [] l m on at e not_same read =
     (not_same, subst (λ (z : List ℕ). IsReadFrom set theme n z m) (sym (some_same at)) read, tt)
 reads_more theme set o n (x ∷ ls) (r ∷ rs) (y ∷ ns) l m on at e not_same read = (on.0, on.1, reads_more theme set r.after y.after ls rs ns l m on.2 at (omega arith) not_same read)
 
+-- ---- marks ----
+
+-- those of lines that were read
+pub marked_read : (theme : Theme) (set : SyntaxSet) (s : LineStates) (ls : List (List ℕ)) (rs : List Reading) → AreReadFrom set theme s ls rs → AreMarked s rs
+marked_read theme set s [] [] h = tt
+marked_read theme set s [] (r ∷ rs) h = absurd h
+marked_read theme set s (l ∷ ls) [] h = absurd h
+marked_read theme set s (l ∷ ls) (r ∷ rs) h = (h.0.marked, marked_read theme set r.after ls rs h.1)
+
+pub marked_front : (n : ℕ) (s : LineStates) (rs : List Reading) → AreMarked s rs → AreMarked s (take n rs)
+marked_front zero s rs h = tt
+marked_front (suc n) s [] h = tt
+marked_front (suc n) s (r ∷ rs) h = (h.0, marked_front n r.after rs h.1)
+
+pub marked_rest : (n : ℕ) (s : LineStates) (rs : List Reading) → AreMarked s rs → AreMarked (ending s (take n rs)) (drop n rs)
+marked_rest zero s rs h = h
+marked_rest (suc n) s [] h = tt
+marked_rest (suc n) s (r ∷ rs) h = marked_rest n r.after rs h.1
+
+pub marked_joined : (s : LineStates) (rs others : List Reading) → AreMarked s rs → AreMarked (ending s rs) others → AreMarked s (rs ++ others)
+marked_joined s [] others h k = k
+marked_joined s (r ∷ rs) others h k = (h.0, marked_joined r.after rs others h.1 k)
+
+marked_same : (o n : LineStates) (rs : List Reading) → StandSame o n → AreMarked o rs → AreMarked n rs
+marked_same o n [] same h = tt
+marked_same o n (r ∷ rs) same h = (λ m. alike_on n o r.after (alike_back o n same) (h.0 m), h.1)
+
+-- those of lines that were read again, and behind them
+pub marked_again : (theme : Theme) (set : SyntaxSet) (o n : LineStates) (ls : List (List ℕ)) (rs ns : List Reading) → length ls ≡ length rs → AreMarked o rs → ReadsOn set theme n o ls rs ns
+    → (length ns < length ls → StandSame (ending o (take (length ns) rs)) (ending n ns)) → AreMarked n (ns ++ drop (length ns) rs)
+marked_again theme set o n [] [] [] e h on stops = tt
+marked_again theme set o n [] [] (m ∷ ns) e h on stops = absurd on
+marked_again theme set o n [] (r ∷ rs) ns e h on stops = absurd (omega (arith, e))
+marked_again theme set o n (l ∷ ls) [] ns e h on stops = absurd (omega (arith, e))
+marked_again theme set o n (l ∷ ls) (r ∷ rs) [] e h on stops = marked_same o n (r ∷ rs) (stops (omega arith)) h
+marked_again theme set o n (l ∷ ls) (r ∷ rs) (m ∷ ns) e h on stops =
+    (on.1.marked, marked_again theme set r.after m.after ls rs ns (omega (arith, e)) h.1 on.2 (λ lt. stops (omega (arith, lt))))
+
+-- that of a line
+pub marked_at : (s : LineStates) (rs : List Reading) (place : ℕ) (r : Reading) → AreMarked s rs → slice_get rs place ≡ Some r → r.ends_alike ≡ true → StandSame (ending s (take place rs)) r.after
+marked_at s [] place r h e m = absurd (none_is_some e)
+marked_at s (x ∷ rs) zero r h e m = subst (λ (y : Reading). IsMarked s y) (some_same e) h.0 m
+marked_at s (x ∷ rs) (suc place) r h e m = marked_at x.after rs place r h.1 e m
+
 -- ---- the states that readings leave ----
 
 pub ending_last : (s : LineStates) (rs : List Reading) (k : ℕ) (r : Reading) → slice_get rs k ≡ Some r → ending s (take (suc k) rs) ≡ r.after
 ending_last s [] k r e = absurd (none_is_some e)
 ending_last s (x ∷ rs) zero r e = ap (λ (y : Reading). y.after) (some_same e)
 ending_last s (x ∷ rs) (suc k) r e = ending_last x.after rs k r e
+
+-- behind a line that ends as it began the states stand as before it
+pub left_alike : (s : LineStates) (rs : List Reading) (place : ℕ) (r : Reading) → AreMarked s rs → slice_get rs place ≡ Some r → r.ends_alike ≡ true
+    → StandSame (ending s (take (place + 1) rs)) (ending s (take place rs))
+left_alike s rs place r h e m =
+    let n : suc place ≡ place + 1 = omega arith in
+    let here : r.after ≡ ending s (take (place + 1) rs) = sym (ending_last s rs place r e) ∙ ap (λ k. ending s (take k rs)) n in
+    subst (λ (x : LineStates). StandSame x (ending s (take place rs))) here (alike_back (ending s (take place rs)) r.after (marked_at s rs place r h e m))
+
+-- and as behind another one in its place that does too
+pub both_alike : (s : LineStates) (rs : List Reading) (place : ℕ) (r new : Reading) → AreMarked s rs → slice_get rs place ≡ Some r → r.ends_alike ≡ true
+    → IsMarked (ending s (take place rs)) new → new.ends_alike ≡ true → StandSame (ending s (take (place + 1) rs)) new.after
+both_alike s rs place r new h e m k n = alike_on (ending s (take (place + 1) rs)) (ending s (take place rs)) new.after (left_alike s rs place r h e m) (k n)
 
 pub ending_at : (s : LineStates) (rs : List Reading) (place : ℕ) (r : Reading) → 0 < place → slice_get rs (place - 1) ≡ Some r → r.after ≡ ending s (take place rs)
 ending_at s rs place r l e =

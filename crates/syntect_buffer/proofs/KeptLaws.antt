@@ -1,5 +1,5 @@
 -- What the three edits make.
-use Rattle.std.proofs.Common.{◌≡◌, ℕ, ◌+◌, ◌<◌, ◌≤◌, List, [], ◌∷◌, ◌++◌, length, map, take, drop, set, refl, sym, ap, ◌∙◌, arith, length-drop, String, Global}
+use Rattle.std.proofs.Common.{◌≡◌, ℕ, ◌+◌, ◌<◌, ◌≤◌, List, [], ◌∷◌, ◌++◌, length, map, take, drop, refl, ap, ◌∙◌, arith, length-drop, String, Global}
 use Rattle.std.specs.Prelude.{string_bytes, slice_set}
 use Rattle.std.proofs.lemmas.List.{length-map}
 use Rattle.std.specs.List.{insert, remove}
@@ -7,7 +7,6 @@ use Rattle.std.proofs.lemmas.List.Edits.{sets}
 use Rattle.syntect_theme.specs.declared.theme.Theme.{Theme}
 use Rattle.syntect_grammar.specs.declared.syntax_set.SyntaxSet.{SyntaxSet}
 use Rattle.syntect_buffer.specs.Kept.{IsReadFrom, AreReadAgain, IsEdited, ending, lines_in}
-use Rattle.syntect_buffer.specs.declared.states.LineStates.{LineStates}
 use Rattle.syntect_buffer.specs.declared.reading.Reading.{Reading}
 use Rattle.syntect_buffer.specs.declared.reading.Kept.{Kept}
 use Rattle.syntect_buffer.proofs.EditLaws.{own_sets, rest_sets, set_parts, remove_parts, map_own, map_rest}

@@ -1,15 +1,13 @@
 -- One line, read from the states at its start.
-use Rattle.std.proofs.Common.{◌≡◌, ℕ, ◌+◌, ◌<◌, ◌^◌, List, ◌∷◌, ◌++◌, length, map, Result, Ok, Err, sym, ap, subst, ◌∙◌, refl, arith, inl, inr}
+use Rattle.std.proofs.Common.{◌≡◌, ℕ, ◌+◌, ◌<◌, ◌^◌, Bool, false, List, length, Result, Ok, Err, sym, ap, subst, ◌∙◌, arith, inl, inr}
 use Rattle.std.specs.Borrow.{Bor}
+use Rattle.std.proofs.lemmas.Bool.{false≢true}
 use Rattle.std.specs.Global.{Vec}
 use Rattle.std.specs.declared.ops.Range.{Range}
 use Rattle.syntect_theme.specs.declared.style.Style.{Style}
 use Rattle.syntect_theme.specs.declared.theme.Theme.{Theme}
-use Rattle.syntect_style.specs.Styling.{shown}
-use Rattle.syntect_style.specs.declared.state.HighlightState.{HighlightState}
-use Rattle.syntect_parsing.specs.Line.{Answer, Accepted, RefusedBy}
+use Rattle.syntect_parsing.specs.Line.{Accepted, RefusedBy}
 use Rattle.syntect_parsing.specs.States.{standing}
-use Rattle.syntect_parsing.specs.declared.parser.ParseState.{ParseState}
 use Rattle.syntect_contexts.specs.declared.error.ParsingError.{ParsingError}
 use Rattle.syntect_grammar.specs.declared.syntax_set.SyntaxSet.{SyntaxSet}
 use Rattle.syntect_grammar.specs.declared.error.Error.{Error}
@@ -18,13 +16,12 @@ use Rattle.syntect.specs.Leads.{Past, IsPast, RunsOrderly, styles_of, reader_of}
 use Rattle.syntect.specs.Leads as leads
 use Rattle.syntect.specs.declared.easy.HighlightLines.{HighlightLines}
 use Rattle.syntect_buffer.specs.Answers.{Follow, IsRefusal, styles_in, total, ranges_from}
-use Rattle.syntect_buffer.specs.States.{Holds, IsLeft}
-use Rattle.syntect_buffer.specs.Kept.{Continues, IsReadFrom}
+use Rattle.syntect_buffer.specs.States.{Holds, StandSame, IsLeft}
+use Rattle.syntect_buffer.specs.Kept.{IsReadFrom}
 use Rattle.syntect_buffer.specs.declared.answer.LineAnswer.{LineAnswer}
 use Rattle.syntect_buffer.specs.declared.answer.LineAnswer.TheVariants as answer
 use Rattle.syntect_buffer.specs.declared.states.LineStates.{LineStates}
-use Rattle.syntect_buffer.specs.declared.reading.Reading.{Reading}
-use Rattle.syntect_buffer.proofs.HeldLaws.{holds_same}
+use Rattle.syntect_buffer.proofs.HeldLaws.{alike_here, holds_same}
 use Rattle.syntect_buffer.proofs.RangeLaws.{ranges_follow, ranges_styled}
 
 -- a highlighter was resumed from the states at a line's start
@@ -38,8 +35,9 @@ IsGiven set h new line r = (past : Past) → IsPast past set h → leads.Continu
 -- an accepted line
 pub accepted_line : (set : SyntaxSet) (theme : Theme) (before : LineStates) (line : Bor (List ℕ)) (h new : HighlightLines) (pieces : Vec (Style × Bor (List ℕ))) (ranges : Vec (Style × Range ℕ)) (after : LineStates)
     → IsResumed set theme before h → IsGiven set h new line (Ok pieces) → (total pieces.items < 2 ^ 64 → ranges.items ≡ ranges_from 0 pieces.items) → length line.now < 2 ^ 64
-    → after.styles ≡ styles_of new → after.reader ≡ reader_of new → IsReadFrom set theme before line.now (record { answer = answer.Pieces ranges; after = after })
+    → after.styles ≡ styles_of new → after.reader ≡ reader_of new → IsReadFrom set theme before line.now (record { answer = answer.Pieces ranges; after = after; ends_alike = false })
 accepted_line set theme before line h new pieces ranges after resumed given cut short s r = record {
+  marked = λ m. absurd (false≢true m);
   continues = λ past t k.
       let a = given past (resumed past k.holder t k.is_past k.styles k.reader) in
       let n : total pieces.items ≡ length line.now = ap length a.2.joined in
@@ -59,8 +57,9 @@ accepted_line set theme before line h new pieces ranges after resumed given cut 
 -- a refused one
 pub refused_line : (set : SyntaxSet) (theme : Theme) (before : LineStates) (line : Bor (List ℕ)) (h new : HighlightLines) (e : ParsingError) (a : LineAnswer) (after : LineStates)
     → IsResumed set theme before h → IsGiven set h new line (Err (error.ParsingError e)) → IsRefusal e a
-    → after.styles ≡ styles_of new → after.reader ≡ reader_of new → IsReadFrom set theme before line.now (record { answer = a; after = after })
+    → after.styles ≡ styles_of new → after.reader ≡ reader_of new → IsReadFrom set theme before line.now (record { answer = a; after = after; ends_alike = false })
 refused_line set theme before line h new e a after resumed given refusal s r = record {
+  marked = λ m. absurd (false≢true m);
   continues = λ past t k. record {
     given = RefusedBy e;
     holds = record { holder = new; is_past = given past (resumed past k.holder t k.is_past k.styles k.reader); styles = sym s; reader = ap standing (sym r) };
@@ -69,17 +68,27 @@ refused_line set theme before line h new e a after resumed given refusal s r = r
 }
 
 -- what a line leaves may be kept as the states before it, where those after it stand alike
-pub left_read : (set : SyntaxSet) (theme : Theme) (before : LineStates) (line : List ℕ) (a : LineAnswer) (after left : LineStates)
-    → IsReadFrom set theme before line (record { answer = a; after = after }) → IsLeft before after left → IsReadFrom set theme before line (record { answer = a; after = left })
-left_read set theme before line a after left h (inr e) = subst (λ (s : LineStates). IsReadFrom set theme before line (record { answer = a; after = s })) (sym e.0) h
-left_read set theme before line a after left h (inl same) =
-    let kept : IsReadFrom set theme before line (record { answer = a; after = before }) = record {
-      continues = λ past t k.
-          let c = h.continues past t k in
-          record {
-            given = c.given;
-            holds = holds_same theme set past (leads.and_then past line c.given) before after t t k c.holds same.1;
-            answer = c.answer;
-          };
-    } in
-    subst (λ (s : LineStates). IsReadFrom set theme before line (record { answer = a; after = s })) (sym same.0) kept
+pub left_read : (set : SyntaxSet) (theme : Theme) (before : LineStates) (line : List ℕ) (a : LineAnswer) (after left : LineStates) (alike : Bool)
+    → IsReadFrom set theme before line (record { answer = a; after = after; ends_alike = false }) → IsLeft before after left alike
+    → IsReadFrom set theme before line (record { answer = a; after = left; ends_alike = alike })
+left_read set theme before line a after left alike h (inr e) = record {
+  marked = λ m. absurd (false≢true (sym e.2 ∙ m));
+  continues = λ past t k.
+      let c = h.continues past t k in
+      record {
+        given = c.given;
+        holds = subst (λ (s : LineStates). Holds (leads.and_then past line c.given) set s) (sym e.0) c.holds;
+        answer = c.answer;
+      };
+}
+left_read set theme before line a after left alike h (inl same) = record {
+  marked = λ m. subst (λ (s : LineStates). StandSame before s) (sym same.0) (alike_here before);
+  continues = λ past t k.
+      let c = h.continues past t k in
+      record {
+        given = c.given;
+        holds = subst (λ (s : LineStates). Holds (leads.and_then past line c.given) set s) (sym same.0)
+            (holds_same theme set past (leads.and_then past line c.given) before after t t k c.holds same.1);
+        answer = c.answer;
+      };
+}

@@ -1,12 +1,12 @@
 -- A buffer without lines.
-use Rattle.std.proofs.Common.{◌≡◌, List, [], length, map, refl, sym, ap, subst, ◌∙◌, string_bytes, String, Global}
+use Rattle.std.proofs.Common.{◌≡◌, List, [], length, map, sym, ap, subst, ◌∙◌, string_bytes, String, Global}
 use Rattle.syntect_theme.specs.declared.theme.Theme.{Theme}
 use Rattle.syntect_parsing.specs.States.{standing}
 use Rattle.syntect_contexts.specs.declared.syntax_reference.SyntaxReference.{SyntaxReference}
 use Rattle.syntect_grammar.specs.declared.syntax_set.SyntaxSet.{SyntaxSet}
 use Rattle.syntect.specs.Leads.{Leads, styles_of, reader_of}
 use Rattle.syntect.specs.declared.easy.HighlightLines.{HighlightLines}
-use Rattle.syntect_buffer.specs.Kept.{AreReadFrom, IsKept, lines_in}
+use Rattle.syntect_buffer.specs.Kept.{AreMarked, AreReadFrom, IsKept, lines_in}
 use Rattle.syntect_buffer.specs.declared.reading.Reading.{Reading}
 use Rattle.syntect_buffer.specs.declared.reading.Kept.{Kept}
 
@@ -14,6 +14,7 @@ pub kept_none : (set : SyntaxSet) (theme : Theme) (syntax : SyntaxReference) (h 
     → kept.start.styles ≡ styles_of h → kept.start.reader ≡ reader_of h → kept.lines ≡ [] → kept.readings ≡ [] → IsKept set theme syntax kept
 kept_none set theme syntax h kept leads s r l n = record {
   count = ap (λ (xs : List (String Global)). length (map string_bytes xs)) l ∙ sym (ap length n);
+  marked = subst (λ (rs : List Reading). AreMarked kept.start rs) (sym n) tt;
   starts = λ definitions b. record {
     holder = h;
     is_past = record { built = b; leads = leads set };

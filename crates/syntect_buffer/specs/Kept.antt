@@ -1,5 +1,5 @@
 -- What a buffer keeps of its lines, and what is read again.
-use Rattle.std.specs.Prelude.{◌≡◌, ℕ, ◌+◌, ◌<◌, ◌≤◌, List, [], ◌∷◌, ◌++◌, length, take, drop, map, string_bytes}
+use Rattle.std.specs.Prelude.{◌≡◌, true, ℕ, ◌+◌, ◌<◌, ◌≤◌, List, [], ◌∷◌, ◌++◌, length, take, drop, map, string_bytes}
 use Rattle.syntect_theme.specs.declared.theme.Theme.{Theme}
 use Rattle.syntect_parsing.specs.Line.{Answer}
 use Rattle.syntect_loader.specs.declared.definition.SyntaxDefinition.{SyntaxDefinition}
@@ -22,8 +22,13 @@ pub record Continues (past : Past) (set : SyntaxSet) (line : List ℕ) (r : Read
   pub holds : Holds (and_then past line given) set r.after
   pub answer : IsAnswer (RunsOrderly set past.syntax (past.lines ++ line ∷ [])) past.theme line given r.answer
 
+-- a reading that begins with these states ends alike where its mark says so
+abbrev pub IsMarked : LineStates → Reading → Type 0
+IsMarked before r = r.ends_alike ≡ true → StandSame before r.after
+
 -- The line was read from these states: whatever past leads to them, the reading continues it.
 pub record IsReadFrom (set : SyntaxSet) (theme : Theme) (before : LineStates) (line : List ℕ) (r : Reading) : Type 0 where
+  pub marked : IsMarked before r
   pub continues : (past : Past) → past.theme ≡ theme → Holds past set before → Continues past set line r
 
 -- ---- lines one after another ----
@@ -39,6 +44,11 @@ AreReadFrom set theme s [] [] = Unit {0}
 AreReadFrom set theme s (l ∷ ls) (r ∷ rs) = IsReadFrom set theme s l r × AreReadFrom set theme r.after ls rs
 AreReadFrom set theme s ls rs = ⊥
 
+-- the marks of readings that begin with these states hold
+abbrev pub AreMarked : LineStates → List Reading → Type 0
+AreMarked s [] = Unit {0}
+AreMarked s (r ∷ rs) = IsMarked s r × AreMarked r.after rs
+
 -- the texts of the lines
 abbrev pub lines_in : Kept → List (List ℕ)
 lines_in k = map string_bytes k.lines
@@ -47,10 +57,11 @@ lines_in k = map string_bytes k.lines
 abbrev pub seen : SyntaxReference → SyntaxSet → Theme → Kept → Buffer
 seen syntax set theme k = record { syntax = syntax; set = set; theme = theme; lines = lines_in k; answers = map (λ r. r.answer) k.readings }
 
--- What a buffer keeps: there are as many readings as lines, and for all definitions that the set is built of, the first states are
+-- What a buffer keeps: there are as many readings as lines, their marks hold, and for all definitions that the set is built of, the first states are
 -- those before a text, and each line was read from the states that the one before it left.
 pub record IsKept (set : SyntaxSet) (theme : Theme) (syntax : SyntaxReference) (kept : Kept) : Type 0 where
   pub count : length (lines_in kept) ≡ length kept.readings
+  pub marked : AreMarked kept.start kept.readings
   pub starts : (definitions : List SyntaxDefinition) → IsBuiltOf set syntax definitions → Holds (no_lines definitions theme syntax) set kept.start
   pub read : (definitions : List SyntaxDefinition) → IsBuiltOf set syntax definitions → AreReadFrom set theme kept.start (lines_in kept) kept.readings
 

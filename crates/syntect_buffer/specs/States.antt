@@ -1,5 +1,5 @@
 -- The states at the start of a line, and pasts that lead there.
-use Rattle.std.specs.Prelude.{◌≡◌, ◌⊎◌, ℕ, List, [], ◌∷◌, ◌++◌}
+use Rattle.std.specs.Prelude.{◌≡◌, ◌⊎◌, ℕ, Bool, true, false, List, [], ◌∷◌, ◌++◌}
 use Rattle.syntect_style.specs.Pieces.{path_of}
 use Rattle.syntect_theme.specs.declared.theme.Theme.{Theme}
 use Rattle.syntect_parsing.specs.Line.{Answer}
@@ -16,9 +16,10 @@ pub record StandSame (a b : LineStates) : Type 0 where
   pub reader : standing a.reader ≡ standing b.reader
   pub styles : path_of a.styles ≡ path_of b.styles
 
--- What a line leaves: the states that were there before it, where those after it stand alike, or else those after it.
-abbrev pub IsLeft : LineStates → LineStates → LineStates → Type 0
-IsLeft before after left = ((left ≡ before) × StandSame before after) ⊎ ((left ≡ after) × ¬ (StandSame before after))
+-- What a line leaves: the states that were there before it, where those after it stand alike, or else those after it. A mark
+-- says which.
+abbrev pub IsLeft : LineStates → LineStates → LineStates → Bool → Type 0
+IsLeft before after left alike = ((left ≡ before) × StandSame before after × (alike ≡ true)) ⊎ ((left ≡ after) × ¬ (StandSame before after) × (alike ≡ false))
 
 -- a highlighter with this past holds these states
 pub record Holds (past : Past) (set : SyntaxSet) (s : LineStates) : Type 0 where

@@ -1,6 +1,6 @@
 //! Edits of what a buffer keeps.
 ghost use Rattle.std.specs.Prelude.{◌≡◌, ◌+◌, ◌<◌, ◌≤◌, [], ◌∷◌, length, insert, string_bytes, IfOk, OnOk, OnErr};
-ghost use Rattle.syntect_buffer.specs.Kept.{IsEdited};
+ghost use Rattle.syntect_buffer.specs.Kept.{AreMarked, IsEdited};
 
 use crate::reading::{Kept, Reading, read, read_again, renew, states_at};
 use std::alloc::{AllocError, Global};
@@ -45,7 +45,8 @@ pub(crate) fn insert_at(
 {
     let before = states_at(&kept.start, &kept.readings, place);
     let reading = read(alloc, set, theme, before, line.as_str())?;
-    let again = read_again(alloc, set, theme, kept, place, &reading.after)?;
+    let alike = reading.ends_alike;
+    let again = read_again(alloc, set, theme, kept, place, &reading.after, alike)?;
     put_in(kept, place, line, reading)?;
     let number = 1 + again.len();
     let count = kept.lines.len();
@@ -65,6 +66,7 @@ pub(crate) fn set_at(
 ) -> Result<usize, AllocError>
     requires count { length kept.old.lines ≡ length kept.old.readings }
     requires within { place < length kept.old.readings }
+    requires marked { AreMarked kept.old.start kept.old.readings }
     ensures ok { IfOk result (λ number. IsEdited set.now theme.now kept.old kept.new
         place (place + 1) (string_bytes line ∷ []) number) }
     ensures err { OnErr result (kept.new ≡ kept.old) }
@@ -73,7 +75,8 @@ pub(crate) fn set_at(
     prove!(place < count);
     let before = states_at(&kept.start, &kept.readings, place);
     let reading = read(alloc, set, theme, before, line.as_str())?;
-    let again = read_again(alloc, set, theme, kept, place + 1, &reading.after)?;
+    let alike = reading.ends_alike && kept.readings.get(place).ends_alike;
+    let again = read_again(alloc, set, theme, kept, place + 1, &reading.after, alike)?;
     let number = 1 + again.len();
     kept.lines.set(place, line);
     kept.readings.set(place, reading);
@@ -91,6 +94,7 @@ pub(crate) fn remove_at(
 ) -> Result<usize, AllocError>
     requires count { length kept.old.lines ≡ length kept.old.readings }
     requires within { place < length kept.old.readings }
+    requires marked { AreMarked kept.old.start kept.old.readings }
     ensures ok { IfOk result (λ number. IsEdited set.now theme.now kept.old kept.new
         place (place + 1) [] number) }
     ensures err { OnErr result (kept.new ≡ kept.old) }
@@ -98,7 +102,8 @@ pub(crate) fn remove_at(
     let count = kept.lines.len();
     prove!(place < count);
     let before = states_at(&kept.start, &kept.readings, place);
-    let again = read_again(alloc, set, theme, kept, place + 1, before)?;
+    let alike = kept.readings.get(place).ends_alike;
+    let again = read_again(alloc, set, theme, kept, place + 1, before, alike)?;
     let number = again.len();
     let _ = kept.lines.remove(place);
     let _ = kept.readings.remove(place);

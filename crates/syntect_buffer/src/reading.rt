@@ -1,7 +1,8 @@
 //! Readings of lines, one after another.
-ghost use Rattle.std.specs.Prelude.{◌≡◌, ◌+◌, ◌≤◌, length, take, drop, IfOk};
+ghost use Rattle.std.specs.Prelude.{◌≡◌, ◌+◌, ◌≤◌, true, length, take, drop, IfOk};
 ghost use Rattle.std.proofs.lemmas.List.Edits.{sets};
 ghost use Rattle.syntect_buffer.specs.Kept.{IsReadFrom, AreReadAgain, ending, lines_in};
+ghost use Rattle.syntect_buffer.specs.States.{StandSame};
 
 use crate::answer::{LineAnswer, ranges_of, refusal};
 use crate::states::{LineStates, SharedStates, copied, left, stand_same};
@@ -17,6 +18,8 @@ use syntect_theme::theme::Theme;
 pub(crate) struct Reading {
     pub(crate) answer: LineAnswer,
     pub(crate) after: SharedStates,
+    /// Whether the line ends as it began, so that it shares the states at its start.
+    pub(crate) ends_alike: bool,
 }
 
 /// The lines of a buffer, their readings, and the states before the first one.
@@ -48,8 +51,12 @@ pub(crate) fn read(
         Err(_) => return Err(AllocError),
     };
     let (styles, reader) = lines.state();
-    let after = left(alloc, before, LineStates { styles, reader })?;
-    Ok(Reading { answer, after })
+    let (after, ends_alike) = left(alloc, before, LineStates { styles, reader })?;
+    Ok(Reading {
+        answer,
+        after,
+        ends_alike,
+    })
 }
 
 /// The states at the start of a line, where the first line starts from `start`; behind the last line, those after it.
@@ -79,7 +86,7 @@ fn states_after<'a>(now: &'a SharedStates, readings: &'a [Reading]) -> &'a Share
 }
 
 /// Reads lines again from a place on, where the states are now these: up to, and without, the first line that starts from
-/// the same states as before, or to the end.
+/// the same states as before, or to the end. Where it is known that the first one does, no states are compared.
 pub(crate) fn read_again(
     alloc: Global,
     set: &SyntaxSet,
@@ -87,14 +94,20 @@ pub(crate) fn read_again(
     kept: &Kept,
     place: usize,
     now: &SharedStates,
+    alike: bool,
 ) -> Result<Vec<Reading>, AllocError>
     requires count { length kept.now.lines ≡ length kept.now.readings }
+    requires alike { alike ≡ true
+        → StandSame (ending kept.now.start (take place kept.now.readings)) now.now }
     requires within { place ≤ length kept.now.readings }
     ensures { IfOk result (λ again. AreReadAgain set.now theme.now now.now
         (ending kept.now.start (take place kept.now.readings))
         (drop place (lines_in kept.now)) (drop place kept.now.readings) again.items) }
 {
     let mut again = Vec::new(alloc);
+    if alike {
+        return Ok(again);
+    }
     for at in place..kept.lines.len() {
         let before = states_after(now, again.as_slice());
         if stand_same(states_at(&kept.start, &kept.readings, at), before) {

@@ -71,18 +71,18 @@ pub(crate) fn stand_same(a: &SharedStates, b: &SharedStates) -> bool
 }
 
 /// What a line leaves that begins with the first states: those themselves where it ends as it began, so that no line keeps
-/// states that the line before it has.
+/// states that the line before it has; and whether it does.
 pub(crate) fn left(
     alloc: Global,
     before: &SharedStates,
     after: LineStates,
-) -> Result<SharedStates, AllocError>
-    ensures { IfOk result (IsLeft before.now after) }
+) -> Result<(SharedStates, bool), AllocError>
+    ensures { IfOk result (λ p. IsLeft before.now after p.0 p.1) }
 {
     if are_same(before.states(), &after) {
-        before.share()
+        Ok((before.share()?, true))
     } else {
-        SharedStates::new(alloc, after)
+        Ok((SharedStates::new(alloc, after)?, false))
     }
 }
 

@@ -1,9 +1,7 @@
-use Rattle.std.proofs.Common.{◌≡◌, ℕ, ◌+◌, List, ◌∷◌, [], ap, sym, subst, ◌∙◌, arith, length, string_bytes}
-use Rattle.std.specs.List.{insert}
+use Rattle.std.proofs.Common.{◌≡◌, ℕ, ◌+◌, List, ◌∷◌, [], ap, subst, ◌∙◌, arith, length, string_bytes}
 use Rattle.std.proofs.lemmas.List.Edits.{sets}
 use Rattle.syntect_buffer.specs.Kept.{IsReadFrom, IsEdited}
 use Rattle.syntect_buffer.specs.declared.states.LineStates.{LineStates}
-use Rattle.syntect_buffer.specs.declared.reading.Reading.{Reading}
 use Rattle.syntect_buffer.specs.declared.reading.Kept.{Kept}
 use Rattle.syntect_buffer.proofs.KeptLaws.{inserted}
 use Rattle.syntect_buffer.proofs.edits.insert_at.Goals as goal

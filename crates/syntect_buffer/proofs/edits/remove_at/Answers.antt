@@ -1,10 +1,11 @@
 use Rattle.std.proofs.Common.{◌≡◌, ℕ, ◌+◌, List, [], ap, sym, subst, ◌∙◌, arith, refl, length, drop, take, length-drop, string_bytes}
 use Rattle.std.proofs.lemmas.List.{length-map}
 use Rattle.std.proofs.lemmas.List.Edits.{sets, length-remove}
+use Rattle.syntect_buffer.specs.States.{StandSame}
 use Rattle.syntect_buffer.specs.Kept.{AreReadAgain, IsEdited, ending, lines_in}
 use Rattle.syntect_buffer.specs.declared.states.LineStates.{LineStates}
 use Rattle.syntect_buffer.specs.declared.reading.Reading.{Reading}
-use Rattle.syntect_buffer.specs.declared.reading.Kept.{Kept}
+use Rattle.syntect_buffer.proofs.HeldLaws.{left_alike}
 use Rattle.syntect_buffer.proofs.KeptLaws.{removed}
 use Rattle.syntect_buffer.proofs.edits.remove_at.Goals as goal
 
@@ -34,3 +35,9 @@ renew-requires c =
       length-map old.lines string_bytes,
       c.requires.count,
     )
+
+pub read_again-requires-clause-alike : goal.read_again-requires-clause-alike
+read_again-requires-clause-alike c = λ marked.
+    let old = c.args.kept.now in
+    subst (λ (s : LineStates). StandSame (ending old.start (take (c.args.place + 1) old.readings)) s) (sym c.states_at-before.ensures)
+    (left_alike old.start old.readings c.args.place c.get.result.now c.requires.marked c.get.ensures marked)

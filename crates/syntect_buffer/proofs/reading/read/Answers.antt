@@ -1,4 +1,4 @@
-use Rattle.std.proofs.Common.{sym, ◌∙◌, ap, subst, arith}
+use Rattle.std.proofs.Common.{false, sym, ◌∙◌, ap, subst, arith}
 use Rattle.syntect_parsing.specs.States.{standing}
 use Rattle.syntect_buffer.specs.Kept.{IsReadFrom}
 use Rattle.syntect_buffer.specs.declared.answer.LineAnswer.{LineAnswer}
@@ -17,10 +17,10 @@ returns c =
     λ past k t p e f. c.in_ok-lines.ensures.leads past set k t p
     (e ∙ ap (λ (s : LineStates). s.styles) (sym c.states-states.ensures) ∙ sym c.in_ok-styles.ensures)
     (f ∙ ap (λ (s : LineStates). standing s.reader) (sym c.states-states.ensures) ∙ sym (ap standing c.in_ok-reader.ensures)) in
-    let read : IsReadFrom set theme before c.args.line.now (record { answer = c.match-highlight_line.answer; after = after }) = elim c.match-highlight_line.branch [
-      | in-Ok+in_ok-ranges_of-in-Ok w ↦ subst (λ (a : LineAnswer). IsReadFrom set theme before c.args.line.now (record { answer = a; after = after })) (sym w.answer-is)
+    let read : IsReadFrom set theme before c.args.line.now (record { answer = c.match-highlight_line.answer; after = after; ends_alike = false }) = elim c.match-highlight_line.branch [
+      | in-Ok+in_ok-ranges_of-in-Ok w ↦ subst (λ (a : LineAnswer). IsReadFrom set theme before c.args.line.now (record { answer = a; after = after; ends_alike = false })) (sym w.answer-is)
           (accepted_line set theme before c.args.line c.in_ok-lines.lines c.highlight_line.new.self w.in-Ok.pieces w.in_ok-ranges_of-in-Ok.field-0 after resumed w.in-Ok.ensures.answered (rw w.as_slice.ensures.value at w.in_ok-ranges_of-in-Ok.ensures) (omega (arith, c.if-prove.false)) c.state-styles.ensures.highlight c.state-styles.ensures.parse)
-      | in-Err-ParsingError+in_ok-answer-in-Err-ParsingError w ↦ subst (λ (a : LineAnswer). IsReadFrom set theme before c.args.line.now (record { answer = a; after = after })) (sym w.answer-is)
+      | in-Err-ParsingError+in_ok-answer-in-Err-ParsingError w ↦ subst (λ (a : LineAnswer). IsReadFrom set theme before c.args.line.now (record { answer = a; after = after; ends_alike = false })) (sym w.answer-is)
           (refused_line set theme before c.args.line c.in_ok-lines.lines c.highlight_line.new.self w.in-Err-ParsingError.e w.in_ok-answer-in-Err-ParsingError.answer after resumed (rw w.in-Err-ParsingError.field-0-is at w.in-Err-ParsingError.ensures.answered) w.in_ok-answer-in-Err-ParsingError.ensures c.state-styles.ensures.highlight c.state-styles.ensures.parse)
     ] in
-    left_read set theme before c.args.line.now c.match-highlight_line.answer after c.in_ok-after.after read c.in_ok-after.ensures
+    left_read set theme before c.args.line.now c.match-highlight_line.answer after c.in_ok-after.after c.in_ok-after.ends_alike read c.in_ok-after.ensures

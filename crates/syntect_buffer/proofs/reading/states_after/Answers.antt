@@ -1,5 +1,4 @@
-use Rattle.std.proofs.Common.{ap, sym, ◌∙◌}
-use Rattle.std.specs.Option.{option_copied}
+use Rattle.std.proofs.Common.{sym}
 use Rattle.syntect_buffer.proofs.HeldLaws.{ending_all}
 use Rattle.syntect_buffer.proofs.reading.states_after.Goals as goal
 

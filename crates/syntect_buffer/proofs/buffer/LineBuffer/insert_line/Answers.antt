@@ -1,6 +1,5 @@
-use Rattle.std.proofs.Common.{◌≡◌, ◌+◌, ◌<◌, ◌≤◌, ◌∷◌, [], ap, sym, ◌∙◌, arith, length, string_bytes}
+use Rattle.std.proofs.Common.{◌+◌, ◌≤◌, ◌∷◌, [], ap, arith, length, string_bytes}
 use Rattle.syntect_buffer.specs.Fresh.{Buffer}
-use Rattle.syntect_buffer.specs.Kept.{lines_in}
 use Rattle.syntect_buffer.proofs.FreshLaws.{kept_after, number_after}
 use Rattle.syntect_buffer.proofs.buffer.LineBuffer.insert_line.Goals as goal
 

@@ -1,4 +1,4 @@
-use Rattle.std.proofs.Common.{◌≡◌, ◌+◌, ◌<◌, ◌≤◌, ◌∷◌, [], ap, sym, ◌∙◌, arith, length, string_bytes}
+use Rattle.std.proofs.Common.{◌+◌, ◌<◌, ◌≤◌, ◌∷◌, [], ap, sym, ◌∙◌, arith, length, string_bytes}
 use Rattle.std.proofs.lemmas.Result.{on_ok_weaker}
 use Rattle.syntect_buffer.proofs.EditLaws.{set_parts}
 use Rattle.syntect_buffer.specs.Fresh.{Buffer}
