@@ -79,4 +79,4 @@ pub exact_unshown : {set : SyntaxSet} {theme : Theme} {syntax : SyntaxReference}
     → (e ≡ scope.NoClearedScopesToRestore → ¬ AllApply (path_of (styles_of h)) ops) → RefusedExactly set line.now h (Err (from_scope e))
 exact_unshown p line new ops scope.Memory a n = tt
 exact_unshown {set} {theme} {syntax} {definitions} {lines} {answers} {h} p line new ops scope.NoClearedScopesToRestore a n =
-    lead_unshown set theme syntax lines answers line h new ops scope.NoClearedScopesToRestore (built_begins_plain set syntax definitions p.built) p.leads a n
+    lead_unshown set theme syntax lines answers line h h new ops scope.NoClearedScopesToRestore (built_begins_plain set syntax definitions p.built) p.leads a n

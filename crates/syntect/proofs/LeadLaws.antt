@@ -147,11 +147,11 @@ plain_here : (set : SyntaxSet) (theme : Theme) (syntax : SyntaxReference) (lines
 plain_here set theme syntax lines answers h opens b l = opens dialect set lines l.start (standing (reader_of h)) answers (b l.start l.begins) l.run
 
 -- operations of an accepted line are never refused
-pub lead_unshown : (set : SyntaxSet) (theme : Theme) (syntax : SyntaxReference) (lines : List (List ℕ)) (answers : List Answer) (line : Bor (List ℕ)) (h : HighlightLines) (new : Standing) (ops : List (ℕ × ScopeStackOp)) (e : ScopeError)
+pub lead_unshown : (set : SyntaxSet) (theme : Theme) (syntax : SyntaxReference) (lines : List (List ℕ)) (answers : List Answer) (line : Bor (List ℕ)) (h next : HighlightLines) (new : Standing) (ops : List (ℕ × ScopeStackOp)) (e : ScopeError)
     → BeginsPlain set syntax → Leads set theme syntax lines answers h → Accepts dialect set line.now (standing (reader_of h)) new ops
-    → (e ≡ scope.NoClearedScopesToRestore → ¬ AllApply (path_of (styles_of h)) ops) → LeadsOn set theme syntax lines answers line h (Err (from_scope e))
-lead_unshown set theme syntax lines answers line h new ops scope.Memory b l a n = tt
-lead_unshown set theme syntax lines answers line h new ops scope.NoClearedScopesToRestore b l a n =
+    → (e ≡ scope.NoClearedScopesToRestore → ¬ AllApply (path_of (styles_of h)) ops) → LeadsOn set theme syntax lines answers line next (Err (from_scope e))
+lead_unshown set theme syntax lines answers line h next new ops scope.Memory b l a n = tt
+lead_unshown set theme syntax lines answers line h next new ops scope.NoClearedScopesToRestore b l a n =
     n refl (a.means.apply (path_of (styles_of h)) (l.remembers b)).0
 
 -- what the caller of `collect_pieces` holds
@@ -161,25 +161,26 @@ pub record Shown (theme : Theme) (line : List ℕ) (old new : HighlightState) (o
   pub path : path_of new ≡ (replay ops (before_text (path_of old))).stack
   pub keeps : Keeps theme old → Keeps theme new
 
-pub lead_accepted : (set : SyntaxSet) (theme : Theme) (syntax : SyntaxReference) (lines : List (List ℕ)) (answers : List Answer) (line : Bor (List ℕ)) (h : HighlightLines) (new : ParseState) (state : HighlightState)
-    (ops : List (ℕ × ScopeStackOp)) (pieces : Vec (Style × Bor (List ℕ))) → AnswersMore → StackIsOpen → BeginsPlain set syntax → Leads set theme syntax lines answers h → Accepts dialect set line.now (standing (reader_of h)) (standing new) ops
-    → Shown (theme_of h) line.now (styles_of h) state ops pieces.items
-    → LeadsOn set theme syntax lines answers line (record { highlighter = h.highlighter; parse_state = new; highlight_state = state }) (Ok pieces)
-lead_accepted set theme syntax lines answers line h new state ops pieces more opens b l a w =
-    let m : Means dialect set line.now (standing (reader_of h)) (standing new) a.bytes ops = a.means in
-    let x : Shown theme line.now (styles_of h) state ops pieces.items = rw l.theme_is at w in (
+pub lead_accepted : (set : SyntaxSet) (theme : Theme) (syntax : SyntaxReference) (lines : List (List ℕ)) (answers : List Answer) (line : Bor (List ℕ)) (h next : HighlightLines)
+    (ops : List (ℕ × ScopeStackOp)) (pieces : Vec (Style × Bor (List ℕ))) → AnswersMore → StackIsOpen → BeginsPlain set syntax → Leads set theme syntax lines answers h
+    → Accepts dialect set line.now (standing (reader_of h)) (standing (reader_of next)) ops
+    → Shown (theme_of h) line.now (styles_of h) (styles_of next) ops pieces.items → theme_of next ≡ theme_of h
+    → LeadsOn set theme syntax lines answers line next (Ok pieces)
+lead_accepted set theme syntax lines answers line h next ops pieces more opens b l a w t =
+    let m : Means dialect set line.now (standing (reader_of h)) (standing (reader_of next)) a.bytes ops = a.means in
+    let x : Shown theme line.now (styles_of h) (styles_of next) ops pieces.items = rw l.theme_is at w in (
       a.bytes,
-      leads-more set theme syntax lines answers line.now h (record { highlighter = h.highlighter; parse_state = new; highlight_state = state }) (Accepted a.bytes) more l (accepts a.reads)
+      leads-more set theme syntax lines answers line.now h next (Accepted a.bytes) more l (accepts a.reads)
           (λ o. rw (l.path (orderly_before set syntax lines line.now o)) at x.path ∙ (at_end o).stack)
-          (λ p. subst (λ (s : ScopeStack). Remembers set (standing new).levels s) (sym x.path) (m.apply (path_of (styles_of h)) (l.remembers p)).1)
-          l.theme_is (x.keeps l.keeps),
+          (λ p. subst (λ (s : ScopeStack). Remembers set (standing (reader_of next)).levels s) (sym x.path) (m.apply (path_of (styles_of h)) (l.remembers p)).1)
+          (t ∙ l.theme_is) (x.keeps l.keeps),
       w.joins,
       λ o.
           let y : IsStyled theme (bytes_to (replay ops (before_text (path_of (styles_of h)))) (length line.now)) pieces.items = x.styled l.keeps in
           rw (at_end o).before at (rw (l.path (orderly_before set syntax lines line.now o)) at y),
     )
   where
-    at_end : RunsOrderly set syntax (lines ++ line.now ∷ []) → IsAt (replay ops (before_text (stack_before set (standing (reader_of h))))) (length line.now) a.bytes (stack_before set (standing new))
+    at_end : RunsOrderly set syntax (lines ++ line.now ∷ []) → IsAt (replay ops (before_text (stack_before set (standing (reader_of h))))) (length line.now) a.bytes (stack_before set (standing (reader_of next)))
     at_end o = a.means.shows (plain_here set theme syntax lines answers h opens b l) (orderly_last set theme syntax lines answers line.now h o l)
 
 -- ---- with the past ----

@@ -8,7 +8,6 @@ ghost use Rattle.syntect_classed.specs.Classes.{prefix_of};
 ghost use Rattle.syntect_classed.specs.Marks.{marks, written, stack_after, some_refused};
 ghost use Rattle.syntect_scope.specs.Replay.{InOrder};
 
-use crate::easy::copied;
 use std::alloc::{AllocError, Global};
 use syntect_classed::spans;
 pub use syntect_classed::style::ClassStyle;
@@ -108,8 +107,7 @@ impl<'a> ClassedHTMLGenerator<'a> {
         ensures err { OnErr result (StaysAt self.old self.new) }
     {
         let alloc = *self.html.allocator();
-        let mut parse_state = copied(&self.parse_state)?;
-        let ops = parse_state.parse_line(alloc, line, self.syntax_set)?;
+        let (parse_state, ops) = self.parse_state.after_line(alloc, line, self.syntax_set)?;
         let mut scope_stack = self.scope_stack.clone()?;
         let (text, _) = line_tokens_to_classed_spans(
             alloc,

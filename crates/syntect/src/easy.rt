@@ -11,10 +11,10 @@ ghost use Rattle.syntect.specs.declared.easy.HighlightLines.{HighlightLines as A
 
 use crate::reading::first_line;
 use std::alloc::{AllocError, Global};
-use std::fs;
 use std::io::{BufRead, BufReader, Read};
 use std::path::Path;
 use std::rt::Files;
+use std::{fs, mem};
 pub use syntect_operations::ranges::{ScopeRangeIterator, ScopeRegionIterator};
 use syntect_parsing::error::Error;
 use syntect_parsing::laws::{
@@ -34,6 +34,8 @@ pub struct HighlightLines<'a> {
     highlighter: Highlighter<'a>,
     parse_state: ParseState,
     highlight_state: HighlightState,
+    /// The styles are worked out in it, line by line, so that a refusal leaves those before the line.
+    spare: HighlightState,
 }
 
 /// Written out, so that crates above call it and needn't prove each part's drop again.
@@ -43,6 +45,7 @@ impl<'a> Drop for HighlightLines<'a> {
             highlighter: _,
             parse_state: _,
             highlight_state: _,
+            spare: _,
         } = self;
     }
 }
@@ -66,10 +69,12 @@ impl<'a> HighlightLines<'a> {
         let highlighter = Highlighter::new(alloc, theme)?;
         let parse_state = ParseState::new(alloc, syntax)?;
         let highlight_state = HighlightState::new(&highlighter, ScopeStack::new(alloc));
+        let spare = HighlightState::new(&highlighter, ScopeStack::new(alloc));
         Ok(HighlightLines {
             highlighter,
             parse_state,
             highlight_state,
+            spare,
         })
     }
 
@@ -88,10 +93,12 @@ impl<'a> HighlightLines<'a> {
             → IfOk result (IsPast past set) }
     {
         let ready = Highlighter::new(alloc, theme)?;
+        let spare = HighlightState::new(&ready, ScopeStack::new(alloc));
         Ok(HighlightLines {
             highlighter: ready,
             parse_state,
             highlight_state,
+            spare,
         })
     }
 
@@ -104,8 +111,10 @@ impl<'a> HighlightLines<'a> {
             highlighter,
             parse_state,
             highlight_state,
+            spare,
         } = self;
         drop(highlighter);
+        drop(spare);
         (highlight_state, parse_state)
     }
 
@@ -131,18 +140,17 @@ impl<'a> HighlightLines<'a> {
         never_both();
         refuses_unresolved();
         links_closed();
-        let mut parse_state = copied(&self.parse_state)?;
-        let mut highlight_state = self.highlight_state.clone()?;
-        let ops = parse_state.parse_line(alloc, line, syntax_set)?;
+        let (parse_state, ops) = self.parse_state.after_line(alloc, line, syntax_set)?;
+        self.spare.clone_from(&self.highlight_state)?;
         let pieces = collect_pieces(
             alloc,
             &self.highlighter,
-            &mut highlight_state,
+            &mut self.spare,
             ops.as_slice(),
             line,
         )?;
         self.parse_state = parse_state;
-        self.highlight_state = highlight_state;
+        mem::swap(&mut self.highlight_state, &mut self.spare);
         Ok(pieces)
     }
 }
@@ -231,11 +239,4 @@ fn syntax_for<'s, R: BufRead>(
         },
         Err(_) => Err(Error::Memory),
     }
-}
-
-/// The same state once more.
-pub(crate) fn copied(state: &ParseState) -> Result<ParseState, AllocError>
-    ensures { IfOk result (λ s. s ≡ state.now) }
-{
-    state.clone()
 }

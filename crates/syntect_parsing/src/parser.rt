@@ -120,6 +120,33 @@ impl ParseState {
         *standing = left;
         Ok(ops)
     }
+
+    /// The state after the next line, and its operations, as `parse_line` leaves and answers them. This state stays, so it
+    /// needn't be copied where it may be wanted again. Refused as `parse_line` is.
+    pub fn after_line(
+        &self,
+        alloc: Global,
+        line: &str,
+        syntax_set: &SyntaxSet,
+    ) -> Result<(ParseState, Vec<(usize, ScopeStackOp)>), ParsingError>
+        ensures accepted { IfOk result (λ r. Accepts dialect syntax_set.now line.now
+            (standing self.now) (standing r.0) r.1.items) }
+        ensures refused { IfErr result (
+            MayRefuse dialect syntax_set.now line.now (standing self.now)) }
+        ensures taken { IfOk result (λ r. TakesAll dialect syntax_set.now line.now
+            (standing self.now) (turns_made self.now) (turns_made r.0)) }
+        ensures bound { IfOk result (λ r. turns_made r.0
+            ≤ turns_made self.now + most_turns syntax_set.now line.now (standing self.now)) }
+    {
+        if self.standing.levels.is_empty() {
+            return Err(ParsingError::MissingMainContext);
+        }
+        let mut count = self.count.copy();
+        match read_line(alloc, syntax_set, line, &self.standing, &mut count) {
+            Ok((standing, ops, _)) => Ok((ParseState { standing, count }, ops)),
+            Err(e) => Err(e),
+        }
+    }
 }
 
 /// How many turns a line takes from a state, which stays as it is: the greatest number of a `u64` where it is more. No call of

@@ -60,6 +60,15 @@ impl KeptStyles {
         })
     }
 
+    /// Becomes the same as another one, in the memory that it has where that is enough; nothing after an `Err`.
+    pub(crate) fn clone_from(&mut self, source: &KeptStyles) -> Result<(), AllocError>
+        ensures ok { OnOk result (self.new ≡ source.now) }
+        ensures err { OnErr result (self.new ≡ []) }
+    {
+        self.entries.truncate(0);
+        self.entries.extend_from_slice(source.entries.as_slice())
+    }
+
     /// How many stacks these are.
     pub(crate) fn len(&self) -> usize
         ensures { result ≡ length self.now }

@@ -4,6 +4,7 @@ ghost use Rattle.syntect_scope.specs.Stack.{applied, is_refused};
 ghost use Rattle.syntect_style.specs.Kept.{AreKnown, lowest};
 ghost use Rattle.syntect_style.specs.Styling.{shown};
 ghost use Rattle.syntect_style.specs.Pieces.{path_of, Keeps};
+ghost use Rattle.syntect_theme.specs.declared.theme.Theme.{Theme as ATheme};
 
 use crate::highlighter::Highlighter;
 use crate::kept::KeptStyles;
@@ -80,6 +81,27 @@ impl HighlightState {
             kept: self.kept.clone()?,
             fits: self.fits,
         })
+    }
+
+    /// Becomes the same state as another one, in the memory that it has where that is enough. After an `Err` it has a stack
+    /// of which nothing is known.
+    pub fn clone_from(&mut self, source: &HighlightState) -> Result<(), AllocError>
+        ensures ok { OnOk result (self.new ≡ source.now) }
+        ensures err { (theme : ATheme) → OnErr result (Keeps theme self.new) }
+    {
+        self.fits = 0;
+        self.kept.clone_from(&source.kept)?;
+        match source.path.clone() {
+            Ok(path) => {
+                self.path = path;
+                self.fits = source.fits;
+                Ok(())
+            }
+            Err(e) => {
+                self.kept = KeptStyles::new(source.path.scopes.allocator());
+                Err(e)
+            }
+        }
     }
 
     /// The style of text at this stack.

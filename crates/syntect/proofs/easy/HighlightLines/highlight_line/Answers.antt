@@ -1,51 +1,51 @@
 use Rattle.std.proofs.lemmas.Result.{err_from_is_err_and}
 use Rattle.syntect.proofs.BuiltLaws.{built_begins_plain}
-use Rattle.std.proofs.Common.{Ok, Err}
+use Rattle.std.proofs.Common.{Ok, Err, refl}
 use Rattle.syntect_grammar.specs.Passing.{from_parsing, from_scope}
 use Rattle.syntect_parsing.specs.States.{standing}
 use Rattle.syntect.proofs.LeadLaws.{lead_refused, lead_unshown, lead_accepted, continues}
 use Rattle.syntect.proofs.ExactLaws.{exact_refused, exact_accepted, exact_unshown}
 use Rattle.syntect.proofs.easy.HighlightLines.highlight_line.Goals as goal
 
-pub returns-in_err-ops-clause-answered : goal.returns-in_err-ops-clause-answered
-returns-in_err-ops-clause-answered c = λ past h.
-    let p = err_from_is_err_and c.from_residual-in_err-ops.result c.from_residual-in_err-ops.ensures.1 in
-    rw (p.1, p.2) (continues past c.args.syntax_set.now c.args.line c.args.self.now (Err (from_parsing c.in_err-ops.field-0.0)) h.built (lead_refused c.args.syntax_set.now past.theme past.syntax past.lines past.answers c.args.line c.args.self.now c.in_err-ops.field-0.0 c.answers_more.ensures h.leads
-    (rw c.in_ok-parse_state.ensures at c.in_err-ops.ensures.refused)))
+pub returns-in_err-parse_state-clause-answered : goal.returns-in_err-parse_state-clause-answered
+returns-in_err-parse_state-clause-answered c = λ past h.
+    let p = err_from_is_err_and c.from_residual.result c.from_residual.ensures.1 in
+    rw (p.1, p.2) (continues past c.args.syntax_set.now c.args.line c.args.self.now (Err (from_parsing c.in_err-parse_state.field-0.0)) h.built (lead_refused c.args.syntax_set.now past.theme past.syntax past.lines past.answers c.args.line c.args.self.now c.in_err-parse_state.field-0.0 c.answers_more.ensures h.leads
+    c.in_err-parse_state.ensures.refused))
 
 pub returns-in_err-pieces-clause-answered : goal.returns-in_err-pieces-clause-answered
 returns-in_err-pieces-clause-answered c = λ past h.
     let p = err_from_is_err_and c.from_residual-in_err-pieces.result c.from_residual-in_err-pieces.ensures.1 in
-    rw (p.1, p.2) (continues past c.args.syntax_set.now c.args.line c.args.self.now (Err (from_scope c.in_err-pieces.field-0.0)) h.built (lead_unshown c.args.syntax_set.now past.theme past.syntax past.lines past.answers c.args.line c.args.self.now (standing c.parse_line.new.self) c.in_ok-ops.ops.items c.in_err-pieces.field-0.0 (built_begins_plain c.args.syntax_set.now past.syntax past.definitions h.built) h.leads
-    (rw c.in_ok-parse_state.ensures at c.in_ok-ops.ensures.accepted)
-    (rw (c.as_slice.ensures.value, c.in_ok-highlight_state.ensures) at c.in_err-pieces.ensures.none)))
+    rw (p.1, p.2) (continues past c.args.syntax_set.now c.args.line _ (Err (from_scope c.in_err-pieces.field-0.0)) h.built (lead_unshown c.args.syntax_set.now past.theme past.syntax past.lines past.answers c.args.line c.args.self.now _ (standing c.in_ok-parse_state.parse_state) c.in_ok-parse_state.ops.items c.in_err-pieces.field-0.0 (built_begins_plain c.args.syntax_set.now past.syntax past.definitions h.built) h.leads
+    c.in_ok-parse_state.ensures.accepted
+    (rw (c.as_slice.ensures.value, c.in_ok-clone_from.ensures.ok) at c.in_err-pieces.ensures.none)))
 
 pub returns-clause-answered : goal.returns-clause-answered
 returns-clause-answered c = λ past h.
     continues past c.args.syntax_set.now c.args.line _ (Ok c.in_ok-pieces.pieces) h.built (
-    lead_accepted c.args.syntax_set.now past.theme past.syntax past.lines past.answers c.args.line c.args.self.now c.parse_line.new.self c.collect_pieces.new.state c.in_ok-ops.ops.items c.in_ok-pieces.pieces c.answers_more.ensures c.stack_is_open.ensures (built_begins_plain c.args.syntax_set.now past.syntax past.definitions h.built) h.leads
-    (rw c.in_ok-parse_state.ensures at c.in_ok-ops.ensures.accepted)
-    (record {
+    lead_accepted c.args.syntax_set.now past.theme past.syntax past.lines past.answers c.args.line c.args.self.now (record { highlighter = c.args.self.now.highlighter; parse_state = c.in_ok-parse_state.parse_state; highlight_state = c.swap.new.x; spare = c.swap.new.y }) c.in_ok-parse_state.ops.items c.in_ok-pieces.pieces c.answers_more.ensures c.stack_is_open.ensures (built_begins_plain c.args.syntax_set.now past.syntax past.definitions h.built) h.leads
+    c.in_ok-parse_state.ensures.accepted
+    (rw c.swap.ensures.x_after (record {
       joins = c.in_ok-pieces.ensures.joins;
-      styled = rw (c.as_slice.ensures.value, c.in_ok-highlight_state.ensures) at c.in_ok-pieces.ensures.styled;
-      path = rw (c.as_slice.ensures.value, c.in_ok-highlight_state.ensures) at c.in_ok-pieces.ensures.path;
-      keeps = rw c.in_ok-highlight_state.ensures at c.in_ok-pieces.ensures.keeps;
-    }))
+      styled = rw (c.as_slice.ensures.value, c.in_ok-clone_from.ensures.ok) at c.in_ok-pieces.ensures.styled;
+      path = rw (c.as_slice.ensures.value, c.in_ok-clone_from.ensures.ok) at c.in_ok-pieces.ensures.path;
+      keeps = rw c.in_ok-clone_from.ensures.ok at c.in_ok-pieces.ensures.keeps;
+    })) refl)
 
-pub returns-in_err-ops-clause-refused : goal.returns-in_err-ops-clause-refused
-returns-in_err-ops-clause-refused c = λ past h n s.
-    let p = err_from_is_err_and c.from_residual-in_err-ops.result c.from_residual-in_err-ops.ensures.1 in
-    rw (p.1, p.2) (exact_refused (record { refuses = c.refuses_unresolved.ensures; links = c.links_closed.ensures; built = h.built; by_name = n; stays_in = s; leads = h.leads }) c.args.line.now c.in_err-ops.field-0.0
-    (rw c.in_ok-parse_state.ensures at c.in_err-ops.ensures.refused))
+pub returns-in_err-parse_state-clause-refused : goal.returns-in_err-parse_state-clause-refused
+returns-in_err-parse_state-clause-refused c = λ past h n s.
+    let p = err_from_is_err_and c.from_residual.result c.from_residual.ensures.1 in
+    rw (p.1, p.2) (exact_refused (record { refuses = c.refuses_unresolved.ensures; links = c.links_closed.ensures; built = h.built; by_name = n; stays_in = s; leads = h.leads }) c.args.line.now c.in_err-parse_state.field-0.0
+    c.in_err-parse_state.ensures.refused)
 
 pub returns-in_err-pieces-clause-refused : goal.returns-in_err-pieces-clause-refused
 returns-in_err-pieces-clause-refused c = λ past h n s.
     let p = err_from_is_err_and c.from_residual-in_err-pieces.result c.from_residual-in_err-pieces.ensures.1 in
-    rw (p.1, p.2) (exact_unshown (record { refuses = c.refuses_unresolved.ensures; links = c.links_closed.ensures; built = h.built; by_name = n; stays_in = s; leads = h.leads }) c.args.line (standing c.parse_line.new.self) c.in_ok-ops.ops.items c.in_err-pieces.field-0.0
-    (rw c.in_ok-parse_state.ensures at c.in_ok-ops.ensures.accepted)
-    (rw (c.as_slice.ensures.value, c.in_ok-highlight_state.ensures) at c.in_err-pieces.ensures.none))
+    rw (p.1, p.2) (exact_unshown (record { refuses = c.refuses_unresolved.ensures; links = c.links_closed.ensures; built = h.built; by_name = n; stays_in = s; leads = h.leads }) c.args.line (standing c.in_ok-parse_state.parse_state) c.in_ok-parse_state.ops.items c.in_err-pieces.field-0.0
+    c.in_ok-parse_state.ensures.accepted
+    (rw (c.as_slice.ensures.value, c.in_ok-clone_from.ensures.ok) at c.in_err-pieces.ensures.none))
 
 pub returns-clause-refused : goal.returns-clause-refused
 returns-clause-refused c = λ past h n s.
-    exact_accepted (record { refuses = c.refuses_unresolved.ensures; links = c.links_closed.ensures; built = h.built; by_name = n; stays_in = s; leads = h.leads }) c.args.line.now c.never_both.ensures (standing c.parse_line.new.self) c.in_ok-ops.ops.items c.in_ok-pieces.pieces
-    (rw c.in_ok-parse_state.ensures at c.in_ok-ops.ensures.accepted)
+    exact_accepted (record { refuses = c.refuses_unresolved.ensures; links = c.links_closed.ensures; built = h.built; by_name = n; stays_in = s; leads = h.leads }) c.args.line.now c.never_both.ensures (standing c.in_ok-parse_state.parse_state) c.in_ok-parse_state.ops.items c.in_ok-pieces.pieces
+    c.in_ok-parse_state.ensures.accepted
