@@ -37,7 +37,7 @@ styles_of h = h.highlight_state
 abbrev pub reader_of : HighlightLines → ParseState
 reader_of h = h.parse_state
 
--- two highlighters stand at the same place of a text, with the same styles and theme
+-- the readers of two highlighters stand alike, whatever they count, with the same styles and theme
 pub record HoldsSame (h k : HighlightLines) : Type 0 where
   pub reader : standing (reader_of k) ≡ standing (reader_of h)
   pub styles : styles_of k ≡ styles_of h
@@ -83,7 +83,8 @@ pub record Leads (set : SyntaxSet) (theme : Theme) (syntax : SyntaxReference) (l
 
 -- ---- the past of a highlighter ----
 
--- what a highlighter comes from: definitions, a theme, a syntax, and the lines it was given, with their answers
+-- what a highlighter may come from: definitions, a theme, a syntax, and lines that it was given, with their answers. It is
+-- not kept anywhere: several may fit what a highlighter holds, and none where lines were read with another set.
 pub record Past : Type 0 where
   pub definitions : List SyntaxDefinition
   pub theme : Theme

@@ -126,10 +126,13 @@ impl<'a> HighlightLines<'a> {
         line: &'b str,
         syntax_set: &SyntaxSet,
     ) -> Result<Vec<(Style, &'b str)>, Error>
-        // whatever lines it was given before, in a set that was built of plain definitions, this one is answered behind them
+        // For each past that fits what is held, in a set that was built of plain definitions: the pieces join to the line,
+        // each byte has the theme's style where all lines are orderly, and the line joins the past; or it has the refusal of
+        // its reading, or memory ran out.
         ensures answered { (past : Past) → IsPast past syntax_set.now self.old
             → Continues past syntax_set.now line.entry self.new result }
-        // where the definitions' references are all by name, and no pattern leaves `__start`
+        // Where the definitions' references are all by name, and no pattern leaves `__start`: it is refused exactly where a
+        // match is picked that names an unresolved reference, and with that one, unless memory ran out.
         ensures refused { (past : Past) → IsPast past syntax_set.now self.old
             → AreByName past.definitions → StaysInStart syntax_set.now past.syntax
             → RefusedExactly syntax_set.now line.entry.now self.old result }

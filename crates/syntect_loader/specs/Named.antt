@@ -26,7 +26,7 @@ abbrev pub KnowNoNumber : List (List ℕ × Context) → Type 0
 KnowNoNumber [] = Unit {0}
 KnowNoNumber (entry ∷ entries) = (entry.1.prototype ≡ None) × NamesNoNumber entry.1.patterns × KnowNoNumber entries
 
--- definitions whose references are all by name
+-- definitions whose references are all by name, and that give no context a prototype
 abbrev pub AreByName : List SyntaxDefinition → Type 0
 AreByName [] = Unit {0}
 AreByName (d ∷ ds) = KnowNoNumber d.contexts × AreByName ds

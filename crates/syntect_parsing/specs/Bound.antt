@@ -19,7 +19,7 @@ pub data TakesTurns (engine : Engine) (set : SyntaxSet) (line : List ℕ) (state
 abbrev pub TakesAll : Engine → SyntaxSet → List ℕ → Standing → ℕ → ℕ → Type 0
 TakesAll engine set line state before after = (turns : ℕ) → TakesTurns engine set line state turns → after ≡ before + turns
 
--- or at most those were made
+-- and from the number before the line to the one after it at most all turns of its reading were made,
 abbrev pub TakesNoMore : Engine → SyntaxSet → List ℕ → Standing → ℕ → ℕ → Type 0
 TakesNoMore engine set line state before after = (turns : ℕ) → TakesTurns engine set line state turns → after ≤ before + turns
 

@@ -132,6 +132,7 @@ stack_before set state = if state.first_line then plain [] else stack_of set sta
 abbrev pub first_push : SyntaxSet → Standing → Scopes
 first_push set state = if state.first_line then take 1 (option_map_or (λ l. part_of (λ c. c.meta_content_scope) set l.context) (last state.levels) []) else []
 
--- what has to hold for the operations to show the open scopes on a first line: `__start` has no `meta_scope` and at most one content scope
+-- what has to hold for the operations to show the open scopes on a first line, and holds on each later one: `__start` clears
+-- nothing, has no `meta_scope` and at most one content scope
 abbrev pub HasPlainStart : SyntaxSet → Standing → Type 0
 HasPlainStart set state = onto (stack_before set state) (first_push set state) ≡ stack_of set state.levels

@@ -15,7 +15,7 @@ use Rattle.syntect_contexts.specs.declared.error.ParsingError.{ParsingError}
 use Rattle.syntect_contexts.specs.declared.error.ParsingError.TheVariants as error
 
 -- The operations of an accepted line are in order, and the first accepted line begins with the first content scope of
--- `__start`. They all apply to a stack that remembers a list for each level that clears, and leave such a one. Where the
+-- `__start`. They all apply to a stack that remembers at least a list for each level that clears, and leave such a one. Where the
 -- first push makes the stack that of the levels and the line is orderly, from the stack before the line they show at each byte
 -- the scopes that were read, and leave the stack before the next line, which is that of its levels.
 pub record Means (engine : Engine) (set : SyntaxSet) (line : List ℕ) (old new : Standing) (bytes : List Scopes) (ops : List (ℕ × ScopeStackOp)) : Type 0 where

@@ -40,6 +40,6 @@ pub record IsAt (r : Replay) (place : ℕ) (bytes : List Scopes) (scopes : Scope
 abbrev pub count_clearing : SyntaxSet → List Level → ℕ
 count_clearing set levels = length (filter_map (λ l. clearing set l.context) levels)
 
--- for each of these levels a stack remembers a list at least
+-- a stack remembers at least as many cleared lists as there are levels whose context clears
 abbrev pub Remembers : SyntaxSet → List Level → ScopeStack → Type 0
 Remembers set levels stack = count_clearing set levels ≤ length stack.clear_stack

@@ -86,11 +86,14 @@ impl ParseState {
 
     /// Reads the next line, with its line feed if it has one. The operations, at byte positions in order, give the scopes
     /// of the line when they are applied to the stack that the lines before it left; the first accepted line begins on an
-    /// empty stack. A refusal leaves the state as it was: `MissingMainContext` where no context is open any more,
-    /// `UnresolvedContextReference` where a match that was picked names what isn't linked, `MissingContext` where the set lacks
-    /// what it names, the open context or a prototype that is to be looked at, and `Memory`.
-    /// The state counts the turns: an accepted line takes exactly those of its reading, a refused one no more, and neither
-    /// more than `levels + (r + 1) * 1001 * (bytes + 1)`, with `r` the longest list of contexts that a match of the set opens.
+    /// empty stack. That holds where the syntax has a plain `__start` and what contexts clear in the lines is put back in
+    /// order; of every grammar it holds that the operations are in order and are never refused.
+    /// A refusal leaves the state as it was: `MissingMainContext` where no context is open any more,
+    /// `UnresolvedContextReference` where a match that was picked names an unresolved reference, `MissingContext` where the
+    /// set lacks a context that the match names, or the context on top, or a prototype that is to be looked at, and `Memory`.
+    /// The state counts the turns, each of which takes a match, passes over a character, or ends the line or refuses it: an
+    /// accepted line takes exactly those of its reading, a refused one no more, and neither more than
+    /// `levels + (r + 1) * 1001 * (bytes + 1)`, with `r` the longest list of contexts that a match of the set opens, or 1.
     pub fn parse_line(
         &mut self,
         alloc: Global,

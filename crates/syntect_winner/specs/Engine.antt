@@ -14,7 +14,7 @@ pub record Engine : Type 0 where
   -- the pattern with its back references replaced by the groups of a match in this line
   pub substituted : List ℕ → Groups → List ℕ → List ℕ
 
--- the dialect that patterns are written in
+-- the engine of the dialect that patterns are written in
 abbrev pub dialect : Engine
 dialect = record {
   found = pattern_found;
