@@ -118,8 +118,10 @@ fn number_or(
     next: u16,
 ) -> Result<u16, AllocError>
     ensures number { IfOk result (λ n. n ≡ unwrap_or (get_by_text numbers.old part.now) next) }
-    ensures ok { IfOk result (λ n. (t : List ℕ) → get_by_text numbers.new t ≡ (if bytes_eq part.now t then Some n else get_by_text numbers.old t)) }
-    ensures err { OnErr result ((t : List ℕ) → get_by_text numbers.new t ≡ get_by_text numbers.old t) }
+    ensures ok { IfOk result (λ n. (t : List ℕ) → get_by_text numbers.new t
+        ≡ (if bytes_eq part.now t then Some n else get_by_text numbers.old t)) }
+    ensures err { OnErr result ((t : List ℕ)
+        → get_by_text numbers.new t ≡ get_by_text numbers.old t) }
 {
     let key = String::from_str(alloc, part)?;
     Ok(*numbers.entry(key)?.or_insert(next))
@@ -228,9 +230,11 @@ impl ScopeRepository {
     /// end.
     fn numbers(&mut self, text: &str) -> Result<Scope, ParseScopeError>
         requires { length (between_dots text.now) ≤ 8 }
-        ensures ok { IfOk result (λ s. (self.new ≡ with_atoms self.old (between_dots text.now)) × (s ≡ map (number_in self.new) (between_dots text.now))) }
+        ensures ok { IfOk result (λ s. (self.new ≡ with_atoms self.old (between_dots text.now))
+            × (s ≡ map (number_in self.new) (between_dots text.now))) }
         ensures whole { OnOk result (IsRepository self.new) }
-        ensures too_many { IfErr result (λ e. e ≡ ParseScopeError.TooManyAtoms → 65534 < length (with_atoms self.old (between_dots text.now))) }
+        ensures too_many { IfErr result (λ e. e ≡ ParseScopeError.TooManyAtoms
+            → 65534 < length (with_atoms self.old (between_dots text.now))) }
         ensures too_long { IfErr result (λ e. e ≢ ParseScopeError.TooLong) }
         ensures err { OnErr result (take (length self.old) self.new ≡ self.old) }
     {
