@@ -26,7 +26,6 @@ use Rattle.syntect_contexts.specs.declared.syntax_reference.SyntaxReference.{Syn
 use Rattle.syntect_grammar.specs.declared.syntax_set.SyntaxSet.{SyntaxSet}
 use Rattle.syntect_parsing.specs.declared.parser.Standing.{Standing}
 use Rattle.syntect_parsing.specs.States.{standing}
-use Rattle.syntect_parsing.specs.declared.parser.ParseState.{ParseState}
 use Rattle.syntect_contexts.specs.declared.error.ParsingError.{ParsingError}
 use Rattle.syntect_contexts.specs.declared.error.ParsingError.TheVariants as parsing
 use Rattle.syntect_grammar.specs.Passing.{from_parsing, from_scope}
