@@ -12,7 +12,7 @@ use std::alloc::{AllocError, Global};
 use syntect_classed::spans;
 pub use syntect_classed::style::ClassStyle;
 use syntect_parsing::error::Error;
-use syntect_parsing::parser::ParseState;
+use syntect_parsing::parser::{ParseState, Regions};
 use syntect_parsing::syntax_set::{SyntaxReference, SyntaxSet};
 use syntect_scope::repository::ScopeRepository;
 use syntect_scope::stack::{ScopeStack, ScopeStackOp};
@@ -53,6 +53,8 @@ pub struct ClassedHTMLGenerator<'a> {
     parse_state: ParseState,
     scope_stack: ScopeStack,
     html: String,
+    /// The memory of searches, line by line.
+    regions: Regions,
 }
 
 /// Written out, so that crates above call it and needn't prove each part's drop again.
@@ -65,6 +67,7 @@ impl<'a> Drop for ClassedHTMLGenerator<'a> {
             parse_state: _,
             scope_stack: _,
             html: _,
+            regions: _,
         } = self;
     }
 }
@@ -95,6 +98,7 @@ impl<'a> ClassedHTMLGenerator<'a> {
             parse_state,
             scope_stack: ScopeStack::new(alloc),
             html: String::new(alloc),
+            regions: Regions::new(alloc),
         })
     }
 
@@ -107,7 +111,10 @@ impl<'a> ClassedHTMLGenerator<'a> {
         ensures err { OnErr result (StaysAt self.old self.new) }
     {
         let alloc = *self.html.allocator();
-        let (parse_state, ops) = self.parse_state.after_line(alloc, line, self.syntax_set)?;
+        let regions = &mut self.regions;
+        let (parse_state, ops) = self
+            .parse_state
+            .after_line(alloc, line, self.syntax_set, regions)?;
         let mut scope_stack = self.scope_stack.clone()?;
         let (text, _) = line_tokens_to_classed_spans(
             alloc,
@@ -134,6 +141,7 @@ impl<'a> ClassedHTMLGenerator<'a> {
             parse_state: _,
             scope_stack,
             html,
+            regions: _,
         } = self;
         closed(html, scope_stack.len())
     }

@@ -20,7 +20,7 @@ use syntect_parsing::error::Error;
 use syntect_parsing::laws::{
     answers_more, links_closed, never_both, refuses_unresolved, stack_is_open,
 };
-use syntect_parsing::parser::ParseState;
+use syntect_parsing::parser::{ParseState, Regions};
 use syntect_parsing::syntax_set::{SyntaxReference, SyntaxSet};
 use syntect_scope::stack::ScopeStack;
 use syntect_style::highlighter::Highlighter;
@@ -36,6 +36,8 @@ pub struct HighlightLines<'a> {
     highlight_state: HighlightState,
     /// The styles are worked out in it, line by line, so that a refusal leaves those before the line.
     spare: HighlightState,
+    /// The memory of searches, line by line.
+    regions: Regions,
 }
 
 /// Written out, so that crates above call it and needn't prove each part's drop again.
@@ -46,6 +48,7 @@ impl<'a> Drop for HighlightLines<'a> {
             parse_state: _,
             highlight_state: _,
             spare: _,
+            regions: _,
         } = self;
     }
 }
@@ -75,6 +78,7 @@ impl<'a> HighlightLines<'a> {
             parse_state,
             highlight_state,
             spare,
+            regions: Regions::new(alloc),
         })
     }
 
@@ -99,6 +103,7 @@ impl<'a> HighlightLines<'a> {
             parse_state,
             highlight_state,
             spare,
+            regions: Regions::new(alloc),
         })
     }
 
@@ -112,9 +117,11 @@ impl<'a> HighlightLines<'a> {
             parse_state,
             highlight_state,
             spare,
+            regions,
         } = self;
         drop(highlighter);
         drop(spare);
+        drop(regions);
         (highlight_state, parse_state)
     }
 
@@ -143,7 +150,10 @@ impl<'a> HighlightLines<'a> {
         never_both();
         refuses_unresolved();
         links_closed();
-        let (parse_state, ops) = self.parse_state.after_line(alloc, line, syntax_set)?;
+        let regions = &mut self.regions;
+        let (parse_state, ops) = self
+            .parse_state
+            .after_line(alloc, line, syntax_set, regions)?;
         self.spare.clone_from(&self.highlight_state)?;
         let pieces = collect_pieces(
             alloc,

@@ -22,7 +22,7 @@ use syntect_values::seq::Seq;
 use syntect_winner::laws::dialect_finds_in_text;
 pub use syntect_winner::level::Level;
 use syntect_winner::position::Position;
-use syntect_winner::search::Regions;
+pub use syntect_winner::search::Regions;
 
 /// Where a reader of lines stands between two: the open levels, lowest first, the cuts, and whether no line was accepted.
 /// A cut is the height that a match from a `with_prototype` found; prototypes of levels below the last are out of sight.
@@ -50,6 +50,9 @@ impl Drop for ParseState {
         } = self;
     }
 }
+
+/// How many operations most lines have at most: room for them is asked for at once.
+const USUAL_OPERATIONS: usize = 16;
 
 /// The number of a syntax's `__start`.
 fn start_id(syntax: &SyntaxReference) -> Option<ContextId>
@@ -116,7 +119,9 @@ impl ParseState {
             return Err(ParsingError::MissingMainContext);
         }
         let ParseState { standing, count } = self;
-        let (left, ops, _) = match read_line(alloc, syntax_set, line, standing, count) {
+        let mut regions = Regions::new(alloc);
+        let read = read_line(alloc, syntax_set, line, standing, &mut regions, count);
+        let (left, ops, _) = match read {
             Ok(read) => read,
             Err(e) => return Err(e),
         };
@@ -125,12 +130,14 @@ impl ParseState {
     }
 
     /// The state after the next line, and its operations, as `parse_line` leaves and answers them. This state stays, so it
-    /// needn't be copied where it may be wanted again. Refused as `parse_line` is.
+    /// needn't be copied where it may be wanted again. The searches' memory can be kept from line to line; what is in it
+    /// before doesn't matter. Refused as `parse_line` is.
     pub fn after_line(
         &self,
         alloc: Global,
         line: &str,
         syntax_set: &SyntaxSet,
+        regions: &mut Regions,
     ) -> Result<(ParseState, Vec<(usize, ScopeStackOp)>), ParsingError>
         ensures accepted { IfOk result (λ r. Accepts dialect syntax_set.now line.now
             (standing self.now) (standing r.0) r.1.items) }
@@ -145,7 +152,7 @@ impl ParseState {
             return Err(ParsingError::MissingMainContext);
         }
         let mut count = self.count.copy();
-        match read_line(alloc, syntax_set, line, &self.standing, &mut count) {
+        match read_line(alloc, syntax_set, line, &self.standing, regions, &mut count) {
             Ok((standing, ops, _)) => Ok((ParseState { standing, count }, ops)),
             Err(e) => Err(e),
         }
@@ -168,8 +175,16 @@ pub fn turns_of_line(
     if state.standing.levels.is_empty() {
         return Err(ParsingError::MissingMainContext);
     }
+    let mut regions = Regions::new(alloc);
     let mut count = TurnCount::none();
-    match read_line(alloc, syntax_set, line, &state.standing, &mut count) {
+    match read_line(
+        alloc,
+        syntax_set,
+        line,
+        &state.standing,
+        &mut regions,
+        &mut count,
+    ) {
         Ok((_, _, turns)) => Ok(turns),
         Err(e) => Err(e),
     }
@@ -192,7 +207,7 @@ fn first_operations(
 ) -> Result<Vec<(usize, ScopeStackOp)>, AllocError>
     ensures { IfOk result (λ ops. ops.items ≡ pushes 0 (first_push set.now state.now)) }
 {
-    let mut ops = Vec::new(alloc);
+    let mut ops = Vec::with_capacity(alloc, USUAL_OPERATIONS)?;
     if state.first_line {
         if let Some(scope) = first_content(set, state.levels.as_slice()) {
             ops.push((0, ScopeStackOp::Push(scope)))?;
@@ -225,6 +240,7 @@ fn read_line(
     set: &SyntaxSet,
     line: &str,
     state: &Standing,
+    regions: &mut Regions,
     count: &mut TurnCount,
 ) -> Result<(Standing, Vec<(usize, ScopeStackOp)>, u64), ParsingError>
     requires { state.now.levels ≢ [] }
@@ -238,7 +254,6 @@ fn read_line(
     ensures told { IfOk result (λ r. IsTold (count.new.made - count.old.made) r.2) }
 {
     dialect_finds_in_text();
-    let mut regions = Regions::new(alloc);
     let mut ops = match first_operations(alloc, set, state) {
         Ok(ops) => ops,
         Err(_) => return Err(ParsingError::Memory),
@@ -250,7 +265,7 @@ fn read_line(
     let mut turns = 0u64;
     loop {
         turns = turns.saturating_add(1);
-        match turn(alloc, set, line, &mut p, &mut regions, &mut ops, count) {
+        match turn(alloc, set, line, &mut p, regions, &mut ops, count) {
             Err(e) => return Err(e),
             Ok(true) => {}
             Ok(false) => break,

@@ -1,5 +1,7 @@
 -- Where a match of a pattern can begin.
-use Rattle.std.specs.Prelude.{◌≡◌, ℕ, ◌+◌, false, List, IsUtf8}
+use Rattle.std.specs.Prelude.{◌≡◌, ℕ, ◌+◌, false, List, [], IsUtf8}
+use Rattle.syntect_pattern.specs.Trees.{Tree}
+use Rattle.syntect_pattern.specs.Matches.{Groups, is_word_edge, matches}
 use Rattle.syntect_pattern.specs.Pattern.{pattern_found}
 use Rattle.syntect_pattern_table.specs.Starts.{is_in, start_at}
 use Rattle.syntect_pattern_table.specs.declared.starts.Places.{Places}
@@ -7,4 +9,13 @@ use Rattle.syntect_pattern_table.specs.declared.starts.Places.{Places}
 -- no match of the pattern begins at a place where something stands that is none of these
 abbrev pub NoneBeginsOutside : Places → List ℕ → Type 0
 NoneBeginsOutside places pattern = (s : List ℕ) → IsUtf8 s → (place : ℕ) → is_in places (start_at s place) ≡ false
+    → pattern_found pattern s place ≡ pattern_found pattern s (place + 1)
+
+-- the tree has no match but where a word begins or ends
+abbrev pub IsAtEdges : Tree → Type 0
+IsAtEdges tree = (s : List ℕ) (place : ℕ) (g : Groups) → is_word_edge s place ≡ false → matches s tree place g ≡ []
+
+-- no match of the pattern begins but where a word begins or ends
+abbrev pub BeginsAtEdges : List ℕ → Type 0
+BeginsAtEdges pattern = (s : List ℕ) → (place : ℕ) → is_word_edge s place ≡ false
     → pattern_found pattern s place ≡ pattern_found pattern s (place + 1)

@@ -1,6 +1,7 @@
 //! Patterns and their searches.
 #![tactic(auto)]
 
+mod edges;
 pub mod error;
 pub mod regex;
 pub mod region;

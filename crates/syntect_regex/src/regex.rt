@@ -8,10 +8,11 @@ ghost use Rattle.syntect_pattern.specs.Pattern.{pattern_tree, pattern_found};
 ghost use Rattle.syntect_pattern.specs.Found.{IsPatternMatch};
 ghost use Rattle.syntect_pattern_table.specs.Starts.{is_in};
 ghost use Rattle.syntect_regex.specs.declared.error.PatternError.{PatternError};
-ghost use Rattle.syntect_regex.specs.Begins.{NoneBeginsOutside};
+ghost use Rattle.syntect_regex.specs.Begins.{NoneBeginsOutside, BeginsAtEdges};
 ghost use Rattle.syntect_regex.specs.Escape.{is_special, escaped_char, escaped};
 ghost use Rattle.syntect_regex.specs.Region.{TakesMatch, TakesUpTo, TriesAt, Leaves, pattern_begins};
 
+use crate::edges::is_at_edges;
 use crate::error::PatternError;
 use crate::region::Region;
 use std::alloc::{AllocError, Global};
@@ -102,6 +103,17 @@ impl Regex {
         match program.firsts.get(program.root) {
             Some(places) => *places,
             None => anywhere(),
+        }
+    }
+
+    /// Whether the pattern is seen at once to begin with `\b`: then no match of it begins in the midst of a word. Without it
+    /// nothing is known.
+    pub fn begins_at_edges(&self) -> bool
+        ensures { result ≡ true → BeginsAtEdges self.now }
+    {
+        match &self.program {
+            Some(program) => is_at_edges(program),
+            None => false,
         }
     }
 

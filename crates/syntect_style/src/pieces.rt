@@ -143,7 +143,7 @@ pub fn collect_pieces<'b>(
         → ¬ AllApply (path_of state.old) changes.now) }
     ensures keeps { Keeps highlighter.now state.old → Keeps highlighter.now state.new }
 {
-    let mut pieces = Vec::new(alloc);
+    let mut pieces = Vec::with_capacity(alloc, changes.len().saturating_add(1))?;
     let mut items = RangedHighlightIterator::new(state, changes, text, highlighter);
     while let Some(item) = items.next() {
         match item {
