@@ -7,6 +7,8 @@ use syntect_pattern_table::starts::Places;
 pub struct Flat {
     /// What can stand at a place where a match of it begins.
     pub begins: Places,
+    /// Whether it is known that its matches begin only where a word begins or ends.
+    pub at_edges: bool,
     /// The context that holds it.
     pub context: ContextId,
     /// Its index among that context's entries.

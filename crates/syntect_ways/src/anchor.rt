@@ -2,10 +2,12 @@
 ghost use Rattle.std.specs.Prelude.{◌≡◌, IsCharBoundary, Option, ℕ};
 ghost use Rattle.syntect_pattern.specs.Matches as matches;
 ghost use Rattle.syntect_pattern.specs.Anchors.{anchor_of};
+ghost use Rattle.syntect_pattern.specs.Sets.{is_word};
 
 use crate::text::{char_at, char_before};
 use syntect_pattern::anchor::Anchor;
 use syntect_pattern::character::is_word;
+use syntect_pattern_table::sets::has_bit;
 
 /// Whether the anchor holds at the place.
 pub fn stands(text: &str, place: usize, anchor: Anchor) -> bool
@@ -38,12 +40,28 @@ fn is_newline(c: Option<char>) -> bool
     }
 }
 
+/// The ASCII characters of words, a bit for each.
+const WORD: u128 = 0x07ff_fffe_87ff_fffe_03ff_0000_0000_0000;
+
+/// The character is one of a word: an ASCII one by its bit, any other by its category.
+#[tactic(auto, using(syntect_pattern_table::proofs::AsciiLaws::word_bits))]
+fn is_of_word(c: char) -> bool
+    ensures { result ≡ is_word c }
+{
+    let code = c as u32;
+    if code < 128 {
+        has_bit(WORD, code)
+    } else {
+        is_word(c)
+    }
+}
+
 /// The character, if there is one, is one of a word.
 fn word_at(c: Option<char>) -> bool
     ensures { result ≡ matches.word_at c }
 {
     match c {
-        Some(c) => is_word(c),
+        Some(c) => is_of_word(c),
         None => false,
     }
 }

@@ -7,13 +7,13 @@ use Rattle.std.proofs.lemmas.Bool.{cases_lt}
 use Rattle.std.proofs.lemmas.List.{append-nil, get_or_default, take_all}
 use Rattle.std.proofs.Math.Seq.{take-length}
 use Rattle.std.proofs.lemmas.List.Elements.{All-get_or}
-use Rattle.syntect_pattern_table.specs.Starts.{is_in, start_at}
-use Rattle.syntect_regex.specs.Begins.{NoneBeginsOutside}
+use Rattle.syntect_pattern.specs.Pattern.{pattern_found}
+use Rattle.syntect_regex.specs.Begins.{BeginsAtEdges, NoneBeginsOutside}
 use Rattle.syntect_contexts.specs.declared.context.MatchPattern.{MatchPattern}
 use Rattle.syntect_grammar.specs.Flats.{pattern_at, Tells}
 use Rattle.syntect_grammar.specs.declared.syntax_set.SyntaxSet.{SyntaxSet}
 use Rattle.syntect_flats.specs.declared.flats.Flat.{Flat}
-use Rattle.syntect_winner.specs.Ahead.{AddsAll, AddsAt, AddsRun, AllAhead, AreAhead, AreAheadFrom, AreAheadUpTo, IsAhead, IsBare, IsBestAt, IsRun, list_in, run_members}
+use Rattle.syntect_winner.specs.Ahead.{AddsAll, AddsAt, AddsRun, AllAhead, AreAhead, AreAheadFrom, AreAheadUpTo, IsAhead, IsBare, IsBestAt, IsRuledOut, IsRun, list_in, run_members}
 use Rattle.syntect_winner.specs.Engine.{dialect}
 use Rattle.syntect_winner.specs.Found.{FindsInText}
 use Rattle.syntect_winner.specs.Parts.{flat_members, part_member, part_members}
@@ -93,25 +93,30 @@ module _ (finds : FindsInText dialect) (reader : LineReader) (i : ℕ) (run : Ru
     own_text : (k : ℕ) (d : Flat) (m : MatchPattern) → k < length flats → pattern_at reader.set.now (get_or flats k d) ≡ Some m → run.replaced.items ≡ [] → m.regex ≡ searched_text dialect m (option_copied run.part.opening)
     own_text k d m l e n = (rw n at (r.replaced k d m l e))
 
-    pub passes : (lost : Bool) (k : ℕ) (d : Flat) → k < length flats → run.replaced.items ≡ [] → is_in (get_or flats k d).begins (start_at reader.line.now i) ≡ false
+    none_here : (flat : Flat) (pattern : List ℕ) → NoneBeginsOutside flat.begins pattern × (flat.at_edges ≡ true → BeginsAtEdges pattern) → IsRuledOut reader.line.now i flat
+        → pattern_found pattern reader.line.now i ≡ pattern_found pattern reader.line.now (i + 1)
+    none_here flat pattern h (inl out) = h.0 reader.line.now reader.text i out
+    none_here flat pattern h (inr off) = h.1 off.0 reader.line.now i off.1
+
+    pub passes : (lost : Bool) (k : ℕ) (d : Flat) → k < length flats → run.replaced.items ≡ [] → IsRuledOut reader.line.now i (get_or flats k d)
         → ((m : MatchPattern) → pattern_at reader.set.now (get_or flats k d) ≡ Some m → IsAhead reader lost i (part_member run.part m))
         → (m : MatchPattern) → pattern_at reader.set.now (get_or flats k d) ≡ Some m → IsAhead reader lost (i + 1) (part_member run.part m)
     passes lost k d l n out a m e =
         let told : Tells reader.set.now (get_or flats k d) = All-get_or (Tells reader.set.now) flats k d l r.flats.tells in
-        let begins : (((get_or flats k d).has_captures ≡ m.has_captures)) × NoneBeginsOutside (get_or flats k d).begins m.regex = rw e at told in
+        let begins : (((get_or flats k d).has_captures ≡ m.has_captures)) × NoneBeginsOutside (get_or flats k d).begins m.regex × ((get_or flats k d).at_edges ≡ true → BeginsAtEdges m.regex) = rw e at told in
         let same : m.regex ≡ searched_text dialect m (option_copied run.part.opening) = own_text k d m l e n in
-        ahead_next reader (part_member run.part m) lost i (a m e) (rw same at (begins.1 reader.line.now reader.text i out))
+        ahead_next reader (part_member run.part m) lost i (a m e) (rw same at (none_here (get_or flats k d) m.regex begins.1 out))
 
     -- those between two indexes that can't begin here change nothing,
     pub skipped : (lost : Bool) (b : Best) (ms : List Live) (j k : ℕ) → j ≤ k → (j < k → run.replaced.items ≡ [])
-        → ((q : ℕ) (d : Flat) → j ≤ q → q < k → q < length flats → is_in (get_or flats q d).begins (start_at reader.line.now i) ≡ false) → AreAheadFrom reader lost i run j
+        → ((q : ℕ) (d : Flat) → j ≤ q → q < k → q < length flats → IsRuledOut reader.line.now i (get_or flats q d)) → AreAheadFrom reader lost i run j
         → IsBestAt reader i (ms ++ found_in (take j flats)) b → IsBestAt reader i (ms ++ found_in (take k flats)) b
     skipped lost b ms j k l plain out ahead h =
         up_to b ms flats j k l h (λ q d a c z. passed b (get_or flats q d) lost (passes lost q d z (plain (omega (arith, a, c))) (out q d a c z) (λ m e. ahead q d m a z e)))
 
     -- and are ahead of this place too
     pub skipped_ahead : (lost : Bool) (j k : ℕ) → (j < k → run.replaced.items ≡ [])
-        → ((q : ℕ) (d : Flat) → j ≤ q → q < k → q < length flats → is_in (get_or flats q d).begins (start_at reader.line.now i) ≡ false) → AreAheadFrom reader lost i run j
+        → ((q : ℕ) (d : Flat) → j ≤ q → q < k → q < length flats → IsRuledOut reader.line.now i (get_or flats q d)) → AreAheadFrom reader lost i run j
         → AreAheadUpTo reader lost (i + 1) run j → AreAheadUpTo reader lost (i + 1) run k
     skipped_ahead lost j k plain out ahead before q d m l z e = elim (cases_lt q j) [
       | inl a ↦ before q d m a z e
@@ -120,12 +125,12 @@ module _ (finds : FindsInText dialect) (reader : LineReader) (i : ℕ) (run : Ru
 
     -- the same of those before an index
     pub begun : (lost : Bool) (b : Best) (ms : List Live) (k : ℕ) → (0 < k → run.replaced.items ≡ [])
-        → ((q : ℕ) (d : Flat) → 0 ≤ q → q < k → q < length flats → is_in (get_or flats q d).begins (start_at reader.line.now i) ≡ false) → AreAhead reader lost i run
+        → ((q : ℕ) (d : Flat) → 0 ≤ q → q < k → q < length flats → IsRuledOut reader.line.now i (get_or flats q d)) → AreAhead reader lost i run
         → IsBestAt reader i ms b → IsBestAt reader i (ms ++ found_in (take k flats)) b
     begun lost b ms k plain out ahead h = skipped lost b ms 0 k (omega arith) plain out ahead (subst (λ xs. IsBestAt reader i xs b) (sym (append-nil ms)) h)
 
     pub begun_ahead : (lost : Bool) (k : ℕ) → (0 < k → run.replaced.items ≡ [])
-        → ((q : ℕ) (d : Flat) → 0 ≤ q → q < k → q < length flats → is_in (get_or flats q d).begins (start_at reader.line.now i) ≡ false) → AreAhead reader lost i run
+        → ((q : ℕ) (d : Flat) → 0 ≤ q → q < k → q < length flats → IsRuledOut reader.line.now i (get_or flats q d)) → AreAhead reader lost i run
         → AreAheadUpTo reader lost (i + 1) run k
     begun_ahead lost k plain out ahead = skipped_ahead lost 0 k plain out ahead (λ q d m l. absurd (omega (arith, l)))
 
@@ -245,7 +250,7 @@ all_first reader lost runs k r z q d m f w g = ahead_first reader (part_member (
 -- ---- places where nothing can begin ----
 
 module _ (finds : FindsInText dialect) (reader : LineReader) (runs : List Run) (all : All (IsRun reader.set.now) runs) (lost : Bool) where
-  pub passed_place : (i : ℕ) → All (IsBare (start_at reader.line.now i)) runs → AllAhead reader lost i runs → AllAhead reader lost (i + 1) runs
+  pub passed_place : (i : ℕ) → All (IsBare reader.line.now i) runs → AllAhead reader lost i runs → AllAhead reader lost (i + 1) runs
   passed_place i bare ahead k r l q d m z w e =
       let run : Run = get_or runs k r in
       begun_ahead finds reader i run (all k r l) lost (length (list_in run.flats)) (bare k r l).plain (λ j f _ n _. (bare k r l).out j f n) (ahead k r l) q d m w w e

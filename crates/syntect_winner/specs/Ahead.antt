@@ -2,7 +2,8 @@
 use Rattle.std.specs.Prelude.{◌≡◌, ℕ, ◌+◌, ◌<◌, ◌≤◌, ◌⊎◌, Bool, true, false, List, [], ◌∷◌, ◌++◌, length, Option, Some, None, unwrap_or, slice_index_or}
 use Rattle.std.specs.List.{cons_option, flat_map}
 use Rattle.std.specs.Option.{option_copied}
-use Rattle.syntect_pattern_table.specs.Starts.{is_in}
+use Rattle.syntect_pattern.specs.Matches.{is_word_edge}
+use Rattle.syntect_pattern_table.specs.Starts.{is_in, start_at}
 use Rattle.syntect_contexts.specs.Substitution.{Groups}
 use Rattle.syntect_contexts.specs.declared.context.MatchPattern.{MatchPattern}
 use Rattle.syntect_flats.specs.declared.flats.Flat.{Flat}
@@ -62,10 +63,17 @@ AreAhead reader lost i run = AreAheadFrom reader lost i run 0
 abbrev pub AllAhead : LineReader → Bool → ℕ → List Run → Type 0
 AllAhead reader lost i runs = (k : ℕ) (r : Run) → k < length runs → AreAhead reader lost i (slice_index_or runs k r)
 
--- no pattern of the part can begin where this stands, and each is searched as it stands
-pub record IsBare (x : ℕ) (run : Run) : Type 0 where
+-- No match of the pattern begins at the place: nothing that stands there begins one, or a word goes on there and the pattern's
+-- matches begin only where one begins or ends.
+abbrev pub IsRuledOut : List ℕ → ℕ → Flat → Type 0
+IsRuledOut line i flat =
+    (is_in flat.begins (start_at line i) ≡ false)
+    ⊎ ((flat.at_edges ≡ true) × (is_word_edge line i ≡ false))
+
+-- no pattern of the part can begin at the place, and each is searched as it stands
+pub record IsBare (line : List ℕ) (i : ℕ) (run : Run) : Type 0 where
   pub plain : 0 < length (list_in run.flats) → run.replaced.items ≡ []
-  pub out : (k : ℕ) (d : Flat) → k < length (list_in run.flats) → is_in (slice_index_or (list_in run.flats) k d).begins x ≡ false
+  pub out : (k : ℕ) (d : Flat) → k < length (list_in run.flats) → IsRuledOut line i (slice_index_or (list_in run.flats) k d)
 
 -- the members of the chain that a part stands for
 abbrev pub run_members : SyntaxSet → Run → List Member

@@ -5,8 +5,8 @@ ghost use Rattle.std.specs.Option.{option_copied};
 ghost use Rattle.std.specs.List.{All, flat_map, list_any};
 ghost use Rattle.syntect_contexts.specs.declared.context.MatchPattern.{MatchPattern as APattern};
 ghost use Rattle.syntect_grammar.specs.Flats.{AreFlatsOf, pattern_at};
-ghost use Rattle.syntect_pattern_table.specs.Starts.{is_in};
-ghost use Rattle.syntect_winner.specs.Ahead.{AddsAll, AddsAt, AddsMember, AddsRun, AllAhead, AreAhead, AreAheadFrom, AreReplaced, FindsHere, IsAhead, IsBare, IsBestAt, IsRun, list_in};
+ghost use Rattle.syntect_pattern.specs.Matches.{is_word_edge};
+ghost use Rattle.syntect_winner.specs.Ahead.{AddsAll, AddsAt, AddsMember, AddsRun, AllAhead, AreAhead, AreAheadFrom, AreReplaced, FindsHere, IsAhead, IsBare, IsBestAt, IsRuledOut, IsRun, list_in};
 ghost use Rattle.syntect_contexts.specs.Substitution.{Groups};
 ghost use Rattle.syntect_winner.specs.Best.{choice_by};
 ghost use Rattle.syntect_winner.specs.Candidates.{member_of};
@@ -26,8 +26,11 @@ use syntect_flats::flats::Flat;
 use syntect_flats::list::FlatList;
 use syntect_grammar::syntax_definition::MatchPattern;
 use syntect_grammar::syntax_set::SyntaxSet;
+use syntect_pattern::anchor::Anchor;
 use syntect_pattern_table::starts::start_at;
 use syntect_regex::regex::Regex;
+use syntect_ways::anchor::stands;
+use syntect_ways::text::is_boundary;
 
 /// A flat list: one that the set keeps, or one of this turn alone.
 #[derive(Drop)]
@@ -128,38 +131,74 @@ fn runs_of<'s, 'p>(
     Ok(runs)
 }
 
-/// An index of a part, not below this one: no pattern from this one up to it can begin where this stands. Where patterns are
+/// Whether no word begins or ends at the place.
+fn is_off_edges(line: &str, place: usize) -> bool
+    ensures { result ≡ true → is_word_edge line.now place ≡ false }
+{
+    is_boundary(line, place) && !stands(line, place, Anchor::WordEdge)
+}
+
+/// An index of a list, not below this one: no pattern from this one up to it can begin at the place, where no word begins or
+/// ends.
+fn next_apart(list: &FlatList, line: &str, place: usize, from: usize) -> usize
+    requires { is_word_edge line.now place ≡ false }
+    ensures later { from ≤ result }
+    ensures passed { (k : ℕ) (d : Flat) → from ≤ k → k < result → k < length list.now
+        → IsRuledOut line.now place (slice_index_or list.now k d) }
+{
+    let x = start_at(line, place);
+    let flats = list.as_slice();
+    let mut next = list.next(x, from);
+    while next < flats.len() && flats[next].at_edges {
+        next = list.next(x, next + 1);
+    }
+    next
+}
+
+/// The same for any place.
+fn next_of(list: &FlatList, line: &str, place: usize, from: usize) -> usize
+    ensures later { from ≤ result }
+    ensures passed { (k : ℕ) (d : Flat) → from ≤ k → k < result → k < length list.now
+        → IsRuledOut line.now place (slice_index_or list.now k d) }
+{
+    let next = list.next(start_at(line, place), from);
+    match list.as_slice().get(next) {
+        Some(flat) if flat.at_edges && is_off_edges(line, place) => {
+            next_apart(list, line, place, from)
+        }
+        _ => next,
+    }
+}
+
+/// An index of a part, not below this one: no pattern from this one up to it can begin at the place. Where patterns are
 /// replaced none is passed over, since what they begin with is known of them as they stand.
-fn next_in(run: &Run<'_, '_>, x: u8, from: usize) -> usize
-    requires { x < 130 }
+fn next_in(run: &Run<'_, '_>, line: &str, place: usize, from: usize) -> usize
     ensures later { from ≤ result }
     ensures plain { from < result → run.now.replaced.items ≡ [] }
     ensures passed { (k : ℕ) (d : Flat) → from ≤ k → k < result
         → k < length (list_in run.now.flats)
-        → is_in (slice_index_or (list_in run.now.flats) k d).begins x ≡ false }
+        → IsRuledOut line.now place (slice_index_or (list_in run.now.flats) k d) }
 {
     if run.replaced.is_empty() {
-        list_in(&run.flats).next(x, from)
+        next_of(list_in(&run.flats), line, place, from)
     } else {
         from
     }
 }
 
-/// Whether no pattern of the part can begin where this stands.
-fn is_bare(run: &Run<'_, '_>, x: u8) -> bool
-    requires { x < 130 }
-    ensures { result ≡ true → IsBare x run.now }
+/// Whether no pattern of the part can begin at the place.
+fn is_bare(run: &Run<'_, '_>, line: &str, place: usize) -> bool
+    ensures { result ≡ true → IsBare line.now place run.now }
 {
-    next_in(run, x, 0) >= list_in(&run.flats).as_slice().len()
+    next_in(run, line, place, 0) >= list_in(&run.flats).as_slice().len()
 }
 
 /// Whether that is so of all parts.
-fn are_bare(runs: &[Run<'_, '_>], x: u8) -> bool
-    requires { x < 130 }
-    ensures { result ≡ true → All (IsBare x) runs.now }
+fn are_bare(runs: &[Run<'_, '_>], line: &str, place: usize) -> bool
+    ensures { result ≡ true → All (IsBare line.now place) runs.now }
 {
     for run in runs {
-        if !is_bare(run, x) {
+        if !is_bare(run, line, place) {
             return false;
         }
     }
@@ -177,7 +216,7 @@ fn next_place(reader: &LineReader<'_, '_>, runs: &[Run<'_, '_>], place: usize) -
 {
     dialect_finds_in_text();
     let mut next = place;
-    while next < reader.line.len() && are_bare(runs, start_at(reader.line, next)) {
+    while next < reader.line.len() && are_bare(runs, reader.line, next) {
         next += 1;
     }
     next
@@ -356,13 +395,12 @@ fn with_run<'s>(
         → IfOk result (AddsRun reader.now place lost.new run.now ms) }
 {
     dialect_finds_in_text();
-    let x = start_at(reader.line, place);
     let count = list_in(&run.flats).as_slice().len();
     let mut best = best;
-    let mut index = next_in(run, x, 0);
+    let mut index = next_in(run, reader.line, place, 0);
     while index < count && best.candidate.is_none() {
         best = with_pattern(reader, run, index, place, best, lost, regions)?;
-        index = next_in(run, x, index + 1);
+        index = next_in(run, reader.line, place, index + 1);
     }
     Ok(best)
 }

@@ -1,6 +1,4 @@
-use Rattle.std.proofs.Common.{arith, subst}
-use Rattle.std.specs.List.{All}
-use Rattle.syntect_winner.specs.Ahead.{IsBare}
+use Rattle.std.proofs.Common.{arith}
 use Rattle.syntect_winner.proofs.SweepLaws.{passed_place}
 use Rattle.syntect_winner.proofs.sweep.next_place.Goals as goal
 
@@ -10,6 +8,6 @@ loop-next-preserved c = record {
   within = omega (arith, c.loop-next-test.true);
   ahead = λ lost all h.
       passed_place c.dialect_finds_in_text.ensures c.args.reader.now c.args.runs.now all lost c.loop-next.next
-      (subst (λ x. All (IsBare x) c.args.runs.now) c.start_at.ensures.value (c.are_bare.ensures c.if-are_bare.true))
+      (c.are_bare.ensures c.if-are_bare.true)
       (c.loop-next.invariant.ahead lost all h);
 }
