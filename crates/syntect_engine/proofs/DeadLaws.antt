@@ -1,13 +1,16 @@
 -- Nodes that have no match, as is seen at once.
-use Rattle.std.proofs.Common.{◌≡◌, ◌<◌, ◌+◌, ℕ, Bool, true, false, not, List, [], length, map, take, refl, sym, ◌∙◌, ap, arith, Option, Some, None, reverse}
+use Rattle.std.proofs.Common.{◌≡◌, ◌<◌, ◌≤◌, ◌+◌, ℕ, zero, suc, Bool, true, false, not, List, [], length, map, take, refl, sym, ◌∙◌, ap, arith, Option, Some, None, reverse}
 use Rattle.std.specs.Prelude.{is_some, if◌then◌else◌}
 use Rattle.std.specs.Char.{len_utf8}
-use Rattle.std.specs.List.{flat_map}
+use Rattle.std.specs.List.{All, flat_map}
 use Rattle.std.specs.Option.{option_or}
 use Rattle.syntect_pattern.specs.Text.{char_at}
 use Rattle.syntect_pattern.specs.Sets.{Set, holds}
 use Rattle.syntect_pattern.specs.Trees.{Anchor, Tree, one_of, anchor, seq, alt, group, atomic}
 use Rattle.syntect_pattern.specs.Matches.{Groups, Member, matches, past, only_if, close, stands}
+use Rattle.std.proofs.Math.Logic.{∥∥₁_elim}
+use Rattle.std.proofs.Props.{props}
+use Rattle.syntect_pattern_table.specs.Jumps.{branches, tree_behind, HasBranches, LeadsPast}
 use Rattle.syntect_engine.specs.declared.state.Next.{Next}
 use Rattle.syntect_engine.specs.declared.state.Search.{Search}
 use Rattle.syntect_engine.specs.Machine.{Work, On, tick, both, search, list_at, tree_at, now, ListFits, Fits, FindsAlike, Goes}
@@ -70,6 +73,16 @@ module _ (s : List ℕ) (ts : List Tree) where
   pub dead-found : (a : Tree) (K : On) (i : ℕ) (g : Groups) → IsDead s i a → (search s a K i g).found ≡ None
   dead-found a K i g h = search-first s a K i g ∙ ap (first_each (finds K)) (h g)
 
+  -- behind branches without a match the same is found, in fewer steps
+  past-found : (K : On) (i : ℕ) (g : Groups) (n : ℕ) (t : Tree) → HasBranches n t → All (IsDead s i) (branches n t)
+      → ((search s (tree_behind n t) K i g).found ≡ (search s t K i g).found) × ((search s (tree_behind n t) K i g).count + n ≤ (search s t K i g).count)
+  unfolding both tick
+  past-found K i g zero t h d = (refl, omega arith)
+  past-found K i g (suc n) (alt a b) h d =
+      let rest = past-found K i g n b (omega (arith, h)) (λ m c l. d (suc m) c (omega (arith, l))) in
+      (rest.0 ∙ ap (λ o. option_or o (search s b K i g).found) (sym (dead-found a K i g (d 0 a (omega arith)))), omega (arith, rest.1))
+  past-found K i g (suc n) t h d = absurd (omega (arith, h))
+
 module _ (s : List ℕ) (ts : List Tree) (node k : ℕ) where
   -- what is entered, for an alternation
   entered : (x : Search) (a b : Tree) → tree_at s ts node ≡ alt a b → now s ts (Next.Enter node k) x.cells.items x.place x.groups.items
@@ -108,6 +121,18 @@ module _ (s : List ℕ) (ts : List Tree) (node k : ℕ) where
       let B : Work = search s (tree_at s ts b) K x.place x.groups.items in
       goes_branch x a (tick (both A (tick B))) hf (entered x (tree_at s ts a) (tree_at s ts b) is)
       (sym (ap (option_or A.found) (dead-found s ts (tree_at s ts b) K x.place x.groups.items h) ∙ or_none A.found)) (omega arith)
+
+  -- branches have no match
+  pub goes_past : (x : Search) (a : ℕ) → ∥ LeadsPast s x.place (tree_at s ts node) (tree_at s ts a) ∥₁ → Fits s (Next.Enter node k) x → Goes s ts (Next.Enter node k) x (Next.Enter a k) x
+  goes_past x a led hf =
+      let K : On = list_at s ts x.cells.items k in
+      let at : Tree → Work = λ t. search s t K x.place x.groups.items in
+      goes_less s ts (Next.Enter node k) (Next.Enter a k) x hf
+      (∥∥₁_elim led (hlevel props) (λ (p : LeadsPast s x.place (tree_at s ts node) (tree_at s ts a)).
+      ap (λ t. (at t).found) p.leads ∙ (past-found s ts K x.place x.groups.items p.count (tree_at s ts node) p.there p.dead).0))
+      (∥∥₁_elim led (hlevel props) (λ (p : LeadsPast s x.place (tree_at s ts node) (tree_at s ts a)).
+      omega (arith, ap (λ t. (at t).count) p.leads, (past-found s ts K x.place x.groups.items p.count (tree_at s ts node) p.there p.dead).1, p.some)))
+      hf.list
 
 -- ---- branch after branch ----
 

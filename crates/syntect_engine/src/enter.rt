@@ -245,17 +245,21 @@ impl Search {
     }
 
     /// The node, or where it is an alternation whose first branch is dead, its second one, and so on: a long list of branches
-    /// is gone through here.
+    /// is gone through here, in jumps past many of them where the program has some.
     fn alive_branch(&self, program: &Program, text: &str, node: usize, list: usize) -> usize
         requires { Fits text.now (Next.Enter node list) self.now }
         ensures { FindsAlike text.now (trees_of program.now) (Next.Enter node list) (Next.Enter result list) self.now }
     {
         let mut branch = node;
         while let Some(Node::Alternation(first, second)) = program.node(branch) {
-            if !program.is_dead(text, self.place, *first) {
-                return branch;
+            if let Some(rest) = program.past_branches(text, self.place, branch) {
+                branch = rest;
+            } else {
+                if !program.is_dead(text, self.place, *first) {
+                    return branch;
+                }
+                branch = *second;
             }
-            branch = *second;
         }
         branch
     }

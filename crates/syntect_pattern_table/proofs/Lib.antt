@@ -7,3 +7,4 @@ pub mod StartLaws
 pub mod BeginLaws
 pub mod PlaceLaws
 pub mod LookLaws
+pub mod JumpLaws

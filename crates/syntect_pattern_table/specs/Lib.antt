@@ -5,3 +5,4 @@ pub mod Builder
 pub mod Starts
 pub mod Needs
 pub mod Looks
+pub mod Jumps

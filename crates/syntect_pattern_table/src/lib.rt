@@ -2,6 +2,7 @@
 #![tactic(auto)]
 
 mod ascii;
+pub mod jumps;
 mod looks;
 pub mod node;
 pub mod program;

@@ -1,10 +1,12 @@
 //! A pattern that is ready to be searched.
-ghost use Rattle.std.specs.Prelude.{◌≡◌, ◌≤◌, ◌<◌, ◌-◌, ℕ, [], List, IfOk, IfNone, IsCharBoundary, length, min, slice_index, slice_index_or, true, false};
+ghost use Rattle.std.specs.Prelude.{◌≡◌, ◌≤◌, ◌<◌, ◌-◌, ℕ, [], List, IfOk, IfNone, IfSome, IsCharBoundary, length, min, slice_index, slice_index_or, true, false};
 ghost use Rattle.syntect_pattern_table.specs.Table.{IsOrdered, trees};
 ghost use Rattle.syntect_pattern_table.specs.Builder.{tree_in};
 ghost use Rattle.syntect_pattern_table.specs.Looks.{AreLooks};
 ghost use Rattle.syntect_pattern_table.specs.Starts.{AreFirsts, AreStarts};
+ghost use Rattle.syntect_pattern_table.specs.Jumps.{AreJumps};
 
+use crate::jumps::{Jump, jump_of, jumps_of, long_from};
 use crate::looks::{group_in, looks_of};
 use crate::node::Node;
 use crate::starts::{Places, flags_of, is_in, places_of, start_at};
@@ -25,12 +27,17 @@ pub struct Program {
     pub starts: Seq<bool>,
     /// Where matches of each node can begin.
     pub firsts: Seq<Places>,
+    /// The node whose jump is the first one.
+    pub jumps_from: usize,
+    /// Jumps past branches, of the nodes from that one on. There are none where no list of branches is long.
+    pub jumps: Seq<Jump>,
     /// A byte that stands at the place of each match or behind it, if one is known.
     pub needed: Option<u8>,
     /// Whether the first groups stand in lookarounds.
     pub looks: Seq<Option<bool>>,
     pub ghost ordered: { IsOrdered nodes },
     pub ghost begun: { AreFirsts firsts (trees nodes) },
+    pub ghost jumping: { ∥ AreJumps jumps_from jumps (trees nodes) ∥₁ },
     pub ghost looked: { AreLooks nodes root looks },
 }
 
@@ -39,6 +46,7 @@ impl Program {
     ghost use Rattle.syntect_pattern.specs.Trees.{Tree, nothing, group_in_look};
     ghost use Rattle.syntect_pattern_table.specs.Table.{node_tree};
     ghost use Rattle.syntect_pattern_table.specs.Program.{trees_of, IsProgramOf, CannotBegin};
+    ghost use Rattle.syntect_pattern_table.specs.Jumps.{LeadsPast};
     ghost use Rattle.syntect_pattern.specs.Matches.{Groups, matches};
 
     /// The program whose whole match is the node at the root.
@@ -61,6 +69,8 @@ impl Program {
         nodes.shrink_to_fit();
         let firsts = places_of(alloc, nodes.as_slice())?;
         let starts = flags_of(alloc, firsts.as_slice()[root])?;
+        let jumps_from = long_from(nodes.as_slice());
+        let jumps = jumps_of(alloc, nodes.as_slice(), firsts.as_slice(), jumps_from)?;
         let looks = looks_of(alloc, nodes.as_slice(), root, groups)?;
         Ok(Program {
             nodes,
@@ -68,6 +78,8 @@ impl Program {
             groups,
             starts,
             firsts,
+            jumps_from,
+            jumps,
             needed,
             looks,
         })
@@ -105,6 +117,22 @@ impl Program {
             Some(places) => !is_in(*places, start_at(text, place)),
             None => false,
         }
+    }
+
+    /// The node behind branches of a long alternation that have no match at the place, as what stands there tells, if it is
+    /// known that its first ones have none.
+    #[inline]
+    pub fn past_branches(&self, text: &str, place: usize, node: usize) -> Option<usize>
+        requires { IsCharBoundary text.now place }
+        ensures { IfSome result (λ rest. ∥ LeadsPast text.now place (slice_index_or (trees_of self.now) node nothing) (slice_index_or (trees_of self.now) rest nothing) ∥₁) }
+    {
+        let Some(jump) = jump_of(self.jumps.as_slice(), self.jumps_from, node) else {
+            return None;
+        };
+        if jump.count == 0 || is_in(jump.places, start_at(text, place)) {
+            return None;
+        }
+        Some(jump.to)
     }
 
     /// How many of these places, this one and those right before it, are passed over, the last one first, until the node

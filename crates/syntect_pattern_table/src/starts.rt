@@ -34,7 +34,7 @@ pub struct Firsts {
 
 /// Nothing can stand there.
 #[tactic(auto, using(crate::proofs::PlaceLaws::none_in))]
-fn nowhere() -> Places
+pub(crate) fn nowhere() -> Places
     ensures { (x : ℕ) → spec.is_in result x ≡ false }
 {
     Places {
@@ -58,7 +58,7 @@ fn anywhere() -> Places
 
 /// What is in one of the two.
 #[tactic(auto, using(crate::proofs::PlaceLaws::either_in))]
-fn either(a: Places, b: Places) -> Places
+pub(crate) fn either(a: Places, b: Places) -> Places
     ensures { (x : ℕ) → spec.is_in result x ≡ (spec.is_in a x || spec.is_in b x) }
 {
     Places {

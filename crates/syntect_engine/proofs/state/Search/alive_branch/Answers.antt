@@ -2,7 +2,7 @@ use Rattle.std.proofs.Common.{◌∙◌, ap}
 use Rattle.syntect_pattern_table.specs.Table.{node_tree}
 use Rattle.syntect_pattern_table.specs.Program.{trees_of}
 use Rattle.syntect_engine.specs.declared.state.Next.{Next}
-use Rattle.syntect_engine.proofs.DeadLaws.{alike-more, goes_second}
+use Rattle.syntect_engine.proofs.DeadLaws.{alike-more, goes_past, goes_second}
 use Rattle.syntect_engine.proofs.state.Search.alive_branch.Goals as goal
 
 pub loop-first-smaller : goal.loop-first-smaller
@@ -18,3 +18,13 @@ loop-first-preserved c =
     (goes_second c.args.text.now (trees_of c.args.program.now) c.loop-first.branch c.args.list c.args.self.now c.in-Some-Alternation.first c.in-Some-Alternation.second
     (c.in-Some-Alternation.ensures ∙ ap (node_tree (trees_of c.args.program.now)) c.in-Some-Alternation.field-0-is) c.loop-first.invariant.fits
     (c.is_dead.ensures c.if-not-is_dead.false))
+
+pub loop-first-smaller-in-Some : goal.loop-first-smaller-in-Some
+loop-first-smaller-in-Some c =
+    (goes_past c.args.text.now (trees_of c.args.program.now) c.loop-first.branch c.args.list c.args.self.now c.in-Some.rest c.in-Some.ensures c.loop-first.invariant.fits).fewer
+
+pub loop-first-preserved-in-Some : goal.loop-first-preserved-in-Some
+loop-first-preserved-in-Some c =
+    alike-more c.args.text.now (trees_of c.args.program.now) (Next.Enter c.args.node c.args.list) (Next.Enter c.loop-first.branch c.args.list) (Next.Enter c.in-Some.rest c.args.list) c.args.self.now
+    c.loop-first.invariant
+    (goes_past c.args.text.now (trees_of c.args.program.now) c.loop-first.branch c.args.list c.args.self.now c.in-Some.rest c.in-Some.ensures c.loop-first.invariant.fits)

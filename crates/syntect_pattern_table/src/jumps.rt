@@ -1,0 +1,116 @@
+//! Jumps past branches of long alternations.
+ghost use Rattle.std.specs.Prelude.{◌≡◌, ◌<◌, ◌≤◌, IfOk, IfSome, List, length};
+ghost use Rattle.syntect_pattern.specs.Trees.{Tree};
+ghost use Rattle.syntect_pattern_table.specs.Table.{IsOrdered, trees};
+ghost use Rattle.syntect_pattern_table.specs.Starts.{AreFirsts};
+ghost use Rattle.syntect_pattern_table.specs.Jumps.{AreJumps, IsJump};
+
+use crate::node::Node;
+use crate::starts::{Places, either, nowhere};
+use std::alloc::{AllocError, Global};
+use syntect_values::seq::Seq;
+
+/// How many alternations, each the second part of the next, make a list for which jumps are kept.
+const LONG: usize = 8;
+
+/// From a node to one behind some of its branches.
+#[derive(Clone, Copy)]
+pub struct Jump {
+    pub to: usize,
+    /// So many branches are passed.
+    pub count: usize,
+    /// Where matches of those branches can begin.
+    pub places: Places,
+}
+
+/// How many alternations in a row, this node the last, have the node right before them as their second part.
+fn run_with(node: &Node, place: usize, run: usize) -> usize {
+    match node {
+        Node::Alternation(_, second) if *second == place.saturating_sub(1) => run.saturating_add(1),
+        _ => 0,
+    }
+}
+
+/// Where the first long list of branches begins, or the end of the table.
+pub fn long_from(nodes: &[Node]) -> usize
+    ensures { result ≤ length nodes.now }
+{
+    let mut run = 0;
+    for place in 0..nodes.len() {
+        run = run_with(&nodes[place], place, run);
+        if run == LONG {
+            return (place + 1).saturating_sub(LONG);
+        }
+    }
+    nodes.len()
+}
+
+/// The jump of the node, if one is kept: the first one is that of the node `from`.
+#[inline]
+pub fn jump_of(jumps: &[Jump], from: usize, node: usize) -> Option<Jump>
+    ensures { (ts : List Tree) → AreJumps from jumps.now ts → IfSome result (λ j. IsJump ts node j) }
+{
+    if node < from {
+        return None;
+    }
+    jumps.get(node - from).copied()
+}
+
+/// The jump of the node at the place: past the first branch of an alternation, and where two jumps of one length follow, past
+/// theirs. So a list of n branches is gone through in about log n jumps. Other nodes lead to themselves.
+fn jump_from(nodes: &[Node], place: usize, firsts: &[Places], before: &[Jump], from: usize) -> Jump
+    requires ordered { IsOrdered nodes.now }
+    requires inside { place < length nodes.now }
+    requires count { length firsts.now ≡ length nodes.now }
+    requires firsts { AreFirsts firsts.now (trees nodes.now) }
+    requires jumps { AreJumps from before.now (trees nodes.now) }
+    ensures { IsJump (trees nodes.now) place result }
+{
+    let Node::Alternation(first, second) = &nodes[place] else {
+        return Jump {
+            to: place,
+            count: 0,
+            places: nowhere(),
+        };
+    };
+    let places = firsts[*first];
+    if let Some(near) = jump_of(before, from, *second) {
+        if let Some(far) = jump_of(before, from, near.to) {
+            if near.count == far.count {
+                return Jump {
+                    to: far.to,
+                    count: near.count + far.count + 1,
+                    places: either(places, either(near.places, far.places)),
+                };
+            }
+        }
+    }
+    Jump {
+        to: *second,
+        count: 1,
+        places,
+    }
+}
+
+/// The jumps of the nodes from this one on.
+pub fn jumps_of(
+    alloc: Global,
+    nodes: &[Node],
+    firsts: &[Places],
+    from: usize,
+) -> Result<Seq<Jump>, AllocError>
+    requires ordered { IsOrdered nodes.now }
+    requires count { length firsts.now ≡ length nodes.now }
+    requires firsts { AreFirsts firsts.now (trees nodes.now) }
+    requires from { from ≤ length nodes.now }
+    ensures { IfOk result (λ js. AreJumps from js (trees nodes.now)) }
+{
+    let mut jumps = Vec::new(alloc);
+    for place in from..nodes.len() {
+        let next = jump_from(nodes, place, firsts, jumps.as_slice(), from);
+        jumps.push(next)?;
+    }
+    let mut jumps = Seq::from_vec(jumps);
+    jumps.shrink_to_fit();
+    Ok(jumps)
+}
