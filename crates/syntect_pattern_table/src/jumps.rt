@@ -48,7 +48,8 @@ pub fn long_from(nodes: &[Node]) -> usize
 /// The jump of the node, if one is kept: the first one is that of the node `from`.
 #[inline]
 pub fn jump_of(jumps: &[Jump], from: usize, node: usize) -> Option<Jump>
-    ensures { (ts : List Tree) → AreJumps from jumps.now ts → IfSome result (λ j. IsJump ts node j) }
+    ensures { (ts : List Tree) → AreJumps from jumps.now ts
+        → IfSome result (λ j. IsJump ts node j) }
 {
     if node < from {
         return None;

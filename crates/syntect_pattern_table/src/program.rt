@@ -124,7 +124,9 @@ impl Program {
     #[inline]
     pub fn past_branches(&self, text: &str, place: usize, node: usize) -> Option<usize>
         requires { IsCharBoundary text.now place }
-        ensures { IfSome result (λ rest. ∥ LeadsPast text.now place (slice_index_or (trees_of self.now) node nothing) (slice_index_or (trees_of self.now) rest nothing) ∥₁) }
+        ensures { IfSome result (λ rest. ∥ LeadsPast text.now place
+            (slice_index_or (trees_of self.now) node nothing)
+            (slice_index_or (trees_of self.now) rest nothing) ∥₁) }
     {
         let Some(jump) = jump_of(self.jumps.as_slice(), self.jumps_from, node) else {
             return None;
