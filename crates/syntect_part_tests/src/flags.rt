@@ -1,34 +1,37 @@
-use std::io;
+use crate::found::{equal, holds};
 use syntect_theme::style::FontStyle;
 
 #[test]
-fn flags_changed(rt: HostRuntime) -> io::Result<()> {
+fn flags_changed(rt: HostRuntime) {
     let alloc = rt.alloc();
     let five = FontStyle::BOLD | FontStyle::ITALIC;
     let mut flags = five;
     flags |= FontStyle::UNDERLINE;
-    assert_eq!(rt; flags.bits(), 7);
+    equal(&rt, flags.bits(), 7);
     flags -= FontStyle::BOLD;
     flags ^= FontStyle::ITALIC;
     flags &= FontStyle::UNDERLINE;
-    assert_eq!(rt; flags.bits(), 2);
-    assert_eq!(rt; (five - FontStyle::BOLD).bits(), 4);
-    assert_eq!(rt; (five ^ FontStyle::BOLD).bits(), 4);
-    assert_eq!(rt; (five & FontStyle::BOLD).bits(), 1);
-    assert!(rt; five.intersects(FontStyle::BOLD));
+    equal(&rt, flags.bits(), 2);
+    equal(&rt, (five - FontStyle::BOLD).bits(), 4);
+    equal(&rt, (five ^ FontStyle::BOLD).bits(), 4);
+    equal(&rt, (five & FontStyle::BOLD).bits(), 1);
+    holds(&rt, five.intersects(FontStyle::BOLD));
     flags.set(FontStyle::BOLD, true);
     flags.set(FontStyle::UNDERLINE, false);
-    assert_eq!(rt; flags.bits(), 1);
-    let both = FontStyle::from_iter(alloc, [FontStyle::BOLD, FontStyle::ITALIC])?;
-    assert_eq!(rt; both.bits(), 5);
+    equal(&rt, flags.bits(), 1);
+    let both = FontStyle::from_iter(alloc, [FontStyle::BOLD, FontStyle::ITALIC]).expect(
+        &rt, "memory",
+    );
+    equal(&rt, both.bits(), 5);
     let nine = FontStyle::from_bits_unchecked(9);
-    assert_eq!(rt;
+    equal(
+        &rt,
         format!(in alloc;
             "{five:o}{nine:x}{nine:X}{:?}",
             FontStyle::from_bits_truncate(7)
-        )?
+        )
+        .expect(&rt, "memory")
         .as_str(),
-        "599BOLD | UNDERLINE | ITALIC"
+        "599BOLD | UNDERLINE | ITALIC",
     );
-    Ok(())
 }

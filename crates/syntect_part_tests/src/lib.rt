@@ -6,6 +6,8 @@
 #[cfg(test)]
 mod flags;
 #[cfg(test)]
+mod found;
+#[cfg(test)]
 mod rewrites;
 #[cfg(test)]
 mod scopes;

@@ -1,5 +1,5 @@
+use crate::found::{equal, holds};
 use std::cmp::Ordering;
-use std::io;
 use syntect_scope::power::MatchPower;
 use syntect_scope::repository::{ParseScopeError, ScopeRepository};
 use syntect_scope::scope::Scope;
@@ -8,54 +8,64 @@ use syntect_scope::stack::{ClearAmount, ScopeError, ScopeStack, ScopeStackOp};
 use syntect_values::seq::Seq;
 
 #[test]
-fn scopes_of_texts(rt: HostRuntime) -> io::Result<()> {
+fn scopes_of_texts(rt: HostRuntime) {
     let mut repository = ScopeRepository::new(rt.alloc());
     let line = repository.build("comment.line");
-    assert!(rt; Scope::new(" \tcomment.line..\u{a0}", &mut repository) == line);
+    holds(
+        &rt,
+        Scope::new(" \tcomment.line..\u{a0}", &mut repository) == line,
+    );
     let line = line.unwrap_or(Scope::default());
-    assert_eq!(rt; line.len(), 2);
-    assert_eq!(rt; line.atom_at(0), 1);
-    assert_eq!(rt; line.atom_at(7), 0);
-    assert_eq!(rt; repository.atom_str(2), Some("line"));
-    assert_eq!(rt; repository.atom_str(0), None);
-    assert_eq!(rt; repository.atom_str(3), None);
-    assert_eq!(rt; line.build_string(&repository)?.as_str(), "comment.line");
-    Ok(())
+    equal(&rt, line.len(), 2);
+    equal(&rt, line.atom_at(0), 1);
+    equal(&rt, line.atom_at(7), 0);
+    equal(&rt, repository.atom_str(2), Some("line"));
+    equal(&rt, repository.atom_str(0), None);
+    equal(&rt, repository.atom_str(3), None);
+    equal(
+        &rt,
+        line.build_string(&repository)
+            .expect(&rt, "memory")
+            .as_str(),
+        "comment.line",
+    );
 }
 
 #[test]
-fn scopes_of_nothing(rt: HostRuntime) -> io::Result<()> {
+fn scopes_of_nothing(rt: HostRuntime) {
     let mut repository = ScopeRepository::new(rt.alloc());
     let line = repository.build("comment.line").unwrap_or(Scope::default());
     let none = ScopeRepository::new(rt.alloc());
-    assert_eq!(rt; none.to_string(line)?.as_str(), "?.?");
+    equal(
+        &rt,
+        none.to_string(line).expect(&rt, "memory").as_str(),
+        "?.?",
+    );
     let nothing = repository.build("").unwrap_or(line);
-    assert!(rt; nothing.is_empty());
+    holds(&rt, nothing.is_empty());
     let empty_atom = repository.build(".").unwrap_or(line);
-    assert_eq!(rt; empty_atom.len(), 1);
-    assert_eq!(rt; repository.atom_str(3), Some(""));
-    Ok(())
+    equal(&rt, empty_atom.len(), 1);
+    equal(&rt, repository.atom_str(3), Some(""));
 }
 
 #[test]
-fn prefixes_and_order(rt: HostRuntime) -> io::Result<()> {
+fn prefixes_and_order(rt: HostRuntime) {
     let mut repository = ScopeRepository::new(rt.alloc());
     let none = Scope::default();
     let a = repository.build("a").unwrap_or(none);
     let a_b = repository.build("a.b").unwrap_or(none);
     let b = repository.build("b").unwrap_or(none);
-    assert!(rt; a < a_b);
-    assert!(rt; a_b < b);
-    assert!(rt; none < a);
-    assert!(rt; !a.is_prefix_of(none));
+    holds(&rt, a < a_b);
+    holds(&rt, a_b < b);
+    holds(&rt, none < a);
+    holds(&rt, !a.is_prefix_of(none));
     for scope in [none, a, a_b] {
-        assert!(rt; none.is_prefix_of(scope));
+        holds(&rt, none.is_prefix_of(scope));
     }
-    Ok(())
 }
 
 #[test]
-fn prefixes_and_order_of_long_scopes(rt: HostRuntime) -> io::Result<()> {
+fn prefixes_and_order_of_long_scopes(rt: HostRuntime) {
     let mut repository = ScopeRepository::new(rt.alloc());
     let none = Scope::default();
     let four = repository.build("1.2.3.4").unwrap_or(none);
@@ -63,157 +73,179 @@ fn prefixes_and_order_of_long_scopes(rt: HostRuntime) -> io::Result<()> {
     let eight = repository.build("1.2.3.4.5.6.7.8").unwrap_or(none);
     let other = repository.build("1.2.a.4.5.6.7").unwrap_or(none);
     let five = repository.build("1.2.3.4.5").unwrap_or(none);
-    assert!(rt; four.is_prefix_of(eight));
-    assert!(rt; six.is_prefix_of(eight));
+    holds(&rt, four.is_prefix_of(eight));
+    holds(&rt, six.is_prefix_of(eight));
     for scope in [four, eight, other] {
-        assert!(rt; none.is_prefix_of(scope));
+        holds(&rt, none.is_prefix_of(scope));
     }
-    assert!(rt; !other.is_prefix_of(five));
-    assert!(rt; !eight.is_prefix_of(six));
-    assert!(rt; eight.is_prefix_of(eight));
-    assert!(rt; four < five);
-    Ok(())
+    holds(&rt, !other.is_prefix_of(five));
+    holds(&rt, !eight.is_prefix_of(six));
+    holds(&rt, eight.is_prefix_of(eight));
+    holds(&rt, four < five);
 }
 
 #[test]
-fn a_full_repository(rt: HostRuntime) -> io::Result<()> {
+fn a_full_repository(rt: HostRuntime) {
     let alloc = rt.alloc();
     let mut repository = ScopeRepository::new(alloc);
     for i in 0..65534 {
-        let text = format!(in alloc; "{i}")?;
-        assert!(rt; repository.build(text.as_str()).is_ok());
+        let text = format!(in alloc; "{i}").expect(&rt, "memory");
+        holds(&rt, repository.build(text.as_str()).is_ok());
     }
-    assert_eq!(rt; repository.atom_str(65534), Some("65533"));
-    assert!(rt; repository.build("0.new") == Err(ParseScopeError::TooManyAtoms));
-    assert_eq!(rt; repository.atom_str(65535), None);
-    assert!(rt; repository.build("a.b.c.d.e.f.g.h.i") == Err(ParseScopeError::TooLong));
+    equal(&rt, repository.atom_str(65534), Some("65533"));
+    holds(
+        &rt,
+        repository.build("0.new") == Err(ParseScopeError::TooManyAtoms),
+    );
+    equal(&rt, repository.atom_str(65535), None);
+    holds(
+        &rt,
+        repository.build("a.b.c.d.e.f.g.h.i") == Err(ParseScopeError::TooLong),
+    );
     let old = repository.build("65533.0").unwrap_or(Scope::default());
-    assert_eq!(rt; old.atom_at(0), 65534);
-    assert_eq!(rt; old.atom_at(1), 1);
-    Ok(())
+    equal(&rt, old.atom_at(0), 65534);
+    equal(&rt, old.atom_at(1), 1);
 }
 
 #[test]
-fn cleared_scopes_come_back_on_top(rt: HostRuntime) -> io::Result<()> {
+fn cleared_scopes_come_back_on_top(rt: HostRuntime) {
     let alloc = rt.alloc();
     let mut repository = ScopeRepository::new(alloc);
     let mut stack = ScopeStack::new(alloc);
     for text in ["a", "b", "c"] {
-        stack.push(repository.build(text).unwrap_or(Scope::default()))?;
+        stack
+            .push(repository.build(text).unwrap_or(Scope::default()))
+            .expect(&rt, "memory");
     }
     let d = repository.build("d").unwrap_or(Scope::default());
-    let before = stack.clone()?;
+    let before = stack.clone().expect(&rt, "memory");
     for op in [
         ScopeStackOp::Clear(ClearAmount::TopN(2)),
         ScopeStackOp::Push(d),
         ScopeStackOp::Restore,
     ] {
-        assert!(rt; stack.apply(&op).is_ok());
+        holds(&rt, stack.apply(&op).is_ok());
     }
-    assert_eq!(rt; stack.build_string(&repository)?.as_str(), "a d b c ");
-    assert!(rt; stack.apply(&ScopeStackOp::Restore) == Err(ScopeError::NoClearedScopesToRestore));
-    assert_eq!(rt; stack.len(), 4);
-    assert!(rt; stack != before);
-    Ok(())
+    equal(
+        &rt,
+        stack
+            .build_string(&repository)
+            .expect(&rt, "memory")
+            .as_str(),
+        "a d b c ",
+    );
+    holds(
+        &rt,
+        stack.apply(&ScopeStackOp::Restore) == Err(ScopeError::NoClearedScopesToRestore),
+    );
+    equal(&rt, stack.len(), 4);
+    holds(&rt, stack != before);
 }
 
 #[test]
-fn scopes_at_the_bottom(rt: HostRuntime) -> io::Result<()> {
+fn scopes_at_the_bottom(rt: HostRuntime) {
     let alloc = rt.alloc();
     let mut repository = ScopeRepository::new(alloc);
     let mut stack = ScopeStack::new(alloc);
     for text in ["a", "b"] {
-        stack.push(repository.build(text).unwrap_or(Scope::default()))?;
+        stack
+            .push(repository.build(text).unwrap_or(Scope::default()))
+            .expect(&rt, "memory");
     }
-    assert!(rt; stack.bottom_n(stack.len()) == stack.as_slice());
-    assert!(rt; stack.bottom_n(0).is_empty());
-    assert!(rt; stack.apply(&ScopeStackOp::Pop(9)).is_ok());
-    assert!(rt; stack.is_empty());
+    holds(&rt, stack.bottom_n(stack.len()) == stack.as_slice());
+    holds(&rt, stack.bottom_n(0).is_empty());
+    holds(&rt, stack.apply(&ScopeStackOp::Pop(9)).is_ok());
+    holds(&rt, stack.is_empty());
     stack.pop();
-    assert!(rt; stack.apply(&ScopeStackOp::Clear(ClearAmount::All)).is_ok());
-    assert!(rt; stack.apply(&ScopeStackOp::Restore).is_ok());
-    assert!(rt; stack.as_slice().is_empty());
-    Ok(())
+    holds(
+        &rt,
+        stack.apply(&ScopeStackOp::Clear(ClearAmount::All)).is_ok(),
+    );
+    holds(&rt, stack.apply(&ScopeStackOp::Restore).is_ok());
+    holds(&rt, stack.as_slice().is_empty());
 }
 
 #[test]
-fn stacks_of_texts(rt: HostRuntime) -> io::Result<()> {
+fn stacks_of_texts(rt: HostRuntime) {
     let alloc = rt.alloc();
     let mut repository = ScopeRepository::new(alloc);
     let text = " source.rust\tstring.quoted.\u{2003}a\n";
     match ScopeStack::from_text(alloc, text, &mut repository) {
         Ok(stack) => {
-            assert_eq!(rt;
-                stack.build_string(&repository)?.as_str(),
-                "source.rust string.quoted a "
+            equal(
+                &rt,
+                stack
+                    .build_string(&repository)
+                    .expect(&rt, "memory")
+                    .as_str(),
+                "source.rust string.quoted a ",
             );
             let selector = ScopeSelector {
                 path: stack,
                 excludes: Seq::new(alloc),
             };
-            assert!(rt; selector.clone()? == selector);
+            holds(&rt, selector.clone().expect(&rt, "memory") == selector);
             let mut selectors = Seq::new(alloc);
-            selectors.push(selector)?;
+            selectors.push(selector).expect(&rt, "memory");
             let selectors = ScopeSelectors { selectors };
-            assert!(rt; selectors.clone()? == selectors);
+            holds(&rt, selectors.clone().expect(&rt, "memory") == selectors);
         }
         Err(_) => assert!(rt; false),
     }
     let long = ScopeStack::from_text(alloc, "new 1.2.3.4.5.6.7.8.9", &mut repository);
-    assert!(rt; long == Err(ParseScopeError::TooLong));
-    assert_eq!(rt; repository.atom_str(6), Some("new"));
+    holds(&rt, long == Err(ParseScopeError::TooLong));
+    equal(&rt, repository.atom_str(6), Some("new"));
     let none = ScopeStack::from_text(alloc, " ", &mut repository);
-    assert!(rt; none == Ok(ScopeStack::default(alloc)));
-    Ok(())
+    holds(&rt, none == Ok(ScopeStack::default(alloc)));
 }
 
 #[test]
-fn powers_carry(rt: HostRuntime) -> io::Result<()> {
+fn powers_carry(rt: HostRuntime) {
     let alloc = rt.alloc();
     let mut eights = MatchPower::new(alloc);
-    eights.add(8, 0)?;
+    eights.add(8, 0).expect(&rt, "memory");
     let mut one = MatchPower::new(alloc);
-    one.add(1, 1)?;
-    assert!(rt; eights == one);
+    one.add(1, 1).expect(&rt, "memory");
+    holds(&rt, eights == one);
     let mut square = MatchPower::new(alloc);
-    square.add(1, 2)?;
-    assert!(rt; square == MatchPower::from_u64(alloc, 64)?);
-    Ok(())
+    square.add(1, 2).expect(&rt, "memory");
+    holds(
+        &rt,
+        square == MatchPower::from_u64(alloc, 64).expect(&rt, "memory"),
+    );
 }
 
 #[test]
-fn high_powers(rt: HostRuntime) -> io::Result<()> {
+fn high_powers(rt: HostRuntime) {
     let alloc = rt.alloc();
     let mut high = MatchPower::new(alloc);
-    high.add(8, 199)?;
+    high.add(8, 199).expect(&rt, "memory");
     let mut higher = MatchPower::new(alloc);
-    higher.add(1, 200)?;
-    assert!(rt; high == higher);
-    higher.add(1, 0)?;
-    assert_eq!(rt; high.cmp(&higher), Ordering::Less);
-    assert!(rt; high.clone()? < higher);
-    Ok(())
+    higher.add(1, 200).expect(&rt, "memory");
+    holds(&rt, high == higher);
+    higher.add(1, 0).expect(&rt, "memory");
+    equal(&rt, high.cmp(&higher), Ordering::Less);
+    holds(&rt, high.clone().expect(&rt, "memory") < higher);
 }
 
 #[test]
-fn powers_without_memory(rt: HostRuntime) -> io::Result<()> {
+fn powers_without_memory(rt: HostRuntime) {
     let alloc = rt.alloc();
     let mut high = MatchPower::new(alloc);
-    high.add(8, 199)?;
+    high.add(8, 199).expect(&rt, "memory");
     let mut higher = MatchPower::new(alloc);
-    higher.add(1, 200)?;
-    higher.add(1, 0)?;
-    assert!(rt; high.add(1, usize::MAX).is_err());
-    assert!(rt; high.add(1, usize::MAX / 3).is_err());
-    assert!(rt; high < higher);
-    assert!(rt; high.add(0, usize::MAX).is_ok());
-    high.add(1, 0)?;
-    assert!(rt; high == higher);
-    Ok(())
+    higher.add(1, 200).expect(&rt, "memory");
+    higher.add(1, 0).expect(&rt, "memory");
+    holds(&rt, high.add(1, usize::MAX).is_err());
+    holds(&rt, high.add(1, usize::MAX / 3).is_err());
+    holds(&rt, high < higher);
+    holds(&rt, high.add(0, usize::MAX).is_ok());
+    high.add(1, 0).expect(&rt, "memory");
+    holds(&rt, high == higher);
 }
 
 #[test]
-fn scores_deep_in_a_stack(rt: HostRuntime) -> io::Result<()> {
+fn scores_deep_in_a_stack(rt: HostRuntime) {
     let alloc = rt.alloc();
     let mut repository = ScopeRepository::new(alloc);
     let none = Scope::default();
@@ -222,17 +254,23 @@ fn scores_deep_in_a_stack(rt: HostRuntime) -> io::Result<()> {
     let other = repository.build("other").unwrap_or(none);
     let mut stack = ScopeStack::new(alloc);
     for _ in 0..199 {
-        stack.push(other)?;
+        stack.push(other).expect(&rt, "memory");
     }
-    stack.push(eight)?;
-    stack.push(one)?;
+    stack.push(eight).expect(&rt, "memory");
+    stack.push(one).expect(&rt, "memory");
     let mut long = ScopeStack::new(alloc);
-    long.push(eight)?;
+    long.push(eight).expect(&rt, "memory");
     let mut short = ScopeStack::new(alloc);
-    short.push(one)?;
+    short.push(one).expect(&rt, "memory");
     let mut power = MatchPower::new(alloc);
-    power.add(8, 199)?;
-    assert!(rt; long.does_match(stack.as_slice())? == Some(power));
-    assert!(rt; long.does_match(stack.as_slice())? == short.does_match(stack.as_slice())?);
-    Ok(())
+    power.add(8, 199).expect(&rt, "memory");
+    holds(
+        &rt,
+        long.does_match(stack.as_slice()).expect(&rt, "memory") == Some(power),
+    );
+    holds(
+        &rt,
+        long.does_match(stack.as_slice()).expect(&rt, "memory")
+            == short.does_match(stack.as_slice()).expect(&rt, "memory"),
+    );
 }

@@ -1,5 +1,6 @@
+use crate::found::{equal, holds};
 use std::alloc::Global;
-use std::io;
+use std::process::Abort;
 use syntect_scope::power::MatchPower;
 use syntect_scope::repository::ScopeRepository;
 use syntect_scope::scope::Scope;
@@ -44,55 +45,81 @@ fn scope(repository: &mut ScopeRepository, text: &str) -> Scope {
     repository.build(text).unwrap_or(Scope::default())
 }
 
-fn rule(alloc: Global, scope: Scope, style: StyleModifier) -> io::Result<ThemeItem> {
-    let mut path = ScopeStack::new(alloc);
-    path.push(scope)?;
+/// A stack of these scopes.
+fn stack_of(rt: &impl Abort, alloc: Global, scopes: &[Scope]) -> ScopeStack {
+    let mut stack = ScopeStack::new(alloc);
+    for scope in scopes {
+        stack.push(*scope).expect(rt, "memory");
+    }
+    stack
+}
+
+/// A rule for a path of scopes.
+fn rule(rt: &impl Abort, alloc: Global, path: &[Scope], style: StyleModifier) -> ThemeItem {
     let mut selectors = Seq::new(alloc);
-    selectors.push(ScopeSelector {
-        path,
-        excludes: Seq::new(alloc),
-    })?;
-    Ok(ThemeItem {
+    let path = stack_of(rt, alloc, path);
+    let excludes = Seq::new(alloc);
+    selectors
+        .push(ScopeSelector { path, excludes })
+        .expect(rt, "memory");
+    ThemeItem {
         scope: ScopeSelectors { selectors },
         style,
-    })
+    }
 }
 
-fn theme_of(alloc: Global, rules: &[(Scope, StyleModifier)]) -> io::Result<Theme> {
+fn theme_of(rt: &impl Abort, alloc: Global, rules: &[(Scope, StyleModifier)]) -> Theme {
     let mut theme = Theme::default(alloc);
     for (scope, style) in rules {
-        theme.scopes.push(rule(alloc, *scope, *style)?)?;
+        theme
+            .scopes
+            .push(rule(rt, alloc, &[*scope], *style))
+            .expect(rt, "memory");
     }
-    Ok(theme)
+    theme
 }
 
 #[test]
-fn the_deepest_place_counts(rt: HostRuntime) -> io::Result<()> {
+fn the_deepest_place_counts(rt: HostRuntime) {
     let alloc = rt.alloc();
     let mut repository = ScopeRepository::new(alloc);
     let a = scope(&mut repository, "a");
     let b = scope(&mut repository, "b");
-    let theme = theme_of(alloc, &[(a, ON_TEXT), (b, OTHER_ON_TEXT)])?;
-    let highlighter = Highlighter::new(alloc, &theme)?;
-    let style = highlighter.style_for_stack(&[a, b, a])?;
-    assert_eq!(rt; style.foreground, FIRST);
-    assert_eq!(rt; style.background, Color::WHITE);
-    let modifier = highlighter.style_mod_for_stack(&[a, b, a])?;
-    assert_eq!(rt; modifier, ON_TEXT);
-    assert_eq!(rt; highlighter.get_default().apply(modifier), style);
-    assert_eq!(rt; highlighter.style_for_stack(&[a, b])?.foreground, SECOND);
-    assert_eq!(rt; highlighter.style_for_stack(&[])?, Style::default());
-    Ok(())
+    let theme = theme_of(&rt, alloc, &[(a, ON_TEXT), (b, OTHER_ON_TEXT)]);
+    let highlighter = Highlighter::new(alloc, &theme).expect(&rt, "memory");
+    let style = highlighter
+        .style_for_stack(&[a, b, a])
+        .expect(&rt, "memory");
+    equal(&rt, style.foreground, FIRST);
+    equal(&rt, style.background, Color::WHITE);
+    let modifier = highlighter
+        .style_mod_for_stack(&[a, b, a])
+        .expect(&rt, "memory");
+    equal(&rt, modifier, ON_TEXT);
+    equal(&rt, highlighter.get_default().apply(modifier), style);
+    equal(
+        &rt,
+        highlighter
+            .style_for_stack(&[a, b])
+            .expect(&rt, "memory")
+            .foreground,
+        SECOND,
+    );
+    equal(
+        &rt,
+        highlighter.style_for_stack(&[]).expect(&rt, "memory"),
+        Style::default(),
+    );
 }
 
 #[test]
-fn the_deepest_place_counts_piece_by_piece(rt: HostRuntime) -> io::Result<()> {
+fn the_deepest_place_counts_piece_by_piece(rt: HostRuntime) {
     let alloc = rt.alloc();
     let mut repository = ScopeRepository::new(alloc);
     let a = scope(&mut repository, "a");
     let b = scope(&mut repository, "b");
-    let theme = theme_of(alloc, &[(a, ON_TEXT), (b, OTHER_ON_TEXT)])?;
-    let highlighter = Highlighter::new(alloc, &theme)?;
+    let theme = theme_of(&rt, alloc, &[(a, ON_TEXT), (b, OTHER_ON_TEXT)]);
+    let highlighter = Highlighter::new(alloc, &theme).expect(&rt, "memory");
     let style = Style::default().apply(ON_TEXT);
     let mut state = HighlightState::new(&highlighter, ScopeStack::new(alloc));
     let changes = [
@@ -102,32 +129,32 @@ fn the_deepest_place_counts_piece_by_piece(rt: HostRuntime) -> io::Result<()> {
     ];
     let mut items = HighlightIterator::new(&mut state, &changes, "x", &highlighter);
     let piece = items.next();
-    assert!(rt; piece == Some(Ok((style, "x"))));
-    assert!(rt; items.next().is_none());
-    Ok(())
+    holds(&rt, piece == Some(Ok((style, "x"))));
+    holds(&rt, items.next().is_none());
 }
 
 #[test]
-fn the_lower_place_wins_deep_in_a_stack(rt: HostRuntime) -> io::Result<()> {
+fn the_lower_place_wins_deep_in_a_stack(rt: HostRuntime) {
     let alloc = rt.alloc();
     let mut repository = ScopeRepository::new(alloc);
     let eight = scope(&mut repository, "1.2.3.4.5.6.7.8");
     let one = scope(&mut repository, "x");
-    let theme = theme_of(alloc, &[(one, OTHER_ON_TEXT), (eight, ON_TEXT)])?;
-    let highlighter = Highlighter::new(alloc, &theme)?;
+    let theme = theme_of(&rt, alloc, &[(one, OTHER_ON_TEXT), (eight, ON_TEXT)]);
+    let highlighter = Highlighter::new(alloc, &theme).expect(&rt, "memory");
     let mut stack = ScopeStack::new(alloc);
     for _ in 0..199 {
-        stack.push(Scope::default())?;
+        stack.push(Scope::default()).expect(&rt, "memory");
     }
-    stack.push(eight)?;
-    stack.push(one)?;
-    let style = highlighter.style_for_stack(stack.as_slice())?;
-    assert_eq!(rt; style.foreground, FIRST);
-    Ok(())
+    stack.push(eight).expect(&rt, "memory");
+    stack.push(one).expect(&rt, "memory");
+    let style = highlighter
+        .style_for_stack(stack.as_slice())
+        .expect(&rt, "memory");
+    equal(&rt, style.foreground, FIRST);
 }
 
 #[test]
-fn pieces_between_operations(rt: HostRuntime) -> io::Result<()> {
+fn pieces_between_operations(rt: HostRuntime) {
     let alloc = rt.alloc();
     let mut repository = ScopeRepository::new(alloc);
     let comment = scope(&mut repository, "comment");
@@ -138,10 +165,10 @@ fn pieces_between_operations(rt: HostRuntime) -> io::Result<()> {
         background: None,
         font_style: Some(FontStyle::ITALIC),
     };
-    let theme = theme_of(alloc, &[(line, ON_TEXT), (comment, on_comment)])?;
-    let highlighter = Highlighter::new(alloc, &theme)?;
+    let theme = theme_of(&rt, alloc, &[(line, ON_TEXT), (comment, on_comment)]);
+    let highlighter = Highlighter::new(alloc, &theme).expect(&rt, "memory");
     let mut state = HighlightState::new(&highlighter, ScopeStack::new(alloc));
-    let before = state.clone()?;
+    let before = state.clone().expect(&rt, "memory");
     let changes = [
         (1, ScopeStackOp::Push(line)),
         (2, ScopeStackOp::Push(keyword)),
@@ -162,23 +189,22 @@ fn pieces_between_operations(rt: HostRuntime) -> io::Result<()> {
     let mut count = 0;
     let mut items = RangedHighlightIterator::new(&mut state, &changes, "abcdef", &highlighter);
     while let Some(item) = items.next() {
-        assert!(rt; count < 4);
-        assert!(rt; item.is_ok_and(|p| p == expected[count]));
+        holds(&rt, count < 4);
+        holds(&rt, item.is_ok_and(|p| p == expected[count]));
         count += 1;
     }
-    assert_eq!(rt; count, 4);
-    assert!(rt; state == before);
-    assert!(rt; state.into_path().is_empty());
-    Ok(())
+    equal(&rt, count, 4);
+    holds(&rt, state == before);
+    holds(&rt, state.into_path().is_empty());
 }
 
 #[test]
-fn a_refused_operation_ends_the_pieces(rt: HostRuntime) -> io::Result<()> {
+fn a_refused_operation_ends_the_pieces(rt: HostRuntime) {
     let alloc = rt.alloc();
     let mut repository = ScopeRepository::new(alloc);
     let a = scope(&mut repository, "a");
-    let theme = theme_of(alloc, &[(a, ON_TEXT)])?;
-    let highlighter = Highlighter::new(alloc, &theme)?;
+    let theme = theme_of(&rt, alloc, &[(a, ON_TEXT)]);
+    let highlighter = Highlighter::new(alloc, &theme).expect(&rt, "memory");
     let mut state = HighlightState::new(&highlighter, ScopeStack::new(alloc));
     let changes = [
         (0, ScopeStackOp::Push(a)),
@@ -187,110 +213,95 @@ fn a_refused_operation_ends_the_pieces(rt: HostRuntime) -> io::Result<()> {
         (3, ScopeStackOp::Restore),
         (4, ScopeStackOp::Pop(1)),
     ];
-    let shown = highlighter.style_for_stack(&[a])?;
+    let shown = highlighter.style_for_stack(&[a]).expect(&rt, "memory");
     let mut items = HighlightIterator::new(&mut state, &changes, "abcdef", &highlighter);
     let first = items.next();
-    assert!(rt; first == Some(Ok((shown, "a"))));
+    holds(&rt, first == Some(Ok((shown, "a"))));
     let second = items.next();
-    assert!(rt; second == Some(Ok((Style::default(), "b"))));
+    holds(&rt, second == Some(Ok((Style::default(), "b"))));
     let third = items.next();
-    assert!(rt; third == Some(Err(ScopeError::NoClearedScopesToRestore)));
-    assert!(rt; items.next().is_none());
-    assert_eq!(rt; state.path().as_slice(), [a].as_slice());
-    Ok(())
+    holds(
+        &rt,
+        third == Some(Err(ScopeError::NoClearedScopesToRestore)),
+    );
+    holds(&rt, items.next().is_none());
+    equal(&rt, state.path().as_slice(), [a].as_slice());
 }
 
 #[test]
-fn copies_of_themes(rt: HostRuntime) -> io::Result<()> {
+fn copies_of_themes(rt: HostRuntime) {
     let alloc = rt.alloc();
     one_prevails::<Color>();
     let mut item = ThemeItem::default(alloc);
-    assert!(rt; item.scope.selectors.is_empty());
-    assert_eq!(rt; item.style, StyleModifier::default());
+    holds(&rt, item.scope.selectors.is_empty());
+    equal(&rt, item.style, StyleModifier::default());
     item.style = ON_TEXT;
-    assert!(rt; item.clone()? == item);
+    holds(&rt, item.clone().expect(&rt, "memory") == item);
     let mut theme = Theme::default(alloc);
-    theme.scopes.push(item.clone()?)?;
-    assert!(rt; theme.clone()? == theme);
-    Ok(())
+    theme
+        .scopes
+        .push(item.clone().expect(&rt, "memory"))
+        .expect(&rt, "memory");
+    holds(&rt, theme.clone().expect(&rt, "memory") == theme);
 }
 
 #[test]
-fn copies_of_settings_and_scores(rt: HostRuntime) -> io::Result<()> {
+fn copies_of_settings_and_scores(rt: HostRuntime) {
     let alloc = rt.alloc();
     let mut settings = ThemeSettings::default();
     settings.caret = Some(SECOND);
-    settings.popup_css = Some(Text::from_str(alloc, "p {}")?);
-    assert!(rt; settings.clone()? == settings);
+    settings.popup_css = Some(Text::from_str(alloc, "p {}").expect(&rt, "memory"));
+    holds(&rt, settings.clone().expect(&rt, "memory") == settings);
     let mut score = MatchPower::new(alloc);
-    score.add(3, 2)?;
+    score.add(3, 2).expect(&rt, "memory");
     let style = ScoredStyle {
         foreground: (Some(score), FIRST),
         background: (None, Color::WHITE),
         font_style: (None, FontStyle::empty()),
     };
-    assert!(rt; style.clone()? == style);
-    Ok(())
+    holds(&rt, style.clone().expect(&rt, "memory") == style);
 }
 
 #[test]
 fn flags_and_modifiers(rt: HostRuntime) {
     let mut flags = FontStyle::BOLD;
     flags.insert(FontStyle::ITALIC);
-    assert_eq!(rt; flags.bits(), 5);
-    assert!(rt; flags.contains(FontStyle::ITALIC));
-    assert!(rt; flags.contains(FontStyle::empty()));
-    assert!(rt; !flags.contains(FontStyle::UNDERLINE));
+    equal(&rt, flags.bits(), 5);
+    holds(&rt, flags.contains(FontStyle::ITALIC));
+    holds(&rt, flags.contains(FontStyle::empty()));
+    holds(&rt, !flags.contains(FontStyle::UNDERLINE));
     let on_back = StyleModifier {
         foreground: None,
         background: Some(FIRST),
         font_style: Some(flags),
     };
     let both = OTHER_ON_TEXT.apply(on_back).apply(ON_TEXT);
-    assert_eq!(rt; both.foreground, Some(FIRST));
-    assert_eq!(rt; both.background, Some(FIRST));
+    equal(&rt, both.foreground, Some(FIRST));
+    equal(&rt, both.background, Some(FIRST));
     let style = Style::default().apply(both);
-    assert_eq!(rt; style.font_style, flags);
-    assert_eq!(rt; style.background, FIRST);
-}
-
-/// A rule for a path of scopes, of which none of the exclusions may be found.
-fn excluding(
-    alloc: Global,
-    path: &[Scope],
-    exclusions: &[Scope],
-    style: StyleModifier,
-) -> io::Result<ThemeItem> {
-    let mut scopes = ScopeStack::new(alloc);
-    for scope in path {
-        scopes.push(*scope)?;
-    }
-    let mut excludes = Seq::new(alloc);
-    for scope in exclusions {
-        let mut exclusion = ScopeStack::new(alloc);
-        exclusion.push(*scope)?;
-        excludes.push(exclusion)?;
-    }
-    let mut selectors = Seq::new(alloc);
-    selectors.push(ScopeSelector {
-        path: scopes,
-        excludes,
-    })?;
-    Ok(ThemeItem {
-        scope: ScopeSelectors { selectors },
-        style,
-    })
+    equal(&rt, style.font_style, flags);
+    equal(&rt, style.background, FIRST);
 }
 
 #[test]
-fn a_rule_without_scopes_acts_on_every_scope(rt: HostRuntime) -> io::Result<()> {
+fn a_rule_without_scopes_acts_on_every_scope(rt: HostRuntime) {
     let alloc = rt.alloc();
     let mut repository = ScopeRepository::new(alloc);
     let q = scope(&mut repository, "q");
     let mut theme = Theme::default(alloc);
-    theme.scopes.push(excluding(alloc, &[], &[], ON_TEXT)?)?;
-    let highlighter = Highlighter::new(alloc, &theme)?;
-    assert_eq!(rt; highlighter.style_for_stack(&[])?.foreground, FIRST);
+    theme
+        .scopes
+        .push(rule(&rt, alloc, &[], ON_TEXT))
+        .expect(&rt, "memory");
+    let highlighter = Highlighter::new(alloc, &theme).expect(&rt, "memory");
+    equal(
+        &rt,
+        highlighter
+            .style_for_stack(&[])
+            .expect(&rt, "memory")
+            .foreground,
+        FIRST,
+    );
     let mut state = HighlightState::new(&highlighter, ScopeStack::new(alloc));
     let changes = [(1, ScopeStackOp::Push(q)), (2, ScopeStackOp::Pop(1))];
     let ruled = Style {
@@ -303,6 +314,8 @@ fn a_rule_without_scopes_acts_on_every_scope(rt: HostRuntime) -> io::Result<()> 
         (ruled, "b"),
         (Style::default(), "c"),
     ];
-    assert!(rt; pieces.is_ok_and(|p| p.as_slice() == expected.as_slice()));
-    Ok(())
+    holds(
+        &rt,
+        pieces.is_ok_and(|p| p.as_slice() == expected.as_slice()),
+    );
 }

@@ -1,6 +1,6 @@
+use crate::found::holds;
 use serde_json::Value;
 use std::alloc::Global;
-use std::test::Fail;
 use syntect_base::loading::{LoadingError, SettingsError};
 use syntect_scope::repository::ScopeRepository;
 use syntect_scope::selector::ScopeSelectors;
@@ -15,28 +15,42 @@ fn value(alloc: Global, text: &str) -> Value {
 }
 
 #[test]
-fn settings_of_each_type(rt: HostRuntime) -> Result<(), Fail> {
+fn settings_of_each_type(rt: HostRuntime) {
     let alloc = rt.alloc();
     let mut repository = ScopeRepository::new(alloc);
     let color = value(alloc, "\"#010203\"");
-    assert!(rt; Color::parse_settings(alloc, color, &mut repository).is_ok());
+    holds(
+        &rt,
+        Color::parse_settings(alloc, color, &mut repository).is_ok(),
+    );
     let option = value(alloc, "\"squiggly_underline\"");
-    assert!(rt; UnderlineOption::parse_settings(alloc, option, &mut repository).is_ok());
+    holds(
+        &rt,
+        UnderlineOption::parse_settings(alloc, option, &mut repository).is_ok(),
+    );
     let flags = value(alloc, "\"bold\"");
-    assert!(rt; FontStyle::parse_settings(alloc, flags, &mut repository) == Ok(FontStyle::BOLD));
+    holds(
+        &rt,
+        FontStyle::parse_settings(alloc, flags, &mut repository) == Ok(FontStyle::BOLD),
+    );
     let union = value(alloc, "\"a, b - c\"");
-    assert!(rt; ScopeSelectors::parse_settings(alloc, union, &mut repository).is_ok());
+    holds(
+        &rt,
+        ScopeSelectors::parse_settings(alloc, union, &mut repository).is_ok(),
+    );
     let change = value(alloc, "{\"fontStyle\":\"italic\"}");
     let change = StyleModifier::parse_settings(alloc, change, &mut repository);
-    assert!(rt; change.is_ok_and(|c| c.font_style == Some(FontStyle::ITALIC)));
+    holds(
+        &rt,
+        change.is_ok_and(|c| c.font_style == Some(FontStyle::ITALIC)),
+    );
     let settings = value(alloc, "{\"caret\":\"#010101\"}");
     let settings = ThemeSettings::parse_settings(alloc, settings, &mut repository);
-    assert!(rt; settings.is_ok_and(|s| s.caret.is_some()));
-    Ok(())
+    holds(&rt, settings.is_ok_and(|s| s.caret.is_some()));
 }
 
 #[test]
-fn bytes_that_are_no_text_are_no_theme(rt: HostRuntime) -> Result<(), Fail> {
+fn bytes_that_are_no_text_are_no_theme(rt: HostRuntime) {
     let alloc = rt.alloc();
     let mut repository = ScopeRepository::new(alloc);
     let bytes = [b'"', 0xff, b'"'];
@@ -45,6 +59,5 @@ fn bytes_that_are_no_text_are_no_theme(rt: HostRuntime) -> Result<(), Fail> {
         &ThemeSet::load_from_reader(alloc, &mut reader, &mut repository),
         Err(LoadingError::ReadSettings(SettingsError::Json))
     );
-    assert!(rt; refused);
-    Ok(())
+    holds(&rt, refused);
 }

@@ -1,7 +1,7 @@
 ghost use Rattle.std.specs.Prelude.{◌≡◌, ◌↔◌, IsTrue, IfOk};
 
+use crate::found::{equal, holds};
 use std::alloc::{AllocError, Global};
-use std::io;
 use syntect_values::seq::Seq;
 use syntect_values::table::Table;
 use syntect_values::text::Text;
@@ -42,68 +42,70 @@ fn two_pairs(alloc: Global) -> Result<Seq<Seq<u16>>, AllocError> {
 }
 
 #[test]
-fn equal_sequences(rt: HostRuntime) -> io::Result<()> {
+fn equal_sequences(rt: HostRuntime) {
     let alloc = rt.alloc();
-    let outer = two_pairs(alloc)?;
+    let outer = two_pairs(alloc).expect(&rt, "memory");
     let mut other = Seq::new(alloc);
-    other.push(pair(alloc, 1, 2)?)?;
-    assert!(rt; !same(&outer, &other));
-    other.push(Seq::from_slice(alloc, &[3, 4])?)?;
-    assert!(rt; same(&outer, &other));
-    assert_eq!(rt; outer.len(), 2);
-    assert!(rt; outer.get(2).is_none());
-    Ok(())
+    other
+        .push(pair(alloc, 1, 2).expect(&rt, "memory"))
+        .expect(&rt, "memory");
+    holds(&rt, !same(&outer, &other));
+    other
+        .push(Seq::from_slice(alloc, &[3, 4]).expect(&rt, "memory"))
+        .expect(&rt, "memory");
+    holds(&rt, same(&outer, &other));
+    equal(&rt, outer.len(), 2);
+    holds(&rt, outer.get(2).is_none());
 }
 
 #[test]
-fn shorter_sequences(rt: HostRuntime) -> io::Result<()> {
+fn shorter_sequences(rt: HostRuntime) {
     let alloc = rt.alloc();
-    let outer = two_pairs(alloc)?;
-    let mut other = two_pairs(alloc)?;
+    let outer = two_pairs(alloc).expect(&rt, "memory");
+    let mut other = two_pairs(alloc).expect(&rt, "memory");
     other.truncate(1);
-    assert!(rt; other < outer);
-    assert!(rt; other.pop().is_some());
-    assert!(rt; other.is_empty());
-    Ok(())
+    holds(&rt, other < outer);
+    holds(&rt, other.pop().is_some());
+    holds(&rt, other.is_empty());
 }
 
 #[test]
-fn longer_sequences(rt: HostRuntime) -> io::Result<()> {
+fn longer_sequences(rt: HostRuntime) {
     let alloc = rt.alloc();
-    let mut flat = pair(alloc, 5, 6)?;
-    flat.extend_from_slice(&[7])?;
-    assert_eq!(rt; flat.iter().copied().max(), Some(7));
-    let copy = flat.clone()?;
-    assert!(rt; copy == flat);
-    Ok(())
+    let mut flat = pair(alloc, 5, 6).expect(&rt, "memory");
+    flat.extend_from_slice(&[7]).expect(&rt, "memory");
+    equal(&rt, flat.iter().copied().max(), Some(7));
+    let copy = flat.clone().expect(&rt, "memory");
+    holds(&rt, copy == flat);
 }
 
 #[test]
-fn texts(rt: HostRuntime) -> io::Result<()> {
+fn texts(rt: HostRuntime) {
     let alloc = rt.alloc();
-    let mut text = Text::from_str(alloc, "a")?;
-    text.push_str("b")?;
-    text.push('é')?;
-    assert_eq!(rt; text.len(), 4);
-    assert!(rt; same_text(&text, &text.clone()?));
-    assert!(rt; Text::new(alloc) < text);
+    let mut text = Text::from_str(alloc, "a").expect(&rt, "memory");
+    text.push_str("b").expect(&rt, "memory");
+    text.push('é').expect(&rt, "memory");
+    equal(&rt, text.len(), 4);
+    holds(&rt, same_text(&text, &text.clone().expect(&rt, "memory")));
+    holds(&rt, Text::new(alloc) < text);
     let mut texts = Seq::new(alloc);
-    texts.push(text)?;
-    assert_eq!(rt; twice(&texts)?.len(), 1);
-    Ok(())
+    texts.push(text).expect(&rt, "memory");
+    equal(&rt, twice(&texts).expect(&rt, "memory").len(), 1);
 }
 
 #[test]
-fn tables(rt: HostRuntime) -> io::Result<()> {
+fn tables(rt: HostRuntime) {
     let alloc = rt.alloc();
     let mut table = Table::new(alloc);
-    assert!(rt; table.insert(3u16, 30u16)?.is_none());
-    assert!(rt; table.insert(1, 10)?.is_none());
-    assert_eq!(rt; table.insert(3, 33)?, Some(30));
-    assert_eq!(rt; table.get(&3).copied(), Some(33));
-    assert_eq!(rt; table.len(), 2);
-    assert!(rt; table.clone()? == table);
-    assert_eq!(rt; table.remove(&1), Some(10));
-    assert!(rt; table.get(&1).is_none());
-    Ok(())
+    holds(
+        &rt,
+        table.insert(3u16, 30u16).expect(&rt, "memory").is_none(),
+    );
+    holds(&rt, table.insert(1, 10).expect(&rt, "memory").is_none());
+    equal(&rt, table.insert(3, 33).expect(&rt, "memory"), Some(30));
+    equal(&rt, table.get(&3).copied(), Some(33));
+    equal(&rt, table.len(), 2);
+    holds(&rt, table.clone().expect(&rt, "memory") == table);
+    equal(&rt, table.remove(&1), Some(10));
+    holds(&rt, table.get(&1).is_none());
 }

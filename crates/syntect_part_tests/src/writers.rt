@@ -1,5 +1,5 @@
 //! Worked examples.
-use std::test::Fail;
+use crate::found::equal;
 use syntect_theme::style::{Color, FontStyle, Style};
 use syntect_theme::theme::Theme;
 use syntect_writers::escape::Escape;
@@ -25,45 +25,52 @@ fn on_white(foreground: Color) -> Style {
 }
 
 #[test]
-fn escapes_five_characters(rt: HostRuntime) -> Result<(), Fail> {
-    let text = format!(in rt.alloc(); "{}", Escape("<a href=\"x\">'&'</a>ü"))?;
-    assert_eq!(rt;
-        text.as_str(),
-        "&lt;a href=&quot;x&quot;&gt;&#39;&amp;&#39;&lt;/a&gt;ü"
+fn escapes_five_characters(rt: HostRuntime) {
+    let text = format!(in rt.alloc(); "{}", Escape("<a href=\"x\">'&'</a>ü")).expect(
+        &rt,
+        "an answer",
     );
-    Ok(())
+    equal(
+        &rt,
+        text.as_str(),
+        "&lt;a href=&quot;x&quot;&gt;&#39;&amp;&#39;&lt;/a&gt;ü",
+    );
 }
 
 #[test]
-fn a_piece_that_begins_with_white_space_keeps_its_style(rt: HostRuntime) -> Result<(), Fail> {
+fn a_piece_that_begins_with_white_space_keeps_its_style(rt: HostRuntime) {
     let pieces = [
         (on_white(grey(1, 255)), "a"),
         (on_white(grey(3, 255)), " b"),
     ];
-    let mut html = String::from_str(rt.alloc(), "x")?;
+    let mut html = String::from_str(rt.alloc(), "x").expect(&rt, "an answer");
     let behind = IncludeBackground::IfDifferent(grey(2, 255));
-    append_highlighted_html_for_styled_line(&pieces, behind, &mut html)?;
-    assert_eq!(rt;
+    append_highlighted_html_for_styled_line(&pieces, behind, &mut html).expect(&rt, "an answer");
+    equal(
+        &rt,
         html.as_str(),
-        "x<span style=\"background-color:#ffffff;color:#010101;\">a</span><span style=\"background-color:#ffffff;color:#030303;\"> b</span>"
+        "x<span style=\"background-color:#ffffff;color:#010101;\">a</span><span style=\"background-color:#ffffff;color:#030303;\"> b</span>",
     );
-    Ok(())
 }
 
 #[test]
-fn the_frame_of_a_theme(rt: HostRuntime) -> Result<(), Fail> {
+fn the_frame_of_a_theme(rt: HostRuntime) {
     let mut theme = Theme::default(rt.alloc());
-    let (white, color) = start_highlighted_html_snippet(rt.alloc(), &theme)?;
-    assert_eq!(rt;
+    let (white, color) = start_highlighted_html_snippet(rt.alloc(), &theme).expect(
+        &rt,
+        "an answer",
+    );
+    equal(
+        &rt,
         white.as_str(),
-        "<pre style=\"background-color:#ffffff;\">\n"
+        "<pre style=\"background-color:#ffffff;\">\n",
     );
-    assert_eq!(rt; color, Color::WHITE);
+    equal(&rt, color, Color::WHITE);
     theme.settings.background = Some(grey(2, 255));
-    let (dark, _) = start_highlighted_html_snippet(rt.alloc(), &theme)?;
-    assert_eq!(rt;
+    let (dark, _) = start_highlighted_html_snippet(rt.alloc(), &theme).expect(&rt, "an answer");
+    equal(
+        &rt,
         dark.as_str(),
-        "<pre style=\"background-color:#020202;\">\n"
+        "<pre style=\"background-color:#020202;\">\n",
     );
-    Ok(())
 }
