@@ -103,29 +103,51 @@ pub fn answer(alloc: Global, line: &str, out: &mut String) -> io::Result<()> {
     Ok(())
 }
 
+/// The text of a file. Where it cannot be read, that is said.
+pub fn text_of(rt: &(impl Eprint + AllocGlobal + Files), path: &str) -> io::Result<Option<String>> {
+    match fs::read_to_string(rt, path) {
+        Ok(text) => Ok(Some(text)),
+        Err(_) => {
+            eprintln!(rt; "syntect_bench: cannot read {path}")?;
+            Ok(None)
+        }
+    }
+}
+
+/// The answers to the queries of a text, a line each.
+fn answers_of(alloc: Global, text: &str) -> io::Result<String> {
+    let mut out = String::new(alloc);
+    for line in text.lines() {
+        answer(alloc, line, &mut out)?;
+    }
+    Ok(out)
+}
+
 /// Prints the answer to each query of a file: `BAD` for no pattern, `NONE` where nothing is found, or where the groups
 /// stand, each with a space behind it, `-` for one that is not set.
 pub fn answers(
     rt: &(impl Print + Eprint + AllocGlobal + Files),
     path: &str,
 ) -> io::Result<ExitCode> {
-    let Ok(text) = fs::read_to_string(rt, path) else {
-        eprintln!(rt; "syntect_bench: cannot read {path}")?;
+    let Some(text) = text_of(rt, path)? else {
         return Ok(ExitCode::from(1));
     };
-    let mut out = String::new(rt.alloc());
-    for line in text.lines() {
-        answer(rt.alloc(), line, &mut out)?;
-    }
+    let out = answers_of(rt.alloc(), text.as_str())?;
     print!(rt; "{out}")?;
     Ok(ExitCode::SUCCESS)
+}
+
+/// The text of a file in `data`.
+fn read_below(rt: &(impl AllocGlobal + Files), name: &str) -> io::Result<String> {
+    let path = format!(in rt.alloc(); "data/{name}")?;
+    fs::read_to_string(rt, path.as_str())
 }
 
 /// The text of a file in the folder, or in `data` below it.
 fn read_data(rt: &(impl AllocGlobal + Files), name: &str) -> io::Result<String> {
     match fs::read_to_string(rt, name) {
         Ok(text) => Ok(text),
-        Err(_) => fs::read_to_string(rt, format!(in rt.alloc(); "data/{name}")?.as_str()),
+        Err(_) => read_below(rt, name),
     }
 }
 
@@ -139,13 +161,12 @@ fn is_answered(alloc: Global, line: &str) -> io::Result<bool> {
     Ok(out.as_str().trim_end() == wanted)
 }
 
-/// How many of the queries of a file, each of which stands behind its answer, are answered so, and how many otherwise.
-pub fn count_answers(rt: &(impl AllocGlobal + Files), name: &str) -> io::Result<(u32, u32)> {
-    let text = read_data(rt, name)?;
+/// How many of the queries of a text, each of which stands behind its answer, are answered so, and how many otherwise.
+fn count_lines(alloc: Global, text: &str) -> io::Result<(u32, u32)> {
     let mut answered = 0u32;
     let mut others = 0u32;
     for line in text.lines() {
-        if is_answered(rt.alloc(), line)? {
+        if is_answered(alloc, line)? {
             answered = answered.saturating_add(1);
         } else {
             others = others.saturating_add(1);
@@ -154,13 +175,17 @@ pub fn count_answers(rt: &(impl AllocGlobal + Files), name: &str) -> io::Result<
     Ok((answered, others))
 }
 
-/// How many of the texts of a file, with a line `%%` between two, are patterns, and how many are none.
-pub fn count_patterns(rt: &(impl AllocGlobal + Files), name: &str) -> io::Result<(u32, u32)> {
-    let text = read_data(rt, name)?;
+/// The same of the queries of a file.
+pub fn count_answers(rt: &(impl AllocGlobal + Files), name: &str) -> io::Result<(u32, u32)> {
+    count_lines(rt.alloc(), read_data(rt, name)?.as_str())
+}
+
+/// How many texts, with a line `%%` between two, are patterns, and how many are none.
+pub fn count_texts(alloc: Global, text: &str) -> io::Result<(u32, u32)> {
     let mut patterns = 0u32;
     let mut others = 0u32;
-    for pattern in text.as_str().split("\n%%\n") {
-        match Regex::try_compile(rt.alloc(), pattern) {
+    for pattern in text.split("\n%%\n") {
+        match Regex::try_compile(alloc, pattern) {
             None => patterns = patterns.saturating_add(1),
             Some(PatternError::NotAPattern) => others = others.saturating_add(1),
             Some(PatternError::Memory) => {
@@ -169,6 +194,11 @@ pub fn count_patterns(rt: &(impl AllocGlobal + Files), name: &str) -> io::Result
         }
     }
     Ok((patterns, others))
+}
+
+/// The same of the texts of a file.
+pub fn count_patterns(rt: &(impl AllocGlobal + Files), name: &str) -> io::Result<(u32, u32)> {
+    count_texts(rt.alloc(), read_data(rt, name)?.as_str())
 }
 
 /// The least time of some rounds of searches, in nanoseconds a search.
@@ -195,29 +225,36 @@ fn sum(times: &[u64]) -> u64 {
     all
 }
 
-/// Prints how long the queries of a file take: the sum of all, the sum without the slowest hundredth, the median, what 99
-/// of 100 lie below, and the slowest.
-pub fn time_queries(
-    rt: &(impl Print + Eprint + AllocGlobal + Files + Clock),
-    path: &str,
+/// The time of a line's query, if it is one and has a pattern.
+fn time_of_line(
+    rt: &(impl AllocGlobal + Clock),
+    line: &str,
     rounds: u32,
-) -> io::Result<ExitCode> {
-    let Ok(text) = fs::read_to_string(rt, path) else {
-        eprintln!(rt; "syntect_bench: cannot read {path}")?;
-        return Ok(ExitCode::from(1));
-    };
+) -> io::Result<Option<u64>> {
+    match read_query(rt.alloc(), line)? {
+        Some(query) if query.is_pattern => Ok(Some(least_time(rt, &query, rounds)?)),
+        _ => Ok(None),
+    }
+}
+
+/// The times of a text's queries, the least first.
+fn times_of(rt: &(impl AllocGlobal + Clock), text: &str, rounds: u32) -> io::Result<Vec<u64>> {
     let mut times = Vec::new(rt.alloc());
     for line in text.lines() {
-        if let Some(query) = read_query(rt.alloc(), line)? {
-            if query.is_pattern {
-                times.push(least_time(rt, &query, rounds)?)?;
-            }
+        if let Some(time) = time_of_line(rt, line, rounds)? {
+            times.push(time)?;
         }
     }
     times.sort()?;
+    Ok(times)
+}
+
+/// Prints the sum of times, of which the least come first, the sum without the slowest hundredth, the median, what 99 of
+/// 100 lie below, and the slowest.
+fn show_times(rt: &impl Print, times: &[u64]) -> io::Result<()> {
     let most = times.len() - times.len() / 100;
-    let all = sum(times.as_slice());
-    let quick = sum(times.as_slice().split_at(most).0);
+    let all = sum(times);
+    let quick = sum(times.split_at(most).0);
     println!(rt; "sum {all} ns, without the slowest hundredth {quick} ns")?;
     for (name, place) in [
         ("median", times.len() / 2),
@@ -228,5 +265,19 @@ pub fn time_queries(
             println!(rt; "{name} {nanos} ns")?;
         }
     }
+    Ok(())
+}
+
+/// Prints how long the queries of a file take.
+pub fn time_queries(
+    rt: &(impl Print + Eprint + AllocGlobal + Files + Clock),
+    path: &str,
+    rounds: u32,
+) -> io::Result<ExitCode> {
+    let Some(text) = text_of(rt, path)? else {
+        return Ok(ExitCode::from(1));
+    };
+    let times = times_of(rt, text.as_str(), rounds)?;
+    show_times(rt, times.as_slice())?;
     Ok(ExitCode::SUCCESS)
 }
