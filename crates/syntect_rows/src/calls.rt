@@ -2,7 +2,7 @@
 use crate::made::{
     another_set, captures_without_effect, first_line, left_start, no_start, unresolved_line,
 };
-use crate::readers::readers;
+use crate::readers::{faults_behind_lines, readers, theme_readers};
 use crate::searching::references;
 use std::alloc::Global;
 use std::io;
@@ -24,6 +24,10 @@ enum Row {
     LongLoop,
     /// Pages of what readers give.
     Readers,
+    /// Pages of what readers give before a fault.
+    FaultsBehindLines,
+    /// Themes of what readers give.
+    ThemeReaders,
     /// Flags by their bits, and as texts.
     Flags,
     /// A first context that a line leaves.
@@ -35,7 +39,7 @@ enum Row {
 }
 
 /// The examples in order, by their labels.
-const ROWS: [(&str, Row); 10] = [
+const ROWS: [(&str, Row); 12] = [
     ("17", Row::FirstLine),
     ("R1.1", Row::UnresolvedLine),
     ("R1.2", Row::NoStart),
@@ -46,6 +50,8 @@ const ROWS: [(&str, Row); 10] = [
     ("R12.2", Row::LeftStart),
     ("R12.3", Row::Captures),
     ("R12.5", Row::AnotherSet),
+    ("R13.1", Row::FaultsBehindLines),
+    ("R13.2", Row::ThemeReaders),
 ];
 
 /// Whether an example comes out as it is written. Want of memory counts as no.
@@ -57,6 +63,8 @@ fn holds(alloc: Global, row: Row) -> bool {
         Row::References => references(alloc),
         Row::LongLoop => long_loop(alloc),
         Row::Readers => readers(alloc),
+        Row::FaultsBehindLines => faults_behind_lines(alloc),
+        Row::ThemeReaders => theme_readers(alloc),
         Row::Flags => flags(alloc),
         Row::LeftStart => left_start(alloc),
         Row::Captures => captures_without_effect(alloc),

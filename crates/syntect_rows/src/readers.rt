@@ -1,14 +1,16 @@
-//! The examples about pages of what a reader gives.
+//! The examples about pages and themes of what a reader gives.
 use std::alloc::Global;
 use std::io;
 use std::io::{BufRead, Read};
 use syntect::Error;
 use syntect::html::highlighted_html_for_reader;
+use syntect_base::loading::{LoadingError, SettingsError};
 use syntect_parsing::parser::ParsingError;
 use syntect_parsing::syntax_definition::SyntaxDefinition;
 use syntect_parsing::syntax_set::{SyntaxSet, SyntaxSetBuilder};
 use syntect_scope::repository::ScopeRepository;
 use syntect_theme::theme::Theme;
+use syntect_theme_files::theme_set::ThemeSet;
 
 const GRAMMAR: &str =
     "name: T\nscope: source.t\ncontexts: {main: [{match: x, push: 'scope:source.none'}]}\n";
@@ -91,19 +93,40 @@ fn leading_out(alloc: Global) -> Option<SyntaxSet> {
     builder.build(alloc, &mut repository).ok()
 }
 
-/// Readers that give all, that fail, and whose bytes are no text: of several faults the first in the order of lines.
+/// Readers that give all, that fail, and whose bytes are no text.
 pub fn readers(alloc: Global) -> Option<bool> {
     let set = leading_out(alloc)?;
     let whole: &[u8] = b"a\nb";
     let no_text: &[u8] = b"\xff\n";
-    let late: &[u8] = b"a\n\xff\n";
-    let refused: &[u8] = b"ax\n\xff\n";
     let mut holds = comes_to(alloc, whole, &set, Outcome::Page(TWO_LINES))?;
     holds &= comes_to(alloc, Failing { bytes: b"x" }, &set, Outcome::Io)?;
-    holds &= comes_to(alloc, Failing { bytes: b"a\n" }, &set, Outcome::Io)?;
     holds &= comes_to(alloc, no_text, &set, Outcome::Io)?;
+    Some(holds)
+}
+
+/// Faults behind a line: of several the first in the order of lines.
+pub fn faults_behind_lines(alloc: Global) -> Option<bool> {
+    let set = leading_out(alloc)?;
+    let late: &[u8] = b"a\n\xff\n";
+    let refused: &[u8] = b"ax\n\xff\n";
+    let mut holds = comes_to(alloc, Failing { bytes: b"a\n" }, &set, Outcome::Io)?;
     holds &= comes_to(alloc, late, &set, Outcome::Io)?;
     holds &= comes_to(alloc, refused, &set, Outcome::Unresolved)?;
     holds &= comes_to(alloc, Failing { bytes: b"x\n" }, &set, Outcome::Unresolved)?;
     Some(holds)
+}
+
+/// A theme that does not end.
+const HALF_A_THEME: &str = "{\"settings\":[{\"set";
+
+/// A theme's reader that fails where its bytes end, and one that ends there.
+pub fn theme_readers(alloc: Global) -> Option<bool> {
+    let mut repository = ScopeRepository::new(alloc);
+    let mut bytes = HALF_A_THEME.as_bytes();
+    let mut failing = Failing { bytes };
+    let failed = ThemeSet::load_from_reader(alloc, &mut failing, &mut repository);
+    let ended = ThemeSet::load_from_reader(alloc, &mut bytes, &mut repository);
+    let is_io = matches!(failed, Err(LoadingError::Io(_)));
+    let is_json = matches!(ended, Err(LoadingError::ReadSettings(SettingsError::Json)));
+    Some(is_io & is_json)
 }
