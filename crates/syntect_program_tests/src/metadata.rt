@@ -6,7 +6,7 @@ use std::test::Fail;
 use syntect::parsing::{Scope, ScopeRepository, SyntaxSet, SyntaxSetBuilder};
 
 /// A file's name and text.
-type File = (&'static str, &'static str);
+pub type File = (&'static str, &'static str);
 
 /// Two files of one scope, of which the later counts key by key; one of another scope; a property list; and a file whose name
 /// has no extension.
@@ -46,7 +46,7 @@ const SECOND: [File; 2] = [
 ];
 
 /// Writes the files into a new folder of this name.
-fn written(rt: &HostRuntime, name: &str, files: &[File]) -> Result<PathBuf, Fail> {
+pub fn written(rt: &HostRuntime, name: &str, files: &[File]) -> Result<PathBuf, Fail> {
     let folder = folder(rt, name)?;
     for (name, text) in files {
         let mut path = folder.clone()?;
