@@ -105,7 +105,7 @@ module _ (finds : FindsInText dialect) (reader : LineReader) (i : ℕ) (run : Ru
         let told : Tells reader.set.now (get_or flats k d) = All-get_or (Tells reader.set.now) flats k d l r.flats.tells in
         let begins : (((get_or flats k d).has_captures ≡ m.has_captures)) × NoneBeginsOutside (get_or flats k d).begins m.regex × ((get_or flats k d).at_edges ≡ true → BeginsAtEdges m.regex) = rw e at told in
         let same : m.regex ≡ searched_text dialect m (option_copied run.part.opening) = own_text k d m l e n in
-        ahead_next reader (part_member run.part m) lost i (a m e) (rw same at (none_here (get_or flats k d) m.regex begins.1 out))
+        ahead_next reader (part_member run.part m) lost i (a m e) (rw same at (none_here (get_or flats k d) m.regex (begins.1, begins.2) out))
 
     -- those between two indexes that can't begin here change nothing,
     pub skipped : (lost : Bool) (b : Best) (ms : List Live) (j k : ℕ) → j ≤ k → (j < k → run.replaced.items ≡ [])
