@@ -10,7 +10,7 @@ use crate::starts::{Places, either, nowhere};
 use std::alloc::{AllocError, Global};
 use syntect_values::seq::Seq;
 
-/// How many alternations, each the second part of the next, make a list for which jumps are kept.
+/// How many alternations in a row, each the second part of the next, make a list for which jumps are kept.
 const LONG: usize = 8;
 
 /// From a node to one behind some of its branches.
@@ -23,24 +23,39 @@ pub struct Jump {
     pub places: Places,
 }
 
-/// How many alternations in a row, this node the last, have the node right before them as their second part.
-fn run_with(node: &Node, place: usize, run: usize) -> usize {
+/// Whether the node is an alternation whose second part is the node right before it.
+fn is_link(node: &Node, place: usize) -> bool {
     match node {
-        Node::Alternation(_, second) if *second == place.saturating_sub(1) => run.saturating_add(1),
-        _ => 0,
+        Node::Alternation(_, second) => *second == place.saturating_sub(1),
+        _ => false,
     }
 }
 
-/// Where the first long list of branches begins, or the end of the table.
+/// How many of the nodes are such alternations.
+fn links(nodes: &[Node], low: usize, high: usize) -> usize {
+    let mut count = 0usize;
+    for place in low..high.min(nodes.len()) {
+        if is_link(&nodes[place], place) {
+            count = count.saturating_add(1);
+        }
+    }
+    count
+}
+
+/// Where about the first long list of branches begins, or the end of the table. Not every node is looked at: of so many in a
+/// row one is.
 pub fn long_from(nodes: &[Node]) -> usize
     ensures { result ≤ length nodes.now }
 {
-    let mut run = 0;
-    for place in 0..nodes.len() {
-        run = run_with(&nodes[place], place, run);
-        if run == LONG {
-            return (place + 1).saturating_sub(LONG);
+    let mut place = LONG;
+    while place < nodes.len() {
+        if is_link(&nodes[place], place) {
+            let low = place - (LONG - 1);
+            if links(nodes, low, place.saturating_add(LONG)) >= LONG {
+                return low;
+            }
         }
+        place = place.saturating_add(LONG);
     }
     nodes.len()
 }
@@ -106,12 +121,10 @@ pub fn jumps_of(
     requires from { from ≤ length nodes.now }
     ensures { IfOk result (λ js. AreJumps from js (trees nodes.now)) }
 {
-    let mut jumps = Vec::new(alloc);
+    let mut jumps = Vec::with_capacity(alloc, nodes.len() - from)?;
     for place in from..nodes.len() {
         let next = jump_from(nodes, place, firsts, jumps.as_slice(), from);
         jumps.push(next)?;
     }
-    let mut jumps = Seq::from_vec(jumps);
-    jumps.shrink_to_fit();
-    Ok(jumps)
+    Ok(Seq::from_vec(jumps))
 }

@@ -119,8 +119,8 @@ impl Program {
         }
     }
 
-    /// The node behind branches of a long alternation that have no match at the place, as what stands there tells, if it is
-    /// known that its first ones have none.
+    /// The node behind the first branches of a long alternation, which have no match at the place, as what stands there tells.
+    /// None where they may have one, and for other nodes.
     #[inline]
     pub fn past_branches(&self, text: &str, place: usize, node: usize) -> Option<usize>
         requires { IsCharBoundary text.now place }
