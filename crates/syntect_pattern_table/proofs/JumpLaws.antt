@@ -1,12 +1,14 @@
 -- Jumps past branches.
-use Rattle.std.proofs.Common.{◌≡◌, ◌<◌, ◌+◌, ◌||◌, ℕ, zero, suc, Bool, true, false, List, [], ◌∷◌, ◌++◌, length, length-append, get_or, refl, sym, ◌∙◌, ap, arith}
+use Rattle.std.proofs.Common.{◌≡◌, ◌<◌, ◌+◌, ◌||◌, ℕ, zero, suc, Bool, true, false, List, [], ◌∷◌, ◌++◌, length, length-append, get_or, refl, sym, ◌∙◌, ap, subst, arith, below_more}
 use Rattle.std.specs.Prelude.{IsUtf8, IsCharBoundary}
 use Rattle.std.specs.List.{list_any}
+use Rattle.std.proofs.Math.ListN.{get_or-append}
+use Rattle.std.proofs.Math.Seq.{get_or-append_seam}
 use Rattle.std.proofs.lemmas.List.Folds.{list_any-append}
 use Rattle.syntect_pattern.specs.Trees.{Tree, nothing, alt}
 use Rattle.syntect_pattern_table.specs.Table.{IsOrdered, trees}
 use Rattle.syntect_pattern_table.specs.Starts.{AreFirsts, start_at, is_in, reads, stays}
-use Rattle.syntect_pattern_table.specs.Jumps.{branches, tree_behind, HasBranches, IsJump, LeadsPast}
+use Rattle.syntect_pattern_table.specs.Jumps.{branches, tree_behind, AreJumps, HasBranches, IsJump, LeadsPast}
 use Rattle.syntect_pattern_table.specs.declared.jumps.Jump.{Jump}
 use Rattle.syntect_pattern_table.specs.declared.node.Node.{Node}
 use Rattle.syntect_pattern_table.specs.declared.starts.Places.{Places}
@@ -78,6 +80,12 @@ pub jump-first : (nodes : List Node) → IsOrdered nodes → (k : ℕ) (n : Node
 jump-first nodes h k n l is a b e ps count firsts d =
     jump-one (trees nodes) k a b (get_or ps a d) (tree-is nodes h k n l is (Node.Alternation a b) e) (second-before nodes h k n l is (Node.Alternation a b) e a b refl)
     (λ x m. firsts a x d (let p : a < k = first-before nodes h k n l is (Node.Alternation a b) e a b refl in omega (arith, p, l, count)) m)
+
+pub AreJumps-push : (from : ℕ) (js : List Jump) (ts : List Tree) (j : Jump) (k : ℕ) → AreJumps from js ts → from + length js ≡ k → IsJump ts k j → AreJumps from (js ++ j ∷ []) ts
+AreJumps-push from js ts j k h e is n d l =
+    below_more (λ m. (c : Jump) → IsJump ts (from + m) (get_or (js ++ j ∷ []) m c)) (length js)
+    (λ m p c. subst (IsJump ts (from + m)) (sym (get_or-append js (j ∷ []) c m p)) (h m c p))
+    (λ c. subst (IsJump ts (from + length js)) (sym (get_or-append_seam js j [] c)) (subst (λ m. IsJump ts m j) (sym e) is)) n (omega (arith, length-append js (j ∷ []))) d
 
 none_begins : (x : ℕ) (bs : List Tree) → list_any (can_begin x) bs ≡ false → (n : ℕ) (d : Tree) → n < length bs → can_begin x (get_or bs n d) ≡ false
 none_begins x [] h n d l = absurd (omega arith)
