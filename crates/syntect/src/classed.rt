@@ -8,11 +8,12 @@ ghost use Rattle.syntect_classed.specs.Classes.{prefix_of};
 ghost use Rattle.syntect_classed.specs.Marks.{marks, written, stack_after, some_refused};
 ghost use Rattle.syntect_scope.specs.Replay.{InOrder};
 
+use crate::memory::SearchMemory;
 use std::alloc::{AllocError, Global};
 use syntect_classed::spans;
 pub use syntect_classed::style::ClassStyle;
 use syntect_parsing::error::Error;
-use syntect_parsing::parser::{ParseState, Regions};
+use syntect_parsing::parser::ParseState;
 use syntect_parsing::syntax_set::{SyntaxReference, SyntaxSet};
 use syntect_scope::repository::ScopeRepository;
 use syntect_scope::stack::{ScopeStack, ScopeStackOp};
@@ -54,7 +55,7 @@ pub struct ClassedHTMLGenerator<'a> {
     scope_stack: ScopeStack,
     html: String,
     /// The memory of searches, line by line.
-    regions: Regions,
+    memory: SearchMemory,
 }
 
 /// Written out, so that crates above call it and needn't prove each part's drop again.
@@ -67,7 +68,7 @@ impl<'a> Drop for ClassedHTMLGenerator<'a> {
             parse_state: _,
             scope_stack: _,
             html: _,
-            regions: _,
+            memory: _,
         } = self;
     }
 }
@@ -98,7 +99,7 @@ impl<'a> ClassedHTMLGenerator<'a> {
             parse_state,
             scope_stack: ScopeStack::new(alloc),
             html: String::new(alloc),
-            regions: Regions::new(alloc),
+            memory: SearchMemory::new(alloc),
         })
     }
 
@@ -111,7 +112,7 @@ impl<'a> ClassedHTMLGenerator<'a> {
         ensures err { OnErr result (StaysAt self.old self.new) }
     {
         let alloc = *self.html.allocator();
-        let regions = &mut self.regions;
+        let regions = self.memory.lend();
         let (parse_state, ops) = self
             .parse_state
             .after_line(alloc, line, self.syntax_set, regions)?;
@@ -141,7 +142,7 @@ impl<'a> ClassedHTMLGenerator<'a> {
             parse_state: _,
             scope_stack,
             html,
-            regions: _,
+            memory: _,
         } = self;
         closed(html, scope_stack.len())
     }

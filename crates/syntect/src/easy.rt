@@ -9,6 +9,7 @@ ghost use Rattle.syntect_contexts.specs.declared.syntax_reference.SyntaxReferenc
 ghost use Rattle.syntect_grammar.specs.declared.syntax_set.SyntaxSet.{SyntaxSet as ASet};
 ghost use Rattle.syntect.specs.declared.easy.HighlightLines.{HighlightLines as ALines};
 
+use crate::memory::SearchMemory;
 use crate::reading::first_line;
 use std::alloc::{AllocError, Global};
 use std::io::{BufRead, BufReader, Read};
@@ -20,7 +21,7 @@ use syntect_parsing::error::Error;
 use syntect_parsing::laws::{
     answers_more, links_closed, never_both, refuses_unresolved, stack_is_open,
 };
-use syntect_parsing::parser::{ParseState, Regions};
+use syntect_parsing::parser::ParseState;
 use syntect_parsing::syntax_set::{SyntaxReference, SyntaxSet};
 use syntect_scope::stack::ScopeStack;
 use syntect_style::highlighter::Highlighter;
@@ -37,7 +38,7 @@ pub struct HighlightLines<'a> {
     /// The styles are worked out in it, line by line, so that a refusal leaves those before the line.
     spare: HighlightState,
     /// The memory of searches, line by line.
-    regions: Regions,
+    memory: SearchMemory,
 }
 
 /// Written out, so that crates above call it and needn't prove each part's drop again.
@@ -48,7 +49,7 @@ impl<'a> Drop for HighlightLines<'a> {
             parse_state: _,
             highlight_state: _,
             spare: _,
-            regions: _,
+            memory: _,
         } = self;
     }
 }
@@ -78,7 +79,7 @@ impl<'a> HighlightLines<'a> {
             parse_state,
             highlight_state,
             spare,
-            regions: Regions::new(alloc),
+            memory: SearchMemory::new(alloc),
         })
     }
 
@@ -103,7 +104,7 @@ impl<'a> HighlightLines<'a> {
             parse_state,
             highlight_state,
             spare,
-            regions: Regions::new(alloc),
+            memory: SearchMemory::new(alloc),
         })
     }
 
@@ -117,11 +118,11 @@ impl<'a> HighlightLines<'a> {
             parse_state,
             highlight_state,
             spare,
-            regions,
+            memory,
         } = self;
         drop(highlighter);
         drop(spare);
-        drop(regions);
+        drop(memory);
         (highlight_state, parse_state)
     }
 
@@ -150,7 +151,7 @@ impl<'a> HighlightLines<'a> {
         never_both();
         refuses_unresolved();
         links_closed();
-        let regions = &mut self.regions;
+        let regions = self.memory.lend();
         let (parse_state, ops) = self
             .parse_state
             .after_line(alloc, line, syntax_set, regions)?;

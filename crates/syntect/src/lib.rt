@@ -11,6 +11,7 @@ pub mod explain;
 pub mod highlighting;
 pub mod html;
 pub mod laws;
+mod memory;
 pub mod parsing;
 pub mod reading;
 pub mod util;

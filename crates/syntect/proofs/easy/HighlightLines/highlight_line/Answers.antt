@@ -23,7 +23,7 @@ returns-in_err-pieces-clause-answered c = λ past h.
 pub returns-clause-answered : goal.returns-clause-answered
 returns-clause-answered c = λ past h.
     continues past c.args.syntax_set.now c.args.line _ (Ok c.in_ok-pieces.pieces) h.built (
-    lead_accepted c.args.syntax_set.now past.theme past.syntax past.lines past.answers c.args.line c.args.self.now (record { highlighter = c.args.self.now.highlighter; parse_state = c.in_ok-parse_state.parse_state; highlight_state = c.swap.new.x; spare = c.swap.new.y; regions = c.in_ok-parse_state.after_line.new.regions }) c.in_ok-parse_state.ops.items c.in_ok-pieces.pieces c.answers_more.ensures c.stack_is_open.ensures (built_begins_plain c.args.syntax_set.now past.syntax past.definitions h.built) h.leads
+    lead_accepted c.args.syntax_set.now past.theme past.syntax past.lines past.answers c.args.line c.args.self.now (record { highlighter = c.args.self.now.highlighter; parse_state = c.in_ok-parse_state.parse_state; highlight_state = c.swap.new.x; spare = c.swap.new.y; memory = tt }) c.in_ok-parse_state.ops.items c.in_ok-pieces.pieces c.answers_more.ensures c.stack_is_open.ensures (built_begins_plain c.args.syntax_set.now past.syntax past.definitions h.built) h.leads
     c.in_ok-parse_state.ensures.accepted
     (rw c.swap.ensures.x_after (record {
       joins = c.in_ok-pieces.ensures.joins;
