@@ -1,7 +1,7 @@
 //! What sets answer.
 use crate::given::{Asked, Entry, ask, is_text};
 use std::alloc::{AllocError, Global};
-use std::test::Fail;
+use std::process::Abort;
 use syntect_metadata::scoped::ScopedMetadata;
 
 /// Questions on lines: of a line that isn't looked at, of less and of more, of the next line, and of no more there.
@@ -35,32 +35,22 @@ fn answers(scoped: &ScopedMetadata<'_>, rows: &[(Question, &'static str, bool)])
     true
 }
 
-/// Whether the sets of a scope, and a copy of them, answer so.
-fn both_answer(asked: &Asked, rows: &[(Question, &'static str, bool)]) -> bool {
-    let Ok(scoped) = asked.scoped() else {
-        return false;
-    };
-    match scoped.clone() {
-        Ok(copy) => answers(&scoped, rows) & answers(&copy, rows),
-        Err(_) => false,
-    }
-}
-
-/// Whether the metadata of entries, asked for a scope, answers so.
+/// The metadata of entries, asked for a scope, and a copy of it, answer so.
 fn answered(
+    rt: &impl Abort,
     alloc: Global,
     entries: &[Entry],
     scope: &str,
     rows: &[(Question, &'static str, bool)],
-) -> bool {
-    match ask(alloc, entries, scope) {
-        Some(asked) => both_answer(&asked, rows),
-        None => false,
-    }
+) {
+    let asked = ask(rt, alloc, entries, scope);
+    let scoped = asked.scoped(rt);
+    let copy = scoped.clone().expect(rt, "memory");
+    assert!(rt; answers(&scoped, rows) & answers(&copy, rows), "{scope}");
 }
 
 #[test]
-fn the_first_pattern_answers(rt: HostRuntime) -> Result<(), Fail> {
+fn the_first_pattern_answers(rt: HostRuntime) {
     let entries = [
         (
             "1",
@@ -83,12 +73,11 @@ fn the_first_pattern_answers(rt: HostRuntime) -> Result<(), Fail> {
         (Question::NextLine, "e", true),
         (Question::Increase, "x", false),
     ];
-    assert!(rt; answered(rt.alloc(), &entries, "source.a", &rows));
-    Ok(())
+    answered(&rt, rt.alloc(), &entries, "source.a", &rows);
 }
 
 #[test]
-fn indent_of_braces(rt: HostRuntime) -> Result<(), Fail> {
+fn indent_of_braces(rt: HostRuntime) {
     let entries = [(
         "1",
         "source.rust",
@@ -102,44 +91,41 @@ fn indent_of_braces(rt: HostRuntime) -> Result<(), Fail> {
         (Question::Decrease, "struct This {}", false),
         (Question::Increase, "struct This {}", false),
     ];
-    assert!(rt; answered(rt.alloc(), &entries, "source.rust", &rows));
-    Ok(())
+    answered(&rt, rt.alloc(), &entries, "source.rust", &rows);
 }
 
 #[test]
-fn no_set_matches(rt: HostRuntime) -> Result<(), Fail> {
+fn no_set_matches(rt: HostRuntime) {
     let entries = [("1", "source.a", "{\"unIndentedLinePattern\":\"^x\"}")];
     let rows = [(Question::Unindented, "xy", false)];
-    assert!(rt; answered(rt.alloc(), &entries, "text", &rows));
-    Ok(())
+    answered(&rt, rt.alloc(), &entries, "text", &rows);
 }
 
 /// Whether so many sets match, and comments have these marks.
-fn has_marks(asked: &Asked, count: usize, line: Option<&str>, block: Option<(&str, &str)>) -> bool {
-    match asked.scoped() {
-        Ok(scoped) => {
-            (scoped.items.len() == count)
-                & (scoped.is_empty() == (count == 0))
-                & is_text(scoped.line_comment(), line)
-                & (scoped.block_comment() == block)
-        }
-        Err(_) => false,
-    }
-}
-
-/// Whether that is so of the metadata of entries, asked for a scope.
-fn marks(
-    alloc: Global,
-    entries: &[Entry],
-    scope: &str,
+fn has_marks(
+    scoped: &ScopedMetadata<'_>,
     count: usize,
     line: Option<&str>,
     block: Option<(&str, &str)>,
 ) -> bool {
-    match ask(alloc, entries, scope) {
-        Some(asked) => has_marks(&asked, count, line, block),
-        None => false,
-    }
+    (scoped.items.len() == count)
+        & (scoped.is_empty() == (count == 0))
+        & is_text(scoped.line_comment(), line)
+        & (scoped.block_comment() == block)
+}
+
+/// How many sets match a scope, and what marks comments there: in a line, and around a block.
+type Marks = (
+    usize,
+    Option<&'static str>,
+    Option<(&'static str, &'static str)>,
+);
+
+/// The metadata of entries, asked for a scope, has these marks.
+fn marked(rt: &impl Abort, alloc: Global, entries: &[Entry], scope: &str, marks: Marks) {
+    let asked = ask(rt, alloc, entries, scope);
+    let scoped = asked.scoped(rt);
+    assert!(rt; has_marks(&scoped, marks.0, marks.1, marks.2), "{scope}");
 }
 
 const ONE: &str = "{\"shellVariables\":[{\"name\":\"TM_COMMENT_START\",\"value\":\"1\"}]}";
@@ -151,32 +137,21 @@ const COMMENTS: &str =
     "{\"shellVariables\":[{\"name\":\"TM_COMMENT_START\",\"value\":\"-- \"},{\"name\":\"TM_COMMENT_START_2\",\"value\":\"# \"},{\"name\":\"TM_COMMENT_START_3\",\"value\":\"(*\"},{\"name\":\"TM_COMMENT_END_3\",\"value\":\"*)\"},{\"name\":\"TM_COMMENT_DISABLE_INDENT_3\",\"value\":\"yes\"}]}";
 
 #[test]
-fn equal_scores_in_order_of_scope_texts(rt: HostRuntime) -> Result<(), Fail> {
+fn equal_scores_in_order_of_scope_texts(rt: HostRuntime) {
     let entries = [("1", "a, b", ONE), ("2", "a", TWO)];
-    assert!(rt; marks(rt.alloc(), &entries, "a", 2, Some("2"), None));
-    Ok(())
+    marked(&rt, rt.alloc(), &entries, "a", (2, Some("2"), None));
 }
 
 #[test]
-fn the_greater_score_comes_first(rt: HostRuntime) -> Result<(), Fail> {
+fn the_greater_score_comes_first(rt: HostRuntime) {
     let entries = [("1", "a", ONE), ("2", "a.b", TWO)];
-    assert!(rt; marks(rt.alloc(), &entries, "a.b", 2, Some("2"), None));
-    Ok(())
+    marked(&rt, rt.alloc(), &entries, "a.b", (2, Some("2"), None));
 }
 
 #[test]
-fn marks_of_comments(rt: HostRuntime) -> Result<(), Fail> {
+fn marks_of_comments(rt: HostRuntime) {
     let entries = [("1", "source.a", COMMENTS)];
-    assert!(rt;
-        marks(
-            rt.alloc(),
-            &entries,
-            "source.a",
-            1,
-            Some("-- "),
-            Some(("(*", "*)"))
-        )
-    );
-    assert!(rt; marks(rt.alloc(), &entries, "text", 0, None, None));
-    Ok(())
+    let marks = (1, Some("-- "), Some(("(*", "*)")));
+    marked(&rt, rt.alloc(), &entries, "source.a", marks);
+    marked(&rt, rt.alloc(), &entries, "text", (0, None, None));
 }

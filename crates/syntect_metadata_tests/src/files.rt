@@ -1,7 +1,8 @@
 //! Entries from files.
+use std::alloc::Global;
 use std::path::PathBuf;
-use std::test::Fail;
-use std::{env, fs};
+use std::process::Abort;
+use std::{env, fs, io};
 use syntect_base::loading::{LoadingError, SettingsError};
 use syntect_metadata::metadata::Metadata;
 use syntect_metadata::raw::{LoadMetadata, RawMetadataEntry};
@@ -13,7 +14,7 @@ const RUST: &str =
     r#"{"scope":"source.rust","settings":{"increaseIndentPattern":"^.*\\{$","shellVariables":[{"name":"TM_COMMENT_START","value":"// "},{"name":"TM_COMMENT_START_2","value":"/*"},{"name":"TM_COMMENT_END_2","value":"*/"}]}}"#;
 
 /// Writes a file into the folder for files that come and go, and gives its path.
-fn file(rt: &HostRuntime, name: &str, text: &str) -> Result<PathBuf, Fail> {
+fn file(rt: &HostRuntime, name: &str, text: &str) -> io::Result<PathBuf> {
     let mut path = env::temp_dir(rt)?;
     path.push(name)?;
     fs::write(rt, path.as_path(), text.as_bytes())?;
@@ -31,32 +32,34 @@ fn as_in_the_file(scoped: &ScopedMetadata<'_>) -> bool {
 
 /// The metadata of one entry, copied on its way.
 fn metadata_of_entry(
-    rt: &HostRuntime,
+    rt: &impl Abort,
+    alloc: Global,
     entry: &RawMetadataEntry,
     repository: &mut ScopeRepository,
-) -> Result<Metadata, Fail> {
-    let mut loaded = LoadMetadata::default(rt.alloc());
-    loaded.add_raw(entry.clone()?)?;
-    let copy = loaded.clone()?;
-    Ok(Metadata::from_loaded(rt.alloc(), copy, repository)?)
+) -> Metadata {
+    let mut loaded = LoadMetadata::default(alloc);
+    loaded
+        .add_raw(entry.clone().expect(rt, "memory"))
+        .expect(rt, "memory");
+    let copy = loaded.clone().expect(rt, "memory");
+    Metadata::from_loaded(alloc, copy, repository).expect(rt, "memory")
 }
 
 /// Whether an entry's metadata answers so.
-fn answers(rt: &HostRuntime, entry: &RawMetadataEntry) -> Result<bool, Fail> {
-    let mut repository = ScopeRepository::new(rt.alloc());
-    let metadata = metadata_of_entry(rt, entry, &mut repository)?;
-    let scope = Scope::new("source.rust", &mut repository)?;
-    let scoped = metadata.metadata_for_scope(&[scope])?;
-    Ok(as_in_the_file(&scoped))
+fn answers(rt: &impl Abort, alloc: Global, entry: &RawMetadataEntry) -> bool {
+    let mut repository = ScopeRepository::new(alloc);
+    let metadata = metadata_of_entry(rt, alloc, entry, &mut repository);
+    let scope = Scope::new("source.rust", &mut repository).expect(rt, "a scope");
+    let scoped = metadata.metadata_for_scope(&[scope]).expect(rt, "memory");
+    as_in_the_file(&scoped)
 }
 
 #[test]
-fn a_file_of_settings(rt: HostRuntime) -> Result<(), Fail> {
-    let path = file(&rt, "syntect_metadata_rust.tmPreferences", RUST)?;
-    let entry = RawMetadataEntry::load(&rt, rt.alloc(), path.as_path())?;
+fn a_file_of_settings(rt: HostRuntime) {
+    let path = file(&rt, "syntect_metadata_rust.tmPreferences", RUST).expect(&rt, "a file");
+    let entry = RawMetadataEntry::load(&rt, rt.alloc(), path.as_path()).expect(&rt, "an entry");
     assert!(rt; entry.path.as_str() == path.as_str());
-    assert!(rt; answers(&rt, &entry)?);
-    Ok(())
+    assert!(rt; answers(&rt, rt.alloc(), &entry));
 }
 
 /// What a refusal says: that it is no entry, or no settings, or a fault of the file.
@@ -78,7 +81,7 @@ fn told(loaded: &Result<RawMetadataEntry, LoadingError>) -> Says {
 }
 
 #[test]
-fn files_that_are_no_entry(rt: HostRuntime) -> Result<(), Fail> {
+fn files_that_are_no_entry(rt: HostRuntime) {
     let rows = [
         ("[]", Says::NoEntry),
         ("{\"scope\":\"a\"}", Says::NoEntry),
@@ -97,18 +100,16 @@ fn files_that_are_no_entry(rt: HostRuntime) -> Result<(), Fail> {
         ),
     ];
     for (text, wanted) in &rows {
-        let path = file(&rt, "syntect_metadata_none.tmPreferences", text)?;
+        let path = file(&rt, "syntect_metadata_none.tmPreferences", text).expect(&rt, "a file");
         let loaded = RawMetadataEntry::load(&rt, rt.alloc(), path.as_path());
         assert!(rt; told(&loaded) == *wanted);
     }
-    Ok(())
 }
 
 #[test]
-fn a_file_that_is_missing(rt: HostRuntime) -> Result<(), Fail> {
-    let path = file(&rt, "syntect_metadata_missing.tmPreferences", "{}")?;
-    fs::remove_file(&rt, path.as_path())?;
+fn a_file_that_is_missing(rt: HostRuntime) {
+    let path = file(&rt, "syntect_metadata_missing.tmPreferences", "{}").expect(&rt, "a file");
+    fs::remove_file(&rt, path.as_path()).expect(&rt, "a file");
     let missing = RawMetadataEntry::load(&rt, rt.alloc(), path.as_path());
     assert!(rt; told(&missing) == Says::Fault);
-    Ok(())
 }

@@ -1,6 +1,7 @@
 //! What the tests are given.
 use serde_json::{Map, Value};
-use std::alloc::{AllocError, Global};
+use std::alloc::Global;
+use std::process::Abort;
 use syntect_metadata::error::MetadataError;
 use syntect_metadata::metadata::Metadata;
 use syntect_metadata::raw::{LoadMetadata, RawMetadataEntry};
@@ -22,32 +23,32 @@ pub fn members(alloc: Global, text: &str) -> Map<String, Value> {
 }
 
 /// An entry with these settings.
-fn entry(alloc: Global, given: &Entry) -> Result<RawMetadataEntry, AllocError> {
-    let path = Text::from_str(alloc, given.0)?;
-    let scope = Text::from_str(alloc, given.1)?;
-    Ok(RawMetadataEntry {
-        path,
-        scope,
+fn entry(rt: &impl Abort, alloc: Global, given: &Entry) -> RawMetadataEntry {
+    RawMetadataEntry {
+        path: Text::from_str(alloc, given.0).expect(rt, "memory"),
+        scope: Text::from_str(alloc, given.1).expect(rt, "memory"),
         settings: members(alloc, given.2),
-    })
+    }
 }
 
 /// Entries.
-pub fn loaded(alloc: Global, entries: &[Entry]) -> Result<LoadMetadata, AllocError> {
+pub fn loaded(rt: &impl Abort, alloc: Global, entries: &[Entry]) -> LoadMetadata {
     let mut loaded = LoadMetadata::default(alloc);
     for given in entries {
-        loaded.add_raw(entry(alloc, given)?)?;
+        loaded.add_raw(entry(rt, alloc, given)).expect(rt, "memory");
     }
-    Ok(loaded)
+    loaded
 }
 
 /// The metadata of entries.
 pub fn metadata_of(
+    rt: &impl Abort,
     alloc: Global,
     entries: &[Entry],
     repository: &mut ScopeRepository,
-) -> Result<Metadata, AllocError> {
-    Metadata::from_loaded(alloc, loaded(alloc, entries)?, repository)
+) -> Metadata {
+    let loaded = loaded(rt, alloc, entries);
+    Metadata::from_loaded(alloc, loaded, repository).expect(rt, "memory")
 }
 
 /// What `from_raw` makes of a selector's text and an object's text.
@@ -65,21 +66,20 @@ pub struct Asked {
 }
 
 /// The metadata of entries, asked for a scope.
-pub fn ask(alloc: Global, entries: &[Entry], scope: &str) -> Option<Asked> {
+pub fn ask(rt: &impl Abort, alloc: Global, entries: &[Entry], scope: &str) -> Asked {
     let mut repository = ScopeRepository::new(alloc);
-    let Ok(metadata) = metadata_of(alloc, entries, &mut repository) else {
-        return None;
-    };
-    match Scope::new(scope, &mut repository) {
-        Ok(scope) => Some(Asked { metadata, scope }),
-        Err(_) => None,
+    Asked {
+        scope: Scope::new(scope, &mut repository).expect(rt, "a scope"),
+        metadata: metadata_of(rt, alloc, entries, &mut repository),
     }
 }
 
 impl Asked {
     /// The sets that match.
-    pub fn scoped(&self) -> Result<ScopedMetadata<'_>, AllocError> {
-        self.metadata.metadata_for_scope(&[self.scope])
+    pub fn scoped(&self, rt: &impl Abort) -> ScopedMetadata<'_> {
+        self.metadata
+            .metadata_for_scope(&[self.scope])
+            .expect(rt, "memory")
     }
 }
 

@@ -1,7 +1,7 @@
 //! Entries that are put together.
 use crate::given::{Entry, loaded, metadata_of};
-use std::alloc::{AllocError, Global};
-use std::test::Fail;
+use std::alloc::Global;
+use std::process::Abort;
 use syntect_metadata::metadata::Metadata;
 use syntect_metadata::set::MetadataSet;
 use syntect_scope::repository::ScopeRepository;
@@ -31,51 +31,48 @@ fn are_sets(metadata: &Metadata, wanted: &[(&'static str, &'static str)]) -> boo
 }
 
 /// What entries add to old ones.
-fn merged(alloc: Global, old: &[Entry], new: &[Entry]) -> Result<Metadata, AllocError> {
+fn merged(rt: &impl Abort, alloc: Global, old: &[Entry], new: &[Entry]) -> Metadata {
     let mut repository = ScopeRepository::new(alloc);
-    let metadata = metadata_of(alloc, old, &mut repository)?;
-    metadata.merged_with_raw(alloc, loaded(alloc, new)?, &mut repository)
+    let metadata = metadata_of(rt, alloc, old, &mut repository);
+    metadata
+        .merged_with_raw(alloc, loaded(rt, alloc, new), &mut repository)
+        .expect(rt, "memory")
 }
 
-/// Whether old entries and new ones give these sets, and a copy of all has them too.
+/// Old entries and new ones give these sets, and a copy of all has them too.
 fn give(
+    rt: &impl Abort,
     alloc: Global,
     old: &[Entry],
     new: &[Entry],
     wanted: &[(&'static str, &'static str)],
-) -> bool {
-    let Ok(metadata) = merged(alloc, old, new) else {
-        return false;
-    };
-    match metadata.clone() {
-        Ok(copy) => are_sets(&metadata, wanted) & are_sets(&copy, wanted),
-        Err(_) => false,
-    }
+) {
+    let metadata = merged(rt, alloc, old, new);
+    let copy = metadata.clone().expect(rt, "memory");
+    assert!(rt; are_sets(&metadata, wanted) & are_sets(&copy, wanted));
 }
 
 #[test]
-fn paths_go_by_components(rt: HostRuntime) -> Result<(), Fail> {
+fn paths_go_by_components(rt: HostRuntime) {
     // `-` stands before `/` as a byte, and yet `a` stands before `a-b`.
     let entries = [
         ("a-b/x", "s", "{\"increaseIndentPattern\":\"later\"}"),
         ("a/x", "s", "{\"increaseIndentPattern\":\"earlier\"}"),
     ];
-    assert!(rt; give(rt.alloc(), &[], &entries, &[("s", "later")]));
-    Ok(())
+    give(&rt, rt.alloc(), &[], &entries, &[("s", "later")]);
 }
 
 #[test]
-fn entries_of_one_path_in_their_order(rt: HostRuntime) -> Result<(), Fail> {
+fn entries_of_one_path_in_their_order(rt: HostRuntime) {
     let entries = [
         ("a", "s", "{\"increaseIndentPattern\":\"1\"}"),
         ("a", "s", "{\"increaseIndentPattern\":\"2\"}"),
     ];
-    assert!(rt; give(rt.alloc(), &[], &entries, &[("s", "2")]));
-    Ok(())
+    give(&rt, rt.alloc(), &[], &entries, &[("s", "2")]);
 }
 
 #[test]
-fn refused_sets_are_left_out(rt: HostRuntime) -> Result<(), Fail> {
+fn refused_sets_are_left_out(rt: HostRuntime) {
     let entries = [
         ("1", "z", "{\"increaseIndentPattern\":\"1\"}"),
         ("2", "skipped", "{\"a\":1}"),
@@ -83,12 +80,11 @@ fn refused_sets_are_left_out(rt: HostRuntime) -> Result<(), Fail> {
         ("4", "1.2.3.4.5.6.7.8.9", "{\"indentParens\":true}"),
         ("5", "b", "{\"increaseIndentPattern\":\"5\"}"),
     ];
-    assert!(rt; give(rt.alloc(), &[], &entries, &[("b", "5"), ("z", "1")]));
-    Ok(())
+    give(&rt, rt.alloc(), &[], &entries, &[("b", "5"), ("z", "1")]);
 }
 
 #[test]
-fn new_sets_replace_old_ones(rt: HostRuntime) -> Result<(), Fail> {
+fn new_sets_replace_old_ones(rt: HostRuntime) {
     let old = [
         ("1", "c", "{\"increaseIndentPattern\":\"old c\"}"),
         ("1", "a", "{\"increaseIndentPattern\":\"old a\"}"),
@@ -106,41 +102,42 @@ fn new_sets_replace_old_ones(rt: HostRuntime) -> Result<(), Fail> {
         ("b", "new b"),
         ("c", "old c"),
     ];
-    assert!(rt; give(rt.alloc(), &old, &new, &wanted));
-    Ok(())
+    give(&rt, rt.alloc(), &old, &new, &wanted);
 }
 
-/// Whether a set has exactly these variables.
-fn has_variables(
+/// Whether a set has this variable.
+fn has_variable(
+    rt: &impl Abort,
     alloc: Global,
     set: &MetadataSet,
-    wanted: &[(&'static str, &'static str)],
+    name: &str,
+    value: &str,
 ) -> bool {
-    for (name, value) in wanted {
-        let Ok(name) = Text::from_str(alloc, name) else {
-            return false;
-        };
-        match set.items.shell_variables.get(&name) {
-            Some(text) if text.as_str() == *value => {}
-            _other => return false,
-        }
-    }
-    set.items.shell_variables.len() == wanted.len()
-}
-
-/// Whether entries give one set with these variables.
-fn variables(alloc: Global, entries: &[Entry], wanted: &[(&'static str, &'static str)]) -> bool {
-    let Ok(metadata) = merged(alloc, &[], entries) else {
-        return false;
-    };
-    match metadata.scoped_metadata.get(0) {
-        Some(set) => { (metadata.scoped_metadata.len() == 1) & has_variables(alloc, set, wanted) }
+    let name = Text::from_str(alloc, name).expect(rt, "memory");
+    match set.items.shell_variables.get(&name) {
+        Some(text) => text.as_str() == value,
         None => false,
     }
 }
 
+/// Entries give one set, with exactly these variables.
+fn variables(
+    rt: &impl Abort,
+    alloc: Global,
+    entries: &[Entry],
+    wanted: &[(&'static str, &'static str)],
+) {
+    let metadata = merged(rt, alloc, &[], entries);
+    assert_eq!(rt; metadata.scoped_metadata.len(), 1);
+    let set = metadata.scoped_metadata.get(0).expect(rt, "a set");
+    assert_eq!(rt; set.items.shell_variables.len(), wanted.len());
+    for (name, value) in wanted {
+        assert!(rt; has_variable(rt, alloc, set, name, value), "{name}");
+    }
+}
+
 #[test]
-fn variables_of_files(rt: HostRuntime) -> Result<(), Fail> {
+fn variables_of_files(rt: HostRuntime) {
     let entries = [
         (
             "1",
@@ -163,13 +160,11 @@ fn variables_of_files(rt: HostRuntime) -> Result<(), Fail> {
         ("5", "s", "{\"shellVariables\":[[\"X\",\"5\"]]}"),
     ];
     let wanted = [("TM_COMMENT_START", "#"), ("X", "2"), ("Y", "3")];
-    assert!(rt; variables(rt.alloc(), &entries, &wanted));
-    Ok(())
+    variables(&rt, rt.alloc(), &entries, &wanted);
 }
 
 #[test]
-fn null_variables_are_an_empty_object(rt: HostRuntime) -> Result<(), Fail> {
+fn null_variables_are_an_empty_object(rt: HostRuntime) {
     let entries = [("1", "s", "{\"shellVariables\":null}")];
-    assert!(rt; variables(rt.alloc(), &entries, &[]));
-    Ok(())
+    variables(&rt, rt.alloc(), &entries, &[]);
 }

@@ -1,32 +1,35 @@
 //! What gives no set, and why.
 use crate::given::set_of;
 use std::alloc::Global;
-use std::test::Fail;
+use std::process::Abort;
 use syntect_metadata::error::MetadataError;
 use syntect_metadata::set::MetadataSet;
 use syntect_scope::repository::ParseScopeError;
 
-/// Whether these are refused so, each with a selector that is refused too.
-fn all_refused(alloc: Global, texts: &[&'static str], wanted: &MetadataError) -> bool {
-    for text in texts {
-        match set_of(alloc, "1.2.3.4.5.6.7.8.9", text) {
-            Err(e) if e == *wanted => {}
-            _other => return false,
-        }
+/// Whether this is refused so, with a selector that is refused too.
+fn is_refused(alloc: Global, text: &str, wanted: &MetadataError) -> bool {
+    match set_of(alloc, "1.2.3.4.5.6.7.8.9", text) {
+        Err(e) => e == *wanted,
+        Ok(_) => false,
     }
-    true
+}
+
+/// All these are refused so.
+fn all_refused(rt: &impl Abort, alloc: Global, texts: &[&'static str], wanted: &MetadataError) {
+    for text in texts {
+        assert!(rt; is_refused(alloc, text, wanted), "{text}");
+    }
 }
 
 #[test]
-fn no_known_key(rt: HostRuntime) -> Result<(), Fail> {
+fn no_known_key(rt: HostRuntime) {
     // The key of the crate's field isn't the file's.
     let texts = ["{\"a\":1}", "{\"unindentedLinePattern\":\"x\"}", "{}"];
-    assert!(rt; all_refused(rt.alloc(), &texts, &MetadataError::Skipped));
-    Ok(())
+    all_refused(&rt, rt.alloc(), &texts, &MetadataError::Skipped);
 }
 
 #[test]
-fn values_of_a_wrong_kind(rt: HostRuntime) -> Result<(), Fail> {
+fn values_of_a_wrong_kind(rt: HostRuntime) {
     let texts = [
         "{\"indentParens\":\"x\"}",
         "{\"indentParens\":1.5}",
@@ -39,16 +42,14 @@ fn values_of_a_wrong_kind(rt: HostRuntime) -> Result<(), Fail> {
         "{\"disableIndentNextLinePattern\":{}}",
         "{\"unIndentedLinePattern\":2.5}",
     ];
-    assert!(rt; all_refused(rt.alloc(), &texts, &MetadataError::BadItems));
-    Ok(())
+    all_refused(&rt, rt.alloc(), &texts, &MetadataError::BadItems);
 }
 
 #[test]
-fn nine_atoms(rt: HostRuntime) -> Result<(), Fail> {
+fn nine_atoms(rt: HostRuntime) {
     let texts = ["{\"indentParens\":true}"];
     let wanted = MetadataError::BadSelector(ParseScopeError::TooLong);
-    assert!(rt; all_refused(rt.alloc(), &texts, &wanted));
-    Ok(())
+    all_refused(&rt, rt.alloc(), &texts, &wanted);
 }
 
 /// Whether nothing is said but of parentheses.
@@ -59,22 +60,26 @@ fn says_parens(set: &MetadataSet, selector: &str, parens: Option<bool>) -> bool 
         & set.items.shell_variables.is_empty()
 }
 
-/// Whether a set is given, and its copy too, that says no more.
-fn accepted(alloc: Global, selector: &str, settings: &str, parens: Option<bool>) -> bool {
-    let Ok(set) = set_of(alloc, selector, settings) else {
-        return false;
-    };
-    match set.clone(alloc) {
-        Ok(copy) => says_parens(&set, selector, parens) & (copy == set),
-        Err(_) => false,
-    }
+/// A set is given that says no more, and its copy too.
+fn accepted(rt: &impl Abort, alloc: Global, selector: &str, settings: &str, parens: Option<bool>) {
+    let set = set_of(alloc, selector, settings).expect(rt, "a set");
+    let copy = set.clone(alloc).expect(rt, "memory");
+    assert!(rt;
+        says_parens(&set, selector, parens) & (copy == set),
+        "{settings}"
+    );
 }
 
 #[test]
-fn null_is_there(rt: HostRuntime) -> Result<(), Fail> {
+fn null_is_there(rt: HostRuntime) {
     let text = "{\"indentParens\":null,\"increaseIndentPattern\":null,\"a\":1.5}";
-    assert!(rt; accepted(rt.alloc(), "a", text, None));
+    accepted(&rt, rt.alloc(), "a", text, None);
     let eight = "1.2.3.4.5.6.7.8";
-    assert!(rt; accepted(rt.alloc(), eight, "{\"indentParens\":true}", Some(true)));
-    Ok(())
+    accepted(
+        &rt,
+        rt.alloc(),
+        eight,
+        "{\"indentParens\":true}",
+        Some(true),
+    );
 }
