@@ -1,8 +1,12 @@
 //! A folder with what a run needs, and runs in it.
 use std::path::PathBuf;
-use std::test::Fail;
+use std::process::Abort;
+use std::rt::{Env, Files};
 use std::{env, fs};
 use syntect_cat::run;
+
+/// What a run is asked for: a folder of grammars, a theme, a format, and a file.
+pub type Asked = [&'static str; 4];
 
 /// A grammar in which each word behind a space is a `word`.
 const GRAMMAR: &str = r#"%YAML 1.2
@@ -40,70 +44,62 @@ pub struct Outcome {
 
 impl Desk {
     /// Sets up a folder of this name.
-    pub fn new(rt: &HostRuntime, name: &str) -> Result<Desk, Fail> {
-        let mut folder = env::temp_dir(rt)?;
-        folder.push(name)?;
+    pub fn new(rt: &(impl Env + Files + AllocGlobal + Abort), name: &str) -> Desk {
+        let mut folder = env::temp_dir(rt).expect(rt, "a folder for files");
+        folder.push(name).expect(rt, "memory");
         let _ = fs::remove_dir_all(rt, folder.as_path());
-        fs::create_dir(rt, folder.as_path())?;
+        fs::create_dir(rt, folder.as_path()).expect(rt, "a folder");
         let desk = Desk { folder };
-        fs::create_dir(rt, desk.path(rt, "grammars")?)?;
-        desk.write(rt, "grammars/T.sublime-syntax", GRAMMAR.as_bytes())?;
-        desk.write(rt, "theme.tmTheme", THEME.as_bytes())?;
-        desk.write(rt, "a.t", b" hello")?;
-        Ok(desk)
+        fs::create_dir(rt, desk.path(rt, "grammars")).expect(rt, "a folder");
+        for (name, text) in [
+            ("grammars/T.sublime-syntax", GRAMMAR),
+            ("theme.tmTheme", THEME),
+            ("a.t", " hello"),
+        ] {
+            desk.write(rt, name, text.as_bytes());
+        }
+        desk
     }
 
     /// The path of a file in the folder.
-    fn path(&self, rt: &HostRuntime, name: &str) -> Result<String, Fail> {
+    fn path(&self, rt: &(impl AllocGlobal + Abort), name: &str) -> String {
         let folder = self.folder.as_str();
-        Ok(format!(in rt.alloc(); "{folder}/{name}")?)
+        format!(in rt.alloc(); "{folder}/{name}").expect(rt, "memory")
     }
 
     /// Writes a file.
-    pub fn write(&self, rt: &HostRuntime, name: &str, bytes: &[u8]) -> Result<(), Fail> {
-        fs::write(rt, self.path(rt, name)?, bytes)?;
-        Ok(())
+    pub fn write(&self, rt: &(impl Files + AllocGlobal + Abort), name: &str, bytes: &[u8]) {
+        fs::write(rt, self.path(rt, name), bytes).expect(rt, "a file");
     }
 
-    /// The words that ask for a file by a folder and a theme, all in the folder.
-    pub fn words(
-        &self,
-        rt: &HostRuntime,
-        folder: &str,
-        theme: &str,
-        format: &str,
-        file: &str,
-    ) -> Result<Vec<String>, Fail> {
+    /// The words that ask for this, all of it in the folder.
+    pub fn words(&self, rt: &(impl AllocGlobal + Abort), asked: Asked) -> Vec<String> {
+        let [folder, theme, format, file] = asked;
         let mut words = Vec::new(rt.alloc());
-        words.push(self.path(rt, folder)?)?;
-        words.push(self.path(rt, theme)?)?;
-        words.push(String::from_str(rt.alloc(), format)?)?;
-        words.push(self.path(rt, file)?)?;
-        Ok(words)
+        for (word, is_path) in [(folder, true), (theme, true), (format, false), (file, true)] {
+            let word = if is_path {
+                self.path(rt, word)
+            } else {
+                String::from_str(rt.alloc(), word).expect(rt, "memory")
+            };
+            words.push(word).expect(rt, "memory");
+        }
+        words
     }
 
-    /// Runs the program with the words of the folder's own files, but for one.
-    pub fn outcome(
-        &self,
-        rt: &HostRuntime,
-        folder: &str,
-        theme: &str,
-        format: &str,
-        file: &str,
-    ) -> Result<Outcome, Fail> {
-        let words = self.words(rt, folder, theme, format, file)?;
-        Ok(outcome_of(rt, words.as_slice()))
+    /// Runs the program for this.
+    pub fn outcome(&self, rt: &(impl Files + AllocGlobal + Abort), asked: Asked) -> Outcome {
+        outcome_of(rt, self.words(rt, asked).as_slice())
     }
 
     /// Takes the folder away.
-    pub fn close(self, rt: &HostRuntime) -> Result<(), Fail> {
-        fs::remove_dir_all(rt, self.folder.as_path())?;
-        Ok(())
+    pub fn close(self, rt: &(impl Files + AllocGlobal + Abort)) {
+        fs::remove_dir_all(rt, self.folder.as_path()).expect(rt, "a folder");
     }
 }
 
 /// Runs the program.
-pub fn outcome_of(rt: &HostRuntime, words: &[String]) -> Outcome {
+pub fn outcome_of(rt: &(impl Files + AllocGlobal), words: &[String]) -> Outcome {
     let mut out = Vec::new(rt.alloc());
     let mut err = Vec::new(rt.alloc());
     let status = run(rt, rt.alloc(), words, &mut out, &mut err);

@@ -1,87 +1,112 @@
 //! Runs that fail.
-use crate::desk::{Desk, Outcome, outcome_of};
+use crate::desk::{Asked, Desk, outcome_of};
 use std::io;
 use std::io::{ErrorKind, Write};
-use std::test::Fail;
+use std::process::Abort;
+use std::rt::Files;
 use syntect_cat::run;
 
 const USAGE: &str = "usage: syncat FOLDER THEME html|term FILE\n";
 
-/// Whether a run had this status, wrote this line, and no text.
-fn failed(outcome: &Outcome, status: u8, line: &str) -> bool {
-    outcome.status == status && outcome.err.as_slice() == line.as_bytes() && outcome.out.is_empty()
+const NO_SYNTAXES: &str = "syncat: cannot load syntaxes\n";
+
+const NO_THEME: &str = "syncat: cannot load theme\n";
+
+const NO_FILE: &str = "syncat: cannot read file\n";
+
+const NOT_SHOWN: &str = "syncat: cannot highlight\n";
+
+/// A run with these words fails with this line, and shows no text. The status is 2 where it shows how it is used, and else 1.
+fn words_fail(rt: &(impl Files + AllocGlobal + Abort), words: &[String], line: &str) {
+    let outcome = outcome_of(rt, words);
+    assert_eq!(rt; outcome.err.as_slice(), line.as_bytes());
+    assert!(rt; outcome.out.is_empty());
+    assert!(rt; outcome.status == if line == USAGE { 2 } else { 1 });
+}
+
+/// Each run that is asked for so fails with its line, and shows no text.
+fn all_fail(rt: &(impl Files + AllocGlobal + Abort), desk: &Desk, runs: &[(Asked, &'static str)]) {
+    for (asked, line) in runs {
+        words_fail(rt, desk.words(rt, *asked).as_slice(), line);
+    }
+}
+
+/// Runs for what is not there.
+const NOT_THERE: [(Asked, &str); 4] = [
+    (["none", "theme.tmTheme", "html", "a.t"], NO_SYNTAXES),
+    (["grammars", "none", "html", "a.t"], NO_THEME),
+    (["grammars", "theme.tmTheme", "html", "none"], NO_FILE),
+    (["grammars", "theme.tmTheme", "term", "none"], NO_FILE),
+];
+
+/// Runs with several faults, of which the first is told: the words are looked at first, then the grammars, then the theme,
+/// then the file.
+const SEVERAL: [(Asked, &str); 3] = [
+    (["none", "none", "text", "none"], USAGE),
+    (["none", "none", "html", "none"], NO_SYNTAXES),
+    (["grammars", "none", "html", "none"], NO_THEME),
+];
+
+#[test]
+fn what_is_not_there(rt: HostRuntime) {
+    let desk = Desk::new(&rt, "syncat_not_there");
+    all_fail(&rt, &desk, &NOT_THERE);
+    all_fail(&rt, &desk, &SEVERAL);
+    desk.close(&rt);
 }
 
 #[test]
-fn what_is_not_there(rt: HostRuntime) -> Result<(), Fail> {
-    let desk = Desk::new(&rt, "syncat_not_there")?;
-    let no_folder = desk.outcome(&rt, "none", "theme.tmTheme", "html", "a.t")?;
-    assert!(rt; failed(&no_folder, 1, "syncat: cannot load syntaxes\n"));
-    let no_theme = desk.outcome(&rt, "grammars", "none", "html", "a.t")?;
-    assert!(rt; failed(&no_theme, 1, "syncat: cannot load theme\n"));
-    let no_file = desk.outcome(&rt, "grammars", "theme.tmTheme", "html", "none")?;
-    assert!(rt; failed(&no_file, 1, "syncat: cannot read file\n"));
-    let in_terminal = desk.outcome(&rt, "grammars", "theme.tmTheme", "term", "none")?;
-    assert!(rt; failed(&in_terminal, 1, "syncat: cannot read file\n"));
-    desk.close(&rt)
-}
-
-/// The words are looked at first, then the grammars, then the theme, then the file.
-#[test]
-fn the_first_of_several_faults_is_told(rt: HostRuntime) -> Result<(), Fail> {
-    let desk = Desk::new(&rt, "syncat_several_faults")?;
-    let all = desk.outcome(&rt, "none", "none", "text", "none")?;
-    assert!(rt; failed(&all, 2, USAGE));
-    let files = desk.outcome(&rt, "none", "none", "html", "none")?;
-    assert!(rt; failed(&files, 1, "syncat: cannot load syntaxes\n"));
-    let theme_and_file = desk.outcome(&rt, "grammars", "none", "html", "none")?;
-    assert!(rt; failed(&theme_and_file, 1, "syncat: cannot load theme\n"));
-    desk.close(&rt)
-}
-
-#[test]
-fn words_of_another_number(rt: HostRuntime) -> Result<(), Fail> {
-    let desk = Desk::new(&rt, "syncat_words")?;
-    let mut words = desk.words(&rt, "grammars", "theme.tmTheme", "html", "a.t")?;
-    words.push(String::from_str(rt.alloc(), "more")?)?;
-    assert!(rt; failed(&outcome_of(&rt, words.as_slice()), 2, USAGE));
+fn words_of_another_number(rt: HostRuntime) {
+    let desk = Desk::new(&rt, "syncat_words");
+    let mut words = desk.words(&rt, ["grammars", "theme.tmTheme", "html", "a.t"]);
+    let more = String::from_str(rt.alloc(), "more").expect(&rt, "memory");
+    words.push(more).expect(&rt, "memory");
+    words_fail(&rt, words.as_slice(), USAGE);
     let _ = words.pop();
     let _ = words.pop();
-    assert!(rt; failed(&outcome_of(&rt, words.as_slice()), 2, USAGE));
-    assert!(rt; failed(&outcome_of(&rt, &[]), 2, USAGE));
-    desk.close(&rt)
+    words_fail(&rt, words.as_slice(), USAGE);
+    words_fail(&rt, &[], USAGE);
+    desk.close(&rt);
 }
 
+/// Files that are written one after the other, and the line of a run in each format.
+const SOMETHING_ELSE: [(&str, &[u8], &str); 3] = [
+    ("a.t", b" hello\n\xff\n", NO_FILE),
+    ("theme.tmTheme", b"<plist></plist>", NO_THEME),
+    ("grammars/U.sublime-syntax", b"scope: source.u", NO_SYNTAXES),
+];
+
 #[test]
-fn files_that_hold_something_else(rt: HostRuntime) -> Result<(), Fail> {
-    let desk = Desk::new(&rt, "syncat_something_else")?;
-    desk.write(&rt, "a.t", b" hello\n\xff\n")?;
-    let no_text = desk.outcome(&rt, "grammars", "theme.tmTheme", "html", "a.t")?;
-    assert!(rt; failed(&no_text, 1, "syncat: cannot read file\n"));
-    let in_terminal = desk.outcome(&rt, "grammars", "theme.tmTheme", "term", "a.t")?;
-    assert!(rt; failed(&in_terminal, 1, "syncat: cannot read file\n"));
-    desk.write(&rt, "theme.tmTheme", b"<plist></plist>")?;
-    let no_theme = desk.outcome(&rt, "grammars", "theme.tmTheme", "html", "a.t")?;
-    assert!(rt; failed(&no_theme, 1, "syncat: cannot load theme\n"));
-    desk.write(&rt, "grammars/U.sublime-syntax", b"scope: source.u")?;
-    let no_grammar = desk.outcome(&rt, "grammars", "theme.tmTheme", "html", "a.t")?;
-    assert!(rt; failed(&no_grammar, 1, "syncat: cannot load syntaxes\n"));
-    desk.close(&rt)
+fn files_that_hold_something_else(rt: HostRuntime) {
+    let desk = Desk::new(&rt, "syncat_something_else");
+    for (name, bytes, line) in &SOMETHING_ELSE {
+        desk.write(&rt, name, bytes);
+        for format in ["html", "term"] {
+            let asked = ["grammars", "theme.tmTheme", format, "a.t"];
+            words_fail(&rt, desk.words(&rt, asked).as_slice(), line);
+        }
+    }
+    desk.close(&rt);
 }
 
-/// A grammar that names a syntax which is not there refuses the line, and the lines before it are not shown either.
+/// A grammar that names a syntax which is not there.
+const LACKING: &str =
+    "scope: source.u\nfile_extensions: [u]\ncontexts: {main: [{match: x, push: 'scope:source.none'}]}";
+
+/// Runs for a file with a line that is refused.
+const REFUSED: [(Asked, &str); 2] = [
+    (["grammars", "theme.tmTheme", "html", "a.u"], NOT_SHOWN),
+    (["grammars", "theme.tmTheme", "term", "a.u"], NOT_SHOWN),
+];
+
+/// The lines before a refused one are not shown either.
 #[test]
-fn a_line_that_is_refused(rt: HostRuntime) -> Result<(), Fail> {
-    let desk = Desk::new(&rt, "syncat_refused")?;
-    let grammar =
-        "scope: source.u\nfile_extensions: [u]\ncontexts: {main: [{match: x, push: 'scope:source.none'}]}";
-    desk.write(&rt, "grammars/U.sublime-syntax", grammar.as_bytes())?;
-    desk.write(&rt, "a.u", b"a\nax\n")?;
-    let page = desk.outcome(&rt, "grammars", "theme.tmTheme", "html", "a.u")?;
-    assert!(rt; failed(&page, 1, "syncat: cannot highlight\n"));
-    let in_terminal = desk.outcome(&rt, "grammars", "theme.tmTheme", "term", "a.u")?;
-    assert!(rt; failed(&in_terminal, 1, "syncat: cannot highlight\n"));
-    desk.close(&rt)
+fn a_line_that_is_refused(rt: HostRuntime) {
+    let desk = Desk::new(&rt, "syncat_refused");
+    desk.write(&rt, "grammars/U.sublime-syntax", LACKING.as_bytes());
+    desk.write(&rt, "a.u", b"a\nax\n");
+    all_fail(&rt, &desk, &REFUSED);
+    desk.close(&rt);
 }
 
 /// A writer that takes some bytes, and fails behind them.
@@ -106,30 +131,24 @@ impl Write for Full {
 }
 
 #[test]
-fn writers_that_fail(rt: HostRuntime) -> Result<(), Fail> {
-    let desk = Desk::new(&rt, "syncat_writers")?;
-    let words = desk.words(&rt, "grammars", "theme.tmTheme", "html", "a.t")?;
-    let mut err = Vec::new(rt.alloc());
-    let status = run(
-        &rt,
-        rt.alloc(),
-        words.as_slice(),
-        &mut Full { room: 9 },
-        &mut err,
-    );
-    assert_eq!(rt; status, 1);
+fn writers_that_fail(rt: HostRuntime) {
+    let desk = Desk::new(&rt, "syncat_writers");
+    let words = desk.words(&rt, ["grammars", "theme.tmTheme", "html", "a.t"]);
+    let words = words.as_slice();
+    let alloc = rt.alloc();
+    let mut err = Vec::new(alloc);
+    let unwritten = run(&rt, alloc, words, &mut Full { room: 9 }, &mut err);
     assert_eq!(rt; err.as_slice(), "syncat: cannot write\n".as_bytes());
-    let mut out = Vec::new(rt.alloc());
-    let wrong = run(&rt, rt.alloc(), &[], &mut out, &mut Full { room: 0 });
-    assert_eq!(rt; wrong, 2);
+    let mut out = Vec::new(alloc);
+    let wrong = run(&rt, alloc, &[], &mut out, &mut Full { room: 0 });
+    assert!(rt; out.is_empty());
     let both = run(
         &rt,
-        rt.alloc(),
-        words.as_slice(),
+        alloc,
+        words,
         &mut Full { room: 0 },
         &mut Full { room: 3 },
     );
-    assert_eq!(rt; both, 1);
-    assert!(rt; out.is_empty());
-    desk.close(&rt)
+    assert_eq!(rt; [unwritten, wrong, both], [1, 2, 1]);
+    desk.close(&rt);
 }

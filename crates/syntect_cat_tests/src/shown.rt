@@ -1,53 +1,68 @@
 //! Files that are shown.
-use crate::desk::Desk;
-use std::test::Fail;
+use crate::desk::{Asked, Desk};
+use std::process::Abort;
+use std::rt::Files;
 
-#[test]
-fn a_page(rt: HostRuntime) -> Result<(), Fail> {
-    let desk = Desk::new(&rt, "syncat_a_page")?;
-    let outcome = desk.outcome(&rt, "grammars", "theme.tmTheme", "html", "a.t")?;
-    let page =
-        "<pre style=\"background-color:#020202;\">\n<span style=\"color:#010101;\"> </span><span style=\"color:#030303;\">hello</span></pre>\n";
-    assert_eq!(rt; outcome.status, 0);
-    assert_eq!(rt; outcome.out.as_slice(), page.as_bytes());
-    assert!(rt; outcome.err.is_empty());
-    desk.close(&rt)
+/// A run that is asked for so shows this text, and tells of no fault.
+fn shows(rt: &(impl Files + AllocGlobal + Abort), desk: &Desk, asked: Asked, text: &str) {
+    let outcome = desk.outcome(rt, asked);
+    assert_eq!(rt; outcome.out.as_slice(), text.as_bytes());
+    assert!(rt; (outcome.status == 0) & outcome.err.is_empty());
 }
 
+const PAGE: &str =
+    "<pre style=\"background-color:#020202;\">\n<span style=\"color:#010101;\"> </span><span style=\"color:#030303;\">hello</span></pre>\n";
+
+const TEXT: &str =
+    "\x1b[48;2;2;2;2m\x1b[38;2;1;1;1m \x1b[48;2;2;2;2m\x1b[38;2;3;3;3mhello\x1b[0m\n";
+
+/// Two empty lines.
+const LINES: &str = "\x1b[48;2;2;2;2m\x1b[38;2;1;1;1m\n\x1b[48;2;2;2;2m\x1b[38;2;1;1;1m\n\x1b[0m\n";
+
+/// A page of plain text.
+const PLAIN: &str =
+    "<pre style=\"background-color:#020202;\">\n<span style=\"color:#010101;\"> hello</span></pre>\n";
+
 #[test]
-fn text_for_a_terminal(rt: HostRuntime) -> Result<(), Fail> {
-    let desk = Desk::new(&rt, "syncat_text_for_a_terminal")?;
-    let outcome = desk.outcome(&rt, "grammars", "theme.tmTheme", "term", "a.t")?;
-    let text = "\x1b[48;2;2;2;2m\x1b[38;2;1;1;1m \x1b[48;2;2;2;2m\x1b[38;2;3;3;3mhello\x1b[0m\n";
-    assert_eq!(rt; outcome.status, 0);
-    assert_eq!(rt; outcome.out.as_slice(), text.as_bytes());
-    assert!(rt; outcome.err.is_empty());
-    desk.close(&rt)
+fn a_page_and_text_for_a_terminal(rt: HostRuntime) {
+    let desk = Desk::new(&rt, "syncat_shown");
+    for (format, text) in [("html", PAGE), ("term", TEXT)] {
+        shows(
+            &rt,
+            &desk,
+            ["grammars", "theme.tmTheme", format, "a.t"],
+            text,
+        );
+    }
+    desk.close(&rt);
 }
 
 /// Behind the last line, once.
 #[test]
-fn the_terminal_has_its_own_colours_again(rt: HostRuntime) -> Result<(), Fail> {
-    let desk = Desk::new(&rt, "syncat_own_colours")?;
-    desk.write(&rt, "a.t", b"")?;
-    let nothing = desk.outcome(&rt, "grammars", "theme.tmTheme", "term", "a.t")?;
-    assert_eq!(rt; nothing.out.as_slice(), "\x1b[0m\n".as_bytes());
-    desk.write(&rt, "a.t", b"\n\n")?;
-    let lines = desk.outcome(&rt, "grammars", "theme.tmTheme", "term", "a.t")?;
-    let text = "\x1b[48;2;2;2;2m\x1b[38;2;1;1;1m\n\x1b[48;2;2;2;2m\x1b[38;2;1;1;1m\n\x1b[0m\n";
-    assert_eq!(rt; lines.out.as_slice(), text.as_bytes());
-    desk.close(&rt)
+fn the_terminal_has_its_own_colours_again(rt: HostRuntime) {
+    let desk = Desk::new(&rt, "syncat_own_colours");
+    for (text, shown) in [("", "\x1b[0m\n"), ("\n\n", LINES)] {
+        desk.write(&rt, "a.t", text.as_bytes());
+        shows(
+            &rt,
+            &desk,
+            ["grammars", "theme.tmTheme", "term", "a.t"],
+            shown,
+        );
+    }
+    desk.close(&rt);
 }
 
 /// Plain text is there where no grammar fits a file.
 #[test]
-fn a_file_of_no_grammar_is_plain_text(rt: HostRuntime) -> Result<(), Fail> {
-    let desk = Desk::new(&rt, "syncat_plain_text")?;
-    desk.write(&rt, "b.none", b" hello")?;
-    let outcome = desk.outcome(&rt, "grammars", "theme.tmTheme", "html", "b.none")?;
-    let page =
-        "<pre style=\"background-color:#020202;\">\n<span style=\"color:#010101;\"> hello</span></pre>\n";
-    assert_eq!(rt; outcome.status, 0);
-    assert_eq!(rt; outcome.out.as_slice(), page.as_bytes());
-    desk.close(&rt)
+fn a_file_of_no_grammar_is_plain_text(rt: HostRuntime) {
+    let desk = Desk::new(&rt, "syncat_plain_text");
+    desk.write(&rt, "b.none", b" hello");
+    shows(
+        &rt,
+        &desk,
+        ["grammars", "theme.tmTheme", "html", "b.none"],
+        PLAIN,
+    );
+    desk.close(&rt);
 }
