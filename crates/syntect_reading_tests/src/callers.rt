@@ -1,5 +1,7 @@
 //! The proved callers, each once.
-use std::test::Fail;
+use crate::found::{equal, holds};
+use std::alloc::Global;
+use std::process::Abort;
 use syntect::highlighting::{Color, Theme, ThemeSet};
 use syntect::html::ClassStyle;
 use syntect::parsing::{ScopeRepository, SyntaxDefinition, SyntaxSetBuilder};
@@ -30,40 +32,57 @@ const THREE: Color = Color {
     a: 255,
 };
 
-#[test]
-fn pages_of_one_line(rt: HostRuntime) -> Result<(), Fail> {
-    let alloc = rt.alloc();
-    let mut repository = ScopeRepository::new(alloc);
+/// The theme.
+fn theme_of(rt: &impl Abort, alloc: Global, repository: &mut ScopeRepository) -> Theme {
     let mut bytes = THEME.as_bytes();
-    let theme: Theme = ThemeSet::load_from_reader(alloc, &mut bytes, &mut repository)?;
-    let page = page_of(alloc, &mut repository, HEREDOC, &theme, "<<E\n")?;
-    assert!(rt; page.is_some_and(|page| page.as_str() == PAGE));
-    Ok(())
+    ThemeSet::load_from_reader(alloc, &mut bytes, repository).expect(rt, "a theme")
+}
+
+/// A builder with a grammar, and whether its lines have their newlines.
+fn builder_of(
+    rt: &impl Abort,
+    alloc: Global,
+    (text, newlines): (&str, bool),
+    repository: &mut ScopeRepository,
+) -> SyntaxSetBuilder {
+    let mut builder = SyntaxSetBuilder::new(alloc);
+    let definition = SyntaxDefinition::load_from_str(alloc, text, newlines, None, repository);
+    builder
+        .add(definition.expect(rt, "a grammar"))
+        .expect(rt, "memory");
+    builder
 }
 
 #[test]
-fn third_lines_of_grammars(rt: HostRuntime) -> Result<(), Fail> {
+fn pages_of_one_line(rt: HostRuntime) {
     let alloc = rt.alloc();
     let mut repository = ScopeRepository::new(alloc);
-    let mut bytes = THEME.as_bytes();
-    let theme: Theme = ThemeSet::load_from_reader(alloc, &mut bytes, &mut repository)?;
+    let theme = theme_of(&rt, alloc, &mut repository);
+    let page = page_of(alloc, &mut repository, HEREDOC, &theme, "<<E\n").expect(&rt, "an answer");
+    holds(&rt, page.is_some_and(|page| page.as_str() == PAGE));
+}
+
+#[test]
+fn third_lines_of_grammars(rt: HostRuntime) {
+    let alloc = rt.alloc();
+    let mut repository = ScopeRepository::new(alloc);
+    let theme = theme_of(&rt, alloc, &mut repository);
     let grammars = (HEREDOC, "scope: s\ncontexts: {main: []}\n");
     let lines = ("<<E\n", "x\n", "E\n");
-    let pieces = third_line_of(alloc, &mut repository, grammars, &theme, lines)?;
-    let pieces = pieces.ok_or("no pieces")?;
-    assert_eq!(rt; pieces.len(), 2);
-    Ok(())
+    let pieces = third_line_of(alloc, &mut repository, grammars, &theme, lines).expect(
+        &rt,
+        "an answer",
+    );
+    let pieces = pieces.expect(&rt, "pieces");
+    equal(&rt, pieces.len(), 2);
 }
 
 #[test]
-fn third_lines_of_a_builder(rt: HostRuntime) -> Result<(), Fail> {
+fn third_lines_of_a_builder(rt: HostRuntime) {
     let alloc = rt.alloc();
     let mut repository = ScopeRepository::new(alloc);
-    let mut bytes = THEME.as_bytes();
-    let theme: Theme = ThemeSet::load_from_reader(alloc, &mut bytes, &mut repository)?;
-    let definition = SyntaxDefinition::load_from_str(alloc, HEREDOC, true, None, &mut repository)?;
-    let mut builder = SyntaxSetBuilder::new(alloc);
-    builder.add(definition)?;
+    let theme = theme_of(&rt, alloc, &mut repository);
+    let builder = builder_of(&rt, alloc, (HEREDOC, true), &mut repository);
     let pieces = third_line(
         alloc,
         builder,
@@ -72,29 +91,32 @@ fn third_lines_of_a_builder(rt: HostRuntime) -> Result<(), Fail> {
         "<<E\n",
         "x\n",
         "E\n",
-    )?;
-    let pieces = pieces.ok_or("no pieces")?;
-    assert!(rt;
+    )
+    .expect(&rt, "an answer");
+    let pieces = pieces.expect(&rt, "pieces");
+    holds(
+        &rt,
         pieces
             .as_slice()
             .first()
-            .is_some_and(|p| p.0.foreground == THREE && p.1 == "E")
+            .is_some_and(|p| p.0.foreground == THREE && p.1 == "E"),
     );
-    Ok(())
 }
 
 #[test]
-fn pages_with_classes(rt: HostRuntime) -> Result<(), Fail> {
+fn pages_with_classes(rt: HostRuntime) {
     let alloc = rt.alloc();
     let mut repository = ScopeRepository::new(alloc);
-    let definition = SyntaxDefinition::load_from_str(alloc, LEFT, false, None, &mut repository)?;
-    let mut builder = SyntaxSetBuilder::new(alloc);
-    builder.add(definition)?;
-    let set = builder.build(alloc, &mut repository)?;
-    let syntax = set.find_syntax_by_name("T").ok_or("no syntax")?;
+    let builder = builder_of(&rt, alloc, (LEFT, false), &mut repository);
+    let set = builder
+        .build(alloc, &mut repository)
+        .expect(&rt, "an answer");
+    let syntax = set.find_syntax_by_name("T").expect(&rt, "a syntax");
     let style = ClassStyle::Spaced;
-    let page = classed_page_of(alloc, " hello", &set, syntax, &repository, style)?;
+    let page = classed_page_of(alloc, " hello", &set, syntax, &repository, style).expect(
+        &rt,
+        "an answer",
+    );
     let wanted = "<span class=\"source t\"> <span class=\"word\">hello</span></span>";
-    assert!(rt; page.as_str() == wanted);
-    Ok(())
+    holds(&rt, page.as_str() == wanted);
 }

@@ -1,7 +1,8 @@
 //! Pages of spans with classes: the values of syntect's own tests, and its answers for this grammar. A line that needs a
 //! context which is not there is refused.
+use crate::found::{equal, holds};
 use std::alloc::Global;
-use std::test::Fail;
+use std::process::Abort;
 use syntect::Error;
 use syntect::html::{ClassStyle, ClassedHTMLGenerator};
 use syntect::parsing::{ScopeRepository, SyntaxDefinition, SyntaxSet, SyntaxSetBuilder};
@@ -53,58 +54,61 @@ a &lt; &quot;b&quot; &amp; c\n</span><span class=\"punctuation end t\">}</span> 
 <span class=\"punctuation begin t\">{</span></span></span>";
 
 /// The set of the grammar.
-fn built(alloc: Global, repository: &mut ScopeRepository) -> Result<SyntaxSet, Fail> {
-    let definition = SyntaxDefinition::load_from_str(alloc, GRAMMAR, true, None, repository)?;
+fn built(rt: &impl Abort, alloc: Global, repository: &mut ScopeRepository) -> SyntaxSet {
+    let definition = SyntaxDefinition::load_from_str(alloc, GRAMMAR, true, None, repository).expect(
+        rt,
+        "a grammar",
+    );
     let mut builder = SyntaxSetBuilder::new(alloc);
-    builder.add(definition)?;
-    Ok(builder.build(alloc, repository)?)
+    builder.add(definition).expect(rt, "memory");
+    builder.build(alloc, repository).expect(rt, "a set")
 }
 
 /// The page of a text.
-fn page(alloc: Global, text: &str, style: ClassStyle) -> Result<String, Fail> {
+fn page(rt: &impl Abort, alloc: Global, text: &str, style: ClassStyle) -> String {
     let mut repository = ScopeRepository::new(alloc);
-    let set = built(alloc, &mut repository)?;
-    let syntax = set.find_syntax_by_name("T").ok_or("no syntax")?;
+    let set = built(rt, alloc, &mut repository);
+    let syntax = set.find_syntax_by_name("T").expect(rt, "a syntax");
     let mut generator = ClassedHTMLGenerator::new_with_class_style(
         alloc,
         syntax,
         &set,
         &repository,
         style,
-    )?;
+    ).expect(rt, "an answer");
     for line in LinesWithEndings::from(text) {
-        generator.parse_html_for_line_which_includes_newline(line)?;
+        generator
+            .parse_html_for_line_which_includes_newline(line)
+            .expect(rt, "an answer");
     }
-    Ok(generator.finalize()?)
+    generator.finalize().expect(rt, "an answer")
 }
 
 #[test]
-fn a_page_of_classes(rt: HostRuntime) -> Result<(), Fail> {
+fn a_page_of_classes(rt: HostRuntime) {
     let alloc = rt.alloc();
-    let first = page(alloc, "x + y\n", ClassStyle::Spaced)?;
-    assert_eq!(rt; first.as_str(), SUM);
-    let second = page(alloc, "x + y\n", PREFIXED)?;
-    assert_eq!(rt; second.as_str(), PREFIXED_SUM);
-    Ok(())
+    let first = page(&rt, alloc, "x + y\n", ClassStyle::Spaced);
+    equal(&rt, first.as_str(), SUM);
+    let second = page(&rt, alloc, "x + y\n", PREFIXED);
+    equal(&rt, second.as_str(), PREFIXED_SUM);
 }
 
 #[test]
-fn a_page_without_empty_spans(rt: HostRuntime) -> Result<(), Fail> {
+fn a_page_without_empty_spans(rt: HostRuntime) {
     let alloc = rt.alloc();
-    let blocks = page(alloc, BLOCKS, ClassStyle::Spaced)?;
-    assert_eq!(rt; blocks.as_str(), BLOCKS_PAGE);
-    let nothing = page(alloc, "", ClassStyle::Spaced)?;
-    assert_eq!(rt; nothing.as_str(), "");
-    Ok(())
+    let blocks = page(&rt, alloc, BLOCKS, ClassStyle::Spaced);
+    equal(&rt, blocks.as_str(), BLOCKS_PAGE);
+    let nothing = page(&rt, alloc, "", ClassStyle::Spaced);
+    equal(&rt, nothing.as_str(), "");
 }
 
 /// A refused line adds nothing, and the next one is read as if it had not been.
 #[test]
-fn a_refused_line_adds_nothing(rt: HostRuntime) -> Result<(), Fail> {
+fn a_refused_line_adds_nothing(rt: HostRuntime) {
     let alloc = rt.alloc();
     let mut repository = ScopeRepository::new(alloc);
-    let set = built(alloc, &mut repository)?;
-    let syntax = set.find_syntax_by_name("T").ok_or("no syntax")?;
+    let set = built(&rt, alloc, &mut repository);
+    let syntax = set.find_syntax_by_name("T").expect(&rt, "a syntax");
     let style = ClassStyle::Spaced;
     let mut generator = ClassedHTMLGenerator::new_with_class_style(
         alloc,
@@ -112,16 +116,18 @@ fn a_refused_line_adds_nothing(rt: HostRuntime) -> Result<(), Fail> {
         &set,
         &repository,
         style,
-    )?;
+    ).expect(&rt, "an answer");
     let refused = generator.parse_html_for_line_which_includes_newline("!\n");
-    assert!(rt;
+    holds(
+        &rt,
         matches!(
             refused,
             Err(Error::ParsingError(ParsingError::UnresolvedContextReference(_)))
-        )
+        ),
     );
-    generator.parse_html_for_line_which_includes_newline("x + y\n")?;
-    let text = generator.finalize()?;
-    assert_eq!(rt; text.as_str(), SUM);
-    Ok(())
+    generator
+        .parse_html_for_line_which_includes_newline("x + y\n")
+        .expect(&rt, "an answer");
+    let text = generator.finalize().expect(&rt, "an answer");
+    equal(&rt, text.as_str(), SUM);
 }

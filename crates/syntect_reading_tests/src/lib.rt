@@ -8,6 +8,8 @@ mod callers;
 #[cfg(test)]
 mod classed;
 #[cfg(test)]
+mod found;
+#[cfg(test)]
 mod pages;
 #[cfg(test)]
 mod states;

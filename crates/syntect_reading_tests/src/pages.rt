@@ -1,12 +1,13 @@
 //! Long texts, and sets that lack a context.
+use crate::found::holds;
 use std::alloc::Global;
-use std::test::Fail;
+use std::process::Abort;
 use syntect::highlighting::{Theme, ThemeSet};
 use syntect::html::{highlighted_html_for_reader, highlighted_html_for_string};
 use syntect::parsing::{ScopeRepository, SyntaxSet, SyntaxSetBuilder};
 use syntect_parsing::parser::{ParseState, ParsingError};
 use syntect_parsing::syntax_definition::{
-    ContextId, ContextReference, MatchOperation, Pattern, SyntaxDefinition,
+    Context, ContextId, ContextReference, MatchOperation, Pattern, SyntaxDefinition,
 };
 use syntect_values::seq::Seq;
 use syntect_values::text::Text;
@@ -28,133 +29,137 @@ const LACKING: ContextId = ContextId {
 };
 
 /// The set of plain text.
-fn plain(alloc: Global, repository: &mut ScopeRepository) -> Result<SyntaxSet, Fail> {
+fn plain(rt: &impl Abort, alloc: Global, repository: &mut ScopeRepository) -> SyntaxSet {
     let mut builder = SyntaxSetBuilder::new(alloc);
-    builder.add_plain_text_syntax(alloc, repository)?;
-    Ok(builder.build(alloc, repository)?)
+    builder
+        .add_plain_text_syntax(alloc, repository)
+        .expect(rt, "memory");
+    builder.build(alloc, repository).expect(rt, "memory")
 }
 
 /// The theme without rules.
-fn bare_theme(alloc: Global, repository: &mut ScopeRepository) -> Result<Theme, Fail> {
+fn bare_theme(rt: &impl Abort, alloc: Global, repository: &mut ScopeRepository) -> Theme {
     let mut bytes = r#"{"settings":[{"settings":{}}]}"#.as_bytes();
-    Ok(ThemeSet::load_from_reader(alloc, &mut bytes, repository)?)
+    ThemeSet::load_from_reader(alloc, &mut bytes, repository).expect(rt, "a theme")
 }
 
 /// The page of a text, by both calls.
-fn pages(alloc: Global, text: &str) -> Result<(String, String), Fail> {
+fn pages(rt: &impl Abort, alloc: Global, text: &str) -> (String, String) {
     let mut repository = ScopeRepository::new(alloc);
-    let set = plain(alloc, &mut repository)?;
-    let theme = bare_theme(alloc, &mut repository)?;
-    let syntax = set.find_syntax_plain_text().ok_or("no plain text")?;
-    let first = highlighted_html_for_string(alloc, text, &set, syntax, &theme)?;
-    let second = highlighted_html_for_reader(alloc, text.as_bytes(), &set, syntax, &theme)?;
-    Ok((first, second))
+    let set = plain(rt, alloc, &mut repository);
+    let theme = bare_theme(rt, alloc, &mut repository);
+    let syntax = set.find_syntax_plain_text().expect(rt, "plain text");
+    let first = highlighted_html_for_string(alloc, text, &set, syntax, &theme).expect(rt, "a page");
+    let second = highlighted_html_for_reader(alloc, text.as_bytes(), &set, syntax, &theme).expect(
+        rt, "a page",
+    );
+    (first, second)
 }
 
 /// More lines than 16 bits count.
 #[test]
-fn a_page_of_many_lines(rt: HostRuntime) -> Result<(), Fail> {
+fn a_page_of_many_lines(rt: HostRuntime) {
     let alloc = rt.alloc();
     let mut text = String::new(alloc);
-    let mut page = String::from_str(alloc, OPENING)?;
+    let mut page = String::from_str(alloc, OPENING).expect(&rt, "memory");
     for _ in 0..70_000 {
-        text.push_str("x\n")?;
-        page.push_str(SPAN)?;
-        page.push_str("x\n</span>")?;
+        text.push_str("x\n").expect(&rt, "memory");
+        page.push_str(SPAN).expect(&rt, "memory");
+        page.push_str("x\n</span>").expect(&rt, "memory");
     }
-    page.push_str(CLOSING)?;
-    let (first, second) = pages(alloc, text.as_str())?;
-    assert!(rt; first.as_str() == page.as_str());
-    assert!(rt; second.as_str() == page.as_str());
-    Ok(())
+    page.push_str(CLOSING).expect(&rt, "memory");
+    let (first, second) = pages(&rt, alloc, text.as_str());
+    holds(&rt, first.as_str() == page.as_str());
+    holds(&rt, second.as_str() == page.as_str());
 }
 
 /// A line longer than any buffer.
 #[test]
-fn a_line_of_a_million_bytes(rt: HostRuntime) -> Result<(), Fail> {
+fn a_line_of_a_million_bytes(rt: HostRuntime) {
     let alloc = rt.alloc();
     let mut line = String::new(alloc);
     for _ in 0..100_000 {
-        line.push_str("0123456789")?;
+        line.push_str("0123456789").expect(&rt, "memory");
     }
-    let mut page = String::from_str(alloc, OPENING)?;
-    page.push_str(SPAN)?;
-    page.push_str(line.as_str())?;
-    page.push_str("</span>")?;
-    page.push_str(CLOSING)?;
-    let (first, second) = pages(alloc, line.as_str())?;
-    assert!(rt; first.as_str() == page.as_str());
-    assert!(rt; second.as_str() == page.as_str());
-    Ok(())
+    let mut page = String::from_str(alloc, OPENING).expect(&rt, "memory");
+    page.push_str(SPAN).expect(&rt, "memory");
+    page.push_str(line.as_str()).expect(&rt, "memory");
+    page.push_str("</span>").expect(&rt, "memory");
+    page.push_str(CLOSING).expect(&rt, "memory");
+    let (first, second) = pages(&rt, alloc, line.as_str());
+    holds(&rt, first.as_str() == page.as_str());
+    holds(&rt, second.as_str() == page.as_str());
 }
 
 /// What the first line of a text is refused for, by the grammar with a context changed.
 fn refusal(
+    rt: &impl Abort,
     alloc: Global,
     definition: SyntaxDefinition,
     repository: &mut ScopeRepository,
-) -> Result<Option<ParsingError>, Fail> {
+) -> Option<ParsingError> {
     let mut builder = SyntaxSetBuilder::new(alloc);
-    builder.add(definition)?;
-    let set = builder.build(alloc, repository)?;
-    let syntax = set.syntaxes().first().ok_or("no syntax")?;
-    let mut state = ParseState::new(alloc, syntax)?;
-    let before = state.clone()?;
-    match state.parse_line(alloc, "x\n", &set) {
-        Ok(_) => Ok(None),
-        Err(e) => {
-            if state == before {
-                Ok(Some(e))
-            } else {
-                Ok(None)
-            }
-        }
-    }
+    builder.add(definition).expect(rt, "memory");
+    let set = builder.build(alloc, repository).expect(rt, "a set");
+    let syntax = set.syntaxes().first().expect(rt, "a syntax");
+    let mut state = ParseState::new(alloc, syntax).expect(rt, "memory");
+    let before = state.clone().expect(rt, "memory");
+    let refused = state.parse_line(alloc, "x\n", &set).err();
+    assert!(rt; state == before);
+    refused
+}
+
+/// The grammar's definition.
+fn loaded(rt: &impl Abort, alloc: Global, repository: &mut ScopeRepository) -> SyntaxDefinition {
+    SyntaxDefinition::load_from_str(alloc, GRAMMAR, true, None, repository).expect(rt, "a grammar")
+}
+
+/// The grammar with this context in place of the one of its name is refused as it is to be.
+fn is_lacked(
+    rt: &impl Abort,
+    alloc: Global,
+    definition: SyntaxDefinition,
+    context: (Text, Context),
+    repository: &mut ScopeRepository,
+) {
+    let mut definition = definition;
+    definition
+        .contexts
+        .insert(context.0, context.1)
+        .expect(rt, "memory");
+    let refused = refusal(rt, alloc, definition, repository);
+    assert!(rt; refused == Some(ParsingError::MissingContext(LACKING)));
 }
 
 #[test]
-fn a_prototype_that_the_set_lacks(rt: HostRuntime) -> Result<(), Fail> {
+fn a_prototype_that_the_set_lacks(rt: HostRuntime) {
     let alloc = rt.alloc();
     let mut repository = ScopeRepository::new(alloc);
-    let mut definition = SyntaxDefinition::load_from_str(
-        alloc,
-        GRAMMAR,
-        true,
-        None,
-        &mut repository,
-    )?;
-    let name = Text::from_str(alloc, "__main")?;
-    let mut context = definition.contexts.remove(&name).ok_or("no context")?;
+    let mut definition = loaded(&rt, alloc, &mut repository);
+    let name = Text::from_str(alloc, "__main").expect(&rt, "memory");
+    let mut context = definition.contexts.remove(&name).expect(&rt, "a context");
     context.prototype = Some(LACKING);
-    definition.contexts.insert(name, context)?;
-    let refused = refusal(alloc, definition, &mut repository)?;
-    assert!(rt; refused == Some(ParsingError::MissingContext(LACKING)));
-    Ok(())
+    is_lacked(&rt, alloc, definition, (name, context), &mut repository);
 }
 
 #[test]
-fn a_pushed_context_that_the_set_lacks(rt: HostRuntime) -> Result<(), Fail> {
+fn a_pushed_context_that_the_set_lacks(rt: HostRuntime) {
     let alloc = rt.alloc();
     let mut repository = ScopeRepository::new(alloc);
-    let mut definition = SyntaxDefinition::load_from_str(
-        alloc,
-        GRAMMAR,
-        true,
-        None,
-        &mut repository,
-    )?;
-    let name = Text::from_str(alloc, "main")?;
-    let mut context = definition.contexts.remove(&name).ok_or("no context")?;
-    let Some(Pattern::Match(pattern)) = context.patterns.pop() else {
-        return Err(Fail::from("no pattern"));
-    };
-    let mut pattern = pattern;
-    let mut references = Seq::new(alloc);
-    references.push(ContextReference::Direct(LACKING))?;
-    pattern.operation = MatchOperation::Push(references);
-    context.patterns.push(Pattern::Match(pattern))?;
-    definition.contexts.insert(name, context)?;
-    let refused = refusal(alloc, definition, &mut repository)?;
-    assert!(rt; refused == Some(ParsingError::MissingContext(LACKING)));
-    Ok(())
+    let mut definition = loaded(&rt, alloc, &mut repository);
+    let name = Text::from_str(alloc, "main").expect(&rt, "memory");
+    let mut context = definition.contexts.remove(&name).expect(&rt, "a context");
+    if let Some(Pattern::Match(pattern)) = context.patterns.pop() {
+        let mut pattern = pattern;
+        let mut references = Seq::new(alloc);
+        references
+            .push(ContextReference::Direct(LACKING))
+            .expect(&rt, "memory");
+        pattern.operation = MatchOperation::Push(references);
+        context
+            .patterns
+            .push(Pattern::Match(pattern))
+            .expect(&rt, "memory");
+    }
+    is_lacked(&rt, alloc, definition, (name, context), &mut repository);
 }

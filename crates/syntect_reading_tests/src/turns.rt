@@ -1,37 +1,49 @@
 //! How many turns lines take.
+use crate::found::equal;
 use std::alloc::Global;
-use std::test::Fail;
+use std::process::Abort;
 use syntect_parsing::parser::{ParseState, turns_of_line};
 use syntect_parsing::syntax_definition::SyntaxDefinition;
 use syntect_parsing::syntax_set::{SyntaxSet, SyntaxSetBuilder};
 use syntect_scope::repository::ScopeRepository;
 
 /// The set of a grammar that stands alone, or beside plain text.
-fn set_of(alloc: Global, grammar: &str, plain_text: bool) -> Result<SyntaxSet, Fail> {
+fn set_of(rt: &impl Abort, alloc: Global, grammar: &str, plain_text: bool) -> SyntaxSet {
     let mut repository = ScopeRepository::new(alloc);
     let mut builder = SyntaxSetBuilder::new(alloc);
     if plain_text {
-        builder.add_plain_text_syntax(alloc, &mut repository)?;
+        builder
+            .add_plain_text_syntax(alloc, &mut repository)
+            .expect(rt, "an answer");
     }
-    let definition = SyntaxDefinition::load_from_str(alloc, grammar, false, None, &mut repository)?;
-    builder.add(definition)?;
-    Ok(builder.build(alloc, &mut repository)?)
+    let definition = SyntaxDefinition::load_from_str(
+        alloc,
+        grammar,
+        false,
+        None,
+        &mut repository,
+    ).expect(rt, "a grammar");
+    builder.add(definition).expect(rt, "memory");
+    builder.build(alloc, &mut repository).expect(rt, "a set")
 }
 
 /// The turns of two lines, one after the other, in the grammar's syntax.
 fn turns_of_two(
+    rt: &impl Abort,
     alloc: Global,
     grammar: &str,
     plain_text: bool,
     lines: (&str, &str),
-) -> Result<(u64, u64), Fail> {
-    let set = set_of(alloc, grammar, plain_text)?;
-    let syntax = set.find_syntax_by_name("T").ok_or("no syntax")?;
-    let mut state = ParseState::new(alloc, syntax)?;
-    let first = turns_of_line(alloc, &state, lines.0, &set)?;
-    state.parse_line(alloc, lines.0, &set)?;
-    let second = turns_of_line(alloc, &state, lines.1, &set)?;
-    Ok((first, second))
+) -> (u64, u64) {
+    let set = set_of(rt, alloc, grammar, plain_text);
+    let syntax = set.find_syntax_by_name("T").expect(rt, "a syntax");
+    let mut state = ParseState::new(alloc, syntax).expect(rt, "an answer");
+    let first = turns_of_line(alloc, &state, lines.0, &set).expect(rt, "an answer");
+    state
+        .parse_line(alloc, lines.0, &set)
+        .expect(rt, "an answer");
+    let second = turns_of_line(alloc, &state, lines.1, &set).expect(rt, "an answer");
+    (first, second)
 }
 
 /// Words, and a context that ends by itself.
@@ -51,31 +63,27 @@ const EMBED: &str =
     "name: T\nscope: source.t\ncontexts:\n  main:\n    - match: x\n      embed: scope:none\n      escape: y\n";
 
 #[test]
-fn turns_of_words(rt: HostRuntime) -> Result<(), Fail> {
+fn turns_of_words(rt: HostRuntime) {
     let line = " Aaaabxxx";
-    let turns = turns_of_two(rt.alloc(), WORDS, false, (line, line))?;
-    assert_eq!(rt; turns.0, 7);
-    assert_eq!(rt; turns.1, 6);
-    Ok(())
+    let turns = turns_of_two(&rt, rt.alloc(), WORDS, false, (line, line));
+    equal(&rt, turns.0, 7);
+    equal(&rt, turns.1, 6);
 }
 
 #[test]
-fn turns_of_a_context_left_at_once(rt: HostRuntime) -> Result<(), Fail> {
-    let turns = turns_of_two(rt.alloc(), LEFT, false, (" hello", ""))?;
-    assert_eq!(rt; turns.0, 5);
-    Ok(())
+fn turns_of_a_context_left_at_once(rt: HostRuntime) {
+    let turns = turns_of_two(&rt, rt.alloc(), LEFT, false, (" hello", ""));
+    equal(&rt, turns.0, 5);
 }
 
 #[test]
-fn turns_of_idle_sets(rt: HostRuntime) -> Result<(), Fail> {
-    let turns = turns_of_two(rt.alloc(), IDLE, false, ("xa", ""))?;
-    assert_eq!(rt; turns.0, 1002);
-    Ok(())
+fn turns_of_idle_sets(rt: HostRuntime) {
+    let turns = turns_of_two(&rt, rt.alloc(), IDLE, false, ("xa", ""));
+    equal(&rt, turns.0, 1002);
 }
 
 #[test]
-fn turns_of_an_embedded_text(rt: HostRuntime) -> Result<(), Fail> {
-    let turns = turns_of_two(rt.alloc(), EMBED, true, ("xay", ""))?;
-    assert_eq!(rt; turns.0, 5);
-    Ok(())
+fn turns_of_an_embedded_text(rt: HostRuntime) {
+    let turns = turns_of_two(&rt, rt.alloc(), EMBED, true, ("xay", ""));
+    equal(&rt, turns.0, 5);
 }
