@@ -1,4 +1,5 @@
-//! Tests of the crates that reading stands on, and of styles and writers, by values from outside.
+//! Tests of the crates that reading stands on, of styles and writers, and of spans with classes, regions, hooks and cleared
+//! scopes that no row of the bench holds, by values from outside.
 //!
 //! They stand in a crate of their own, since a crate that has tests is proved a second time with them.
 #![tactic(auto)]
@@ -6,9 +7,13 @@
 #[cfg(test)]
 mod blocks;
 #[cfg(test)]
+mod classed;
+#[cfg(test)]
 mod flags;
 #[cfg(test)]
 mod found;
+#[cfg(test)]
+mod operations;
 #[cfg(test)]
 mod rewrites;
 #[cfg(test)]

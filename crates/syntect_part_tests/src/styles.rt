@@ -189,7 +189,7 @@ fn pieces_between_operations(rt: HostRuntime) {
     let mut count = 0;
     let mut items = RangedHighlightIterator::new(&mut state, &changes, "abcdef", &highlighter);
     while let Some(item) = items.next() {
-        holds(&rt, count < 4);
+        assert!(rt; count < 4);
         holds(&rt, item.is_ok_and(|p| p == expected[count]));
         count += 1;
     }

@@ -1,14 +1,14 @@
 //! Spans behind a prefix.
-use std::test::Fail;
+use crate::found::equal;
 use syntect_classed::spans::line_tokens_to_classed_spans;
 use syntect_classed::style::ClassStyle;
 use syntect_scope::repository::ScopeRepository;
 use syntect_scope::stack::{ScopeStack, ScopeStackOp};
 
 #[test]
-fn a_prefix_is_escaped(rt: HostRuntime) -> Result<(), Fail> {
+fn a_prefix_is_escaped(rt: HostRuntime) {
     let mut repository = ScopeRepository::new(rt.alloc());
-    let scope = repository.build("source.t")?;
+    let scope = repository.build("source.t").expect(&rt, "a scope");
     let ops = [(0, ScopeStackOp::Push(scope))];
     let mut stack = ScopeStack::new(rt.alloc());
     let style = ClassStyle::SpacedPrefixed { prefix: "p<" };
@@ -19,8 +19,7 @@ fn a_prefix_is_escaped(rt: HostRuntime) -> Result<(), Fail> {
         style,
         &mut stack,
         &repository,
-    )?;
-    assert_eq!(rt; html.as_str(), "<span class=\"p&lt;source p&lt;t\">x");
-    assert_eq!(rt; number, 1);
-    Ok(())
+    ).expect(&rt, "memory");
+    equal(&rt, html.as_str(), "<span class=\"p&lt;source p&lt;t\">x");
+    equal(&rt, number, 1);
 }
