@@ -1,8 +1,10 @@
 //! Files of grammars and themes: a page by them, and what is told where they were not loaded.
-use std::alloc::Global;
+use crate::found::{equal, holds};
 use std::path::{Path, PathBuf};
-use std::test::Fail;
-use std::{env, fs};
+use std::process::Abort;
+use std::rt::Files;
+use std::{env, fs, io};
+use syntect::LoadingError;
 use syntect::explain::why_not_loaded;
 use syntect::highlighting::ThemeSet;
 use syntect::parsing::{ScopeRepository, SyntaxSetBuilder};
@@ -28,7 +30,7 @@ const THEME: &str =
     r##"{"settings":[{"settings":{"foreground":"#010101","background":"#020202"}},{"scope":"word","settings":{"foreground":"#030303"}},{"scope":"word","settings":{"foreground":"none"}}]}"##;
 
 /// A folder of this name among the temporary files.
-pub fn folder(rt: &HostRuntime, name: &str) -> Result<PathBuf, Fail> {
+pub fn folder(rt: &HostRuntime, name: &str) -> io::Result<PathBuf> {
     let mut folder = env::temp_dir(rt)?;
     folder.push(name)?;
     let _ = fs::remove_dir_all(rt, folder.as_path());
@@ -37,107 +39,123 @@ pub fn folder(rt: &HostRuntime, name: &str) -> Result<PathBuf, Fail> {
 }
 
 /// A line about the grammars of a folder, without the folder's path. It is empty where they are loaded.
-fn told_of_grammars(rt: &HostRuntime, folder: Path<'_>) -> Result<String, Fail> {
+fn told_of_grammars(rt: &(impl Files + AllocGlobal + Abort), folder: Path<'_>) -> String {
     let alloc = rt.alloc();
     let mut repository = ScopeRepository::new(alloc);
     let mut builder = SyntaxSetBuilder::new(alloc);
     match builder.add_from_folder(rt, alloc, folder, true, &mut repository) {
-        Ok(()) => Ok(String::new(alloc)),
-        Err(e) => without(alloc, why_not_loaded(rt, alloc, folder, &e)?, folder),
+        Ok(()) => String::new(alloc),
+        Err(e) => told(rt, folder, &e),
     }
 }
 
 /// The same about the theme in a file.
-fn told_of_theme(rt: &HostRuntime, path: Path<'_>) -> Result<String, Fail> {
+fn told_of_theme(rt: &(impl Files + AllocGlobal + Abort), path: Path<'_>) -> String {
     let alloc = rt.alloc();
     let mut repository = ScopeRepository::new(alloc);
     match ThemeSet::get_theme(rt, alloc, path, &mut repository) {
-        Ok(_) => Ok(String::new(alloc)),
-        Err(e) => without(alloc, why_not_loaded(rt, alloc, path, &e)?, path),
+        Ok(_) => String::new(alloc),
+        Err(e) => told(rt, path, &e),
     }
 }
 
-/// A text without the path that it begins with.
-fn without(alloc: Global, text: String, path: Path<'_>) -> Result<String, Fail> {
-    match text.as_str().strip_prefix(path.as_str()) {
-        Some(rest) => Ok(String::from_str(alloc, rest)?),
-        None => Ok(text),
-    }
+/// What is told of a refusal, without the path that it begins with.
+fn told(rt: &(impl Files + AllocGlobal + Abort), path: Path<'_>, e: &LoadingError) -> String {
+    let alloc = rt.alloc();
+    let text = why_not_loaded(rt, alloc, path, e).expect(rt, "memory");
+    let text = text.as_str();
+    let rest = text.strip_prefix(path.as_str()).unwrap_or(text);
+    String::from_str(alloc, rest).expect(rt, "memory")
+}
+
+/// Texts of a grammar's file, and what is told of them.
+const GRAMMARS: [(&str, &str); 2] = [
+    (
+        "scope: s\n",
+        "/a.sublime-syntax: Missing mandatory key in YAML file: contexts",
+    ),
+    (
+        "scope: s\ncontexts:\n\tmain: []\n",
+        "/a.sublime-syntax:3:1: Invalid YAML file syntax",
+    ),
+];
+
+/// Texts of a theme's file, and what is told of them.
+const THEMES: [(&str, &str); 4] = [
+    (
+        "<?xml version=\"1.0\"?>\n<plist/>\n",
+        ": this is XML; docs/THEMES.md says how to make it JSON",
+    ),
+    (
+        "{\"name\":1.5}",
+        ": Invalid syntax theme settings: the text is no JSON, or a number in it is no whole one; docs/THEMES.md says how to make a property list JSON",
+    ),
+    ("[]", ": Invalid syntax theme: Incorrect syntax"),
+    ("{\"settings\":[{\"settings\":{}}]}", ""),
+];
+
+/// The path of a file in a folder.
+fn within(rt: &impl Abort, folder: &PathBuf, name: &str) -> PathBuf {
+    let mut file = folder.clone().expect(rt, "memory");
+    file.push(name).expect(rt, "memory");
+    file
 }
 
 #[test]
-fn grammars_are_named_with_line_and_column(rt: HostRuntime) -> Result<(), Fail> {
-    let folder = folder(&rt, "syntect_told_grammars")?;
-    let none = told_of_grammars(&rt, folder.as_path())?;
-    assert_eq!(rt; none.as_str(), "");
-    let mut file = folder.clone()?;
-    file.push("a.sublime-syntax")?;
-    for (text, wanted) in [
-        (
-            "scope: s\n",
-            "/a.sublime-syntax: Missing mandatory key in YAML file: contexts",
-        ),
-        (
-            "scope: s\ncontexts:\n\tmain: []\n",
-            "/a.sublime-syntax:3:1: Invalid YAML file syntax",
-        ),
-    ] {
-        fs::write(&rt, file.as_path(), text)?;
-        let told = told_of_grammars(&rt, folder.as_path())?;
-        assert_eq!(rt; told.as_str(), wanted);
+fn grammars_are_named_with_line_and_column(rt: HostRuntime) {
+    let folder = folder(&rt, "syntect_told_grammars").expect(&rt, "a folder");
+    let none = told_of_grammars(&rt, folder.as_path());
+    equal(&rt, none.as_str(), "");
+    let file = within(&rt, &folder, "a.sublime-syntax");
+    for (text, wanted) in &GRAMMARS {
+        fs::write(&rt, file.as_path(), *text).expect(&rt, "a folder");
+        let told = told_of_grammars(&rt, folder.as_path());
+        equal(&rt, told.as_str(), *wanted);
     }
-    fs::remove_dir_all(&rt, folder.as_path())?;
-    let nothing = told_of_grammars(&rt, folder.as_path())?;
-    assert_eq!(rt;
+    fs::remove_dir_all(&rt, folder.as_path()).expect(&rt, "a folder");
+    let nothing = told_of_grammars(&rt, folder.as_path());
+    equal(
+        &rt,
         nothing.as_str(),
-        ": error finding all the files in a directory"
+        ": error finding all the files in a directory",
     );
-    Ok(())
 }
 
 #[test]
-fn themes_are_named_with_what_helps(rt: HostRuntime) -> Result<(), Fail> {
-    let folder = folder(&rt, "syntect_told_themes")?;
-    let mut file = folder.clone()?;
-    file.push("a.json")?;
-    for (text, wanted) in [
-        (
-            "<?xml version=\"1.0\"?>\n<plist/>\n",
-            ": this is XML; docs/THEMES.md says how to make it JSON",
-        ),
-        (
-            "{\"name\":1.5}",
-            ": Invalid syntax theme settings: the text is no JSON, or a number in it is no whole one; docs/THEMES.md says how to make a property list JSON",
-        ),
-        ("[]", ": Invalid syntax theme: Incorrect syntax"),
-        ("{\"settings\":[{\"settings\":{}}]}", ""),
-    ] {
-        fs::write(&rt, file.as_path(), text)?;
-        let told = told_of_theme(&rt, file.as_path())?;
-        assert_eq!(rt; told.as_str(), wanted);
+fn themes_are_named_with_what_helps(rt: HostRuntime) {
+    let folder = folder(&rt, "syntect_told_themes").expect(&rt, "a folder");
+    let file = within(&rt, &folder, "a.json");
+    for (text, wanted) in &THEMES {
+        fs::write(&rt, file.as_path(), *text).expect(&rt, "a folder");
+        let told = told_of_theme(&rt, file.as_path());
+        equal(&rt, told.as_str(), *wanted);
     }
-    fs::remove_dir_all(&rt, folder.as_path())?;
-    let nothing = told_of_theme(&rt, file.as_path())?;
-    assert!(rt; nothing.as_str().starts_with(": error reading a file: "));
-    Ok(())
+    fs::remove_dir_all(&rt, folder.as_path()).expect(&rt, "a folder");
+    let nothing = told_of_theme(&rt, file.as_path());
+    holds(
+        &rt,
+        nothing.as_str().starts_with(": error reading a file: "),
+    );
 }
 
 /// The rule whose colour is none is left out.
 #[test]
-fn a_page_by_a_folder(rt: HostRuntime) -> Result<(), Fail> {
+fn a_page_by_a_folder(rt: HostRuntime) {
     let alloc = rt.alloc();
-    let folder = folder(&rt, "syntect_page_by_folder")?;
-    let mut file = folder.clone()?;
-    file.push("T.sublime-syntax")?;
-    fs::write(&rt, file.as_path(), GRAMMAR)?;
+    let folder = folder(&rt, "syntect_page_by_folder").expect(&rt, "a folder");
+    let file = within(&rt, &folder, "T.sublime-syntax");
+    fs::write(&rt, file.as_path(), GRAMMAR).expect(&rt, "a folder");
     let mut repository = ScopeRepository::new(alloc);
     let mut bytes = THEME.as_bytes();
-    let theme = ThemeSet::load_from_reader(alloc, &mut bytes, &mut repository)?;
+    let theme = ThemeSet::load_from_reader(alloc, &mut bytes, &mut repository).expect(
+        &rt, "a theme",
+    );
     let path = folder.as_path();
-    let page = page_by_folder(&rt, alloc, path, "t", &theme, " hello", &mut repository)?;
+    let page = page_by_folder(&rt, alloc, path, "t", &theme, " hello", &mut repository).expect(
+        &rt, "a page",
+    );
     let expected =
         "<pre style=\"background-color:#020202;\">\n<span style=\"color:#010101;\"> </span><span style=\"color:#030303;\">hello</span></pre>\n";
-    assert_eq!(rt; page.as_str(), expected);
-    fs::remove_dir_all(&rt, path)?;
-    Ok(())
+    equal(&rt, page.as_str(), expected);
+    fs::remove_dir_all(&rt, path).expect(&rt, "a folder");
 }

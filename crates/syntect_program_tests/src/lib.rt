@@ -4,6 +4,8 @@
 #[cfg(test)]
 mod files;
 #[cfg(test)]
+mod found;
+#[cfg(test)]
 mod loads;
 #[cfg(test)]
 mod metadata;

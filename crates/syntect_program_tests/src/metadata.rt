@@ -1,8 +1,8 @@
 //! Metadata from folders: which files are read, which are passed over, and which sets replace others.
 use crate::files::folder;
-use std::fs;
 use std::path::PathBuf;
-use std::test::Fail;
+use std::process::Abort;
+use std::{fs, io};
 use syntect::parsing::{Scope, ScopeRepository, SyntaxSet, SyntaxSetBuilder};
 
 /// A file's name and text.
@@ -46,7 +46,7 @@ const SECOND: [File; 2] = [
 ];
 
 /// Writes the files into a new folder of this name.
-pub fn written(rt: &HostRuntime, name: &str, files: &[File]) -> Result<PathBuf, Fail> {
+pub fn written(rt: &HostRuntime, name: &str, files: &[File]) -> io::Result<PathBuf> {
     let folder = folder(rt, name)?;
     for (name, text) in files {
         let mut path = folder.clone()?;
@@ -60,55 +60,50 @@ pub fn written(rt: &HostRuntime, name: &str, files: &[File]) -> Result<PathBuf, 
 type Row = (&'static str, &'static str, bool, &'static str);
 
 /// Whether one set is for the row's scope, and answers so.
-fn answers(set: &SyntaxSet, repository: &mut ScopeRepository, row: &Row) -> Result<bool, Fail> {
+fn answers(rt: &impl Abort, set: &SyntaxSet, repository: &mut ScopeRepository, row: &Row) -> bool {
     let (scope, line, increases, comment) = *row;
-    let scope = Scope::new(scope, repository)?;
-    let scoped = set.metadata().metadata_for_scope(&[scope])?;
-    let increase = scoped.increase_indent(line)?;
-    Ok(
-        (scoped.items.len() == 1)
-            & (increase == increases)
-            & (scoped.line_comment() == Some(comment)),
-    )
+    let scope = Scope::new(scope, repository).expect(rt, "a scope");
+    let scoped = set
+        .metadata()
+        .metadata_for_scope(&[scope])
+        .expect(rt, "memory");
+    let increase = scoped.increase_indent(line).expect(rt, "an answer");
+    (scoped.items.len() == 1) & (increase == increases) & (scoped.line_comment() == Some(comment))
 }
 
-/// Whether the set answers all rows so.
-fn all_answer(
-    set: &SyntaxSet,
-    repository: &mut ScopeRepository,
-    rows: &[Row],
-) -> Result<bool, Fail> {
+/// The set answers all rows so.
+fn all_answer(rt: &impl Abort, set: &SyntaxSet, repository: &mut ScopeRepository, rows: &[Row]) {
     for row in rows {
-        if !answers(set, repository, row)? {
-            return Ok(false);
-        }
+        assert!(rt; answers(rt, set, repository, row), "{}", row.0);
     }
-    Ok(true)
 }
 
 #[test]
-fn metadata_of_two_folders(rt: HostRuntime) -> Result<(), Fail> {
+fn metadata_of_two_folders(rt: HostRuntime) {
     let alloc = rt.alloc();
-    let first = written(&rt, "syntect_metadata_first", &FIRST)?;
-    let second = written(&rt, "syntect_metadata_second", &SECOND)?;
+    let first = written(&rt, "syntect_metadata_first", &FIRST).expect(&rt, "a set");
+    let second = written(&rt, "syntect_metadata_second", &SECOND).expect(&rt, "a set");
     let mut repository = ScopeRepository::new(alloc);
     let mut builder = SyntaxSetBuilder::new(alloc);
-    builder.add_from_folder(&rt, alloc, first.as_path(), true, &mut repository)?;
-    let set = builder.build(alloc, &mut repository)?;
+    builder
+        .add_from_folder(&rt, alloc, first.as_path(), true, &mut repository)
+        .expect(&rt, "a set");
+    let set = builder.build(alloc, &mut repository).expect(&rt, "a set");
     let rows = [
         ("source.rust", "f(", true, "// "),
         ("source.rust", "f {", false, "// "),
         ("source.rust", "x", false, "// "),
         ("source.c", "f(", false, "/* "),
     ];
-    assert!(rt; all_answer(&set, &mut repository, &rows)?);
-    let mut builder = set.into_builder(alloc)?;
-    builder.add_from_folder(&rt, alloc, second.as_path(), true, &mut repository)?;
-    let set = builder.build(alloc, &mut repository)?;
+    all_answer(&rt, &set, &mut repository, &rows);
+    let mut builder = set.into_builder(alloc).expect(&rt, "a set");
+    builder
+        .add_from_folder(&rt, alloc, second.as_path(), true, &mut repository)
+        .expect(&rt, "a set");
+    let set = builder.build(alloc, &mut repository).expect(&rt, "a set");
     let rows = [
         ("source.rust", "f(", false, "# "),
         ("source.c", "f(", false, "/* "),
     ];
-    assert!(rt; all_answer(&set, &mut repository, &rows)?);
-    Ok(())
+    all_answer(&rt, &set, &mut repository, &rows);
 }

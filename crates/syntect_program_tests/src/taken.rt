@@ -1,7 +1,8 @@
 //! Refusals that `?` takes.
+use crate::found::{equal, holds};
 use std::alloc::Global;
 use std::fmt;
-use std::test::Fail;
+use std::process::Abort;
 use syntect::Error;
 use syntect::easy::HighlightLines;
 use syntect::explain::why_not_read;
@@ -58,102 +59,110 @@ fn unwritten() -> Result<(), Error> {
 }
 
 /// A refusal's message.
-fn told<T: Drop>(alloc: Global, answer: Result<T, Error>) -> Result<String, Fail> {
+fn told<T: Drop>(rt: &impl Abort, alloc: Global, answer: Result<T, Error>) -> String {
     match answer {
-        Ok(_) => Ok(String::new(alloc)),
-        Err(e) => Ok(format!(in alloc; "{e}")?),
+        Ok(_) => String::new(alloc),
+        Err(e) => format!(in alloc; "{e}").expect(rt, "memory"),
     }
 }
 
 /// What `main` shows of a refusal.
-fn shown<T: Drop>(alloc: Global, answer: Result<T, Error>) -> Result<String, Fail> {
+fn shown<T: Drop>(rt: &impl Abort, alloc: Global, answer: Result<T, Error>) -> String {
     match answer {
-        Ok(_) => Ok(String::new(alloc)),
-        Err(e) => Ok(format!(in alloc; "{e:?}")?),
+        Ok(_) => String::new(alloc),
+        Err(e) => format!(in alloc; "{e:?}").expect(rt, "memory"),
     }
 }
 
 #[test]
-fn refusals_of_texts_are_taken(rt: HostRuntime) -> Result<(), Fail> {
+fn refusals_of_texts_are_taken(rt: HostRuntime) {
     let alloc = rt.alloc();
     let mut repository = ScopeRepository::new(alloc);
-    let no_contexts = told(alloc, set_of(alloc, "scope: s", &mut repository))?;
-    assert_eq!(rt;
+    let no_contexts = told(&rt, alloc, set_of(alloc, "scope: s", &mut repository));
+    equal(
+        &rt,
         no_contexts.as_str(),
-        "Syntax error: Missing mandatory key in YAML file: contexts"
+        "Syntax error: Missing mandatory key in YAML file: contexts",
     );
-    let long = told(alloc, scope("a.b.c.d.e.f.g.h.i", &mut repository))?;
-    assert_eq!(rt;
+    let long = told(&rt, alloc, scope("a.b.c.d.e.f.g.h.i", &mut repository));
+    equal(
+        &rt,
         long.as_str(),
-        "Scope error: Too long scope. Scopes can be at most 8 atoms long."
+        "Scope error: Too long scope. Scopes can be at most 8 atoms long.",
     );
-    let open = told(alloc, pattern(alloc, "(a"))?;
-    assert_eq!(rt; open.as_str(), "Pattern error: NotAPattern");
-    let red = told(alloc, colour("red"))?;
-    assert_eq!(rt; red.as_str(), "Loading error: Invalid syntax theme");
-    let unwritten = told(alloc, unwritten())?;
-    assert!(rt; unwritten.as_str().starts_with("Formatting error: "));
-    Ok(())
+    let open = told(&rt, alloc, pattern(alloc, "(a"));
+    equal(&rt, open.as_str(), "Pattern error: NotAPattern");
+    let red = told(&rt, alloc, colour("red"));
+    equal(&rt, red.as_str(), "Loading error: Invalid syntax theme");
+    let unwritten = told(&rt, alloc, unwritten());
+    holds(&rt, unwritten.as_str().starts_with("Formatting error: "));
 }
 
 #[test]
-fn texts_that_are_none_are_taken_as_well(rt: HostRuntime) -> Result<(), Fail> {
+fn texts_that_are_none_are_taken_as_well(rt: HostRuntime) {
     let alloc = rt.alloc();
     let mut repository = ScopeRepository::new(alloc);
-    assert!(rt; set_of(alloc, "scope: s\ncontexts: {main: []}", &mut repository).is_ok());
-    assert!(rt; scope("a.b.c.d.e.f.g.h", &mut repository).is_ok());
-    assert!(rt; pattern(alloc, "(a)").is_ok());
-    assert!(rt; colour("#f00").is_ok());
-    Ok(())
+    holds(
+        &rt,
+        set_of(alloc, "scope: s\ncontexts: {main: []}", &mut repository).is_ok(),
+    );
+    holds(&rt, scope("a.b.c.d.e.f.g.h", &mut repository).is_ok());
+    holds(&rt, pattern(alloc, "(a)").is_ok());
+    holds(&rt, colour("#f00").is_ok());
 }
 
 #[test]
-fn debug_texts_have_the_cause(rt: HostRuntime) -> Result<(), Fail> {
+fn debug_texts_have_the_cause(rt: HostRuntime) {
     let alloc = rt.alloc();
     let mut repository = ScopeRepository::new(alloc);
-    let red = shown(alloc, colour("red"))?;
-    assert_eq!(rt;
+    let red = shown(&rt, alloc, colour("red"));
+    equal(
+        &rt,
         red.as_str(),
-        "Loading error: Invalid syntax theme: Incorrect color"
+        "Loading error: Invalid syntax theme: Incorrect color",
     );
-    let no_json = shown(alloc, theme(alloc, "<plist/>", &mut repository))?;
-    assert_eq!(rt;
+    let no_json = shown(&rt, alloc, theme(alloc, "<plist/>", &mut repository));
+    equal(
+        &rt,
         no_json.as_str(),
-        "Loading error: Invalid syntax theme settings: the text is no JSON, or a number in it is no whole one; docs/THEMES.md says how to make a property list JSON"
+        "Loading error: Invalid syntax theme settings: the text is no JSON, or a number in it is no whole one; docs/THEMES.md says how to make a property list JSON",
     );
-    let no_contexts = shown(alloc, set_of(alloc, "scope: s", &mut repository))?;
-    assert_eq!(rt;
+    let no_contexts = shown(&rt, alloc, set_of(alloc, "scope: s", &mut repository));
+    equal(
+        &rt,
         no_contexts.as_str(),
-        "Syntax error: Missing mandatory key in YAML file: contexts"
+        "Syntax error: Missing mandatory key in YAML file: contexts",
     );
-    Ok(())
 }
 
 #[test]
-fn unresolved_references_are_named(rt: HostRuntime) -> Result<(), Fail> {
+fn unresolved_references_are_named(rt: HostRuntime) {
     let alloc = rt.alloc();
     let mut repository = ScopeRepository::new(alloc);
-    let named = told(alloc, read(alloc, "none", &mut repository))?;
-    assert_eq!(rt;
+    let named = told(&rt, alloc, read(alloc, "none", &mut repository));
+    equal(
+        &rt,
         named.as_str(),
-        "Parsing error: Tried to use a ContextReference that has not been resolved yet: 'none'"
+        "Parsing error: Tried to use a ContextReference that has not been resolved yet: 'none'",
     );
     let outside = told(
+        &rt,
         alloc,
         read(alloc, "Packages/C/C.sublime-syntax#part", &mut repository),
-    )?;
-    assert_eq!(rt;
+    );
+    equal(
+        &rt,
         outside.as_str(),
-        "Parsing error: Tried to use a ContextReference that has not been resolved yet: 'part' of the syntax 'C'"
+        "Parsing error: Tried to use a ContextReference that has not been resolved yet: 'part' of the syntax 'C'",
     );
     let answer = read(alloc, "scope:source.c", &mut repository);
     let by_scope = match &answer {
-        Err(Error::ParsingError(e)) => why_not_read(alloc, &repository, e)?,
+        Err(Error::ParsingError(e)) => why_not_read(alloc, &repository, e).expect(&rt, "memory"),
         _ => String::new(alloc),
     };
-    assert_eq!(rt;
+    equal(
+        &rt,
         by_scope.as_str(),
-        "Tried to use a ContextReference that has not been resolved yet: the syntax of a scope source.c"
+        "Tried to use a ContextReference that has not been resolved yet: the syntax of a scope source.c",
     );
-    Ok(())
 }
