@@ -2,9 +2,14 @@
 """Has each request of a program for memory refused in turn, and each of its reads and writes fail or be short.
 
     python3 scripts/refusals.py PROGRAM WORD..
+    python3 scripts/refusals.py --calls PROGRAM [NAME..]
 
 PROGRAM is run with these words, as syncat with its four: each run has to end as the undisturbed one, or with status 1 (2 where not even
 its words can be read), one line on standard error and, unless a write fails, nothing on standard output. A short read or write must change nothing.
+
+With --calls PROGRAM is syntect_bench, run in its folder data: of each call that `shown calls` names, or of those named here, only the
+requests and reads between the start and the end of the first call are disturbed. The call then has to answer as undisturbed, or that
+there is no memory (of a read: that it failed) with what it left as it was before; and made again it has to answer as undisturbed.
 
 It needs cc and a C library whose allocation can be replaced (glibc on Linux). It prints a line for each call or each kind of
 fault with its figures, and each wrong run; its status is 1 if there is one.
@@ -24,11 +29,13 @@ LAYER = r"""
 #include <fcntl.h>
 #include <stdio.h>
 #include <stdlib.h>
+#include <string.h>
 #include <sys/syscall.h>
 #include <unistd.h>
 extern void *__libc_malloc(size_t), *__libc_calloc(size_t, size_t), *__libc_realloc(void *, size_t);
 extern void *__libc_memalign(size_t, size_t);
 static long memory, reads, writes, at_memory = -1, at_read = -1, at_write = -1, short_read = -1, short_write = -1;
+static long marks[4];
 static long number(const char *name) { const char *text = getenv(name); return text ? atol(text) : -1; }
 __attribute__((constructor)) static void begin(void) {
     at_memory = number("REFUSE_MEMORY"); at_read = number("REFUSE_READ"); at_write = number("REFUSE_WRITE");
@@ -37,9 +44,10 @@ __attribute__((constructor)) static void begin(void) {
 }
 __attribute__((destructor)) static void end(void) {
     const char *name = getenv("REFUSE_COUNTS");
-    char text[100];
+    char text[200];
     if (!name) return;
-    int length = snprintf(text, sizeof text, "%ld %ld %ld\n", memory, reads, writes);
+    int length = snprintf(text, sizeof text, "%ld %ld %ld %ld %ld %ld %ld\n", memory, reads, writes,
+                          marks[0], marks[1], marks[2], marks[3]);
     int file = syscall(SYS_openat, AT_FDCWD, name, O_WRONLY | O_CREAT | O_TRUNC, 0600);
     syscall(SYS_write, file, text, length);
     syscall(SYS_close, file);
@@ -61,7 +69,13 @@ ssize_t read(int file, void *bytes, size_t size) {
     return moved(SYS_read, file, bytes, size, ++reads, at_read, short_read);
 }
 ssize_t __read(int file, void *bytes, size_t size) { return read(file, bytes, size); }
+static void mark(const char *bytes, size_t size, const char *word, long *mark) {
+    if (size < 4 || memcmp(bytes, word, 4) || mark[0]) return;
+    mark[0] = memory; mark[1] = reads;
+}
 ssize_t write(int file, const void *bytes, size_t size) {
+    mark(bytes, size, "call", marks);
+    mark(bytes, size, "made", marks + 2);
     return moved(SYS_write, file, bytes, size, ++writes, at_write, short_write);
 }
 ssize_t __write(int file, const void *bytes, size_t size) { return write(file, bytes, size); }
@@ -99,13 +113,13 @@ class Runs:
         """The undisturbed run, and how many requests, reads and writes it makes."""
         outcome = self.run(words, REFUSE_COUNTS=self.counts)
         with open(self.counts) as file:
-            memory, reads, writes = (int(word) for word in file.read().split())
-        return outcome, {"MEMORY": memory, "READ": reads, "WRITE": writes}
+            memory, reads, writes, *marks = (int(word) for word in file.read().split())
+        return outcome, {"MEMORY": memory, "READ": reads, "WRITE": writes}, marks
 
-    def each(self, words, kind, count):
-        """The runs in which the first, the second and each further one is disturbed."""
+    def each(self, words, kind, numbers):
+        """The runs in which the one of each number is disturbed."""
         with ThreadPoolExecutor(WORKERS) as pool:
-            return list(pool.map(lambda number: self.run(words, **{kind: number}), range(1, count + 1)))
+            return list(pool.map(lambda number: self.run(words, **{kind: number}), numbers))
 
 
 def is_fault(outcome, kind, whole):
@@ -118,12 +132,13 @@ def is_fault(outcome, kind, whole):
 
 def program(runs, words):
     """A program with its words."""
-    outcome, counts = runs.counted(words)
+    outcome, counts, _ = runs.counted(words)
     print(f"undisturbed: status {outcome[0]}, {len(outcome[1])} bytes, {counts}")
     wrong = False
     for kind in KINDS:
         figures = Counter()
-        for number, disturbed in enumerate(runs.each(words, kind, counts[kind.split("_")[1]]), 1):
+        numbers = range(1, counts[kind.split("_")[1]] + 1)
+        for number, disturbed in zip(numbers, runs.each(words, kind, numbers)):
             if disturbed == outcome:
                 verdict = "as undisturbed"
             elif not kind.startswith("SHORT") and is_fault(disturbed, kind, outcome[1]):
@@ -138,13 +153,83 @@ def program(runs, words):
     return wrong
 
 
+def blocks(out):
+    """What stands before the first call, and then of each call what it answers and leaves."""
+    found = [[]]
+    for line in out.decode(errors="replace").splitlines():
+        if line == "call":
+            found.append([])
+        elif line != "made":
+            found[-1].append(line)
+    return found
+
+
+def of_kind(block, word):
+    return [line for line in block if line.startswith(word + " ")]
+
+
+def is_refused_call(kind, whole, disturbed):
+    """Whether the first call is refused, leaves what it has to, and answers as undisturbed when it is made again."""
+    whole, found = blocks(whole), blocks(disturbed)
+    if found[0] != whole[0] or len(found) < 3:
+        return False
+    first, rest = found[1], found[2:]
+    refusals = ("Memory", "AllocError") if kind == "REFUSE_MEMORY" else ("error", "Io")
+    told = any(word in line for line in of_kind(first, "answer")[:1] for word in refusals)
+    left = not of_kind(first, "left") or of_kind(first, "left") == of_kind(found[0], "left")
+    stays = zip(of_kind(first, "stays"), of_kind(whole[1], "stays"))
+    fronts = all(kept == all_of_it or all_of_it.startswith(kept) for kept, all_of_it in stays)
+    again = rest == whole[1 : 1 + len(rest)]
+    # a call that changes nothing may be followed by another one
+    again = again or (whole[1] == whole[2] and rest == whole[-len(rest) :])
+    return told and left and fronts and again
+
+
+def call(runs, name, totals):
+    """One call with its requests and reads."""
+    words = ["shown", "call", name]
+    outcome, _, (memory, read, memory_end, read_end) = runs.counted(words)
+    numbers = {"REFUSE_MEMORY": (memory, memory_end), "REFUSE_READ": (read, read_end), "SHORT_READ": (read, read_end)}
+    wrong = outcome[0] != 0 or len(blocks(outcome[1])) < 3
+    figures = Counter()
+    for kind, (before, last) in numbers.items():
+        numbers_of_kind = range(before + 1, last + 1)
+        for number, disturbed in zip(numbers_of_kind, runs.each(words, kind, numbers_of_kind)):
+            if disturbed == outcome:
+                verdict = "as undisturbed"
+            elif kind != "SHORT_READ" and disturbed[0] == 0 and is_refused_call(kind, outcome[1], disturbed[1]):
+                verdict = "refused"
+            else:
+                verdict = "WRONG"
+                wrong = True
+                print(f"{name}, {kind} {number}: {disturbed[0]} {disturbed[1][:1000]} {disturbed[2][:200]}")
+            figures[kind.lower().replace("_", " ") + " " + verdict] += 1
+    told = ", ".join(f"{value} {verdict}" for verdict, value in sorted(figures.items()))
+    print(f"{name}: {told or 'no request'}", flush=True)
+    totals.update(figures)
+    return wrong
+
+
+def calls(runs, names):
+    """Calls of these names, or all."""
+    names = names or runs.run(["shown", "calls"])[1].decode().split()
+    totals = Counter()
+    wrong = [name for name in names if call(runs, name, totals)]
+    told = ", ".join(f"{value} {verdict}" for verdict, value in sorted(totals.items()))
+    print(f"{len(names)} calls: {told}; wrong: {wrong or 'none'}")
+    return bool(wrong)
+
+
 def main():
     words = sys.argv[1:]
+    of_calls = words[:1] == ["--calls"]
+    words = words[1:] if of_calls else words
     if not words:
         sys.exit(__doc__)
     path = os.path.abspath(words[0])
     with tempfile.TemporaryDirectory() as work:
-        wrong = program(Runs(work, path, os.getcwd()), words[1:])
+        runs = Runs(work, path, os.getcwd())
+        wrong = (calls if of_calls else program)(runs, words[1:])
     sys.exit(1 if wrong else 0)
 
 

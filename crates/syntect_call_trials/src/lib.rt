@@ -1,0 +1,13 @@
+//! Calls of scopes, patterns, themes, writers and metadata that are made while memory is refused.
+#![tactic(auto)]
+
+pub mod calls;
+mod files;
+pub mod given;
+pub mod marks;
+mod metadata;
+mod patterns;
+mod scopes;
+mod selectors;
+mod styles;
+mod writers;
