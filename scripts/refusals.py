@@ -7,8 +7,8 @@
 PROGRAM is run with these words, as syncat with its four: each run has to end as the undisturbed one, or with status 1 (2 where not even
 its words can be read), one line on standard error and, unless a write fails, nothing on standard output. A short read or write must change nothing.
 
-With --calls PROGRAM is syntect_bench, run in its folder data: of each call that `shown calls` names, or of those named here, only the
-requests and reads between the start and the end of the first call are disturbed. The call then has to answer as undisturbed, or that
+With --calls PROGRAM is one that makes the calls of syntect_call_trials, run in crates/syntect_bench/data: with the words `shown calls`
+it prints their names, with `shown call NAME` it makes one three times over. Of each call, or of those named here, only the requests and reads between the start and the end of the first call are disturbed. The call then has to answer as undisturbed, or that
 there is no memory (of a read: that it failed) with what it left as it was before; and made again it has to answer as undisturbed.
 
 It needs cc and a C library whose allocation can be replaced (glibc on Linux). It prints a line for each call or each kind of
