@@ -1,0 +1,6 @@
+#!t
+a "b\n c" <<here # word
+ x "äöü" 😀 y
+here
+z "
+"

@@ -1,0 +1,218 @@
+//! Broken inputs, each of which has to be answered: grammars, themes, metadata, patterns and texts.
+use crate::broken::{below, broken};
+use crate::given::LINE;
+use serde_json::Value;
+use std::alloc::{AllocError, Global};
+use std::path::Path;
+use std::rt::Files;
+use std::{fs, io, str};
+use syntect::highlighting::{Theme, ThemeSet};
+use syntect::html::{highlighted_html_for_reader, highlighted_html_for_string};
+use syntect::parsing::{
+    MetadataError, MetadataSet, ParseSyntaxError, ParsingError, PatternError, Regex,
+    ScopeRepository, SyntaxDefinition, SyntaxSet, SyntaxSetBuilder,
+};
+use syntect::{Error, LoadingError};
+use syntect_base::settings::settings_of;
+use syntect_base::utils::files_below;
+use syntect_call_trials::given::theme_of;
+use syntect_set_trials::given::set_of;
+
+/// How inputs were answered.
+#[derive(Clone, Copy)]
+struct Counts {
+    inputs: u32,
+    accepted: u32,
+    refused: u32,
+}
+
+/// Whether a page is accepted; none if it is refused for another reason than a reference that leads nowhere.
+fn of_page(page: Result<String, Error>) -> Option<bool> {
+    match page {
+        Ok(_) => Some(true),
+        Err(Error::ParsingError(ParsingError::UnresolvedContextReference(_))) => Some(false),
+        Err(_) => None,
+    }
+}
+
+/// Reads a line by a definition.
+fn read(
+    alloc: Global,
+    definition: SyntaxDefinition,
+    repository: &mut ScopeRepository,
+) -> Option<bool> {
+    let mut builder = SyntaxSetBuilder::new(alloc);
+    builder.add(definition).ok()?;
+    let set = builder.build(alloc, repository).ok()?;
+    let syntax = set.syntaxes().first()?;
+    let theme = Theme::default(alloc);
+    of_page(highlighted_html_for_string(alloc, LINE, &set, syntax, &theme))
+}
+
+/// Whether a grammar is accepted, and a line by it; none if it isn't refused for what it says.
+fn of_grammar(alloc: Global, text: &str) -> Option<bool> {
+    let mut repository = ScopeRepository::new(alloc);
+    match SyntaxDefinition::load_from_str(alloc, text, true, None, &mut repository) {
+        Ok(definition) => read(alloc, definition, &mut repository),
+        Err(ParseSyntaxError::Memory) => None,
+        Err(_) => Some(false),
+    }
+}
+
+fn of_theme(alloc: Global, bytes: &[u8]) -> Option<bool> {
+    let mut repository = ScopeRepository::new(alloc);
+    let mut reader = bytes;
+    match ThemeSet::load_from_reader(alloc, &mut reader, &mut repository) {
+        Ok(_) => Some(true),
+        Err(LoadingError::ReadSettings(_) | LoadingError::ParseTheme(_)) => Some(false),
+        Err(_) => None,
+    }
+}
+
+/// Whether settings make a set of metadata.
+fn of_settings(alloc: Global, bytes: &[u8]) -> Option<bool> {
+    let Ok(Value::Object(settings)) = settings_of(alloc, bytes) else {
+        return Some(false);
+    };
+    let mut repository = ScopeRepository::new(alloc);
+    let selector = String::from_str(alloc, "source").ok()?;
+    match MetadataSet::from_raw(alloc, (selector, settings), &mut repository) {
+        Ok(_) => Some(true),
+        Err(MetadataError::Memory) => None,
+        Err(_) => Some(false),
+    }
+}
+
+/// Whether a text is a pattern, and a search by it is answered.
+fn of_pattern(alloc: Global, text: &str) -> Option<bool> {
+    match Regex::try_compile(alloc, text) {
+        None => {
+            let regex = Regex::new(alloc, String::from_str(alloc, text).ok()?).ok()?;
+            let found = regex.search(alloc, LINE, 0, LINE.len(), None);
+            found.ok().map(|_| true)
+        }
+        Some(PatternError::NotAPattern) => Some(false),
+        Some(_) => None,
+    }
+}
+
+/// Whether bytes have a page, which they have where they are a text.
+fn of_text(alloc: Global, bytes: &[u8], set: &SyntaxSet, theme: &Theme) -> Option<bool> {
+    let syntax = set.syntaxes().first()?;
+    let is_text = str::from_utf8(bytes).is_ok();
+    match highlighted_html_for_reader(alloc, bytes, set, syntax, theme) {
+        Err(Error::Io(_)) if !is_text => Some(false),
+        Ok(_) if !is_text => None,
+        page => of_page(page),
+    }
+}
+
+/// Whether an input of the kind that a file's name ends with is accepted; none if it has no answer of those it may have.
+fn accepted(
+    alloc: Global,
+    path: &str,
+    bytes: &[u8],
+    set: &SyntaxSet,
+    theme: &Theme,
+) -> Option<bool> {
+    if path.ends_with(".json") {
+        return of_theme(alloc, bytes);
+    }
+    if path.ends_with(".tmPreferences") {
+        return of_settings(alloc, bytes);
+    }
+    match str::from_utf8(bytes) {
+        Ok(text) if path.ends_with(".yaml") => of_grammar(alloc, text),
+        Ok(text) if path.ends_with(".regex") => of_pattern(alloc, text),
+        _ => of_text(alloc, bytes, set, theme),
+    }
+}
+
+/// A file's bytes with up to four faults.
+fn input(bytes: &Vec<u8>, seed: &mut u64) -> Result<Vec<u8>, AllocError> {
+    let mut input = broken(bytes, seed)?;
+    for _ in 0..below(seed, 4) {
+        input = broken(&input, seed)?;
+    }
+    Ok(input)
+}
+
+/// Tries so many inputs that are made of a file's bytes.
+fn try_bytes(
+    alloc: Global,
+    path: &str,
+    bytes: &Vec<u8>,
+    (inputs, seed): (u32, &mut u64),
+) -> Result<Counts, AllocError> {
+    let mut repository = ScopeRepository::new(alloc);
+    let set = set_of(alloc, &mut repository);
+    let theme = theme_of(alloc, &mut repository);
+    let (mut all, mut refused) = (0u32, 0u32);
+    for _ in 0..inputs {
+        let input = input(bytes, seed)?;
+        match accepted(alloc, path, input.as_slice(), &set, &theme) {
+            Some(true) => all = all.saturating_add(1),
+            Some(false) => refused = refused.saturating_add(1),
+            None => {}
+        }
+    }
+    Ok(Counts {
+        inputs,
+        accepted: all,
+        refused,
+    })
+}
+
+/// Prints how many inputs were answered, and elsewhere how. Answers whether all were.
+fn print_counts(rt: &(impl Print + Eprint), path: &str, counts: Counts) -> io::Result<bool> {
+    let Counts {
+        inputs,
+        accepted,
+        refused,
+    } = counts;
+    let answered = accepted.saturating_add(refused);
+    println!(rt; "{path}: {inputs} broken inputs, {answered} answered")?;
+    eprintln!(rt; "{path}: {accepted} accepted, {refused} refused")?;
+    Ok(answered == inputs)
+}
+
+/// Tries so many broken inputs of each file of a folder, from a seed. Answers whether each was answered.
+pub fn try_broken(
+    rt: &(impl Print + Eprint + AllocGlobal + Files),
+    folder: &str,
+    inputs: u32,
+    seed: u32,
+) -> io::Result<bool> {
+    let alloc = rt.alloc();
+    let Ok(paths) = files_below(rt, alloc, Path::new(folder)) else {
+        return Ok(false);
+    };
+    let mut seed = u64::from(seed);
+    let mut all = true;
+    for path in paths.as_slice() {
+        let bytes = fs::read(rt, path.as_str())?;
+        let counts = try_bytes(alloc, path.as_str(), &bytes, (inputs, &mut seed))?;
+        all &= print_counts(rt, path.as_str(), counts)?;
+    }
+    Ok(all)
+}
+
+/// Whether each front of a grammar's text, from the empty one to the whole, loads or is refused for what it says.
+pub fn fronts_answered(rt: &(impl AllocGlobal + Files), path: &str) -> io::Result<bool> {
+    let text = fs::read_to_string(rt, path)?;
+    let mut all = true;
+    for end in 0..=text.len() {
+        if let Some(front) = text.as_str().get(..end) {
+            let mut repository = ScopeRepository::new(rt.alloc());
+            let loaded = SyntaxDefinition::load_from_str(
+                rt.alloc(),
+                front,
+                true,
+                None,
+                &mut repository,
+            );
+            all &= !matches!(loaded, Err(ParseSyntaxError::Memory));
+        }
+    }
+    Ok(all)
+}

@@ -1,0 +1,88 @@
+//! Calls that read a file as lines, and what is told of refusals.
+use std::path::Path;
+use std::rt::Files;
+use syntect::LoadingError;
+use syntect::easy::HighlightFile;
+use syntect::explain::{why_not_loaded, why_not_read};
+use syntect::html::highlighted_html_for_file;
+use syntect::parsing::syntax_definition::ContextReference;
+use syntect::parsing::{ParsingError, Scope, ScopeRepository};
+use syntect_call_trials::given::theme_of;
+use syntect_call_trials::marks::{TIMES, answer, begin, end};
+use syntect_set_trials::given::set_of;
+
+const TEXT: &str = "kept/text";
+
+/// A grammar without a value.
+const FAULTY: &str = "no_patterns.txt";
+
+fn file_new(rt: &(impl Print + AllocGlobal + Files)) {
+    let alloc = rt.alloc();
+    let mut repository = ScopeRepository::new(alloc);
+    let set = set_of(alloc, &mut repository);
+    let theme = theme_of(alloc, &mut repository);
+    for _ in 0..TIMES {
+        begin(rt);
+        let file = HighlightFile::new(rt, alloc, Path::new(TEXT), &set, &theme);
+        end(rt);
+        answer(rt, file.err());
+    }
+}
+
+fn page_of_file(rt: &(impl Print + AllocGlobal + Files)) {
+    let alloc = rt.alloc();
+    let mut repository = ScopeRepository::new(alloc);
+    let set = set_of(alloc, &mut repository);
+    let theme = theme_of(alloc, &mut repository);
+    for _ in 0..TIMES {
+        begin(rt);
+        let page = highlighted_html_for_file(rt, alloc, Path::new(TEXT), &set, &theme);
+        end(rt);
+        answer(rt, &page);
+    }
+}
+
+fn told_of_file(rt: &(impl Print + AllocGlobal + Files)) {
+    let refusal = LoadingError::ParseMetadata;
+    for _ in 0..TIMES {
+        begin(rt);
+        let told = why_not_loaded(rt, rt.alloc(), Path::new(FAULTY), &refusal);
+        end(rt);
+        answer(rt, &told);
+    }
+}
+
+fn told_of_line(rt: &(impl Print + AllocGlobal)) {
+    let repository = ScopeRepository::new(rt.alloc());
+    let reference = ContextReference::ByScope {
+        scope: Scope::default(),
+        sub_context: None,
+        with_escape: false,
+    };
+    let refusal = ParsingError::UnresolvedContextReference(reference);
+    for _ in 0..TIMES {
+        begin(rt);
+        let told = why_not_read(rt.alloc(), &repository, &refusal);
+        end(rt);
+        answer(rt, &told);
+    }
+}
+
+/// The calls.
+pub const NAMES: [&str; 4] = [
+    "HighlightFile::new",
+    "highlighted_html_for_file",
+    "why_not_loaded",
+    "why_not_read",
+];
+
+/// Makes the call of this name, if there is one.
+pub fn make(rt: &(impl Print + AllocGlobal + Files), name: &str) {
+    match name {
+        "HighlightFile::new" => file_new(rt),
+        "highlighted_html_for_file" => page_of_file(rt),
+        "why_not_loaded" => told_of_file(rt),
+        "why_not_read" => told_of_line(rt),
+        _ => {}
+    }
+}

@@ -1,0 +1,7 @@
+//! Calls of definitions, sets and folders of grammars that are made while memory is refused.
+#![tactic(auto)]
+
+pub mod calls;
+mod folders;
+pub mod given;
+mod sets;
