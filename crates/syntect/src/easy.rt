@@ -178,9 +178,9 @@ pub struct HighlightFile<'a, F> {
 
 impl<'a, F: Read + Drop> HighlightFile<'a, F> {
     /// Opens a file, at its first line, and the state before that line under this theme. Its syntax is the one that
-    /// `SyntaxSet::find_syntax_for_file` finds, or else plain text; of a first line that the first read doesn't give
-    /// whole, or that is longer than the reader's buffer, the front that stands there is looked at. The file is opened once, so that it may be a pipe. A byte order mark, U+FEFF,
-    /// at its start stands in the first piece.
+    /// `SyntaxSet::find_syntax_for_file` finds, or else plain text; of a first line that the first read doesn't give whole,
+    /// or that is longer than the reader's buffer, the front that stands there is looked at. The file is opened once, so that
+    /// it may be a pipe. A byte order mark, U+FEFF, at its start stands in the first piece.
     ///
     /// `Io` where the file is not opened, or not read to find the syntax; `NoSyntax` where no syntax fits and the set has no
     /// `Plain Text`; `MissingMainContext` where the syntax has no context `__start`.
