@@ -8,7 +8,7 @@ pub use syntect_metadata::metadata::Metadata;
 pub use syntect_metadata::raw::{LoadMetadata, RawMetadataEntry};
 pub use syntect_metadata::scoped::ScopedMetadata;
 pub use syntect_metadata::set::MetadataSet;
-pub use syntect_parsing::parser::{ParseState, ParsingError};
+pub use syntect_parsing::parser::{ParseState, ParsingError, Regions};
 pub use syntect_parsing::syntax_definition;
 pub use syntect_parsing::syntax_definition::SyntaxDefinition;
 pub use syntect_parsing::syntax_set::{SyntaxReference, SyntaxSet, SyntaxSetBuilder};

@@ -31,7 +31,7 @@ fn is_link(node: &Node, place: usize) -> bool {
     }
 }
 
-/// How many of the nodes are such alternations.
+/// How many of the nodes from the one place on to before the other are such alternations.
 fn links(nodes: &[Node], low: usize, high: usize) -> usize {
     let mut count = 0usize;
     for place in low..high.min(nodes.len()) {

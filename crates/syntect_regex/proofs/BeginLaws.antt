@@ -1,12 +1,11 @@
 -- Where no match of a pattern begins.
-use Rattle.std.proofs.Common.{◌≡◌, ◌<◌, ◌||◌, ℕ, ◌+◌, Bool, true, false, List, length, map, take, get_or, Option, Some, None, refl, sym, subst, ◌∙◌, ap, arith, add-one, inl, inr}
+use Rattle.std.proofs.Common.{◌≡◌, ◌<◌, ◌||◌, ℕ, ◌+◌, Bool, true, false, List, length, get_or, Option, Some, None, refl, sym, subst, ◌∙◌, ap, arith, add-one, inl, inr}
 use Rattle.std.specs.Prelude.{slice_get, option_and_then, option_map, if◌then◌else◌}
-use Rattle.std.specs.List.{flat_map}
 use Rattle.std.proofs.lemmas.Bool.{cases_lt}
 use Rattle.std.proofs.lemmas.Option.{slice_get_within, get_or_from_slice_get}
 use Rattle.syntect_pattern.specs.Text.{is_boundary}
-use Rattle.syntect_pattern.specs.Trees.{Tree, nothing, anchor, word_edge, seq, group, atomic}
-use Rattle.syntect_pattern.specs.Matches.{Member, close, found, found_at, is_word_edge, matches, only_if, unset}
+use Rattle.syntect_pattern.specs.Trees.{Tree, nothing, group}
+use Rattle.syntect_pattern.specs.Matches.{Member, found, found_at, is_word_edge, matches, unset}
 use Rattle.syntect_pattern.specs.Pattern.{pattern_tree, pattern_found}
 use Rattle.syntect_pattern_table.specs.Program.{trees_of}
 use Rattle.syntect_pattern_table.specs.Starts.{is_in, reads, start_at, stays}
@@ -55,18 +54,6 @@ none-anywhere pattern places e s u i out =
     ap (λ (o : Option Tree). option_and_then (λ t. found s t i) o) e ∙ sym (ap (λ (o : Option Tree). option_and_then (λ t. found s t (i + 1)) o) e)
 
 -- ---- at the edges of words ----
-
-pub edges-anchor : IsAtEdges (anchor word_edge)
-edges-anchor s i g out = ap (λ (b : Bool). only_if b i g) out
-
-pub edges-seq : (a b : Tree) → IsAtEdges a → IsAtEdges (seq a b)
-edges-seq a b h s i g out = ap (flat_map (λ (j, q). matches s b j q)) (h s i g out)
-
-pub edges-group : (n : ℕ) (a : Tree) → IsAtEdges a → IsAtEdges (group n a)
-edges-group n a h s i g out = ap (map (close n i)) (h s i g out)
-
-pub edges-atomic : (a : Tree) → IsAtEdges a → IsAtEdges (atomic a)
-edges-atomic a h s i g out = ap (take 1) (h s i g out)
 
 none-off-edges : (s : List ℕ) (tree : Tree) (i : ℕ) → IsAtEdges (group 0 tree) → is_word_edge s i ≡ false → found_at s tree i ≡ None
 unfolding found_at
