@@ -8,8 +8,8 @@ pub mod EnterLaws
 pub mod DeadLaws
 pub mod FirstLaws
 pub mod ReachLaws
+pub mod StepsLaws
 pub mod RunLaws
 pub mod FindLaws
 pub mod StretchLaws
 pub mod PassLaws
-pub mod KnowLaws

@@ -1,20 +1,23 @@
-use Rattle.std.proofs.Common.{◌≡◌, Bool, get_or, replicate, None}
+use Rattle.std.proofs.Common.{◌≡◌, Bool, false, get_or, replicate, None}
 use Rattle.std.specs.Prelude.{slice_get}
 use Rattle.syntect_pattern.specs.Trees.{nothing}
 use Rattle.syntect_pattern.specs.Matches.{matches}
 use Rattle.syntect_pattern_table.specs.Program.{trees_of}
 use Rattle.syntect_engine.specs.Machine.{match_of, groups_of, FindsAt}
-use Rattle.syntect_ways.proofs.WayLaws.{if_ok_map}
 use Rattle.syntect_ways.proofs.BoundaryLaws.{true-boundary}
 use Rattle.syntect_engine.proofs.FindLaws.{found_at-boundary}
+use Rattle.syntect_engine.proofs.StepsLaws.{ended, answer_map}
 use Rattle.syntect_engine.proofs.state.Search.begins_at.Goals as goal
 
-pub returns-then-is_lost : goal.returns-then-is_lost
-returns-then-is_lost c = c.is_lost.ensures.lost c.if-is_lost.true
+pub returns-then-is_lost-clause-finds : goal.returns-then-is_lost-clause-finds
+returns-then-is_lost-clause-finds c = c.is_lost.ensures.lost c.if-is_lost.true
 
-pub returns : goal.returns
-returns c =
-    if_ok_map c.is_at.result
+pub returns-then-is_lost-clause-ends : goal.returns-then-is_lost-clause-ends
+returns-then-is_lost-clause-ends c = ended c.args.steps.now c.args.steps.now false (λ e. e)
+
+pub returns-clause-finds : goal.returns-clause-finds
+returns-clause-finds c =
+    answer_map c.is_at.result
     (λ (b : Bool). match_of b c.is_at.new.self ≡ slice_get (matches c.args.text.now (get_or (trees_of c.args.program.now) c.args.program.now.root nothing) c.args.place (replicate c.args.program.now.groups None)) 0)
     (λ (b : Bool). FindsAt c.args.text.now c.args.program.now c.args.place (groups_of b c.is_at.new.self))
     (λ b e tree is. found_at-boundary c.args.text.now c.args.program.now tree is c.args.place b c.is_at.new.self (true-boundary c.args.text.now c.args.place (c.is_lost.ensures.boundary c.if-is_lost.false)) e)

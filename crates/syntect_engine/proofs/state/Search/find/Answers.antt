@@ -1,16 +1,16 @@
-use Rattle.std.proofs.Common.{◌≡◌, refl, sym, ◌∙◌, ap, arith, Some, None, add-one, suc, length}
+use Rattle.std.proofs.Common.{◌≡◌, Bool, true, false, refl, sym, ◌∙◌, ap, arith, Some, None, add-one, suc, length}
 use Rattle.syntect_pattern.specs.Matches.{found_at}
-use Rattle.syntect_engine.specs.Machine.{groups_of}
+use Rattle.syntect_engine.specs.Machine.{groups_of, FindsAt}
+use Rattle.syntect_engine.proofs.StepsLaws.{answer_holds}
 use Rattle.syntect_engine.proofs.FindLaws.{found-here, found-step, found-past, found-jump}
 use Rattle.syntect_engine.proofs.state.Search.find.Goals as goal
 
-pub returns-then-branch : goal.returns-then-branch
-returns-then-branch c = λ tree is.
+pub returns-in-Some-true-clause-finds : goal.returns-in-Some-true-clause-finds
+returns-in-Some-true-clause-finds c = λ tree is.
     let s = c.args.text.now in
     let next = c.next_start-place.result in
-    let groups = c.begins_here.new.self.groups.items in
-    let here : found_at s tree next ≡ Some groups =
-    sym (c.in_ok-begins_here.ensures.finds tree is) ∙ ap (λ b. groups_of b c.begins_here.new.self) c.if-branch.true in
+    let groups = c.begins_at.new.self.groups.items in
+    let here : found_at s tree next ≡ Some groups = sym (answer_holds c.in_ok-begins_at.field-0 c.in-Some-true.field-0 true (λ (b : Bool). FindsAt s c.args.program.now next (groups_of b c.begins_at.new.self)) c.in-Some-true.is c.in-Some-true.field-0-test c.in_ok-begins_at.ensures.finds tree is) in
     sym (found-here s tree next groups c.next_start-place.ensures.inside here)
     ∙ sym (found-jump s tree c.loop-place.place next c.next_start-place.ensures.later (omega (arith, c.next_start-place.ensures.inside)) (λ k p q. c.next_start-place.ensures.skipped k p q tree is))
     ∙ c.loop-place.invariant.same tree is
@@ -20,19 +20,18 @@ loop-place-preserved c = record {
   same = λ tree is.
       let s = c.args.text.now in
       let next = c.next_start-place.result in
-      let nothing_here : found_at s tree next ≡ None =
-      sym (c.in_ok-begins_here.ensures.finds tree is) ∙ ap (λ b. groups_of b c.begins_here.new.self) c.if-branch.false in
+      let nothing_here : found_at s tree next ≡ None = sym (answer_holds c.in_ok-begins_at.field-0 c.in-Some-false.field-0 false (λ (b : Bool). FindsAt s c.args.program.now next (groups_of b c.begins_at.new.self)) c.in-Some-false.is c.in-Some-false.field-0-test c.in_ok-begins_at.ensures.finds tree is) in
       rw add-one (sym (found-step s tree next c.next_start-place.ensures.inside nothing_here)
       ∙ sym (found-jump s tree c.loop-place.place next c.next_start-place.ensures.later (omega (arith, c.next_start-place.ensures.inside)) (λ k p q. c.next_start-place.ensures.skipped k p q tree is))
       ∙ c.loop-place.invariant.same tree is);
-  knows = c.in_ok-begins_here.ensures.knows;
+  unlimited = λ e. c.in_ok-begins_at.ensures.ends.unlimited (c.loop-place.invariant.unlimited e);
 }
 
-pub returns : goal.returns
-returns c = λ tree is. sym (found-past c.args.text.now tree c.loop-place.place (omega arith)) ∙ c.loop-place.invariant.same tree is
+pub returns-clause-finds : goal.returns-clause-finds
+returns-clause-finds c = λ tree is. sym (found-past c.args.text.now tree c.loop-place.place (omega arith)) ∙ c.loop-place.invariant.same tree is
 
-pub returns-in_default-behind_needed : goal.returns-in_default-behind_needed
-returns-in_default-behind_needed c = λ tree is.
+pub returns-in_default-behind_needed-clause-finds : goal.returns-in_default-behind_needed-clause-finds
+returns-in_default-behind_needed-clause-finds c = λ tree is.
     let s = c.args.text.now in
     let next = c.next_start-place.result in
     let inside = c.next_start-place.ensures.inside in
@@ -41,14 +40,14 @@ returns-in_default-behind_needed c = λ tree is.
     ∙ sym (found-jump s tree c.loop-place.place next c.next_start-place.ensures.later (omega (arith, inside)) (λ k p q. c.next_start-place.ensures.skipped k p q tree is))
     ∙ c.loop-place.invariant.same tree is
 
-pub returns-in_default : goal.returns-in_default
-returns-in_default c = λ tree is.
+pub returns-in_default-clause-finds : goal.returns-in_default-clause-finds
+returns-in_default-clause-finds c = λ tree is.
     let s = c.args.text.now in
     sym (found-past s tree (suc (length s)) (omega arith))
     ∙ sym (found-jump s tree c.args.begin (suc (length s)) (omega arith) (omega arith) (λ k p q. c.in_default.ensures k p tree is))
 
-pub returns-then-begin-text : goal.returns-then-begin-text
-returns-then-begin-text c = λ tree is. sym (found-past c.args.text.now tree c.args.begin (omega arith))
+pub returns-then-begin-text-clause-finds : goal.returns-then-begin-text-clause-finds
+returns-then-begin-text-clause-finds c = λ tree is. sym (found-past c.args.text.now tree c.args.begin (omega arith))
 
 pub loop-place-init : goal.loop-place-init
-loop-place-init c = record { same = λ tree is. refl; knows = c.new-outlook.ensures }
+loop-place-init c = record { same = λ tree is. refl; unlimited = λ e. e }

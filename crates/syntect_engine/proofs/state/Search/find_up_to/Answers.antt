@@ -1,12 +1,13 @@
-use Rattle.std.proofs.Common.{◌≡◌, ◌≤◌, refl, sym, ◌∙◌, ap, arith, Some, None, add-one, suc, length}
+use Rattle.std.proofs.Common.{◌≡◌, Bool, true, false, ◌≤◌, refl, sym, ◌∙◌, ap, arith, Some, None, add-one, suc, length}
 use Rattle.syntect_pattern.specs.Matches.{found, found_at}
-use Rattle.syntect_engine.specs.Machine.{groups_of}
+use Rattle.syntect_engine.specs.Machine.{groups_of, FindsAt}
+use Rattle.syntect_engine.proofs.StepsLaws.{answer_holds}
 use Rattle.syntect_engine.proofs.FindLaws.{found-here, found-step, found-past, found-jump, found-never}
 use Rattle.syntect_engine.proofs.state.Search.find_up_to.Goals as goal
-use Rattle.syntect_engine.proofs.state.Search.find_up_to.Goals.{then-last-text, else-last-text, then-loop-place-test+else-place-text, else-loop-place-test}
+use Rattle.syntect_engine.proofs.state.Search.find_up_to.Goals.{then-last-text, else-last-text}
 
-pub returns-then-place-last : goal.returns-then-place-last
-returns-then-place-last c = λ tree is.
+pub returns-then-place-last-clause-finds : goal.returns-then-place-last-clause-finds
+returns-then-place-last-clause-finds c = λ tree is.
     let s = c.args.text.now in
     let next = c.next_start_up_to-place.result in
     let inside = c.next_start_up_to-place.ensures.inside in
@@ -23,8 +24,8 @@ returns-then-place-last c = λ tree is.
     ∙ found-jump s tree c.loop-place.place next c.next_start_up_to-place.ensures.later (omega (arith, within)) (λ k p q. c.next_start_up_to-place.ensures.skipped k p q tree is)
     ∙ ap (found s tree) at
 
-pub returns-in_default : goal.returns-in_default
-returns-in_default c = λ tree is.
+pub returns-in_default-clause-finds : goal.returns-in_default-clause-finds
+returns-in_default-clause-finds c = λ tree is.
     let s = c.args.text.now in
     let next = c.next_start_up_to-place.result in
     let inside = c.next_start_up_to-place.ensures.inside in
@@ -38,18 +39,17 @@ returns-in_default c = λ tree is.
     ∙ found-never s tree next (λ k p. c.in_default.ensures k p tree is)
     ∙ sym (found-never s tree (suc c.args.last) (λ k p. c.in_default.ensures k (omega (arith, near, p)) tree is))
 
-pub returns-then-begins : goal.returns-then-begins
-returns-then-begins c = λ tree is.
+pub returns-in-Some-true-clause-finds : goal.returns-in-Some-true-clause-finds
+returns-in-Some-true-clause-finds c = λ tree is.
     let s = c.args.text.now in
     let next = c.next_start_up_to-place.result in
     let inside = c.next_start_up_to-place.ensures.inside in
-    let groups = c.begins_here.new.self.groups.items in
+    let groups = c.begins_at.new.self.groups.items in
     let within : next ≤ length s = elim c.if-last-text.branch [
       | then-last-text w ↦ omega (arith, inside, w.end-is, w.if-last-text.true)
       | else-last-text w ↦ omega (arith, inside, w.end-is)
     ] in
-    let here : found_at s tree next ≡ Some groups =
-    sym (c.in_ok-begins.ensures.finds tree is) ∙ ap (λ b. groups_of b c.begins_here.new.self) c.if-begins.true in
+    let here : found_at s tree next ≡ Some groups = sym (answer_holds c.in_ok-begins_at.field-0 c.in-Some-true.field-0 true (λ (b : Bool). FindsAt s c.args.program.now next (groups_of b c.begins_at.new.self)) c.in-Some-true.is c.in-Some-true.field-0-test c.in_ok-begins_at.ensures.finds tree is) in
     sym (c.loop-place.invariant.same tree is)
     ∙ found-jump s tree c.loop-place.place next c.next_start_up_to-place.ensures.later (omega (arith, within)) (λ k p q. c.next_start_up_to-place.ensures.skipped k p q tree is)
     ∙ found-here s tree next groups within here
@@ -65,32 +65,26 @@ loop-place-preserved c =
     ] in
     record {
       within = omega (arith, c.if-place-last.false);
-      knows = c.in_ok-begins.ensures.knows;
+      unlimited = λ e. c.in_ok-begins_at.ensures.ends.unlimited (c.loop-place.invariant.unlimited e);
       same = λ tree is.
-          let nothing_here : found_at s tree next ≡ None =
-          sym (c.in_ok-begins.ensures.finds tree is) ∙ ap (λ b. groups_of b c.begins_here.new.self) c.if-begins.false in
+          let nothing_here : found_at s tree next ≡ None = sym (answer_holds c.in_ok-begins_at.field-0 c.in-Some-false.field-0 false (λ (b : Bool). FindsAt s c.args.program.now next (groups_of b c.begins_at.new.self)) c.in-Some-false.is c.in-Some-false.field-0-test c.in_ok-begins_at.ensures.finds tree is) in
           rw add-one (sym (found-step s tree next within nothing_here)
           ∙ sym (found-jump s tree c.loop-place.place next c.next_start_up_to-place.ensures.later (omega (arith, within)) (λ k p q. c.next_start_up_to-place.ensures.skipped k p q tree is))
           ∙ c.loop-place.invariant.same tree is);
     }
 
-pub returns : goal.returns
-returns c = λ tree is.
-    let s = c.args.text.now in
-    let place = c.loop-place.place in
-    let near = c.loop-place.invariant.within in
-    elim c.loop-place-test.branch [
-      | then-loop-place-test+else-place-text w ↦
-          sym (c.loop-place.invariant.same tree is)
-          ∙ found-past s tree place (omega (arith, w.if-place-text.false))
-          ∙ sym (found-past s tree (suc c.args.last) (omega (arith, w.if-place-text.false, near)))
-      | else-loop-place-test w ↦
-          sym (c.loop-place.invariant.same tree is) ∙ ap (found s tree) (let at : place ≡ suc c.args.last = omega (arith, near, w.loop-place-test.false) in at)
-    ]
-
 pub loop-place-init : goal.loop-place-init
 loop-place-init c = record {
   within = omega (arith, c.requires);
   same = λ tree is. refl;
-  knows = c.new-outlook.ensures;
+  unlimited = λ e. e;
 }
+
+pub returns-else-place-text-clause-finds : goal.returns-else-place-text-clause-finds
+returns-else-place-text-clause-finds c = λ tree is.
+    let s = c.args.text.now in
+    let place = c.loop-place.place in
+    let near = c.loop-place.invariant.within in
+    sym (c.loop-place.invariant.same tree is)
+    ∙ found-past s tree place (omega (arith, c.if-place-text.false))
+    ∙ sym (found-past s tree (suc c.args.last) (omega (arith, c.if-place-text.false, near)))

@@ -1,12 +1,20 @@
-use Rattle.std.proofs.Common.{None}
-use Rattle.std.specs.Prelude.{replicate}
+use Rattle.std.proofs.Common.{◌≡◌, ◌∙◌, Bool, None, get_or}
+use Rattle.std.specs.Prelude.{replicate, slice_get}
+use Rattle.syntect_pattern.specs.Trees.{nothing}
+use Rattle.syntect_pattern.specs.Matches.{matches}
 use Rattle.syntect_pattern_table.specs.Program.{trees_of}
-use Rattle.syntect_engine.specs.Machine.{match_of}
-use Rattle.syntect_engine.proofs.RunLaws.{found_by-start, if_ok_along}
+use Rattle.syntect_engine.specs.Machine.{match_of, found_by}
+use Rattle.syntect_engine.specs.declared.state.Next.{Next}
+use Rattle.syntect_engine.proofs.RunLaws.{found_by-start}
+use Rattle.syntect_engine.proofs.StepsLaws.{answer_map}
 use Rattle.syntect_engine.proofs.state.Search.is_at.Goals as goal
 
 pub returns-clause-found : goal.returns-clause-found
 returns-clause-found c =
-    if_ok_along c.run.result (λ found. match_of found c.run.new.self) _ _
-    (found_by-start c.args.text.now (trees_of c.args.program.now) c.begin.new.self c.args.program.now.root c.args.place (replicate c.args.program.now.groups None)
-    c.in_ok-begin.ensures.frames c.in_ok-begin.ensures.groups c.in_ok-begin.ensures.place) c.run.ensures.found
+    let groups = replicate c.args.program.now.groups None in
+    answer_map c.run.result
+    (λ (found : Bool). match_of found c.run.new.self ≡ found_by c.args.text.now (trees_of c.args.program.now) (Next.Enter c.args.program.now.root 0) c.begin.new.self)
+    (λ (found : Bool). match_of found c.run.new.self ≡ slice_get (matches c.args.text.now (get_or (trees_of c.args.program.now) c.args.program.now.root nothing) c.args.place groups) 0)
+    (λ found e. e ∙ found_by-start c.args.text.now (trees_of c.args.program.now) c.begin.new.self c.args.program.now.root c.args.place groups
+        c.in_ok-begin.ensures.frames c.in_ok-begin.ensures.groups c.in_ok-begin.ensures.place)
+    c.run.ensures.found

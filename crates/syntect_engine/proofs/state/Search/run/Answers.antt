@@ -1,7 +1,6 @@
 use Rattle.std.proofs.Common.{sym, ◌∙◌}
 use Rattle.syntect_pattern_table.specs.Program.{trees_of}
 use Rattle.syntect_engine.proofs.RunLaws.{found_by-over, none_holds}
-use Rattle.syntect_engine.proofs.KnowLaws.{goes_lost}
 use Rattle.syntect_engine.proofs.CutLaws.{finish-whole, finish-part}
 use Rattle.syntect_engine.proofs.state.Search.run.Goals as goal
 
@@ -25,16 +24,4 @@ steps-preserved c =
     let goes =
     finish-part c.args.text.now (trees_of c.args.program.now) c.steps.self c.finish.new.self c.in_ok-next-in-Found.field-0 c.steps.next c.in-Some-2.next
     c.in-Found.is c.in-Some-2.is c.steps.invariant.fits c.in_ok-next-in-Found.ensures.part c.in_ok-next-in-Found.ensures.has_part in
-    record { found = goes.found ∙ c.steps.invariant.found; fits = goes.fits; knows = c.steps.invariant.knows }
-
-pub steps-smaller-then-branch : goal.steps-smaller-then-branch
-steps-smaller-then-branch c =
-    (goes_lost c.args.text.now (trees_of c.args.program.now) c.steps.self c.steps.next c.in-Leave.list c.in-Leave.is c.steps.invariant.fits
-    (rw (sym c.as_slice-cells.ensures.value) (c.in_ok-stops-in-Leave.ensures.stops c.if-branch.true))).fewer
-
-pub steps-preserved-then-branch : goal.steps-preserved-then-branch
-steps-preserved-then-branch c =
-    let goes =
-    goes_lost c.args.text.now (trees_of c.args.program.now) c.steps.self c.steps.next c.in-Leave.list c.in-Leave.is c.steps.invariant.fits
-    (rw (sym c.as_slice-cells.ensures.value) (c.in_ok-stops-in-Leave.ensures.stops c.if-branch.true)) in
-    record { found = goes.found ∙ c.steps.invariant.found; fits = goes.fits; knows = c.in_ok-stops-in-Leave.ensures.knows }
+    record { found = goes.found ∙ c.steps.invariant.found; fits = goes.fits; unlimited = λ e. c.take.ensures.unlimited (c.steps.invariant.unlimited e) }

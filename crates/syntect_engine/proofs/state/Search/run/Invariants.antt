@@ -1,14 +1,13 @@
-use Rattle.std.proofs.Common.{◌≡◌}
+use Rattle.std.proofs.Common.{◌≡◌, None}
 use Rattle.syntect_pattern_table.specs.Program.{trees_of}
 use Rattle.syntect_engine.specs.Machine.{found_by, steps_of, Fits}
-use Rattle.syntect_engine.specs.Outlooks.{Knows}
 use Rattle.syntect_engine.proofs.state.Search.run.Given as goal
 
 abbrev pub invariant-steps : goal.invariant-steps
 invariant-steps l = record {
   found : found_by l.text (trees_of l.program) l.next l.self ≡ found_by l.text (trees_of l.program) l.fn.start l.fn.self;
   fits : Fits l.text l.next l.self;
-  knows : Knows l.text (trees_of l.program) l.outlook;
+  unlimited : l.fn.steps.left ≡ None → l.steps.left ≡ None;
 }
 
 abbrev pub decreases-steps : goal.decreases-steps
