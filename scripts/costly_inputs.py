@@ -3,9 +3,10 @@
 
     python3 scripts/costly_inputs.py SYNCAT [NAME..]
 
-SYNCAT is the built program; with names only those inputs are run. Each run has 1 MB of stack and 120 seconds. It prints a row
-of a table for each: its name, the status with the line on standard error, the seconds and the most memory in MB; the status is
-1 if a run ends by a signal or past its time.
+SYNCAT is the built program; with names only those inputs are run. Each run has 1 MB of stack and 120 seconds; some small
+grammars are to be read, and a line of theirs highlighted, within a second and 200 MB. It prints a row of a table for each: its
+name, the status with the line on standard error, the seconds and the most memory in MB; the status is 1 if a run ends by a
+signal, or past its time or memory.
 """
 
 import os
@@ -49,6 +50,42 @@ def naming_each_other():
     return contexts("  main:\n    - match: '{{v0}}x'\n      scope: word\n", "".join(rows)), "x\n"
 
 
+def a_long_pattern():
+    """A pattern of 1 MB with a variable in the midst."""
+    half = "a" * 500000
+    return contexts(f"  main:\n    - match: '{half}{{{{v}}}}{half}'\n      scope: word\n", "variables:\n  v: b\n"), "a\n"
+
+
+def includes_in_a_row(count):
+    """Each context includes the next one."""
+    rows = ["  main:\n    - include: c0\n"] + [f"  c{n}:\n    - include: c{n + 1}\n" for n in range(count)]
+    return contexts("".join(rows) + f"  c{count}:\n    - match: x\n      scope: word\n"), "axb\n"
+
+
+def atoms(count):
+    """Scopes of many atoms that differ in their ends."""
+    rows = [f"    - match: a{n}\n      scope: " + ".".join(f"a{n:05}{k}" for k in range(7)) + "\n" for n in range(count)]
+    return contexts("  main:\n" + "".join(rows)), "a1\n"
+
+
+def pushes_in_one_another(depth):
+    """Contexts that stand where a push names one."""
+    rows = ["  main:\n"]
+    for n in range(depth):
+        rows += ["  " * (2 * n + 2) + "- match: x\n", "  " * (2 * n + 3) + "push:\n"]
+    return contexts("".join(rows) + "  " * (2 * depth + 2) + "- match: y\n"), "xxy\n"
+
+
+def nested_block(depth):
+    """Maps in one another, a line each."""
+    return HEAD + "contexts: {main: []}\n" + "".join(" " * n + "x:\n" for n in range(depth)) + " " * depth + "y\n", "a\n"
+
+
+def nested_json(name, depth):
+    """A file of JSON in the folder, or the theme, of lists in one another."""
+    return contexts("  main: []\n"), "a\n", {name: "[" * depth + "]" * depth}
+
+
 def sets_go_round():
     return (
         contexts("  main:\n    - match: (?=x)\n      set: two\n  two:\n    - match: (?=x)\n      set: main\n"),
@@ -83,7 +120,32 @@ def cost(pattern, text):
     return main_of(pattern), text
 
 
+# Small grammars that a reader of strangers' grammars must not be held up by.
+SMALL = {
+    "includes that fan out, 2^16 entries",
+    "includes in a row, 10000",
+    "a pattern of 1 MB with a variable",
+    "a lookbehind at each of 100000 places",
+    "a lookbehind of 33 branches at each of 100000 places",
+    "scopes of 65000 atoms",
+}
+
 INPUTS = {
+    "includes in a row, 10000": lambda: includes_in_a_row(10000),
+    "includes in a row, 100000": lambda: includes_in_a_row(100000),
+    "a pattern of 1 MB with a variable": a_long_pattern,
+    "a lookbehind at each of 100000 places": lambda: cost("(?<=ab?)x", "x" * 100000 + "\n"),
+    "a lookbehind of 33 branches at each of 100000 places": lambda: cost(
+        "(?<=" + "|".join("ab" + "c" * n for n in range(33)) + ")x", "x" * 100000 + "\n"
+    ),
+    "scopes of 65000 atoms": lambda: atoms(9285),
+    "pushes 45 deep in one another": lambda: pushes_in_one_another(45),
+    "maps 99 deep, a line each": lambda: nested_block(99),
+    "maps 5000 deep, a line each": lambda: nested_block(5000),
+    "classes 200 deep": lambda: cost("[" * 200 + "a" + "]" * 200, "a\n"),
+    "classes 100000 deep": lambda: cost("[" * 100000 + "a" + "]" * 100000, "a\n"),
+    "a theme of lists 100000 deep": lambda: nested_json("theme.tmTheme", 100000),
+    "metadata of lists 100000 deep": lambda: nested_json("folder/a.tmPreferences", 100000),
     "includes that fan out, 2^16 entries": fan_out,
     "variables that double, 2^15 characters": doubling,
     "40 variables that name each other": naming_each_other,
@@ -111,10 +173,12 @@ def limited():
 
 def run(syncat, name):
     """Whether a run ends by itself; prints its row."""
-    grammar, text = INPUTS[name]()
+    grammar, text, *others = INPUTS[name]()
+    files = {"folder/a.sublime-syntax": grammar, "theme.tmTheme": THEME, "text.t": text}
+    files.update(*others)
     with tempfile.TemporaryDirectory() as folder:
         os.mkdir(os.path.join(folder, "folder"))
-        for file, data in (("folder/a.sublime-syntax", grammar), ("theme.tmTheme", THEME), ("text.t", text)):
+        for file, data in files.items():
             with open(os.path.join(folder, file), "w") as out:
                 out.write(data)
         begin = time.monotonic()
@@ -136,8 +200,10 @@ def run(syncat, name):
             told = err.read().strip()
         size = os.path.getsize(os.path.join(folder, "out"))
     answer = f"page of {size} bytes" if status == 0 else "past its time" if status is None else f"{status} {told}".strip()
-    print(f"| {name} | {answer} | {spent:.2f} | {used.ru_maxrss / 1024:.0f} |", flush=True)
-    return status in (0, 1)
+    memory = used.ru_maxrss / 1024
+    held = name not in SMALL or (spent <= 1 and memory <= 200)
+    print(f"| {name} | {answer}{'' if held else ', past what it may take'} | {spent:.2f} | {memory:.0f} |", flush=True)
+    return status in (0, 1) and held
 
 
 def main():

@@ -14,8 +14,8 @@ use Rattle.syntect_writers.specs.declared.html.IncludeBackground.TheVariants.{If
 use Rattle.syntect_parsing.specs.States.{standing}
 use Rattle.syntect.specs.Leads.{reader_of, Continues, LacksStart}
 use Rattle.syntect_loader.specs.declared.definition.SyntaxDefinition.{SyntaxDefinition}
-use Rattle.syntect.specs.Pages.{Row, lines_in, past_of, body_text, IsPage, IsPageOfBytes, IsRefusedAtALine, HasNoPageOfBytes, IsStopped, IsReadFault}
-use Rattle.syntect.specs.Rows.{IsTextOf, GivesNext, AreRowsSoFar}
+use Rattle.syntect.specs.Pages.{Row, lines_in, past_of, body_text, IsPage, IsPageOfBytes, IsRefusedAtALine, HasNoPageOfBytes, IsReadUpTo, IsReadFault}
+use Rattle.syntect.specs.Rows.{IsTextOf, GivesNext, AreRowsSoFar, HasStopped, RowsRefuse, RowsStop}
 use Rattle.syntect.specs.declared.easy.HighlightLines.{HighlightLines}
 use Rattle.syntect.proofs.PageLaws.{written_last}
 use Rattle.syntect.proofs.RowLaws.{some_text, text_with_rest, less_left, lines_more, rows_go_on, rows_end}
@@ -68,14 +68,7 @@ bytes_whole set theme syntax had left after last page whole bytes h s g f =
 
 -- ---- no page ----
 
--- of some text of the reader there is no page, with this refusal
-abbrev pub HasStopped : SyntaxSet → SyntaxReference → Option (List ℕ) → Error → Type 0
-HasStopped set syntax had e = (text : List ℕ) × IsTextOf had text × IsStopped set syntax text e
-
-pub stopped_at_line : (set : SyntaxSet) (definitions : List SyntaxDefinition) (theme : Theme) (syntax : SyntaxReference) (had left after : Option (List ℕ)) (last bytes : List ℕ) (rows : List Row) (line : Bor (List ℕ)) (h new : HighlightLines) (e : Error)
-    (s : AreRowsSoFar set theme syntax had left last rows h)
-    → Continues (past_of definitions theme syntax rows) set line new (Err e)
-    → GivesNext left last after bytes true → line.now ≡ bytes → IsUtf8 bytes → HasStopped set syntax had e
+pub stopped_at_line : RowsRefuse
 stopped_at_line set definitions theme syntax had left after last bytes rows line h new (error.ParsingError e) s l g k u =
     let t = text_with_rest had after (s.done ++ bytes) bytes (less_left had left after s.done last bytes s.is_left g) in
     let refused : IsRefusedAtALine set syntax ((s.done ++ bytes) ++ t.0) e = record {
@@ -99,17 +92,34 @@ stopped_at_line set definitions theme syntax had left after last bytes rows line
 stopped_at_line set definitions theme syntax had left after last bytes rows line h new (error.ParseScope e) s l g k u = absurd l
 stopped_at_line set definitions theme syntax had left after last bytes rows line h new (error.Pattern e) s l g k u = absurd l
 
-pub stopped_by_fault : (set : SyntaxSet) (syntax : SyntaxReference) (had : Option (List ℕ)) (e : Error) → IsReadFault e → HasStopped set syntax had e
-stopped_by_fault set syntax had (error.ParsingError e) f = absurd f
-stopped_by_fault set syntax had error.Memory f = let t = some_text had in (t.0, t.1, tt)
-stopped_by_fault set syntax had (error.ScopeError e) f = absurd f
-stopped_by_fault set syntax had (error.Fmt e) f = absurd f
-stopped_by_fault set syntax had (error.Io e) f = let t = some_text had in (t.0, t.1, tt)
-stopped_by_fault set syntax had (error.LoadingError e) f = absurd f
-stopped_by_fault set syntax had error.NoSyntax f = absurd f
-stopped_by_fault set syntax had (error.ParseSyntax e) f = absurd f
-stopped_by_fault set syntax had (error.ParseScope e) f = absurd f
-stopped_by_fault set syntax had (error.Pattern e) f = absurd f
+-- a fault of reading comes behind the rows so far
+pub stopped_behind : (set : SyntaxSet) (theme : Theme) (syntax : SyntaxReference) (had left : Option (List ℕ)) (last : List ℕ) (rows : List Row) (h : HighlightLines)
+    → AreRowsSoFar set theme syntax had left last rows h → (text : List ℕ) × IsTextOf had text × IsReadUpTo set syntax text
+stopped_behind set theme syntax had left last rows h s =
+    let t = text_with_rest had left s.done last s.is_left in
+    let so_far : IsReadUpTo set syntax (s.done ++ t.0) = record {
+      rows = rows;
+      rest = lines_of t.0;
+      start = s.leads.start;
+      after = standing (reader_of h);
+      begins = s.leads.begins;
+      lines = s.lines t.0 t.1;
+      run = s.leads.run;
+      valid = s.lines_valid;
+    } in
+    (s.done ++ t.0, t.2, so_far)
+
+pub stopped_by_fault : RowsStop
+stopped_by_fault set theme syntax had left last rows h (error.ParsingError e) s f = absurd f
+stopped_by_fault set theme syntax had left last rows h error.Memory s f = let t = some_text had in (t.0, t.1, tt)
+stopped_by_fault set theme syntax had left last rows h (error.ScopeError e) s f = absurd f
+stopped_by_fault set theme syntax had left last rows h (error.Fmt e) s f = absurd f
+stopped_by_fault set theme syntax had left last rows h (error.Io e) s f = stopped_behind set theme syntax had left last rows h s
+stopped_by_fault set theme syntax had left last rows h (error.LoadingError e) s f = absurd f
+stopped_by_fault set theme syntax had left last rows h error.NoSyntax s f = absurd f
+stopped_by_fault set theme syntax had left last rows h (error.ParseSyntax e) s f = absurd f
+stopped_by_fault set theme syntax had left last rows h (error.ParseScope e) s f = absurd f
+stopped_by_fault set theme syntax had left last rows h (error.Pattern e) s f = absurd f
 
 pub no_page_of_bytes : (set : SyntaxSet) (syntax : SyntaxReference) (had : Option (List ℕ)) (e : Error) → LacksStart syntax e
     → (text : List ℕ) × IsTextOf had text × HasNoPageOfBytes set syntax text e
@@ -124,5 +134,7 @@ err_on (Ok x) P Q f h = tt
 err_on (Err e) P Q f h = f e h
 
 -- a fault of reading stops the page
-pub any_fault : {A : Type 0} (r : Result A Error) (set : SyntaxSet) (syntax : SyntaxReference) (had : Option (List ℕ)) → IfErr r IsReadFault → IfErr r (HasStopped set syntax had)
-any_fault r set syntax had f = err_on r IsReadFault (HasStopped set syntax had) (stopped_by_fault set syntax had) f
+pub any_fault : {A : Type 0} (r : Result A Error) (set : SyntaxSet) (theme : Theme) (syntax : SyntaxReference) (had left : Option (List ℕ)) (last : List ℕ) (rows : List Row) (h : HighlightLines)
+    → AreRowsSoFar set theme syntax had left last rows h → IfErr r IsReadFault → IfErr r (HasStopped set syntax had)
+any_fault r set theme syntax had left last rows h s f =
+    err_on r IsReadFault (HasStopped set syntax had) (λ e. stopped_by_fault set theme syntax had left last rows h e s) f

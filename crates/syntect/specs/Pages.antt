@@ -102,10 +102,21 @@ AreUtf8 (line ∷ lines) = IsUtf8 line × AreUtf8 lines
 abbrev pub IsRefusedAtALineOfBytes : SyntaxSet → SyntaxReference → List ℕ → ParsingError → Type 0
 IsRefusedAtALineOfBytes set syntax text e = (r : IsRefusedAtALine set syntax text e) × AreUtf8 (lines_in r.rows) × IsUtf8 r.line
 
+-- The text's lines up to one of them, or to its end, are UTF-8, and none of them is refused.
+pub record IsReadUpTo (set : SyntaxSet) (syntax : SyntaxReference) (text : List ℕ) : Type 0 where
+  pub rows : List Row
+  pub rest : List (List ℕ)
+  pub start : Standing
+  pub after : Standing
+  pub begins : start_of syntax ≡ Some start
+  pub lines : lines_in rows ++ rest ≡ lines_of text
+  pub run : AnswersAll dialect set (lines_in rows) start (answers_in rows) after
+  pub valid : AreUtf8 (lines_in rows)
+
 -- There is no page: a line is refused before one that is not UTF-8 and before a fault of the reader, or such a fault comes
--- first, or there was no memory.
+-- behind lines none of which is refused, or there was no memory.
 abbrev pub IsStopped : SyntaxSet → SyntaxReference → List ℕ → Error → Type 0
-IsStopped set syntax text (error.Io e) = Unit {0}
+IsStopped set syntax text (error.Io e) = IsReadUpTo set syntax text
 IsStopped set syntax text e = OnlyParsing (IsRefusedAtALineOfBytes set syntax text) e
 
 -- The same, where the syntax is looked at first.

@@ -1,5 +1,5 @@
 -- The lines that a reader gives, and what they are shown in.
-use Rattle.std.specs.Prelude.{◌≡◌, ℕ, ◌<◌, ◌==◌, Bool, true, false, List, [], ◌∷◌, ◌++◌, length, Option, Some, IfSome, Ok, IsUtf8}
+use Rattle.std.specs.Prelude.{◌≡◌, ℕ, ◌<◌, ◌==◌, Bool, true, false, List, [], ◌∷◌, ◌++◌, length, Option, Some, IfSome, Ok, Err, IsUtf8}
 use Rattle.std.specs.Borrow.{Bor}
 use Rattle.std.specs.Global.{Vec}
 use Rattle.std.specs.Io.{StopsAt}
@@ -13,7 +13,8 @@ use Rattle.syntect_grammar.specs.declared.syntax_set.SyntaxSet.{SyntaxSet}
 use Rattle.syntect_writers.specs.Lines.{lines_of}
 use Rattle.syntect.specs.Leads.{Leads, Continues}
 use Rattle.syntect_loader.specs.declared.definition.SyntaxDefinition.{SyntaxDefinition}
-use Rattle.syntect.specs.Pages.{Row, AreShown, AreUtf8, lines_in, answers_in, past_of}
+use Rattle.syntect_grammar.specs.declared.error.Error.{Error}
+use Rattle.syntect.specs.Pages.{Row, AreShown, AreUtf8, IsReadFault, IsStopped, lines_in, answers_in, past_of}
 use Rattle.syntect.specs.declared.easy.HighlightLines.{HighlightLines}
 
 -- ---- a reader ----
@@ -85,3 +86,20 @@ abbrev pub RowsEnd : Type 0
 RowsEnd = (set : SyntaxSet) (theme : Theme) (syntax : SyntaxReference) (had left after : Option (List ℕ)) (last bytes : List ℕ) (rows : List Row) (h : HighlightLines)
     → AreRowsSoFar set theme syntax had left last rows h → GivesNext left last after bytes false
     → (text : List ℕ) × IsTextOf had text × IsUtf8 text × AreRowsOf set theme syntax text rows
+
+-- some text of the reader ends with this refusal
+abbrev pub HasStopped : SyntaxSet → SyntaxReference → Option (List ℕ) → Error → Type 0
+HasStopped set syntax had e = (text : List ℕ) × IsTextOf had text × IsStopped set syntax text e
+
+-- a line that is refused ends the rows
+abbrev pub RowsRefuse : Type 0
+RowsRefuse = (set : SyntaxSet) (definitions : List SyntaxDefinition) (theme : Theme) (syntax : SyntaxReference) (had left after : Option (List ℕ)) (last bytes : List ℕ) (rows : List Row)
+    (line : Bor (List ℕ)) (h new : HighlightLines) (e : Error)
+    → AreRowsSoFar set theme syntax had left last rows h
+    → Continues (past_of definitions theme syntax rows) set line new (Err e)
+    → GivesNext left last after bytes true → line.now ≡ bytes → IsUtf8 bytes → HasStopped set syntax had e
+
+-- and so does a fault of reading, behind them
+abbrev pub RowsStop : Type 0
+RowsStop = (set : SyntaxSet) (theme : Theme) (syntax : SyntaxReference) (had left : Option (List ℕ)) (last : List ℕ) (rows : List Row) (h : HighlightLines) (e : Error)
+    → AreRowsSoFar set theme syntax had left last rows h → IsReadFault e → HasStopped set syntax had e

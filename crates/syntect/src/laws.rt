@@ -5,7 +5,7 @@ ghost use Rattle.syntect_parsing.specs.Refusals.{AreByName};
 ghost use Rattle.syntect.specs.Built.{IsPlain, IsLoaded};
 ghost use Rattle.syntect.specs.Loaded.{BuildersHold, FindsOwn, LoadedSetsMeet};
 ghost use Rattle.syntect.specs.Promises.{LoadedIsPlain, LoadedStay, NothingIsCleared, AllRunOrderly, PastsStay, LoadedGiveScopes};
-ghost use Rattle.syntect.specs.Rows.{RowsBegin, RowsGoOn, RowsEnd};
+ghost use Rattle.syntect.specs.Rows.{RowsBegin, RowsGoOn, RowsEnd, RowsRefuse, RowsStop};
 
 /// A definition that was loaded is plain: its `__start` has no `meta_scope`, one content scope, and clears nothing. So
 /// what `HighlightLines::highlight_line` and `highlighted_html_for_string` say holds for sets that were built of such
@@ -59,9 +59,12 @@ pub fn loaded_sets_give_scopes()
 }
 
 /// The lines that a reader gives, one after another, and the pieces that a highlighter answers to them, are the rows of
-/// the reader's text: there are none at first, each line is one more, and in the end they are all.
+/// the reader's text: there are none at first, each line is one more, and in the end they are all. A line that is refused
+/// ends them, and so does a fault of reading.
 pub fn rows_of_readers()
     ensures begin { RowsBegin }
     ensures more { RowsGoOn }
     ensures all { RowsEnd }
+    ensures refuse { RowsRefuse }
+    ensures stop { RowsStop }
 {}

@@ -1,6 +1,6 @@
 -- The text for a terminal while it is made.
-use Rattle.std.proofs.Common.{◌≡◌, ℕ, Bool, true, false, List, [], ◌∷◌, ◌++◌, sym, ap, ◌∙◌, append-nil, append_assoc, IsUtf8, Bor, Result, Ok, Err}
-use Rattle.std.specs.Prelude.{Option, IfOk}
+use Rattle.std.proofs.Common.{◌≡◌, ℕ, Bool, true, false, List, [], ◌∷◌, ◌++◌, sym, ap, ◌∙◌, append-nil, append_assoc, IsUtf8, Bor, Result, Ok, Err, inr}
+use Rattle.std.specs.Prelude.{Option, IfOk, IfErr}
 use Rattle.std.specs.Global.{Vec}
 use Rattle.std.proofs.lemmas.Grind.{flat_map-append}
 use Rattle.syntect_theme.specs.declared.style.Style.{Style}
@@ -9,13 +9,13 @@ use Rattle.syntect_contexts.specs.declared.syntax_reference.SyntaxReference.{Syn
 use Rattle.syntect_grammar.specs.declared.syntax_set.SyntaxSet.{SyntaxSet}
 use Rattle.syntect_writers.specs.Terminal.{terminal_text}
 use Rattle.syntect.specs.Leads.{Continues}
-use Rattle.syntect.specs.Pages.{Row, past_of}
-use Rattle.syntect.specs.Rows.{IsTextOf, GivesNext, AreRowsSoFar, RowsGoOn, RowsEnd}
+use Rattle.syntect.specs.Pages.{Row, IsReadFault, past_of}
+use Rattle.syntect.specs.Rows.{IsTextOf, GivesNext, AreRowsSoFar, HasStopped, RowsGoOn, RowsEnd, RowsStop}
 use Rattle.syntect.specs.declared.easy.HighlightLines.{HighlightLines}
 use Rattle.syntect_loader.specs.declared.definition.SyntaxDefinition.{SyntaxDefinition}
 use Rattle.syntect_grammar.specs.declared.error.Error.{Error}
 use Rattle.syntect.specs.Built.{IsBuilt, IsBuiltOf}
-use Rattle.syntect.specs.Files.{IsSyntaxFor}
+use Rattle.syntect.specs.Files.{IsSyntaxFor, HasNoPageOfFile}
 use Rattle.syntect_cat.specs.Terminal.{reset, rows_text, IsTerminalText, IsTerminalTextOfFile}
 
 -- what a reader gives, by its answer
@@ -60,6 +60,12 @@ text_whole law set theme syntax had left after last text whole bytes h s g f =
     let t = law set theme syntax had left after last bytes s.rows h s.read g in
     (t.0, t.1, t.2, record { rows = s.rows; are_rows = t.3; written = f ∙ ap (λ (xs : List ℕ). xs ++ reset) s.written })
 
+-- a fault of reading ends the text, behind the rows so far
+pub any_fault : RowsStop → {A : Type 0} (r : Result A Error) (set : SyntaxSet) (theme : Theme) (syntax : SyntaxReference) (had left : Option (List ℕ)) (last text : List ℕ) (h : HighlightLines)
+    → IsSoFar set theme syntax had left last text h → IfErr r IsReadFault → IfErr r (HasStopped set syntax had)
+any_fault law (Ok x) set theme syntax had left last text h s f = tt
+any_fault law (Err e) set theme syntax had left last text h s f = law set theme syntax had left last s.rows h e s.read f
+
 -- ---- files ----
 
 pub built_of : (set : SyntaxSet) (path : List ℕ) (syntax : SyntaxReference) (definitions : List SyntaxDefinition) → IsBuilt set definitions → IsSyntaxFor set path syntax → IsBuiltOf set syntax definitions
@@ -69,3 +75,8 @@ pub text_of_file : {A : Type 0} (view : A → List ℕ) (set : SyntaxSet) (theme
     → IfOk result (λ all. (text : List ℕ) × P text × IsUtf8 text × IsTerminalText set theme syntax text (view all)) → IfOk result (λ all. IsTerminalTextOfFile set theme path (view all))
 text_of_file view set theme path syntax P (Ok all) s h = (syntax, s, h.0, h.2, h.3)
 text_of_file view set theme path syntax P (Err e) s h = tt
+
+pub none_of_file : {A : Type 0} (set : SyntaxSet) (path : List ℕ) (syntax : SyntaxReference) (had : Option (List ℕ)) (result : Result A Error) → IsSyntaxFor set path syntax
+    → IfErr result (HasStopped set syntax had) → IfErr result (HasNoPageOfFile set path)
+none_of_file set path syntax had (Ok all) s h = tt
+none_of_file set path syntax had (Err e) s h = inr (syntax, s, h.0, h.2)

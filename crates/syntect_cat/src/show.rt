@@ -3,6 +3,7 @@ ghost use Rattle.std.specs.Prelude.{◌≡◌, ◌≢◌, ℕ, List, [], IfOk, I
 ghost use Rattle.syntect_theme_files.specs.ThemeFiles.{IsThemeOf};
 ghost use Rattle.syntect_loader.specs.declared.definition.SyntaxDefinition.{SyntaxDefinition as ADefinition};
 ghost use Rattle.syntect.specs.Built.{IsBuilt};
+ghost use Rattle.syntect.specs.Files.{HasNoPageOfFile};
 ghost use Rattle.syntect_cat.specs.Shown.{IsSetOf, ShowsFile, IsShown};
 ghost use Rattle.syntect_cat.specs.declared.fault.Fault.TheVariants.{Syntaxes, Writing};
 ghost use Rattle.syntect_cat.specs.declared.fault.Fault.TheVariants.{Theme as FaultOfTheme};
@@ -74,6 +75,8 @@ fn highlighted(
 ) -> Result<String, Error>
     ensures shown { (definitions : List ADefinition) → IsBuilt set.now definitions
         → IfOk result (λ text. ShowsFile format set.now theme.now path.now (string_bytes text)) }
+    ensures refused { (definitions : List ADefinition) → IsBuilt set.now definitions
+        → IfErr result (HasNoPageOfFile set.now path.now) }
 {
     match format {
         Format::Html => highlighted_html_for_file(files, alloc, Path::new(path), set, theme),

@@ -1,12 +1,13 @@
 //! Files for terminals.
-ghost use Rattle.std.specs.Prelude.{◌≡◌, ℕ, List, [], IfOk, IsUtf8, string_bytes};
+ghost use Rattle.std.specs.Prelude.{◌≡◌, ℕ, List, [], IfOk, IfErr, IsUtf8, string_bytes};
 ghost use Rattle.std.specs.Path.{path_bytes};
 ghost use Rattle.syntect_theme.specs.declared.theme.Theme.{Theme as ATheme};
 ghost use Rattle.syntect_loader.specs.declared.definition.SyntaxDefinition.{SyntaxDefinition as ADefinition};
 ghost use Rattle.syntect_contexts.specs.declared.syntax_reference.SyntaxReference.{SyntaxReference as ASyntax};
 ghost use Rattle.syntect.specs.Built.{IsBuilt, IsBuiltOf};
 ghost use Rattle.syntect.specs.Leads.{Leads};
-ghost use Rattle.syntect.specs.Rows.{IsTextOf};
+ghost use Rattle.syntect.specs.Files.{HasNoPageOfFile};
+ghost use Rattle.syntect.specs.Rows.{IsTextOf, HasStopped};
 ghost use Rattle.syntect_cat.specs.Terminal.{IsTerminalText, IsTerminalTextOfFile};
 
 use std::alloc::Global;
@@ -17,7 +18,7 @@ use syntect::Error;
 use syntect::easy::{HighlightFile, HighlightLines};
 use syntect::laws::rows_of_readers;
 use syntect::reading::{next_line, text_of};
-use syntect::util::as_24_bit_terminal_escaped;
+use syntect::util::push_24_bit_terminal_escaped;
 use syntect_parsing::syntax_set::SyntaxSet;
 use syntect_theme::theme::Theme;
 
@@ -35,6 +36,8 @@ pub(crate) fn terminal_text_for_file(
 ) -> Result<String, Error>
     ensures shown { (definitions : List ADefinition) → IsBuilt set.now definitions
         → IfOk result (λ all. IsTerminalTextOfFile set.now theme.now (path_bytes path.entry) (string_bytes all)) }
+    ensures refused { (definitions : List ADefinition) → IsBuilt set.now definitions
+        → IfErr result (HasNoPageOfFile set.now (path_bytes path.entry)) }
 {
     match HighlightFile::new(files, alloc, path, set, theme) {
         Ok(file) => terminal_text_of_lines(alloc, file.reader, file.highlight_lines, set),
@@ -52,6 +55,9 @@ fn terminal_text_of_lines<R: BufRead + Drop>(
     ensures shown { (definitions : List ADefinition) (theme : ATheme) (syntax : ASyntax) → IsBuiltOf set.now syntax definitions
         → Leads set.now theme syntax [] [] highlighter.entry
         → IfOk result (λ all. (text : List ℕ) × IsTextOf (R.remaining reader) text × IsUtf8 text × IsTerminalText set.now theme syntax text (string_bytes all)) }
+    ensures refused { (definitions : List ADefinition) (theme : ATheme) (syntax : ASyntax) → IsBuiltOf set.now syntax definitions
+        → Leads set.now theme syntax [] [] highlighter.entry
+        → IfErr result (HasStopped set.now syntax (R.remaining reader)) }
 {
     rows_of_readers();
     let mut text = String::new(alloc);
@@ -63,8 +69,7 @@ fn terminal_text_of_lines<R: BufRead + Drop>(
         }
         let line = text_of(bytes.as_slice())?;
         let pieces = highlighter.highlight_line(alloc, line, set)?;
-        let shown = as_24_bit_terminal_escaped(alloc, pieces.as_slice(), true)?;
-        text.push_str(shown.as_str())?;
+        push_24_bit_terminal_escaped(&mut text, pieces.as_slice(), true)?;
     }
     Err(Error::Io(IoError::new(ErrorKind::Other, "too many lines")))
 }

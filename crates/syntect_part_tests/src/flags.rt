@@ -23,6 +23,9 @@ fn flags_changed(rt: HostRuntime) {
         &rt, "memory",
     );
     equal(&rt, both.bits(), 5);
+    let mut all = both;
+    all.extend([FontStyle::UNDERLINE]).expect(&rt, "memory");
+    equal(&rt, all.bits(), 7);
     let nine = FontStyle::from_bits_unchecked(9);
     equal(
         &rt,

@@ -80,3 +80,16 @@ fn tells_where_a_match_begins(rt: HostRuntime) {
     );
     equal(&rt, region.pos(0), Some((1, 2)));
 }
+
+/// Of the letters `b` in `abcb` those up to a place are looked for.
+#[test]
+fn searches_up_to_a_place(rt: HostRuntime) {
+    let text = String::from_str(rt.alloc(), "b").expect(&rt, "memory");
+    let regex = Regex::new(rt.alloc(), text).expect(&rt, "memory");
+    let mut region = Region::default(rt.alloc());
+    for (begin, last, wanted) in [(0, 1, true), (2, 2, false), (2, 3, true), (4, 4, false)] {
+        let found = regex.search_up_to("abcb", begin, last, &mut region);
+        equal(&rt, found.expect(&rt, "memory"), wanted);
+    }
+    equal(&rt, region.pos(0), Some((3, 4)));
+}

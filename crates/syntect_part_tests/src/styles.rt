@@ -113,24 +113,17 @@ fn the_deepest_place_counts(rt: HostRuntime) {
 }
 
 #[test]
-fn the_deepest_place_counts_piece_by_piece(rt: HostRuntime) {
+fn a_state_becomes_another_one(rt: HostRuntime) {
     let alloc = rt.alloc();
     let mut repository = ScopeRepository::new(alloc);
     let a = scope(&mut repository, "a");
-    let b = scope(&mut repository, "b");
-    let theme = theme_of(&rt, alloc, &[(a, ON_TEXT), (b, OTHER_ON_TEXT)]);
+    let theme = theme_of(&rt, alloc, &[(a, ON_TEXT)]);
     let highlighter = Highlighter::new(alloc, &theme).expect(&rt, "memory");
-    let style = Style::default().apply(ON_TEXT);
     let mut state = HighlightState::new(&highlighter, ScopeStack::new(alloc));
-    let changes = [
-        (0, ScopeStackOp::Push(a)),
-        (0, ScopeStackOp::Push(b)),
-        (0, ScopeStackOp::Push(a)),
-    ];
-    let mut items = HighlightIterator::new(&mut state, &changes, "x", &highlighter);
-    let piece = items.next();
-    holds(&rt, piece == Some(Ok((style, "x"))));
-    holds(&rt, items.next().is_none());
+    let other = HighlightState::new(&highlighter, stack_of(&rt, alloc, &[a]));
+    state.clone_from(&other).expect(&rt, "memory");
+    holds(&rt, state == other);
+    holds(&rt, state.path().as_slice() == [a].as_slice());
 }
 
 #[test]
@@ -281,41 +274,4 @@ fn flags_and_modifiers(rt: HostRuntime) {
     let style = Style::default().apply(both);
     equal(&rt, style.font_style, flags);
     equal(&rt, style.background, FIRST);
-}
-
-#[test]
-fn a_rule_without_scopes_acts_on_every_scope(rt: HostRuntime) {
-    let alloc = rt.alloc();
-    let mut repository = ScopeRepository::new(alloc);
-    let q = scope(&mut repository, "q");
-    let mut theme = Theme::default(alloc);
-    theme
-        .scopes
-        .push(rule(&rt, alloc, &[], ON_TEXT))
-        .expect(&rt, "memory");
-    let highlighter = Highlighter::new(alloc, &theme).expect(&rt, "memory");
-    equal(
-        &rt,
-        highlighter
-            .style_for_stack(&[])
-            .expect(&rt, "memory")
-            .foreground,
-        FIRST,
-    );
-    let mut state = HighlightState::new(&highlighter, ScopeStack::new(alloc));
-    let changes = [(1, ScopeStackOp::Push(q)), (2, ScopeStackOp::Pop(1))];
-    let ruled = Style {
-        foreground: FIRST,
-        ..Style::default()
-    };
-    let pieces = collect_pieces(alloc, &highlighter, &mut state, &changes, "abc");
-    let expected = [
-        (Style::default(), "a"),
-        (ruled, "b"),
-        (Style::default(), "c"),
-    ];
-    holds(
-        &rt,
-        pieces.is_ok_and(|p| p.as_slice() == expected.as_slice()),
-    );
 }

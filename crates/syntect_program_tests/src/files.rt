@@ -95,7 +95,7 @@ const THEMES: [(&str, &str); 4] = [
 ];
 
 /// The path of a file in a folder.
-fn within(rt: &impl Abort, folder: &PathBuf, name: &str) -> PathBuf {
+pub fn within(rt: &impl Abort, folder: &PathBuf, name: &str) -> PathBuf {
     let mut file = folder.clone().expect(rt, "memory");
     file.push(name).expect(rt, "memory");
     file

@@ -2,7 +2,7 @@
 use crate::found::{equal, holds};
 use std::alloc::Global;
 use std::process::Abort;
-use syntect_parsing::parser::{ParseState, ParsingError};
+use syntect_parsing::parser::{ParseState, ParsingError, Regions};
 use syntect_parsing::syntax_definition::{
     Context, ContextId, ContextReference, MatchOperation, SyntaxDefinition,
 };
@@ -55,6 +55,43 @@ fn copies_are_read_as_the_first(rt: HostRuntime) {
             .expect(&rt, "an answer")
             .is_some(),
     );
+}
+
+/// A state stays where the one behind a line is asked for.
+#[test]
+fn the_state_behind_a_line(rt: HostRuntime) {
+    let alloc = rt.alloc();
+    let mut repository = ScopeRepository::new(alloc);
+    let set = built(&rt, alloc, &mut repository);
+    let syntax = set.syntaxes().first().expect(&rt, "a syntax");
+    let mut state = ParseState::new(alloc, syntax).expect(&rt, "an answer");
+    let before = state.clone().expect(&rt, "memory");
+    let mut regions = Regions::new(alloc);
+    let (after, ops) = state
+        .after_line(alloc, "x\n", &set, &mut regions)
+        .expect(&rt, "an answer");
+    holds(&rt, state == before);
+    let read = state
+        .parse_line(alloc, "x\n", &set)
+        .expect(&rt, "an answer");
+    holds(&rt, after == state);
+    holds(&rt, ops.as_slice() == read.as_slice());
+}
+
+/// A context's patterns are listed alike whether they are kept or walked anew.
+#[test]
+fn patterns_of_a_context(rt: HostRuntime) {
+    let alloc = rt.alloc();
+    let mut repository = ScopeRepository::new(alloc);
+    let set = built(&rt, alloc, &mut repository);
+    let main = ContextId {
+        syntax_index: 0,
+        context_index: 3,
+    };
+    let kept = set.flats_of(main).map(|flats| flats.as_slice().len());
+    let walked = set.flats_walked(alloc, main).expect(&rt, "memory");
+    equal(&rt, kept, Some(1));
+    equal(&rt, walked.as_slice().len(), 1);
 }
 
 /// The last context of the set, `main`.

@@ -6,6 +6,7 @@ use std::rt::{Clock, Files};
 use std::time::Instant;
 use std::{fs, io};
 use syntect::easy::HighlightLines;
+use syntect::html::highlighted_html_for_string;
 use syntect::util::LinesWithEndings;
 use syntect_parsing::parser::ParseState;
 use syntect_parsing::syntax_set::{SyntaxReference, SyntaxSet, SyntaxSetBuilder};
@@ -82,7 +83,29 @@ fn highlight_lines(
     Some(count)
 }
 
-/// Reads and highlights a text so many rounds. The least time of each, in microseconds; none where a line is refused.
+/// The least times of some rounds over a text, in microseconds.
+struct Least {
+    parse: u128,
+    highlight: u128,
+    page: u128,
+}
+
+/// How long a page of a text takes, in microseconds.
+fn page_time(
+    rt: &(impl AllocGlobal + Clock),
+    text: &str,
+    set: &SyntaxSet,
+    syntax: &SyntaxReference,
+    theme: &Theme,
+) -> io::Result<u128> {
+    let start = Instant::now(rt)?;
+    match highlighted_html_for_string(rt.alloc(), text, set, syntax, theme) {
+        Ok(_) => Ok(start.elapsed(rt)?.as_micros()),
+        Err(_) => Err(fault("a line was refused")),
+    }
+}
+
+/// Reads and highlights a text so many rounds, and makes pages of it. The least time of each, in microseconds.
 fn least_times(
     rt: &(impl AllocGlobal + Clock),
     text: &str,
@@ -90,8 +113,8 @@ fn least_times(
     syntax: &SyntaxReference,
     theme: &Theme,
     rounds: u32,
-) -> io::Result<(u128, u128)> {
-    let (mut parse, mut highlight) = (u128::MAX, u128::MAX);
+) -> io::Result<Least> {
+    let (mut parse, mut highlight, mut page) = (u128::MAX, u128::MAX, u128::MAX);
     for _ in 0..rounds {
         let start = Instant::now(rt)?;
         let read = parse_lines(rt.alloc(), text, set, syntax);
@@ -102,11 +125,16 @@ fn least_times(
         if read.is_none() || shown.is_none() {
             return Err(fault("a line was refused"));
         }
+        page = page.min(page_time(rt, text, set, syntax, theme)?);
     }
-    Ok((parse, highlight))
+    Ok(Least {
+        parse,
+        highlight,
+        page,
+    })
 }
 
-/// Prints how long a file's lines take to be read, and to be highlighted in a theme.
+/// Prints how long a file's lines take to be read, to be highlighted in a theme, and to be shown as a page.
 fn time_lines(
     rt: &(impl Print + AllocGlobal + Files + Clock),
     set: &SyntaxSet,
@@ -118,8 +146,12 @@ fn time_lines(
     let Some(syntax) = syntax_of_file(rt, rt.alloc(), set, path) else {
         return Err(fault("no syntax fits the file"));
     };
-    let (parse, highlight) = least_times(rt, text.as_str(), set, syntax, theme, rounds)?;
-    println!(rt; "parse {parse} us, with styles {highlight} us")?;
+    let Least {
+        parse,
+        highlight,
+        page,
+    } = least_times(rt, text.as_str(), set, syntax, theme, rounds)?;
+    println!(rt; "parse {parse} us, with styles {highlight} us, as a page {page} us")?;
     Ok(ExitCode::SUCCESS)
 }
 
@@ -136,8 +168,8 @@ fn timed_set(
     Ok(set)
 }
 
-/// Prints how long the grammars of a folder take to be loaded and linked, and a file's lines to be read, and to be
-/// highlighted in a theme: the least of so many rounds, in microseconds.
+/// Prints how long the grammars of a folder take to be loaded and linked, and a file's lines to be read, to be highlighted in a
+/// theme, and to be shown as a page: the least of so many rounds, in microseconds.
 pub fn time_file(
     rt: &(impl Print + AllocGlobal + Files + Clock),
     folder: &str,

@@ -23,6 +23,19 @@ nine_joined o a b c d e f g h i r s t u v w x y z er es et eu ev ew ex ey ez =
     three_joined o (a ++ (b ++ c)) (d ++ (e ++ f)) (g ++ (h ++ i)) t w z (three_joined o a b c r s t er es et) (three_joined t d e f u v w eu ev ew) (three_joined w g h i x y z ex ey ez)
     ∙ ap (λ (k : List ℕ). o ++ k) (simp append_assoc)
 
+-- six texts
+pub six_joined : (o a b c d e f r s t u v z : List ℕ) → r ≡ o ++ a → s ≡ r ++ b → t ≡ s ++ c → u ≡ t ++ d → v ≡ u ++ e → z ≡ v ++ f
+    → z ≡ o ++ (a ++ (b ++ (c ++ (d ++ (e ++ f)))))
+six_joined o a b c d e f r s t u v z er es et eu ev ez =
+    three_joined t d e f u v z eu ev ez ∙ ap (λ (k : List ℕ). k ++ (d ++ (e ++ f))) (three_joined o a b c r s t er es et)
+    ∙ simp append_assoc
+
+-- a tag in parts, behind what ends the span before it
+pub tag_joined : (close ground flags digits : List ℕ)
+    → (close ++ codes "<span style=\"") ++ (ground ++ (flags ++ (codes "color:#" ++ (digits ++ codes ";\">"))))
+    ≡ close ++ (codes "<span style=\"" ++ ((ground ++ (flags ++ (codes "color:" ++ ((35 ∷ digits) ++ codes ";")))) ++ codes "\">"))
+tag_joined close ground flags digits = simp append_assoc
+
 -- spans whose first one has the style and this much of its text
 pub spans_behind : (bg : IncludeBackground) (style : Style) (text : List ℕ) (ps : List (Style × List ℕ))
     → flat_map (span_text bg) (spans_from style text ps) ≡ open_tag bg style ++ (escaped text ++ behind_open bg style ps)

@@ -20,13 +20,21 @@ hex_digit d = if nat_lt d 10 then 48 + d else 87 + d
 abbrev pub hex_pair : ℕ → List ℕ
 hex_pair b = hex_digit (b / 16) ∷ hex_digit (b % 16) ∷ []
 
+-- the digits of a colour without how opaque it is
+abbrev pub rgb_digits : Color → List ℕ
+rgb_digits c = hex_pair c.r ++ (hex_pair c.g ++ hex_pair c.b)
+
 -- a colour without how opaque it is
 abbrev pub rgb_text : Color → List ℕ
-rgb_text c = 35 ∷ (hex_pair c.r ++ (hex_pair c.g ++ hex_pair c.b))
+rgb_text c = 35 ∷ rgb_digits c
+
+-- the digits of a colour
+abbrev pub color_digits : Color → List ℕ
+color_digits c = rgb_digits c ++ (if c.a == 255 then [] else hex_pair c.a)
 
 -- a colour as CSS has it
 abbrev pub color_text : Color → List ℕ
-color_text c = rgb_text c ++ (if c.a == 255 then [] else hex_pair c.a)
+color_text c = 35 ∷ color_digits c
 
 abbrev pub same_color : Color → Color → Bool
 same_color c d = ((c.r == d.r && c.g == d.g) && c.b == d.b) && c.a == d.a

@@ -1,6 +1,6 @@
 //! HTML with inline styles.
-ghost use Rattle.std.specs.Prelude.{◌≡◌, ◌++◌, string_bytes, IfOk, OnOk, OnErr, map};
-ghost use Rattle.syntect_writers.specs.Spans.{hex_pair, rgb_text, color_text, flags_text, same_color, same_style, tells_background, asked_for, color_property, background_text, css, open_tag, is_blank, continues, line_text, opening, background_of};
+ghost use Rattle.std.specs.Prelude.{◌≡◌, ◌++◌, string_bytes, codes, IfOk, OnOk, OnErr};
+ghost use Rattle.syntect_writers.specs.Spans.{rgb_digits, rgb_text, color_digits, flags_text, same_color, same_style, tells_background, asked_for, color_property, background_text, open_tag, is_blank, continues, line_text, opening, background_of};
 ghost use Rattle.syntect_writers.specs.Opened.{behind_open, line_behind, close_of, continued};
 ghost use Rattle.syntect_theme.specs.Modifying.{bits_of};
 ghost use Rattle.std.specs.Prelude.{◌<◌, ◌∷◌, List, ℕ};
@@ -24,12 +24,16 @@ pub enum IncludeBackground {
     IfDifferent(Color),
 }
 
-/// Puts a byte last, in two hexadecimal digits.
-fn push_hex(out: &mut Tail, byte: u8) -> Result<(), AllocError>
+/// Puts the digits of a colour last, without how opaque it is.
+#[tactic(auto, using(crate::proofs::SpanLaws::three_joined))]
+fn push_rgb_digits(out: &mut Tail, color: Color) -> Result<(), AllocError>
     ensures front { out.new.front ≡ out.old.front }
-    ensures back { OnOk result (out.new.back ≡ out.old.back ++ hex_pair byte) }
+    ensures back { OnOk result (out.new.back ≡ out.old.back ++ rgb_digits color) }
 {
-    out.push_str(hex_pair(byte))
+    out.push_str(hex_pair(color.r))?;
+    out.push_str(hex_pair(color.g))?;
+    out.push_str(hex_pair(color.b))?;
+    Ok(())
 }
 
 /// Puts a colour last as CSS has it, without how opaque it is.
@@ -37,10 +41,8 @@ fn put_rgb(out: &mut Tail, color: Color) -> Result<(), AllocError>
     ensures front { out.new.front ≡ out.old.front }
     ensures back { OnOk result (out.new.back ≡ out.old.back ++ rgb_text color) }
 {
-    out.push('#')?;
-    push_hex(out, color.r)?;
-    push_hex(out, color.g)?;
-    push_hex(out, color.b)
+    out.push_str("#")?;
+    push_rgb_digits(out, color)
 }
 
 /// Puts a colour last as CSS has it, without how opaque it is. Without memory the text is as it was.
@@ -60,14 +62,14 @@ pub fn push_rgb(out: &mut String, color: Color) -> Result<(), AllocError>
     }
 }
 
-/// Puts a colour last.
-fn push_color(out: &mut Tail, color: Color) -> Result<(), AllocError>
+/// Puts the digits of a colour last.
+fn push_digits(out: &mut Tail, color: Color) -> Result<(), AllocError>
     ensures front { out.new.front ≡ out.old.front }
-    ensures back { OnOk result (out.new.back ≡ out.old.back ++ color_text color) }
+    ensures back { OnOk result (out.new.back ≡ out.old.back ++ color_digits color) }
 {
-    put_rgb(out, color)?;
+    push_rgb_digits(out, color)?;
     if color.a != 255 {
-        push_hex(out, color.a)?;
+        out.push_str(hex_pair(color.a))?;
     }
     Ok(())
 }
@@ -111,15 +113,15 @@ fn push_if(out: &mut Tail, asked: bool, text: &str) -> Result<(), AllocError>
     Ok(())
 }
 
-/// Puts a property last whose value is a colour.
-#[tactic(auto, using(crate::proofs::SpanLaws::three_joined), unfolding(crate::specs::Spans::color_property))]
-fn push_property(out: &mut Tail, name: &str, color: Color) -> Result<(), AllocError>
+/// Puts the colour behind a text last.
+fn push_ground(out: &mut Tail, color: Color) -> Result<(), AllocError>
     ensures front { out.new.front ≡ out.old.front }
-    ensures back { OnOk result (out.new.back ≡ out.old.back ++ color_property name.now color) }
+    ensures back { OnOk result (out.new.back
+        ≡ out.old.back ++ color_property (codes "background-color:") color) }
 {
-    out.push_str(name)?;
-    push_color(out, color)?;
-    out.push(';')?;
+    out.push_str("background-color:#")?;
+    push_digits(out, color)?;
+    out.push_str(";")?;
     Ok(())
 }
 
@@ -130,7 +132,7 @@ fn push_background(out: &mut Tail, bg: IncludeBackground, style: Style) -> Resul
     ensures back { OnOk result (out.new.back ≡ out.old.back ++ background_text bg style) }
 {
     if tells_background(bg, style) {
-        push_property(out, "background-color:", style.background)?;
+        push_ground(out, style.background)?;
     }
     Ok(())
 }
@@ -148,18 +150,6 @@ fn push_flags(out: &mut Tail, font: FontStyle) -> Result<(), AllocError>
     Ok(())
 }
 
-/// Puts a style last, as CSS has it.
-#[tactic(auto, using(crate::proofs::SpanLaws::three_joined), unfolding(crate::specs::Spans::css))]
-fn push_css(out: &mut Tail, bg: IncludeBackground, style: Style) -> Result<(), AllocError>
-    ensures front { out.new.front ≡ out.old.front }
-    ensures back { OnOk result (out.new.back ≡ out.old.back ++ css bg style) }
-{
-    push_background(out, bg, style)?;
-    push_flags(out, style.font_style)?;
-    push_property(out, "color:", style.foreground)?;
-    Ok(())
-}
-
 /// Whether the text is white space alone.
 fn is_blank(text: &str) -> bool
     ensures { result ≡ is_blank text.now }
@@ -174,15 +164,34 @@ fn continues(before: Style, style: Style, text: &str) -> bool
     same_style(style, before) || (same_color(style.background, before.background) && is_blank(text))
 }
 
-/// Begins a span.
-#[tactic(auto, using(crate::proofs::SpanLaws::three_joined), unfolding(crate::specs::Spans::open_tag))]
-fn open_span(out: &mut Tail, bg: IncludeBackground, style: Style) -> Result<(), AllocError>
-    ensures front { out.new.front ≡ out.old.front }
-    ensures back { OnOk result (out.new.back ≡ out.old.back ++ open_tag bg style) }
+/// What stands before a span's style: the end of the span that is open, if one is, and the beginning of the tag. It is one
+/// text, since most spans follow another one.
+fn opening_of(last: Option<Style>) -> &'static str
+    ensures { result.now ≡ close_of last ++ codes "<span style=\"" }
 {
-    out.push_str("<span style=\"")?;
-    push_css(out, bg, style)?;
-    out.push_str("\">")?;
+    match last {
+        Some(_) => "</span><span style=\"",
+        None => "<span style=\"",
+    }
+}
+
+/// Ends the span that is open, if one is, and begins another one.
+fn open_span(
+    out: &mut Tail,
+    last: Option<Style>,
+    bg: IncludeBackground,
+    style: Style,
+) -> Result<(), AllocError>
+    ensures front { out.new.front ≡ out.old.front }
+    ensures back { OnOk result (out.new.back
+        ≡ out.old.back ++ (close_of last ++ open_tag bg style)) }
+{
+    out.push_str(opening_of(last))?;
+    push_background(out, bg, style)?;
+    push_flags(out, style.font_style)?;
+    out.push_str("color:#")?;
+    push_digits(out, style.foreground)?;
+    out.push_str(";\">")?;
     Ok(())
 }
 
@@ -226,8 +235,7 @@ fn push_piece(
             Ok(before)
         }
         None => {
-            close_span(out, last)?;
-            open_span(out, bg, style)?;
+            open_span(out, last, bg, style)?;
             out.push_escaped(text)?;
             Ok(style)
         }

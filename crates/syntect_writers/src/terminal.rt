@@ -59,6 +59,20 @@ fn push_piece(out: &mut String, style: Style, text: &str, bg: bool) -> Result<()
     out.push_str(text)
 }
 
+/// Puts styled pieces last, as `as_24_bit_terminal_escaped` shows them. Without memory a part of them may have been put there.
+pub fn push_24_bit_terminal_escaped(
+    out: &mut String,
+    v: &[(Style, &str)],
+    bg: bool,
+) -> Result<(), AllocError>
+    ensures { OnOk result (string_bytes out.new ≡ string_bytes out.old ++ terminal_text bg v.now) }
+{
+    for (style, text) in v {
+        push_piece(out, *style, *text, bg)?;
+    }
+    Ok(())
+}
+
 /// Styled pieces with the escape sequences of a terminal that has 24 bit colours; `bg` asks for the colours behind the
 /// text as well. What is not opaque is shown over the colour behind it. Nothing is put back to the terminal's own
 /// colours at the end.
@@ -70,8 +84,6 @@ pub fn as_24_bit_terminal_escaped(
     ensures { IfOk result (λ t. string_bytes t ≡ terminal_text bg v.now) }
 {
     let mut out = String::new(alloc);
-    for (style, text) in v {
-        push_piece(&mut out, *style, *text, bg)?;
-    }
+    push_24_bit_terminal_escaped(&mut out, v, bg)?;
     Ok(out)
 }

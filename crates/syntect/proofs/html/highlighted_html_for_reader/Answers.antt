@@ -1,7 +1,7 @@
 use Rattle.std.proofs.Common.{List, ℕ}
 use Rattle.syntect.specs.Pages.{HasNoPageOfBytes}
-use Rattle.syntect.specs.Rows.{IsTextOf}
-use Rattle.syntect.proofs.ReaderLaws.{HasStopped, err_on, stopped_page}
+use Rattle.syntect.specs.Rows.{IsTextOf, HasStopped}
+use Rattle.syntect.proofs.ReaderLaws.{err_on, stopped_page}
 use Rattle.syntect.proofs.html.highlighted_html_for_reader.Goals as goal
 
 pub returns-clause-page : goal.returns-clause-page

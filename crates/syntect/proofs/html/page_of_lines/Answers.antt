@@ -1,12 +1,12 @@
-use Rattle.std.proofs.Common.{rules, ◌++◌, List, [], ℕ, sym, ap, ◌∙◌, append-nil, string_bytes, Bor}
+use Rattle.std.proofs.Common.{rules, ◌++◌, List, [], ℕ, refl, sym, ap, ◌∙◌, append-nil, string_bytes, Bor}
 use Rattle.std.proofs.lemmas.Result.{err_from_is_err_and}
 use Rattle.syntect_theme.specs.declared.style.Style.{Style}
 use Rattle.syntect_theme.specs.declared.style.Color.{Color}
 use Rattle.syntect_writers.specs.Spans.{line_text, opening, background_of}
 use Rattle.syntect_writers.specs.declared.html.IncludeBackground.TheVariants.{IfDifferent}
 use Rattle.syntect.specs.Pages.{past_of}
-use Rattle.syntect.proofs.ReaderLaws.{gives_more, gives_nothing, bytes_more, bytes_whole, stopped_at_line, any_fault}
-use Rattle.syntect.proofs.RowLaws.{rows_begin, some_text}
+use Rattle.syntect.proofs.ReaderLaws.{gives_more, gives_nothing, bytes_more, bytes_whole, stopped_at_line, stopped_behind, any_fault}
+use Rattle.syntect.proofs.RowLaws.{rows_begin}
 use Rattle.syntect.proofs.html.page_of_lines.Goals as goal
 
 pub loop-init : goal.loop-init
@@ -57,25 +57,30 @@ loop-preserved g c = λ definitions syntax b l.
 
 pub returns-in_err-next_line-clause-refused : goal.returns-in_err-next_line-clause-refused
 returns-in_err-next_line-clause-refused g c = λ definitions syntax b l.
-    any_fault c.from_residual-in_err-next_line.result c.args.ss.now syntax (g.R.Read.remaining c.args.reader) (search rules)
+    let s = c.loop.invariant definitions syntax b l in
+    any_fault c.from_residual-in_err-next_line.result c.args.ss.now c.args.theme.now syntax (g.R.Read.remaining c.args.reader) (g.R.Read.remaining c.loop.reader) c.loop.bytes.items s.rows c.loop.highlighter s.read (search rules)
 
 pub returns-in_err-push_str-clause-refused : goal.returns-in_err-push_str-clause-refused
 returns-in_err-push_str-clause-refused g c = λ definitions syntax b l.
-    any_fault c.from_residual-in_err-push_str.result c.args.ss.now syntax (g.R.Read.remaining c.args.reader) (search rules)
+    let s = c.loop.invariant definitions syntax b l in
+    any_fault c.from_residual-in_err-push_str.result c.args.ss.now c.args.theme.now syntax (g.R.Read.remaining c.args.reader) (g.R.Read.remaining c.loop.reader) c.loop.bytes.items s.rows c.loop.highlighter s.read (search rules)
 
 pub returns-in_err-line-clause-refused : goal.returns-in_err-line-clause-refused
 returns-in_err-line-clause-refused g c = λ definitions syntax b l.
-    any_fault c.from_residual-in_err-line.result c.args.ss.now syntax (g.R.Read.remaining c.args.reader) (search rules)
+    let s = c.loop.invariant definitions syntax b l in
+    any_fault c.from_residual-in_err-line.result c.args.ss.now c.args.theme.now syntax (g.R.Read.remaining c.args.reader) (g.R.Read.remaining c.loop.reader) c.loop.bytes.items s.rows c.loop.highlighter s.read (search rules)
 
 pub returns-in_err-append_highlighted_html_for_styled_line-clause-refused : goal.returns-in_err-append_highlighted_html_for_styled_line-clause-refused
 returns-in_err-append_highlighted_html_for_styled_line-clause-refused g c = λ definitions syntax b l.
-    any_fault c.from_residual-in_err-append_highlighted_html_for_styled_line.result c.args.ss.now syntax (g.R.Read.remaining c.args.reader) (search rules)
+    let s = c.loop.invariant definitions syntax b l in
+    any_fault c.from_residual-in_err-append_highlighted_html_for_styled_line.result c.args.ss.now c.args.theme.now syntax (g.R.Read.remaining c.args.reader) (g.R.Read.remaining c.loop.reader) c.loop.bytes.items s.rows c.loop.highlighter s.read (search rules)
 
 pub returns-in_err-page-clause-refused : goal.returns-in_err-page-clause-refused
 returns-in_err-page-clause-refused g c = λ definitions syntax b l.
-    any_fault c.from_residual.result c.args.ss.now syntax (g.R.Read.remaining c.args.reader) (search rules)
+    let had = g.R.Read.remaining c.args.reader in
+    any_fault c.from_residual.result c.args.ss.now c.args.theme.now syntax had had [] [] c.args.highlighter (rows_begin c.args.ss.now c.args.theme.now syntax had [] c.args.highlighter l refl) (search rules)
 
 pub returns-clause-refused : goal.returns-clause-refused
 returns-clause-refused g c = λ definitions syntax b l.
-    let t = some_text (g.R.Read.remaining c.args.reader) in
-    (t.0, t.1, tt)
+    let s = c.loop.invariant definitions syntax b l in
+    stopped_behind c.args.ss.now c.args.theme.now syntax (g.R.Read.remaining c.args.reader) (g.R.Read.remaining c.loop.reader) c.loop.bytes.items s.rows c.loop.highlighter s.read

@@ -1,3 +1,4 @@
+use Rattle.syntect.proofs.ReaderLaws.{stopped_at_line, stopped_by_fault}
 use Rattle.syntect.proofs.RowLaws.{rows_begin, rows_go_on, rows_end}
 use Rattle.syntect.proofs.laws.rows_of_readers.Goals as goal
 
@@ -9,3 +10,9 @@ returns-clause-more c = rows_go_on
 
 pub returns-clause-all : goal.returns-clause-all
 returns-clause-all c = rows_end
+
+pub returns-clause-refuse : goal.returns-clause-refuse
+returns-clause-refuse c = stopped_at_line
+
+pub returns-clause-stop : goal.returns-clause-stop
+returns-clause-stop c = stopped_by_fault
