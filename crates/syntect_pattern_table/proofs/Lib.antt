@@ -7,4 +7,5 @@ pub mod StartLaws
 pub mod BeginLaws
 pub mod PlaceLaws
 pub mod LookLaws
+pub mod MarkLaws
 pub mod JumpLaws

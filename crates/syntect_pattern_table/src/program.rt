@@ -7,7 +7,7 @@ ghost use Rattle.syntect_pattern_table.specs.Starts.{AreFirsts, AreStarts};
 ghost use Rattle.syntect_pattern_table.specs.Jumps.{AreJumps};
 
 use crate::jumps::{Jump, jump_of, jumps_of, long_from};
-use crate::looks::{group_in, looks_of};
+use crate::looks::{looks_of, mark_at};
 use crate::node::Node;
 use crate::starts::{Places, flags_of, is_in, places_of, start_at};
 use memchr::memchr;
@@ -33,7 +33,7 @@ pub struct Program {
     pub jumps: Seq<Jump>,
     /// A byte that stands at the place of each match or behind it, if one is known.
     pub needed: Option<u8>,
-    /// Whether the first groups stand in lookarounds.
+    /// Whether the groups stand in lookarounds, the whole match aside. None of what is no group.
     pub looks: Seq<Option<bool>>,
     pub ghost ordered: { IsOrdered nodes },
     pub ghost begun: { AreFirsts firsts (trees nodes) },
@@ -96,14 +96,10 @@ impl Program {
     pub fn group(&self, number: usize) -> Option<bool>
         ensures { (tree : Tree) → IsProgramOf self.now tree → result ≡ group_in_look tree number }
     {
-        if let Some(found) = self.looks.get(number) {
-            return *found;
+        if number == 0 {
+            return Some(false);
         }
-        let nodes = self.nodes.as_slice();
-        if self.root >= nodes.len() {
-            return None;
-        }
-        group_in(nodes, self.root, number)
+        mark_at(self.looks.as_slice(), number)
     }
 
     /// Whether no match of the node begins at the place, as what stands there tells.
