@@ -7,7 +7,7 @@ pub mod CutLaws
 pub mod EnterLaws
 pub mod DeadLaws
 pub mod FirstLaws
-pub mod ReachLaws
+pub mod LookbehindLaws
 pub mod RunLaws
 pub mod FindLaws
 pub mod StretchLaws

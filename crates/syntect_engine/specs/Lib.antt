@@ -1,4 +1,4 @@
 pub mod Machine
 pub mod Stretches
-pub mod Reaches
+pub mod Lookbehinds
 pub mod Outlooks

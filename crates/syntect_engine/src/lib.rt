@@ -7,7 +7,6 @@ mod engine;
 mod enter;
 mod outlook;
 mod pass;
-mod reach;
 pub mod state;
 mod stretch;
 mod turns;

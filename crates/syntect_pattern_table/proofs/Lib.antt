@@ -9,3 +9,4 @@ pub mod PlaceLaws
 pub mod LookLaws
 pub mod MarkLaws
 pub mod JumpLaws
+pub mod LengthLaws

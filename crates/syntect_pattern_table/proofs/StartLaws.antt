@@ -96,7 +96,7 @@ and-both true b e h = h
 and-both false b e h = cc
 
 -- a set that holds a character beyond ASCII can do so
-wide-holds : (a : Set) (c : ℕ) → 128 ≤ c → holds a c ≡ true → is_wide a ≡ true
+pub wide-holds : (a : Set) (c : ℕ) → 128 ≤ c → holds a c ≡ true → is_wide a ≡ true
 wide-holds none c l e = cc
 wide-holds (range low high) c l e =
     let p = and_parts (nat_le low c) (nat_le c high) e in

@@ -3,6 +3,7 @@
 
 mod ascii;
 pub mod jumps;
+pub mod lengths;
 mod looks;
 pub mod node;
 pub mod program;

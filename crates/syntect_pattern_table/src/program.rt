@@ -5,8 +5,10 @@ ghost use Rattle.syntect_pattern_table.specs.Builder.{tree_in};
 ghost use Rattle.syntect_pattern_table.specs.Looks.{AreLooks};
 ghost use Rattle.syntect_pattern_table.specs.Starts.{AreFirsts, AreStarts};
 ghost use Rattle.syntect_pattern_table.specs.Jumps.{AreJumps};
+ghost use Rattle.syntect_pattern_table.specs.Lengths.{AreLengths};
 
 use crate::jumps::{Jump, jump_of, jumps_of, long_from};
+use crate::lengths::{Lengths, any_number, lengths_in};
 use crate::looks::{looks_of, mark_at};
 use crate::node::Node;
 use crate::starts::{Places, flags_of, is_in, places_of, start_at};
@@ -35,10 +37,13 @@ pub struct Program {
     pub needed: Option<u8>,
     /// Whether the groups stand in lookarounds, the whole match aside. None of what is no group.
     pub looks: Seq<Option<bool>>,
+    /// How many bytes matches of each node read. There are none where nothing looks back.
+    pub lengths: Seq<Lengths>,
     pub ghost ordered: { IsOrdered nodes },
     pub ghost begun: { AreFirsts firsts (trees nodes) },
     pub ghost jumping: { ∥ AreJumps jumps_from jumps (trees nodes) ∥₁ },
     pub ghost looked: { AreLooks nodes root looks },
+    pub ghost measured: { AreLengths lengths (trees nodes) },
 }
 
 impl Program {
@@ -47,6 +52,7 @@ impl Program {
     ghost use Rattle.syntect_pattern_table.specs.Table.{node_tree};
     ghost use Rattle.syntect_pattern_table.specs.Program.{trees_of, IsProgramOf, CannotBegin};
     ghost use Rattle.syntect_pattern_table.specs.Jumps.{LeadsPast};
+    ghost use Rattle.syntect_pattern_table.specs.Lengths.{HasLengths};
     ghost use Rattle.syntect_pattern.specs.Matches.{Groups, matches};
 
     /// The program whose whole match is the node at the root.
@@ -72,6 +78,7 @@ impl Program {
         let jumps_from = long_from(nodes.as_slice());
         let jumps = jumps_of(alloc, nodes.as_slice(), firsts.as_slice(), jumps_from)?;
         let looks = looks_of(alloc, nodes.as_slice(), root, groups)?;
+        let lengths = lengths_in(alloc, nodes.as_slice())?;
         Ok(Program {
             nodes,
             root,
@@ -82,6 +89,7 @@ impl Program {
             jumps,
             needed,
             looks,
+            lengths,
         })
     }
 
@@ -100,6 +108,16 @@ impl Program {
             return Some(false);
         }
         mark_at(self.looks.as_slice(), number)
+    }
+
+    /// How many bytes matches of the node read, if that is known.
+    pub fn length_of(&self, node: usize) -> Lengths
+        ensures { HasLengths (slice_index_or (trees_of self.now) node nothing) result }
+    {
+        match self.lengths.get(node) {
+            Some(lengths) => *lengths,
+            None => any_number(),
+        }
     }
 
     /// Whether no match of the node begins at the place, as what stands there tells.
