@@ -10,3 +10,4 @@ pub mod LookLaws
 pub mod MarkLaws
 pub mod JumpLaws
 pub mod LengthLaws
+pub mod CopyLaws

@@ -7,3 +7,4 @@ pub mod Needs
 pub mod Looks
 pub mod Jumps
 pub mod Lengths
+pub mod Copies

@@ -2,6 +2,7 @@
 #![tactic(auto)]
 
 mod ascii;
+mod copies;
 pub mod jumps;
 pub mod lengths;
 mod looks;

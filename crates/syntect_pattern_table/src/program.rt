@@ -7,6 +7,7 @@ ghost use Rattle.syntect_pattern_table.specs.Starts.{AreFirsts, AreStarts};
 ghost use Rattle.syntect_pattern_table.specs.Jumps.{AreJumps};
 ghost use Rattle.syntect_pattern_table.specs.Lengths.{AreLengths};
 
+use crate::copies::copies_of;
 use crate::jumps::{Jump, jump_of, jumps_of, long_from};
 use crate::lengths::{Lengths, any_number, lengths_in};
 use crate::looks::{looks_of, mark_at};
@@ -88,6 +89,31 @@ impl Program {
             jumps_from,
             jumps,
             needed,
+            looks,
+            lengths,
+        })
+    }
+
+    /// A program that is that of the same trees.
+    pub fn clone(&self, alloc: Global) -> Result<Program, AllocError>
+        ensures { IfOk result (λ p. (tree : Tree) → IsProgramOf self.now tree
+            → IsProgramOf p tree) }
+    {
+        let nodes = copies_of(alloc, self.nodes.as_slice())?;
+        let starts = Seq::from_slice(alloc, self.starts.as_slice())?;
+        let firsts = Seq::from_slice(alloc, self.firsts.as_slice())?;
+        let jumps = Seq::from_slice(alloc, self.jumps.as_slice())?;
+        let looks = Seq::from_slice(alloc, self.looks.as_slice())?;
+        let lengths = Seq::from_slice(alloc, self.lengths.as_slice())?;
+        Ok(Program {
+            nodes,
+            root: self.root,
+            groups: self.groups,
+            starts,
+            firsts,
+            jumps_from: self.jumps_from,
+            jumps,
+            needed: self.needed,
             looks,
             lengths,
         })
