@@ -13,3 +13,4 @@ pub mod FindLaws
 pub mod StretchLaws
 pub mod PassLaws
 pub mod KnowLaws
+pub mod LineLaws

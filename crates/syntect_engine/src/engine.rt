@@ -3,6 +3,7 @@ ghost use Rattle.std.specs.Prelude.{◌≡◌, ◌≤◌, IfOk, OnOk, slice_inde
 ghost use Rattle.syntect_engine.specs.Machine.{FindsAt};
 
 use crate::dead::is_dead;
+use crate::lines::{is_at_lines, next_start};
 use crate::outlook::Outlook;
 use crate::state::{Next, Search};
 use std::alloc::AllocError;
@@ -154,10 +155,11 @@ impl Search {
             return Ok(false);
         };
         let mut outlook = Outlook::new(*self.frames.allocator(), program, text);
+        let lines = is_at_lines(program);
         let mut place = begin;
         let mut behind = first;
         while place <= text.len() {
-            place = program.next_start(text, place);
+            place = next_start(program, text, place, text.len(), lines);
             if place >= behind {
                 let Some(next) = program.behind_needed(text, place) else {
                     return Ok(false);
@@ -191,10 +193,11 @@ impl Search {
             text.len()
         };
         let mut outlook = Outlook::new(*self.frames.allocator(), program, text);
+        let lines = is_at_lines(program);
         let mut place = begin;
         let mut behind = 0;
         while place <= last && place <= text.len() {
-            place = program.next_start_up_to(text, place, end);
+            place = next_start(program, text, place, end, lines);
             if place > last {
                 return Ok(false);
             }

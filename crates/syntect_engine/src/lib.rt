@@ -5,6 +5,7 @@ mod back;
 mod dead;
 mod engine;
 mod enter;
+mod lines;
 mod outlook;
 mod pass;
 pub mod state;

@@ -209,16 +209,6 @@ impl Program {
         }
     }
 
-    /// The first place from this one on where a match can begin, as far as the bytes tell, or the text's end.
-    pub fn next_start(&self, text: &str, place: usize) -> usize
-        requires { place ≤ length text.now }
-        ensures later { place ≤ result }
-        ensures inside { result ≤ length text.now }
-        ensures skipped { (k : ℕ) → place ≤ k → k < result → CannotBegin text.now self.now k }
-    {
-        next_flagged(self.starts.as_slice(), text.as_bytes(), place, text.len())
-    }
-
     /// The first place from this one on where a match can begin, as far as the bytes up to `end` tell, or `end`.
     pub fn next_start_up_to(&self, text: &str, place: usize, end: usize) -> usize
         requires order { place ≤ end }
