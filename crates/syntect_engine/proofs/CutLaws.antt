@@ -10,8 +10,8 @@ use Rattle.syntect_engine.specs.declared.state.Cell.{Cell}
 use Rattle.syntect_engine.specs.declared.state.Next.{Next}
 use Rattle.syntect_engine.specs.declared.state.Search.{Search}
 use Rattle.syntect_engine.specs.declared.state.Frame.{Frame}
-use Rattle.syntect_engine.specs.Machine.{Work, On, one, tick, both, outcome, bounded, at_places, at_start, list_at, search, tree_at, pending, now, total, FramesFit, ListFits, Fits, Goes, found_by, steps_of, bound_of, uncut, next_of, place_of, Cuts}
-use Rattle.syntect_engine.proofs.MachineLaws.{list_at-append, pending-append, pending-tick, FramesFit-more}
+use Rattle.syntect_engine.specs.Machine.{Work, On, one, tick, both, outcome, bounded, at_places, at_start, list_at, search, tree_at, pending, now, total, FramesFit, ListFits, Fits, Goes, found_by, steps_of, bound_of, uncut, cells_before, next_of, place_of, Cuts}
+use Rattle.syntect_engine.proofs.MachineLaws.{list_at-append, pending-append, pending-tick, CellsFit-take, FramesFit-more}
 use Rattle.syntect_engine.proofs.WorkLaws.{ticks, found-ticks, count-ticks, same_work}
 use Rattle.syntect_engine.proofs.StepLaws.{pending-ticks}
 use Rattle.syntect_engine.proofs.RunLaws.{found_by-found}
@@ -71,6 +71,23 @@ module _ (s : List ℕ) (ts : List Tree) where
   bound-fits b n (Frame.Within o k i len ∷ fs) h e =
       let is : (o, k, i) ≡ b = ap (λ (x : Option Part). option_map_or (λ (c : Part). c) x b) e in
       subst (λ (c : Part). (c.1 ≤ n) × IsCharBoundary s c.2) is (omega arith, h.2)
+
+  -- What is needed behind the part: its list, and those of the frames that are kept.
+  record Needed (b : Part) (n : ℕ) (fs : List Frame) : Type 0 where
+    pub fewer : cells_before fs ≤ n
+    pub list : b.1 ≤ cells_before fs
+    pub frames : FramesFit s (cells_before fs) (uncut fs)
+
+  needed : (b : Part) (n : ℕ) (fs : List Frame) → FramesFit s n fs → bound_of fs ≡ Some b → Needed b n fs
+  needed b n [] h e = cc
+  needed b n (Frame.Enter m k i len ∷ fs) h e = let r = needed b len fs h.3 e in record { fewer = omega (arith, r.fewer, h.1); list = r.list; frames = r.frames }
+  needed b n (Frame.Leave k i len ∷ fs) h e = let r = needed b len fs h.3 e in record { fewer = omega (arith, r.fewer, h.1); list = r.list; frames = r.frames }
+  needed b n (Frame.Stretch k c i len ∷ fs) h e = let r = needed b len fs h.3 e in record { fewer = omega (arith, r.fewer, h.1); list = r.list; frames = r.frames }
+  needed b n (Frame.Starts m k c i len ∷ fs) h e = let r = needed b len fs h.2 e in record { fewer = omega (arith, r.fewer, h.1); list = r.list; frames = r.frames }
+  needed b n (Frame.Restore m old ∷ fs) h e = let r = needed b n fs h.1 e in record { fewer = r.fewer; list = r.list; frames = (h.0, r.frames) }
+  needed b n (Frame.Within o k i len ∷ fs) h e =
+      let is : (o, k, i) ≡ b = ap (λ (x : Option Part). option_map_or (λ (c : Part). c) x b) e in
+      record { fewer = h.1; list = subst (λ (c : Part). c.1 ≤ len) is h.0; frames = h.3 }
 
   -- a choice of the part goes
   forgets-choice : (b : Part) (xs : List Cell) (len : ℕ) (g h : Groups) (fs : List Frame) (i : ℕ) (w x : Work)
@@ -157,22 +174,29 @@ module _ (s : List ℕ) (ts : List Tree) where
       let g : Groups = old.groups.items in
       let i : ℕ = old.place in
       let fit = bound-fits b (length xs) fs hf.frames hb in
+      let need = needed b (length xs) fs hf.frames hb in
+      let len : ℕ = cells_before fs in
+      let ys : List Cell = take len xs in
+      let count : length ys ≡ len = length-take-le len xs need.fewer in
       let r = forget b xs g g fs i (one i g) hb hf.frames refl in
-      let after : total s ts next new ≡ pending s ts xs g (uncut fs) (went b xs i g) =
+      let after : total s ts next new ≡ pending s ts ys g (uncut fs) (went b ys i g) =
       ap (λ (n : Next). total s ts n new) h.next_is
       ∙ ap (λ (zs : List Cell). pending s ts zs new.groups.items (reverse new.frames.items) (now s ts (next_of b) zs new.place new.groups.items)) h.cells
-      ∙ ap (λ (q : Groups). pending s ts xs q (reverse new.frames.items) (now s ts (next_of b) xs new.place q)) h.groups
-      ∙ ap (λ (rs : List Frame). pending s ts xs g rs (now s ts (next_of b) xs new.place g)) h.frames
-      ∙ ap (λ (j : ℕ). pending s ts xs g (uncut fs) (now s ts (next_of b) xs j g)) h.place in
+      ∙ ap (λ (q : Groups). pending s ts ys q (reverse new.frames.items) (now s ts (next_of b) ys new.place q)) h.groups
+      ∙ ap (λ (rs : List Frame). pending s ts ys g rs (now s ts (next_of b) ys new.place g)) h.frames
+      ∙ ap (λ (j : ℕ). pending s ts ys g (uncut fs) (now s ts (next_of b) ys j g)) h.place in
+      let same : pending s ts xs g (uncut fs) (went b xs i g) ≡ pending s ts ys g (uncut fs) (went b ys i g) =
+      pending-take xs len g (uncut fs) (went b xs i g) need.fewer need.frames
+      ∙ ap (pending s ts ys g (uncut fs)) (went-take b.0 b.1 b.2 xs len g i need.fewer need.list) in
       let fewer : (pending s ts xs g (uncut fs) (went b xs i g)).count + 0 < (pending s ts xs g fs (one i g)).count = r.fewer in
-      let steps : steps_of s ts next new < steps_of s ts Next.Found old = omega (arith, ap (λ (v : Work). v.count) after) in
+      let steps : steps_of s ts next new < steps_of s ts Next.Found old = omega (arith, ap (λ (v : Work). v.count) after, ap (λ (v : Work). v.count) same) in
       record {
-        found = ap (λ (v : Work). v.found) after ∙ r.found;
+        found = ap (λ (v : Work). v.found) (after ∙ sym same) ∙ r.found;
         fewer = steps;
         fits = record {
-          cells = rw h.cells hf.cells;
-          frames = rw (h.cells, h.frames) (FramesFit-uncut (length xs) fs hf.frames);
-          list = rw (h.next_is, h.cells) (list-fits b (length xs) fit.0);
+          cells = rw h.cells (CellsFit-take s xs len hf.cells);
+          frames = rw (h.cells, h.frames, count) need.frames;
+          list = rw (h.next_is, h.cells, count) (list-fits b len need.list);
           place = rw h.place (place-fits b i fit.1 hf.place);
           groups = rw h.groups hf.groups;
         };

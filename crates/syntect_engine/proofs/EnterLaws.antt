@@ -17,7 +17,7 @@ use Rattle.syntect_engine.specs.Machine.{Work, On, none, done, tick, both, work_
 use Rattle.syntect_ways.specs.Steps.{at_end, after_char}
 use Rattle.syntect_engine.proofs.StepLaws.{goes_by, goes_to, goes_on, goes_cons, goes_choice, pending-ticks}
 use Rattle.syntect_engine.proofs.MachineLaws.{list_at-nil, list_at-seam, pending-less, CellsFit-push}
-use Rattle.syntect_engine.proofs.ReachLaws.{Few}
+use Rattle.syntect_engine.proofs.LookbehindLaws.{Few}
 use Rattle.syntect_engine.proofs.WorkLaws.{both-none, both-none_right}
 
 module _ (s : List ℕ) (ts : List Tree) (node k : ℕ) where
@@ -170,12 +170,12 @@ module _ (s : List ℕ) (ts : List Tree) (node k : ℕ) where
       (ap (λ (v : Work). v.found) same, omega (arith, ap (λ (v : Work). v.count) same))
 
   -- a part begins that is to end at the place; so many starts are enough
-  pub goes_behind : (old new : Search) (negated : Bool) (a n : ℕ) → tree_at s ts node ≡ behind negated (tree_at s ts a) → Fits s (Next.Enter node k) old
-      → Few (at_places (at_start s (search s (tree_at s ts a)) (ends_at old.place done)) n old.place old.groups.items) (at_places (at_start s (search s (tree_at s ts a)) (ends_at old.place done)) (suc old.place) old.place old.groups.items)
-      → new.frames.items ≡ old.frames.items ++ Frame.Within (look_bound negated) k old.place (length old.cells.items) ∷ Frame.Starts a (length new.cells.items) n old.place (length new.cells.items) ∷ []
+  pub goes_behind : (old new : Search) (negated : Bool) (a n from : ℕ) → tree_at s ts node ≡ behind negated (tree_at s ts a) → Fits s (Next.Enter node k) old
+      → Few (at_places (at_start s (search s (tree_at s ts a)) (ends_at old.place done)) n from old.groups.items) (at_places (at_start s (search s (tree_at s ts a)) (ends_at old.place done)) (suc old.place) old.place old.groups.items)
+      → new.frames.items ≡ old.frames.items ++ Frame.Within (look_bound negated) k old.place (length old.cells.items) ∷ Frame.Starts a (length new.cells.items) n from (length new.cells.items) ∷ []
       → new.cells.items ≡ old.cells.items ++ record { item = EndsAt old.place; next = 0 } ∷ [] → new.place ≡ old.place → new.groups.items ≡ old.groups.items
       → Goes s ts (Next.Enter node k) old Next.Fail new
-  goes_behind old new negated a n is hf few hr hc hi hg =
+  goes_behind old new negated a n from is hf few hr hc hi hg =
       let xs : List Cell = old.cells.items in
       let g : Groups = old.groups.items in
       let i : ℕ = old.place in
@@ -185,22 +185,22 @@ module _ (s : List ℕ) (ts : List Tree) (node k : ℕ) where
       let B : Bound = look_bound negated in
       let K : On = list_at s ts xs k in
       let S : On → On = at_start s (search s (tree_at s ts a)) in
-      let F : Work = at_places (S (ends_at i done)) n i g in
+      let F : Work = at_places (S (ends_at i done)) n from g in
       let W : Work = at_places (S (ends_at i done)) (suc i) i g in
       let long : length ys ≡ suc (length xs) = omega (arith, length-append xs (c ∷ [])) in
       let ends : list_at s ts ys (length ys) ≡ ends_at i done =
       ap (list_at s ts ys) long ∙ list_at-seam s ts xs c [] ∙ ap (ends_at i) (list_at-nil s ts xs) in
-      let frames : reverse new.frames.items ≡ Frame.Starts a (length ys) n i (length ys) ∷ Frame.Within B k i (length xs) ∷ fs =
-      ap reverse hr ∙ reverse-append old.frames.items (Frame.Within B k i (length xs) ∷ Frame.Starts a (length new.cells.items) n i (length new.cells.items) ∷ [])
-      ∙ ap (λ (zs : List Cell). Frame.Starts a (length zs) n i (length zs) ∷ Frame.Within B k i (length xs) ∷ fs) hc in
+      let frames : reverse new.frames.items ≡ Frame.Starts a (length ys) n from (length ys) ∷ Frame.Within B k i (length xs) ∷ fs =
+      ap reverse hr ∙ reverse-append old.frames.items (Frame.Within B k i (length xs) ∷ Frame.Starts a (length new.cells.items) n from (length new.cells.items) ∷ [])
+      ∙ ap (λ (zs : List Cell). Frame.Starts a (length zs) n from (length zs) ∷ Frame.Within B k i (length xs) ∷ fs) hc in
       let before : total s ts (Next.Enter node k) old ≡ pending s ts xs g fs (tick (tick (bounded B (tick W) K i g))) =
       ap (pending s ts xs g fs) (entered old (behind negated (tree_at s ts a)) is) in
       let after : total s ts Next.Fail new ≡ pending s ts xs g fs (tick (bounded B (tick F) K i g)) =
       ap (λ (zs : List Cell). pending s ts zs new.groups.items (reverse new.frames.items) none) hc
       ∙ ap (λ (q : Groups). pending s ts ys q (reverse new.frames.items) none) hg
       ∙ ap (λ (rs : List Frame). pending s ts ys g rs none) frames
-      ∙ ap (λ (zs : List Cell). pending s ts zs g (Frame.Within B k i (length xs) ∷ fs) (both none (tick (at_places (S (list_at s ts zs (length ys))) n i g)))) (take-length ys)
-      ∙ ap (λ (l : On). pending s ts ys g (Frame.Within B k i (length xs) ∷ fs) (both none (tick (at_places (S l) n i g)))) ends
+      ∙ ap (λ (zs : List Cell). pending s ts zs g (Frame.Within B k i (length xs) ∷ fs) (both none (tick (at_places (S (list_at s ts zs (length ys))) n from g)))) (take-length ys)
+      ∙ ap (λ (l : On). pending s ts ys g (Frame.Within B k i (length xs) ∷ fs) (both none (tick (at_places (S l) n from g)))) ends
       ∙ ap (λ (w : Work). pending s ts ys g (Frame.Within B k i (length xs) ∷ fs) w) (both-none (tick F))
       ∙ ap (λ (zs : List Cell). pending s ts zs g fs (tick (bounded B (tick F) (list_at s ts zs k) i g))) (take-append_seam xs (c ∷ [])) in
       let step = bounded-few B F W K i g few in
@@ -233,16 +233,16 @@ module _ (s : List ℕ) (ts : List Tree) (node k : ℕ) where
       rw hn (goes_ahead old new negated a is hf (hr ∙ ap (λ (c : Bound). old.frames.items ++ Frame.Within c k old.place (length old.cells.items) ∷ []) hb) ho)
   ahead-ok (Err e) old new negated b a is hf hb hr ho hn = tt
 
-  pub behind-ok : {E : Type 0} (r : Result Next E) (old new : Search) (negated : Bool) (b : Bound) (a n : ℕ) → tree_at s ts node ≡ behind negated (tree_at s ts a) → Fits s (Next.Enter node k) old → b ≡ look_bound negated
-      → Few (at_places (at_start s (search s (tree_at s ts a)) (ends_at old.place done)) n old.place old.groups.items) (at_places (at_start s (search s (tree_at s ts a)) (ends_at old.place done)) (suc old.place) old.place old.groups.items)
-      → OnOk r (new.frames.items ≡ old.frames.items ++ Frame.Within b k old.place (length old.cells.items) ∷ Frame.Starts a (length new.cells.items) n old.place (length new.cells.items) ∷ [])
+  pub behind-ok : {E : Type 0} (r : Result Next E) (old new : Search) (negated : Bool) (b : Bound) (a n from : ℕ) → tree_at s ts node ≡ behind negated (tree_at s ts a) → Fits s (Next.Enter node k) old → b ≡ look_bound negated
+      → Few (at_places (at_start s (search s (tree_at s ts a)) (ends_at old.place done)) n from old.groups.items) (at_places (at_start s (search s (tree_at s ts a)) (ends_at old.place done)) (suc old.place) old.place old.groups.items)
+      → OnOk r (new.frames.items ≡ old.frames.items ++ Frame.Within b k old.place (length old.cells.items) ∷ Frame.Starts a (length new.cells.items) n from (length new.cells.items) ∷ [])
       → OnOk r (new.cells.items ≡ old.cells.items ++ record { item = EndsAt old.place; next = 0 } ∷ []) → new.place ≡ old.place → new.groups.items ≡ old.groups.items
       → IfOk r (λ next. next ≡ Next.Fail) → IfOk r (λ next. Goes s ts (Next.Enter node k) old next new)
-  behind-ok (Ok next) old new negated b a n is hf hb few hr hc hi hg hn =
-      rw hn (goes_behind old new negated a n is hf few
-      (hr ∙ ap (λ (c : Bound). old.frames.items ++ Frame.Within c k old.place (length old.cells.items) ∷ Frame.Starts a (length new.cells.items) n old.place (length new.cells.items) ∷ []) hb)
+  behind-ok (Ok next) old new negated b a n from is hf hb few hr hc hi hg hn =
+      rw hn (goes_behind old new negated a n from is hf few
+      (hr ∙ ap (λ (c : Bound). old.frames.items ++ Frame.Within c k old.place (length old.cells.items) ∷ Frame.Starts a (length new.cells.items) n from (length new.cells.items) ∷ []) hb)
       hc hi hg)
-  behind-ok (Err e) old new negated b a n is hf hb few hr hc hi hg hn = tt
+  behind-ok (Err e) old new negated b a n from is hf hb few hr hc hi hg hn = tt
 
   -- a loop takes its first turn
   pub goes_repeat : (x : Search) (greedy : Bool) (least left : ℕ) (most : Option ℕ) (a : ℕ) → tree_at s ts node ≡ repeat greedy least most (tree_at s ts a) → Fits s (Next.Enter node k) x

@@ -7,9 +7,10 @@ pub mod CutLaws
 pub mod EnterLaws
 pub mod DeadLaws
 pub mod FirstLaws
-pub mod ReachLaws
 pub mod StepsLaws
+pub mod LookbehindLaws
 pub mod RunLaws
 pub mod FindLaws
 pub mod StretchLaws
 pub mod PassLaws
+pub mod LineLaws

@@ -1,4 +1,5 @@
 pub mod Machine
 pub mod Stretches
-pub mod Reaches
 pub mod Steps
+pub mod Lookbehinds
+pub mod Lines

@@ -343,6 +343,16 @@ uncut (Starts node k n i len ∷ fs) = uncut fs
 uncut (Within b k i len ∷ fs) = fs
 uncut (Restore n old ∷ fs) = Restore n old ∷ uncut fs
 
+-- how many cells there were when that part began
+abbrev pub cells_before : List Frame → ℕ
+cells_before [] = 0
+cells_before (Enter n k i len ∷ fs) = cells_before fs
+cells_before (Leave k i len ∷ fs) = cells_before fs
+cells_before (Stretch k n i len ∷ fs) = cells_before fs
+cells_before (Starts node k n i len ∷ fs) = cells_before fs
+cells_before (Within b k i len ∷ fs) = len
+cells_before (Restore n old ∷ fs) = cells_before fs
+
 -- what comes behind the first match of that part, and where
 abbrev pub next_of : Bound × ℕ × ℕ → Next
 next_of (Bound.Whole, k, i) = Next.Leave k
@@ -354,11 +364,11 @@ place_of (Bound.Whole, k, i) j = j
 place_of (Bound.Holds, k, i) j = i
 place_of (Bound.Fails, k, i) j = j
 
--- the part is cut
+-- the part is cut, and its cells are taken off
 pub record Cuts (b : Bound × ℕ × ℕ) (old : Search) (next : Next) (new : Search) : Type 0 where
   pub next_is : next ≡ next_of b
   pub place : new.place ≡ place_of b old.place
-  pub cells : new.cells.items ≡ old.cells.items
+  pub cells : new.cells.items ≡ take (cells_before (reverse old.frames.items)) old.cells.items
   pub groups : new.groups.items ≡ old.groups.items
   pub frames : reverse new.frames.items ≡ uncut (reverse old.frames.items)
 

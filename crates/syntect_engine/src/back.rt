@@ -1,5 +1,5 @@
 //! What follows a node, and what a search comes back to.
-ghost use Rattle.std.specs.Prelude.{◌≡◌, ℕ, ◌++◌, ◌∷◌, [], ◌<◌, ◌≤◌, length, IfOk, IfSome, IfNone, IsSome, OnOk, reverse, slice_index_or, slice_set, None, Some, Option};
+ghost use Rattle.std.specs.Prelude.{◌≡◌, ℕ, ◌++◌, ◌∷◌, [], ◌<◌, ◌≤◌, length, take, IfOk, IfSome, IfNone, IsSome, OnOk, reverse, slice_index_or, slice_set, None, Some, Option};
 
 use crate::state::{Bound, Frame, Item, Next, Search};
 use std::alloc::AllocError;
@@ -205,7 +205,7 @@ impl Search {
     }
 
     /// A match is found: what follows it, if it is that of a part of which the first match counts alone. What that part
-    /// could still try is forgotten. None if the match is the whole one.
+    /// could still try is forgotten, and its cells are. None if the match is the whole one.
     pub fn finish(&mut self) -> Result<Option<Next>, AllocError>
         ensures whole { IfOk result (λ found. IfNone found ((bound_of (reverse self.old.frames.items) ≡ None) × (self.new.place ≡ self.old.place) × (self.new.groups.items ≡ self.old.groups.items))) }
         ensures part { IfOk result (λ found. IfSome found (λ next. IfSome (bound_of (reverse self.old.frames.items)) (λ b. Cuts b self.old next self.new))) }
@@ -221,10 +221,10 @@ impl Search {
                     bound,
                     list,
                     place,
-                    cells: _,
+                    cells,
                 } => {
                     self.give_back(&mut kept)?;
-                    return Ok(Some(self.go_out(bound, list, place)));
+                    return Ok(Some(self.go_out(bound, list, place, cells)));
                 }
                 Frame::Restore { group, old } => kept.push(Frame::Restore { group, old })?,
                 _ => {}
@@ -243,11 +243,15 @@ impl Search {
         Ok(())
     }
 
-    /// What follows the first match of a part that began at the place.
-    fn go_out(&mut self, bound: Bound, list: usize, place: usize) -> Next
+    /// What follows the first match of a part that began at the place, with so many cells.
+    fn go_out(&mut self, bound: Bound, list: usize, place: usize, cells: usize) -> Next
         ensures next { result ≡ next_of (bound, list, place) }
-        ensures place { self.new ≡ record self.old { place = place_of (bound, list, place) self.old.place } }
+        ensures place { self.new.place ≡ place_of (bound, list, place) self.old.place }
+        ensures cells { self.new.cells.items ≡ take cells self.old.cells.items }
+        ensures frames { self.new.frames ≡ self.old.frames }
+        ensures groups { self.new.groups ≡ self.old.groups }
     {
+        self.cells.truncate(cells);
         match bound {
             Bound::Whole => Next::Leave { list },
             Bound::Holds => {

@@ -3,6 +3,7 @@ ghost use Rattle.std.specs.Prelude.{◌≡◌, ◌≤◌, IfOk, IfSome, slice_in
 ghost use Rattle.syntect_engine.specs.Machine.{FindsAt};
 
 use crate::dead::is_dead;
+use crate::lines::{is_at_lines, next_start};
 use crate::state::{Next, Search};
 use crate::steps::Steps;
 use std::alloc::AllocError;
@@ -132,10 +133,11 @@ impl Search {
         let Some(first) = program.behind_needed(text, begin) else {
             return Ok(Some(false));
         };
+        let lines = is_at_lines(program);
         let mut place = begin;
         let mut behind = first;
         while place <= text.len() {
-            place = program.next_start(text, place);
+            place = next_start(program, text, place, text.len(), lines);
             if place >= behind {
                 let Some(next) = program.behind_needed(text, place) else {
                     return Ok(Some(false));
@@ -172,10 +174,11 @@ impl Search {
         } else {
             text.len()
         };
+        let lines = is_at_lines(program);
         let mut place = begin;
         let mut behind = 0;
         while place <= last && place <= text.len() {
-            place = program.next_start_up_to(text, place, end);
+            place = next_start(program, text, place, end, lines);
             if place > last {
                 return Ok(Some(false));
             }

@@ -2,11 +2,10 @@
 ghost use Rattle.std.specs.Prelude.{◌≡◌, List, ℕ, ◌-◌, ◌<◌, ◌^◌, ◌++◌, ◌∷◌, [], length, OnOk, IfOk, IfSome, IfNone, slice_index_or, None, Option, IsCharBoundary, suc, true, false};
 ghost use Rattle.syntect_engine.specs.Machine.{look_bound};
 ghost use Rattle.syntect_ways.specs.Steps.{at_end};
-ghost use Rattle.syntect_engine.specs.Reaches.{AreEnough};
+ghost use Rattle.syntect_engine.specs.Lookbehinds.{AreEnough};
 ghost use Rattle.syntect_pattern_table.specs.Program.{trees_of};
 ghost use Rattle.syntect_pattern.specs.Trees.{nothing};
 
-use crate::reach::reach;
 use crate::state::{Bound, Frame, Item, Next, Search, Turns};
 use crate::stretch::stretch;
 use std::alloc::AllocError;
@@ -16,17 +15,21 @@ use syntect_ways::anchor::stands;
 use syntect_ways::past::{past_char, past_class};
 use syntect_ways::text::past_text;
 
-/// How many parts of a pattern can lie in one another where it is told how far a lookbehind reaches.
-const REACH_DEPTH: u32 = 32;
-
-/// At how many places, from this one backwards, a match of the node can begin that ends at the place.
-fn starts_before(program: &Program, place: usize, node: usize) -> usize
+/// The last place where a match of the node can begin that ends at the place, and at how many places, from that one backwards,
+/// one can.
+fn starts_before(program: &Program, place: usize, node: usize) -> (usize, usize)
     requires { place < 2 ^ 64 - 1 }
-    ensures { AreEnough (slice_index_or (trees_of program.now) node nothing) place result }
+    ensures { AreEnough (slice_index_or (trees_of program.now) node nothing) place result.0 result.1 }
 {
-    match reach(program, node, REACH_DEPTH) {
-        Some(far) => far.min(place) + 1,
-        None => place + 1,
+    let lengths = program.length_of(node);
+    let least = lengths.least as usize;
+    if least > place {
+        return (place, 0);
+    }
+    let from = place - least;
+    match lengths.most {
+        Some(most) => (from, (most as usize).saturating_sub(least).min(from) + 1),
+        None => (from, from + 1),
     }
 }
 
@@ -171,8 +174,8 @@ impl Search {
             Node::Atomic(body) => self.enter_part(Bound::Whole, *body, list),
             Node::Ahead { negated, body } => self.enter_part(look_bound(*negated), *body, list),
             Node::Behind { negated, body } => {
-                let count = starts_before(program, self.place, *body);
-                self.enter_behind(look_bound(*negated), *body, count, list)
+                let (from, count) = starts_before(program, self.place, *body);
+                self.enter_behind(look_bound(*negated), *body, from, count, list)
             }
         }
     }
@@ -210,15 +213,16 @@ impl Search {
         })
     }
 
-    /// Begins a part that is to end at the place, at so many places, from this one backwards.
+    /// Begins a part that is to end at the place, at so many places, from the one backwards.
     fn enter_behind(
         &mut self,
         bound: Bound,
         body: usize,
+        from: usize,
         count: usize,
         list: usize,
     ) -> Result<Next, AllocError>
-        ensures frames { OnOk result (self.new.frames.items ≡ self.old.frames.items ++ Frame.Within bound list self.old.place (length self.old.cells.items) ∷ Frame.Starts body (length self.new.cells.items) count self.old.place (length self.new.cells.items) ∷ []) }
+        ensures frames { OnOk result (self.new.frames.items ≡ self.old.frames.items ++ Frame.Within bound list self.old.place (length self.old.cells.items) ∷ Frame.Starts body (length self.new.cells.items) count from (length self.new.cells.items) ∷ []) }
         ensures cells { OnOk result (self.new.cells.items ≡ self.old.cells.items ++ record { item = Item.EndsAt self.old.place; next = 0 } ∷ []) }
         ensures place { self.new.place ≡ self.old.place }
         ensures groups { self.new.groups.items ≡ self.old.groups.items }
@@ -237,7 +241,7 @@ impl Search {
             node: body,
             list: ends,
             count,
-            place,
+            place: from,
             cells: self.cells.len(),
         };
         self.save(frame)?;

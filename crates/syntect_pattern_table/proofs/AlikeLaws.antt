@@ -1,13 +1,16 @@
 -- The characters of equal simple folding with one of a range.
 use Rattle.std.proofs.Common.{◌≡◌, ℕ, zero, suc, ◌+◌, ◌-◌, ◌≤◌, ◌<◌, Bool, true, false, ◌||◌, refl, ap, arith, ◌⊎◌, inl, inr, ⊎_elim}
-use Rattle.std.specs.List.{list_any}
-use Rattle.std.specs.Prelude.{◌&&◌, ◌==◌, nat_le, Contains, List, [], ◌∷◌}
+use Rattle.std.specs.List.{list_any, list_all}
+use Rattle.std.specs.Prelude.{◌&&◌, ◌==◌, nat_le, nat_lt, Contains, List, [], ◌∷◌}
 use Rattle.std.proofs.Common.{◌≢◌, sym, ◌∙◌, subst, eqb-true, eq-eqb, leb-true}
-use Rattle.std.proofs.lemmas.Bool.{and_parts}
+use Rattle.std.proofs.lemmas.Bool.{and_parts, cases_lt, le-leb, le-ltb, lt-leb}
 use Rattle.std.proofs.lemmas.Bool.Decides.{nat_tests}
 use Rattle.std.specs.Cmp.{both_ways as same_tests}
-use Rattle.ucd_case.specs.CaseFolding.{simple_fold, IsFoldPairs}
+use Rattle.ucd_case.specs.CaseFolding.{simple_fold, fold_pairs, IsFoldPairs}
+use Rattle.ucd_case.specs.FoldOtherRows.{fold_other_rows}
+use Rattle.ucd_case.proofs.FoldPairsLemmas.{IsFoldPairs-fold_pairs}
 use Rattle.syntect_pattern.specs.Sets.{numbers_from, same_fold, is_within, is_alike}
+use Rattle.syntect_pattern_table.specs.SetTable.{folds_beyond}
 
 or_true : (a b : Bool) → (a ≡ false → b ≡ true) → (a || b) ≡ true
 or_true true b f = refl
@@ -117,3 +120,54 @@ alike_pairs low high c ps are = go (is_within low high c) refl
 
 pub or_same : (t a b c d : Bool) → t ≡ (a || b) → a ≡ c → b ≡ d → t ≡ (c || d)
 or_same t a b c d e h k = e ∙ ap (λ x. x || b) h ∙ ap (λ x. c || x) k
+
+-- -- Beyond ASCII
+
+abbrev is_folded_beyond : ℕ → Bool
+is_folded_beyond c = (c == 0x4B) || ((c == 0x53) || ((c == 0x6B) || (c == 0x73)))
+
+-- the pair is none of an ASCII character and one beyond, or its first is one of those letters
+abbrev is_near : ℕ × ℕ → Bool
+is_near p = nat_le 128 p.0 || (nat_lt p.1 128 || is_folded_beyond p.0)
+
+pairs_near : list_all is_near fold_pairs ≡ true
+unfolding fold_pairs fold_other_rows
+pairs_near = refl
+
+all_contains : (test : ℕ × ℕ → Bool) (ps : List (ℕ × ℕ)) (x : ℕ × ℕ) → list_all test ps ≡ true → Contains ps x → test x ≡ true
+all_contains test [] x e (k, lt, at) = absurd (omega arith)
+all_contains test (p ∷ ps) x e (zero, lt, at) = let q = and_parts (test p) (list_all test ps) e in sym (let head : test p ≡ test x = ap test at in head) ∙ q.0
+all_contains test (p ∷ ps) x e (suc k, lt, at) = let q = and_parts (test p) (list_all test ps) e in all_contains test ps x q.1 (k, omega arith, at)
+
+or_left : (a b : Bool) → a ≡ true → (a || b) ≡ true
+or_left true b e = refl
+or_left false b e = cc
+
+or_right : (a b : Bool) → b ≡ true → (a || b) ≡ true
+or_right true b e = refl
+or_right false b e = e
+
+or_second : (a b : Bool) → a ≡ false → (a || b) ≡ true → b ≡ true
+or_second true b e h = cc
+or_second false b e h = h
+
+near_folded : (d c : ℕ) → d < 128 → 128 ≤ c → is_near (d, c) ≡ true → is_folded_beyond d ≡ true
+near_folded d c l h e =
+    or_second (nat_lt c 128) (is_folded_beyond d) (le-ltb c 128 h) (or_second (nat_le 128 d) (nat_lt c 128 || is_folded_beyond d) (lt-leb 128 d l) e)
+
+folds_beyond_from : (low high d : ℕ) → low ≤ d → d ≤ high → is_folded_beyond d ≡ true → folds_beyond low high ≡ true
+folds_beyond_from low high d a b e = grind (arith, nat_tests)
+
+-- an ASCII character that is alike to one beyond is one of those letters
+pub alike_wide : (low high c : ℕ) → 128 ≤ c → is_alike low high c ≡ true → (nat_le 128 high || folds_beyond low high) ≡ true
+unfolding same_fold
+alike_wide low high c l e = elim (cases_lt high 128) [
+  | inl h ↦
+      let r = alike_to low high c e in
+      let inside : r.0 < 128 = omega (arith, r.2) in
+      let other : r.0 ≢ c = (λ q. omega arith) in
+      let pair = (IsFoldPairs-fold_pairs r.0 c).1 (other, eqb-true (simple_fold r.0) (simple_fold c) r.3) in
+      or_right (nat_le 128 high) (folds_beyond low high)
+      (folds_beyond_from low high r.0 r.1 r.2 (near_folded r.0 c inside l (all_contains is_near fold_pairs (r.0, c) pairs_near pair)))
+  | inr h ↦ or_left (nat_le 128 high) (folds_beyond low high) (le-leb 128 high h)
+]

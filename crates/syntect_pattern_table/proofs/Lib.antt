@@ -7,4 +7,7 @@ pub mod StartLaws
 pub mod BeginLaws
 pub mod PlaceLaws
 pub mod LookLaws
+pub mod MarkLaws
 pub mod JumpLaws
+pub mod LengthLaws
+pub mod CopyLaws

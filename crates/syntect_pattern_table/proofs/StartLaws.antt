@@ -15,6 +15,7 @@ use Rattle.syntect_pattern.specs.Sets.{Set, none, range, alike, category, catego
 use Rattle.syntect_pattern.specs.Trees.{Anchor, line_start, line_end, text_start, text_end, last_line_end, word_edge, no_word_edge, Tree, nothing, one_of, anchor, same, seq, alt, repeat, group, atomic, ahead, behind}
 use Rattle.syntect_pattern.specs.Matches.{Groups, Member, Way, matches, turns, prefer, while_left, after_turn, only_if, past, close, stands, is_newline, look, stay, ending_here, unset, found_at}
 use Rattle.syntect_pattern_table.specs.SetTable.{is_wide}
+use Rattle.syntect_pattern_table.proofs.AlikeLaws.{alike_wide}
 use Rattle.syntect_pattern_table.proofs.AlikeLaws.{or_cases}
 use Rattle.syntect_pattern_table.specs.Needs.{Needs, IsAbsent}
 use Rattle.syntect_pattern_table.specs.Starts.{start_at, can_hold, can_stand, reads, stays}
@@ -96,13 +97,13 @@ and-both true b e h = h
 and-both false b e h = cc
 
 -- a set that holds a character beyond ASCII can do so
-wide-holds : (a : Set) (c : ℕ) → 128 ≤ c → holds a c ≡ true → is_wide a ≡ true
+pub wide-holds : (a : Set) (c : ℕ) → 128 ≤ c → holds a c ≡ true → is_wide a ≡ true
 wide-holds none c l e = cc
 wide-holds (range low high) c l e =
     let p = and_parts (nat_le low c) (nat_le c high) e in
     let q : c ≤ high = leb-true c high p.1 in
     le-leb 128 high (omega arith)
-wide-holds (alike low high) c l e = refl
+wide-holds (alike low high) c l e = alike_wide low high c l e
 wide-holds (category k) c l e = refl
 wide-holds (categories k) c l e = refl
 wide-holds word c l e = refl

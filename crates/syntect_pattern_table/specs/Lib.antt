@@ -6,3 +6,5 @@ pub mod Starts
 pub mod Needs
 pub mod Looks
 pub mod Jumps
+pub mod Lengths
+pub mod Copies

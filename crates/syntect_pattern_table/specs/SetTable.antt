@@ -1,7 +1,7 @@
 -- The sets of a table of parts, each of which stands behind those that it is made of.
 use Rattle.std.specs.Prelude.{◌≡◌, ℕ, ◌<◌, ◌≤◌, Bool, true, false, ◌&&◌, ◌||◌, ◌==◌, nat_le, nat_lt, List, [], ◌∷◌, ◌++◌, length, slice_index_or}
 use Rattle.std.specs.Int.{bit_at}
-use Rattle.syntect_pattern.specs.Sets.{Set, none, range, alike, either, both, negated, holds}
+use Rattle.syntect_pattern.specs.Sets.{Set, none, range, alike, either, both, negated, is_within, holds}
 use Rattle.syntect_pattern.specs.NamedSets.{set_of_named}
 use Rattle.syntect_pattern_table.specs.declared.sets.Part.{Part}
 
@@ -55,10 +55,15 @@ pub record HasSet (parts : List Part) (k : ℕ) (a : Set) : Type 0 where
 abbrev pub AreFlags : ℕ → Set → Type 0
 AreFlags bits a = (x : ℕ) → x < 128 → (bit_at bits x == 1) ≡ holds a x
 
+-- the range holds `K`, `S`, `k` or `s`: simple folding makes these alone of ASCII equal to a character beyond it
+abbrev pub folds_beyond : ℕ → ℕ → Bool
+folds_beyond low high = is_within low high 0x4B || (is_within low high 0x53 || (is_within low high 0x6B || is_within low high 0x73))
+
 -- whether the set can hold a character beyond ASCII, as far as its form tells
 abbrev pub is_wide : Set → Bool
 is_wide none = false
 is_wide (range low high) = nat_le 128 high
+is_wide (alike low high) = nat_le 128 high || folds_beyond low high
 is_wide (either a b) = is_wide a || is_wide b
 is_wide (both a b) = is_wide a && is_wide b
 is_wide a = true

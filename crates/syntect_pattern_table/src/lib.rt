@@ -2,7 +2,9 @@
 #![tactic(auto)]
 
 mod ascii;
+mod copies;
 pub mod jumps;
+pub mod lengths;
 mod looks;
 pub mod node;
 pub mod program;

@@ -1,125 +1,127 @@
-//! The groups of a tree, and which of them stand in lookarounds.
-ghost use Rattle.std.specs.Prelude.{◌≡◌, ◌<◌, IfOk, length};
-ghost use Rattle.syntect_pattern.specs.Trees as trees;
-ghost use Rattle.syntect_pattern_table.specs.Table.{IsOrdered};
-ghost use Rattle.syntect_pattern_table.specs.Builder.{tree_in};
-ghost use Rattle.syntect_pattern_table.specs.Looks.{AreLooks};
+//! Which groups of a tree stand in lookarounds, found in one walk from the root.
+ghost use Rattle.std.specs.Prelude.{◌≡◌, ◌<◌, ℕ, suc, IfOk, OnOk, None, Some, length, replicate, slice_index_or, true};
+ghost use Rattle.syntect_pattern_table.specs.Table.{IsOrdered, parts_before, trees};
+ghost use Rattle.syntect_pattern_table.specs.Looks as spec;
+ghost use Rattle.syntect_pattern_table.specs.Looks.{AreLooks, marked, met_before, own_mark, passed_on};
 
 use crate::node::Node;
 use std::alloc::{AllocError, Global};
 use syntect_values::seq::Seq;
 
-/// Of how many groups it is kept whether they stand in a lookaround. Patterns seldom have more, and each costs a walk over the
-/// whole pattern when it is made.
-const KEPT: usize = 32;
-
-/// Whether the node has a group of this number.
-pub fn has_group(nodes: &[Node], root: usize, number: usize) -> bool
-    requires ordered { IsOrdered nodes.now }
-    requires inside { root < length nodes.now }
-    ensures { result ≡ trees.has_group (tree_in nodes.now root) number }
+/// The mark, and that it was met so. A mark tells whether a node or a group was met, and if so whether within a lookaround.
+fn joined(mark: Option<bool>, within: bool) -> Option<bool>
+    ensures { result ≡ spec.joined mark (Some within) }
 {
-    let mut node = root;
-    loop {
-        node = match &nodes[node] {
-            Node::Sequence(first, second) => {
-                if has_group(nodes, *first, number) {
-                    return true;
-                }
-                *second
-            }
-            Node::Alternation(first, second) => {
-                if has_group(nodes, *first, number) {
-                    return true;
-                }
-                *second
-            }
-            Node::Group { number: n, body } => {
-                if *n == number {
-                    return true;
-                }
-                *body
-            }
-            Node::Repeat {
-                greedy: _,
-                least: _,
-                most: _,
-                body,
-            } => *body,
-            Node::Atomic(body) => *body,
-            Node::Ahead { negated: _, body } => *body,
-            Node::Behind { negated: _, body } => *body,
-            _ => return false,
-        };
+    match mark {
+        Some(other) => Some(other | within),
+        None => Some(within),
     }
 }
 
-/// Whether a group of this number stands in a lookaround; the flag says that the node does.
-pub fn in_look(nodes: &[Node], root: usize, number: usize, within: bool) -> bool
-    requires ordered { IsOrdered nodes.now }
-    requires inside { root < length nodes.now }
-    ensures { result ≡ trees.in_look within (tree_in nodes.now root) number }
+/// The mark at the place, which is none past the end.
+pub fn mark_at(marks: &[Option<bool>], place: usize) -> Option<bool>
+    ensures { result ≡ slice_index_or marks.now place None }
 {
-    let mut node = root;
-    let mut look = within;
-    loop {
-        node = match &nodes[node] {
-            Node::Sequence(first, second) => {
-                if in_look(nodes, *first, number, look) {
-                    return true;
-                }
-                *second
-            }
-            Node::Alternation(first, second) => {
-                if in_look(nodes, *first, number, look) {
-                    return true;
-                }
-                *second
-            }
-            Node::Group { number: n, body } => {
-                if look & (*n == number) {
-                    return true;
-                }
-                *body
-            }
-            Node::Repeat {
-                greedy: _,
-                least: _,
-                most: _,
-                body,
-            } => *body,
-            Node::Atomic(body) => *body,
-            Node::Ahead { negated: _, body } => {
-                look = true;
-                *body
-            }
-            Node::Behind { negated: _, body } => {
-                look = true;
-                *body
-            }
-            _ => return false,
-        };
+    marks.get(place).copied().unwrap_or(None)
+}
+
+/// What the place marks was met so.
+fn mark(marks: &mut Vec<Option<bool>>, place: usize, within: bool)
+    requires { place < length marks.old.items }
+    ensures { marks.new.items ≡ marked marks.old.items place within }
+{
+    marks[place] = joined(marks[place], within);
+}
+
+/// The node was met so: its parts were too, and within a lookaround if it is one.
+fn mark_parts(marks: &mut Vec<Option<bool>>, node: &Node, within: bool)
+    requires { parts_before (length marks.old.items) node.now ≡ true }
+    ensures { marks.new.items ≡ passed_on marks.old.items within node.now }
+{
+    match node {
+        Node::Sequence(first, second) => {
+            mark(marks, *first, within);
+            mark(marks, *second, within);
+        }
+        Node::Alternation(first, second) => {
+            mark(marks, *first, within);
+            mark(marks, *second, within);
+        }
+        Node::Repeat {
+            greedy: _,
+            least: _,
+            most: _,
+            body,
+        } => mark(marks, *body, within),
+        Node::Group { number: _, body } => mark(marks, *body, within),
+        Node::Atomic(body) => mark(marks, *body, within),
+        Node::Ahead { negated: _, body } => mark(marks, *body, true),
+        Node::Behind { negated: _, body } => mark(marks, *body, true),
+        _ => {}
     }
 }
 
-/// Whether the group of the number stands in a lookaround, which group 0 never does. None without such a group.
-pub fn group_in(nodes: &[Node], root: usize, number: usize) -> Option<bool>
-    requires ordered { IsOrdered nodes.now }
-    requires inside { root < length nodes.now }
-    ensures { (tree : trees.Tree) → tree_in nodes.now root ≡ trees.group 0 tree
-        → result ≡ trees.group_in_look tree number }
+/// Places for marks of groups up to the one of this number.
+fn make_room(looks: &mut Vec<Option<bool>>, number: usize) -> Result<(), AllocError>
+    ensures room { OnOk result (number < length looks.new.items) }
+    ensures kept { OnOk result ((n : ℕ) → slice_index_or looks.new.items n None
+        ≡ slice_index_or looks.old.items n None) }
 {
-    if number == 0 {
-        return Some(false);
+    while looks.len() <= number {
+        looks.push(None)?;
     }
-    if has_group(nodes, root, number) {
-        Some(in_look(nodes, root, number, false))
-    } else {
-        None
-    }
+    Ok(())
 }
 
-/// The same of the first groups.
+/// The node was met so: if it is a group, its group was.
+fn mark_group(looks: &mut Vec<Option<bool>>, node: &Node, within: bool) -> Result<(), AllocError>
+    ensures { OnOk result ((n : ℕ) → slice_index_or looks.new.items n None
+        ≡ spec.joined (slice_index_or looks.old.items n None) (own_mark within node.now n)) }
+{
+    let Node::Group { number, body: _ } = node else {
+        return Ok(());
+    };
+    make_room(looks, *number)?;
+    mark(looks, *number, within);
+    Ok(())
+}
+
+/// Passes the mark of the node at the place on to its parts, and to its group if it is one.
+fn pass_on(
+    nodes: &[Node],
+    place: usize,
+    marks: &mut Vec<Option<bool>>,
+    looks: &mut Vec<Option<bool>>,
+) -> Result<(), AllocError>
+    requires ordered { IsOrdered nodes.now }
+    requires inside { place < length nodes.now }
+    requires room { place < length marks.old.items }
+    ensures count { OnOk result (length marks.new.items ≡ length marks.old.items) }
+    ensures passed { OnOk result ((n : ℕ) → spec.joined (slice_index_or looks.new.items n None)
+        (met_before marks.new.items (trees nodes.now) place n)
+        ≡ spec.joined (slice_index_or looks.old.items n None)
+        (met_before marks.old.items (trees nodes.now) (suc place) n)) }
+{
+    let Some(within) = mark_at(marks.as_slice(), place) else {
+        return Ok(());
+    };
+    let node = &nodes[place];
+    mark_group(looks, node, within)?;
+    mark_parts(marks, node, within);
+    Ok(())
+}
+
+/// So many marks of what was not met.
+fn unmarked(alloc: Global, count: usize) -> Result<Vec<Option<bool>>, AllocError>
+    ensures { IfOk result (λ marks. marks.items ≡ replicate count None) }
+{
+    let mut marks = Vec::new(alloc);
+    marks.resize(count, None)?;
+    Ok(marks)
+}
+
+/// Of each group whether it stands in a lookaround, and none of what is no group. Each node stands behind its parts, so one
+/// walk from the root to the first node meets each of them after all nodes that it is a part of.
 pub fn looks_of(
     alloc: Global,
     nodes: &[Node],
@@ -130,9 +132,13 @@ pub fn looks_of(
     requires inside { root < length nodes.now }
     ensures { IfOk result (λ looks. AreLooks nodes.now root looks) }
 {
-    let mut looks = Vec::new(alloc);
-    for number in 0..groups.min(KEPT) {
-        looks.push(group_in(nodes, root, number))?;
+    let mut marks = unmarked(alloc, root + 1)?;
+    mark(&mut marks, root, false);
+    let mut looks = unmarked(alloc, groups)?;
+    let mut place = root + 1;
+    while place > 0 {
+        place -= 1;
+        pass_on(nodes, place, &mut marks, &mut looks)?;
     }
     Ok(Seq::from_vec(looks))
 }

@@ -5,9 +5,12 @@ ghost use Rattle.syntect_pattern_table.specs.Builder.{tree_in};
 ghost use Rattle.syntect_pattern_table.specs.Looks.{AreLooks};
 ghost use Rattle.syntect_pattern_table.specs.Starts.{AreFirsts, AreStarts};
 ghost use Rattle.syntect_pattern_table.specs.Jumps.{AreJumps};
+ghost use Rattle.syntect_pattern_table.specs.Lengths.{AreLengths};
 
+use crate::copies::copies_of;
 use crate::jumps::{Jump, jump_of, jumps_of, long_from};
-use crate::looks::{group_in, looks_of};
+use crate::lengths::{Lengths, any_number, lengths_in};
+use crate::looks::{looks_of, mark_at};
 use crate::node::Node;
 use crate::starts::{Places, flags_of, is_in, places_of, start_at};
 use memchr::memchr;
@@ -33,12 +36,15 @@ pub struct Program {
     pub jumps: Seq<Jump>,
     /// A byte that stands at the place of each match or behind it, if one is known.
     pub needed: Option<u8>,
-    /// Whether the first groups stand in lookarounds.
+    /// Whether the groups stand in lookarounds, the whole match aside. None of what is no group.
     pub looks: Seq<Option<bool>>,
+    /// How many bytes matches of each node read. There are none where nothing looks back.
+    pub lengths: Seq<Lengths>,
     pub ghost ordered: { IsOrdered nodes },
     pub ghost begun: { AreFirsts firsts (trees nodes) },
     pub ghost jumping: { ∥ AreJumps jumps_from jumps (trees nodes) ∥₁ },
     pub ghost looked: { AreLooks nodes root looks },
+    pub ghost measured: { AreLengths lengths (trees nodes) },
 }
 
 impl Program {
@@ -47,6 +53,7 @@ impl Program {
     ghost use Rattle.syntect_pattern_table.specs.Table.{node_tree};
     ghost use Rattle.syntect_pattern_table.specs.Program.{trees_of, IsProgramOf, CannotBegin};
     ghost use Rattle.syntect_pattern_table.specs.Jumps.{LeadsPast};
+    ghost use Rattle.syntect_pattern_table.specs.Lengths.{HasLengths};
     ghost use Rattle.syntect_pattern.specs.Matches.{Groups, matches};
 
     /// The program whose whole match is the node at the root.
@@ -72,6 +79,7 @@ impl Program {
         let jumps_from = long_from(nodes.as_slice());
         let jumps = jumps_of(alloc, nodes.as_slice(), firsts.as_slice(), jumps_from)?;
         let looks = looks_of(alloc, nodes.as_slice(), root, groups)?;
+        let lengths = lengths_in(alloc, nodes.as_slice())?;
         Ok(Program {
             nodes,
             root,
@@ -82,6 +90,32 @@ impl Program {
             jumps,
             needed,
             looks,
+            lengths,
+        })
+    }
+
+    /// A program that is that of the same trees.
+    pub fn clone(&self, alloc: Global) -> Result<Program, AllocError>
+        ensures { IfOk result (λ p. (tree : Tree) → IsProgramOf self.now tree
+            → IsProgramOf p tree) }
+    {
+        let nodes = copies_of(alloc, self.nodes.as_slice())?;
+        let starts = Seq::from_slice(alloc, self.starts.as_slice())?;
+        let firsts = Seq::from_slice(alloc, self.firsts.as_slice())?;
+        let jumps = Seq::from_slice(alloc, self.jumps.as_slice())?;
+        let looks = Seq::from_slice(alloc, self.looks.as_slice())?;
+        let lengths = Seq::from_slice(alloc, self.lengths.as_slice())?;
+        Ok(Program {
+            nodes,
+            root: self.root,
+            groups: self.groups,
+            starts,
+            firsts,
+            jumps_from: self.jumps_from,
+            jumps,
+            needed: self.needed,
+            looks,
+            lengths,
         })
     }
 
@@ -96,14 +130,20 @@ impl Program {
     pub fn group(&self, number: usize) -> Option<bool>
         ensures { (tree : Tree) → IsProgramOf self.now tree → result ≡ group_in_look tree number }
     {
-        if let Some(found) = self.looks.get(number) {
-            return *found;
+        if number == 0 {
+            return Some(false);
         }
-        let nodes = self.nodes.as_slice();
-        if self.root >= nodes.len() {
-            return None;
+        mark_at(self.looks.as_slice(), number)
+    }
+
+    /// How many bytes matches of the node read, if that is known.
+    pub fn length_of(&self, node: usize) -> Lengths
+        ensures { HasLengths (slice_index_or (trees_of self.now) node nothing) result }
+    {
+        match self.lengths.get(node) {
+            Some(lengths) => *lengths,
+            None => any_number(),
         }
-        group_in(nodes, self.root, number)
     }
 
     /// Whether no match of the node begins at the place, as what stands there tells.
@@ -167,16 +207,6 @@ impl Program {
             Some(next) => Some(place + next + 1),
             None => None,
         }
-    }
-
-    /// The first place from this one on where a match can begin, as far as the bytes tell, or the text's end.
-    pub fn next_start(&self, text: &str, place: usize) -> usize
-        requires { place ≤ length text.now }
-        ensures later { place ≤ result }
-        ensures inside { result ≤ length text.now }
-        ensures skipped { (k : ℕ) → place ≤ k → k < result → CannotBegin text.now self.now k }
-    {
-        next_flagged(self.starts.as_slice(), text.as_bytes(), place, text.len())
     }
 
     /// The first place from this one on where a match can begin, as far as the bytes up to `end` tell, or `end`.

@@ -2,7 +2,7 @@
 ghost use Rattle.std.specs.Prelude.{◌≡◌, ◌<◌, ◌||◌, ◌&&◌, ◌==◌, nat_le, IfOk, slice_index_or};
 ghost use Rattle.std.specs.Int.{bit_at};
 ghost use Rattle.std.specs.List.{list_any};
-ghost use Rattle.syntect_pattern.specs.Sets.{holds, range, is_within, is_alike};
+ghost use Rattle.syntect_pattern.specs.Sets.{alike, holds, range, is_within, is_alike};
 ghost use Rattle.syntect_pattern_table.specs.SetTable.{AreFlags, AreOrdered, is_wide, set_in};
 ghost use Rattle.syntect_pattern.specs.NamedSets.{set_of_named};
 
@@ -108,6 +108,18 @@ fn is_named_wide(named: Named) -> bool
     }
 }
 
+/// Whether simple folding makes a character beyond ASCII equal to one from the first to the last. Two such characters fold to
+/// ASCII letters, to `k` and to `s`.
+fn is_alike_wide(low: char, high: char) -> bool
+    ensures { result ≡ is_wide (alike low high) }
+{
+    is_beyond(high)
+        || is_within(low, high, 'K')
+        || is_within(low, high, 'S')
+        || is_within(low, high, 'k')
+        || is_within(low, high, 's')
+}
+
 /// Whether the part at the place can hold a character beyond ASCII, as far as its form tells.
 fn is_wide_at(parts: &[Part], root: usize) -> bool
     requires { AreOrdered parts.now }
@@ -119,7 +131,7 @@ fn is_wide_at(parts: &[Part], root: usize) -> bool
         place = match part {
             Part::Nothing => return false,
             Part::Range(_, high) => return is_beyond(high),
-            Part::Alike(_, _) => return true,
+            Part::Alike(low, high) => return is_alike_wide(low, high),
             Part::Named(named) => return is_named_wide(named),
             Part::Negated(_) => return true,
             Part::Either(rest, part) => {
@@ -176,6 +188,21 @@ impl Class {
             root,
             ascii,
             wide,
+        };
+        Ok(Class {
+            body: Box::new(alloc, body)?,
+        })
+    }
+
+    /// An equal set.
+    pub(crate) fn clone(&self, alloc: Global) -> Result<Class, AllocError>
+        ensures { IfOk result (λ c. set_of c ≡ set_of self.now) }
+    {
+        let body = ClassBody {
+            parts: Seq::from_slice(alloc, self.body.parts.as_slice())?,
+            root: self.body.root,
+            ascii: self.body.ascii,
+            wide: self.body.wide,
         };
         Ok(Class {
             body: Box::new(alloc, body)?,

@@ -117,12 +117,22 @@ impl Regex {
         }
     }
 
-    /// An equal pattern.
+    /// An equal pattern, with a copy of what was made of the text.
     pub fn clone(&self, alloc: Global) -> Result<Regex, AllocError>
         ensures { IfOk result (λ r. r ≡ self.now) }
     {
         let text = String::from_str(alloc, self.text.as_str())?;
-        Regex::new(alloc, text)
+        let Some(program) = &self.program else {
+            return Ok(Regex {
+                text,
+                program: None,
+            });
+        };
+        let copy = program.clone(alloc)?;
+        Ok(Regex {
+            text,
+            program: Some(copy),
+        })
     }
 
     /// Searches `text[..end]` from `begin` on, both being byte positions: whether the pattern matches at some place there.

@@ -1,9 +1,15 @@
-use Rattle.std.proofs.Common.{◌≡◌, length}
-use Rattle.syntect_pattern_table.specs.Looks.{AreLooks}
+use Rattle.std.proofs.Common.{◌≡◌, ◌≤◌, ◌+◌, ℕ, Some, None, false, length, get_or}
+use Rattle.syntect_pattern_table.specs.Table.{trees}
+use Rattle.syntect_pattern_table.specs.Builder.{tree_in}
+use Rattle.syntect_pattern_table.specs.Looks.{joined, met_in, met_before}
 use Rattle.syntect_pattern_table.proofs.looks.looks_of.Given as goal
 
-abbrev pub invariant-loop-number : goal.invariant-loop-number
-invariant-loop-number l = record {
-  count : length l.looks.items ≡ l.number;
-  looked : AreLooks l.nodes l.root l.looks.items;
+abbrev pub invariant-loop-place : goal.invariant-loop-place
+invariant-loop-place l = record {
+  inside : l.place ≤ l.root + 1;
+  count : length l.marks.items ≡ l.root + 1;
+  met : (n : ℕ) → joined (get_or l.looks.items n None) (met_before l.marks.items (trees l.nodes) l.place n) ≡ met_in (Some false) (tree_in l.nodes l.root) n;
 }
+
+abbrev pub decreases-loop-place : goal.decreases-loop-place
+decreases-loop-place l = l.place

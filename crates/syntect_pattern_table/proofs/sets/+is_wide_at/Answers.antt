@@ -9,7 +9,7 @@ pub returns-in-Nothing : goal.returns-in-Nothing
 returns-in-Nothing t c = wide-of c.args.parts.now c.requires c.parts.place _ c.in-Nothing.ensures ∙ c.parts.invariant.same
 
 pub returns-in-Alike : goal.returns-in-Alike
-returns-in-Alike t c = wide-of c.args.parts.now c.requires c.parts.place _ c.in-Alike.ensures ∙ c.parts.invariant.same
+returns-in-Alike t c = c.is_alike_wide.ensures ∙ wide-of c.args.parts.now c.requires c.parts.place _ c.in-Alike.ensures ∙ c.parts.invariant.same
 
 pub returns-in-Named : goal.returns-in-Named
 returns-in-Named t c = c.is_named_wide.ensures ∙ wide-of c.args.parts.now c.requires c.parts.place _ c.in-Named.ensures ∙ c.parts.invariant.same

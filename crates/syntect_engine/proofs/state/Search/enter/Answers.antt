@@ -4,7 +4,7 @@ use Rattle.syntect_pattern_table.specs.Table.{node_tree, set_of}
 use Rattle.syntect_pattern.specs.Anchors.{anchor_of}
 use Rattle.syntect_pattern_table.specs.Program.{trees_of}
 use Rattle.syntect_engine.proofs.EnterLaws.{goes_nothing, goes_past, goes_group, goes_anchor, goes_no_anchor, goes_same, atomic-ok, ahead-ok, behind-ok}
-use Rattle.syntect_engine.proofs.ReachLaws.{few-starts}
+use Rattle.syntect_engine.proofs.LookbehindLaws.{few-starts}
 use Rattle.syntect_engine.proofs.state.Search.enter.Goals as goal
 
 pub returns-in_default : goal.returns-in_default
@@ -71,7 +71,9 @@ returns-in-Ahead c =
 
 pub returns-in-Behind : goal.returns-in-Behind
 returns-in-Behind c =
+    let from = c.starts_before-from.result.0 in
+    let count = c.starts_before-from.result.1 in
     behind-ok c.args.text.now (trees_of c.args.program.now) c.args.node c.args.list c.enter_behind.result c.args.self.now c.enter_behind.new.self
-    c.in-Behind.negated c.look_bound-in-Behind.result c.in-Behind.body c.starts_before-count.result
+    c.in-Behind.negated c.look_bound-in-Behind.result c.in-Behind.body count from
     (c.in-Some.ensures ∙ ap (node_tree (trees_of c.args.program.now)) c.in-Behind.is)
-    c.requires c.look_bound-in-Behind.ensures (few-starts c.args.text.now _ c.args.self.now.place c.starts_before-count.result c.starts_before-count.ensures c.args.self.now.groups.items) c.enter_behind.ensures.frames c.enter_behind.ensures.cells c.enter_behind.ensures.place c.enter_behind.ensures.groups c.enter_behind.ensures.next
+    c.requires c.look_bound-in-Behind.ensures (few-starts c.args.text.now _ c.args.self.now.place from count c.starts_before-from.ensures c.args.self.now.groups.items) c.enter_behind.ensures.frames c.enter_behind.ensures.cells c.enter_behind.ensures.place c.enter_behind.ensures.groups c.enter_behind.ensures.next

@@ -9,8 +9,8 @@ use Rattle.syntect_engine.proofs.state.Search.find_up_to.Goals.{then-last-text, 
 pub returns-then-place-last-clause-finds : goal.returns-then-place-last-clause-finds
 returns-then-place-last-clause-finds c = λ tree is.
     let s = c.args.text.now in
-    let next = c.next_start_up_to-place.result in
-    let inside = c.next_start_up_to-place.ensures.inside in
+    let next = c.next_start-place.result in
+    let inside = c.next_start-place.ensures.inside in
     let behind = c.if-place-last.true in
     let at : next ≡ suc c.args.last = elim c.if-last-text.branch [
       | then-last-text w ↦ omega (arith, inside, behind, w.end-is)
@@ -21,29 +21,29 @@ returns-then-place-last-clause-finds c = λ tree is.
       | else-last-text w ↦ omega (arith, inside, w.end-is)
     ] in
     sym (c.loop-place.invariant.same tree is)
-    ∙ found-jump s tree c.loop-place.place next c.next_start_up_to-place.ensures.later (omega (arith, within)) (λ k p q. c.next_start_up_to-place.ensures.skipped k p q tree is)
+    ∙ found-jump s tree c.loop-place.place next c.next_start-place.ensures.later (omega (arith, within)) (λ k p q. c.next_start-place.ensures.skipped k p q tree is)
     ∙ ap (found s tree) at
 
 pub returns-in_default-clause-finds : goal.returns-in_default-clause-finds
 returns-in_default-clause-finds c = λ tree is.
     let s = c.args.text.now in
-    let next = c.next_start_up_to-place.result in
-    let inside = c.next_start_up_to-place.ensures.inside in
+    let next = c.next_start-place.result in
+    let inside = c.next_start-place.ensures.inside in
     let within : next ≤ length s = elim c.if-last-text.branch [
       | then-last-text w ↦ omega (arith, inside, w.end-is, w.if-last-text.true)
       | else-last-text w ↦ omega (arith, inside, w.end-is)
     ] in
     let near : next ≤ c.args.last = c.if-place-last.false in
     sym (c.loop-place.invariant.same tree is)
-    ∙ found-jump s tree c.loop-place.place next c.next_start_up_to-place.ensures.later (omega (arith, within)) (λ k p q. c.next_start_up_to-place.ensures.skipped k p q tree is)
+    ∙ found-jump s tree c.loop-place.place next c.next_start-place.ensures.later (omega (arith, within)) (λ k p q. c.next_start-place.ensures.skipped k p q tree is)
     ∙ found-never s tree next (λ k p. c.in_default.ensures k p tree is)
     ∙ sym (found-never s tree (suc c.args.last) (λ k p. c.in_default.ensures k (omega (arith, near, p)) tree is))
 
 pub returns-in-Some-true-clause-finds : goal.returns-in-Some-true-clause-finds
 returns-in-Some-true-clause-finds c = λ tree is.
     let s = c.args.text.now in
-    let next = c.next_start_up_to-place.result in
-    let inside = c.next_start_up_to-place.ensures.inside in
+    let next = c.next_start-place.result in
+    let inside = c.next_start-place.ensures.inside in
     let groups = c.begins_at.new.self.groups.items in
     let within : next ≤ length s = elim c.if-last-text.branch [
       | then-last-text w ↦ omega (arith, inside, w.end-is, w.if-last-text.true)
@@ -51,14 +51,14 @@ returns-in-Some-true-clause-finds c = λ tree is.
     ] in
     let here : found_at s tree next ≡ Some groups = sym (answer_holds c.in_ok-begins_at.field-0 c.in-Some-true.field-0 true (λ (b : Bool). FindsAt s c.args.program.now next (groups_of b c.begins_at.new.self)) c.in-Some-true.is c.in-Some-true.field-0-test c.in_ok-begins_at.ensures.finds tree is) in
     sym (c.loop-place.invariant.same tree is)
-    ∙ found-jump s tree c.loop-place.place next c.next_start_up_to-place.ensures.later (omega (arith, within)) (λ k p q. c.next_start_up_to-place.ensures.skipped k p q tree is)
+    ∙ found-jump s tree c.loop-place.place next c.next_start-place.ensures.later (omega (arith, within)) (λ k p q. c.next_start-place.ensures.skipped k p q tree is)
     ∙ found-here s tree next groups within here
 
 pub loop-place-preserved : goal.loop-place-preserved
 loop-place-preserved c =
     let s = c.args.text.now in
-    let next = c.next_start_up_to-place.result in
-    let inside = c.next_start_up_to-place.ensures.inside in
+    let next = c.next_start-place.result in
+    let inside = c.next_start-place.ensures.inside in
     let within : next ≤ length s = elim c.if-last-text.branch [
       | then-last-text w ↦ omega (arith, inside, w.end-is, w.if-last-text.true)
       | else-last-text w ↦ omega (arith, inside, w.end-is)
@@ -69,7 +69,7 @@ loop-place-preserved c =
       same = λ tree is.
           let nothing_here : found_at s tree next ≡ None = sym (answer_holds c.in_ok-begins_at.field-0 c.in-Some-false.field-0 false (λ (b : Bool). FindsAt s c.args.program.now next (groups_of b c.begins_at.new.self)) c.in-Some-false.is c.in-Some-false.field-0-test c.in_ok-begins_at.ensures.finds tree is) in
           rw add-one (sym (found-step s tree next within nothing_here)
-          ∙ sym (found-jump s tree c.loop-place.place next c.next_start_up_to-place.ensures.later (omega (arith, within)) (λ k p q. c.next_start_up_to-place.ensures.skipped k p q tree is))
+          ∙ sym (found-jump s tree c.loop-place.place next c.next_start-place.ensures.later (omega (arith, within)) (λ k p q. c.next_start-place.ensures.skipped k p q tree is))
           ∙ c.loop-place.invariant.same tree is);
     }
 

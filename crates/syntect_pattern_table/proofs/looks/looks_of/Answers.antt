@@ -1,0 +1,45 @@
+use Rattle.std.proofs.Common.{◌≡◌, ◌+◌, ◌-◌, ℕ, suc, Bool, Some, None, false, List, Option, length, get_or, ap, sym, arith, ◌∙◌, replicate, length-set}
+use Rattle.std.proofs.lemmas.List.{length-replicate}
+use Rattle.syntect_pattern.specs.Trees.{Tree}
+use Rattle.syntect_pattern_table.specs.Table.{trees}
+use Rattle.syntect_pattern_table.specs.Looks.{joined, marked, met_before, met_in}
+use Rattle.syntect_pattern_table.proofs.MarkLaws.{joined-none, met-whole, first_marked, unmet}
+use Rattle.syntect_pattern_table.proofs.looks.looks_of.Goals as goal
+
+pub loop-place-init : goal.loop-place-init
+loop-place-init c =
+    let root : ℕ = c.args.root in
+    let unmarked : c.in_ok-marks.marks.items ≡ replicate (root + 1) None = c.in_ok-marks.ensures in
+    let unknown : c.in_ok-looks.looks.items ≡ replicate c.args.groups None = c.in_ok-looks.ensures in
+    let marks : c.mark.new.marks.items ≡ marked (replicate (root + 1) None) root false = c.mark.ensures ∙ ap (λ (ms : List (Option Bool)). marked ms root false) unmarked in
+    record {
+      inside = omega arith;
+      count = ap length c.mark.ensures ∙ length-set c.in_ok-marks.marks.items root (joined (get_or c.in_ok-marks.marks.items root None) (Some false)) ∙ ap length unmarked ∙ length-replicate (root + 1) unmet;
+      met = λ n.
+          ap (λ (ls : List (Option Bool)). joined (get_or ls n None) (met_before c.mark.new.marks.items (trees c.args.nodes.now) (root + 1) n)) unknown
+          ∙ ap (λ (ms : List (Option Bool)). joined (get_or (replicate c.args.groups None) n None) (met_before ms (trees c.args.nodes.now) (root + 1) n)) marks
+          ∙ first_marked (trees c.args.nodes.now) n root c.args.groups;
+    }
+
+pub loop-place-preserved : goal.loop-place-preserved
+loop-place-preserved c =
+    let back : suc (c.loop-place.place - 1) ≡ c.loop-place.place = omega arith in
+    record {
+      inside = omega arith;
+      count = c.in_ok-pass_on.ensures.count ∙ c.loop-place.invariant.count;
+      met = λ n.
+          c.in_ok-pass_on.ensures.passed n
+          ∙ ap (λ (k : ℕ). joined (get_or c.loop-place.looks.items n None) (met_before c.loop-place.marks.items (trees c.args.nodes.now) k n)) back
+          ∙ c.loop-place.invariant.met n;
+    }
+
+pub returns : goal.returns
+returns c = λ n tree is.
+    let looks : List (Option Bool) = c.loop-place.looks.items in
+    let first : 0 ≡ c.loop-place.place = omega arith in
+    ap (λ (ls : List (Option Bool)). get_or ls (suc n) None) c.from_vec.ensures
+    ∙ sym (joined-none (get_or looks (suc n) None))
+    ∙ ap (λ (k : ℕ). joined (get_or looks (suc n) None) (met_before c.loop-place.marks.items (trees c.args.nodes.now) k (suc n))) first
+    ∙ c.loop-place.invariant.met (suc n)
+    ∙ ap (λ (t : Tree). met_in (Some false) t (suc n)) is
+    ∙ met-whole tree n
