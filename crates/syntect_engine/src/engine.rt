@@ -188,7 +188,8 @@ impl Search {
                 };
                 behind = needed;
             }
-            match self.begins_at(program, text, place, steps)? {
+            let begins = self.begins_at(program, text, place, steps)?;
+            match begins {
                 Some(true) => return Ok(Some(true)),
                 Some(false) => {}
                 None => return Ok(None),

@@ -1,7 +1,6 @@
-//! Single steps of a search, and the ways that lead to given places.
+//! Single steps of a search.
 #![tactic(auto)]
 
 pub mod anchor;
-pub mod begins;
 pub mod past;
 pub mod text;

@@ -49,7 +49,7 @@ returns-in-Some-true-clause-finds c = λ tree is.
       | then-last-text w ↦ omega (arith, inside, w.end-is, w.if-last-text.true)
       | else-last-text w ↦ omega (arith, inside, w.end-is)
     ] in
-    let here : found_at s tree next ≡ Some groups = sym (answer_holds c.in_ok-begins_at.field-0 c.in-Some-true.field-0 true (λ (b : Bool). FindsAt s c.args.program.now next (groups_of b c.begins_at.new.self)) c.in-Some-true.is c.in-Some-true.field-0-test c.in_ok-begins_at.ensures.finds tree is) in
+    let here : found_at s tree next ≡ Some groups = sym (answer_holds c.in_ok-begins.begins c.in-Some-true.field-0 true (λ (b : Bool). FindsAt s c.args.program.now next (groups_of b c.begins_at.new.self)) c.in-Some-true.is c.in-Some-true.field-0-test c.in_ok-begins.ensures.finds tree is) in
     sym (c.loop-place.invariant.same tree is)
     ∙ found-jump s tree c.loop-place.place next c.next_start-place.ensures.later (omega (arith, within)) (λ k p q. c.next_start-place.ensures.skipped k p q tree is)
     ∙ found-here s tree next groups within here
@@ -65,9 +65,9 @@ loop-place-preserved c =
     ] in
     record {
       within = omega (arith, c.if-place-last.false);
-      unlimited = λ e. c.in_ok-begins_at.ensures.ends.unlimited (c.loop-place.invariant.unlimited e);
+      unlimited = λ e. c.in_ok-begins.ensures.ends.unlimited (c.loop-place.invariant.unlimited e);
       same = λ tree is.
-          let nothing_here : found_at s tree next ≡ None = sym (answer_holds c.in_ok-begins_at.field-0 c.in-Some-false.field-0 false (λ (b : Bool). FindsAt s c.args.program.now next (groups_of b c.begins_at.new.self)) c.in-Some-false.is c.in-Some-false.field-0-test c.in_ok-begins_at.ensures.finds tree is) in
+          let nothing_here : found_at s tree next ≡ None = sym (answer_holds c.in_ok-begins.begins c.in-Some-false.field-0 false (λ (b : Bool). FindsAt s c.args.program.now next (groups_of b c.begins_at.new.self)) c.in-Some-false.is c.in-Some-false.field-0-test c.in_ok-begins.ensures.finds tree is) in
           rw add-one (sym (found-step s tree next within nothing_here)
           ∙ sym (found-jump s tree c.loop-place.place next c.next_start-place.ensures.later (omega (arith, within)) (λ k p q. c.next_start-place.ensures.skipped k p q tree is))
           ∙ c.loop-place.invariant.same tree is);
