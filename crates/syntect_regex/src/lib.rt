@@ -5,3 +5,4 @@ mod edges;
 pub mod error;
 pub mod regex;
 pub mod region;
+mod seek;

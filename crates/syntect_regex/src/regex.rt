@@ -15,6 +15,7 @@ ghost use Rattle.syntect_regex.specs.Region.{TakesMatch, TakesUpTo, TriesAt, Lea
 use crate::edges::is_at_edges;
 use crate::error::PatternError;
 use crate::region::Region;
+use crate::seek::begins_at;
 use std::alloc::{AllocError, Global};
 use std::marker::Model;
 use syntect_engine::state::Search;
@@ -230,7 +231,7 @@ impl Regex {
             return Ok(false);
         };
         let mut search = Search::new(alloc);
-        search.begins_at(program, text, 0)
+        begins_at(&mut search, program, text, 0)
     }
 }
 

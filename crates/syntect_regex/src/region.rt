@@ -4,6 +4,7 @@ ghost use Rattle.syntect_pattern.specs.Matches.{Groups};
 ghost use Rattle.syntect_regex.specs.Region.{Takes, TakesHere, TakesNear, same_groups, same_groups-equiv};
 ghost use Rattle.std.specs.Cmp.{partial_equiv_from_equiv};
 
+use crate::seek::{begins_at, find, find_up_to};
 use std::alloc::{AllocError, Global};
 use std::marker::Model;
 use std::mem;
@@ -82,7 +83,7 @@ impl Region {
         ensures found { IfOk result (λ b. Takes text.now program.now begin self.old b self.new) }
         ensures err { OnErr result (self.new ≡ self.old) }
     {
-        let found = self.search.find(program, text, begin)?;
+        let found = find(&mut self.search, program, text, begin)?;
         if found {
             mem::swap(&mut self.positions, &mut self.search.groups);
         }
@@ -101,7 +102,7 @@ impl Region {
         ensures found { IfOk result (λ b. TakesNear text.now program.now begin last self.old b self.new) }
         ensures err { OnErr result (self.new ≡ self.old) }
     {
-        let is_found = self.search.find_up_to(program, text, begin, last)?;
+        let is_found = find_up_to(&mut self.search, program, text, begin, last)?;
         if is_found {
             mem::swap(&mut self.positions, &mut self.search.groups);
         }
@@ -118,7 +119,7 @@ impl Region {
         ensures found { IfOk result (λ b. TakesHere text.now program.now place self.old b self.new) }
         ensures err { OnErr result (self.new ≡ self.old) }
     {
-        let is_here = self.search.begins_at(program, text, place)?;
+        let is_here = begins_at(&mut self.search, program, text, place)?;
         if is_here {
             mem::swap(&mut self.positions, &mut self.search.groups);
         }
