@@ -1,2 +1,4 @@
 pub mod ReachLaws
 pub mod TreeLaws
+pub mod OnwardLaws
+pub mod ChosenLaws

@@ -1,5 +1,5 @@
 -- How matches go on.
-use Rattle.std.specs.Prelude.{ℕ, suc, ◌+◌, Bool, true, false, ◌&&◌, ◌||◌, nat_lt, List, [], ◌∷◌, Option, Some, None, if◌then◌else◌, ◌==◌, is_some}
+use Rattle.std.specs.Prelude.{ℕ, zero, suc, ◌+◌, Bool, true, false, ◌&&◌, ◌||◌, nat_lt, List, [], ◌∷◌, Option, Some, None, if◌then◌else◌, ◌==◌, is_some}
 use Rattle.std.specs.Option.{option_or}
 use Rattle.syntect_pattern.specs.Trees.{Tree, nothing, one_of, anchor, same, seq, alt, repeat, group, atomic, ahead, behind}
 use Rattle.syntect_pattern.specs.Matches.{Member, matches}
@@ -62,3 +62,17 @@ module _ (s : List ℕ) where
   -- the end of the whole match, where the tree is matched from the place on and then what follows goes on
   unfoldable pub onward : Tree → Onward → Onward
   onward t F i = reaches F (matches s t i [])
+
+-- one of two ends by preference
+abbrev pub prefer_end : Bool → Option ℕ → Option ℕ → Option ℕ
+prefer_end true more leave = option_or more leave
+prefer_end false more leave = option_or leave more
+
+-- no turn where the count is used up
+abbrev pub turn_end : Option ℕ → Option ℕ → Option ℕ
+turn_end (Some zero) o = None
+turn_end _ o = o
+
+-- the end, where the test holds
+abbrev pub end_if : Bool → Option ℕ → Option ℕ
+end_if b o = if b then o else None
