@@ -2,3 +2,4 @@ pub mod ReachLaws
 pub mod TreeLaws
 pub mod OnwardLaws
 pub mod ChosenLaws
+pub mod FactLaws

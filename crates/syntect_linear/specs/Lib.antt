@@ -1,1 +1,3 @@
 pub mod Onward
+pub mod Cells
+pub mod Facts

@@ -1,2 +1,5 @@
 //! A search whose steps are bounded by the pattern times the text.
 #![tactic(auto)]
+
+pub mod cells;
+pub mod facts;

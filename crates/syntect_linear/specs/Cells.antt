@@ -1,0 +1,66 @@
+-- The cells of a plan, and what goes on from them.
+use Rattle.std.specs.Prelude.{ℕ, zero, suc, ◌+◌, ◌-◌, Bool, List, [], ◌∷◌, ◌++◌, Option, Some, if◌then◌else◌, slice_index_or}
+use Rattle.syntect_pattern.specs.Trees.{Tree, nothing, one_of, anchor, same, seq, alt, repeat, group, atomic, ahead, behind}
+use Rattle.syntect_linear.specs.Onward.{Onward, moved, reads, onward}
+use Rattle.syntect_linear.specs.declared.cells.Item.{Item}
+use Rattle.syntect_linear.specs.declared.cells.Item.TheVariants.{End, Node, Turns}
+use Rattle.syntect_linear.specs.declared.cells.Cell.{Cell}
+use Rattle.syntect_linear.specs.declared.cells.Parts.{Parts}
+
+-- there the whole match ends
+abbrev pub last_cell : Cell
+last_cell = record { item = End; empty = 0; next = 0 }
+
+-- the cell with the number
+abbrev pub cell_at : List Cell → ℕ → Cell
+cell_at cells k = slice_index_or cells k last_cell
+
+-- the cells of its parts
+abbrev pub parts_at : List Parts → ℕ → Parts
+parts_at parts k = slice_index_or parts k (record { first = 0; second = 0 })
+
+-- the nodes of a tree, and two for a part that is matched on its own
+abbrev pub tree_size : Tree → ℕ
+tree_size (seq a b) = suc (tree_size a + tree_size b)
+tree_size (alt a b) = suc (tree_size a + tree_size b)
+tree_size (repeat greedy least most a) = suc (tree_size a)
+tree_size (group n a) = suc (tree_size a)
+tree_size (atomic a) = suc (suc (tree_size a))
+tree_size (ahead negated a) = suc (suc (tree_size a))
+tree_size (behind negated a) = suc (tree_size a)
+tree_size _ = suc zero
+
+-- the tree of an item
+abbrev pub item_tree : List Tree → Item → Tree
+item_tree ts End = nothing
+item_tree ts (Node n) = slice_index_or ts n nothing
+item_tree ts (Turns greedy least most n) = repeat greedy least most (slice_index_or ts n nothing)
+
+module _ (s : List ℕ) (ts : List Tree) where
+  -- where the whole match ends that goes on with the item, by the cells before it
+  abbrev pub item_end : List Onward → ℕ → ℕ → Item → Onward
+  item_end before empty next End i = Some i
+  item_end before empty next item i = onward s (item_tree ts item) (moved i (slice_index_or before empty Some) (slice_index_or before next Some)) i
+
+  abbrev pub cell_end : List Onward → Cell → Onward
+  cell_end before c = item_end before c.empty c.next c.item
+
+  abbrev pub ends_from : List Onward → List Cell → List Onward
+  ends_from before [] = before
+  ends_from before (c ∷ cells) = ends_from (before ++ cell_end before c ∷ []) cells
+
+  -- where the whole match ends that goes on with the cell, for each place
+  unfoldable pub ends : List Cell → ℕ → Onward
+  ends cells k = slice_index_or (ends_from [] cells) k Some
+
+module _ (ts : List Tree) where
+  -- how much of the pattern can be gone through at one place from the cell on
+  abbrev pub cell_height : List ℕ → Cell → ℕ
+  cell_height before c = tree_size (item_tree ts c.item) + (if reads (item_tree ts c.item) then 0 else slice_index_or before c.empty 0)
+
+  abbrev pub heights_from : List ℕ → List Cell → List ℕ
+  heights_from before [] = before
+  heights_from before (c ∷ cells) = heights_from (before ++ cell_height before c ∷ []) cells
+
+  unfoldable pub height : List Cell → ℕ → ℕ
+  height cells k = slice_index_or (heights_from [] cells) k 0
