@@ -3,3 +3,4 @@ pub mod TreeLaws
 pub mod OnwardLaws
 pub mod ChosenLaws
 pub mod FactLaws
+pub mod PlanLaws

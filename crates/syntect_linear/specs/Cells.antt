@@ -37,13 +37,14 @@ item_tree ts (Node n) = slice_index_or ts n nothing
 item_tree ts (Turns greedy least most n) = repeat greedy least most (slice_index_or ts n nothing)
 
 module _ (s : List ℕ) (ts : List Tree) where
-  -- where the whole match ends that goes on with the item, by the cells before it
-  abbrev pub item_end : List Onward → ℕ → ℕ → Item → Onward
-  item_end before empty next End i = Some i
-  item_end before empty next item i = onward s (item_tree ts item) (moved i (slice_index_or before empty Some) (slice_index_or before next Some)) i
+  -- where the whole match ends that goes on with the item, before what goes on at the place and behind it
+  abbrev pub item_end : Onward → Onward → Item → Onward
+  item_end f g End i = Some i
+  item_end f g (Node n) i = onward s (item_tree ts (Node n)) (moved i f g) i
+  item_end f g (Turns greedy least most n) i = onward s (item_tree ts (Turns greedy least most n)) (moved i f g) i
 
   abbrev pub cell_end : List Onward → Cell → Onward
-  cell_end before c = item_end before c.empty c.next c.item
+  cell_end before c = item_end (slice_index_or before c.empty Some) (slice_index_or before c.next Some) c.item
 
   abbrev pub ends_from : List Onward → List Cell → List Onward
   ends_from before [] = before

@@ -1,3 +1,4 @@
 pub mod Onward
 pub mod Cells
 pub mod Facts
+pub mod Plan

@@ -3,3 +3,4 @@
 
 pub mod cells;
 pub mod facts;
+pub mod plan;

@@ -1,0 +1,120 @@
+-- Plans that grow.
+use Rattle.std.proofs.Common.{◌≡◌, ℕ, zero, suc, ◌+◌, ◌-◌, ◌<◌, ◌≤◌, List, [], ◌∷◌, ◌++◌, length, Bool, true, false, Option, Some, None, refl, sym, ap, subst, ◌∙◌, arith}
+use Rattle.std.specs.Prelude.{option_map, slice_index_or, ◌&&◌}
+use Rattle.syntect_pattern.specs.Trees.{Tree, nothing, one_of, anchor, same, seq, alt, repeat, group, atomic, ahead, behind}
+use Rattle.syntect_linear.specs.Onward.{reads, is_free}
+use Rattle.syntect_linear.specs.Cells.{last_cell, cell_at, parts_at, item_tree}
+use Rattle.syntect_linear.specs.Plan.{AreCells, Grows, IsCell, IsPart, Extends, CanPush, Pushes, PushesBoth, PushesPart, IsSequence, IsTurn, TurnIs, LooksFor, IsStep, IsStepOf, Expands, IsPlanned}
+use Rattle.syntect_linear.specs.declared.cells.Item.{Item}
+use Rattle.syntect_linear.specs.declared.cells.Item.TheVariants.{Node}
+use Rattle.syntect_linear.specs.declared.cells.Cell.{Cell}
+use Rattle.syntect_linear.specs.declared.cells.Parts.{Parts}
+use Rattle.syntect_linear.proofs.TreeLaws.{and_left, and_right}
+
+pub grows-join : (a b c : List Cell) → Grows a b → Grows b c → Grows a c
+grows-join a b c x y = record { longer = omega (arith, x.longer, y.longer); kept = λ k l. y.kept k (omega (arith, l, x.longer)) ∙ x.kept k l }
+
+pub grows-same : (a : List Cell) → Grows a a
+grows-same a = record { longer = omega arith; kept = λ k l. refl }
+
+pub extends-join : (ts : List Tree) (a b c : List Cell) → Extends ts a b → Extends ts b c → Extends ts a c
+extends-join ts a b c x y = record { grows = grows-join a b c x.grows y.grows; cells = y.cells }
+
+module _ (ts : List Tree) (old new : List Cell) (g : Grows old new) where
+  pub cell-grows : (k : ℕ) (item : Item) (e n : ℕ) → IsCell ts old k item e n → IsCell ts new k item e n
+  cell-grows k item e n c =
+      let same = g.kept k c.inside in
+      record {
+        inside = omega (arith, c.inside, g.longer);
+        item_is = ap (λ (x : Cell). x.item) same ∙ c.item_is;
+        next_is = ap (λ (x : Cell). x.next) same ∙ c.next_is;
+        empty_is = λ r. ap (λ (x : Cell). x.empty) same ∙ c.empty_is r;
+      }
+
+  pub part-grows : (k : ℕ) (t : Tree) (e n : ℕ) → IsPart ts old k t e n → IsPart ts new k t e n
+  part-grows k t e n p = record { item = p.item; cell = cell-grows k p.item e n p.cell; tree = p.tree }
+
+  turn-grows : (most : Option ℕ) (P Q : Type 0) → (P → Q) → TurnIs most P → TurnIs most Q
+  turn-grows None P Q f h = f h
+  turn-grows (Some zero) P Q f h = tt
+  turn-grows (Some (suc n)) P Q f h = f h
+
+  loop-grows : (e n first : ℕ) (greedy : Bool) (least : ℕ) (most : Option ℕ) (a : Tree) → IsTurn ts old e n first greedy least most a → IsTurn ts new e n first greedy least most a
+  loop-grows e n first greedy least most a h = record {
+    more = h.more;
+    first_is = part-grows first a e h.more h.first_is;
+    more_is = part-grows h.more (repeat greedy (least - 1) (option_map (λ k. k - 1) most) a) n n h.more_is;
+  }
+
+  pub step-grows : (bs cs : List ℕ) → ((k : ℕ) (a : Tree) → LooksFor ts bs k a → LooksFor ts cs k a)
+      → (e n : ℕ) (p : Parts) (t : Tree) → IsStep ts old bs e n p t → IsStep ts new cs e n p t
+  step-grows bs cs looks e n p nothing h = tt
+  step-grows bs cs looks e n p (one_of a) h = tt
+  step-grows bs cs looks e n p (anchor a) h = tt
+  step-grows bs cs looks e n p (same fold k) h = tt
+  step-grows bs cs looks e n p (seq a b) h = record {
+    at = h.at;
+    behind_it = h.behind_it;
+    first_is = part-grows p.first a h.at h.behind_it h.first_is;
+    second_is = part-grows h.behind_it b n n h.second_is;
+    again_is = λ r. part-grows h.at b e n (h.again_is r);
+  }
+  step-grows bs cs looks e n p (alt a b) h = (part-grows p.first a e n h.0, part-grows p.second b e n h.1)
+  step-grows bs cs looks e n p (repeat greedy least most a) h = turn-grows most _ _ (loop-grows e n p.first greedy least most a) h
+  step-grows bs cs looks e n p (group k a) h = part-grows p.first a e n h
+  step-grows bs cs looks e n p (atomic a) h = part-grows p.first a 0 0 h
+  step-grows bs cs looks e n p (ahead negated a) h = part-grows p.first a 0 0 h
+  step-grows bs cs looks e n p (behind negated a) h = looks p.first a h
+
+  -- the parts of a cell that was there are still its parts
+  pub step_of-grows : (bs cs : List ℕ) → ((k : ℕ) (a : Tree) → LooksFor ts bs k a → LooksFor ts cs k a)
+      → (k : ℕ) (p : Parts) → k < length old → IsStepOf ts old bs k p → IsStepOf ts new cs k p
+  step_of-grows bs cs looks k p l h =
+      let P : Cell → Type 0 = λ c. IsStep ts new cs c.empty c.next p (item_tree ts c.item) in
+      subst P (sym (g.kept k l)) (step-grows bs cs looks (cell_at old k).empty (cell_at old k).next p (item_tree ts (cell_at old k).item) h)
+
+-- the parts of a cell by its tree
+pub step-is : (ts : List Tree) (cells : List Cell) (bs : List ℕ) (k : ℕ) (p : Parts) (c : Cell) (t : Tree) → cell_at cells k ≡ c → item_tree ts c.item ≡ t
+    → IsStep ts cells bs c.empty c.next p t → IsStepOf ts cells bs k p
+step-is ts cells bs k p c t e f h =
+    let P : Cell → Type 0 = λ x. IsStep ts cells bs x.empty x.next p (item_tree ts x.item) in
+    let Q : Tree → Type 0 = λ x. IsStep ts cells bs c.empty c.next p x in
+    subst P (sym e) (subst Q (sym f) h)
+
+pub turn-is : (most : Option ℕ) (P : Type 0) → P → TurnIs most P
+turn-is None P h = h
+turn-is (Some zero) P h = tt
+turn-is (Some (suc n)) P h = h
+
+pub part-is : (ts : List Tree) (cells : List Cell) (k : ℕ) (item : Item) (e n : ℕ) → IsCell ts cells k item e n → IsPart ts cells k (item_tree ts item) e n
+part-is ts cells k item e n c = record { item = item; cell = c; tree = refl }
+
+-- what may be pushed of a cell's tree
+pub can-push : (ts : List Tree) (cells : List Cell) (item : Item) (t : Tree) (e n : ℕ) → e < length cells → n < length cells → item_tree ts item ≡ t → is_free t ≡ true → CanPush ts cells item e n
+can-push ts cells item t e n a b i f = record { empty = a; next = b; free = ap is_free i ∙ f }
+
+pub expands-loop : (ts : List Tree) (old mid new : List Cell) (bs : List ℕ) (k : ℕ) (c : Cell) (greedy : Bool) (least : ℕ) (most : Option ℕ) (body first more : ℕ)
+    → AreCells ts old → 0 < k → k < length old → cell_at old k ≡ c
+    → item_tree ts c.item ≡ repeat greedy least most (slice_index_or ts body nothing)
+    → (c.next < length old → PushesPart ts old (repeat greedy (least - 1) (option_map (λ k. k - 1) most) (slice_index_or ts body nothing)) c.next more mid)
+    → (AreCells ts mid → CanPush ts mid (Node body) c.empty more → Pushes ts mid (Node body) c.empty more first new)
+    → Expands ts old bs k (record { first = first; second = 0 }) new bs
+expands-loop ts old mid new bs k c greedy least most body first more cells pos inside is tree h1 h2 =
+    let next : c.next < length old = let l = cells.next k pos inside in let e = ap (λ (x : Cell). x.next) is in omega arith in
+    let empty : c.empty < length old = let l = cells.empty k pos inside in let e = ap (λ (x : Cell). x.empty) is in omega arith in
+    let m = h1 next in
+    let free : is_free (slice_index_or ts body nothing) ≡ true = ap is_free (sym tree) ∙ ap (λ (x : Cell). is_free (item_tree ts x.item)) (sym is) ∙ cells.free k in
+    let n = h2 m.extends.cells (record { empty = let l = m.extends.grows.longer in omega arith; next = m.part.cell.inside; free = free }) in
+    let all = extends-join ts old mid new m.extends n.extends in
+    let rest : Tree = repeat greedy (least - 1) (option_map (λ k. k - 1) most) (slice_index_or ts body nothing) in
+    record {
+      extends = all;
+      looks = λ n a h. h;
+      step =
+          step-is ts new bs k (record { first = first; second = 0 }) c (repeat greedy least most (slice_index_or ts body nothing)) (all.grows.kept k inside ∙ is) tree
+          (turn-is most _ (record {
+            more = more;
+            first_is = part-is ts new first (Node body) c.empty more n.cell;
+            more_is = part-grows ts mid new n.extends.grows more rest c.next c.next m.part;
+          }));
+    }
