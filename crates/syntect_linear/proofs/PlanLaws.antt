@@ -118,3 +118,74 @@ expands-loop ts old mid new bs k c greedy least most body first more cells pos i
             more_is = part-grows ts mid new n.extends.grows more rest c.next c.next m.part;
           }));
     }
+
+module _ (ts : List Tree) (old : List Cell) (bs : List ℕ) (k : ℕ) (c : Cell) (cells : AreCells ts old) (pos : 0 < k) (inside : k < length old) (is : cell_at old k ≡ c) where
+  next-inside : c.next < length old
+  next-inside = let l = cells.next k pos inside in let e = ap (λ (x : Cell). x.next) is in omega arith
+
+  empty-inside : c.empty < length old
+  empty-inside = let l = cells.empty k pos inside in let e = ap (λ (x : Cell). x.empty) is in omega arith
+
+  tree-free : (t : Tree) → item_tree ts c.item ≡ t → is_free t ≡ true
+  tree-free t e = ap is_free (sym e) ∙ ap (λ (x : Cell). is_free (item_tree ts x.item)) (sym is) ∙ cells.free k
+
+  pub expands-seq : (mid new : List Cell) (a b first at beyond : ℕ) → item_tree ts c.item ≡ seq (slice_index_or ts a nothing) (slice_index_or ts b nothing)
+      → (CanPush ts old (Node b) c.empty c.next → PushesBoth ts old (Node b) c.empty c.next (reads (slice_index_or ts a nothing)) at beyond mid)
+      → (AreCells ts mid → CanPush ts mid (Node a) at beyond → Pushes ts mid (Node a) at beyond first new)
+      → Expands ts old bs k (record { first = first; second = 0 }) new bs
+  expands-seq mid new a b first at beyond tree h1 h2 =
+      let x : Tree = slice_index_or ts a nothing in
+      let y : Tree = slice_index_or ts b nothing in
+      let free : is_free (seq x y) ≡ true = tree-free (seq x y) tree in
+      let m = h1 (record { empty = empty-inside; next = next-inside; free = and_right (is_free x) (is_free y) free }) in
+      let n = h2 m.extends.cells (record { empty = m.inside; next = m.next.inside; free = and_left (is_free x) (is_free y) free }) in
+      let all = extends-join ts old mid new m.extends n.extends in
+      record {
+        extends = all;
+        looks = λ n a h. h;
+        step =
+            step-is ts new bs k (record { first = first; second = 0 }) c (seq x y) (all.grows.kept k inside ∙ is) tree
+            (record {
+              at = at;
+              behind_it = beyond;
+              first_is = part-is ts new first (Node a) at beyond n.cell;
+              second_is = part-is ts new beyond (Node b) c.next c.next (cell-grows ts mid new n.extends.grows beyond (Node b) c.next c.next m.next);
+              again_is = λ r. part-is ts new at (Node b) c.empty c.next (cell-grows ts mid new n.extends.grows at (Node b) c.empty c.next (m.empty r));
+            });
+      }
+
+  pub expands-alt : (mid new : List Cell) (a b first second : ℕ) → item_tree ts c.item ≡ alt (slice_index_or ts a nothing) (slice_index_or ts b nothing)
+      → (CanPush ts old (Node a) c.empty c.next → Pushes ts old (Node a) c.empty c.next first mid)
+      → (AreCells ts mid → CanPush ts mid (Node b) c.empty c.next → Pushes ts mid (Node b) c.empty c.next second new)
+      → Expands ts old bs k (record { first = first; second = second }) new bs
+  expands-alt mid new a b first second tree h1 h2 =
+      let x : Tree = slice_index_or ts a nothing in
+      let y : Tree = slice_index_or ts b nothing in
+      let free : is_free (alt x y) ≡ true = tree-free (alt x y) tree in
+      let m = h1 (record { empty = empty-inside; next = next-inside; free = and_left (is_free x) (is_free y) free }) in
+      let long = m.extends.grows.longer in
+      let n = h2 m.extends.cells (record { empty = let l = empty-inside in omega arith; next = let l = next-inside in omega arith; free = and_right (is_free x) (is_free y) free }) in
+      let all = extends-join ts old mid new m.extends n.extends in
+      record {
+        extends = all;
+        looks = λ n a h. h;
+        step =
+            step-is ts new bs k (record { first = first; second = second }) c (alt x y) (all.grows.kept k inside ∙ is) tree
+            (part-is ts new first (Node a) c.empty c.next (cell-grows ts mid new n.extends.grows first (Node a) c.empty c.next m.cell),
+            part-is ts new second (Node b) c.empty c.next n.cell);
+      }
+
+  -- the cell has one part, which goes on there
+  pub expands-part : (new : List Cell) (n a : ℕ) (p : Parts) → item_tree ts c.item ≡ group n (slice_index_or ts a nothing)
+      → (CanPush ts old (Node a) c.empty c.next → Pushes ts old (Node a) c.empty c.next p.first new)
+      → Expands ts old bs k p new bs
+  expands-part new n a p tree h =
+      let x : Tree = slice_index_or ts a nothing in
+      let m = h (record { empty = empty-inside; next = next-inside; free = tree-free (group n x) tree }) in
+      record {
+        extends = m.extends;
+        looks = λ n a h. h;
+        step =
+            step-is ts new bs k p c (group n x) (m.extends.grows.kept k inside ∙ is) tree
+            (part-is ts new p.first (Node a) c.empty c.next m.cell);
+      }

@@ -1,6 +1,6 @@
 //! The plan of a search: the cells of a pattern.
-ghost use Rattle.std.specs.Prelude.{◌≡◌, ◌<◌, ◌-◌, IfOk, IfSome, List, length, option_map, slice_index_or};
-ghost use Rattle.syntect_pattern.specs.Trees.{Tree, nothing, repeat};
+ghost use Rattle.std.specs.Prelude.{◌≡◌, ℕ, ◌<◌, ◌-◌, IfOk, IfSome, List, length, option_map, slice_index_or};
+ghost use Rattle.syntect_pattern.specs.Trees.{Tree, alt, nothing, repeat, seq};
 
 use crate::cells::{Cell, Item, Parts, cell_at};
 use crate::facts::{Facts, facts_at, facts_of};
@@ -145,6 +145,126 @@ impl Plan {
         let more = self.push_more(number, cell, greedy, least, most, body)?;
         let first = self.push(Item::Node(body), cell.empty, more)?;
         Ok(Parts { first, second: 0 })
+    }
+
+    /// The parts of a node: the first and the second, before what goes on behind the cell.
+    fn expand_sequence(
+        &mut self,
+        cell: Cell,
+        first: usize,
+        second: usize,
+    ) -> Result<Parts, AllocError>
+        ensures step { IfOk result (λ p. (ts : List Tree) (number : ℕ) → AreFacts self.old.facts ts
+            → AreCells ts self.old.cells → 0 < number → number < length self.old.cells
+            → spec.cell_at self.old.cells number ≡ cell
+            → spec.item_tree ts cell.item ≡ seq (slice_index_or ts first nothing) (slice_index_or ts second nothing)
+            → Expands ts self.old.cells self.old.behinds number p self.new.cells self.new.behinds) }
+        ensures others { self.new ≡ record self.old { cells = self.new.cells } }
+    {
+        let skip = facts_at(self.facts.as_slice(), first).reads;
+        let (at, behind) = self.push_both(Item::Node(second), cell.empty, cell.next, skip)?;
+        let first = self.push(Item::Node(first), at, behind)?;
+        Ok(Parts { first, second: 0 })
+    }
+
+    /// Two parts, either of which goes on as the cell does.
+    fn expand_branches(
+        &mut self,
+        cell: Cell,
+        first: usize,
+        second: usize,
+    ) -> Result<Parts, AllocError>
+        ensures step { IfOk result (λ p. (ts : List Tree) (number : ℕ) → AreFacts self.old.facts ts
+            → AreCells ts self.old.cells → 0 < number → number < length self.old.cells
+            → spec.cell_at self.old.cells number ≡ cell
+            → spec.item_tree ts cell.item ≡ alt (slice_index_or ts first nothing) (slice_index_or ts second nothing)
+            → Expands ts self.old.cells self.old.behinds number p self.new.cells self.new.behinds) }
+        ensures others { self.new ≡ record self.old { cells = self.new.cells } }
+    {
+        let first = self.push(Item::Node(first), cell.empty, cell.next)?;
+        let second = self.push(Item::Node(second), cell.empty, cell.next)?;
+        Ok(Parts { first, second })
+    }
+
+    /// One part.
+    fn expand_part(&mut self, part: usize, empty: usize, next: usize) -> Result<Parts, AllocError>
+        ensures cell { IfOk result (λ p. (ts : List Tree) → AreFacts self.old.facts ts
+            → AreCells ts self.old.cells → CanPush ts self.old.cells (Item.Node part) empty next
+            → Pushes ts self.old.cells (Item.Node part) empty next p.first self.new.cells) }
+        ensures others { self.new ≡ record self.old { cells = self.new.cells } }
+    {
+        let first = self.push(Item::Node(part), empty, next)?;
+        Ok(Parts { first, second: 0 })
+    }
+
+    /// The parts of a node, which the cell has.
+    fn expand_node(
+        &mut self,
+        node: &Node,
+        number: usize,
+        cell: Cell,
+    ) -> Result<Parts, AllocError>
+        ensures step { IfOk result (λ p. (ts : List Tree) → AreFacts self.old.facts ts
+            → AreCells ts self.old.cells → 0 < number → number < length self.old.cells
+            → spec.cell_at self.old.cells number ≡ cell
+            → spec.item_tree ts cell.item ≡ node_tree ts node.now
+            → Expands ts self.old.cells self.old.behinds number p self.new.cells self.new.behinds) }
+        ensures facts { self.new.facts ≡ self.old.facts }
+        ensures parts { self.new.parts ≡ self.old.parts }
+    {
+        match node {
+            Node::Sequence(first, second) => self.expand_sequence(cell, *first, *second),
+            Node::Alternation(first, second) => self.expand_branches(cell, *first, *second),
+            Node::Repeat {
+                greedy,
+                least,
+                most,
+                body,
+            } => self.expand_turns(number, cell, *greedy, *least, *most, *body),
+            Node::Group { number: _, body } => {
+                self.expand_part(*body, cell.empty, cell.next)
+            }
+            Node::Atomic(body) => self.expand_part(*body, 0, 0),
+            Node::Ahead { negated: _, body } => self.expand_part(*body, 0, 0),
+            Node::Behind { negated: _, body } => {
+                let first = self.behinds.len();
+                self.behinds.push(*body)?;
+                Ok(Parts { first, second: 0 })
+            }
+            _ => Ok(Parts {
+                first: 0,
+                second: 0,
+            }),
+        }
+    }
+
+    /// The parts of the cell with the number.
+    fn expand(&mut self, program: &Program, number: usize) -> Result<Parts, AllocError>
+        requires facts { AreFacts self.old.facts (trees_of program.now) }
+        requires cells { AreCells (trees_of program.now) self.old.cells }
+        requires inside { number < length self.old.cells }
+        ensures step { IfOk result (λ p. Expands (trees_of program.now) self.old.cells self.old.behinds number p self.new.cells self.new.behinds) }
+        ensures facts { self.new.facts ≡ self.old.facts }
+        ensures parts { self.new.parts ≡ self.old.parts }
+    {
+        let cell = cell_at(self.cells.as_slice(), number);
+        let none = Parts {
+            first: 0,
+            second: 0,
+        };
+        match cell.item {
+            Item::End => Ok(none),
+            Item::Node(node) => match program.node(node) {
+                Some(node) => self.expand_node(node, number, cell),
+                None => Ok(none),
+            },
+            Item::Turns {
+                greedy,
+                least,
+                most,
+                body,
+            } => self.expand_turns(number, cell, greedy, least, most, body),
+        }
     }
 }
 
