@@ -4,3 +4,4 @@ pub mod OnwardLaws
 pub mod ChosenLaws
 pub mod FactLaws
 pub mod PlanLaws
+pub mod FoldLaws

@@ -1,6 +1,9 @@
 -- Plans that grow.
-use Rattle.std.proofs.Common.{◌≡◌, ℕ, zero, suc, ◌+◌, ◌-◌, ◌<◌, ◌≤◌, List, [], ◌∷◌, ◌++◌, length, Bool, true, false, Option, Some, None, refl, sym, ap, subst, ◌∙◌, arith}
+use Rattle.std.proofs.Common.{◌≡◌, ℕ, zero, suc, ◌+◌, ◌-◌, ◌<◌, ◌≤◌, List, [], ◌∷◌, ◌++◌, length, Bool, true, false, Option, Some, None, refl, sym, ap, subst, ◌∙◌, arith, inl, inr, length-append}
 use Rattle.std.specs.Prelude.{option_map, slice_index_or, ◌&&◌}
+use Rattle.std.proofs.lemmas.Bool.{cases_lt}
+use Rattle.std.proofs.lemmas.List.{get_or_append_left}
+use Rattle.std.proofs.Math.Seq.{get_or-append_seam}
 use Rattle.syntect_pattern.specs.Trees.{Tree, nothing, one_of, anchor, same, seq, alt, repeat, group, atomic, ahead, behind}
 use Rattle.syntect_linear.specs.Onward.{reads, is_free}
 use Rattle.syntect_linear.specs.Cells.{last_cell, cell_at, parts_at, item_tree}
@@ -189,3 +192,57 @@ module _ (ts : List Tree) (old : List Cell) (bs : List ℕ) (k : ℕ) (c : Cell)
             step-is ts new bs k p c (group n x) (m.extends.grows.kept k inside ∙ is) tree
             (part-is ts new p.first (Node a) c.empty c.next m.cell);
       }
+
+step-push : (ts : List Tree) (cells : List Cell) (bs : List ℕ) (ps : List Parts) (p : Parts) (n : ℕ) → n ≡ length ps
+    → ((k : ℕ) → k < n → IsStepOf ts cells bs k (parts_at ps k)) → IsStepOf ts cells bs n p
+    → (k : ℕ) → k < n + 1 → IsStepOf ts cells bs k (parts_at (ps ++ p ∷ []) k)
+step-push ts cells bs ps p n e h here k l =
+    elim (cases_lt k n) [
+      | inl a ↦ let P : Parts → Type 0 = λ x. IsStepOf ts cells bs k x in subst P (sym (get_or_append_left ps (p ∷ []) _ k (omega (arith, a)))) (h k a)
+      | inr a ↦
+          let same : k ≡ length ps = omega (arith, a) in
+          let P : Parts → Type 0 = λ x. IsStepOf ts cells bs k x in
+          let Q : ℕ → Type 0 = λ x. IsStepOf ts cells bs x p in
+          subst P (sym (ap (parts_at (ps ++ p ∷ [])) same ∙ get_or-append_seam ps p [] _)) (subst Q (e ∙ sym same) here)
+    ]
+
+-- one more cell has its parts
+pub planned-more : (ts : List Tree) (old new : List Cell) (ps qs : List Parts) (p : Parts) (bs cs : List ℕ) (root : ℕ) → IsPlanned ts old ps bs root
+    → length ps < length old → Expands ts old bs (length ps) p new cs → qs ≡ ps ++ p ∷ [] → IsPlanned ts new qs cs root
+planned-more ts old new ps qs p bs cs root h l x e =
+    let all : (k : ℕ) → k < length ps + 1 → IsStepOf ts new cs k (parts_at (ps ++ p ∷ []) k) =
+    step-push ts new cs ps p (length ps) refl
+    (λ k a. step_of-grows ts old new x.extends.grows bs cs x.looks k (parts_at ps k) (omega (arith, a, l)) (h.steps k a)) x.step in
+    let long : length qs ≡ length ps + 1 = ap length e ∙ length-append ps (p ∷ []) ∙ omega arith in
+    record {
+      cells_are = x.extends.cells;
+      steps = λ k a. let P : List Parts → Type 0 = λ y. IsStepOf ts new cs k (parts_at y k) in subst P (sym e) (all k (omega arith));
+      root_is = part-grows ts old new x.extends.grows 1 (slice_index_or ts root nothing) 0 0 h.root_is;
+    }
+
+only-last : (ts : List Tree) (cells : List Cell) → cells ≡ last_cell ∷ [] → AreCells ts cells
+only-last ts cells e = subst (λ (x : List Cell). AreCells ts x) (sym e) (record {
+  some = omega arith;
+  last = refl;
+  empty = λ k p l. absurd (omega arith);
+  next = λ k p l. absurd (omega arith);
+  free = free;
+})
+  where
+    free : (k : ℕ) → is_free (item_tree ts (cell_at (last_cell ∷ []) k).item) ≡ true
+    free zero = refl
+    free (suc k) = refl
+
+-- the end and the whole pattern
+pub planned-begin : (ts : List Tree) (old new : List Cell) (ps : List Parts) (bs : List ℕ) (root k : ℕ) → old ≡ last_cell ∷ [] → ps ≡ []
+    → is_free (slice_index_or ts root nothing) ≡ true
+    → (AreCells ts old → CanPush ts old (Node root) 0 0 → Pushes ts old (Node root) 0 0 k new) → IsPlanned ts new ps bs root
+planned-begin ts old new ps bs root k e n free h =
+    let some : 0 < length old = omega (arith, ap length e) in
+    let p = h (only-last ts old e) (record { empty = some; next = some; free = free }) in
+    let one : k ≡ 1 = p.number ∙ ap length e in
+    record {
+      cells_are = p.extends.cells;
+      steps = λ j a. absurd (let z : length ps ≡ 0 = ap length n in omega arith);
+      root_is = subst (λ (x : ℕ). IsPart ts new x (slice_index_or ts root nothing) 0 0) one (part-is ts new k (Node root) 0 0 p.cell);
+    }

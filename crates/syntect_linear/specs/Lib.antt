@@ -2,3 +2,4 @@ pub mod Onward
 pub mod Cells
 pub mod Facts
 pub mod Plan
+pub mod PlanOf

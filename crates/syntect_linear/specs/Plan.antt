@@ -47,6 +47,7 @@ pub record CanPush (ts : List Tree) (cells : List Cell) (item : Item) (f g : ℕ
 
 -- one cell more
 pub record Pushes (ts : List Tree) (old : List Cell) (item : Item) (f g k : ℕ) (new : List Cell) : Type 0 where
+  pub number : k ≡ length old
   pub extends : Extends ts old new
   pub cell : IsCell ts new k item f g
 

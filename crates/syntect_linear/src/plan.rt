@@ -1,5 +1,5 @@
 //! The plan of a search: the cells of a pattern.
-ghost use Rattle.std.specs.Prelude.{◌≡◌, ℕ, ◌<◌, ◌-◌, IfOk, IfSome, List, length, option_map, slice_index_or};
+ghost use Rattle.std.specs.Prelude.{◌≡◌, ℕ, ◌<◌, ◌-◌, [], IfOk, IfSome, List, length, option_map, slice_index_or, true};
 ghost use Rattle.syntect_pattern.specs.Trees.{Tree, alt, nothing, repeat, seq};
 
 use crate::cells::{Cell, Item, Parts, cell_at};
@@ -30,8 +30,9 @@ impl Plan {
     ghost use Rattle.syntect_pattern_table.specs.Table.{node_tree};
     ghost use Rattle.syntect_linear.specs.Cells as spec;
     ghost use Rattle.syntect_linear.specs.Facts.{AreFacts};
-    ghost use Rattle.syntect_linear.specs.Onward.{reads};
+    ghost use Rattle.syntect_linear.specs.Onward.{reads, is_free};
     ghost use Rattle.syntect_linear.specs.Plan.{AreCells, CanPush, Pushes, PushesBoth, PushesPart, Expands, IsPlanned};
+    ghost use Rattle.syntect_linear.specs.PlanOf.{IsPlanOf};
 
     /// Whether each match of the item reads something.
     fn item_reads(&self, item: Item) -> bool
@@ -265,6 +266,51 @@ impl Plan {
                 body,
             } => self.expand_turns(number, cell, greedy, least, most, body),
         }
+    }
+
+    /// The end and the whole pattern.
+    fn begin(alloc: Global, program: &Program, facts: Seq<Facts>) -> Result<Plan, AllocError>
+        requires facts { AreFacts facts (trees_of program.now) }
+        requires free { is_free (slice_index_or (trees_of program.now) program.now.root nothing) ≡ true }
+        ensures facts { IfOk result (λ plan. AreFacts plan.facts (trees_of program.now)) }
+        ensures none { IfOk result (λ plan. plan.parts ≡ []) }
+        ensures planned { IfOk result (λ plan. IsPlanned (trees_of program.now) plan.cells plan.parts plan.behinds program.now.root) }
+    {
+        let mut cells = Seq::new(alloc);
+        cells.push(Cell {
+            item: Item::End,
+            empty: 0,
+            next: 0,
+        })?;
+        let mut plan = Plan {
+            cells,
+            parts: Seq::new(alloc),
+            behinds: Seq::new(alloc),
+            facts,
+        };
+        plan.push(Item::Node(program.root), 0, 0)?;
+        Ok(plan)
+    }
+
+    /// The plan of a program. There is none for a pattern that has a back reference or a lookbehind for more than characters,
+    /// anchors, sequences and branches, nor where too many cells are needed.
+    pub fn new(alloc: Global, program: &Program) -> Result<Option<Plan>, AllocError>
+        ensures { IfOk result (λ found. IfSome found (λ plan. IsPlanOf program.now plan)) }
+    {
+        let facts = facts_of(alloc, program.nodes.as_slice())?;
+        if !facts_at(facts.as_slice(), program.root).free {
+            return Ok(None);
+        }
+        let mut plan = Plan::begin(alloc, program, facts)?;
+        'cells: while plan.parts.len() < plan.cells.len() {
+            if plan.cells.len() > MOST {
+                return Ok(None);
+            }
+            let number = plan.parts.len();
+            let parts = plan.expand(program, number)?;
+            plan.parts.push(parts)?;
+        }
+        Ok(Some(plan))
     }
 }
 
