@@ -5,3 +5,4 @@ pub mod ChosenLaws
 pub mod FactLaws
 pub mod PlanLaws
 pub mod FoldLaws
+pub mod CellLaws

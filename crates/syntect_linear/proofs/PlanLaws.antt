@@ -6,10 +6,10 @@ use Rattle.std.proofs.lemmas.List.{get_or_append_left}
 use Rattle.std.proofs.Math.Seq.{get_or-append_seam}
 use Rattle.syntect_pattern.specs.Trees.{Tree, nothing, one_of, anchor, same, seq, alt, repeat, group, atomic, ahead, behind}
 use Rattle.syntect_linear.specs.Onward.{reads, is_free}
-use Rattle.syntect_linear.specs.Cells.{last_cell, cell_at, parts_at, item_tree}
+use Rattle.syntect_linear.specs.Cells.{last_cell, cell_at, parts_at, item_tree, is_end}
 use Rattle.syntect_linear.specs.Plan.{AreCells, Grows, IsCell, IsPart, Extends, CanPush, Pushes, PushesBoth, PushesPart, IsSequence, IsTurn, TurnIs, LooksFor, IsStep, IsStepOf, Expands, IsPlanned}
 use Rattle.syntect_linear.specs.declared.cells.Item.{Item}
-use Rattle.syntect_linear.specs.declared.cells.Item.TheVariants.{Node}
+use Rattle.syntect_linear.specs.declared.cells.Item.TheVariants.{End, Node, Turns}
 use Rattle.syntect_linear.specs.declared.cells.Cell.{Cell}
 use Rattle.syntect_linear.specs.declared.cells.Parts.{Parts}
 use Rattle.syntect_linear.proofs.TreeLaws.{and_left, and_right}
@@ -35,7 +35,7 @@ module _ (ts : List Tree) (old new : List Cell) (g : Grows old new) where
       }
 
   pub part-grows : (k : ℕ) (t : Tree) (e n : ℕ) → IsPart ts old k t e n → IsPart ts new k t e n
-  part-grows k t e n p = record { item = p.item; cell = cell-grows k p.item e n p.cell; tree = p.tree }
+  part-grows k t e n p = record { item = p.item; real = p.real; cell = cell-grows k p.item e n p.cell; tree = p.tree }
 
   turn-grows : (most : Option ℕ) (P Q : Type 0) → (P → Q) → TurnIs most P → TurnIs most Q
   turn-grows None P Q f h = f h
@@ -89,8 +89,13 @@ turn-is None P h = h
 turn-is (Some zero) P h = tt
 turn-is (Some (suc n)) P h = h
 
-pub part-is : (ts : List Tree) (cells : List Cell) (k : ℕ) (item : Item) (e n : ℕ) → IsCell ts cells k item e n → IsPart ts cells k (item_tree ts item) e n
-part-is ts cells k item e n c = record { item = item; cell = c; tree = refl }
+pub part-is : (ts : List Tree) (cells : List Cell) (k a : ℕ) (e n : ℕ) → IsCell ts cells k (Node a) e n → IsPart ts cells k (slice_index_or ts a nothing) e n
+part-is ts cells k a e n c = record { item = Node a; real = refl; cell = c; tree = refl }
+
+pub loop-real : (ts : List Tree) (item : Item) (greedy : Bool) (least : ℕ) (most : Option ℕ) (a : Tree) → item_tree ts item ≡ repeat greedy least most a → is_end item ≡ false
+loop-real ts End greedy least most a e = cc
+loop-real ts (Node n) greedy least most a e = refl
+loop-real ts (Turns g l m n) greedy least most a e = refl
 
 -- what may be pushed of a cell's tree
 pub can-push : (ts : List Tree) (cells : List Cell) (item : Item) (t : Tree) (e n : ℕ) → e < length cells → n < length cells → item_tree ts item ≡ t → is_free t ≡ true → CanPush ts cells item e n
@@ -117,7 +122,7 @@ expands-loop ts old mid new bs k c greedy least most body first more cells pos i
           step-is ts new bs k (record { first = first; second = 0 }) c (repeat greedy least most (slice_index_or ts body nothing)) (all.grows.kept k inside ∙ is) tree
           (turn-is most _ (record {
             more = more;
-            first_is = part-is ts new first (Node body) c.empty more n.cell;
+            first_is = part-is ts new first body c.empty more n.cell;
             more_is = part-grows ts mid new n.extends.grows more rest c.next c.next m.part;
           }));
     }
@@ -151,9 +156,9 @@ module _ (ts : List Tree) (old : List Cell) (bs : List ℕ) (k : ℕ) (c : Cell)
             (record {
               at = at;
               behind_it = beyond;
-              first_is = part-is ts new first (Node a) at beyond n.cell;
-              second_is = part-is ts new beyond (Node b) c.next c.next (cell-grows ts mid new n.extends.grows beyond (Node b) c.next c.next m.next);
-              again_is = λ r. part-is ts new at (Node b) c.empty c.next (cell-grows ts mid new n.extends.grows at (Node b) c.empty c.next (m.empty r));
+              first_is = part-is ts new first a at beyond n.cell;
+              second_is = part-is ts new beyond b c.next c.next (cell-grows ts mid new n.extends.grows beyond (Node b) c.next c.next m.next);
+              again_is = λ r. part-is ts new at b c.empty c.next (cell-grows ts mid new n.extends.grows at (Node b) c.empty c.next (m.empty r));
             });
       }
 
@@ -174,8 +179,8 @@ module _ (ts : List Tree) (old : List Cell) (bs : List ℕ) (k : ℕ) (c : Cell)
         looks = λ n a h. h;
         step =
             step-is ts new bs k (record { first = first; second = second }) c (alt x y) (all.grows.kept k inside ∙ is) tree
-            (part-is ts new first (Node a) c.empty c.next (cell-grows ts mid new n.extends.grows first (Node a) c.empty c.next m.cell),
-            part-is ts new second (Node b) c.empty c.next n.cell);
+            (part-is ts new first a c.empty c.next (cell-grows ts mid new n.extends.grows first (Node a) c.empty c.next m.cell),
+            part-is ts new second b c.empty c.next n.cell);
       }
 
   -- the cell has one part, which goes on there
@@ -190,7 +195,7 @@ module _ (ts : List Tree) (old : List Cell) (bs : List ℕ) (k : ℕ) (c : Cell)
         looks = λ n a h. h;
         step =
             step-is ts new bs k p c (group n x) (m.extends.grows.kept k inside ∙ is) tree
-            (part-is ts new p.first (Node a) c.empty c.next m.cell);
+            (part-is ts new p.first a c.empty c.next m.cell);
       }
 
 step-push : (ts : List Tree) (cells : List Cell) (bs : List ℕ) (ps : List Parts) (p : Parts) (n : ℕ) → n ≡ length ps
@@ -244,5 +249,5 @@ planned-begin ts old new ps bs root k e n free h =
     record {
       cells_are = p.extends.cells;
       steps = λ j a. absurd (let z : length ps ≡ 0 = ap length n in omega arith);
-      root_is = subst (λ (x : ℕ). IsPart ts new x (slice_index_or ts root nothing) 0 0) one (part-is ts new k (Node root) 0 0 p.cell);
+      root_is = subst (λ (x : ℕ). IsPart ts new x (slice_index_or ts root nothing) 0 0) one (part-is ts new k root 0 0 p.cell);
     }

@@ -1,5 +1,5 @@
 -- The cells of a plan, and what goes on from them.
-use Rattle.std.specs.Prelude.{ℕ, zero, suc, ◌+◌, ◌-◌, Bool, List, [], ◌∷◌, ◌++◌, Option, Some, if◌then◌else◌, slice_index_or}
+use Rattle.std.specs.Prelude.{ℕ, zero, suc, ◌+◌, ◌-◌, Bool, true, false, List, [], ◌∷◌, ◌++◌, Option, Some, if◌then◌else◌, slice_index_or}
 use Rattle.syntect_pattern.specs.Trees.{Tree, nothing, one_of, anchor, same, seq, alt, repeat, group, atomic, ahead, behind}
 use Rattle.syntect_linear.specs.Onward.{Onward, moved, reads, onward}
 use Rattle.syntect_linear.specs.declared.cells.Item.{Item}
@@ -54,14 +54,25 @@ module _ (s : List ℕ) (ts : List Tree) where
   unfoldable pub ends : List Cell → ℕ → Onward
   ends cells k = slice_index_or (ends_from [] cells) k Some
 
+-- the whole match ends there
+abbrev pub is_end : Item → Bool
+is_end End = true
+is_end _ = false
+
 module _ (ts : List Tree) where
-  -- how much of the pattern can be gone through at one place from the cell on
+  -- how much of the pattern can be gone through at one place from the item on, before what goes on at the place
+  abbrev pub item_height : ℕ → Item → ℕ
+  item_height rest End = zero
+  item_height rest (Node n) = tree_size (item_tree ts (Node n)) + (if reads (item_tree ts (Node n)) then 0 else rest)
+  item_height rest (Turns greedy least most n) = tree_size (item_tree ts (Turns greedy least most n)) + (if reads (item_tree ts (Turns greedy least most n)) then 0 else rest)
+
   abbrev pub cell_height : List ℕ → Cell → ℕ
-  cell_height before c = tree_size (item_tree ts c.item) + (if reads (item_tree ts c.item) then 0 else slice_index_or before c.empty 0)
+  cell_height before c = item_height (slice_index_or before c.empty 0) c.item
 
   abbrev pub heights_from : List ℕ → List Cell → List ℕ
   heights_from before [] = before
   heights_from before (c ∷ cells) = heights_from (before ++ cell_height before c ∷ []) cells
 
+  -- the same of the cell with the number
   unfoldable pub height : List Cell → ℕ → ℕ
   height cells k = slice_index_or (heights_from [] cells) k 0

@@ -2,7 +2,7 @@
 use Rattle.std.specs.Prelude.{◌≡◌, ℕ, zero, suc, ◌-◌, ◌<◌, ◌≤◌, Bool, true, false, List, length, Option, Some, None, option_map, slice_index_or}
 use Rattle.syntect_pattern.specs.Trees.{Tree, nothing, one_of, anchor, same, seq, alt, repeat, group, atomic, ahead, behind}
 use Rattle.syntect_linear.specs.Onward.{reads, is_free}
-use Rattle.syntect_linear.specs.Cells.{last_cell, cell_at, parts_at, item_tree}
+use Rattle.syntect_linear.specs.Cells.{last_cell, cell_at, parts_at, item_tree, is_end}
 use Rattle.syntect_linear.specs.declared.cells.Item.{Item}
 use Rattle.syntect_linear.specs.declared.cells.Item.TheVariants.{Node}
 use Rattle.syntect_linear.specs.declared.cells.Cell.{Cell}
@@ -31,6 +31,7 @@ pub record IsCell (ts : List Tree) (cells : List Cell) (k : ℕ) (item : Item) (
 -- the same by the tree of the item
 pub record IsPart (ts : List Tree) (cells : List Cell) (k : ℕ) (t : Tree) (f g : ℕ) : Type 0 where
   pub item : Item
+  pub real : is_end item ≡ false
   pub cell : IsCell ts cells k item f g
   pub tree : item_tree ts item ≡ t
 
