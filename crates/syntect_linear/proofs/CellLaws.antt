@@ -11,7 +11,7 @@ use Rattle.syntect_linear.specs.declared.cells.Cell.{Cell}
 use Rattle.syntect_linear.proofs.FoldLaws.{made_from, DependsOn, made}
 use Rattle.syntect_linear.proofs.OnwardLaws.{onward-reads}
 
-either-bool : (b : Bool) → (b ≡ true) ⊎ (b ≡ false)
+pub either-bool : (b : Bool) → (b ≡ true) ⊎ (b ≡ false)
 either-bool true = inl refl
 either-bool false = inr refl
 
@@ -38,6 +38,9 @@ module _ (ts : List Tree) (cells : List Cell) (h : AreCells ts cells) where
       ap (λ (xs : List ℕ). get_or xs k 0) (heights-made [] cells)
       ∙ made ℕ Cell 0 last_cell (cell_height ts) cells height-depends k l
       ∙ ap (λ (xs : List ℕ). cell_height ts xs (cell_at cells k)) (sym (heights-made [] cells))
+
+  pub height-end : height ts cells 0 ≡ 0
+  height-end = height-is 0 h.some ∙ ap (λ (c : Cell). item_height ts (height ts cells c.empty) c.item) h.last
 
   item-high : (rest : ℕ) (item : Item) → is_end item ≡ false → item_height ts rest item ≡ tree_size (item_tree ts item) + (if reads (item_tree ts item) then 0 else rest)
   item-high rest End e = cc

@@ -6,3 +6,4 @@ pub mod FactLaws
 pub mod PlanLaws
 pub mod FoldLaws
 pub mod CellLaws
+pub mod StepLaws

@@ -225,3 +225,19 @@ module _ (s : List ℕ) where
         ∙ ap (λ (o : Option ℕ). prefer_end greedy (turn_end most o) (end_if (least == 0) (moved i f g i)))
         (onward-alike a (moved i (moved i f g) (onward s t (moved i f g))) (moved i f (following t g g)) i c (λ j l d. turn-moved t f g i j l d))
         ∙ ap (λ (o : Option ℕ). prefer_end greedy (turn_end most (onward s a (moved i f (following t g g)) i)) (end_if (least == 0) o)) (moved-at i f g)
+
+    each-first : (P : Member → Type 0) (ms : List Member) (e : ℕ) → Each P ms → reaches (λ j. Some j) ms ≡ Some e → (g : Groups) × P (e, g)
+    each-first P [] e h q = absurd cc
+    each-first P (m ∷ ms) e h q =
+        let same : m.0 ≡ e = let z : Some m.0 ≡ Some e = q in cc in
+        let Q : ℕ → Type 0 = λ j. P (j, m.1) in
+        (m.1, subst Q same h.0)
+
+    -- where the first match of a part ends
+    pub first-ends : (t : Tree) (i e : ℕ) → IsCharBoundary s i → onward s t (λ j. Some j) i ≡ Some e → (i ≤ e) × IsCharBoundary s e
+    unfolding onward
+    first-ends t i e c q = (each-first (Ahead i) (matches s t i []) e (matches-forward s u t i [] c) q).1
+
+    pub first-behind : (t : Tree) (i e : ℕ) → IsCharBoundary s i → reads t ≡ true → onward s t (λ j. Some j) i ≡ Some e → i < e
+    unfolding onward
+    first-behind t i e c r q = (each-first (λ m. i < m.0) (matches s t i []) e (behind-matches s u t r i [] c) q).1

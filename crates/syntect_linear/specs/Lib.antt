@@ -3,3 +3,4 @@ pub mod Cells
 pub mod Facts
 pub mod Plan
 pub mod PlanOf
+pub mod Rows
