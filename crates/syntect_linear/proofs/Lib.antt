@@ -7,3 +7,4 @@ pub mod PlanLaws
 pub mod FoldLaws
 pub mod CellLaws
 pub mod StepLaws
+pub mod GroundLaws

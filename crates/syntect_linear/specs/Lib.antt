@@ -4,3 +4,5 @@ pub mod Facts
 pub mod Plan
 pub mod PlanOf
 pub mod Rows
+pub mod Ground
+pub mod Step

@@ -73,6 +73,11 @@ abbrev pub turn_end : Option ℕ → Option ℕ → Option ℕ
 turn_end (Some zero) o = None
 turn_end _ o = o
 
+-- there may be a turn
+abbrev pub has_turn : Option ℕ → Bool
+has_turn (Some zero) = false
+has_turn _ = true
+
 -- the end, where the test holds
 abbrev pub end_if : Bool → Option ℕ → Option ℕ
 end_if b o = if b then o else None

@@ -2,13 +2,9 @@
 use Rattle.std.specs.Prelude.{◌≡◌, ℕ, ◌-◌, ◌<◌, ◌≤◌, Bool, true, false, List, [], length, Option, Some, None, slice_index_or, is_some, IsUtf8, IsCharBoundary}
 use Rattle.syntect_pattern.specs.Trees.{Tree, nothing}
 use Rattle.syntect_pattern.specs.Matches.{matches, ending_here}
-use Rattle.syntect_pattern_table.specs.Program.{trees_of}
-use Rattle.syntect_pattern_table.specs.declared.program.Program.{Program}
 use Rattle.syntect_linear.specs.Onward.{reaches}
 use Rattle.syntect_linear.specs.Cells.{ends}
-use Rattle.syntect_linear.specs.PlanOf.{IsPlanOf}
 use Rattle.syntect_linear.specs.declared.cells.Cell.{Cell}
-use Rattle.syntect_linear.specs.declared.plan.Plan.{Plan}
 
 -- the end that a row has for a cell
 abbrev pub row_end : List (List (Option ℕ)) → ℕ → ℕ → Option ℕ
@@ -36,12 +32,3 @@ module _ (s : List ℕ) (ts : List Tree) where
   abbrev pub AreSights : List ℕ → List (List Bool) → Type 0
   AreSights behinds sights = (b p : ℕ) → b < length behinds → IsCharBoundary s p
       → row_flag sights b p ≡ ends_here s (slice_index_or ts (slice_index_or behinds b 0) nothing) p
-
--- all rows are there of the places behind this one, and those of lookbehinds
-pub record IsReady (s : List ℕ) (p : Program) (plan : Plan) (sights : List (List Bool)) (rows : List (List (Option ℕ))) (place : ℕ) : Type 0 where
-  pub utf8 : IsUtf8 s
-  pub plan_is : IsPlanOf p plan
-  pub sights_are : AreSights s (trees_of p) plan.behinds sights
-  pub rows_are : AreRows s (trees_of p) plan.cells rows
-  pub later : length s - place ≤ length rows
-  pub boundary : IsCharBoundary s place

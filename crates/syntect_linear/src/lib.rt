@@ -3,4 +3,7 @@
 
 pub mod cells;
 pub mod facts;
+pub mod ground;
 pub mod plan;
+pub mod reach;
+pub mod rows;
