@@ -8,3 +8,4 @@ pub mod FoldLaws
 pub mod CellLaws
 pub mod StepLaws
 pub mod GroundLaws
+pub mod RowLaws

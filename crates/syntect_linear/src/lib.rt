@@ -3,6 +3,7 @@
 
 pub mod cells;
 pub mod facts;
+mod fill;
 pub mod ground;
 pub mod plan;
 pub mod reach;
