@@ -26,7 +26,7 @@ some-is (Some v) e = (v, refl)
 pub chosen-one : (F : Onward) (i : ℕ) (g : Groups) → is_some (F i) ≡ true → chosen F ((i, g) ∷ []) ≡ Some (i, g)
 chosen-one F i g e = rw e refl
 
-chosen-past : (test : ℕ → Bool) (o : Option ℕ) (F : Onward) (i j : ℕ) (g : Groups) → after_char test o i ≡ Some j → is_some (F j) ≡ true → chosen F (past test o i g) ≡ Some (j, g)
+pub chosen-past : (test : ℕ → Bool) (o : Option ℕ) (F : Onward) (i j : ℕ) (g : Groups) → after_char test o i ≡ Some j → is_some (F j) ≡ true → chosen F (past test o i g) ≡ Some (j, g)
 chosen-past test None F i j g e h = absurd cc
 chosen-past test (Some c) F i j g e h = by (test c) e
   where
@@ -34,7 +34,7 @@ chosen-past test (Some c) F i j g e h = by (test c) e
     by true e = let same : i + len_utf8 c ≡ j = cc in rw same (chosen-one F j g h)
     by false e = absurd cc
 
-chosen-close : (F : Onward) (n i : ℕ) (ms : List Member) → chosen F (map (close n i) ms) ≡ option_map (close n i) (chosen F ms)
+pub chosen-close : (F : Onward) (n i : ℕ) (ms : List Member) → chosen F (map (close n i) ms) ≡ option_map (close n i) (chosen F ms)
 chosen-close F n i [] = refl
 chosen-close F n i (m ∷ ms) = ap (λ (o : Option Member). if is_some (F m.0) then Some (close n i m) else o) (chosen-close F n i ms) ∙ by (is_some (F m.0))
   where
@@ -43,17 +43,17 @@ chosen-close F n i (m ∷ ms) = ap (λ (o : Option Member). if is_some (F m.0) t
     by false = refl
 
 -- the first member leads on
-chosen-first : (F : Onward) (ms : List Member) (m : Member) → chosen (λ j. Some j) ms ≡ Some m → is_some (F m.0) ≡ true → chosen F (take 1 ms) ≡ Some m
+pub chosen-first : (F : Onward) (ms : List Member) (m : Member) → chosen (λ j. Some j) ms ≡ Some m → is_some (F m.0) ≡ true → chosen F (take 1 ms) ≡ Some m
 chosen-first F [] m e h = cc
 chosen-first F (x ∷ ms) m e h = let same : x ≡ m = cc in rw same (chosen-one F m.0 m.1 h)
 
-chosen-stay : (F : Onward) (i : ℕ) (g : Groups) (ms : List Member) (m : Member) → chosen (λ j. Some j) ms ≡ Some m → is_some (F i) ≡ true → chosen F (look false i g ms) ≡ Some (i, m.1)
+pub chosen-stay : (F : Onward) (i : ℕ) (g : Groups) (ms : List Member) (m : Member) → chosen (λ j. Some j) ms ≡ Some m → is_some (F i) ≡ true → chosen F (look false i g ms) ≡ Some (i, m.1)
 chosen-stay F i g [] m e h = cc
 chosen-stay F i g (x ∷ ms) m e h = let same : x ≡ m = cc in rw same (chosen-one F i m.1 h)
 
 -- -- Ways that keep the groups and the place
 
-stays-look : (negated : Bool) (i : ℕ) (g : Groups) (ms : List Member) → Each (λ m. m.0 ≡ i) (look negated i g ms)
+pub stays-look : (negated : Bool) (i : ℕ) (g : Groups) (ms : List Member) → Each (λ m. m.0 ≡ i) (look negated i g ms)
 stays-look false i g [] = tt
 stays-look false i g (m ∷ ms) = (refl, tt)
 stays-look true i g [] = (refl, tt)
@@ -104,7 +104,7 @@ module _ (s : List ℕ) (u : IsUtf8 s) where
   unfolding onward
   reaches-any t e F i h = reaches-ends F _ _ (ends-matches s t e i h [])
 
-  chosen-forward : (t : Tree) (F G : Onward) (i : ℕ) (h : Groups) → IsCharBoundary s i → ((j : ℕ) → i ≤ j → IsCharBoundary s j → F j ≡ G j)
+  pub chosen-forward : (t : Tree) (F G : Onward) (i : ℕ) (h : Groups) → IsCharBoundary s i → ((j : ℕ) → i ≤ j → IsCharBoundary s j → F j ≡ G j)
       → chosen F (matches s t i h) ≡ chosen G (matches s t i h)
   chosen-forward t F G i h c k = chosen-alike (Ahead s u i) F G (matches s t i h) (matches-forward s u t i h c) (λ m p. k m.0 p.0 p.1)
 

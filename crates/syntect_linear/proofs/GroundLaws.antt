@@ -193,12 +193,12 @@ module _ (x : Ground) (place k : ℕ) (r : IsReady x place) where
   turn-lower (Some zero) n q b e = cc
   turn-lower (Some (suc m)) n q b e = below _ n q b
 
-  turn-if : (most o : Option ℕ) → turn_end most o ≡ end_if (has_turn most) o
+  pub turn-if : (most o : Option ℕ) → turn_end most o ≡ end_if (has_turn most) o
   turn-if None o = refl
   turn-if (Some zero) o = refl
   turn-if (Some (suc n)) o = refl
 
-  zero-is : (least : ℕ) → (least == 0) ≡ true → least ≡ 0
+  pub zero-is : (least : ℕ) → (least == 0) ≡ true → least ≡ 0
   zero-is least e = grind arith
 
   pub loop-goes : (greedy : Bool) (least : ℕ) (most : Option ℕ) (a : Tree) → At (repeat greedy least most a) → (n e : ℕ) → IsFirst n → IsEmpty e

@@ -9,3 +9,6 @@ pub mod CellLaws
 pub mod StepLaws
 pub mod GroundLaws
 pub mod RowLaws
+pub mod WalkLaws
+pub mod SequenceLaws
+pub mod LoopLaws

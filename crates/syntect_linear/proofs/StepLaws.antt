@@ -56,7 +56,7 @@ module _ (s : List ℕ) (ts : List Tree) (cells : List Cell) (parts : List Parts
     tree = x.tree;
   }
 
-  step : (t : Tree) → At t → IsStep ts cells behinds f g p t
+  pub step : (t : Tree) → At t → IsStep ts cells behinds f g p t
   step t x = let P : Tree → Type 0 = λ y. IsStep ts cells behinds f g p y in subst P x.tree (x.planned.steps k (omega (arith, x.inside, x.whole)))
 
   pub free : (t : Tree) → At t → is_free t ≡ true
@@ -77,21 +77,21 @@ module _ (s : List ℕ) (ts : List Tree) (cells : List Cell) (parts : List Parts
   pub goes : (t : Tree) → At t → (i : ℕ) → IsCharBoundary s i → E k i ≡ onward s t (moved i (E f) (E g)) i
   goes t x i c = ends-part s ts cells x.planned.cells_are x.utf8 k t f g i c (own t x)
 
-  part-goes : (t : Tree) → At t → (n : ℕ) (a : Tree) (e h i : ℕ) → IsCharBoundary s i → IsPart ts cells n a e h → E n i ≡ onward s a (moved i (E e) (E h)) i
+  pub part-goes : (t : Tree) → At t → (n : ℕ) (a : Tree) (e h i : ℕ) → IsCharBoundary s i → IsPart ts cells n a e h → E n i ≡ onward s a (moved i (E e) (E h)) i
   part-goes t x n a e h i c q = ends-part s ts cells x.planned.cells_are x.utf8 n a e h i c q
 
   part-high : (t : Tree) → At t → (n : ℕ) (a : Tree) (e h : ℕ) → IsPart ts cells n a e h → H n ≡ tree_size a + (if reads a then 0 else H e)
   part-high t x n a e h q = height-part ts cells x.planned.cells_are n a e h q
 
   -- a part that follows another one
-  following-is : (t : Tree) (x : At t) (n : ℕ) (b : Tree) (e h i : ℕ) → IsCharBoundary s i → IsPart ts cells n b e h → following s x.utf8 b (E e) (E h) i ≡ E n i
+  pub following-is : (t : Tree) (x : At t) (n : ℕ) (b : Tree) (e h i : ℕ) → IsCharBoundary s i → IsPart ts cells n b e h → following s x.utf8 b (E e) (E h) i ≡ E n i
   following-is t x n b e h i c q = sym (part-goes t x n b e h i c q)
 
   -- the end of the match
-  zero-ends : (t : Tree) → At t → (i : ℕ) → E 0 i ≡ Some i
+  pub zero-ends : (t : Tree) → At t → (i : ℕ) → E 0 i ≡ Some i
   zero-ends t x i = ends-end s ts cells x.planned.cells_are 0 i (ap (λ (c : Cell). is_end c.item) x.planned.cells_are.last) x.planned.cells_are.some
 
-  region : (t : Tree) → At t → (n : ℕ) (a : Tree) (i : ℕ) → IsCharBoundary s i → IsPart ts cells n a 0 0 → E n i ≡ onward s a Some i
+  pub region : (t : Tree) → At t → (n : ℕ) (a : Tree) (i : ℕ) → IsCharBoundary s i → IsPart ts cells n a 0 0 → E n i ≡ onward s a Some i
   region t x n a i c q =
       part-goes t x n a 0 0 i c q
       ∙ onward-alike s x.utf8 a (moved i (E 0) (E 0)) Some i c (λ j l d. moved-same i j (E 0) ∙ zero-ends t x j)
@@ -266,7 +266,7 @@ module _ (s : List ℕ) (ts : List Tree) (cells : List Cell) (parts : List Parts
         (λ j l d. ap (λ (o : Option ℕ). if j == i then E f j else o) (following-is t x h.more rest g g j d h.more_is))
         ∙ sym (part-goes t x p.first a f h.more i c h.first_is)
 
-    turn-ends : (greedy : Bool) (least : ℕ) (most : Option ℕ) (a : Tree) (x : At (repeat greedy least most a)) (m : Option ℕ)
+    pub turn-ends : (greedy : Bool) (least : ℕ) (most : Option ℕ) (a : Tree) (x : At (repeat greedy least most a)) (m : Option ℕ)
         → TurnIs m (IsTurn ts cells f g p.first greedy least most a)
         → turn_end m (onward s a (moved i (E f) (following s x.utf8 (repeat greedy (least - 1) (option_map (λ k. k - 1) most) a) (E g) (E g))) i) ≡ turn_end m (E p.first i)
     turn-ends greedy least most a x None h = turn-reaches greedy least most a x h

@@ -172,6 +172,19 @@ keeps_groups s = record {
 pub bare-groups : (s : List ℕ) → IsUtf8 s → (t : Tree) → is_bare t ≡ true → (i : ℕ) (g : Groups) → Each (λ m. m.1 ≡ g) (matches s t i g)
 bare-groups s u t e i g = steps-matches s u (λ _. true) KeepsGroups (keeps_groups s) true t e i g
 
+pub plain-bare : (t : Tree) → plain t ≡ true → is_bare t ≡ true
+plain-bare nothing e = refl
+plain-bare (one_of a) e = refl
+plain-bare (anchor a) e = refl
+plain-bare (same fold n) e = refl
+plain-bare (seq a b) e = ap (λ x. x && is_bare b) (plain-bare a (and_left _ _ e)) ∙ plain-bare b (and_right (plain a) _ e)
+plain-bare (alt a b) e = ap (λ x. x && is_bare b) (plain-bare a (and_left _ _ e)) ∙ plain-bare b (and_right (plain a) _ e)
+plain-bare (repeat greedy least most a) e = cc
+plain-bare (group n a) e = cc
+plain-bare (atomic a) e = cc
+plain-bare (ahead negated a) e = cc
+plain-bare (behind negated a) e = cc
+
 -- -- A tree that reads goes on
 
 module _ (s : List ℕ) (u : IsUtf8 s) where

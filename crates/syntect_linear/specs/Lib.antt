@@ -6,3 +6,4 @@ pub mod PlanOf
 pub mod Rows
 pub mod Ground
 pub mod Step
+pub mod Walk

@@ -8,3 +8,4 @@ pub mod ground;
 pub mod plan;
 pub mod reach;
 pub mod rows;
+pub mod walk;

@@ -315,7 +315,7 @@ impl Plan {
 }
 
 /// One turn less, if there is a limit.
-fn one_less(most: Option<u32>) -> Option<u32>
+pub(crate) fn one_less(most: Option<u32>) -> Option<u32>
     ensures { result ≡ option_map (λ k. k - 1) most }
 {
     match most {

@@ -171,7 +171,7 @@ fn looks(found: bool, negated: bool) -> bool
 }
 
 /// Whether there may be a turn.
-fn may_turn(most: Option<u32>) -> bool
+pub(crate) fn may_turn(most: Option<u32>) -> bool
     ensures { result ≡ has_turn most }
 {
     match most {
