@@ -41,6 +41,17 @@ pub record Continues (x : Ground) (k place : ℕ) (g : Groups) (turn at : ℕ) (
   pub size : size_of x turn ≡ size_of x k
   pub same : (end : ℕ) (l : Groups) → Walks x turn at h end l → Walks x k place g end l
 
+-- what goes on behind a part that ended there
+abbrev pub follow : Ground → ℕ → ℕ → ℕ → ℕ
+follow x m mid place = if mid == place then (cell_at x.plan.now.cells m).empty else (cell_at x.plan.now.cells m).next
+
+pub loop-is : (x : Ground) (m : ℕ) (greedy : Bool) (least less : ℕ) (most fewer : Option ℕ) (a : Tree) → less ≡ least - 1 → fewer ≡ option_map (λ j. j - 1) most
+    → IsTreeAt x m (repeat greedy (least - 1) (option_map (λ j. j - 1) most) a) → IsTreeAt x m (repeat greedy less fewer a)
+loop-is x m greedy least less most fewer a e f h =
+    let P : ℕ → Type 0 = λ l. IsTreeAt x m (repeat greedy l fewer a) in
+    let Q : Option ℕ → Type 0 = λ o. IsTreeAt x m (repeat greedy (least - 1) o a) in
+    subst P (sym e) (subst Q (sym f) h)
+
 pub chosen-each : (P : Member → Type 0) (F : Onward) (ms : List Member) (m : Member) → Each P ms → chosen F ms ≡ Some m → P m
 chosen-each P F [] m e q = absurd cc
 chosen-each P F (y ∷ ms) m e q = by (chosen-each P F ms m e.1) (is_some (F y.0)) q

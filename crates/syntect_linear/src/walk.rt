@@ -109,7 +109,10 @@ fn walk_node(
         }
         Node::Atomic(_) => walk(ground, place, parts.first, groups),
         Node::Ahead { negated, body } => {
-            if *negated || facts_at(ground.plan.facts.as_slice(), *body).bare {
+            if *negated {
+                return place;
+            }
+            if facts_at(ground.plan.facts.as_slice(), *body).bare {
                 return place;
             }
             let _ = walk(ground, place, parts.first, groups);
