@@ -7,7 +7,7 @@ use Rattle.syntect_pattern.specs.Text.{char_at}
 use Rattle.syntect_pattern.specs.Sets.{Set, holds}
 use Rattle.syntect_pattern.specs.Matches.{stands}
 use Rattle.syntect_ways.specs.Steps.{after_char}
-use Rattle.syntect_linear.specs.Onward.{moved, prefer_end, turn_end, has_turn, end_if}
+use Rattle.syntect_linear.specs.Onward.{plain, moved, prefer_end, turn_end, has_turn, end_if}
 use Rattle.syntect_linear.specs.Plan.{TurnIs}
 use Rattle.syntect_linear.proofs.OnwardLaws.{moved-at, moved-past}
 use Rattle.syntect_pattern.specs.Trees.{Anchor, Tree, nothing, one_of, anchor, same, seq, alt, repeat, group, atomic, ahead, behind}
@@ -19,7 +19,7 @@ use Rattle.syntect_linear.specs.Step.{IsTreeAt}
 use Rattle.syntect_linear.specs.declared.ground.Ground.{Ground}
 use Rattle.syntect_linear.specs.declared.cells.Cell.{Cell}
 use Rattle.syntect_linear.specs.declared.cells.Parts.{Parts}
-use Rattle.syntect_linear.proofs.StepLaws.{IsAt, Below, g-inside, at-nothing, at-anchor, at-one_of, at-seq, at-alt, at-group, at-atomic, atomic-ends, atomic-empty, at-ahead, at-behind, at-repeat}
+use Rattle.syntect_linear.proofs.StepLaws.{IsAt, Below, free, g-inside, at-nothing, at-anchor, at-one_of, at-seq, at-alt, at-group, at-atomic, atomic-ends, atomic-empty, at-ahead, at-behind, at-repeat}
 
 pub tree-at : (x : Ground) (place k : ℕ) (t : Tree) → IsReady x place → IsTreeAt x k t
     → IsAt x.text.now (trees_of x.program.now) x.plan.now.cells x.plan.now.parts x.plan.now.behinds k t
@@ -132,7 +132,7 @@ module _ (x : Ground) (place k : ℕ) (r : IsReady x place) where
       let g = at-behind s ts cells parts behinds k place r.boundary negated a (tree-at x place k (behind negated a) r h) in
       let seen : flag ≡ ends_here s a place =
       z ∙ ap (λ (j : ℕ). row_flag x.sights.now j place) q
-      ∙ r.sights_are (parts_at parts k).first place g.1.inside r.boundary
+      ∙ r.sights_are (parts_at parts k).first place g.1.inside (ap plain g.1.tree ∙ free s ts cells parts behinds k (behind negated a) (tree-at x place k (behind negated a) r h)) r.boundary
       ∙ ap (λ (t : Tree). ends_here s t place) g.1.tree in
       (g.0
       ∙ ap (λ (b : Bool). end_if (if negated then not b else b) (ends_at x (cell_at cells k).empty place)) (sym seen)

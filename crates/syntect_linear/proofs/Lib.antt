@@ -12,3 +12,4 @@ pub mod RowLaws
 pub mod WalkLaws
 pub mod SequenceLaws
 pub mod LoopLaws
+pub mod SightLaws

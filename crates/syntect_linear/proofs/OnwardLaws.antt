@@ -133,7 +133,7 @@ module _ (s : List ℕ) where
     unfolding onward
     leads t e F P m p = reaches-ends F _ _ (ends-matches s t e m.0 m.1 [])
 
-    onward-then : (a b : Tree) → is_free b ≡ true → (F : Onward) (i : ℕ) → IsCharBoundary s i → onward s (seq a b) F i ≡ onward s a (onward s b F) i
+    pub onward-then : (a b : Tree) → is_free b ≡ true → (F : Onward) (i : ℕ) → IsCharBoundary s i → onward s (seq a b) F i ≡ onward s a (onward s b F) i
     unfolding onward
     onward-then a b e F i c =
         reaches-flat_map (Ahead i) F (onward s b F) (λ m. matches s b m.0 m.1) (matches s a i []) (matches-forward s u a i [] c) (leads b e F (Ahead i))

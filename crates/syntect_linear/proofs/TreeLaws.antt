@@ -105,7 +105,7 @@ module _ (s : List ℕ) where
       (ends-if (is_boundary s (suc k)) i _ _ (ends-ending_at i (body (suc k) g) (body (suc k) h) (e (suc k) g h)))
       (ends-ending_here body e k i g h)
 
-  plain-free : (t : Tree) → plain t ≡ true → is_free t ≡ true
+  pub plain-free : (t : Tree) → plain t ≡ true → is_free t ≡ true
   plain-free nothing e = refl
   plain-free (one_of a) e = refl
   plain-free (anchor a) e = refl

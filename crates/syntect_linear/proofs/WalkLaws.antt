@@ -77,7 +77,7 @@ filled-on x place q h l c = record {
 pub row-here : (x : Ground) (place k : ℕ) → IsFilled x place → IsIn x k → row_end x.rows.now (length x.text.now - place) k ≡ ends_at x k place
 row-here x place k h i = h.ready.rows_are place k h.here h.ready.boundary i
 
-then-some : (F : Onward) (o : Option ℕ) → is_some (option_and_then F o) ≡ true → (j : ℕ) × (o ≡ Some j) × (is_some (F j) ≡ true)
+pub then-some : (F : Onward) (o : Option ℕ) → is_some (option_and_then F o) ≡ true → (j : ℕ) × (o ≡ Some j) × (is_some (F j) ≡ true)
 then-some F None e = absurd cc
 then-some F (Some j) e = (j, refl, e)
 
