@@ -8,6 +8,7 @@ use Rattle.syntect_pattern.specs.Trees.{Tree, nothing, one_of, anchor, same, seq
 use Rattle.syntect_pattern.specs.Matches.{Member, Way, ending_at, or_else, stands, matches, ending_here}
 use Rattle.syntect_pattern.proofs.Each.{Each}
 use Rattle.syntect_pattern_laws.proofs.TurnLaws.{matches-forward}
+use Rattle.std.proofs.lemmas.Str.{IsCharBoundary-start}
 use Rattle.syntect_ways.specs.Steps.{after_char}
 use Rattle.syntect_ways.proofs.BoundaryLaws.{boundary-true, true-boundary}
 use Rattle.syntect_linear.specs.Onward.{Onward, reaches, chosen, onward, end_if, is_free, plain}
@@ -151,3 +152,174 @@ module _ (s : List ℕ) where
     sound = λ j f. let z = h.sound j f in (z.0, z.1, single-led t e z.0 j z.2);
     complete = λ q j f l. h.complete q j (flag-past before q f) f (single-leads t e q j l);
   }
+
+-- -- Parts
+
+is-place : (i j : ℕ) → is_some (only_at j i) ≡ true → i ≡ j
+is-place i j e = let z = if-some (i == j) (Some i) e in let q : (i == j) ≡ true = z.0 in grind arith
+
+at-place : (i j : ℕ) → i ≡ j → is_some (only_at j i) ≡ true
+at-place i j e = let q : (i == j) ≡ true = grind arith in rw q refl
+
+member-reached : (F : Onward) (ms : List Member) (m : Member) → chosen F ms ≡ Some m → is_some (reaches (only_at m.0) ms) ≡ true
+member-reached F [] m e = cc
+member-reached F (y ∷ ms) m e = by (member-reached F ms m) (is_some (F y.0)) e
+  where
+    some-left : (o p : Option ℕ) → is_some o ≡ true → is_some (option_or o p) ≡ true
+    some-left None p e = absurd cc
+    some-left (Some v) p e = refl
+
+    some-right : (o p : Option ℕ) → is_some p ≡ true → is_some (option_or o p) ≡ true
+    some-right None p e = e
+    some-right (Some v) p e = refl
+
+    by : (chosen F ms ≡ Some m → is_some (reaches (only_at m.0) ms) ≡ true) → (b : Bool) → (if b then Some y else chosen F ms) ≡ Some m
+        → is_some (option_or (only_at m.0 y.0) (reaches (only_at m.0) ms)) ≡ true
+    by more true e = let same : y ≡ m = cc in some-left (only_at m.0 y.0) _ (at-place y.0 m.0 (ap (λ (x : Member). x.0) same))
+    by more false e = some-right (only_at m.0 y.0) _ (more e)
+
+place-reached : (G : Onward) (ms : List Member) (j : ℕ) → is_some (reaches (only_at j) ms) ≡ true → is_some (G j) ≡ true → is_some (reaches G ms) ≡ true
+place-reached G [] j e h = absurd cc
+place-reached G (y ∷ ms) j e h = by (only_at j y.0) refl e (place-reached G ms j)
+  where
+    some-left : (o p : Option ℕ) → is_some o ≡ true → is_some (option_or o p) ≡ true
+    some-left None p e = absurd cc
+    some-left (Some v) p e = refl
+
+    some-right : (o p : Option ℕ) → is_some p ≡ true → is_some (option_or o p) ≡ true
+    some-right None p e = e
+    some-right (Some v) p e = refl
+
+    by : (o : Option ℕ) → only_at j y.0 ≡ o → is_some (option_or o (reaches (only_at j) ms)) ≡ true
+        → (is_some (reaches (only_at j) ms) ≡ true → is_some (G j) ≡ true → is_some (reaches G ms) ≡ true) → is_some (option_or (G y.0) (reaches G ms)) ≡ true
+    by None q e more = some-right (G y.0) _ (more e h)
+    by (Some v) q e more = some-left (G y.0) _ (ap (λ (i : ℕ). is_some (G i)) (is-place y.0 j (ap is_some q)) ∙ h)
+
+module _ (s : List ℕ) (u : IsUtf8 s) where
+  leads-forward : (t : Tree) (q j : ℕ) → IsCharBoundary s q → leads_to s t q j ≡ true → (q ≤ j) × IsCharBoundary s j
+  unfolding leads_to onward
+  leads-forward t q j c e =
+      let m = chosen-some (only_at j) (matches s t q []) e in
+      let at = is-place m.0.0 j (chosen-leads s u (only_at j) (matches s t q []) m.0 m.1) in
+      let P : ℕ → Type 0 = λ i. (q ≤ i) × IsCharBoundary s i in
+      subst P at (chosen-each (λ y. (q ≤ y.0) × IsCharBoundary s y.0) (only_at j) (matches s t q []) m.0 (matches-forward s u t q [] c) m.1)
+
+  pub image-bounds : (t : Tree) (before row : List Bool) → AreBounds s before → IsImage s t before row → AreBounds s row
+  image-bounds t before row b h j e = let z = h.sound j e in (leads-forward t z.0 j (b z.0 z.1) z.2).1
+
+  seq-leads : (a b : Tree) → is_free b ≡ true → (q j : ℕ) → IsCharBoundary s q → leads_to s (seq a b) q j ≡ true → (m : ℕ) × (leads_to s a q m ≡ true) × (leads_to s b m j ≡ true)
+  unfolding leads_to onward
+  seq-leads a b f q j c e =
+      let r : is_some (reaches (onward s b (only_at j)) (matches s a q [])) ≡ true = ap is_some (sym (onward-then s u a b f (only_at j) q c)) ∙ e in
+      let m = chosen-some (onward s b (only_at j)) (matches s a q []) r in
+      (m.0.0, member-reached (onward s b (only_at j)) (matches s a q []) m.0 m.1, chosen-leads s u (onward s b (only_at j)) (matches s a q []) m.0 m.1)
+
+  seq-led : (a b : Tree) → is_free b ≡ true → (q m j : ℕ) → IsCharBoundary s q → leads_to s a q m ≡ true → leads_to s b m j ≡ true → leads_to s (seq a b) q j ≡ true
+  unfolding leads_to onward
+  seq-led a b f q m j c e h =
+      ap is_some (onward-then s u a b f (only_at j) q c) ∙ place-reached (onward s b (only_at j)) (matches s a q []) m e h
+
+  pub image-seq : (a b : Tree) (before mid row : List Bool) → plain (seq a b) ≡ true → AreBounds s before → IsImage s a before mid → IsImage s b mid row → IsImage s (seq a b) before row
+  image-seq a b before mid row p c h k =
+      let f : is_free b ≡ true = plain-free s b (and_right (plain a) (plain b) p) in
+      record {
+        sound = λ j e. let z = k.sound j e in let w = h.sound z.0 z.1 in (w.0, w.1, seq-led a b f w.0 z.0 j (c w.0 w.1) w.2 z.2);
+        complete = λ q j e l. let z = seq-leads a b f q j (c q e) l in k.complete z.0 j (h.complete q z.0 e z.1) z.2;
+      }
+
+  or-is : (o p : Option ℕ) → is_some (option_or o p) ≡ (is_some o || is_some p)
+  or-is None p = refl
+  or-is (Some v) p = refl
+
+  alt-leads : (a b : Tree) (q j : ℕ) → leads_to s (alt a b) q j ≡ (leads_to s a q j || leads_to s b q j)
+  unfolding leads_to
+  alt-leads a b q j = ap is_some (onward-alt s a b (only_at j) q) ∙ or-is (onward s a (only_at j) q) (onward s b (only_at j) q)
+
+  either-true : (a b : Bool) → (a || b) ≡ true → (a ≡ true) ⊎ (b ≡ true)
+  either-true true b e = inl refl
+  either-true false b e = inr e
+
+  left-true : (a b : Bool) → a ≡ true → (a || b) ≡ true
+  left-true true b e = refl
+  left-true false b e = cc
+
+  right-true : (a b : Bool) → b ≡ true → (a || b) ≡ true
+  right-true true b e = refl
+  right-true false b e = e
+
+  pub image-alt : (a b : Tree) (before one other row : List Bool) → IsImage s a before one → IsImage s b before other
+      → ((j : ℕ) → flag_of row j ≡ (flag_of one j || flag_of other j)) → IsImage s (alt a b) before row
+  image-alt a b before one other row h k e = record {
+    sound = λ j f. elim (either-true (flag_of one j) (flag_of other j) (sym (e j) ∙ f)) [
+      | inl z ↦ let w = h.sound j z in (w.0, w.1, alt-leads a b w.0 j ∙ left-true _ _ w.2)
+      | inr z ↦ let w = k.sound j z in (w.0, w.1, alt-leads a b w.0 j ∙ right-true _ _ w.2)
+    ];
+    complete = λ q j f l. e j ∙ (elim (either-true (leads_to s a q j) (leads_to s b q j) (sym (alt-leads a b q j) ∙ l)) [
+      | inl z ↦ left-true _ _ (h.complete q j f z)
+      | inr z ↦ right-true _ _ (k.complete q j f z)
+    ]);
+  }
+
+  -- -- What a lookbehind looks for
+
+  ending-is : (i : ℕ) (ms : List Member) → is_some (reaches Some (ending_at i ms)) ≡ is_some (reaches (only_at i) ms)
+  ending-is i [] = refl
+  ending-is i (m ∷ ms) = by (ending-is i ms) (m.0 == i)
+    where
+      by : is_some (reaches Some (ending_at i ms)) ≡ is_some (reaches (only_at i) ms) → (b : Bool)
+          → is_some (reaches Some (if b then m ∷ ending_at i ms else ending_at i ms)) ≡ is_some (option_or (end_if b (Some m.0)) (reaches (only_at i) ms))
+      by more true = refl
+      by more false = more
+
+  or_else-is : (a b : List Member) → is_some (reaches Some (or_else a b)) ≡ (is_some (reaches Some a) || is_some (reaches Some b))
+  or_else-is [] b = refl
+  or_else-is (m ∷ a) b = refl
+
+  -- a match that ends at the place begins at one of the first places
+  ending-sound : (t : Tree) (k i : ℕ) → is_some (reaches Some (ending_here s (matches s t) k i [])) ≡ true → (q : ℕ) × (is_boundary s q ≡ true) × (leads_to s t q i ≡ true)
+  unfolding leads_to onward
+  ending-sound t zero i e = (0, true-boundary s 0 (IsCharBoundary-start s u), sym (ending-is i (matches s t 0 [])) ∙ e)
+  ending-sound t (suc k) i e = by (is_boundary s (suc k)) refl (ending-sound t k i) (sym (or_else-is _ (ending_here s (matches s t) k i [])) ∙ e)
+    where
+      by : (b : Bool) → is_boundary s (suc k) ≡ b
+          → (is_some (reaches Some (ending_here s (matches s t) k i [])) ≡ true → (q : ℕ) × (is_boundary s q ≡ true) × (leads_to s t q i ≡ true))
+          → (is_some (reaches Some (if b then ending_at i (matches s t (suc k) []) else [])) || is_some (reaches Some (ending_here s (matches s t) k i []))) ≡ true
+          → (q : ℕ) × (is_boundary s q ≡ true) × (leads_to s t q i ≡ true)
+      by true c more e = elim (either-true _ _ e) [
+        | inl z ↦ (suc k, c, sym (ending-is i (matches s t (suc k) [])) ∙ z)
+        | inr z ↦ more z
+      ]
+      by false c more e = more e
+
+  ending-complete : (t : Tree) (k i q : ℕ) → q ≤ k → is_boundary s q ≡ true → leads_to s t q i ≡ true → is_some (reaches Some (ending_here s (matches s t) k i [])) ≡ true
+  unfolding leads_to onward
+  ending-complete t zero i zero l c e = ending-is i (matches s t 0 []) ∙ e
+  ending-complete t zero i (suc q) l c e = absurd (omega arith)
+  ending-complete t (suc k) i q l c e =
+      or_else-is _ (ending_here s (matches s t) k i [])
+      ∙ (elim (at-most q k l) [
+        | inl a ↦ right-true _ _ (ending-complete t k i q a c e)
+        | inr z ↦
+            left-true _ _
+            (ap (λ (b : Bool). is_some (reaches Some (if b then ending_at i (matches s t (suc k) []) else []))) (ap (is_boundary s) (sym z) ∙ c)
+            ∙ ending-is i (matches s t (suc k) []) ∙ ap (λ (p : ℕ). is_some (reaches (only_at i) (matches s t p []))) (sym z) ∙ e)
+      ])
+    where
+      at-most : (q k : ℕ) → q ≤ suc k → (q ≤ k) ⊎ (q ≡ suc k)
+      at-most q k l = grind arith
+
+  same-truth : (a b : Bool) → (a ≡ true → b ≡ true) → (b ≡ true → a ≡ true) → a ≡ b
+  same-truth true b f g = sym (f refl)
+  same-truth false true f g = g refl
+  same-truth false false f g = refl
+
+  -- the row of what begins anywhere tells where a lookbehind holds
+  pub sight-is : (t : Tree) (starts row : List Bool) → ((q : ℕ) → flag_of starts q ≡ is_boundary s q) → IsImage s t starts row → (p : ℕ) → flag_of row p ≡ ends_here s t p
+  unfolding ends_here
+  sight-is t starts row b h p =
+      same-truth (flag_of row p) _
+      (λ e.
+      let z = h.sound p e in
+      let c = sym (b z.0) ∙ z.1 in
+      ending-complete t p p z.0 (leads-forward t z.0 p (boundary-true s z.0 c) z.2).0 c z.2)
+      (λ e. let z = ending-sound t p p e in h.complete z.0 p (b z.0 ∙ z.1) z.2)

@@ -8,4 +8,5 @@ pub mod ground;
 pub mod plan;
 pub mod reach;
 pub mod rows;
+pub mod sight;
 pub mod walk;
