@@ -1,10 +1,14 @@
 -- Where matches end that begin in given places.
 use Rattle.std.proofs.Common.{◌≡◌, ◌⊎◌, inl, inr, ℕ, zero, suc, ◌+◌, ◌<◌, ◌≤◌, List, [], ◌∷◌, ◌++◌, length, set, get_or, Bool, true, false, Option, Some, None, refl, sym, ap, subst, ◌∙◌, arith}
-use Rattle.std.specs.Prelude.{if◌then◌else◌, ◌==◌, ◌&&◌, ◌||◌, is_some, option_and_then, IsUtf8, IsCharBoundary}
+use Rattle.std.specs.Prelude.{if◌then◌else◌, ◌==◌, ◌&&◌, ◌||◌, is_some, nat_le, nat_lt, slice_index, replicate, option_and_then, IsUtf8, IsCharBoundary}
 use Rattle.std.specs.Option.{option_or}
+use Rattle.std.proofs.lemmas.Bool.{cases_lt}
+use Rattle.std.proofs.lemmas.List.{get_or_append_left}
+use Rattle.std.proofs.Math.Seq.{get_or-append_seam}
+use Rattle.std.proofs.lemmas.Bool.Decides.{nat_tests}
 use Rattle.syntect_pattern.specs.Text.{is_boundary, char_at}
-use Rattle.syntect_pattern.specs.Sets.{holds}
-use Rattle.syntect_pattern.specs.Trees.{Tree, nothing, one_of, anchor, same, seq, alt, repeat, group, atomic, ahead, behind}
+use Rattle.syntect_pattern.specs.Sets.{Set, holds}
+use Rattle.syntect_pattern.specs.Trees.{Anchor, Tree, nothing, one_of, anchor, same, seq, alt, repeat, group, atomic, ahead, behind}
 use Rattle.syntect_pattern.specs.Matches.{Member, Way, ending_at, or_else, stands, matches, ending_here}
 use Rattle.syntect_pattern.proofs.Each.{Each}
 use Rattle.syntect_pattern_laws.proofs.TurnLaws.{matches-forward}
@@ -12,7 +16,7 @@ use Rattle.std.proofs.lemmas.Str.{IsCharBoundary-start}
 use Rattle.syntect_ways.specs.Steps.{after_char}
 use Rattle.syntect_ways.proofs.BoundaryLaws.{boundary-true, true-boundary}
 use Rattle.syntect_linear.specs.Onward.{Onward, reaches, chosen, onward, end_if, is_free, plain}
-use Rattle.syntect_linear.specs.Rows.{only_at, leads_to, flag_of, IsImage, AreBounds, marked, is_single, single_end, ends_here}
+use Rattle.syntect_linear.specs.Rows.{only_at, leads_to, flag_of, row_flag, IsImage, AreBounds, marked, is_single, single_end, ends_here}
 use Rattle.syntect_linear.proofs.ReachLaws.{chosen-some}
 use Rattle.syntect_linear.proofs.TreeLaws.{and_left, and_right, plain-free}
 use Rattle.syntect_linear.proofs.OnwardLaws.{onward-nothing, onward-one_of, onward-anchor, onward-alt, onward-then, first-ends}
@@ -323,3 +327,77 @@ module _ (s : List ℕ) (u : IsUtf8 s) where
       let c = sym (b z.0) ∙ z.1 in
       ending-complete t p p z.0 (leads-forward t z.0 p (boundary-true s z.0 c) z.2).0 c z.2)
       (λ e. let z = ending-sound t p p e in h.complete z.0 p (b z.0 ∙ z.1) z.2)
+
+-- -- Single trees
+
+module _ (s : List ℕ) where
+  pub single-nothing : (q : ℕ) → Some q ≡ single_end s nothing q
+  unfolding single_end
+  single-nothing q = sym (onward-nothing s Some q)
+
+  some-then : (o : Option ℕ) → o ≡ option_and_then Some o
+  some-then None = refl
+  some-then (Some j) = refl
+
+  pub single-char : (a : Set) (q : ℕ) (o : Option ℕ) → o ≡ after_char (holds a) (char_at s q) q → o ≡ single_end s (one_of a) q
+  unfolding single_end
+  single-char a q o e = e ∙ some-then (after_char (holds a) (char_at s q) q) ∙ sym (onward-one_of s a Some q)
+
+  pub single-anchor : (a : Anchor) (q : ℕ) (b : Bool) → stands s a q ≡ b → end_if b (Some q) ≡ single_end s (anchor a) q
+  unfolding single_end
+  single-anchor a q b e = ap (λ (c : Bool). end_if c (Some q)) (sym e) ∙ sym (onward-anchor s a Some q)
+
+  pub spreads-none : (t : Tree) (before row : List Bool) → row ≡ replicate (length s + 1) false → Spreads s t before 0 row
+  spreads-none t before row e = subst (λ (r : List Bool). Spreads s t before 0 r) (sym e) (record {
+    long = long (length s + 1);
+    sound = λ j f. absurd (none (length s + 1) j f);
+    complete = λ q j l f d. absurd (omega arith);
+  })
+    where
+      long : (n : ℕ) → length (replicate n false) ≡ n
+      long zero = refl
+      long (suc n) = ap suc (long n)
+
+      none : (n j : ℕ) → flag_of (replicate n false) j ≡ true → ⊥
+      none zero zero f = cc
+      none zero (suc j) f = cc
+      none (suc n) zero f = cc
+      none (suc n) (suc j) f = none n j f
+
+  row-past : (row : List Bool) (j : ℕ) → length row ≤ j → flag_of row j ≡ false
+  row-past [] zero l = refl
+  row-past [] (suc j) l = refl
+  row-past (b ∷ row) zero l = absurd (omega arith)
+  row-past (b ∷ row) (suc j) l = row-past row j (omega arith)
+
+  false-bound : (j : ℕ) → length s < j → is_boundary s j ≡ false
+  unfolding is_boundary
+  false-bound j l = let e : nat_le j (length s) ≡ false = grind (arith, nat_tests) in ap (λ (b : Bool). b && ((nat_le (length s) j || nat_lt (slice_index s j) 128) || nat_le 192 (slice_index s j))) e
+
+  pub bounds-all : (row : List Bool) → length row ≡ length s + 1 → ((j : ℕ) → j < length s + 1 → flag_of row j ≡ is_boundary s j) → (j : ℕ) → flag_of row j ≡ is_boundary s j
+  bounds-all row l h j = elim (cases_lt j (length s + 1)) [
+    | inl a ↦ h j a
+    | inr a ↦ row-past row j (omega (arith, a, l)) ∙ sym (false-bound j (omega (arith, a)))
+  ]
+
+-- the image of a node by its tree
+pub image-of : (s : List ℕ) (t v : Tree) (before row : List Bool) → t ≡ v → IsImage s v before row → IsImage s t before row
+image-of s t v before row e h = subst (λ (x : Tree). IsImage s x before row) (sym e) h
+
+-- one more row
+pub sights-more : (s : List ℕ) (ts : List Tree) (behinds : List ℕ) (sights new : List (List Bool)) (row : List Bool) (i : ℕ) → new ≡ sights ++ row ∷ [] → length sights ≡ i
+    → ((b p : ℕ) → b < i → plain (get_or ts (get_or behinds b 0) nothing) ≡ true → IsCharBoundary s p → row_flag sights b p ≡ ends_here s (get_or ts (get_or behinds b 0) nothing) p)
+    → (plain (get_or ts (get_or behinds i 0) nothing) ≡ true → (p : ℕ) → flag_of row p ≡ ends_here s (get_or ts (get_or behinds i 0) nothing) p)
+    → (b p : ℕ) → b < i + 1 → plain (get_or ts (get_or behinds b 0) nothing) ≡ true → IsCharBoundary s p → row_flag new b p ≡ ends_here s (get_or ts (get_or behinds b 0) nothing) p
+sights-more s ts behinds sights new row i e l h here b p k f c =
+    ap (λ (x : List (List Bool)). row_flag x b p) e
+    ∙ elim (cases_lt b i) [
+      | inl a ↦ ap (λ (x : List Bool). flag_of x p) (get_or_append_left sights (row ∷ []) [] b (omega (arith, a, l))) ∙ h b p a f c
+      | inr a ↦
+          let same : b ≡ length sights = omega (arith, a, k, l) in
+          let is : i ≡ b = omega (arith, same, l) in
+          let P : ℕ → Type 0 = λ j. plain (get_or ts (get_or behinds j 0) nothing) ≡ true → (p : ℕ) → flag_of row p ≡ ends_here s (get_or ts (get_or behinds j 0) nothing) p in
+          ap (λ (x : ℕ). row_flag (sights ++ row ∷ []) x p) same
+          ∙ ap (λ (x : List Bool). flag_of x p) (get_or-append_seam sights row [] [])
+          ∙ subst P is here f p
+    ]
