@@ -13,3 +13,4 @@ pub mod WalkLaws
 pub mod SequenceLaws
 pub mod LoopLaws
 pub mod SightLaws
+pub mod FindLaws

@@ -7,3 +7,4 @@ pub mod Rows
 pub mod Ground
 pub mod Step
 pub mod Walk
+pub mod Finds

@@ -4,6 +4,7 @@
 pub mod cells;
 pub mod facts;
 mod fill;
+pub mod find;
 pub mod ground;
 pub mod plan;
 pub mod reach;

@@ -19,7 +19,7 @@ use syntect_ways::past::{past_char, past_class};
 pub type Span = (usize, usize);
 
 /// Whether the whole match ends anywhere from the cell on.
-fn leads(ground: &Ground, place: usize, cell: usize) -> bool
+pub(crate) fn leads(ground: &Ground, place: usize, cell: usize) -> bool
     requires filled { IsFilled ground.now place }
     requires cell { IsIn ground.now cell }
     ensures { result ≡ is_some (ends_at ground.now cell place) }
