@@ -13,7 +13,7 @@ use Rattle.syntect_linear.specs.Cells.{cell_at, item_tree, is_end}
 use Rattle.syntect_linear.specs.Plan.{IsPart}
 use Rattle.syntect_linear.specs.Ground.{IsReady, IsIn, ends_at}
 use Rattle.syntect_linear.specs.Walk.{IsFilled, Walks}
-use Rattle.syntect_linear.specs.Finds.{Covers, FindsAt, groups_of}
+use Rattle.syntect_linear.specs.Finds.{Covers, FindsAt, FindsGroups, FindsUpTo, groups_of}
 use Rattle.syntect_linear.specs.declared.ground.Ground.{Ground}
 use Rattle.syntect_linear.specs.declared.cells.Cell.{Cell}
 use Rattle.syntect_linear.proofs.OnwardLaws.{moved-same, onward-alike}
@@ -119,3 +119,8 @@ module _ (s : List ℕ) (tree : Tree) where
   pub found-past : (i : ℕ) → length s < i → found s tree i ≡ None
   unfolding found
   found-past i l = ap (λ n. found_within s tree n i) (let n : suc (length s) - i ≡ 0 = omega arith in n)
+
+-- what is found up to the text's end is all
+pub groups-up_to : (s : List ℕ) (p : Program) (from : ℕ) (b : Bool) (g : Groups) → FindsUpTo s p from (length s) (groups_of b g) → FindsGroups s p from (groups_of b g)
+groups-up_to s p from true g h tree is = sym (h tree is)
+groups-up_to s p from false g h tree is = sym (h tree is ∙ found-past s tree (suc (length s)) (omega arith))

@@ -370,7 +370,7 @@ module _ (s : List ℕ) where
   row-past (b ∷ row) zero l = absurd (omega arith)
   row-past (b ∷ row) (suc j) l = row-past row j (omega arith)
 
-  false-bound : (j : ℕ) → length s < j → is_boundary s j ≡ false
+  pub false-bound : (j : ℕ) → length s < j → is_boundary s j ≡ false
   unfolding is_boundary
   false-bound j l = let e : nat_le j (length s) ≡ false = grind (arith, nat_tests) in ap (λ (b : Bool). b && ((nat_le (length s) j || nat_lt (slice_index s j) 128) || nat_le 192 (slice_index s j))) e
 

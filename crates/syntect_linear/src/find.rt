@@ -1,5 +1,5 @@
 //! The search of a pattern, in steps that are bounded by the pattern times the text.
-ghost use Rattle.std.specs.Prelude.{◌≡◌, ◌≤◌, IfOk};
+ghost use Rattle.std.specs.Prelude.{◌≡◌, ◌≤◌, IfOk, None, replicate};
 ghost use Rattle.syntect_linear.specs.Finds.{Covers, FindsAt, FindsGroups, FindsUpTo, groups_of};
 ghost use Rattle.syntect_linear.specs.PlanOf.{IsPlanOf};
 
@@ -14,6 +14,17 @@ use syntect_ways::text::is_boundary;
 
 /// The cell of the whole pattern.
 const WHOLE: usize = 1;
+
+/// So many groups, none of which is set.
+fn no_groups(alloc: Global, count: usize) -> Result<Vec<Option<Span>>, AllocError>
+    ensures { IfOk result (λ groups. groups.items ≡ replicate count None) }
+{
+    let mut groups = Vec::new(alloc);
+    for _group in 0..count {
+        groups.push(None)?;
+    }
+    Ok(groups)
+}
 
 /// Whether a match begins at the place, whose rows are there. Where one does, the groups are the match's.
 fn begins_here(
@@ -33,7 +44,7 @@ fn begins_here(
     if !leads(ground, place, WHOLE) {
         return Ok(false);
     }
-    let mut unset = vec![in alloc; None; ground.program.groups]?;
+    let mut unset = no_groups(alloc, ground.program.groups)?;
     let _ = walk(ground, place, WHOLE, &mut unset);
     *groups = unset;
     Ok(true)
