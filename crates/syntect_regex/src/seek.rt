@@ -1,11 +1,36 @@
-//! Searches that take as many steps as they take.
-ghost use Rattle.std.specs.Prelude.{◌≡◌, ◌≤◌, IfOk};
+//! Searches whose time is bounded: one that backs up too often goes on cell by cell of the pattern's plan, which doesn't back
+//! up at all.
+ghost use Rattle.std.specs.Prelude.{◌≡◌, ◌≤◌, IfOk, None};
 ghost use Rattle.syntect_engine.specs.Machine.{FindsAt, FindsGroups, FindsUpTo, groups_of};
 
 use std::alloc::AllocError;
 use syntect_engine::state::Search;
 use syntect_engine::steps::Steps;
+use syntect_linear::find as planned;
+use syntect_linear::plan::Plan;
 use syntect_pattern_table::program::Program;
+
+/// How many steps a search may take for each byte of the text, and beside them. Few searches of real patterns take a tenth of
+/// that; a plan takes a step for each of its cells at each byte.
+const STEPS_A_BYTE: usize = 64;
+
+const STEPS: usize = 1024;
+
+/// The steps that a search of the text may take.
+#[inline]
+fn steps_in(text: &str) -> Steps {
+    Steps {
+        left: Some(text.len().saturating_mul(STEPS_A_BYTE).saturating_add(STEPS)),
+    }
+}
+
+/// As many steps as it takes.
+#[inline]
+fn any_steps() -> Steps
+    ensures { result.left ≡ None }
+{
+    Steps { left: None }
+}
 
 /// Whether the program matches at the place or at a later one, of which the least counts. Where it does, the search's groups
 /// are the match's.
@@ -18,8 +43,14 @@ pub(crate) fn find(
     ensures { IfOk result (λ found.
         FindsGroups text.now program.now begin (groups_of found search.new)) }
 {
-    let mut steps = Steps { left: None };
-    match search.find(program, text, begin, &mut steps)? {
+    if let Some(found) = search.find(program, text, begin, &mut steps_in(text))? {
+        return Ok(found);
+    }
+    let alloc = *search.frames.allocator();
+    if let Some(plan) = Plan::new(alloc, program)? {
+        return planned::find(alloc, program, &plan, text, begin, &mut search.groups);
+    }
+    match search.find(program, text, begin, &mut any_steps())? {
         Some(found) => Ok(found),
         None => Ok(false),
     }
@@ -37,14 +68,22 @@ pub(crate) fn find_up_to(
     ensures { IfOk result (λ found.
         FindsUpTo text.now program.now begin last (groups_of found search.new)) }
 {
-    let mut steps = Steps { left: None };
-    match search.find_up_to(program, text, begin, last, &mut steps)? {
+    let mut steps = steps_in(text);
+    if let Some(found) = search.find_up_to(program, text, begin, last, &mut steps)? {
+        return Ok(found);
+    }
+    let alloc = *search.frames.allocator();
+    if let Some(plan) = Plan::new(alloc, program)? {
+        return planned::find_up_to(alloc, program, &plan, text, begin, last, &mut search.groups);
+    }
+    match search.find_up_to(program, text, begin, last, &mut any_steps())? {
         Some(found) => Ok(found),
         None => Ok(false),
     }
 }
 
 /// The same for this place alone.
+#[inline]
 pub(crate) fn begins_at(
     search: &mut Search,
     program: &Program,
@@ -54,8 +93,27 @@ pub(crate) fn begins_at(
     ensures { IfOk result (λ found.
         FindsAt text.now program.now place (groups_of found search.new)) }
 {
-    let mut steps = Steps { left: None };
-    match search.begins_at(program, text, place, &mut steps)? {
+    match search.begins_at(program, text, place, &mut steps_in(text))? {
+        Some(found) => Ok(found),
+        None => begins_planned(search, program, text, place),
+    }
+}
+
+/// The same where the steps didn't suffice.
+fn begins_planned(
+    search: &mut Search,
+    program: &Program,
+    text: &str,
+    place: usize,
+) -> Result<bool, AllocError>
+    ensures { IfOk result (λ found.
+        FindsAt text.now program.now place (groups_of found search.new)) }
+{
+    let alloc = *search.frames.allocator();
+    if let Some(plan) = Plan::new(alloc, program)? {
+        return planned::begins_at(alloc, program, &plan, text, place, &mut search.groups);
+    }
+    match search.begins_at(program, text, place, &mut any_steps())? {
         Some(found) => Ok(found),
         None => Ok(false),
     }

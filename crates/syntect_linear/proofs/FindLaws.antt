@@ -1,0 +1,126 @@
+-- The least place that has a match.
+use Rattle.std.proofs.Common.{◌≡◌, ℕ, zero, suc, ◌+◌, ◌-◌, ◌<◌, ◌≤◌, Bool, true, false, List, [], ◌∷◌, length, get_or, refl, sym, ◌∙◌, ap, subst, arith, Option, Some, None}
+use Rattle.std.specs.Prelude.{IsCharBoundary, IsUtf8, slice_get, option_map, option_and_then, replicate, if◌then◌else◌, is_some}
+use Rattle.std.specs.Option.{option_or}
+use Rattle.syntect_pattern.specs.Text.{is_boundary}
+use Rattle.syntect_pattern.specs.Trees.{Tree, nothing, group}
+use Rattle.syntect_pattern.specs.Matches.{Groups, Member, matches, unset, found_at, found_within, found}
+use Rattle.syntect_pattern_table.specs.Program.{trees_of, IsProgramOf}
+use Rattle.syntect_pattern_table.specs.declared.program.Program.{Program}
+use Rattle.syntect_ways.proofs.BoundaryLaws.{boundary-true}
+use Rattle.syntect_linear.specs.Onward.{Onward, reaches, chosen, moved, is_free, onward}
+use Rattle.syntect_linear.specs.Cells.{cell_at, item_tree, is_end}
+use Rattle.syntect_linear.specs.Plan.{IsPart}
+use Rattle.syntect_linear.specs.Ground.{IsReady, IsIn, ends_at}
+use Rattle.syntect_linear.specs.Walk.{IsFilled, Walks}
+use Rattle.syntect_linear.specs.Finds.{Covers, FindsAt, FindsGroups, FindsUpTo, groups_of}
+use Rattle.syntect_linear.specs.declared.ground.Ground.{Ground}
+use Rattle.syntect_linear.specs.declared.cells.Cell.{Cell}
+use Rattle.syntect_linear.proofs.OnwardLaws.{moved-same, onward-alike}
+use Rattle.syntect_linear.proofs.ChosenLaws.{reaches-any, chosen-forward}
+use Rattle.syntect_linear.proofs.CellLaws.{ends-part, ends-end}
+use Rattle.syntect_linear.proofs.WalkLaws.{part-chosen}
+
+pub covers-filled : (x : Ground) (begin place : ℕ) → Covers x begin → begin ≤ place → IsCharBoundary x.text.now place → IsFilled x place
+covers-filled x begin place h l c = record {
+  ready = record {
+    utf8 = h.utf8;
+    plan_is = h.plan_is;
+    sights_are = h.sights_are;
+    rows_are = h.rows_are;
+    later = let a = h.count in let b = c.0 in omega arith;
+    boundary = c;
+  };
+  here = let a = h.count in let b = c.0 in omega arith;
+}
+
+first-member : (ms : List Member) → slice_get ms 0 ≡ chosen Some ms
+first-member [] = refl
+first-member (m ∷ ms) = refl
+
+no-member : (ms : List Member) → is_some (reaches Some ms) ≡ false → slice_get ms 0 ≡ None
+no-member [] e = refl
+no-member (m ∷ ms) e = cc
+
+module _ (x : Ground) (place : ℕ) (filled : IsFilled x place) where
+  abbrev s : List ℕ
+  s = x.text.now
+
+  abbrev ts : List Tree
+  ts = trees_of x.program.now
+
+  abbrev cells : List Cell
+  cells = x.plan.now.cells
+
+  abbrev root : Tree
+  root = get_or ts x.program.now.root nothing
+
+  part : IsPart ts cells 1 root 0 0
+  part = filled.ready.plan_is.planned.root_is
+
+  pub whole-inside : IsIn x 1
+  whole-inside = part.cell.inside
+
+  pub whole-real : is_end (cell_at cells 1).item ≡ false
+  whole-real = ap is_end part.cell.item_is ∙ part.real
+
+  root-free : is_free root ≡ true
+  root-free = ap is_free (sym part.tree ∙ ap (item_tree ts) (sym part.cell.item_is)) ∙ filled.ready.plan_is.planned.cells_are.free 1
+
+  zero-end : (i : ℕ) → ends_at x 0 i ≡ Some i
+  zero-end i = ends-end s ts cells filled.ready.plan_is.planned.cells_are 0 i (ap (λ (c : Cell). is_end c.item) filled.ready.plan_is.planned.cells_are.last) filled.ready.plan_is.planned.cells_are.some
+
+  -- where the whole match ends
+  whole-ends : ends_at x 1 place ≡ onward s root Some place
+  whole-ends =
+      ends-part s ts cells filled.ready.plan_is.planned.cells_are filled.ready.utf8 1 root 0 0 place filled.ready.boundary part
+      ∙ onward-alike s filled.ready.utf8 root (moved place (ends_at x 0) (ends_at x 0)) Some place filled.ready.boundary (λ j l d. moved-same place j (ends_at x 0) ∙ zero-end j)
+
+  module _ (tree : Tree) (h : IsProgramOf x.program.now tree) (at : is_boundary x.text.now place ≡ true) where
+    found-is : found_at s tree place ≡ option_map (λ (m : Member). m.1) (slice_get (matches s root place (replicate x.program.now.groups None)) 0)
+    unfolding found_at
+    found-is =
+        ap (λ (b : Bool). if b then option_map (λ (m : Member). m.1) (slice_get (matches s (group 0 tree) place (unset s tree)) 0) else None) at
+        ∙ ap (λ (t : Tree). option_map (λ (m : Member). m.1) (slice_get (matches s t place (unset s tree)) 0)) (sym h.root)
+        ∙ ap (λ (n : ℕ). option_map (λ (m : Member). m.1) (slice_get (matches s root place (replicate n None)) 0)) (sym h.groups)
+
+    pub found-none : is_some (ends_at x 1 place) ≡ false → None ≡ found_at s tree place
+    found-none e =
+        sym (found-is ∙ ap (option_map (λ (m : Member). m.1))
+        (no-member (matches s root place (replicate x.program.now.groups None))
+        (ap is_some (reaches-any s filled.ready.utf8 root root-free Some place (replicate x.program.now.groups None) ∙ sym whole-ends) ∙ e)))
+
+    pub found-some : (end : ℕ) (g : Groups) → Walks x 1 place (replicate x.program.now.groups None) end g → Some g ≡ found_at s tree place
+    found-some end g w =
+        let c = part-chosen x 1 place (replicate x.program.now.groups None) filled 1 root 0 0 end g part w in
+        let first : chosen Some (matches s root place (replicate x.program.now.groups None)) ≡ Some (end, g) =
+        chosen-forward s filled.ready.utf8 root Some (moved place (ends_at x 0) (ends_at x 0)) place (replicate x.program.now.groups None) filled.ready.boundary
+        (λ j l d. sym (moved-same place j (ends_at x 0) ∙ zero-end j)) ∙ c in
+        sym (found-is ∙ ap (option_map (λ (m : Member). m.1)) (first-member _ ∙ first))
+
+module _ (s : List ℕ) (tree : Tree) where
+  pub found_at-between : (i : ℕ) → is_boundary s i ≡ false → None ≡ found_at s tree i
+  unfolding found_at
+  found_at-between i at = sym (ap (λ (c : Bool). if c then option_map (λ (m : Member). m.1) (slice_get (matches s (group 0 tree) i (unset s tree)) 0) else None) at)
+
+  pub found-here : (i : ℕ) (g : Groups) → i ≤ length s → found_at s tree i ≡ Some g → found s tree i ≡ Some g
+  unfolding found
+  found-here i g l e =
+      ap (λ n. found_within s tree n i) (let n : suc (length s) - i ≡ suc (length s - i) = omega arith in n)
+      ∙ ap (λ o. option_or o (found_within s tree (length s - i) (suc i))) e
+
+  pub found-step : (i : ℕ) → i ≤ length s → found_at s tree i ≡ None → found s tree i ≡ found s tree (suc i)
+  unfolding found
+  found-step i l e =
+      ap (λ n. found_within s tree n i) (let n : suc (length s) - i ≡ suc (length s - i) = omega arith in n)
+      ∙ ap (λ o. option_or o (found_within s tree (length s - i) (suc i))) e
+      ∙ ap (λ n. found_within s tree n (suc i)) (let n : length s - i ≡ suc (length s) - suc i = omega arith in n)
+
+  pub found-past : (i : ℕ) → length s < i → found s tree i ≡ None
+  unfolding found
+  found-past i l = ap (λ n. found_within s tree n i) (let n : suc (length s) - i ≡ 0 = omega arith in n)
+
+-- what is found up to the text's end is all
+pub groups-up_to : (s : List ℕ) (p : Program) (from : ℕ) (b : Bool) (g : Groups) → FindsUpTo s p from (length s) (groups_of b g) → FindsGroups s p from (groups_of b g)
+groups-up_to s p from true g h tree is = sym (h tree is)
+groups-up_to s p from false g h tree is = sym (h tree is ∙ found-past s tree (suc (length s)) (omega arith))

@@ -1,0 +1,246 @@
+-- What a search stands on.
+use Rattle.std.proofs.Common.{◌≡◌, ℕ, zero, suc, [], ◌∷◌, ◌+◌, ◌-◌, ◌<◌, ◌≤◌, List, length, Bool, true, false, Option, Some, None, refl, sym, ap, subst, ◌∙◌, arith, set, get_or, inl, inr, ◌⊎◌}
+use Rattle.std.specs.Prelude.{if◌then◌else◌, ◌==◌, not, is_some, IfSome, option_and_then, IsCharBoundary}
+use Rattle.std.specs.Option.{option_or}
+use Rattle.std.specs.Char.{len_utf8}
+use Rattle.syntect_pattern.specs.Text.{char_at}
+use Rattle.syntect_pattern.specs.Sets.{Set, holds}
+use Rattle.syntect_pattern.specs.Matches.{stands}
+use Rattle.syntect_ways.specs.Steps.{after_char}
+use Rattle.syntect_linear.specs.Onward.{plain, moved, prefer_end, turn_end, has_turn, end_if}
+use Rattle.syntect_linear.specs.Plan.{TurnIs}
+use Rattle.syntect_linear.proofs.OnwardLaws.{moved-at, moved-past}
+use Rattle.syntect_pattern.specs.Trees.{Anchor, Tree, nothing, one_of, anchor, same, seq, alt, repeat, group, atomic, ahead, behind}
+use Rattle.syntect_pattern_table.specs.Program.{trees_of}
+use Rattle.syntect_linear.specs.Cells.{cell_at, parts_at}
+use Rattle.syntect_linear.specs.Rows.{row_end, row_flag, ends_here, AreKnown, AreRows}
+use Rattle.syntect_linear.specs.Ground.{IsReady, IsIn, Knows, ends_at, height_of}
+use Rattle.syntect_linear.specs.Step.{IsTreeAt}
+use Rattle.syntect_linear.specs.declared.ground.Ground.{Ground}
+use Rattle.syntect_linear.specs.declared.cells.Cell.{Cell}
+use Rattle.syntect_linear.specs.declared.cells.Parts.{Parts}
+use Rattle.syntect_linear.proofs.StepLaws.{IsAt, Below, free, g-inside, at-nothing, at-anchor, at-one_of, at-seq, at-alt, at-group, at-atomic, atomic-ends, atomic-empty, at-ahead, at-behind, at-repeat}
+
+pub tree-at : (x : Ground) (place k : ℕ) (t : Tree) → IsReady x place → IsTreeAt x k t
+    → IsAt x.text.now (trees_of x.program.now) x.plan.now.cells x.plan.now.parts x.plan.now.behinds k t
+tree-at x place k t r h = record {
+  root = x.program.now.root;
+  utf8 = r.utf8;
+  planned = r.plan_is.planned;
+  whole = r.plan_is.whole;
+  inside = h.inside;
+  real = h.real;
+  tree = h.tree;
+}
+
+-- the cell goes on at the same place
+pub record Lower (x : Ground) (k n : ℕ) : Type 0 where
+  pub there : IsIn x n
+  pub lower : height_of x n < height_of x k
+
+pub lower-at : (x : Ground) (k n m : ℕ) → m ≡ n → Lower x k n → Lower x k m
+lower-at x k n m e l = subst (λ (j : ℕ). Lower x k j) (sym e) l
+
+-- one more is known
+set-cases : (l : List (Option (Option ℕ))) (n j : ℕ) (v p : Option ℕ) (P : ℕ → Option ℕ → Type 0) → P n v → (get_or l j None ≡ Some p → P j p) → get_or (set l n (Some v)) j None ≡ Some p → P j p
+set-cases [] n j v p P h a q = a q
+set-cases (y ∷ l) zero zero v p P h a q = let same : v ≡ p = cc in subst (λ (w : Option ℕ). P zero w) same h
+set-cases (y ∷ l) zero (suc j) v p P h a q = a q
+set-cases (y ∷ l) (suc n) zero v p P h a q = a q
+set-cases (y ∷ l) (suc n) (suc j) v p P h a q = set-cases l n j v p (λ i w. P (suc i) w) h a q
+
+pub known-set : (x : Ground) (place k : ℕ) (now new : List (Option (Option ℕ))) (o : Option ℕ) → new ≡ set now k (Some o) → o ≡ ends_at x k place → Knows x place now → Knows x place new
+known-set x place k now new o e h a j p q = known-one now k o h (λ i v r. a i v r) j p (ap (λ (l : List (Option (Option ℕ))). get_or l j None) (sym e) ∙ q)
+  where
+    known-one : (l : List (Option (Option ℕ))) (n : ℕ) (v : Option ℕ) → v ≡ ends_at x n place → Knows x place l → Knows x place (set l n (Some v))
+    known-one l n v h a j p q = set-cases l n j v p (λ i w. w ≡ ends_at x i place) h (λ z. a j p z) q
+
+-- Where the whole match ends from a cell, by what its parts were reached with.
+module _ (x : Ground) (place k : ℕ) (r : IsReady x place) where
+  abbrev s : List ℕ
+  s = x.text.now
+
+  abbrev ts : List Tree
+  ts = trees_of x.program.now
+
+  abbrev cells : List Cell
+  cells = x.plan.now.cells
+
+  abbrev parts : List Parts
+  parts = x.plan.now.parts
+
+  abbrev behinds : List ℕ
+  behinds = x.plan.now.behinds
+
+  abbrev At : Tree → Type 0
+  At t = IsTreeAt x k t
+
+  abbrev IsEmpty : ℕ → Type 0
+  IsEmpty e = e ≡ (cell_at cells k).empty
+
+  abbrev IsNext : ℕ → Type 0
+  IsNext n = n ≡ (cell_at cells k).next
+
+  abbrev IsFirst : ℕ → Type 0
+  IsFirst n = n ≡ (parts_at parts k).first
+
+  below : (n m : ℕ) → m ≡ n → Below s ts cells parts behinds k n → Lower x k m
+  below n m e b = lower-at x k n m e (record { there = b.there; lower = b.lower })
+
+  same-ends : (n m : ℕ) → m ≡ n → ends_at x n place ≡ ends_at x m place
+  same-ends n m e = ap (λ (j : ℕ). ends_at x j place) (sym e)
+
+  pub nothing-goes : At nothing → (e : ℕ) → IsEmpty e → (ends_at x k place ≡ ends_at x e place) × Lower x k e
+  nothing-goes h e q =
+      let g = at-nothing s ts cells parts behinds k place r.boundary (tree-at x place k nothing r h) in
+      (g.0 ∙ same-ends _ e q, below _ e q g.1)
+
+  pub anchor-goes : (a : Anchor) → At (anchor a) → (e : ℕ) → IsEmpty e → (ends_at x k place ≡ end_if (stands s a place) (ends_at x e place)) × Lower x k e
+  anchor-goes a h e q =
+      let g = at-anchor s ts cells parts behinds k place r.boundary a (tree-at x place k (anchor a) r h) in
+      (g.0 ∙ ap (end_if (stands s a place)) (same-ends _ e q), below _ e q g.1)
+
+  pub seq-goes : (a b : Tree) → At (seq a b) → (n : ℕ) → IsFirst n → (ends_at x k place ≡ ends_at x n place) × Lower x k n
+  seq-goes a b h n q =
+      let g = at-seq s ts cells parts behinds k place r.boundary a b (tree-at x place k (seq a b) r h) in
+      (g.0 ∙ same-ends _ n q, below _ n q g.1)
+
+  pub alt-goes : (a b : Tree) → At (alt a b) → (n m : ℕ) → IsFirst n → m ≡ (parts_at parts k).second
+      → (ends_at x k place ≡ option_or (ends_at x n place) (ends_at x m place)) × Lower x k n × Lower x k m
+  alt-goes a b h n m q w =
+      let g = at-alt s ts cells parts behinds k place r.boundary a b (tree-at x place k (alt a b) r h) in
+      (g.0 ∙ ap (λ (o : Option ℕ). option_or o (ends_at x (parts_at parts k).second place)) (same-ends _ n q) ∙ ap (option_or (ends_at x n place)) (same-ends _ m w),
+      below _ n q g.1, below _ m w g.2)
+
+  pub group-goes : (d : ℕ) (a : Tree) → At (group d a) → (n : ℕ) → IsFirst n → (ends_at x k place ≡ ends_at x n place) × Lower x k n
+  group-goes d a h n q =
+      let g = at-group s ts cells parts behinds k place r.boundary d a (tree-at x place k (group d a) r h) in
+      (g.0 ∙ same-ends _ n q, below _ n q g.1)
+
+  pub ahead-goes : (negated : Bool) (a : Tree) → At (ahead negated a) → (n e : ℕ) → IsFirst n → IsEmpty e
+      → (ends_at x k place ≡ end_if (if negated then not (is_some (ends_at x n place)) else is_some (ends_at x n place)) (ends_at x e place)) × Lower x k n × Lower x k e
+  ahead-goes negated a h n e q w =
+      let g = at-ahead s ts cells parts behinds k place r.boundary negated a (tree-at x place k (ahead negated a) r h) in
+      (g.0
+      ∙ ap (λ (o : Option ℕ). end_if (if negated then not (is_some o) else is_some o) (ends_at x (cell_at cells k).empty place)) (same-ends _ n q)
+      ∙ ap (end_if (if negated then not (is_some (ends_at x n place)) else is_some (ends_at x n place))) (same-ends _ e w),
+      below _ n q g.1, below _ e w g.2)
+
+  pub behind-goes : (negated : Bool) (a : Tree) → At (behind negated a) → (n e : ℕ) (flag : Bool) → IsFirst n → IsEmpty e → flag ≡ row_flag x.sights.now n place
+      → (ends_at x k place ≡ end_if (if negated then not flag else flag) (ends_at x e place)) × Lower x k e
+  behind-goes negated a h n e flag q w z =
+      let g = at-behind s ts cells parts behinds k place r.boundary negated a (tree-at x place k (behind negated a) r h) in
+      let seen : flag ≡ ends_here s a place =
+      z ∙ ap (λ (j : ℕ). row_flag x.sights.now j place) q
+      ∙ r.sights_are (parts_at parts k).first place g.1.inside (ap plain g.1.tree ∙ free s ts cells parts behinds k (behind negated a) (tree-at x place k (behind negated a) r h)) r.boundary
+      ∙ ap (λ (t : Tree). ends_here s t place) g.1.tree in
+      (g.0
+      ∙ ap (λ (b : Bool). end_if (if negated then not b else b) (ends_at x (cell_at cells k).empty place)) (sym seen)
+      ∙ ap (end_if (if negated then not flag else flag)) (same-ends _ e w),
+      below _ e w g.2)
+
+  -- a row of a later place
+  pub later-row : (n j : ℕ) → place < j → IsCharBoundary s j → n < length cells → row_end x.rows.now (length s - j) n ≡ ends_at x n j
+  later-row n j l c i = r.rows_are j n (let a = r.later in let b = c.0 in omega arith) c i
+
+  past-later : (test : ℕ → Bool) (c : Option ℕ) (j : ℕ) → after_char test c place ≡ Some j → place < j
+  past-later test None j e = cc
+  past-later test (Some d) j e = by (test d) e
+    where
+      by : (b : Bool) → (if b then Some (place + len_utf8 d) else None) ≡ Some j → place < j
+      by true e = let z : place + len_utf8 d ≡ j = cc in let y : 0 < len_utf8 d = grind arith in omega arith
+      by false e = cc
+
+  pub char-goes : (a : Set) → At (one_of a) → (n : ℕ) (o : Option ℕ) → IsNext n → o ≡ after_char (holds a) (char_at s place) place → IfSome o (λ j. IsCharBoundary s j)
+      → option_and_then (λ j. row_end x.rows.now (length s - j) n) o ≡ ends_at x k place
+  char-goes a h n o q e b =
+      let at = tree-at x place k (one_of a) r h in
+      let g = at-one_of s ts cells parts behinds k place r.boundary a at in
+      by o e b ∙ ap (λ (j : ℕ). option_and_then (ends_at x j) o) q ∙ ap (option_and_then (ends_at x (cell_at cells k).next)) e ∙ sym g
+    where
+      by : (o : Option ℕ) → o ≡ after_char (holds a) (char_at s place) place → IfSome o (λ j. IsCharBoundary s j)
+          → option_and_then (λ j. row_end x.rows.now (length s - j) n) o ≡ option_and_then (ends_at x n) o
+      by None e b = refl
+      by (Some j) e b =
+          later-row n j (past-later (holds a) (char_at s place) j (sym e)) b
+          (let z = g-inside s ts cells parts behinds k (one_of a) (tree-at x place k (one_of a) r h) in rw q z)
+
+  pub atomic-goes : (a : Tree) → At (atomic a) → (n e m : ℕ) → IsFirst n → IsEmpty e → IsNext m → Lower x k n
+      × (ends_at x n place ≡ None → ends_at x k place ≡ None)
+      × ((j : ℕ) → ends_at x n place ≡ Some j → j ≡ place → (ends_at x k place ≡ ends_at x e place) × Lower x k e)
+      × ((j : ℕ) → ends_at x n place ≡ Some j → (j ≡ place → ⊥) → ends_at x k place ≡ row_end x.rows.now (length s - j) m)
+  atomic-goes a h n e m q w v =
+      let at = tree-at x place k (atomic a) r h in
+      let g = at-atomic s ts cells parts behinds k place r.boundary a at in
+      let f = (cell_at cells k).empty in
+      let l = (cell_at cells k).next in
+      let by : (o : Option ℕ) → ends_at x n place ≡ o → ends_at x k place ≡ option_and_then (moved place (ends_at x f) (ends_at x l)) o =
+      λ o z. g.0 ∙ ap (option_and_then (moved place (ends_at x f) (ends_at x l))) (same-ends _ n q ∙ z) in
+      (below _ n q g.1,
+      λ z. by None z,
+      λ j z y.
+      let at_place : ends_at x k place ≡ moved place (ends_at x f) (ends_at x l) place = by (Some j) z ∙ ap (moved place (ends_at x f) (ends_at x l)) y in
+      (at_place ∙ moved-at place (ends_at x f) (ends_at x l) ∙ same-ends _ e w,
+      below _ e w (atomic-empty s ts cells parts behinds k place r.boundary a at j (same-ends _ n q ∙ z) y)),
+      λ j z y.
+      let on = atomic-ends s ts cells parts behinds k place r.boundary a at j (same-ends _ n q ∙ z) in
+      let past : place < j = let b = on.0 in omega (arith, y) in
+      let inside : m < length cells = let z = g-inside s ts cells parts behinds k (atomic a) at in rw v z in
+      by (Some j) z ∙ moved-past place j (ends_at x f) (ends_at x l) past ∙ ap (λ (i : ℕ). ends_at x i j) (sym v) ∙ sym (later-row m j past on.1 inside))
+
+  turn-lower : (most : Option ℕ) (n : ℕ) → IsFirst n → TurnIs most (Below s ts cells parts behinds k (parts_at parts k).first) → has_turn most ≡ true → Lower x k n
+  turn-lower None n q b e = below _ n q b
+  turn-lower (Some zero) n q b e = cc
+  turn-lower (Some (suc m)) n q b e = below _ n q b
+
+  pub turn-if : (most o : Option ℕ) → turn_end most o ≡ end_if (has_turn most) o
+  turn-if None o = refl
+  turn-if (Some zero) o = refl
+  turn-if (Some (suc n)) o = refl
+
+  pub zero-is : (least : ℕ) → (least == 0) ≡ true → least ≡ 0
+  zero-is least e = grind arith
+
+  pub loop-goes : (greedy : Bool) (least : ℕ) (most : Option ℕ) (a : Tree) → At (repeat greedy least most a) → (n e : ℕ) → IsFirst n → IsEmpty e
+      → (ends_at x k place ≡ prefer_end greedy (end_if (has_turn most) (ends_at x n place)) (end_if (least == 0) (ends_at x e place)))
+      × (has_turn most ≡ true → Lower x k n) × ((least == 0) ≡ true → Lower x k e)
+  loop-goes greedy least most a h n e q w =
+      let g = at-repeat s ts cells parts behinds k place r.boundary greedy least most a (tree-at x place k (repeat greedy least most a) r h) in
+      (g.0
+      ∙ ap (λ (o : Option ℕ). prefer_end greedy o (end_if (least == 0) (ends_at x (cell_at cells k).empty place)))
+      (turn-if most (ends_at x (parts_at parts k).first place) ∙ ap (end_if (has_turn most)) (same-ends _ n q))
+      ∙ ap (λ (o : Option ℕ). prefer_end greedy (end_if (has_turn most) (ends_at x n place)) (end_if (least == 0) o)) (same-ends _ e w),
+      λ z. turn-lower most n q g.1 z,
+      λ z. below _ e w (g.2 (zero-is least z)))
+
+-- What was looked up.
+pub first-is : (ps qs : List Parts) (p : Parts) (k : ℕ) → p ≡ parts_at ps k → ps ≡ qs → p.first ≡ (parts_at qs k).first
+first-is ps qs p k e f = ap (λ (x : Parts). x.first) (e ∙ ap (λ (l : List Parts). parts_at l k) f)
+
+pub second-is : (ps qs : List Parts) (p : Parts) (k : ℕ) → p ≡ parts_at ps k → ps ≡ qs → p.second ≡ (parts_at qs k).second
+second-is ps qs p k e f = ap (λ (x : Parts). x.second) (e ∙ ap (λ (l : List Parts). parts_at l k) f)
+
+pub empty-is : (ps qs : List Cell) (p : Cell) (k : ℕ) → p ≡ cell_at ps k → ps ≡ qs → p.empty ≡ (cell_at qs k).empty
+empty-is ps qs p k e f = ap (λ (x : Cell). x.empty) (e ∙ ap (λ (l : List Cell). cell_at l k) f)
+
+pub next-is : (ps qs : List Cell) (p : Cell) (k : ℕ) → p ≡ cell_at ps k → ps ≡ qs → p.next ≡ (cell_at qs k).next
+next-is ps qs p k e f = ap (λ (x : Cell). x.next) (e ∙ ap (λ (l : List Cell). cell_at l k) f)
+
+pub item-is : (ps qs : List Cell) (p : Cell) (k : ℕ) → p ≡ cell_at ps k → ps ≡ qs → p.item ≡ (cell_at qs k).item
+item-is ps qs p k e f = ap (λ (x : Cell). x.item) (e ∙ ap (λ (l : List Cell). cell_at l k) f)
+
+-- the tree of a cell's node is known
+pub tree-more : (x : Ground) (k : ℕ) (t u : Tree) → t ≡ u → IsTreeAt x k t → IsTreeAt x k u
+tree-more x k t u e h = record { inside = h.inside; real = h.real; tree = h.tree ∙ e }
+
+pub if-lower : (b : Bool) (m t : ℕ) → 0 < t → (b ≡ true → m < t) → (if b then m else 0) < t
+if-lower true m t z h = h refl
+if-lower false m t z h = z
+
+pub or-chosen : (e : ℕ) (o p : Option ℕ) → Some e ≡ o → Some e ≡ option_or o p
+or-chosen e None p h = cc
+or-chosen e (Some d) p h = h
+
+pub or-second : (a o p b : Option ℕ) → ((e : ℕ) → a ≡ Some e → ⊥) → a ≡ o → b ≡ p → b ≡ option_or o p
+or-second None o p b n e f = rw (sym e) f
+or-second (Some d) o p b n e f = absurd (n d refl)

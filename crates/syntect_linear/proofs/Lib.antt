@@ -1,0 +1,16 @@
+pub mod ReachLaws
+pub mod TreeLaws
+pub mod OnwardLaws
+pub mod ChosenLaws
+pub mod FactLaws
+pub mod PlanLaws
+pub mod FoldLaws
+pub mod CellLaws
+pub mod StepLaws
+pub mod GroundLaws
+pub mod RowLaws
+pub mod WalkLaws
+pub mod SequenceLaws
+pub mod LoopLaws
+pub mod SightLaws
+pub mod FindLaws

@@ -1,0 +1,13 @@
+use Rattle.std.proofs.Common.{◌≡◌, ◌+◌, ◌≤◌, ◌-◌, length}
+use Rattle.syntect_pattern_table.specs.Program.{trees_of}
+use Rattle.syntect_linear.specs.Rows.{AreRows}
+use Rattle.syntect_linear.proofs.fill.rows_from.Given as goal
+
+abbrev pub invariant-places : goal.invariant-places
+invariant-places l = record {
+  rows_are : AreRows l.text (trees_of l.program) l.plan.cells l.rows.items;
+  count : length l.rows.items + (l.begin + l.left) ≡ length l.text + 1;
+}
+
+abbrev pub decreases-places : goal.decreases-places
+decreases-places l = l.left

@@ -1,0 +1,42 @@
+use Rattle.std.proofs.Common.{◌≡◌, ◌≤◌, refl, sym, ◌∙◌, ap, arith, Some, None, add-one, suc, length}
+use Rattle.syntect_pattern.specs.Matches.{found, found_at}
+use Rattle.syntect_linear.specs.Finds.{groups_of}
+use Rattle.syntect_linear.proofs.FindLaws.{found-here, found-step, found-past}
+use Rattle.syntect_linear.proofs.find.find_up_to.Goals as goal
+use Rattle.syntect_linear.proofs.find.find_up_to.Goals.{then-starts-test+else-place-text, else-starts-test}
+
+pub returns-then-begin-text : goal.returns-then-begin-text
+returns-then-begin-text c = λ tree h.
+    found-past c.args.text.now tree c.args.begin (omega arith) ∙ sym (found-past c.args.text.now tree (suc c.args.last) (omega (arith, c.requires.order)))
+
+pub returns-then-branch : goal.returns-then-branch
+returns-then-branch c = λ tree h.
+    let s = c.args.text.now in
+    let groups = c.begins_here.new.groups.items in
+    let here : found_at s tree c.starts.place ≡ Some groups = sym (c.in_ok-begins_here.ensures tree h) ∙ ap (λ b. groups_of b groups) c.if-branch.true in
+    sym (c.starts.invariant.same tree h) ∙ found-here s tree c.starts.place groups c.if-place-text.true here
+
+pub starts-preserved : goal.starts-preserved
+starts-preserved c = record {
+  within = omega (arith, c.starts-test.true);
+  later = omega (arith, c.starts.invariant.later);
+  same = λ tree h.
+      let s = c.args.text.now in
+      let groups = c.begins_here.new.groups.items in
+      let none : found_at s tree c.starts.place ≡ None = sym (c.in_ok-begins_here.ensures tree h) ∙ ap (λ b. groups_of b groups) c.if-branch.false in
+      rw add-one (sym (found-step s tree c.starts.place c.if-place-text.true none) ∙ c.starts.invariant.same tree h);
+}
+
+pub returns : goal.returns
+returns c = λ tree h.
+    let s = c.args.text.now in
+    let place = c.starts.place in
+    let near = c.starts.invariant.within in
+    elim c.starts-test.branch [
+      | then-starts-test+else-place-text w ↦
+          sym (c.starts.invariant.same tree h)
+          ∙ found-past s tree place (omega (arith, w.if-place-text.false))
+          ∙ sym (found-past s tree (suc c.args.last) (omega (arith, w.if-place-text.false, near)))
+      | else-starts-test w ↦
+          sym (c.starts.invariant.same tree h) ∙ ap (found s tree) (let at : place ≡ suc c.args.last = omega (arith, near, w.starts-test.false) in at)
+    ]

@@ -1,0 +1,15 @@
+use Rattle.std.proofs.Common.{◌-◌, ◌≤◌, length}
+use Rattle.syntect_pattern_table.specs.Program.{trees_of}
+use Rattle.syntect_linear.specs.Facts.{AreFacts}
+use Rattle.syntect_linear.specs.Plan.{IsPlanned}
+use Rattle.syntect_linear.proofs.plan.Plan.new.Given as goal
+
+abbrev pub invariant-cells : goal.invariant-cells
+invariant-cells l = record {
+  facts_are : AreFacts l.plan.facts (trees_of l.program);
+  planned : IsPlanned (trees_of l.program) l.plan.cells l.plan.parts l.plan.behinds l.program.root;
+  order : length l.plan.parts ≤ length l.plan.cells;
+}
+
+abbrev pub decreases-cells : goal.decreases-cells
+decreases-cells l = 20001 - length l.plan.parts

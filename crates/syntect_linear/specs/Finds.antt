@@ -1,0 +1,36 @@
+-- What a search finds.
+use Rattle.std.specs.Prelude.{◌≡◌, ℕ, suc, ◌+◌, Bool, true, false, List, length, Option, Some, None, IsUtf8}
+use Rattle.syntect_pattern.specs.Trees.{Tree}
+use Rattle.syntect_pattern.specs.Matches.{Groups, found_at, found}
+use Rattle.syntect_pattern_table.specs.Program.{trees_of, IsProgramOf}
+use Rattle.syntect_pattern_table.specs.declared.program.Program.{Program}
+use Rattle.syntect_linear.specs.PlanOf.{IsPlanOf}
+use Rattle.syntect_linear.specs.Rows.{AreRows, AreSights}
+use Rattle.syntect_linear.specs.declared.ground.Ground.{Ground}
+
+-- the groups of the match that was found, if one was
+abbrev pub groups_of : Bool → Groups → Option Groups
+groups_of true g = Some g
+groups_of false g = None
+
+-- these are the groups of the match that the program's tree has at the place, if it has any
+abbrev pub FindsAt : List ℕ → Program → ℕ → Option Groups → Type 0
+FindsAt s p place groups = (tree : Tree) → IsProgramOf p tree → groups ≡ found_at s tree place
+
+-- these are the groups of the match that the program's tree has at the least place not below this one, if it has any
+abbrev pub FindsGroups : List ℕ → Program → ℕ → Option Groups → Type 0
+FindsGroups s p from groups = (tree : Tree) → IsProgramOf p tree → groups ≡ found s tree from
+
+-- these are the groups of that match, which begins at the last place or before; or none does, and what is found from the
+-- place on is found from behind the last
+abbrev pub FindsUpTo : List ℕ → Program → ℕ → ℕ → Option Groups → Type 0
+FindsUpTo s p from last None = (tree : Tree) → IsProgramOf p tree → found s tree from ≡ found s tree (suc last)
+FindsUpTo s p from last (Some groups) = (tree : Tree) → IsProgramOf p tree → found s tree from ≡ Some groups
+
+-- the rows are there of all places from this one on
+pub record Covers (x : Ground) (begin : ℕ) : Type 0 where
+  pub utf8 : IsUtf8 x.text.now
+  pub plan_is : IsPlanOf x.program.now x.plan.now
+  pub sights_are : AreSights x.text.now (trees_of x.program.now) x.plan.now.behinds x.sights.now
+  pub rows_are : AreRows x.text.now (trees_of x.program.now) x.plan.now.cells x.rows.now
+  pub count : length x.rows.now + begin ≡ length x.text.now + 1

@@ -1,0 +1,17 @@
+//! What a search stands on.
+use crate::plan::Plan;
+use syntect_pattern_table::program::Program;
+use syntect_values::seq::Seq;
+
+/// What is known of the cells at a place, where anything is.
+pub type Known = Vec<Option<Option<usize>>>;
+
+/// The plan of a program, a text, where lookbehinds hold there, and the rows of the places from the text's end on.
+#[derive(Clone, Copy)]
+pub struct Ground<'a> {
+    pub program: &'a Program,
+    pub plan: &'a Plan,
+    pub text: &'a str,
+    pub sights: &'a [Seq<bool>],
+    pub rows: &'a [Seq<Option<usize>>],
+}

@@ -1,0 +1,192 @@
+//! Where the whole match ends from a cell at a place, by the rows of the places behind it.
+ghost use Rattle.std.specs.Prelude.{◌≡◌, true, not, if◌then◌else◌};
+ghost use Rattle.syntect_linear.specs.Onward.{end_if, has_turn, prefer_end};
+ghost use Rattle.syntect_linear.specs.Ground.{IsIn, IsReady, Knows, ends_at};
+ghost use Rattle.syntect_linear.specs.Step.{IsLoopAt, IsNodeAt};
+
+use crate::cells::{Item, cell_at, parts_at};
+use crate::ground::{Ground, Known};
+use crate::rows::{end_at, end_from, flag_at, keep, known_at};
+use syntect_pattern_table::node::Node;
+use syntect_ways::anchor::stands;
+use syntect_ways::past::{past_char, past_class};
+
+/// Where the whole match ends, if the cell goes on at the place.
+#[cycle(reach)]
+pub fn reach(ground: &Ground, now: &mut Known, place: usize, cell: usize) -> Option<usize>
+    requires ready { IsReady ground.now place }
+    requires cell { IsIn ground.now cell }
+    requires known { Knows ground.now place now.old.items }
+    ensures value { result ≡ ends_at ground.now cell place }
+    ensures known { Knows ground.now place now.new.items }
+{
+    if let Some(known) = known_at(now.as_slice(), cell) {
+        return known;
+    }
+    let end = reach_item(ground, now, place, cell);
+    keep(now, cell, end);
+    end
+}
+
+/// The same where the test holds, and else none.
+#[cycle(reach)]
+fn reach_if(
+    ground: &Ground,
+    now: &mut Known,
+    place: usize,
+    cell: usize,
+    test: bool,
+) -> Option<usize>
+    requires ready { IsReady ground.now place }
+    requires cell { test ≡ true → IsIn ground.now cell }
+    requires known { Knows ground.now place now.old.items }
+    ensures value { result ≡ end_if test (ends_at ground.now cell place) }
+    ensures known { Knows ground.now place now.new.items }
+{
+    if test {
+        reach(ground, now, place, cell)
+    } else {
+        None
+    }
+}
+
+/// The same as `reach`, by the cell's item.
+#[cycle(reach)]
+fn reach_item(ground: &Ground, now: &mut Known, place: usize, cell: usize) -> Option<usize>
+    requires ready { IsReady ground.now place }
+    requires cell { IsIn ground.now cell }
+    requires known { Knows ground.now place now.old.items }
+    ensures value { result ≡ ends_at ground.now cell place }
+    ensures known { Knows ground.now place now.new.items }
+{
+    let at = cell_at(ground.plan.cells.as_slice(), cell);
+    match at.item {
+        Item::End => Some(place),
+        Item::Turns {
+            greedy,
+            least,
+            most,
+            body: _,
+        } => reach_loop(ground, now, place, cell, greedy, least, most),
+        Item::Node(node) => match ground.program.node(node) {
+            Some(node) => reach_node(ground, now, place, cell, node),
+            None => reach(ground, now, place, at.empty),
+        },
+    }
+}
+
+/// The same, by the cell's node.
+#[cycle(reach)]
+fn reach_node(
+    ground: &Ground,
+    now: &mut Known,
+    place: usize,
+    cell: usize,
+    node: &Node,
+) -> Option<usize>
+    requires ready { IsReady ground.now place }
+    requires node { IsNodeAt ground.now cell node.now }
+    requires known { Knows ground.now place now.old.items }
+    ensures value { result ≡ ends_at ground.now cell place }
+    ensures known { Knows ground.now place now.new.items }
+{
+    let at = cell_at(ground.plan.cells.as_slice(), cell);
+    let parts = parts_at(ground.plan.parts.as_slice(), cell);
+    match node {
+        Node::Nothing => reach(ground, now, place, at.empty),
+        Node::Char(wanted) => {
+            let next = past_char(ground.text, place, *wanted);
+            end_from(ground.rows, ground.text, next, at.next)
+        }
+        Node::Class(class) => {
+            let next = past_class(ground.text, place, class);
+            end_from(ground.rows, ground.text, next, at.next)
+        }
+        Node::Anchor(anchor) => {
+            let holds = stands(ground.text, place, *anchor);
+            reach_if(ground, now, place, at.empty, holds)
+        }
+        Node::Same { fold: _, group: _ } => None,
+        Node::Sequence(_, _) => reach(ground, now, place, parts.first),
+        Node::Alternation(_, _) => {
+            if let Some(end) = reach(ground, now, place, parts.first) {
+                return Some(end);
+            }
+            reach(ground, now, place, parts.second)
+        }
+        Node::Repeat {
+            greedy,
+            least,
+            most,
+            body: _,
+        } => reach_loop(ground, now, place, cell, *greedy, *least, *most),
+        Node::Group { number: _, body: _ } => reach(ground, now, place, parts.first),
+        Node::Atomic(_) => {
+            let end = reach(ground, now, place, parts.first)?;
+            if end == place {
+                return reach(ground, now, place, at.empty);
+            }
+            end_at(ground.rows, ground.text.len().saturating_sub(end), at.next)
+        }
+        Node::Ahead { negated, body: _ } => {
+            let found = reach(ground, now, place, parts.first).is_some();
+            reach_if(ground, now, place, at.empty, looks(found, *negated))
+        }
+        Node::Behind { negated, body: _ } => {
+            let found = flag_at(ground.sights, parts.first, place);
+            reach_if(ground, now, place, at.empty, looks(found, *negated))
+        }
+    }
+}
+
+/// The same of a loop.
+#[cycle(reach)]
+fn reach_loop(
+    ground: &Ground,
+    now: &mut Known,
+    place: usize,
+    cell: usize,
+    greedy: bool,
+    least: u32,
+    most: Option<u32>,
+) -> Option<usize>
+    requires ready { IsReady ground.now place }
+    requires turns { IsLoopAt ground.now cell greedy least most }
+    requires known { Knows ground.now place now.old.items }
+    ensures value { result ≡ ends_at ground.now cell place }
+    ensures known { Knows ground.now place now.new.items }
+{
+    let at = cell_at(ground.plan.cells.as_slice(), cell);
+    let parts = parts_at(ground.plan.parts.as_slice(), cell);
+    let turn = reach_if(ground, now, place, parts.first, may_turn(most));
+    let leave = reach_if(ground, now, place, at.empty, least == 0);
+    prefer(greedy, turn, leave)
+}
+
+/// Whether a lookaround holds, by whether its part was found.
+fn looks(found: bool, negated: bool) -> bool
+    ensures { result ≡ (if negated then not found else found) }
+{
+    found != negated
+}
+
+/// Whether there may be a turn.
+pub(crate) fn may_turn(most: Option<u32>) -> bool
+    ensures { result ≡ has_turn most }
+{
+    match most {
+        Some(0) => false,
+        _ => true,
+    }
+}
+
+/// The one end or the other: a greedy loop prefers a turn.
+fn prefer(greedy: bool, turn: Option<usize>, leave: Option<usize>) -> Option<usize>
+    ensures { result ≡ prefer_end greedy turn leave }
+{
+    if greedy {
+        turn.or(leave)
+    } else {
+        leave.or(turn)
+    }
+}

@@ -1,0 +1,195 @@
+//! The match that the rows lead along, without a step back.
+ghost use Rattle.std.specs.Prelude.{◌≡◌, ◌&&◌, ◌==◌, not, is_some, slice_set, Some, true, false, if◌then◌else◌};
+ghost use Rattle.syntect_linear.specs.Ground.{IsIn, ends_at};
+ghost use Rattle.syntect_linear.specs.Onward.{end_if, has_turn};
+ghost use Rattle.syntect_linear.specs.Cells as spec;
+ghost use Rattle.syntect_linear.specs.Step.{IsLoopAt, IsNodeAt};
+ghost use Rattle.syntect_linear.specs.Walk.{IsFilled, Walks};
+
+use crate::cells::{Item, cell_at, parts_at};
+use crate::facts::facts_at;
+use crate::ground::Ground;
+use crate::plan::one_less;
+use crate::reach::may_turn;
+use crate::rows::end_at;
+use syntect_pattern_table::node::Node;
+use syntect_ways::past::{past_char, past_class};
+
+/// From one place to another.
+pub type Span = (usize, usize);
+
+/// Whether the whole match ends anywhere from the cell on.
+pub(crate) fn leads(ground: &Ground, place: usize, cell: usize) -> bool
+    requires filled { IsFilled ground.now place }
+    requires cell { IsIn ground.now cell }
+    ensures { result ≡ is_some (ends_at ground.now cell place) }
+{
+    let row = ground.text.len().saturating_sub(place);
+    end_at(ground.rows, row, cell).is_some()
+}
+
+/// The group matched this span.
+fn close(groups: &mut Vec<Option<Span>>, group: usize, start: usize, end: usize)
+    ensures { groups.new.items ≡ slice_set groups.old.items group (Some (start, end)) }
+{
+    if group < groups.len() {
+        groups[group] = Some((start, end));
+    }
+}
+
+/// Goes through the cell's item from the place on, to where its match ends, and sets the groups.
+#[cycle(walk)]
+pub fn walk(
+    ground: &Ground,
+    place: usize,
+    cell: usize,
+    groups: &mut Vec<Option<Span>>,
+) -> usize
+    requires filled { IsFilled ground.now place }
+    requires cell { IsIn ground.now cell }
+    requires real { spec.is_end (spec.cell_at ground.now.plan.now.cells cell).item ≡ false }
+    requires found { is_some (ends_at ground.now cell place) ≡ true }
+    ensures { Walks ground.now cell place groups.old.items result groups.new.items }
+{
+    let at = cell_at(ground.plan.cells.as_slice(), cell);
+    match at.item {
+        Item::End => place,
+        Item::Turns {
+            greedy,
+            least,
+            most,
+            body: _,
+        } => walk_turns(ground, place, cell, groups, greedy, least, most),
+        Item::Node(node) => match ground.program.node(node) {
+            Some(node) => walk_node(ground, place, cell, groups, node),
+            None => place,
+        },
+    }
+}
+
+/// The same of a node.
+#[cycle(walk)]
+fn walk_node(
+    ground: &Ground,
+    place: usize,
+    cell: usize,
+    groups: &mut Vec<Option<Span>>,
+    node: &Node,
+) -> usize
+    requires filled { IsFilled ground.now place }
+    requires node { IsNodeAt ground.now cell node.now }
+    requires found { is_some (ends_at ground.now cell place) ≡ true }
+    ensures { Walks ground.now cell place groups.old.items result groups.new.items }
+{
+    let parts = parts_at(ground.plan.parts.as_slice(), cell);
+    match node {
+        Node::Char(wanted) => past_char(ground.text, place, *wanted).unwrap_or(place),
+        Node::Class(class) => past_class(ground.text, place, class).unwrap_or(place),
+        Node::Sequence(_, _) => {
+            let middle = walk(ground, place, parts.first, groups);
+            let second = follows(ground, parts.first, middle == place);
+            walk(ground, middle, second, groups)
+        }
+        Node::Alternation(_, _) => {
+            if leads(ground, place, parts.first) {
+                return walk(ground, place, parts.first, groups);
+            }
+            walk(ground, place, parts.second, groups)
+        }
+        Node::Repeat {
+            greedy,
+            least,
+            most,
+            body: _,
+        } => walk_turns(ground, place, cell, groups, *greedy, *least, *most),
+        Node::Group { number, body: _ } => {
+            let end = walk(ground, place, parts.first, groups);
+            close(groups, *number, place, end);
+            end
+        }
+        Node::Atomic(_) => walk(ground, place, parts.first, groups),
+        Node::Ahead { negated, body } => {
+            if *negated {
+                return place;
+            }
+            if facts_at(ground.plan.facts.as_slice(), *body).bare {
+                return place;
+            }
+            let _ = walk(ground, place, parts.first, groups);
+            place
+        }
+        Node::Nothing => place,
+        Node::Anchor(_) => place,
+        Node::Same { fold: _, group: _ } => place,
+        Node::Behind {
+            negated: _,
+            body: _,
+        } => place,
+    }
+}
+
+/// What goes on at the cell's place, or behind it.
+fn follows(ground: &Ground, cell: usize, empty: bool) -> usize
+    ensures { result ≡ (if empty then (spec.cell_at ground.now.plan.now.cells cell).empty
+        else (spec.cell_at ground.now.plan.now.cells cell).next) }
+{
+    let at = cell_at(ground.plan.cells.as_slice(), cell);
+    if empty { at.empty } else { at.next }
+}
+
+/// Whether a loop takes a turn at the place, which it leaves else.
+fn takes_turn(
+    ground: &Ground,
+    place: usize,
+    cell: usize,
+    greedy: bool,
+    least: u32,
+    most: Option<u32>,
+) -> bool
+    requires filled { IsFilled ground.now place }
+    requires turns { IsLoopAt ground.now cell greedy least most }
+    ensures { result ≡ (if greedy
+        then is_some (end_if (has_turn most) (ends_at ground.now (spec.parts_at ground.now.plan.now.parts cell).first place))
+        else not (is_some (end_if (least == 0) (ends_at ground.now (spec.cell_at ground.now.plan.now.cells cell).empty place)))) }
+{
+    if greedy {
+        let first = parts_at(ground.plan.parts.as_slice(), cell).first;
+        return may_turn(most) && leads(ground, place, first);
+    }
+    let empty = cell_at(ground.plan.cells.as_slice(), cell).empty;
+    !(least == 0 && leads(ground, place, empty))
+}
+
+/// The same as `walk`, of a loop.
+#[cycle(walk)]
+fn walk_turns(
+    ground: &Ground,
+    place: usize,
+    cell: usize,
+    groups: &mut Vec<Option<Span>>,
+    greedy: bool,
+    least: u32,
+    most: Option<u32>,
+) -> usize
+    requires filled { IsFilled ground.now place }
+    requires turns { IsLoopAt ground.now cell greedy least most }
+    requires found { is_some (ends_at ground.now cell place) ≡ true }
+    ensures { Walks ground.now cell place groups.old.items result groups.new.items }
+{
+    let mut at = place;
+    let mut turn = cell;
+    let mut least = least;
+    let mut most = most;
+    'turns: while takes_turn(ground, at, turn, greedy, least, most) {
+        let first = parts_at(ground.plan.parts.as_slice(), turn).first;
+        let end = walk(ground, at, first, groups);
+        if end == at {
+            return end;
+        }
+        turn = follows(ground, first, false);
+        at = end;
+        least = least.saturating_sub(1);
+        most = one_less(most);
+    }
+    at
+}
