@@ -3,7 +3,7 @@ use Rattle.syntect_pattern.specs.Trees.{Tree, nothing, seq, alt}
 use Rattle.syntect_pattern_table.specs.Program.{trees_of}
 use Rattle.syntect_pattern_table.specs.Table.{node_tree}
 use Rattle.syntect_pattern_table.specs.declared.node.Node.{Node}
-use Rattle.syntect_ways.proofs.WayLaws.{if_ok_map}
+use Rattle.syntect_ways.proofs.OkLaws.{if_ok_map}
 use Rattle.syntect_linear.specs.Onward.{plain}
 use Rattle.syntect_linear.specs.Cells.{tree_size}
 use Rattle.syntect_linear.specs.Rows.{IsImage, flag_of, is_single}

@@ -2,7 +2,7 @@ use Rattle.std.proofs.Common.{◌≡◌, ◌<◌, ℕ, length, List, ap, subst, 
 use Rattle.syntect_pattern.specs.Trees.{Tree, nothing, seq, alt, group}
 use Rattle.syntect_pattern_table.specs.Table.{node_tree}
 use Rattle.syntect_pattern_table.specs.declared.node.Node.{Node}
-use Rattle.syntect_ways.proofs.WayLaws.{if_ok_map}
+use Rattle.syntect_ways.proofs.OkLaws.{if_ok_map}
 use Rattle.syntect_linear.specs.Cells.{cell_at, item_tree}
 use Rattle.syntect_linear.specs.Facts.{AreFacts}
 use Rattle.syntect_linear.specs.Plan.{AreCells, CanPush, Pushes, Expands}
