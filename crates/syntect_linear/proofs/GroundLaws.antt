@@ -108,9 +108,11 @@ module _ (x : Ground) (place k : ℕ) (r : IsReady x place) where
   pub alt-goes : (a b : Tree) → At (alt a b) → (n m : ℕ) → IsFirst n → m ≡ (parts_at parts k).second
       → (ends_at x k place ≡ option_or (ends_at x n place) (ends_at x m place)) × Lower x k n × Lower x k m
   alt-goes a b h n m q w =
-      let g = at-alt s ts cells parts behinds k place r.boundary a b (tree-at x place k (alt a b) r h) in
-      (g.0 ∙ ap (λ (o : Option ℕ). option_or o (ends_at x (parts_at parts k).second place)) (same-ends _ n q) ∙ ap (option_or (ends_at x n place)) (same-ends _ m w),
-      below _ n q g.1, below _ m w g.2)
+      let g = at-alt s ts cells parts behinds k place r.boundary a b (tree-at x place k (alt a b) r h) in (
+        g.0 ∙ ap (λ (o : Option ℕ). option_or o (ends_at x (parts_at parts k).second place)) (same-ends _ n q) ∙ ap (option_or (ends_at x n place)) (same-ends _ m w),
+        below _ n q g.1,
+        below _ m w g.2,
+      )
 
   pub group-goes : (d : ℕ) (a : Tree) → At (group d a) → (n : ℕ) → IsFirst n → (ends_at x k place ≡ ends_at x n place) × Lower x k n
   group-goes d a h n q =
@@ -120,11 +122,13 @@ module _ (x : Ground) (place k : ℕ) (r : IsReady x place) where
   pub ahead-goes : (negated : Bool) (a : Tree) → At (ahead negated a) → (n e : ℕ) → IsFirst n → IsEmpty e
       → (ends_at x k place ≡ end_if (if negated then not (is_some (ends_at x n place)) else is_some (ends_at x n place)) (ends_at x e place)) × Lower x k n × Lower x k e
   ahead-goes negated a h n e q w =
-      let g = at-ahead s ts cells parts behinds k place r.boundary negated a (tree-at x place k (ahead negated a) r h) in
-      (g.0
-      ∙ ap (λ (o : Option ℕ). end_if (if negated then not (is_some o) else is_some o) (ends_at x (cell_at cells k).empty place)) (same-ends _ n q)
-      ∙ ap (end_if (if negated then not (is_some (ends_at x n place)) else is_some (ends_at x n place))) (same-ends _ e w),
-      below _ n q g.1, below _ e w g.2)
+      let g = at-ahead s ts cells parts behinds k place r.boundary negated a (tree-at x place k (ahead negated a) r h) in (
+        g.0
+            ∙ ap (λ (o : Option ℕ). end_if (if negated then not (is_some o) else is_some o) (ends_at x (cell_at cells k).empty place)) (same-ends _ n q)
+            ∙ ap (end_if (if negated then not (is_some (ends_at x n place)) else is_some (ends_at x n place))) (same-ends _ e w),
+        below _ n q g.1,
+        below _ e w g.2,
+      )
 
   pub behind-goes : (negated : Bool) (a : Tree) → At (behind negated a) → (n e : ℕ) (flag : Bool) → IsFirst n → IsEmpty e → flag ≡ row_flag x.sights.now n place
       → (ends_at x k place ≡ end_if (if negated then not flag else flag) (ends_at x e place)) × Lower x k e
@@ -133,11 +137,12 @@ module _ (x : Ground) (place k : ℕ) (r : IsReady x place) where
       let seen : flag ≡ ends_here s a place =
       z ∙ ap (λ (j : ℕ). row_flag x.sights.now j place) q
       ∙ r.sights_are (parts_at parts k).first place g.1.inside (ap plain g.1.tree ∙ free s ts cells parts behinds k (behind negated a) (tree-at x place k (behind negated a) r h)) r.boundary
-      ∙ ap (λ (t : Tree). ends_here s t place) g.1.tree in
-      (g.0
-      ∙ ap (λ (b : Bool). end_if (if negated then not b else b) (ends_at x (cell_at cells k).empty place)) (sym seen)
-      ∙ ap (end_if (if negated then not flag else flag)) (same-ends _ e w),
-      below _ e w g.2)
+      ∙ ap (λ (t : Tree). ends_here s t place) g.1.tree in (
+        g.0
+            ∙ ap (λ (b : Bool). end_if (if negated then not b else b) (ends_at x (cell_at cells k).empty place)) (sym seen)
+            ∙ ap (end_if (if negated then not flag else flag)) (same-ends _ e w),
+        below _ e w g.2,
+      )
 
   -- a row of a later place
   pub later-row : (n j : ℕ) → place < j → IsCharBoundary s j → n < length cells → row_end x.rows.now (length s - j) n ≡ ends_at x n j
@@ -175,18 +180,20 @@ module _ (x : Ground) (place k : ℕ) (r : IsReady x place) where
       let f = (cell_at cells k).empty in
       let l = (cell_at cells k).next in
       let by : (o : Option ℕ) → ends_at x n place ≡ o → ends_at x k place ≡ option_and_then (moved place (ends_at x f) (ends_at x l)) o =
-      λ o z. g.0 ∙ ap (option_and_then (moved place (ends_at x f) (ends_at x l))) (same-ends _ n q ∙ z) in
-      (below _ n q g.1,
-      λ z. by None z,
-      λ j z y.
-      let at_place : ends_at x k place ≡ moved place (ends_at x f) (ends_at x l) place = by (Some j) z ∙ ap (moved place (ends_at x f) (ends_at x l)) y in
-      (at_place ∙ moved-at place (ends_at x f) (ends_at x l) ∙ same-ends _ e w,
-      below _ e w (atomic-empty s ts cells parts behinds k place r.boundary a at j (same-ends _ n q ∙ z) y)),
-      λ j z y.
-      let on = atomic-ends s ts cells parts behinds k place r.boundary a at j (same-ends _ n q ∙ z) in
-      let past : place < j = let b = on.0 in omega (arith, y) in
-      let inside : m < length cells = let z = g-inside s ts cells parts behinds k (atomic a) at in rw v z in
-      by (Some j) z ∙ moved-past place j (ends_at x f) (ends_at x l) past ∙ ap (λ (i : ℕ). ends_at x i j) (sym v) ∙ sym (later-row m j past on.1 inside))
+      λ o z. g.0 ∙ ap (option_and_then (moved place (ends_at x f) (ends_at x l))) (same-ends _ n q ∙ z) in (
+        below _ n q g.1,
+        λ z. by None z,
+        λ j z y.
+            let at_place : ends_at x k place ≡ moved place (ends_at x f) (ends_at x l) place = by (Some j) z ∙ ap (moved place (ends_at x f) (ends_at x l)) y in (
+              at_place ∙ moved-at place (ends_at x f) (ends_at x l) ∙ same-ends _ e w,
+              below _ e w (atomic-empty s ts cells parts behinds k place r.boundary a at j (same-ends _ n q ∙ z) y),
+            ),
+        λ j z y.
+            let on = atomic-ends s ts cells parts behinds k place r.boundary a at j (same-ends _ n q ∙ z) in
+            let past : place < j = let b = on.0 in omega (arith, y) in
+            let inside : m < length cells = let z = g-inside s ts cells parts behinds k (atomic a) at in rw v z in
+            by (Some j) z ∙ moved-past place j (ends_at x f) (ends_at x l) past ∙ ap (λ (i : ℕ). ends_at x i j) (sym v) ∙ sym (later-row m j past on.1 inside),
+      )
 
   turn-lower : (most : Option ℕ) (n : ℕ) → IsFirst n → TurnIs most (Below s ts cells parts behinds k (parts_at parts k).first) → has_turn most ≡ true → Lower x k n
   turn-lower None n q b e = below _ n q b
@@ -205,13 +212,14 @@ module _ (x : Ground) (place k : ℕ) (r : IsReady x place) where
       → (ends_at x k place ≡ prefer_end greedy (end_if (has_turn most) (ends_at x n place)) (end_if (least == 0) (ends_at x e place)))
       × (has_turn most ≡ true → Lower x k n) × ((least == 0) ≡ true → Lower x k e)
   loop-goes greedy least most a h n e q w =
-      let g = at-repeat s ts cells parts behinds k place r.boundary greedy least most a (tree-at x place k (repeat greedy least most a) r h) in
-      (g.0
-      ∙ ap (λ (o : Option ℕ). prefer_end greedy o (end_if (least == 0) (ends_at x (cell_at cells k).empty place)))
-      (turn-if most (ends_at x (parts_at parts k).first place) ∙ ap (end_if (has_turn most)) (same-ends _ n q))
-      ∙ ap (λ (o : Option ℕ). prefer_end greedy (end_if (has_turn most) (ends_at x n place)) (end_if (least == 0) o)) (same-ends _ e w),
-      λ z. turn-lower most n q g.1 z,
-      λ z. below _ e w (g.2 (zero-is least z)))
+      let g = at-repeat s ts cells parts behinds k place r.boundary greedy least most a (tree-at x place k (repeat greedy least most a) r h) in (
+        g.0
+            ∙ ap (λ (o : Option ℕ). prefer_end greedy o (end_if (least == 0) (ends_at x (cell_at cells k).empty place)))
+            (turn-if most (ends_at x (parts_at parts k).first place) ∙ ap (end_if (has_turn most)) (same-ends _ n q))
+            ∙ ap (λ (o : Option ℕ). prefer_end greedy (end_if (has_turn most) (ends_at x n place)) (end_if (least == 0) o)) (same-ends _ e w),
+        λ z. turn-lower most n q g.1 z,
+        λ z. below _ e w (g.2 (zero-is least z)),
+      )
 
 -- What was looked up.
 pub first-is : (ps qs : List Parts) (p : Parts) (k : ℕ) → p ≡ parts_at ps k → ps ≡ qs → p.first ≡ (parts_at qs k).first

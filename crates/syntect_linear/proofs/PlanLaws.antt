@@ -178,9 +178,10 @@ module _ (ts : List Tree) (old : List Cell) (bs : List ℕ) (k : ℕ) (c : Cell)
         extends = all;
         looks = λ n a h. h;
         step =
-            step-is ts new bs k (record { first = first; second = second }) c (alt x y) (all.grows.kept k inside ∙ is) tree
-            (part-is ts new first a c.empty c.next (cell-grows ts mid new n.extends.grows first (Node a) c.empty c.next m.cell),
-            part-is ts new second b c.empty c.next n.cell);
+            step-is ts new bs k (record { first = first; second = second }) c (alt x y) (all.grows.kept k inside ∙ is) tree (
+              part-is ts new first a c.empty c.next (cell-grows ts mid new n.extends.grows first (Node a) c.empty c.next m.cell),
+              part-is ts new second b c.empty c.next n.cell,
+            );
       }
 
   -- the cell has one part, which goes on there

@@ -28,7 +28,6 @@ use Rattle.syntect_linear.proofs.ChosenLaws.{reaches-any, chosen-reads, chosen-s
 use Rattle.syntect_linear.proofs.ReachLaws.{reaches-chosen}
 use Rattle.syntect_linear.proofs.StepLaws.{IsAt, goes, free, step, part-goes, following-is, region, zero-ends, at-one_of, at-alt, at-group, at-atomic, at-ahead, at-seq, at-repeat}
 use Rattle.syntect_linear.proofs.GroundLaws.{tree-at}
-
 use Rattle.syntect_linear.proofs.WalkLaws.{size_of, chosen-each, filled-on, CanWalk, can-walk, size-is, part-chosen, ends-forward, walks-by}
 
 -- A cell that goes on at a later place.

@@ -112,9 +112,10 @@ module _ (s : List ℕ) (ts : List Tree) (cells : List Cell) (parts : List Parts
         (goes nothing x i c ∙ onward-nothing s (moved i (E f) (E g)) i ∙ moved-at i (E f) (E g), below-empty nothing x refl (omega arith))
 
     pub at-anchor : (a : Anchor) → At (anchor a) → (E k i ≡ end_if (stands s a i) (E f i)) × Below f
-    at-anchor a x =
-        (goes (anchor a) x i c ∙ onward-anchor s a (moved i (E f) (E g)) i ∙ ap (end_if (stands s a i)) (moved-at i (E f) (E g)),
-        below-empty (anchor a) x refl (omega arith))
+    at-anchor a x = (
+      goes (anchor a) x i c ∙ onward-anchor s a (moved i (E f) (E g)) i ∙ ap (end_if (stands s a i)) (moved-at i (E f) (E g)),
+      below-empty (anchor a) x refl (omega arith),
+    )
 
     past-moved : (test : ℕ → Bool) (o : Option ℕ) → option_and_then (moved i (E f) (E g)) (after_char test o i) ≡ option_and_then (E g) (after_char test o i)
     past-moved test None = refl
@@ -150,17 +151,18 @@ module _ (s : List ℕ) (ts : List Tree) (cells : List Cell) (parts : List Parts
               (λ j l d.
               ap (λ (o : Option ℕ). if j == i then o else following s x.utf8 b (E g) (E g) j) (following-is t x h.at b f g j d (h.again_is r))
               ∙ ap (λ (o : Option ℕ). if j == i then E h.at j else o) (same j d))
-        ] in
-        (goes t x i c
-        ∙ onward-seq s x.utf8 a b fb (E f) (E g) i c
-        ∙ reached
-        ∙ sym (part-goes t x p.first a h.at h.behind_it i c h.first_is),
-        record {
-          there = h.first_is.cell.inside;
-          lower =
-              seq-lower (tree_size a) (tree_size b) (reads a) (reads b) (H k) (H p.first) (H h.at) (H f) (high t x)
-              (part-high t x p.first a h.at h.behind_it h.first_is) (λ r. part-high t x h.at b f g (h.again_is r));
-        })
+        ] in (
+          goes t x i c
+              ∙ onward-seq s x.utf8 a b fb (E f) (E g) i c
+              ∙ reached
+              ∙ sym (part-goes t x p.first a h.at h.behind_it i c h.first_is),
+          record {
+            there = h.first_is.cell.inside;
+            lower =
+                seq-lower (tree_size a) (tree_size b) (reads a) (reads b) (H k) (H p.first) (H h.at) (H f) (high t x)
+                (part-high t x p.first a h.at h.behind_it h.first_is) (λ r. part-high t x h.at b f g (h.again_is r));
+          },
+        )
 
     alt-lower : (x y : ℕ) (b d : Bool) (high first e : ℕ) → high ≡ suc (x + y) + (if b && d then 0 else e) → (first ≡ x + (if b then 0 else e)) ⊎ (first ≡ y + (if d then 0 else e)) → first < high
     alt-lower x y true true high first e p (inl q) = omega arith
@@ -174,26 +176,28 @@ module _ (s : List ℕ) (ts : List Tree) (cells : List Cell) (parts : List Parts
     pub at-alt : (a b : Tree) → At (alt a b) → (E k i ≡ option_or (E p.first i) (E p.second i)) × Below p.first × Below p.second
     at-alt a b x =
         let t : Tree = alt a b in
-        let h : IsPart ts cells p.first a f g × IsPart ts cells p.second b f g = step t x in
-        (goes t x i c
-        ∙ onward-alt s a b (moved i (E f) (E g)) i
-        ∙ ap (λ (o : Option ℕ). option_or o (onward s b (moved i (E f) (E g)) i)) (sym (part-goes t x p.first a f g i c h.0))
-        ∙ ap (option_or (E p.first i)) (sym (part-goes t x p.second b f g i c h.1)),
-        record {
-          there = h.0.cell.inside;
-          lower = alt-lower (tree_size a) (tree_size b) (reads a) (reads b) (H k) (H p.first) (H f) (high t x) (inl (part-high t x p.first a f g h.0));
-        },
-        record {
-          there = h.1.cell.inside;
-          lower = alt-lower (tree_size a) (tree_size b) (reads a) (reads b) (H k) (H p.second) (H f) (high t x) (inr (part-high t x p.second b f g h.1));
-        })
+        let h : IsPart ts cells p.first a f g × IsPart ts cells p.second b f g = step t x in (
+          goes t x i c
+              ∙ onward-alt s a b (moved i (E f) (E g)) i
+              ∙ ap (λ (o : Option ℕ). option_or o (onward s b (moved i (E f) (E g)) i)) (sym (part-goes t x p.first a f g i c h.0))
+              ∙ ap (option_or (E p.first i)) (sym (part-goes t x p.second b f g i c h.1)),
+          record {
+            there = h.0.cell.inside;
+            lower = alt-lower (tree_size a) (tree_size b) (reads a) (reads b) (H k) (H p.first) (H f) (high t x) (inl (part-high t x p.first a f g h.0));
+          },
+          record {
+            there = h.1.cell.inside;
+            lower = alt-lower (tree_size a) (tree_size b) (reads a) (reads b) (H k) (H p.second) (H f) (high t x) (inr (part-high t x p.second b f g h.1));
+          },
+        )
 
     pub at-group : (n : ℕ) (a : Tree) → At (group n a) → (E k i ≡ E p.first i) × Below p.first
     at-group n a x =
         let t : Tree = group n a in
-        let h : IsPart ts cells p.first a f g = step t x in
-        (goes t x i c ∙ onward-group s n a (moved i (E f) (E g)) i ∙ sym (part-goes t x p.first a f g i c h),
-        record { there = h.cell.inside; lower = omega (arith, high t x, part-high t x p.first a f g h) })
+        let h : IsPart ts cells p.first a f g = step t x in (
+          goes t x i c ∙ onward-group s n a (moved i (E f) (E g)) i ∙ sym (part-goes t x p.first a f g i c h),
+          record { there = h.cell.inside; lower = omega (arith, high t x, part-high t x p.first a f g h) },
+        )
 
     region-lower : (x : ℕ) (b : Bool) (high first rest zero_high : ℕ) → high ≡ suc (suc x) + rest → first ≡ x + (if b then 0 else zero_high) → zero_high ≡ 0 → first < high
     region-lower x true high first rest z p q r = omega arith
@@ -205,12 +209,13 @@ module _ (s : List ℕ) (ts : List Tree) (cells : List Cell) (parts : List Parts
     pub at-atomic : (a : Tree) → At (atomic a) → (E k i ≡ option_and_then (moved i (E f) (E g)) (E p.first i)) × Below p.first
     at-atomic a x =
         let t : Tree = atomic a in
-        let h : IsPart ts cells p.first a 0 0 = step t x in
-        (goes t x i c ∙ onward-atomic s a (moved i (E f) (E g)) i ∙ ap (option_and_then (moved i (E f) (E g))) (sym (region t x p.first a i c h)),
-        record {
-          there = h.cell.inside;
-          lower = region-lower (tree_size a) (reads a) (H k) (H p.first) _ (H 0) (high t x) (part-high t x p.first a 0 0 h) (zero-high t x);
-        })
+        let h : IsPart ts cells p.first a 0 0 = step t x in (
+          goes t x i c ∙ onward-atomic s a (moved i (E f) (E g)) i ∙ ap (option_and_then (moved i (E f) (E g))) (sym (region t x p.first a i c h)),
+          record {
+            there = h.cell.inside;
+            lower = region-lower (tree_size a) (reads a) (H k) (H p.first) _ (H 0) (high t x) (part-high t x p.first a 0 0 h) (zero-high t x);
+          },
+        )
 
     -- where the part ends
     pub atomic-ends : (a : Tree) → At (atomic a) → (e : ℕ) → E p.first i ≡ Some e → (i ≤ e) × IsCharBoundary s e
@@ -227,27 +232,29 @@ module _ (s : List ℕ) (ts : List Tree) (cells : List Cell) (parts : List Parts
         → (E k i ≡ end_if (if negated then not (is_some (E p.first i)) else is_some (E p.first i)) (E f i)) × Below p.first × Below f
     at-ahead negated a x =
         let t : Tree = ahead negated a in
-        let h : IsPart ts cells p.first a 0 0 = step t x in
-        (goes t x i c
-        ∙ onward-ahead s negated a (moved i (E f) (E g)) i
-        ∙ ap (λ (o : Option ℕ). end_if (if negated then not (is_some o) else is_some o) (moved i (E f) (E g) i)) (sym (region t x p.first a i c h))
-        ∙ ap (end_if (if negated then not (is_some (E p.first i)) else is_some (E p.first i))) (moved-at i (E f) (E g)),
-        record {
-          there = h.cell.inside;
-          lower = region-lower (tree_size a) (reads a) (H k) (H p.first) _ (H 0) (high t x) (part-high t x p.first a 0 0 h) (zero-high t x);
-        },
-        below-empty t x refl (omega arith))
+        let h : IsPart ts cells p.first a 0 0 = step t x in (
+          goes t x i c
+              ∙ onward-ahead s negated a (moved i (E f) (E g)) i
+              ∙ ap (λ (o : Option ℕ). end_if (if negated then not (is_some o) else is_some o) (moved i (E f) (E g) i)) (sym (region t x p.first a i c h))
+              ∙ ap (end_if (if negated then not (is_some (E p.first i)) else is_some (E p.first i))) (moved-at i (E f) (E g)),
+          record {
+            there = h.cell.inside;
+            lower = region-lower (tree_size a) (reads a) (H k) (H p.first) _ (H 0) (high t x) (part-high t x p.first a 0 0 h) (zero-high t x);
+          },
+          below-empty t x refl (omega arith),
+        )
 
     pub at-behind : (negated : Bool) (a : Tree) → At (behind negated a)
         → (E k i ≡ end_if (if negated then not (ends_here s a i) else ends_here s a i) (E f i)) × LooksFor ts behinds p.first a × Below f
     unfolding onward ends_here
     at-behind negated a x =
-        let t : Tree = behind negated a in
-        (goes t x i c
-        ∙ look-end negated (moved i (E f) (E g)) i [] _
-        ∙ ap (end_if _) (moved-at i (E f) (E g)),
-        step t x,
-        below-empty t x refl (omega arith))
+        let t : Tree = behind negated a in (
+          goes t x i c
+              ∙ look-end negated (moved i (E f) (E g)) i [] _
+              ∙ ap (end_if _) (moved-at i (E f) (E g)),
+          step t x,
+          below-empty t x refl (omega arith),
+        )
 
     loop-lower : (x : ℕ) (b d : Bool) (high first e : ℕ) → high ≡ suc x + (if d && b then 0 else e) → first ≡ x + (if b then 0 else e) → first < high
     loop-lower x true d high first e p q = omega arith
@@ -293,9 +300,10 @@ module _ (s : List ℕ) (ts : List Tree) (cells : List Cell) (parts : List Parts
         → (E k i ≡ prefer_end greedy (turn_end most (E p.first i)) (end_if (least == 0) (E f i))) × TurnIs most (Below p.first) × (least ≡ 0 → Below f)
     at-repeat greedy least most a x =
         let t : Tree = repeat greedy least most a in
-        let h : TurnIs most (IsTurn ts cells f g p.first greedy least most a) = step t x in
-        (goes t x i c
-        ∙ onward-repeat s x.utf8 greedy least most a (free t x) (E f) (E g) i c
-        ∙ ap (λ (o : Option ℕ). prefer_end greedy o (end_if (least == 0) (E f i))) (turn-ends greedy least most a x most h),
-        turn-below greedy least most a x most h,
-        λ z. below-empty t x (no-least least (reads a) z) (omega arith))
+        let h : TurnIs most (IsTurn ts cells f g p.first greedy least most a) = step t x in (
+          goes t x i c
+              ∙ onward-repeat s x.utf8 greedy least most a (free t x) (E f) (E g) i c
+              ∙ ap (λ (o : Option ℕ). prefer_end greedy o (end_if (least == 0) (E f i))) (turn-ends greedy least most a x most h),
+          turn-below greedy least most a x most h,
+          λ z. below-empty t x (no-least least (reads a) z) (omega arith),
+        )

@@ -216,9 +216,10 @@ module _ (x : Ground) (k place : ℕ) (g : Groups) (filled : IsFilled x place) w
       let p : IsPart ts cells (parts_at parts k).first a f n × IsPart ts cells (parts_at parts k).second b f n = step s ts cells parts behinds k (alt a b) (at (alt a b) h) in
       let fa : is_free a ≡ true = and_left (is_free a) (is_free b) (free s ts cells parts behinds k (alt a b) (at (alt a b) h)) in
       let some : is_some (reaches F (matches s a place g)) ≡ true =
-      ap is_some (reaches-any s utf8 a fa F place g ∙ sym (part-goes s ts cells parts behinds k (alt a b) (at (alt a b) h) (parts_at parts k).first a f n place bound p.0)) ∙ e in
-      (can-walk (parts_at parts k).first a f n p.0 e (let z = size-is (alt a b) h in omega arith),
-      λ end l w. walks-by (alt a b) h end l (first-chosen F (matches s a place g) (matches s b place g) some ∙ part-chosen (parts_at parts k).first a f n end l p.0 w))
+      ap is_some (reaches-any s utf8 a fa F place g ∙ sym (part-goes s ts cells parts behinds k (alt a b) (at (alt a b) h) (parts_at parts k).first a f n place bound p.0)) ∙ e in (
+        can-walk (parts_at parts k).first a f n p.0 e (let z = size-is (alt a b) h in omega arith),
+        λ end l w. walks-by (alt a b) h end l (first-chosen F (matches s a place g) (matches s b place g) some ∙ part-chosen (parts_at parts k).first a f n end l p.0 w),
+      )
 
   or-other : (o p : Option ℕ) → is_some o ≡ false → is_some (option_or o p) ≡ true → is_some p ≡ true
   or-other None p e q = q
@@ -233,18 +234,20 @@ module _ (x : Ground) (k place : ℕ) (g : Groups) (filled : IsFilled x place) w
       let none : is_some (reaches F (matches s a place g)) ≡ false =
       ap is_some (reaches-any s utf8 a fa F place g ∙ sym (part-goes s ts cells parts behinds k (alt a b) y (parts_at parts k).first a f n place bound p.0)) ∙ e in
       let other : is_some (ends_at x (parts_at parts k).second place) ≡ true =
-      or-other (ends_at x (parts_at parts k).first place) _ e (ap is_some (sym (at-alt s ts cells parts behinds k place bound a b y).0) ∙ found) in
-      (can-walk (parts_at parts k).second b f n p.1 other (let z = size-is (alt a b) h in omega arith),
-      λ end l w. walks-by (alt a b) h end l (second-chosen F (matches s a place g) (matches s b place g) none ∙ part-chosen (parts_at parts k).second b f n end l p.1 w))
+      or-other (ends_at x (parts_at parts k).first place) _ e (ap is_some (sym (at-alt s ts cells parts behinds k place bound a b y).0) ∙ found) in (
+        can-walk (parts_at parts k).second b f n p.1 other (let z = size-is (alt a b) h in omega arith),
+        λ end l w. walks-by (alt a b) h end l (second-chosen F (matches s a place g) (matches s b place g) none ∙ part-chosen (parts_at parts k).second b f n end l p.1 w),
+      )
 
   pub group-walks : (d : ℕ) (a : Tree) → At (group d a) → Found
       → CanWalk (parts_at parts k).first × ((end : ℕ) (h : Groups) → Walks x (parts_at parts k).first place g end h → Walks x k place g end (slice_set h d (Some (place, end))))
   group-walks d a h found =
       let y = at (group d a) h in
-      let p : IsPart ts cells (parts_at parts k).first a f n = step s ts cells parts behinds k (group d a) y in
-      (can-walk (parts_at parts k).first a f n p (ap is_some (sym (at-group s ts cells parts behinds k place bound d a y).0) ∙ found) (let z = size-is (group d a) h in omega arith),
-      λ end l w. walks-by (group d a) h end (slice_set l d (Some (place, end)))
-      (chosen-close F d place (matches s a place g) ∙ ap (option_map (close d place)) (part-chosen (parts_at parts k).first a f n end l p w)))
+      let p : IsPart ts cells (parts_at parts k).first a f n = step s ts cells parts behinds k (group d a) y in (
+        can-walk (parts_at parts k).first a f n p (ap is_some (sym (at-group s ts cells parts behinds k place bound d a y).0) ∙ found) (let z = size-is (group d a) h in omega arith),
+        λ end l w. walks-by (group d a) h end (slice_set l d (Some (place, end)))
+            (chosen-close F d place (matches s a place g) ∙ ap (option_map (close d place)) (part-chosen (parts_at parts k).first a f n end l p w)),
+      )
 
   -- a part that is matched on its own
   region-chosen : (t : Tree) (y : IsAt s ts cells parts behinds k t) (a : Tree) (end : ℕ) (l : Groups) → IsPart ts cells (parts_at parts k).first a 0 0
@@ -260,17 +263,18 @@ module _ (x : Ground) (k place : ℕ) (g : Groups) (filled : IsFilled x place) w
       let y = at (atomic a) h in
       let p : IsPart ts cells (parts_at parts k).first a 0 0 = step s ts cells parts behinds k (atomic a) y in
       let e = (at-atomic s ts cells parts behinds k place bound a y).0 in
-      let j = then-some F (ends_at x (parts_at parts k).first place) (ap is_some (sym e) ∙ found) in
-      (can-walk (parts_at parts k).first a 0 0 p (ap is_some j.1) (let z = size-is (atomic a) h in omega arith),
-      λ end l w.
-      let c = region-chosen (atomic a) y a end l p w in
-      let ends_there : ends_at x (parts_at parts k).first place ≡ Some end =
-      region s ts cells parts behinds k (atomic a) y (parts_at parts k).first a place bound p
-      ∙ sym (reaches-any s utf8 a (free s ts cells parts behinds k (atomic a) y) (λ i. Some i) place g)
-      ∙ reaches-chosen (λ i. Some i) (matches s a place g)
-      ∙ ap (option_and_then (λ (m : Member). Some m.0)) c in
-      let same : j.0 ≡ end = let q : Some j.0 ≡ Some end = sym j.1 ∙ ends_there in cc in
-      walks-by (atomic a) h end l (chosen-first F (matches s a place g) (end, l) c (ap (λ (i : ℕ). is_some (F i)) (sym same) ∙ j.2)))
+      let j = then-some F (ends_at x (parts_at parts k).first place) (ap is_some (sym e) ∙ found) in (
+        can-walk (parts_at parts k).first a 0 0 p (ap is_some j.1) (let z = size-is (atomic a) h in omega arith),
+        λ end l w.
+            let c = region-chosen (atomic a) y a end l p w in
+            let ends_there : ends_at x (parts_at parts k).first place ≡ Some end =
+            region s ts cells parts behinds k (atomic a) y (parts_at parts k).first a place bound p
+            ∙ sym (reaches-any s utf8 a (free s ts cells parts behinds k (atomic a) y) (λ i. Some i) place g)
+            ∙ reaches-chosen (λ i. Some i) (matches s a place g)
+            ∙ ap (option_and_then (λ (m : Member). Some m.0)) c in
+            let same : j.0 ≡ end = let q : Some j.0 ≡ Some end = sym j.1 ∙ ends_there in cc in
+            walks-by (atomic a) h end l (chosen-first F (matches s a place g) (end, l) c (ap (λ (i : ℕ). is_some (F i)) (sym same) ∙ j.2)),
+      )
 
   pub ahead-walks : (a : Tree) → At (ahead false a) → Found
       → CanWalk (parts_at parts k).first × ((end : ℕ) (h : Groups) → Walks x (parts_at parts k).first place g end h → Walks x k place g place h)
@@ -278,8 +282,9 @@ module _ (x : Ground) (k place : ℕ) (g : Groups) (filled : IsFilled x place) w
       let y = at (ahead false a) h in
       let p : IsPart ts cells (parts_at parts k).first a 0 0 = step s ts cells parts behinds k (ahead false a) y in
       let e = (at-ahead s ts cells parts behinds k place bound false a y).0 in
-      let j = if-some (is_some (ends_at x (parts_at parts k).first place)) (ends_at x f place) (ap is_some (sym e) ∙ found) in
-      (can-walk (parts_at parts k).first a 0 0 p j.0 (let z = size-is (ahead false a) h in omega arith),
-      λ end l w.
-      walks-by (ahead false a) h place l
-      (chosen-stay F place g (matches s a place g) (end, l) (region-chosen (ahead false a) y a end l p w) (ap is_some (moved-at place (E f) (E n)) ∙ j.1)))
+      let j = if-some (is_some (ends_at x (parts_at parts k).first place)) (ends_at x f place) (ap is_some (sym e) ∙ found) in (
+        can-walk (parts_at parts k).first a 0 0 p j.0 (let z = size-is (ahead false a) h in omega arith),
+        λ end l w.
+            walks-by (ahead false a) h place l
+            (chosen-stay F place g (matches s a place g) (end, l) (region-chosen (ahead false a) y a end l p w) (ap is_some (moved-at place (E f) (E n)) ∙ j.1)),
+      )

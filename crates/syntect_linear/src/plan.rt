@@ -199,12 +199,7 @@ impl Plan {
     }
 
     /// The parts of a node, which the cell has.
-    fn expand_node(
-        &mut self,
-        node: &Node,
-        number: usize,
-        cell: Cell,
-    ) -> Result<Parts, AllocError>
+    fn expand_node(&mut self, node: &Node, number: usize, cell: Cell) -> Result<Parts, AllocError>
         ensures step { IfOk result (λ p. (ts : List Tree) → AreFacts self.old.facts ts
             → AreCells ts self.old.cells → 0 < number → number < length self.old.cells
             → spec.cell_at self.old.cells number ≡ cell
@@ -222,9 +217,7 @@ impl Plan {
                 most,
                 body,
             } => self.expand_turns(number, cell, *greedy, *least, *most, *body),
-            Node::Group { number: _, body } => {
-                self.expand_part(*body, cell.empty, cell.next)
-            }
+            Node::Group { number: _, body } => { self.expand_part(*body, cell.empty, cell.next) }
             Node::Atomic(body) => self.expand_part(*body, 0, 0),
             Node::Ahead { negated: _, body } => self.expand_part(*body, 0, 0),
             Node::Behind { negated: _, body } => {

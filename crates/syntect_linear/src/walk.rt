@@ -39,12 +39,7 @@ fn close(groups: &mut Vec<Option<Span>>, group: usize, start: usize, end: usize)
 
 /// Goes through the cell's item from the place on, to where its match ends, and sets the groups.
 #[cycle(walk)]
-pub fn walk(
-    ground: &Ground,
-    place: usize,
-    cell: usize,
-    groups: &mut Vec<Option<Span>>,
-) -> usize
+pub fn walk(ground: &Ground, place: usize, cell: usize, groups: &mut Vec<Option<Span>>) -> usize
     requires filled { IsFilled ground.now place }
     requires cell { IsIn ground.now cell }
     requires real { spec.is_end (spec.cell_at ground.now.plan.now.cells cell).item ≡ false }

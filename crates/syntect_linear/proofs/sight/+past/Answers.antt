@@ -19,12 +19,17 @@ past-requires-in-Some-Sequence t c =
     let b : Tree = get_or ts c.in-Some-Sequence.second nothing in
     let tree : get_or ts c.args.node nothing ≡ seq a b = c.in-Some-Sequence.ensures ∙ ap (node_tree ts) c.in-Some-Sequence.field-0-is in
     let size : tree_size (get_or ts c.args.node nothing) ≡ tree_size (seq a b) = ap tree_size tree in
-    let both : plain (seq a b) ≡ true = ap plain (sym tree) ∙ c.requires.1.1.1.0 in
-    (omega (arith, c.requires.1.0, size),
-    (c.requires.1.1.0,
-    (and_right (plain a) (plain b) both,
-    λ q e. image-bounds s c.requires.1.1.0 a c.args.before.now c.in_ok-middle-in-Some-Sequence.middle.items c.requires.1.1.1.1 c.in_ok-middle-in-Some-Sequence.ensures q
-    (ap (λ (l : List Bool). flag_of l q) (sym c.as_slice.ensures.value) ∙ e))))
+    let both : plain (seq a b) ≡ true = ap plain (sym tree) ∙ c.requires.1.1.1.0 in (
+      omega (arith, c.requires.1.0, size),
+      (
+        c.requires.1.1.0,
+        (
+          and_right (plain a) (plain b) both,
+          λ q e. image-bounds s c.requires.1.1.0 a c.args.before.now c.in_ok-middle-in-Some-Sequence.middle.items c.requires.1.1.1.1 c.in_ok-middle-in-Some-Sequence.ensures q
+              (ap (λ (l : List Bool). flag_of l q) (sym c.as_slice.ensures.value) ∙ e),
+        ),
+      ),
+    )
 
 pub returns-in_ok-middle-in-Some-Sequence : goal.returns-in_ok-middle-in-Some-Sequence
 returns-in_ok-middle-in-Some-Sequence t c =
