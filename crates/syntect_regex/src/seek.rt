@@ -14,7 +14,7 @@ use syntect_pattern_table::program::Program;
 /// that; a plan takes a step for each of its cells at each byte.
 const STEPS_A_BYTE: usize = 64;
 
-const STEPS: usize = 1024;
+const STEPS: usize = 16384;
 
 /// The steps that a search of the text may take.
 #[inline]
@@ -34,6 +34,7 @@ fn any_steps() -> Steps
 
 /// Whether the program matches at the place or at a later one, of which the least counts. Where it does, the search's groups
 /// are the match's.
+#[inline]
 pub(crate) fn find(
     search: &mut Search,
     program: &Program,
@@ -43,9 +44,23 @@ pub(crate) fn find(
     ensures { IfOk result (λ found.
         FindsGroups text.now program.now begin (groups_of found search.new)) }
 {
-    if let Some(found) = search.find(program, text, begin, &mut steps_in(text))? {
-        return Ok(found);
+    match search.find(program, text, begin, &mut steps_in(text))? {
+        Some(found) => Ok(found),
+        None => find_planned(search, program, text, begin),
     }
+}
+
+/// The same where the steps didn't suffice.
+#[inline(never)]
+fn find_planned(
+    search: &mut Search,
+    program: &Program,
+    text: &str,
+    begin: usize,
+) -> Result<bool, AllocError>
+    ensures { IfOk result (λ found.
+        FindsGroups text.now program.now begin (groups_of found search.new)) }
+{
     let alloc = *search.frames.allocator();
     if let Some(plan) = Plan::new(alloc, program)? {
         return planned::find(alloc, program, &plan, text, begin, &mut search.groups);
@@ -57,6 +72,7 @@ pub(crate) fn find(
 }
 
 /// The same for the places from `begin` to `last` alone.
+#[inline]
 pub(crate) fn find_up_to(
     search: &mut Search,
     program: &Program,
@@ -68,10 +84,25 @@ pub(crate) fn find_up_to(
     ensures { IfOk result (λ found.
         FindsUpTo text.now program.now begin last (groups_of found search.new)) }
 {
-    let mut steps = steps_in(text);
-    if let Some(found) = search.find_up_to(program, text, begin, last, &mut steps)? {
-        return Ok(found);
+    match search.find_up_to(program, text, begin, last, &mut steps_in(text))? {
+        Some(found) => Ok(found),
+        None => find_up_to_planned(search, program, text, begin, last),
     }
+}
+
+/// The same where the steps didn't suffice.
+#[inline(never)]
+fn find_up_to_planned(
+    search: &mut Search,
+    program: &Program,
+    text: &str,
+    begin: usize,
+    last: usize,
+) -> Result<bool, AllocError>
+    requires { begin ≤ last }
+    ensures { IfOk result (λ found.
+        FindsUpTo text.now program.now begin last (groups_of found search.new)) }
+{
     let alloc = *search.frames.allocator();
     if let Some(plan) = Plan::new(alloc, program)? {
         return planned::find_up_to(alloc, program, &plan, text, begin, last, &mut search.groups);
@@ -100,6 +131,7 @@ pub(crate) fn begins_at(
 }
 
 /// The same where the steps didn't suffice.
+#[inline(never)]
 fn begins_planned(
     search: &mut Search,
     program: &Program,
