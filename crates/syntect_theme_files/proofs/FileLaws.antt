@@ -6,6 +6,8 @@ use Rattle.std.specs.Cmp.Lexicographic.{slice_cmp}
 use Rattle.std.specs.Ordering.{nat_cmp}
 use Rattle.std.specs.Prelude.{IfSome, IfErr, Result, Ok, is_some, slice_get, true}
 use Rattle.std.proofs.lemmas.List.{take_all, take-append-le, take-append-drop, length-take}
+use Rattle.std.proofs.lemmas.Map.Entries.{entries_from_clone}
+use Rattle.std.specs.List.{AllZip}
 use Rattle.std.specs.declared.io.Error.{Error}
 use Rattle.serde_json.specs.Data.{Data}
 use Rattle.syntect_base.specs.Settings.{IsSettings}
@@ -125,3 +127,8 @@ keeps_on old left new e h =
     let n : length old ≤ length left = omega (arith, ap length (sym e), length-take {A = List ℕ} (length old) left) in
     let whole : new ≡ left ++ drop (length left) new = sym (take-append-drop (length left) new) ∙ ap (λ (l : List (List ℕ)). l ++ drop (length left) new) h in
     subst (λ (l : List (List ℕ)). take (length old) l ≡ old) (sym whole) (take-append-le (length old) left (drop (length left) new) n ∙ e)
+
+-- ---- tables ----
+
+pub same_themes : (themes copy : List (List ℕ × Theme)) → AllZip (λ p q. (q.0 ≡ p.0) × (q.1 ≡ p.1)) themes copy → copy ≡ themes
+same_themes themes copy h = entries_from_clone (λ x y. y ≡ x) (λ v w. w ≡ v) (λ x y e. e) (λ v w e. e) themes copy h

@@ -9,7 +9,7 @@ ghost use Rattle.syntect_theme.specs.declared.theme.Theme.{Theme as ATheme};
 ghost use Rattle.syntect_theme_files.specs.ThemeFiles.{IsThemeOf, RefusesTheme, IsThemeFault, theme_name, AddsThemes, StopsAtTheme, RefusesThemes};
 
 use crate::theme_load::ParseSettings;
-use std::alloc::Global;
+use std::alloc::{AllocError, Global};
 use std::fs;
 use std::io::{BufRead, BufReader, Read};
 use std::path::{Path, PathBuf};
@@ -79,6 +79,16 @@ impl ThemeSet {
         ensures { result.themes ≡ [] }
     {
         ThemeSet::new(alloc)
+    }
+
+    /// The same set once more.
+    #[tactic(auto, using(crate::proofs::FileLaws::same_themes))]
+    pub fn clone(&self) -> Result<ThemeSet, AllocError>
+        ensures { IfOk result (λ set. set ≡ self.now) }
+    {
+        Ok(ThemeSet {
+            themes: self.themes.clone()?,
+        })
     }
 
     /// The paths of the theme files in a folder and in the folders below it, in the order of a walk. A theme file has the
