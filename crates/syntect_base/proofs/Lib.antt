@@ -1,1 +1,1 @@
-mod WalkLaws
+pub mod WalkLaws
