@@ -1,11 +1,11 @@
 //! Entries of metadata, as files have them.
-ghost use Rattle.std.specs.Prelude.{◌≡◌, ◌≢◌, ◌++◌, ◌∷◌, [], ℕ, List, false, codes, option_map, option_and_then, IfOk, OnOk, IfErr, OnErr};
+ghost use Rattle.std.specs.Prelude.{◌≡◌, ◌≢◌, ◌++◌, ◌∷◌, [], ℕ, List, false, codes, option_map, option_and_then, IfSome, IfOk, OnOk, IfErr, OnErr};
 ghost use Rattle.std.specs.List.{AllZip};
 ghost use Rattle.std.specs.Path.{path_bytes};
 ghost use Rattle.serde_json.specs.Find.{get, as_object};
 ghost use Rattle.serde_json.specs.View.{view, members_view};
 ghost use Rattle.syntect_base.specs.declared.loading.LoadingError.{LoadingError};
-ghost use Rattle.syntect_metadata.specs.Entries.{is_entry, IsEntry, IsEntryOf, RefusesEntry, IsEntryFault, AreAlike};
+ghost use Rattle.syntect_metadata.specs.Entries.{is_entry, IsEntry, IsEntryOf, RefusesEntry, RefusesRead, IsEntryFault, AreAlike};
 
 use crate::values::member_of;
 use serde_json::{Map, Value};
@@ -93,10 +93,28 @@ fn entry_of(alloc: Global, path: Path<'_>, bytes: &[u8]) -> Result<RawMetadataEn
     entry_in(alloc, path, settings)
 }
 
+/// The entry of what a reader of a file has left, unless reading has a fault.
+fn entry_from<R: Read>(
+    alloc: Global,
+    path: Path<'_>,
+    reader: &mut R,
+) -> Result<RawMetadataEntry, LoadingError>
+    ensures ok { IfOk result (λ entry. (bytes : List ℕ)
+        × IfSome (R.remaining reader.old) (λ left. bytes ≡ left)
+        × IsEntryOf (path_bytes path.entry) bytes entry) }
+    ensures err { IfErr result (RefusesRead (R.remaining reader.old)) }
+{
+    let mut bytes = Vec::new(alloc);
+    match reader.read_to_end(&mut bytes) {
+        Ok(_) => entry_of(alloc, path, bytes.as_slice()),
+        Err(e) => Err(LoadingError::from(e)),
+    }
+}
+
 impl RawMetadataEntry {
     /// The entry in a file: the JSON of an object with a text as `scope` and an object as `settings`, in which no number is a
     /// float. A fault of the file is `Io`, other bytes are `ReadSettings`, and another value is `ParseMetadata`.
-    #[tactic(auto, using(crate::proofs::EntryLaws::fault_read, crate::proofs::EntryLaws::fault_within))]
+    #[tactic(auto, using(crate::proofs::EntryLaws::fault_read, crate::proofs::EntryLaws::of_file))]
     pub fn load(
         files: &impl Files,
         alloc: Global,
@@ -114,11 +132,7 @@ impl RawMetadataEntry {
             Ok(reader) => reader,
             Err(e) => return Err(LoadingError::from(e)),
         };
-        let mut bytes = Vec::new(alloc);
-        match reader.read_to_end(&mut bytes) {
-            Ok(_) => entry_of(alloc, path, bytes.as_slice()),
-            Err(e) => Err(LoadingError::from(e)),
-        }
+        entry_from(alloc, path, &mut reader)
     }
 
     /// The scope text and the settings.
