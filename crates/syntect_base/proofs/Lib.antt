@@ -1,1 +1,2 @@
 pub mod WalkLaws
+mod NameLaws

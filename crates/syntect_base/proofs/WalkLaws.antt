@@ -1,5 +1,5 @@
 -- What is ahead of a walk.
-use Rattle.std.proofs.Common.{◌≡◌, ℕ, ◌<◌, List, [], ◌∷◌, ◌++◌, map, reverse, refl, ap, sym, ◌∙◌, append_assoc, subst}
+use Rattle.std.proofs.Common.{◌≡◌, ℕ, List, [], ◌∷◌, ◌++◌, map, reverse, refl, ap, sym, ◌∙◌, append_assoc, subst}
 use Rattle.std.proofs.lemmas.List.{append-nil, reverse-append, reverse-reverse}
 use Rattle.syntect_base.specs.Ahead.{Ahead}
 use Rattle.syntect_base.specs.Walks.{joined, InByteOrder, Walks, IsWalk, Visits, GoesOn, GivesFile, ended, passed_over, file, subfolder, none_ahead, passes_over, takes, enters}

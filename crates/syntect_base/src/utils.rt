@@ -1,9 +1,10 @@
 //! The files of a folder.
-ghost use Rattle.std.specs.Prelude.{◌≡◌, ◌≢◌, ℕ, ◌<◌, true, false, List, [], ◌∷◌, ◌++◌, map, reverse, if◌then◌else◌, IsUtf8, IfOk, OnOk, IfErr, IfSome, IfNone};
+ghost use Rattle.std.specs.Prelude.{◌≡◌, ◌≢◌, ◌==◌, ℕ, ◌<◌, ◌≤◌, true, false, List, [], ◌∷◌, ◌++◌, map, reverse, if◌then◌else◌, IsUtf8, IsPermutation, length, IfOk, OnOk, IfErr, IfSome, IfNone};
 ghost use Rattle.std.specs.IoError.{error_kind};
 ghost use Rattle.std.specs.Option.{option_copied};
 ghost use Rattle.std.specs.Path.{path_bytes};
-ghost use Rattle.syntect_base.specs.Names.{entry_name, is_sought};
+ghost use Rattle.std.specs.List.{filter_map, position_or_len};
+ghost use Rattle.syntect_base.specs.Names.{entry_name, entry_of, entries_in, is_sought};
 ghost use Rattle.syntect_base.specs.Walks.{joined, InByteOrder, IsWalk, IsWalkFault, Visits, GivesFile};
 ghost use Rattle.syntect_base.specs.declared.loading.LoadingError.TheVariants.{WalkDir, Memory};
 
@@ -118,8 +119,9 @@ fn entry_name(text: &str) -> Option<&str>
 
 /// The name of an entry from its bytes. One that is no text is passed over, since no path leads there; but where it may be that
 /// of a file that is looked for, it is a fault.
+#[tactic(auto, using(crate::proofs::NameLaws::entry_text, crate::proofs::NameLaws::entry_none))]
 fn entry_of(sought: Sought, name: &[u8]) -> Result<Option<&str>, LoadingError>
-    ensures entry { IfOk result (λ entry. IsUtf8 name.now → option_copied entry ≡ entry_name name.now) }
+    ensures entry { IfOk result (λ entry. option_copied entry ≡ entry_of name.now) }
     ensures passed { IfOk result (λ entry. ¬ (IsUtf8 name.now) → is_sought sought name.now ≡ false) }
     ensures fault { IfErr result (λ e. ¬ (IsUtf8 name.now) × (is_sought sought name.now ≡ true)) }
     ensures err { IfErr result (λ e. e ≡ WalkDir) }
@@ -131,18 +133,60 @@ fn entry_of(sought: Sought, name: &[u8]) -> Result<Option<&str>, LoadingError>
     }
 }
 
+/// Adds the name of an entry, if it is one.
+fn add_entry(
+    alloc: Global,
+    sought: Sought,
+    name: &[u8],
+    names: &mut Vec<Text>,
+) -> Result<(), LoadingError>
+    ensures ok { OnOk result (names.new.items ≡ names.old.items ++ filter_map entry_of (name.now ∷ [])) }
+    ensures err { IfErr result IsWalkFault }
+{
+    match entry_of(sought, name) {
+        Ok(Some(entry)) => names.push(Text::from_str(alloc, entry)?)?,
+        Ok(None) => {}
+        Err(e) => return Err(e),
+    }
+    Ok(())
+}
+
+/// How many bytes stand before the first NUL.
+fn name_len(bytes: &[u8]) -> usize
+    ensures value { result ≡ position_or_len (λ b. b == 0) bytes.now }
+    ensures within { result ≤ length bytes.now }
+{
+    bytes.iter().take_while(|b| **b != 0).count()
+}
+
+/// What stands before the first NUL, and what stands behind it.
+fn first_name(bytes: &[u8]) -> (&[u8], &[u8])
+    ensures entries { entries_in bytes.now ≡ filter_map entry_of (result.0.now ∷ []) ++ entries_in result.1.now }
+    ensures shorter { 0 < length bytes.now → length result.1.now < length bytes.now }
+{
+    let (name, rest) = bytes.split_at(name_len(bytes));
+    if rest.is_empty() {
+        return (name, rest);
+    }
+    let (_, behind) = rest.split_at(1);
+    (name, behind)
+}
+
 /// The names of entries among bytes in which a NUL stands behind each, in byte order.
 fn entries_among(alloc: Global, bytes: &[u8], sought: Sought) -> Result<Vec<Text>, LoadingError>
-    ensures ok { IfOk result (λ names. InByteOrder names.items) }
+    ensures all { IfOk result (λ names. IsPermutation (entries_in bytes.now) names.items) }
+    ensures order { IfOk result (λ names. InByteOrder names.items) }
     ensures err { IfErr result IsWalkFault }
 {
     let mut names = Vec::new(alloc);
-    for name in bytes.split(|b| *b == 0) {
-        match entry_of(sought, name) {
-            Ok(Some(entry)) => names.push(Text::from_str(alloc, entry)?)?,
-            Ok(None) => {}
+    let mut rest = bytes;
+    'names: while !rest.is_empty() {
+        let (name, behind) = first_name(rest);
+        match add_entry(alloc, sought, name, &mut names) {
+            Ok(()) => {}
             Err(e) => return Err(e),
         }
+        rest = behind;
     }
     names.sort()?;
     Ok(names)
