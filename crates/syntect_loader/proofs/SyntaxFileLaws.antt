@@ -1,6 +1,6 @@
 -- Why a file gives no syntax.
 use Rattle.std.proofs.Common.{◌≡◌, ◌≢◌, ℕ, Bool, List, [], IsUtf8, Option, Some, None, refl, sym, subst, string_bytes, String}
-use Rattle.std.specs.Prelude.{IfSome, Result, Ok, Err, IfErr}
+use Rattle.std.specs.Prelude.{IfSome, Result, Ok, Err, IfOk, IsOkAnd, IfErr, IsErrAnd}
 use Rattle.std.specs.Global.{Global}
 use Rattle.std.specs.Path.{path_file_stem}
 use Rattle.std.specs.declared.io.Error.{Error}
@@ -29,10 +29,12 @@ module _ (newlines : Bool) (path : List ℕ) (repo : List (List ℕ)) where
   read_so left e (loading.ReadSettings x) f = let q : loading.ReadSettings x ≡ loading.Io e = f.either (λ q. cc) in cc
   read_so left e loading.BadPath f = let q : loading.BadPath ≡ loading.Io e = f.either (λ q. cc) in cc
 
-  pub passed_on : {A : Type 0} (left : Option (List ℕ)) (bytes text : List ℕ) (r : Result A LoadingError) → text ≡ bytes → IfSome left (λ xs. bytes ≡ xs)
-      → IfErr r (RefusesSyntax newlines path text repo) → IfErr r (RefusesRead newlines path left repo)
-  passed_on left bytes text (Ok x) same k h = tt
-  passed_on left bytes text (Err e) same k h = refused {bytes = text} (subst (λ (b : List ℕ). IfSome left (λ xs. b ≡ xs)) (sym same) k) h
+  pub read_refused : {A : Type 0} (left : Option (List ℕ)) (read : Result (String Global) Error) (r : Result A LoadingError) → IfOk read (λ text. IfSome left (λ xs. string_bytes text ≡ xs))
+      → IfErr read (λ fault. IsErrAnd r (IsReadFault fault)) → IfOk read (λ text. IfErr r (RefusesSyntax newlines path (string_bytes text) repo)) → IfErr r (RefusesRead newlines path left repo)
+  read_refused left (Ok text) (Ok d) k f h = tt
+  read_refused left (Ok text) (Err e) k f h = refused {bytes = string_bytes text} k h
+  read_refused left (Err fault) (Ok d) k f h = tt
+  read_refused left (Err fault) (Err e) k f h = read_so left fault e f
 
   -- a file that is not opened gives no syntax
   pub not_opened : (e : Error) (r : LoadingError) → IsReadFault e r → RefusesRead newlines path None repo r
@@ -42,6 +44,14 @@ module _ (newlines : Bool) (path : List ℕ) (repo : List (List ℕ)) where
   pub of_file : (left : Option (List ℕ)) (e : LoadingError) → RefusesRead newlines path left repo e → RefusesRead newlines path None repo e
   of_file left e not_read = not_read
   of_file left e (refused {bytes = bytes} k r) = refused {bytes = bytes} tt r
+
+-- the answer for the text that was read is that for what was left
+pub read_whole : {A : Type 0} (P : List ℕ → A → Type 0) (left : Option (List ℕ)) (read : Result (String Global) Error) (r : Result A LoadingError) → IfOk read (λ text. IfSome left (λ xs. string_bytes text ≡ xs))
+    → IfOk r (λ d. IsOkAnd read (λ text. P (string_bytes text) d)) → IfOk r (λ d. (bytes : List ℕ) × IfSome left (λ xs. bytes ≡ xs) × P bytes d)
+read_whole P left (Ok text) (Ok d) k h = (string_bytes text, k, h)
+read_whole P left (Ok text) (Err e) k h = tt
+read_whole P left (Err fault) (Ok d) k h = absurd h
+read_whole P left (Err fault) (Err e) k h = tt
 
 -- a text that is no grammar, told with the path
 module _ (newlines : Bool) (path : List ℕ) (repo : List (List ℕ)) (bytes : List ℕ) (text : IsUtf8 bytes) (shown : String Global) (told : string_bytes shown ≡ path) where

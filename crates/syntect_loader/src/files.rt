@@ -1,6 +1,7 @@
 //! Definitions from files.
-ghost use Rattle.std.specs.Prelude.{◌≡◌, ℕ, Bool, IsUtf8, List, None, IfSome, IfOk, IfErr};
+ghost use Rattle.std.specs.Prelude.{◌≡◌, ℕ, Bool, IsUtf8, List, None, IfSome, IfOk, IsOkAnd, IfErr, IsErrAnd, string_bytes};
 ghost use Rattle.std.specs.Path.{path_file_stem};
+ghost use Rattle.syntect_base.specs.Refusals.{IsReadFault};
 ghost use Rattle.syntect_loader.specs.Files.{IsSyntaxOf, RefusesSyntax, RefusesRead};
 ghost use Rattle.syntect_loader.specs.Loading.{loaded};
 ghost use Rattle.syntect_loader.specs.LoadingSteps.{Fails, Keeps};
@@ -54,6 +55,33 @@ fn load_text(
     }
 }
 
+/// The definition of the text that was read from a file, unless reading has a fault.
+fn load_read(
+    alloc: Global,
+    path: &str,
+    read: Result<String, io::Error>,
+    lines_include_newline: bool,
+    repository: &mut ScopeRepository,
+) -> Result<SyntaxDefinition, LoadingError>
+    ensures ok { IfOk result (λ d. IsOkAnd read (λ text.
+        IsSyntaxOf lines_include_newline path.now repository.old (string_bytes text) repository.new d)) }
+    ensures fault { IfErr read (λ fault. IsErrAnd result (IsReadFault fault)) }
+    ensures err { IfOk read (λ text.
+        IfErr result (RefusesSyntax lines_include_newline path.now (string_bytes text) repository.old)) }
+    ensures kept { Keeps repository.old repository.new }
+{
+    match read {
+        Ok(text) => load_text(
+            alloc,
+            path,
+            text.as_str(),
+            lines_include_newline,
+            repository,
+        ),
+        Err(e) => Err(LoadingError::from(e)),
+    }
+}
+
 /// The definition of the text that a reader of a file has left, unless reading has a fault.
 fn load_from_reader<R: Read + Drop>(
     alloc: Global,
@@ -67,17 +95,8 @@ fn load_from_reader<R: Read + Drop>(
     ensures err { IfErr result (RefusesRead lines_include_newline path.now (R.Read.remaining reader) repository.old) }
     ensures kept { Keeps repository.old repository.new }
 {
-    let text = match io::read_to_string(alloc, reader) {
-        Ok(text) => text,
-        Err(e) => return Err(LoadingError::from(e)),
-    };
-    load_text(
-        alloc,
-        path,
-        text.as_str(),
-        lines_include_newline,
-        repository,
-    )
+    let read = io::read_to_string(alloc, reader);
+    load_read(alloc, path, read, lines_include_newline, repository)
 }
 
 /// The definition of the grammar in a file. One that cannot be read, or isn't UTF-8, is `Io`, and one that is no grammar is

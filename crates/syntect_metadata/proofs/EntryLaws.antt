@@ -1,6 +1,6 @@
 -- Why bytes and files give no entry.
 use Rattle.std.proofs.Common.{◌≡◌, ◌≢◌, ℕ, List, [], ◌++◌, refl, ap, ◌∙◌, false}
-use Rattle.std.specs.Prelude.{Option, Some, None, Result, Ok, Err, IfSome, IfOk, IfErr}
+use Rattle.std.specs.Prelude.{Option, Some, None, Result, Ok, Err, IfSome, IfOk, OnOk, IfErr, IsErrAnd}
 use Rattle.std.specs.declared.io.Error.{Error}
 use Rattle.serde_json.specs.Data.{Data}
 use Rattle.syntect_base.specs.Refusals.{IsReadFault, from_settings}
@@ -58,16 +58,23 @@ of_file left e not_read = not_read
 of_file left e (refused {bytes = bytes} k r) = refused {bytes = bytes} tt r
 
 -- the bytes that were read are those that were left
-pub bytes_read : (left : Option (List ℕ)) (bytes items before : List ℕ) → bytes ≡ items → before ≡ [] → IfSome left (λ xs. items ≡ before ++ xs) → IfSome left (λ xs. bytes ≡ xs)
-bytes_read None bytes items before a b h = tt
-bytes_read (Some xs) bytes items before a b h = a ∙ h ∙ ap (λ (l : List ℕ). l ++ xs) b
+pub bytes_read : {X : Type 0} (read : Result X Error) (left : Option (List ℕ)) (bytes items before : List ℕ) → bytes ≡ items → before ≡ [] → OnOk read (IfSome left (λ xs. items ≡ before ++ xs))
+    → OnOk read (IfSome left (λ xs. bytes ≡ xs))
+bytes_read (Ok x) None bytes items before a b h = tt
+bytes_read (Ok x) (Some xs) bytes items before a b h = a ∙ h ∙ ap (λ (l : List ℕ). l ++ xs) b
+bytes_read (Err e) left bytes items before a b h = tt
 
--- the answer of the bytes that were read
-pub passed_on : (left : Option (List ℕ)) (bytes : List ℕ) (r : Result RawMetadataEntry LoadingError) → IfSome left (λ xs. bytes ≡ xs) → IfErr r (RefusesEntry bytes) → IfErr r (RefusesRead left)
-passed_on left bytes (Ok x) k h = tt
-passed_on left bytes (Err e) k h = refused k h
+module _ {X : Type 0} (left : Option (List ℕ)) (bytes : List ℕ) where
+  pub read_refused : (read : Result X Error) (r : Result RawMetadataEntry LoadingError) → OnOk read (IfSome left (λ xs. bytes ≡ xs)) → IfErr read (λ fault. IsErrAnd r (IsReadFault fault))
+      → OnOk read (IfErr r (RefusesEntry bytes)) → IfErr r (RefusesRead left)
+  read_refused (Ok x) (Ok y) k f h = tt
+  read_refused (Ok x) (Err e) k f h = refused k h
+  read_refused (Err x) (Ok y) k f h = tt
+  read_refused (Err x) (Err e) k f h = read_so left x e f
 
-pub read_whole : (left : Option (List ℕ)) (path bytes : List ℕ) (r : Result RawMetadataEntry LoadingError) → IfSome left (λ xs. bytes ≡ xs) → IfOk r (IsEntryOf path bytes)
-    → IfOk r (λ entry. (all : List ℕ) × IfSome left (λ xs. all ≡ xs) × IsEntryOf path all entry)
-read_whole left path bytes (Ok x) k h = (bytes, k, h)
-read_whole left path bytes (Err e) k h = tt
+  pub read_whole : (path : List ℕ) (read : Result X Error) (r : Result RawMetadataEntry LoadingError) → OnOk read (IfSome left (λ xs. bytes ≡ xs)) → IfErr read (λ fault. IsErrAnd r (IsReadFault fault))
+      → IfOk r (IsEntryOf path bytes) → IfOk r (λ entry. (all : List ℕ) × IfSome left (λ xs. all ≡ xs) × IsEntryOf path all entry)
+  read_whole path (Ok x) (Ok y) k f h = (bytes, k, h)
+  read_whole path (Ok x) (Err e) k f h = tt
+  read_whole path (Err x) (Ok y) k f h = absurd f
+  read_whole path (Err x) (Err e) k f h = tt

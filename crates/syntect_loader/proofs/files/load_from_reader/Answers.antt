@@ -1,12 +1,15 @@
-use Rattle.std.proofs.Common.{string_bytes}
-use Rattle.syntect_loader.proofs.SyntaxFileLaws.{read_so, passed_on}
+use Rattle.std.proofs.Common.{ℕ, List}
+use Rattle.syntect_loader.specs.Files.{IsSyntaxOf}
+use Rattle.syntect_loader.specs.declared.definition.SyntaxDefinition.{SyntaxDefinition}
+use Rattle.syntect_loader.proofs.SyntaxFileLaws.{read_refused, read_whole}
 use Rattle.syntect_loader.proofs.files.load_from_reader.Goals as goal
 
-pub returns-in-Err-clause-err : goal.returns-in-Err-clause-err
-returns-in-Err-clause-err g c =
-    read_so c.args.lines_include_newline c.args.path.now c.args.repository.now (g.R.Read.remaining c.args.reader) c.in-Err.e c.from.result c.from.ensures
+pub returns-clause-ok : goal.returns-clause-ok
+returns-clause-ok g c =
+    read_whole (λ (bytes : List ℕ) (d : SyntaxDefinition). IsSyntaxOf c.args.lines_include_newline c.args.path.now c.args.repository.now bytes c.load_read.new.repository d)
+    (g.R.Read.remaining c.args.reader) c.read_to_string-read.result c.load_read.result c.read_to_string-read.ensures c.load_read.ensures.ok
 
 pub returns-clause-err : goal.returns-clause-err
 returns-clause-err g c =
-    passed_on c.args.lines_include_newline c.args.path.now c.args.repository.now (g.R.Read.remaining c.args.reader) (string_bytes c.in-Ok.text) c.as_str.result.now c.load_text.result
-    c.as_str.ensures.value c.in-Ok.ensures c.load_text.ensures.err
+    read_refused c.args.lines_include_newline c.args.path.now c.args.repository.now (g.R.Read.remaining c.args.reader) c.read_to_string-read.result c.load_read.result
+    c.read_to_string-read.ensures c.load_read.ensures.fault c.load_read.ensures.err
