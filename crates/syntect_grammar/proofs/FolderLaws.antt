@@ -5,10 +5,10 @@ use Rattle.syntect_base.specs.Walks.{IsWalkFault, GoesOn, GivesFile, ended}
 use Rattle.syntect_base.proofs.WalkLaws.{so_far, one_more}
 use Rattle.syntect_base.specs.declared.loading.LoadingError.{LoadingError}
 use Rattle.syntect_base.specs.declared.loading.LoadingError.TheVariants as loading
-use Rattle.syntect_grammar.specs.Folders.{is_grammar_path, is_metadata_path, with_loaded, with_entry, AddsMetadata, entry_added, passed_over, AddsSyntaxes, no_more, other, grammar, metadata, StopsFile, at_metadata, AddsFolder, RefusesFolder, no_walk, no_syntax}
+use Rattle.syntect_grammar.specs.Folders.{is_grammar_path, is_metadata_path, with_loaded, with_entry, AddsMetadata, entry_added, AddsSyntaxes, no_more, other, grammar, metadata, StopsFile, at_metadata, AddsFolder, RefusesFolder, no_walk, no_syntax}
 use Rattle.syntect_grammar.specs.Link.{definitions_in, paths_in}
 use Rattle.syntect_grammar.specs.Metadata.{entries_in, kept_sets}
-use Rattle.syntect_metadata.specs.Entries.{IsEntryOf, IsEntryFault}
+use Rattle.syntect_metadata.specs.Entries.{IsEntryOf}
 use Rattle.syntect_metadata.specs.declared.raw.RawMetadataEntry.{RawMetadataEntry}
 use Rattle.syntect_metadata.specs.declared.set.MetadataSet.{MetadataSet}
 use Rattle.syntect_loader.specs.Files.{IsSyntaxOf}

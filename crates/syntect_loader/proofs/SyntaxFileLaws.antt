@@ -1,5 +1,5 @@
 -- Why a file gives no syntax.
-use Rattle.std.proofs.Common.{◌≡◌, ◌≢◌, ℕ, Bool, List, [], IsUtf8, Option, Some, None, refl, sym, subst, string_bytes, String}
+use Rattle.std.proofs.Common.{◌≡◌, ◌≢◌, ℕ, Bool, List, [], IsUtf8, Option, Some, None, refl, string_bytes, String}
 use Rattle.std.specs.Prelude.{IfSome, Result, Ok, Err, IfOk, IsOkAnd, IfErr, IsErrAnd}
 use Rattle.std.specs.Global.{Global}
 use Rattle.std.specs.Path.{path_file_stem}

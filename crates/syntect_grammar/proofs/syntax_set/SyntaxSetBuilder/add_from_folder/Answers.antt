@@ -1,4 +1,4 @@
-use Rattle.std.proofs.Common.{ℕ, List, [], Option, subst, rules}
+use Rattle.std.proofs.Common.{ℕ, List, [], Option, subst}
 use Rattle.std.specs.Prelude.{IfSome}
 use Rattle.std.specs.Path.{path_bytes}
 use Rattle.syntect_base.specs.Walks.{GivesFile}
