@@ -1,1 +1,2 @@
-mod WalkLaws
+pub mod WalkLaws
+mod NameLaws

@@ -1,7 +1,8 @@
 -- What is ahead of a walk.
 use Rattle.std.proofs.Common.{◌≡◌, ℕ, List, [], ◌∷◌, ◌++◌, map, reverse, refl, ap, sym, ◌∙◌, append_assoc, subst}
 use Rattle.std.proofs.lemmas.List.{append-nil, reverse-append, reverse-reverse}
-use Rattle.syntect_base.specs.Walks.{joined, InByteOrder, Walks, IsWalk, Visits, ended, passed_over, file, subfolder, none_ahead, passes_over, takes, enters}
+use Rattle.syntect_base.specs.Ahead.{Ahead}
+use Rattle.syntect_base.specs.Walks.{joined, InByteOrder, Walks, IsWalk, Visits, GoesOn, GivesFile, ended, passed_over, file, subfolder, none_ahead, passes_over, takes, enters}
 
 -- a folder's entries and what is behind them, visited in order, are the folder's walk and what is behind it
 pub split : (folder : List ℕ) (names behind rest : List (List ℕ)) → Visits (map (joined folder) names ++ behind) rest
@@ -26,55 +27,42 @@ entered folder names old rest sorted v =
 
 -- ---- one visit ----
 
-pub after_file : (path : List ℕ) (before ahead found more rest : List (List ℕ)) → ahead ≡ before → more ≡ found ++ path ∷ [] → Visits (reverse ahead) rest
-    → (files : List (List ℕ)) × Visits (path ∷ reverse before) files × (found ++ files ≡ more ++ rest)
-after_file path before ahead found more rest same e v =
-    (path ∷ rest, takes (subst (λ (xs : List (List ℕ)). Visits (reverse xs) rest) same v), sym (append_assoc found (path ∷ []) rest) ∙ ap (λ xs. xs ++ rest) (sym e))
-
-pub after_other : (path : List ℕ) (before ahead found more rest : List (List ℕ)) → ahead ≡ before → more ≡ found → Visits (reverse ahead) rest
-    → (files : List (List ℕ)) × Visits (path ∷ reverse before) files × (found ++ files ≡ more ++ rest)
-after_other path before ahead found more rest same e v =
-    (rest, passes_over (subst (λ (xs : List (List ℕ)). Visits (reverse xs) rest) same v), ap (λ xs. xs ++ rest) (sym e))
-
 -- what the entering of a folder promises: what is ahead after it gives the folder's files, and then those that were to come
 abbrev pub Enters : List ℕ → List (List ℕ) → List (List ℕ) → Type 0
 Enters folder before after = (rest : List (List ℕ)) → Visits (reverse after) rest
     → (inner files : List (List ℕ)) × IsWalk folder inner × Visits (reverse before) files × (rest ≡ inner ++ files)
 
-pub after_folder : (path text : List ℕ) (before ahead left found more rest : List (List ℕ)) → text ≡ path → ahead ≡ left → Enters text before left
-    → more ≡ found → Visits (reverse ahead) rest
-    → (files : List (List ℕ)) × Visits (path ∷ reverse before) files × (found ++ files ≡ more ++ rest)
-after_folder path text before ahead left found more rest at same into e v =
-    let s = into rest (subst (λ (xs : List (List ℕ)). Visits (reverse xs) rest) same v) in
-    (s.0 ++ s.1, enters (subst (λ (p : List ℕ). IsWalk p s.0) at s.2) s.3, ap (λ xs. found ++ xs) (sym s.4) ∙ ap (λ xs. xs ++ rest) (sym e))
+pub after_folder : (path : List ℕ) (before after : List (List ℕ)) → Enters path before after → (rest : List (List ℕ)) → Visits (reverse after) rest → Visits (path ∷ reverse before) rest
+after_folder path before after into rest v =
+    let s = into rest v in
+    subst (λ (xs : List (List ℕ)). Visits (path ∷ reverse before) xs) (sym s.4) (enters s.2 s.3)
 
--- ---- all visits ----
+-- the path that was taken off stands first of what is ahead
+pub popped_first : (path : List ℕ) (all before : List (List ℕ)) → all ≡ before ++ path ∷ [] → path ∷ reverse before ≡ reverse all
+popped_first path all before popped = sym (ap reverse popped ∙ reverse-append before (path ∷ []))
 
--- the files found and those that what is ahead still gives are a walk
-abbrev pub Continues : List ℕ → List (List ℕ) → List (List ℕ) → Type 0
-Continues folder found ahead = (rest : List (List ℕ)) → Visits (reverse ahead) rest → IsWalk folder (found ++ rest)
+-- ---- a file after another ----
+
+-- what is ahead can be passed over
+pub passes_all : (ahead : List (List ℕ)) → Visits ahead []
+passes_all [] = none_ahead
+passes_all (path ∷ ahead) = passes_over (passes_all ahead)
+
+-- the files found so far are a walk
+pub so_far : (folder : List ℕ) (found : List (List ℕ)) (ahead : Ahead) → GoesOn folder found ahead → IsWalk folder found
+so_far folder found ahead walk = subst (λ (xs : List (List ℕ)). IsWalk folder xs) (append-nil found) (walk [] (passes_all ahead.paths))
+
+-- one file more
+pub one_more : (folder : List ℕ) (found : List (List ℕ)) (before after : Ahead) (path : List ℕ) → GoesOn folder found before → GivesFile before after path → GoesOn folder (found ++ path ∷ []) after
+one_more folder found before after path walk gives rest v =
+    subst (λ (xs : List (List ℕ)). IsWalk folder xs) (sym (append_assoc found (path ∷ []) rest)) (walk (path ∷ rest) (gives.first rest v))
 
 none_left : {files : List (List ℕ)} → Visits [] files → files ≡ []
 none_left none_ahead = refl
 
 -- the folder itself was entered
-pub begins : (folder text : List ℕ) (before ahead found : List (List ℕ)) → text ≡ folder → before ≡ [] → found ≡ [] → Enters text before ahead → Continues folder found ahead
-begins folder text before ahead found at none empty into rest v =
+pub begins : (folder : List ℕ) (before after : List (List ℕ)) → before ≡ [] → Enters folder before after → (rest : List (List ℕ)) → Visits (reverse after) rest → IsWalk folder rest
+begins folder before after none into rest v =
     let s = into rest v in
     let e : rest ≡ s.0 = s.4 ∙ ap (λ (xs : List (List ℕ)). s.0 ++ xs) (none_left (subst (λ (xs : List (List ℕ)). Visits (reverse xs) s.1) none s.3)) ∙ append-nil s.0 in
-    let w : IsWalk folder rest = subst (λ (p : List ℕ). IsWalk p rest) at (subst (λ (xs : List (List ℕ)). IsWalk text xs) (sym e) s.2) in
-    subst (λ (xs : List (List ℕ)). IsWalk folder (xs ++ rest)) (sym empty) w
-
--- a path more was visited
-pub goes_on : (folder path : List ℕ) (all before found more ahead : List (List ℕ)) → all ≡ before ++ path ∷ [] → Continues folder found all
-    → ((rest : List (List ℕ)) → Visits (reverse ahead) rest → (files : List (List ℕ)) × Visits (path ∷ reverse before) files × (found ++ files ≡ more ++ rest))
-    → Continues folder more ahead
-goes_on folder path all before found more ahead popped walk visit rest v =
-    let s = visit rest v in
-    let e : reverse all ≡ path ∷ reverse before = ap reverse popped ∙ reverse-append before (path ∷ []) in
-    subst (λ (xs : List (List ℕ)). IsWalk folder xs) s.2 (walk s.0 (subst (λ (xs : List (List ℕ)). Visits xs s.0) (sym e) s.1))
-
--- nothing is ahead any more
-pub comes_to_an_end : (folder : List ℕ) (found ahead : List (List ℕ)) → ahead ≡ [] → Continues folder found ahead → IsWalk folder found
-comes_to_an_end folder found ahead e walk =
-    subst (λ (xs : List (List ℕ)). IsWalk folder xs) (append-nil found) (walk [] (subst (λ (xs : List (List ℕ)). Visits (reverse xs) []) (sym e) none_ahead))
+    subst (λ (xs : List (List ℕ)). IsWalk folder xs) (sym e) s.2

@@ -1,7 +1,8 @@
 -- The files of a folder, in the order of a walk.
-use Rattle.std.specs.Prelude.{◌≡◌, ◌≢◌, ℕ, List, [], ◌∷◌, ◌++◌, IsSorted}
+use Rattle.std.specs.Prelude.{◌≡◌, ◌≢◌, ℕ, ◌<◌, List, [], ◌∷◌, ◌++◌, IsSorted}
 use Rattle.std.specs.Cmp.Lexicographic.{slice_cmp}
 use Rattle.std.specs.Ordering.{nat_cmp}
+use Rattle.syntect_base.specs.Ahead.{Ahead}
 use Rattle.syntect_base.specs.declared.loading.LoadingError.{LoadingError}
 use Rattle.syntect_base.specs.declared.loading.LoadingError.TheVariants.{WalkDir, Memory}
 
@@ -32,6 +33,15 @@ pub data Visits : List (List ℕ) → List (List ℕ) → Type 0 where
   passes_over : {path : List ℕ} {ahead files : List (List ℕ)} → Visits ahead files → Visits (path ∷ ahead) files
   takes : {path : List ℕ} {ahead files : List (List ℕ)} → Visits ahead files → Visits (path ∷ ahead) (path ∷ files)
   enters : {path : List ℕ} {inner ahead files : List (List ℕ)} → IsWalk path inner → Visits ahead files → Visits (path ∷ ahead) (inner ++ files)
+
+-- these files, and then those that what is ahead gives, are a folder's walk
+abbrev pub GoesOn : List ℕ → List (List ℕ) → Ahead → Type 0
+GoesOn folder found ahead = (rest : List (List ℕ)) → Visits ahead.paths rest → IsWalk folder (found ++ rest)
+
+-- what was ahead gives the file, and then what what is ahead now gives
+pub record GivesFile (before after : Ahead) (path : List ℕ) : Type 0 where
+  pub first : (rest : List (List ℕ)) → Visits after.paths rest → Visits before.paths (path ∷ rest)
+  pub fewer : after.left < before.left
 
 -- what a walk is refused with
 abbrev pub IsWalkFault : LoadingError → Type 0

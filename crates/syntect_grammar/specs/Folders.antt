@@ -1,18 +1,14 @@
 -- Grammars and metadata from the files of folders.
-use Rattle.std.specs.Prelude.{◌≡◌, ◌≢◌, ℕ, ◌==◌, Bool, true, false, List, [], ◌∷◌, ◌++◌, length, take, codes, slice_get, IsUtf8, Some, Ok, Err, String, string_bytes}
+use Rattle.std.specs.Prelude.{◌≡◌, ◌≢◌, ℕ, ◌==◌, Bool, true, false, List, [], ◌∷◌, ◌++◌, length, codes, None}
 use Rattle.std.specs.Cmp.Lexicographic.{pointwise}
-use Rattle.std.specs.Global.{Global}
 use Rattle.std.specs.Option.{option_map_or}
-use Rattle.std.specs.Path.{path_extension, path_file_stem}
-use Rattle.std.specs.declared.io.Error.{Error}
+use Rattle.std.specs.Path.{path_extension}
 use Rattle.syntect_base.specs.Walks.{IsWalk, IsWalkFault}
 use Rattle.syntect_base.specs.declared.loading.LoadingError.{LoadingError}
-use Rattle.syntect_base.specs.declared.loading.LoadingError.TheVariants.{Io, ParseSyntax, Memory}
-use Rattle.syntect_base.specs.declared.syntax.ParseSyntaxError.{ParseSyntaxError}
+use Rattle.syntect_base.specs.declared.loading.LoadingError.TheVariants.{Memory}
 use Rattle.syntect_grammar.specs.Link.{definitions_in, paths_in}
 use Rattle.syntect_grammar.specs.Metadata.{entries_in}
-use Rattle.syntect_loader.specs.Loading.{loaded}
-use Rattle.syntect_loader.specs.LoadingSteps.{Refusal, seen}
+use Rattle.syntect_loader.specs.Files.{IsSyntaxOf, RefusesRead}
 use Rattle.syntect_loader.specs.declared.definition.SyntaxDefinition.{SyntaxDefinition}
 use Rattle.syntect_metadata.specs.Entries.{IsEntryOf, IsEntryFault}
 use Rattle.syntect_metadata.specs.declared.raw.RawMetadataEntry.{RawMetadataEntry}
@@ -27,21 +23,6 @@ is_grammar_path path = option_map_or (λ extension. pointwise ◌==◌ extension
 -- whether a file has metadata: its extension is `tmPreferences`, in this case
 abbrev pub is_metadata_path : List ℕ → Bool
 is_metadata_path path = option_map_or (λ extension. pointwise ◌==◌ extension (codes "tmPreferences")) (path_extension path) false
-
--- The definition of the bytes of a file of this path, read with a repository that becomes another one. A syntax without a
--- name has that of the file, without the extension.
-pub record IsSyntaxOf (newlines : Bool) (path : List ℕ) (old : List (List ℕ)) (bytes : List ℕ) (new : List (List ℕ)) (d : SyntaxDefinition) : Type 0 where
-  pub text : IsUtf8 bytes
-  pub loads : loaded bytes newlines (path_file_stem path) old ≡ Ok (d, new)
-
--- Why the file of a path gives no syntax: its bytes are no grammar's, for the reason that is told with the path; or it was
--- not read as a text; or there was no memory.
-pub data RefusesSyntax (newlines : Bool) (path : List ℕ) (repo : List (List ℕ)) : LoadingError → Type 0 where
-  no_grammar : {bytes : List ℕ} {reason : Refusal} {e : ParseSyntaxError} {shown : String Global} → IsUtf8 bytes
-      → loaded bytes newlines (path_file_stem path) repo ≡ Err reason → seen e ≡ Some reason → string_bytes shown ≡ path
-      → RefusesSyntax newlines path repo (ParseSyntax e shown)
-  not_read : {e : Error} → RefusesSyntax newlines path repo (Io e)
-  no_memory : RefusesSyntax newlines path repo Memory
 
 -- ---- files one after another ----
 
@@ -76,17 +57,8 @@ pub data AddsSyntaxes (newlines : Bool) : List (List ℕ) → List (List ℕ) �
 
 -- why a file stops this: it is a grammar's and gives no syntax, or it has metadata and there is no memory
 pub data StopsFile (newlines : Bool) (path : List ℕ) (repo : List (List ℕ)) : LoadingError → Type 0 where
-  at_grammar : {e : LoadingError} → is_grammar_path path ≡ true → RefusesSyntax newlines path repo e → StopsFile newlines path repo e
+  at_grammar : {e : LoadingError} → is_grammar_path path ≡ true → RefusesRead newlines path None repo e → StopsFile newlines path repo e
   at_metadata : is_metadata_path path ≡ true → StopsFile newlines path repo Memory
-
--- These files are added up to one that stops it, for this cause.
-pub record StopsAt (newlines : Bool) (files : List (List ℕ)) (old : List (List ℕ)) (builder : SyntaxSetBuilder) (e : LoadingError) (all : SyntaxSetBuilder) : Type 0 where
-  pub place : ℕ
-  pub path : List ℕ
-  pub left : List (List ℕ)
-  pub before : AddsSyntaxes newlines (take place files) old builder left all
-  pub there : slice_get files place ≡ Some path
-  pub stops : StopsFile newlines path left e
 
 -- ---- folders ----
 
@@ -96,8 +68,10 @@ pub record AddsFolder (newlines : Bool) (folder : List ℕ) (old : List (List �
   pub walk : IsWalk folder files
   pub adds : AddsSyntaxes newlines files old builder new all
 
--- Why they are not, and what is added then: nothing where the walk has a fault, or those before a file that stops it.
-pub data RefusesFolder (newlines : Bool) (folder : List ℕ) (old : List (List ℕ)) (builder : SyntaxSetBuilder) : LoadingError → SyntaxSetBuilder → Type 0 where
-  no_walk : {e : LoadingError} → IsWalkFault e → RefusesFolder newlines folder old builder e builder
-  no_syntax : {e : LoadingError} {files : List (List ℕ)} {all : SyntaxSetBuilder} → IsWalk folder files → StopsAt newlines files old builder e all
-      → RefusesFolder newlines folder old builder e all
+-- Why they are not, and what is added then: the files before a fault of the walk, whose scopes alone the repository has then
+-- more; or the files before one that stops this.
+pub data RefusesFolder (newlines : Bool) (folder : List ℕ) (old : List (List ℕ)) (builder : SyntaxSetBuilder) : LoadingError → List (List ℕ) → SyntaxSetBuilder → Type 0 where
+  no_walk : {e : LoadingError} {files new : List (List ℕ)} {all : SyntaxSetBuilder} → IsWalk folder files → AddsSyntaxes newlines files old builder new all
+      → IsWalkFault e → RefusesFolder newlines folder old builder e new all
+  no_syntax : {e : LoadingError} {path : List ℕ} {files left new : List (List ℕ)} {all : SyntaxSetBuilder} → IsWalk folder (files ++ path ∷ [])
+      → AddsSyntaxes newlines files old builder left all → StopsFile newlines path left e → RefusesFolder newlines folder old builder e new all

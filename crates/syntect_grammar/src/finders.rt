@@ -1,5 +1,6 @@
 //! Finding a syntax of a set: the last one that fits.
-ghost use Rattle.std.specs.Prelude.{◌≡◌, ◌==◌, ℕ, List, ◌∷◌, IsUtf8, IfOk, IsOk, IfErr};
+ghost use Rattle.std.specs.Prelude.{◌≡◌, ◌==◌, ℕ, List, ◌∷◌, IsUtf8, IfOk, IsOk, IfErr, IfSome, string_bytes};
+ghost use Rattle.std.specs.Io.BufRead.{take_through};
 ghost use Rattle.std.specs.List.{ends_with};
 ghost use Rattle.std.specs.Option.{option_copied};
 ghost use Rattle.std.specs.Path.{path_bytes};
@@ -67,12 +68,19 @@ fn ends_in_path(whole: &str, path: &str) -> bool
     whole == path || ends_behind_slash(whole.as_bytes(), path.as_bytes())
 }
 
-/// The first line of a file, with its line feed if it has one.
-fn first_line(files: &impl Files, alloc: Global, path: Path<'_>) -> Result<String, io::Error> {
-    let mut reader = BufReader::new(alloc, fs::open(files, path)?)?;
+/// The first line of what a reader has left, with its line feed if it has one.
+fn first_line_of<R: BufRead>(alloc: Global, reader: &mut R) -> Result<String, io::Error>
+    ensures { IfOk result (λ line. IfSome (R.Read.remaining reader.old) (λ left. string_bytes line ≡ take_through 10 left)) }
+{
     let mut line = String::new(alloc);
     reader.read_line(&mut line)?;
     Ok(line)
+}
+
+/// The first line of a file.
+fn first_line(files: &impl Files, alloc: Global, path: Path<'_>) -> Result<String, io::Error> {
+    let mut reader = BufReader::new(alloc, fs::open(files, path)?)?;
+    first_line_of(alloc, &mut reader)
 }
 
 impl SyntaxSet {

@@ -1,23 +1,20 @@
 //! Grammars and metadata from the files of folders.
-ghost use Rattle.std.specs.Prelude.{◌≡◌, ◌≢◌, ℕ, Bool, true, false, IsUtf8, List, [], ◌∷◌, IfOk, OnOk, IfErr, OnErr};
-ghost use Rattle.std.specs.Path.{path_bytes, path_file_stem};
+ghost use Rattle.std.specs.Prelude.{◌≡◌, ◌≢◌, ℕ, true, false, List, [], ◌∷◌, IfOk, OnOk, IfErr, OnErr};
+ghost use Rattle.std.specs.Path.{path_bytes};
 ghost use Rattle.syntect_base.specs.declared.loading.LoadingError.TheVariants.{Memory};
-ghost use Rattle.syntect_grammar.specs.Folders.{is_grammar_path, is_metadata_path, IsSyntaxOf, RefusesSyntax, AddsMetadata, AddsSyntaxes, StopsFile, StopsAt, AddsFolder, RefusesFolder, no_definitions};
+ghost use Rattle.syntect_grammar.specs.Folders.{is_grammar_path, is_metadata_path, AddsMetadata, AddsSyntaxes, StopsFile, AddsFolder, RefusesFolder, no_definitions};
 ghost use Rattle.syntect_grammar.specs.Link.{definitions_in, paths_in, syntaxes_in, set_paths, linked};
 ghost use Rattle.syntect_grammar.specs.Metadata.{metadata_in, IsMergedOf};
-ghost use Rattle.syntect_loader.specs.Loading.{loaded};
-ghost use Rattle.syntect_loader.specs.LoadingSteps.{Fails, Keeps};
+ghost use Rattle.syntect_loader.specs.LoadingSteps.{Keeps};
 ghost use Rattle.syntect_grammar.specs.declared.syntax_set.SyntaxSetBuilder.{SyntaxSetBuilder as ABuilder};
 
-use crate::syntax_definition::SyntaxDefinition;
 use crate::syntax_set::{SyntaxSet, SyntaxSetBuilder};
 use std::alloc::Global;
-use std::fs;
 use std::path::Path;
 use std::rt::Files;
 use syntect_base::loading::LoadingError;
-use syntect_base::syntax::ParseSyntaxError;
-use syntect_base::utils::files_below;
+use syntect_base::utils::{Sought, Walk};
+use syntect_loader::files::load_file;
 use syntect_metadata::raw::RawMetadataEntry;
 use syntect_scope::repository::ScopeRepository;
 use syntect_values::text::Text;
@@ -42,50 +39,6 @@ fn is_metadata(path: &str) -> bool
     extension == "tmPreferences"
 }
 
-/// The refusal of the text in a file that is no grammar, with the file's path. Want of memory is passed on as such.
-fn refused_file(alloc: Global, path: &str, e: ParseSyntaxError) -> LoadingError
-    ensures { (newlines : Bool) (repo : List (List ℕ)) (bytes : List ℕ) → IsUtf8 bytes → Fails (loaded bytes newlines (path_file_stem path.now) repo) e
-        → RefusesSyntax newlines path.now repo result }
-{
-    match e {
-        ParseSyntaxError::Memory => LoadingError::Memory,
-        e => match String::from_str(alloc, path) {
-            Ok(path) => LoadingError::ParseSyntax(e, path),
-            Err(_) => LoadingError::Memory,
-        },
-    }
-}
-
-#[tactic(auto, using(crate::proofs::FolderLaws::not_read_so))]
-/// The definition of the grammar in a file. A syntax without a name has that of the file, without the extension.
-fn load_file(
-    files: &impl Files,
-    alloc: Global,
-    path: &str,
-    lines_include_newline: bool,
-    repository: &mut ScopeRepository,
-) -> Result<SyntaxDefinition, LoadingError>
-    ensures ok { IfOk result (λ d. (bytes : List ℕ) × IsSyntaxOf lines_include_newline path.now repository.old bytes repository.new d) }
-    ensures err { IfErr result (RefusesSyntax lines_include_newline path.now repository.old) }
-    ensures kept { Keeps repository.old repository.new }
-{
-    let text = match fs::read_to_string(&(files, alloc), path) {
-        Ok(text) => text,
-        Err(e) => return Err(LoadingError::from(e)),
-    };
-    let loaded = SyntaxDefinition::load_from_str(
-        alloc,
-        text.as_str(),
-        lines_include_newline,
-        Path::new(path).file_stem(),
-        repository,
-    );
-    match loaded {
-        Ok(syntax) => Ok(syntax),
-        Err(e) => Err(refused_file(alloc, path, e)),
-    }
-}
-
 impl SyntaxSetBuilder {
     /// Adds the grammars and the metadata in a folder and in the folders below it, in the order of a walk: each folder's
     /// entries in the byte order of their names, a subfolder's files at its place. A grammar's file has the extension
@@ -93,8 +46,8 @@ impl SyntaxSetBuilder {
     /// folder's text and the names, joined by `/`. `lines_include_newline` is as for `load_from_str`. A file of metadata has
     /// the extension `tmPreferences`; one that gives no entry is passed over.
     ///
-    /// A fault of the walk is `WalkDir`, and nothing is added. A file that cannot be read, or isn't UTF-8, is `Io`, and one
-    /// that is no grammar is `ParseSyntax` with its path; the grammars before it stay added.
+    /// Each file is added before the walk goes on. A fault of the walk is `WalkDir`; a file that cannot be read, or isn't UTF-8,
+    /// is `Io`, and one that is no grammar is `ParseSyntax` with its path. What is before the first fault stays added.
     pub fn add_from_folder(
         &mut self,
         files: &impl Files,
@@ -104,35 +57,19 @@ impl SyntaxSetBuilder {
         repository: &mut ScopeRepository,
     ) -> Result<(), LoadingError>
         ensures ok { OnOk result (AddsFolder lines_include_newline (path_bytes folder.entry) repository.old self.old repository.new self.new) }
-        ensures err { IfErr result (λ e. RefusesFolder lines_include_newline (path_bytes folder.entry) repository.old self.old e self.new) }
+        ensures err { IfErr result (λ e. RefusesFolder lines_include_newline (path_bytes folder.entry) repository.old self.old e repository.new self.new) }
         ensures kept { Keeps repository.old repository.new }
     {
-        match files_below(files, alloc, folder) {
-            Ok(found) => self.add_files(
-                files,
-                alloc,
-                found.as_slice(),
-                lines_include_newline,
-                repository,
-            ),
-            Err(e) => Err(e),
-        }
-    }
-
-    /// Adds the grammars of files.
-    fn add_files(
-        &mut self,
-        files: &impl Files,
-        alloc: Global,
-        paths: &[Text],
-        lines_include_newline: bool,
-        repository: &mut ScopeRepository,
-    ) -> Result<(), LoadingError>
-        ensures ok { OnOk result (AddsSyntaxes lines_include_newline paths.now repository.old self.old repository.new self.new) }
-        ensures err { IfErr result (λ e. StopsAt lines_include_newline paths.now repository.old self.old e self.new) }
-        ensures kept { Keeps repository.old repository.new }
-    {
-        for path in paths {
+        let mut walk = match Walk::new(files, alloc, folder, Sought::Grammars) {
+            Ok(walk) => walk,
+            Err(e) => return Err(e),
+        };
+        'files: loop {
+            let path = match walk.next_file(files, alloc) {
+                Ok(Some(path)) => path,
+                Ok(None) => return Ok(()),
+                Err(e) => return Err(e),
+            };
             match self.add_file(
                 files,
                 alloc,
@@ -144,7 +81,6 @@ impl SyntaxSetBuilder {
                 Err(e) => return Err(e),
             }
         }
-        Ok(())
     }
 
     #[tactic(auto, using(crate::proofs::FolderLaws::passes_over, crate::proofs::FolderLaws::adds_metadata, crate::proofs::FolderLaws::no_room))]
@@ -235,7 +171,7 @@ impl SyntaxSet {
     ) -> Result<SyntaxSet, LoadingError>
         ensures ok { IfOk result (λ set. (builder : ABuilder) × (left : List (List ℕ)) × AddsFolder false (path_bytes folder.entry) repository.old no_definitions left builder
             × (syntaxes_in set ≡ linked (definitions_in builder)) × (set_paths set ≡ paths_in builder) × IsMergedOf left builder repository.new (metadata_in set)) }
-        ensures err { IfErr result (λ e. e ≢ Memory → (builder : ABuilder) × RefusesFolder false (path_bytes folder.entry) repository.old no_definitions e builder) }
+        ensures err { IfErr result (λ e. e ≢ Memory → (builder : ABuilder) × RefusesFolder false (path_bytes folder.entry) repository.old no_definitions e repository.new builder) }
         ensures kept { Keeps repository.old repository.new }
     {
         let mut builder = SyntaxSetBuilder::new(alloc);

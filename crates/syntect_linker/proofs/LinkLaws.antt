@@ -1,9 +1,9 @@
 -- Steps of linking contexts.
-use Rattle.std.proofs.Common.{◌≡◌, ℕ, zero, suc, ◌+◌, ◌<◌, get_or, Bool, true, false, cond, List, [], ◌∷◌, ◌++◌, length, length-append, map, take, drop, append_assoc, slice_get, not, ◌&&◌, Option, Some, None, refl, ap, sym, ◌∙◌, arith, if◌then◌else◌}
+use Rattle.std.proofs.Common.{◌≡◌, ℕ, zero, suc, ◌+◌, ◌<◌, get_or, Bool, true, false, cond, List, [], ◌∷◌, ◌++◌, length, take, drop, append_assoc, slice_get, not, ◌&&◌, Option, Some, None, refl, ap, sym, ◌∙◌, arith, if◌then◌else◌}
 use Rattle.std.specs.Option.{option_map, option_or}
 use Rattle.std.specs.List.{zip}
 use Rattle.std.specs.Prelude.{codes}
-use Rattle.std.proofs.lemmas.List.{map-append, append-nil}
+use Rattle.std.proofs.lemmas.List.{append-nil}
 use Rattle.syntect_linker.specs.References.{last_that, context_named}
 use Rattle.syntect_linker.specs.Reached.{is_reached, unless_reached, prototype_for, is_marked_in_set}
 use Rattle.syntect_linker.specs.LinkedContexts.{linked_context, linked_contexts}

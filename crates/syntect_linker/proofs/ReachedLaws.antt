@@ -6,13 +6,12 @@ use Rattle.std.proofs.lemmas.List.Folds.{list_any-append}
 use Rattle.syntect_contexts.specs.Contexts.{is_same}
 use Rattle.syntect_contexts.specs.Contexts.{count_contexts}
 use Rattle.syntect_linker.specs.Reached.{leads_in, Leads, here, there, given_at, entries_given, entry_steps, prototype_steps, included_by, includes_of, is_marked, is_marked_in_set}
-use Rattle.syntect_linker.specs.Inclusions.{Among, From, first, onward, Inclusion, inclusions_of, each_in, each_from, inclusions_by, includers_in, if_marked}
+use Rattle.syntect_linker.specs.Inclusions.{Among, From, first, onward, Inclusion, each_in, each_from, inclusions_by, includers_in, if_marked}
 use Rattle.syntect_contexts.specs.declared.context.ContextId.{ContextId}
-use Rattle.syntect_contexts.specs.declared.context.Pattern.{Pattern}
 use Rattle.syntect_contexts.specs.declared.context.Context.{Context}
 use Rattle.syntect_contexts.specs.declared.syntax_reference.SyntaxReference.{SyntaxReference}
 use Rattle.syntect_linker.proofs.Numbers.{number, numbers_from, listed_from, length_from, is_same_self, same_id}
-use Rattle.syntect_linker.proofs.Walks.{either, or_left, or_right, both_ways, known, among_one, one_among}
+use Rattle.syntect_linker.proofs.Walks.{either, or_left, or_right, both_ways, among_one, one_among}
 use Rattle.syntect_linker.proofs.LeadsLaws.{leads_so, leads_all}
 
 -- ---- what no body has ----

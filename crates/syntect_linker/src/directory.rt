@@ -1,13 +1,14 @@
 //! Where references lead.
-ghost use Rattle.std.specs.Prelude.{◌≡◌, ◌==◌, ℕ, List, codes, unwrap_or, bytes_eq, IfOk, None};
-ghost use Rattle.std.specs.HashMap as hash;
-ghost use Rattle.std.specs.Cmp.Lexicographic.{pointwise};
+ghost use Rattle.std.specs.Prelude.{◌≡◌, ℕ, List, codes, unwrap_or, IfOk, None};
+ghost use Rattle.std.specs.BTreeMap as tree;
+ghost use Rattle.std.specs.Cmp.Lexicographic.{slice_cmp};
+ghost use Rattle.std.specs.Ordering.{nat_cmp};
 ghost use Rattle.std.specs.Option.{option_and_then, option_copied};
 ghost use Rattle.syntect_linker.specs.References.{context_named, meant, last_that, has_scope, has_name, context_by, or_plain_text, link_of, linked_reference};
 ghost use Rattle.syntect_linker.specs.Reached.{names_at};
 
 use std::alloc::{AllocError, Global};
-use std::collections::HashMap;
+use std::collections::BTreeMap;
 use std::marker::Model;
 use syntect_contexts::context::{ContextId, ContextReference};
 use syntect_contexts::context_names::ContextNames;
@@ -40,16 +41,17 @@ fn text_of(text: &Option<Text>) -> Option<&str>
 #[derive(Drop)]
 pub(crate) struct Directory<'a> {
     heads: &'a [SyntaxReference],
-    by_scope: HashMap<Scope, usize>,
-    by_name: HashMap<&'a str, usize>,
+    by_scope: BTreeMap<Scope, usize>,
+    by_name: BTreeMap<&'a str, usize>,
     /// The names of the contexts of a syntax that isn't there.
     none: ContextNames,
 }
 
 impl<'a> Model for Directory<'a> {
-    ghost use Rattle.std.specs.Prelude.{◌≡◌, ◌==◌, ℕ, List, [], bytes_eq};
-    ghost use Rattle.std.specs.Cmp.Lexicographic.{pointwise};
-    ghost use Rattle.std.specs.HashMap as hash;
+    ghost use Rattle.std.specs.Prelude.{◌≡◌, ℕ, List, []};
+    ghost use Rattle.std.specs.Cmp.Lexicographic.{slice_cmp};
+    ghost use Rattle.std.specs.Ordering.{nat_cmp};
+    ghost use Rattle.std.specs.BTreeMap as tree;
     ghost use Rattle.syntect_linker.specs.References.{last_that, has_scope, has_name};
     ghost use Rattle.syntect_contexts.specs.declared.syntax_reference.SyntaxReference.{SyntaxReference};
 
@@ -57,8 +59,8 @@ impl<'a> Model for Directory<'a> {
 
     ghost view = { λ a. a.heads.now };
 
-    ghost invariant = { λ a. ((scope : List ℕ) → hash.get (pointwise ◌==◌) a.by_scope scope ≡ last_that (has_scope scope) a.heads.now)
-        × ((name : List ℕ) → hash.get_by (λ k. bytes_eq name k.now) a.by_name ≡ last_that (has_name name) a.heads.now)
+    ghost invariant = { λ a. ((scope : List ℕ) → tree.get (slice_cmp nat_cmp) a.by_scope scope ≡ last_that (has_scope scope) a.heads.now)
+        × ((name : List ℕ) → tree.get_by (λ k. slice_cmp nat_cmp name k.now) a.by_name ≡ last_that (has_name name) a.heads.now)
         × (a.none ≡ []) };
 }
 
@@ -66,10 +68,10 @@ impl<'a> Model for Directory<'a> {
 fn last_by_scope(
     alloc: Global,
     heads: &[SyntaxReference],
-) -> Result<HashMap<Scope, usize>, AllocError>
-    ensures { IfOk result (λ m. (scope : List ℕ) → hash.get (pointwise ◌==◌) m scope ≡ last_that (has_scope scope) heads.now) }
+) -> Result<BTreeMap<Scope, usize>, AllocError>
+    ensures { IfOk result (λ m. (scope : List ℕ) → tree.get (slice_cmp nat_cmp) m scope ≡ last_that (has_scope scope) heads.now) }
 {
-    let mut places = HashMap::new(alloc);
+    let mut places = BTreeMap::new(alloc);
     for (place, head) in heads.iter().enumerate() {
         places.insert(head.scope, place)?;
     }
@@ -80,10 +82,10 @@ fn last_by_scope(
 fn last_by_name<'a>(
     alloc: Global,
     heads: &'a [SyntaxReference],
-) -> Result<HashMap<&'a str, usize>, AllocError>
-    ensures { IfOk result (λ m. (name : List ℕ) → hash.get_by (λ k. bytes_eq name k.now) m ≡ last_that (has_name name) heads.now) }
+) -> Result<BTreeMap<&'a str, usize>, AllocError>
+    ensures { IfOk result (λ m. (name : List ℕ) → tree.get_by (λ k. slice_cmp nat_cmp name k.now) m ≡ last_that (has_name name) heads.now) }
 {
-    let mut places = HashMap::new(alloc);
+    let mut places = BTreeMap::new(alloc);
     for (place, head) in heads.iter().enumerate() {
         places.insert(head.name.as_str(), place)?;
     }

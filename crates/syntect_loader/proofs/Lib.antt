@@ -2,3 +2,4 @@ mod LoadingLaws
 mod RoomLaws
 mod EndLaws
 pub mod NamedLaws
+mod SyntaxFileLaws

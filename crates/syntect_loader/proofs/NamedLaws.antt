@@ -1,12 +1,12 @@
 -- What the loader reads refers to contexts by their names, never by numbers.
-use Rattle.std.proofs.Common.{◌≡◌, ℕ, zero, suc, Bool, true, false, ◌||◌, List, [], ◌∷◌, ◌++◌, refl, Option, Some, None, Result, Ok, Err, cond, if◌then◌else◌}
+use Rattle.std.proofs.Common.{◌≡◌, ℕ, zero, suc, Bool, true, false, List, [], ◌∷◌, ◌++◌, refl, Option, Some, None, Result, Ok, Err, cond, if◌then◌else◌}
 use Rattle.std.proofs.Common.{Ordering, Less, Equal, Greater}
 use Rattle.std.specs.Prelude.{IfSome, unwrap_or, not, codes, is_some, ◌&&◌}
 use Rattle.std.specs.Option.{option_to_list, option_map_or}
 use Rattle.std.specs.List.{list_any}
 use Rattle.std.specs.Ordering.{match_ordering, nat_cmp}
 use Rattle.std.specs.Cmp.Lexicographic.{slice_cmp}
-use Rattle.std.specs.BTreeMap.{insert_entry, is_at}
+use Rattle.std.specs.BTreeMap.{is_at}
 use Rattle.std.specs.Map.{lookup, remove_entry}
 use Rattle.std.specs.Str.{bytes_eq}
 use Rattle.syntect_scope.specs.Words.{words}
@@ -16,12 +16,12 @@ use Rattle.syntect_rewrite.specs.Testing.{tested_text, refers_back}
 use Rattle.syntect_yaml.specs.Node.{Node, get, text_of}
 use Rattle.syntect_yaml.specs.Yaml.{yaml_of, deepest}
 use Rattle.syntect_yaml.specs.declared.value.Scalar.{Scalar}
-use Rattle.syntect_loader.specs.LoadingSteps.{Refusal, no_node, no_value, no_main, wrong_kind, missing, Step, give, refuse, on, ◌>>=◌, known, found_in, finding, perhaps, each}
-use Rattle.syntect_loader.specs.LoadingParts.{scopes, scopes_unless, scope, scope_unless, captures, capture, capture_group, add_capture, text_reference, named_reference, reference_unless}
+use Rattle.syntect_loader.specs.LoadingSteps.{Refusal, wrong_kind, missing, Step, give, refuse, on, ◌>>=◌, known, found_in, finding, perhaps, each}
+use Rattle.syntect_loader.specs.LoadingParts.{scopes, scopes_unless, scope, scope_unless, captures, capture, capture_group, add_capture, text_reference, reference_unless}
 use Rattle.syntect_loader.specs.LoadingValues.{text_in, list_in, map_in, at, is_several, is_none, is_file, file_name, head, sub_context, scope_text, escape_items, ahead_items}
 use Rattle.syntect_loader.specs.LoadingContexts as loading
 use Rattle.syntect_loader.specs.LoadingContexts.{context, named_context, new_context, with_match, with_include, put}
-use Rattle.syntect_loader.specs.Loading.{loaded, definition_in, finish, finished_with, leaving, defined, read_contexts, nothing_read, variables_at, with_start, around_main, start_context, outer_context, main_context, start_name, outer_name, main_name, top_context, top_entry, top_contexts, enter, contexts_at, scope_text_at, prototype_name}
+use Rattle.syntect_loader.specs.Loading.{loaded, definition_in, finish, finished_with, leaving, read_contexts, nothing_read, variables_at, around_main, start_context, outer_context, main_context, start_name, outer_name, main_name, top_context, top_entry, top_contexts, enter, contexts_at, scope_text_at, prototype_name}
 use Rattle.syntect_contexts.specs.Contexts.{Scopes}
 use Rattle.syntect_contexts.specs.Contexts.{named, list_of}
 use Rattle.syntect_loader.specs.Named.{is_direct, NamesNoNumber, KnowNoNumber, LoadedByName}

@@ -4,3 +4,4 @@ pub mod LoadingParts
 pub mod LoadingContexts
 pub mod Loading
 pub mod Named
+pub mod Files

@@ -5,6 +5,7 @@
 #![tactic(auto)]
 
 pub mod definition;
+pub mod files;
 pub mod laws;
 pub mod yaml_load;
 mod yaml_load_contexts;

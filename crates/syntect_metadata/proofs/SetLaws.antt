@@ -1,5 +1,5 @@
 -- Sets read one after another.
-use Rattle.std.proofs.Common.{◌≡◌, ℕ, List, [], ◌∷◌, ◌++◌, length, take, drop, ◌≤◌, sym, refl, ap, ◌∙◌, subst, arith, Option, Some, None}
+use Rattle.std.proofs.Common.{◌≡◌, ℕ, List, [], ◌∷◌, ◌++◌, length, take, drop, ◌≤◌, sym, refl, ap, ◌∙◌, subst, arith}
 use Rattle.std.specs.Prelude.{Result, Ok, Err}
 use Rattle.std.proofs.lemmas.List.{append_assoc, append-nil, take-append-le, take-append-drop, length-take}
 use Rattle.std.specs.BTreeMap.{insert_entry}
@@ -9,12 +9,11 @@ use Rattle.syntect_scope.specs.Repository.{with_scopes, first_refusal, MayRefuse
 use Rattle.syntect_scope.specs.SelectorText.{union_words}
 use Rattle.syntect_scope.specs.declared.repository.ParseScopeError.{ParseScopeError}
 use Rattle.syntect_scope.specs.declared.repository.ParseScopeError.TheVariants as scope
-use Rattle.serde_json.specs.Data.{Data, object}
+use Rattle.serde_json.specs.Data.{Data}
 use Rattle.syntect_metadata.specs.Merging.{object_of}
 use Rattle.syntect_metadata.specs.Seen.{seen, table_seen}
 use Rattle.syntect_metadata.specs.Sets.{set_with, set_of, scope_refusal, Refuses, with_set, IsAfterSet, ReadsSets, with_sets}
 use Rattle.syntect_metadata.specs.declared.error.MetadataError.{MetadataError}
-use Rattle.syntect_metadata.specs.declared.error.MetadataError.TheVariants as error
 use Rattle.syntect_metadata.specs.declared.items.MetadataItems.{MetadataItems}
 use Rattle.syntect_metadata.specs.declared.merge.Merged.{Merged}
 use Rattle.syntect_metadata.specs.declared.set.MetadataSet.{MetadataSet}

@@ -1,5 +1,5 @@
 -- Members whose values are texts.
-use Rattle.std.proofs.Common.{◌≡◌, ℕ, List, [], ◌∷◌, ◌++◌, map, Option, Some, None, option_map, String, Global, string_bytes, string_cmp, nat_cmp, Ordering, Less, Greater, refl, sym, ap, ◌∙◌}
+use Rattle.std.proofs.Common.{◌≡◌, ℕ, List, [], ◌∷◌, ◌++◌, map, Option, Some, None, option_map, String, Global, string_bytes, string_cmp, nat_cmp, Less, Greater, refl, sym, ap, ◌∙◌}
 use Rattle.std.proofs.lemmas.List.{append_assoc}
 use Rattle.std.specs.BTreeMap.{insert_entry}
 use Rattle.std.specs.Cmp.Lexicographic.{slice_cmp, nat_list_cmp_total}
@@ -8,13 +8,11 @@ use Rattle.std.specs.List.Sorted.{IsStrictlySortedBy}
 use Rattle.std.specs.Map.{keys_of}
 use Rattle.std.specs.Ordering.{ordering_reverse}
 use Rattle.std.specs.Option.{ok_or}
-use Rattle.std.specs.Prelude.{option_and_then, Result, Ok, Err}
-use Rattle.serde_json.specs.Data.{Data, Members, member}
+use Rattle.std.specs.Prelude.{option_and_then, Ok, Err}
 use Rattle.serde_json.specs.Find.{as_str}
 use Rattle.serde_json.specs.View.{view, members_view}
 use Rattle.serde_json.specs.declared.value.Value.{Value}
 use Rattle.syntect_metadata.specs.Items.{texts_in}
-use Rattle.syntect_metadata.specs.declared.error.MetadataError.{MetadataError}
 use Rattle.syntect_metadata.specs.declared.error.MetadataError.TheVariants.{BadItems}
 
 -- the keys that are ahead, as texts

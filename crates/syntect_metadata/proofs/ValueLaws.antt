@@ -1,12 +1,12 @@
 -- Maps of values beside the members that they stand for.
-use Rattle.std.proofs.Common.{◌≡◌, ℕ, List, [], ◌∷◌, ◌++◌, map, Option, Some, None, option_map, String, BTreeMap, Global, string_bytes, string_cmp, sym, refl, ap, ◌∙◌}
+use Rattle.std.proofs.Common.{◌≡◌, ℕ, List, [], ◌∷◌, Option, Some, option_map, String, BTreeMap, Global, string_bytes, string_cmp, sym, refl, ap, ◌∙◌}
 use Rattle.std.specs.BTreeMap.{insert_entry, is_at}
 use Rattle.std.specs.Cmp.Lexicographic.{slice_cmp}
 use Rattle.std.specs.List.{AllZip}
 use Rattle.std.specs.Map.{lookup}
 use Rattle.std.specs.Ordering.{nat_cmp}
 use Rattle.std.specs.Prelude.{option_and_then}
-use Rattle.serde_json.specs.Data.{Data, object, member, put}
+use Rattle.serde_json.specs.Data.{Data, object, put}
 use Rattle.serde_json.specs.Find.{get, as_object}
 use Rattle.serde_json.specs.View.{view, members_view}
 use Rattle.serde_json.specs.declared.value.Value.{Value, Object}

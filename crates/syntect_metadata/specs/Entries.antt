@@ -1,5 +1,5 @@
 -- Entries of metadata, as files have them.
-use Rattle.std.specs.Prelude.{◌≡◌, ℕ, List, codes, Bool, ◌&&◌, false, Option, Some, option_and_then, is_some}
+use Rattle.std.specs.Prelude.{◌≡◌, ℕ, List, codes, Bool, ◌&&◌, false, Option, Some, None, IfSome, option_and_then, is_some}
 use Rattle.std.specs.declared.io.Error.{Error}
 use Rattle.serde_json.specs.Data.{Data, Members}
 use Rattle.serde_json.specs.Find.{get, as_str, as_object}
@@ -34,17 +34,20 @@ pub record IsEntryOf (path bytes : List ℕ) (entry : RawMetadataEntry) : Type 0
   pub settings : IsSettings bytes value
   pub is : IsEntry path value entry
 
--- Why bytes give no entry: they are no settings, or their settings are no entry. A fault of reading, and want of memory, can
--- come instead.
+-- why bytes give no entry: they are no settings, or their settings are no entry; or there was no memory
 pub data RefusesEntry (bytes : List ℕ) : LoadingError → Type 0 where
   no_settings : ((d : Data) → ¬ (IsSettings bytes d)) → RefusesEntry bytes (ReadSettings Json)
   no_entry : {d : Data} → IsSettings bytes d → is_entry d ≡ false → RefusesEntry bytes ParseMetadata
-  not_read : {e : Error} → RefusesEntry bytes (Io e)
   no_memory : RefusesEntry bytes Memory
+
+-- why what a reader has left, where that is known, gives no entry: reading has a fault, or the bytes give none
+pub data RefusesRead (left : Option (List ℕ)) : LoadingError → Type 0 where
+  not_read : {e : Error} → RefusesRead left (Io e)
+  refused : {bytes : List ℕ} {e : LoadingError} → IfSome left (λ xs. bytes ≡ xs) → RefusesEntry bytes e → RefusesRead left e
 
 -- why a file gives no entry
 abbrev pub IsEntryFault : LoadingError → Type 0
-IsEntryFault e = (bytes : List ℕ) × RefusesEntry bytes e
+IsEntryFault e = RefusesRead None e
 
 -- the same path and scope text, and the same settings as values
 pub record AreAlike (one other : RawMetadataEntry) : Type 0 where

@@ -1,19 +1,20 @@
 //! Entries of metadata, as files have them.
-ghost use Rattle.std.specs.Prelude.{◌≡◌, ◌≢◌, ◌++◌, ◌∷◌, [], ℕ, List, false, codes, option_map, option_and_then, IfOk, OnOk, IfErr, OnErr};
+ghost use Rattle.std.specs.Prelude.{◌≡◌, ◌≢◌, ◌++◌, ◌∷◌, [], ℕ, List, false, codes, option_map, option_and_then, IfSome, IfOk, OnOk, IfErr, IsErrAnd, OnErr};
 ghost use Rattle.std.specs.List.{AllZip};
 ghost use Rattle.std.specs.Path.{path_bytes};
 ghost use Rattle.serde_json.specs.Find.{get, as_object};
 ghost use Rattle.serde_json.specs.View.{view, members_view};
+ghost use Rattle.syntect_base.specs.Refusals.{IsReadFault};
 ghost use Rattle.syntect_base.specs.declared.loading.LoadingError.{LoadingError};
-ghost use Rattle.syntect_metadata.specs.Entries.{is_entry, IsEntry, IsEntryOf, RefusesEntry, IsEntryFault, AreAlike};
+ghost use Rattle.syntect_metadata.specs.Entries.{is_entry, IsEntry, IsEntryOf, RefusesEntry, RefusesRead, IsEntryFault, AreAlike};
 
 use crate::values::member_of;
 use serde_json::{Map, Value};
 use std::alloc::{AllocError, Global};
-use std::fs;
 use std::io::{BufReader, Read};
 use std::path::Path;
 use std::rt::Files;
+use std::{fs, io};
 use syntect_base::loading::LoadingError;
 use syntect_base::settings::settings_of;
 use syntect_values::seq::Seq;
@@ -93,10 +94,43 @@ fn entry_of(alloc: Global, path: Path<'_>, bytes: &[u8]) -> Result<RawMetadataEn
     entry_in(alloc, path, settings)
 }
 
+/// The entry of the bytes that were read from a file, unless reading has a fault.
+fn entry_read(
+    alloc: Global,
+    path: Path<'_>,
+    read: Result<usize, io::Error>,
+    bytes: &[u8],
+) -> Result<RawMetadataEntry, LoadingError>
+    ensures ok { IfOk result (IsEntryOf (path_bytes path.entry) bytes.now) }
+    ensures fault { IfErr read (λ fault. IsErrAnd result (IsReadFault fault)) }
+    ensures err { OnOk read (IfErr result (RefusesEntry bytes.now)) }
+{
+    match read {
+        Ok(_count) => entry_of(alloc, path, bytes),
+        Err(e) => Err(LoadingError::from(e)),
+    }
+}
+
+/// The entry of what a reader of a file has left, unless reading has a fault.
+fn entry_from<R: Read>(
+    alloc: Global,
+    path: Path<'_>,
+    reader: &mut R,
+) -> Result<RawMetadataEntry, LoadingError>
+    ensures ok { IfOk result (λ entry. (bytes : List ℕ)
+        × IfSome (R.remaining reader.old) (λ left. bytes ≡ left)
+        × IsEntryOf (path_bytes path.entry) bytes entry) }
+    ensures err { IfErr result (RefusesRead (R.remaining reader.old)) }
+{
+    let mut bytes = Vec::new(alloc);
+    let read = reader.read_to_end(&mut bytes);
+    entry_read(alloc, path, read, bytes.as_slice())
+}
+
 impl RawMetadataEntry {
     /// The entry in a file: the JSON of an object with a text as `scope` and an object as `settings`, in which no number is a
     /// float. A fault of the file is `Io`, other bytes are `ReadSettings`, and another value is `ParseMetadata`.
-    #[tactic(auto, using(crate::proofs::EntryLaws::fault_read, crate::proofs::EntryLaws::fault_within))]
+    #[tactic(auto, using(crate::proofs::EntryLaws::fault_read, crate::proofs::EntryLaws::of_file))]
     pub fn load(
         files: &impl Files,
         alloc: Global,
@@ -114,11 +148,7 @@ impl RawMetadataEntry {
             Ok(reader) => reader,
             Err(e) => return Err(LoadingError::from(e)),
         };
-        let mut bytes = Vec::new(alloc);
-        match reader.read_to_end(&mut bytes) {
-            Ok(_) => entry_of(alloc, path, bytes.as_slice()),
-            Err(e) => Err(LoadingError::from(e)),
-        }
+        entry_from(alloc, path, &mut reader)
     }
 
     /// The scope text and the settings.

@@ -8,6 +8,7 @@ use syntect_theme::style::{Color, FontStyle, StyleModifier};
 use syntect_theme::theme::{ThemeSettings, UnderlineOption};
 use syntect_theme_files::theme_load::ParseSettings;
 use syntect_theme_files::theme_set::ThemeSet;
+use syntect_values::text::Text;
 
 /// The value of a text.
 fn value(alloc: Global, text: &str) -> Value {
@@ -60,4 +61,35 @@ fn bytes_that_are_no_text_are_no_theme(rt: HostRuntime) {
         Err(LoadingError::ReadSettings(SettingsError::Json))
     );
     holds(&rt, refused);
+}
+
+/// Rules of which two are refused: one whose last scope has nine atoms, and one whose colour is none. Both have new atoms.
+const WITH_REFUSED_RULES: &str = r##"{"settings":[{"settings":{}},{"scope":"a.b","settings":{"foreground":"#010101"}},{"scope":"c.d, 1.2.3.4.5.6.7.8.9","settings":{}},{"scope":"e","settings":{"foreground":"none"}},{"scope":"a.f","settings":{}}]}"##;
+
+#[test]
+fn a_refused_rule_leaves_no_atoms(rt: HostRuntime) {
+    let alloc = rt.alloc();
+    let mut repository = ScopeRepository::new(alloc);
+    let known = repository.build("b").expect(&rt, "a scope");
+    let mut bytes = WITH_REFUSED_RULES.as_bytes();
+    let theme = ThemeSet::load_from_reader(alloc, &mut bytes, &mut repository);
+    let theme = theme.expect(&rt, "a theme");
+    holds(&rt, theme.scopes.len() == 2);
+    holds(&rt, repository.atom_count() == 3);
+    holds(&rt, repository.atom_str(3) == Some("f"));
+    holds(&rt, repository.build("b") == Ok(known));
+}
+
+#[test]
+fn a_set_is_copied(rt: HostRuntime) {
+    let alloc = rt.alloc();
+    let mut repository = ScopeRepository::new(alloc);
+    let mut bytes = WITH_REFUSED_RULES.as_bytes();
+    let theme = ThemeSet::load_from_reader(alloc, &mut bytes, &mut repository);
+    let mut set = ThemeSet::new(alloc);
+    let name = Text::from_str(alloc, "t").expect(&rt, "memory");
+    let theme = theme.expect(&rt, "a theme");
+    holds(&rt, set.themes.insert(name, theme).is_ok());
+    let copy = set.clone().expect(&rt, "memory");
+    holds(&rt, copy.themes.len() == 1);
 }

@@ -355,12 +355,22 @@ fn look_ups(rt: HostRuntime) {
 }
 
 /// Texts that are refused, each with the line and the column where it is.
-const PLACES: [(&str, usize, usize); 5] = [
+const PLACES: [(&str, usize, usize); 14] = [
     ("a: b: c", 1, 5),
     ("a: 1\nb: [c, d\ne: 2", 3, 1),
-    ("a: 1\n# é\nb: 'é' x", 3, 7),
+    ("a: 1\n# é\nb: 'é' x", 3, 8),
     ("\u{feff}a: 1\nb: &c 2", 2, 4),
     ("a: 1\nb: 2\na: 3", 3, 3),
+    // What stops a block stands in a line of its own: a tab as indentation, or the end of the document.
+    ("a: 1\n\tb: 2", 2, 1),
+    ("a:\n\tb: 1", 2, 1),
+    ("- é\n\n# c\n\t- b", 4, 1),
+    ("-\n\ta", 2, 1),
+    ("a: |\n  x\n\ty", 3, 1),
+    ("a: 1\n# c\n...\nb: 2", 3, 1),
+    ("# c\n\ta: 1", 2, 1),
+    ("a: b\n  c", 2, 3),
+    ("a: 'é'\r\nb: \"é\" x", 2, 8),
 ];
 
 #[test]

@@ -3,6 +3,7 @@ use crate::found::{equal, holds};
 use std::path::{Path, PathBuf};
 use std::process::Abort;
 use std::rt::Files;
+use std::os::unix::fs::symlink;
 use std::{env, fs, io};
 use syntect::LoadingError;
 use syntect::explain::why_not_loaded;
@@ -119,6 +120,30 @@ fn grammars_are_named_with_line_and_column(rt: HostRuntime) {
         nothing.as_str(),
         ": error finding all the files in a directory",
     );
+}
+
+/// Grammars are added while the folder is walked: of two faults the earlier is told, and the grammars before it stay.
+#[test]
+fn the_first_fault_is_told(rt: HostRuntime) {
+    let alloc = rt.alloc();
+    let folder = folder(&rt, "syntect_first_fault").expect(&rt, "a folder");
+    let link = within(&rt, &folder, "z");
+    symlink(&rt, "nowhere", link.as_path()).expect(&rt, "a link");
+    let first = within(&rt, &folder, "a.sublime-syntax");
+    fs::write(&rt, first.as_path(), "scope: s\n").expect(&rt, "a file");
+    let told = told_of_grammars(&rt, folder.as_path());
+    equal(
+        &rt,
+        told.as_str(),
+        "/a.sublime-syntax: Missing mandatory key in YAML file: contexts",
+    );
+    fs::write(&rt, first.as_path(), GRAMMAR).expect(&rt, "a file");
+    let mut repository = ScopeRepository::new(alloc);
+    let mut builder = SyntaxSetBuilder::new(alloc);
+    let added = builder.add_from_folder(&rt, alloc, folder.as_path(), true, &mut repository);
+    holds(&rt, matches!(&added, Err(LoadingError::WalkDir)));
+    holds(&rt, builder.syntaxes().len() == 1);
+    fs::remove_dir_all(&rt, folder.as_path()).expect(&rt, "a folder");
 }
 
 #[test]

@@ -216,9 +216,16 @@ impl ScopeRepository {
         }
     }
 
-    /// Takes the atoms past the first `held` back.
-    fn forget(&mut self, held: usize)
-        requires { held ≤ length self.old }
+    /// How many atoms it has. Takes no memory.
+    pub fn atom_count(&self) -> usize
+        ensures { result ≡ length self.now }
+    {
+        self.atoms.len()
+    }
+
+    /// Takes back the atoms behind the first `held`, for a caller that took them up and then refused what has them. A scope
+    /// that has such an atom is another one afterwards, or none; every other scope stays what it is. Takes no memory.
+    pub fn forget(&mut self, held: usize)
         ensures { self.new ≡ take held self.old }
     {
         while self.atoms.len() > held {

@@ -4,8 +4,10 @@ use Rattle.std.proofs.Math.Seq.{take-suc}
 use Rattle.std.specs.BTreeMap.{insert_entry}
 use Rattle.std.specs.Cmp.Lexicographic.{slice_cmp}
 use Rattle.std.specs.Ordering.{nat_cmp}
-use Rattle.std.specs.Prelude.{IfSome, IfErr, Result, Ok, is_some, slice_get, true}
+use Rattle.std.specs.Prelude.{IfSome, IfOk, OnOk, IsErrAnd, IfErr, Result, Ok, is_some, slice_get, true}
 use Rattle.std.proofs.lemmas.List.{take_all, take-append-le, take-append-drop, length-take}
+use Rattle.std.proofs.lemmas.Map.Entries.{entries_from_clone}
+use Rattle.std.specs.List.{AllZip}
 use Rattle.std.specs.declared.io.Error.{Error}
 use Rattle.serde_json.specs.Data.{Data}
 use Rattle.syntect_base.specs.Settings.{IsSettings}
@@ -19,7 +21,7 @@ use Rattle.syntect_base.specs.declared.loading.LoadingError.{LoadingError}
 use Rattle.syntect_base.specs.declared.loading.LoadingError.TheVariants as loading
 use Rattle.syntect_theme_files.specs.Loading.{head_at}
 use Rattle.syntect_theme.specs.Refusals.{Refuses}
-use Rattle.syntect_theme_files.specs.ThemeFiles.{IsThemeOf, RefusesTheme, IsThemeFault, theme_name, AddsThemes, StopsAtTheme, RefusesThemes, no_settings, no_theme, not_read, no_memory, no_more, other, theme, stopped}
+use Rattle.syntect_theme_files.specs.ThemeFiles.{IsThemeOf, RefusesTheme, RefusesRead, IsThemeFault, theme_name, AddsThemes, StopsAtTheme, RefusesThemes, no_settings, no_theme, not_read, refused, no_memory, no_more, other, theme, stopped}
 use Rattle.syntect_theme.specs.declared.theme.Theme.{Theme}
 
 pub not_settings : (bytes : List ℕ) (e : SettingsError) → (e ≢ settings.Memory → (d : Data) → ¬ (IsSettings bytes d)) → RefusesTheme bytes (from_settings e)
@@ -41,26 +43,57 @@ not_theme bytes d s (error.ScopeSelectorIsNotString x) h = no_theme s (h (λ q. 
 not_theme bytes d s error.DuplicateSettings h = no_theme s (h (λ q. cc))
 not_theme bytes d s (error.ScopeParse x) h = no_theme s (h (λ q. cc))
 
-pub not_read_from : (bytes : List ℕ) (e : Error) (r : LoadingError) → IsReadFault e r → RefusesTheme bytes r
-not_read_from bytes e loading.Memory f = no_memory
-not_read_from bytes e (loading.Io x) f = not_read
-not_read_from bytes e loading.WalkDir f = let q : loading.WalkDir ≡ loading.Io e = f.either (λ q. cc) in cc
-not_read_from bytes e (loading.ParseSyntax x y) f = let q : loading.ParseSyntax x y ≡ loading.Io e = f.either (λ q. cc) in cc
-not_read_from bytes e loading.ParseMetadata f = let q : loading.ParseMetadata ≡ loading.Io e = f.either (λ q. cc) in cc
-not_read_from bytes e (loading.ParseTheme x) f = let q : loading.ParseTheme x ≡ loading.Io e = f.either (λ q. cc) in cc
-not_read_from bytes e (loading.ReadSettings x) f = let q : loading.ReadSettings x ≡ loading.Io e = f.either (λ q. cc) in cc
-not_read_from bytes e loading.BadPath f = let q : loading.BadPath ≡ loading.Io e = f.either (λ q. cc) in cc
-
 -- bytes that a reader may have had
 some_bytes : (left : Option (List ℕ)) → (bytes : List ℕ) × IfSome left (λ xs. bytes ≡ xs)
 some_bytes None = ([], tt)
 some_bytes (Some xs) = (xs, refl)
 
-pub not_read_of : (left : Option (List ℕ)) (e : Error) (r : LoadingError) → IsReadFault e r → (bytes : List ℕ) × IfSome left (λ xs. bytes ≡ xs) × RefusesTheme bytes r
-not_read_of left e r f = let s = some_bytes left in (s.0, s.1, not_read_from s.0 e r f)
+-- ---- reading ----
+
+-- a fault of reading, told
+pub read_so : (left : Option (List ℕ)) (e : Error) (r : LoadingError) → IsReadFault e r → RefusesRead left r
+read_so left e loading.Memory f = let s = some_bytes left in refused s.1 no_memory
+read_so left e (loading.Io x) f = not_read
+read_so left e loading.WalkDir f = let q : loading.WalkDir ≡ loading.Io e = f.either (λ q. cc) in cc
+read_so left e (loading.ParseSyntax x y) f = let q : loading.ParseSyntax x y ≡ loading.Io e = f.either (λ q. cc) in cc
+read_so left e loading.ParseMetadata f = let q : loading.ParseMetadata ≡ loading.Io e = f.either (λ q. cc) in cc
+read_so left e (loading.ParseTheme x) f = let q : loading.ParseTheme x ≡ loading.Io e = f.either (λ q. cc) in cc
+read_so left e (loading.ReadSettings x) f = let q : loading.ReadSettings x ≡ loading.Io e = f.either (λ q. cc) in cc
+read_so left e loading.BadPath f = let q : loading.BadPath ≡ loading.Io e = f.either (λ q. cc) in cc
+
+-- a file that is not opened gives no theme
+pub not_opened : (e : Error) (r : LoadingError) → IsReadFault e r → IsThemeFault r
+not_opened e r f = read_so None e r f
+
+-- what a reader whose bytes are known has left is as good as what one has left whose bytes are not
+pub of_file : (left : Option (List ℕ)) (e : LoadingError) → RefusesRead left e → IsThemeFault e
+of_file left e not_read = not_read
+of_file left e (refused {bytes = bytes} k r) = refused {bytes = bytes} tt r
+
+-- the bytes that were read are those that were left
+pub bytes_read : {X : Type 0} (read : Result X Error) (left : Option (List ℕ)) (bytes items before : List ℕ) → bytes ≡ items → before ≡ [] → OnOk read (IfSome left (λ xs. items ≡ before ++ xs))
+    → OnOk read (IfSome left (λ xs. bytes ≡ xs))
+bytes_read (Ok x) None bytes items before a b h = tt
+bytes_read (Ok x) (Some xs) bytes items before a b h = a ∙ h ∙ ap (λ (l : List ℕ). l ++ xs) b
+bytes_read (Err e) left bytes items before a b h = tt
+
+module _ {X Y : Type 0} (left : Option (List ℕ)) (bytes : List ℕ) where
+  pub read_refused : (read : Result X Error) (result : Result Y LoadingError) → OnOk read (IfSome left (λ xs. bytes ≡ xs)) → IfErr read (λ fault. IsErrAnd result (IsReadFault fault))
+      → OnOk read (IfErr result (RefusesTheme bytes)) → IfErr result (RefusesRead left)
+  read_refused (Ok x) (Ok y) o f e = tt
+  read_refused (Ok x) (Err r) o f e = refused o e
+  read_refused (Err x) (Ok y) o f e = tt
+  read_refused (Err x) (Err r) o f e = read_so left x r f
+
+  pub read_whole : (P : List ℕ → Y → Type 0) (read : Result X Error) (result : Result Y LoadingError) → OnOk read (IfSome left (λ xs. bytes ≡ xs)) → IfErr read (λ fault. IsErrAnd result (IsReadFault fault))
+      → IfOk result (P bytes) → IfOk result (λ y. (all : List ℕ) × IfSome left (λ xs. all ≡ xs) × P all y)
+  read_whole P (Ok x) (Ok y) o f h = (bytes, o, h)
+  read_whole P (Ok x) (Err r) o f h = tt
+  read_whole P (Err x) (Ok y) o f h = absurd f
+  read_whole P (Err x) (Err r) o f h = tt
 
 pub fault_of_memory : IsThemeFault loading.Memory
-fault_of_memory = ([], no_memory)
+fault_of_memory = refused {bytes = []} tt no_memory
 
 -- ---- files added ----
 
@@ -110,10 +143,10 @@ stops_at paths i path text old left themes some all e l at same before kept g r 
   refuses = r;
 }
 
-pub refused_in : {A : Type 0} (r : Result A LoadingError) (folder : List ℕ) (files paths : List (List ℕ)) (old : List (List ℕ)) (themes all : List (List ℕ × Theme)) → IsWalk folder files → paths ≡ files
-    → IfErr r (λ e. StopsAtTheme paths old themes e all) → IfErr r (λ e. RefusesThemes folder old themes e all)
-refused_in (Ok x) folder files paths old themes all w s h = tt
-refused_in (Err e) folder files paths old themes all w s h = stopped w (subst (λ (xs : List (List ℕ)). StopsAtTheme xs old themes e all) s h)
+pub refused_in : {A : Type 0} (r : Result A LoadingError) (folder : List ℕ) (files paths : List (List ℕ)) (old new : List (List ℕ)) (themes all : List (List ℕ × Theme)) → IsWalk folder files → paths ≡ files
+    → IfErr r (λ e. StopsAtTheme paths old themes e all) → IfErr r (λ e. RefusesThemes folder old themes e new all)
+refused_in (Ok x) folder files paths old new themes all w s h = tt
+refused_in (Err e) folder files paths old new themes all w s h = stopped w (subst (λ (xs : List (List ℕ)). StopsAtTheme xs old themes e all) s h)
 
 -- ---- repositories ----
 
@@ -125,3 +158,8 @@ keeps_on old left new e h =
     let n : length old ≤ length left = omega (arith, ap length (sym e), length-take {A = List ℕ} (length old) left) in
     let whole : new ≡ left ++ drop (length left) new = sym (take-append-drop (length left) new) ∙ ap (λ (l : List (List ℕ)). l ++ drop (length left) new) h in
     subst (λ (l : List (List ℕ)). take (length old) l ≡ old) (sym whole) (take-append-le (length old) left (drop (length left) new) n ∙ e)
+
+-- ---- tables ----
+
+pub same_themes : (themes copy : List (List ℕ × Theme)) → AllZip (λ p q. (q.0 ≡ p.0) × (q.1 ≡ p.1)) themes copy → copy ≡ themes
+same_themes themes copy h = entries_from_clone (λ x y. y ≡ x) (λ v w. w ≡ v) (λ x y e. e) (λ v w e. e) themes copy h

@@ -1,5 +1,5 @@
 -- What a value says as a theme, or as a part of one.
-use Rattle.std.specs.Prelude.{◌≡◌, ℕ, List, [], ◌∷◌, length, take, codes, if◌then◌else◌, Option, Some, None, option_and_then, Result, Ok, Err}
+use Rattle.std.specs.Prelude.{◌≡◌, ℕ, List, [], ◌∷◌, codes, if◌then◌else◌, Option, Some, None, option_and_then, Result, Ok, Err}
 use Rattle.std.specs.Option.{ok_or}
 use Rattle.serde_json.specs.Data.{Data, Items, no_items, item}
 use Rattle.serde_json.specs.Find.{as_str, as_array, as_object, get}
@@ -272,18 +272,28 @@ abbrev pub with_rule : Result ThemeItem ParseThemeError → List ThemeItem → L
 with_rule (Ok rule) rules = rule ∷ rules
 with_rule (Err e) rules = rules
 
--- A repository after a rule was read with another one: it has the rule's scopes, or, where the rule was refused, perhaps more.
-abbrev pub IsAfterRule : List (List ℕ) → Result ThemeItem ParseThemeError → List (List ℕ) → List (List ℕ) → Type 0
-IsAfterRule old (Ok rule) texts new = new ≡ with_scopes old texts
-IsAfterRule old (Err e) texts new = take (length old) new ≡ old
+-- of two repositories the first, unless the rule is refused
+abbrev pub unless_refused : Result ThemeItem ParseThemeError → List (List ℕ) → List (List ℕ) → List (List ℕ)
+unless_refused (Ok rule) grown repo = grown
+unless_refused (Err e) grown repo = repo
 
--- The rules of values, one after another, each read with the repository that the ones before left; what is refused is left out.
-abbrev pub ReadsRules : List (List ℕ) → Items → List (List ℕ) → List ThemeItem → Type 0
-ReadsRules old no_items new rules = (new ≡ old) × (rules ≡ [])
-ReadsRules old (item d ds) new rules =
-    (left : List (List ℕ)) × IsAfterRule old (item_at old d) (rule_words d) left × (others : List ThemeItem) × ReadsRules left ds new others × (rules ≡ with_rule (item_at old d) others)
+-- the repository after a rule was read: with the rule's scopes, and as it was where the rule is refused
+abbrev pub after_rule : List (List ℕ) → Data → List (List ℕ)
+after_rule repo d = unless_refused (item_at repo d) (with_scopes repo (rule_words d)) repo
 
--- The theme of a value, read with a repository that becomes another one: what stands round the rules is the value's, and the rules are those of its later items.
+-- the rules of values, one after another, but for those that are refused
+abbrev pub rules_in : List (List ℕ) → Items → List ThemeItem
+rules_in repo no_items = []
+rules_in repo (item d ds) = with_rule (item_at repo d) (rules_in (after_rule repo d) ds)
+
+-- the repository after them
+abbrev pub after_rules : List (List ℕ) → Items → List (List ℕ)
+after_rules repo no_items = repo
+after_rules repo (item d ds) = after_rules (after_rule repo d) ds
+
+-- The theme of a value, read with a repository that becomes another one: what stands round the rules is the value's, and the
+-- rules are those of its later items. The other repository has the scopes of these rules more, and no others.
 pub record IsTheme (old : List (List ℕ)) (d : Data) (new : List (List ℕ)) (theme : Theme) : Type 0 where
   pub head : head_at d ≡ Ok (record theme { scopes = [] })
-  pub rules : ReadsRules old (all_later (items_at d)) new theme.scopes
+  pub rules : theme.scopes ≡ rules_in old (all_later (items_at d))
+  pub atoms : new ≡ after_rules old (all_later (items_at d))

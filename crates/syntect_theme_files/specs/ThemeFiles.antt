@@ -1,5 +1,5 @@
 -- Themes from bytes and from files.
-use Rattle.std.specs.Prelude.{◌≡◌, ℕ, List, [], ◌∷◌, codes, if◌then◌else◌, true, Option, Some, None, option_and_then, is_some, slice_get, take, Err}
+use Rattle.std.specs.Prelude.{◌≡◌, ℕ, List, [], ◌∷◌, codes, if◌then◌else◌, true, Option, Some, None, option_and_then, is_some, IfSome, slice_get, take, Err}
 use Rattle.std.specs.Path.{path_extension, path_file_stem}
 use Rattle.std.specs.BTreeMap.{insert_entry}
 use Rattle.std.specs.Cmp.Lexicographic.{slice_cmp}
@@ -24,17 +24,21 @@ pub record IsThemeOf (old : List (List ℕ)) (bytes : List ℕ) (new : List (Lis
   pub settings : IsSettings bytes value
   pub is_theme : IsTheme old value new theme
 
--- Why bytes give no theme: they are no settings, or what stands round the rules of their settings is no theme's. A fault of
--- reading, and want of memory, can come instead.
+-- why bytes give no theme: they are no settings, or what stands round the rules of their settings is no theme's; or there was
+-- no memory
 pub data RefusesTheme (bytes : List ℕ) : LoadingError → Type 0 where
   no_settings : ((d : Data) → ¬ (IsSettings bytes d)) → RefusesTheme bytes (ReadSettings Json)
   no_theme : {d : Data} {e : ParseThemeError} → IsSettings bytes d → head_at d ≡ Err e → RefusesTheme bytes (ParseTheme e)
-  not_read : {e : Error} → RefusesTheme bytes (Io e)
   no_memory : RefusesTheme bytes Memory
+
+-- why what a reader has left, where that is known, gives no theme: reading has a fault, or the bytes give none
+pub data RefusesRead (left : Option (List ℕ)) : LoadingError → Type 0 where
+  not_read : {e : Error} → RefusesRead left (Io e)
+  refused : {bytes : List ℕ} {e : LoadingError} → IfSome left (λ xs. bytes ≡ xs) → RefusesTheme bytes e → RefusesRead left e
 
 -- why a file gives no theme
 abbrev pub IsThemeFault : LoadingError → Type 0
-IsThemeFault e = (bytes : List ℕ) × RefusesTheme bytes e
+IsThemeFault e = RefusesRead None e
 
 -- ---- files ----
 
@@ -62,9 +66,9 @@ pub record StopsAtTheme (files : List (List ℕ)) (old : List (List ℕ)) (theme
   pub is_theme : is_some (theme_name path) ≡ true
   pub refuses : IsThemeFault e
 
--- Why the themes of a folder are not added, and what is added then: nothing where the walk has a fault, or those before a
--- file that gives no theme.
-pub data RefusesThemes (folder : List ℕ) (old : List (List ℕ)) (themes : List (List ℕ × Theme)) : LoadingError → List (List ℕ × Theme) → Type 0 where
-  no_walk : {e : LoadingError} → IsWalkFault e → RefusesThemes folder old themes e themes
-  stopped : {e : LoadingError} {files : List (List ℕ)} {all : List (List ℕ × Theme)} → IsWalk folder files → StopsAtTheme files old themes e all
-      → RefusesThemes folder old themes e all
+-- Why the themes of a folder are not added, and what is added then: nothing where the walk has a fault, which leaves the
+-- repository too; or those before a file that gives no theme.
+pub data RefusesThemes (folder : List ℕ) (old : List (List ℕ)) (themes : List (List ℕ × Theme)) : LoadingError → List (List ℕ) → List (List ℕ × Theme) → Type 0 where
+  no_walk : {e : LoadingError} → IsWalkFault e → RefusesThemes folder old themes e old themes
+  stopped : {e : LoadingError} {files new : List (List ℕ)} {all : List (List ℕ × Theme)} → IsWalk folder files → StopsAtTheme files old themes e all
+      → RefusesThemes folder old themes e new all

@@ -1,5 +1,5 @@
 //! Values read as parts of themes.
-ghost use Rattle.std.specs.Prelude.{◌≡◌, length, take, IfOk, OnOk, IfErr, Ok, option_map, option_and_then};
+ghost use Rattle.std.specs.Prelude.{◌≡◌, length, take, IfOk, OnOk, IfErr, OnErr, Ok, option_map, option_and_then};
 ghost use Rattle.std.specs.Option.{ok_or};
 ghost use Rattle.serde_json.specs.Find.{as_str};
 ghost use Rattle.serde_json.specs.View.{view};
@@ -225,7 +225,7 @@ fn rule_in(
     }
 }
 
-/// The rule of a value.
+/// The rule of a value. One that is refused leaves the repository as it was.
 pub(crate) fn rule(
     alloc: Global,
     value: &Value,
@@ -234,12 +234,20 @@ pub(crate) fn rule(
     ensures ok { IfOk result (λ rule. loading.item_at repository.old (view value.now) ≡ Ok rule) }
     ensures atoms { OnOk result (repository.new ≡ with_scopes repository.old (loading.rule_words (view value.now))) }
     ensures err { IfErr result (Refuses (loading.item_at repository.old (view value.now))) }
+    ensures unchanged { OnErr result (repository.new ≡ repository.old) }
     ensures whole { IsRepository repository.new }
     ensures kept { take (length repository.old) repository.new ≡ repository.old }
 {
     repository.is_whole();
-    match value.as_object() {
-        Some(_) => rule_in(alloc, value, repository),
-        None => Err(ParseThemeError::ColorShemeScopeIsNotObject),
+    if value.as_object().is_none() {
+        return Err(ParseThemeError::ColorShemeScopeIsNotObject);
+    }
+    let held = repository.atom_count();
+    match rule_in(alloc, value, repository) {
+        Ok(rule) => Ok(rule),
+        Err(e) => {
+            repository.forget(held);
+            Err(e)
+        }
     }
 }

@@ -246,13 +246,14 @@ fn later(items: &[Value]) -> &[Value]
     }
 }
 
-/// The rules of values, but for those that are refused.
+/// The rules of values, but for those that are refused, which leave no atoms.
 fn rules(
     alloc: Global,
     items: &[Value],
     repository: &mut ScopeRepository,
 ) -> Result<Seq<ThemeItem>, AllocError>
-    ensures ok { IfOk result (λ rules. loading.ReadsRules repository.old (items_view items.now) repository.new rules) }
+    ensures ok { IfOk result (λ rules. rules ≡ loading.rules_in repository.old (items_view items.now)) }
+    ensures atoms { OnOk result (repository.new ≡ loading.after_rules repository.old (items_view items.now)) }
     ensures whole { IsRepository repository.new }
     ensures kept { take (length repository.old) repository.new ≡ repository.old }
 {

@@ -1,5 +1,5 @@
 //! Themes and their parts from values.
-ghost use Rattle.std.specs.Prelude.{◌≡◌, length, take, IfOk, OnOk, IfErr, Ok};
+ghost use Rattle.std.specs.Prelude.{◌≡◌, length, take, IfOk, OnOk, IfErr, OnErr, Ok};
 ghost use Rattle.serde_json.specs.Find.{as_str};
 ghost use Rattle.serde_json.specs.View.{view};
 ghost use Rattle.syntect_scope.specs.Repository.{with_scopes, IsRepository};
@@ -127,6 +127,7 @@ impl ParseSettings for ThemeItem {
         ensures ok { IfOk result (λ rule. loading.item_at repository.old (view settings) ≡ Ok rule) }
         ensures atoms { OnOk result (repository.new ≡ with_scopes repository.old (loading.rule_words (view settings))) }
         ensures err { IfErr result (Refuses (loading.item_at repository.old (view settings))) }
+        ensures unchanged { OnErr result (repository.new ≡ repository.old) }
         ensures whole { IsRepository repository.new }
         ensures kept { take (length repository.old) repository.new ≡ repository.old }
     {

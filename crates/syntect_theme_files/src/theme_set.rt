@@ -1,19 +1,20 @@
 //! Sets of themes, and themes from readers, files and folders.
-ghost use Rattle.std.specs.Prelude.{◌≡◌, ℕ, List, [], ◌∷◌, true, length, take, map, is_some, IfSome, IfOk, OnOk, IfErr, OnErr};
+ghost use Rattle.std.specs.Prelude.{◌≡◌, ℕ, List, [], ◌∷◌, true, length, take, map, is_some, IfSome, IsErrAnd, IfOk, OnOk, IfErr, OnErr};
 ghost use Rattle.std.specs.Option.{option_copied};
 ghost use Rattle.std.specs.List.{filter};
 ghost use Rattle.std.specs.Path.{path_bytes, path_buf_bytes};
+ghost use Rattle.syntect_base.specs.Refusals.{IsReadFault};
 ghost use Rattle.syntect_base.specs.Walks.{IsWalk, IsWalkFault};
 ghost use Rattle.syntect_scope.specs.Repository.{IsRepository};
 ghost use Rattle.syntect_theme.specs.declared.theme.Theme.{Theme as ATheme};
-ghost use Rattle.syntect_theme_files.specs.ThemeFiles.{IsThemeOf, RefusesTheme, IsThemeFault, theme_name, AddsThemes, StopsAtTheme, RefusesThemes};
+ghost use Rattle.syntect_theme_files.specs.ThemeFiles.{IsThemeOf, RefusesTheme, RefusesRead, IsThemeFault, theme_name, AddsThemes, StopsAtTheme, RefusesThemes};
 
 use crate::theme_load::ParseSettings;
-use std::alloc::Global;
-use std::fs;
+use std::alloc::{AllocError, Global};
 use std::io::{BufRead, BufReader, Read};
 use std::path::{Path, PathBuf};
 use std::rt::Files;
+use std::{fs, io};
 use syntect_base::loading::LoadingError;
 use syntect_base::settings::settings_of;
 use syntect_base::utils::files_below;
@@ -52,6 +53,26 @@ fn theme_of(
     }
 }
 
+/// The theme of the bytes that were read, unless reading has a fault.
+fn theme_read(
+    alloc: Global,
+    read: io::Result<usize>,
+    bytes: &[u8],
+    repository: &mut ScopeRepository,
+) -> Result<Theme, LoadingError>
+    ensures ok { IfOk result (IsThemeOf repository.old bytes.now repository.new) }
+    ensures fault { IfErr read (λ fault. IsErrAnd result (IsReadFault fault)) }
+    ensures err { OnOk read (IfErr result (RefusesTheme bytes.now)) }
+    ensures whole { IsRepository repository.new }
+    ensures kept { take (length repository.old) repository.new ≡ repository.old }
+{
+    repository.is_whole();
+    match read {
+        Ok(_count) => theme_of(alloc, bytes, repository),
+        Err(e) => Err(LoadingError::from(e)),
+    }
+}
+
 /// The name of the theme in a file: the file's name without its extension, which is `tmTheme` in any ASCII case.
 fn theme_name(path: Path<'_>) -> Option<&str>
     ensures { option_copied result ≡ theme_name (path_bytes path.entry) }
@@ -81,6 +102,16 @@ impl ThemeSet {
         ThemeSet::new(alloc)
     }
 
+    /// The same set once more.
+    #[tactic(auto, using(crate::proofs::FileLaws::same_themes))]
+    pub fn clone(&self) -> Result<ThemeSet, AllocError>
+        ensures { IfOk result (λ set. set ≡ self.now) }
+    {
+        Ok(ThemeSet {
+            themes: self.themes.clone()?,
+        })
+    }
+
     /// The paths of the theme files in a folder and in the folders below it, in the order of a walk. A theme file has the
     /// extension `tmTheme`, in any ASCII case. A fault of the walk is `WalkDir`.
     pub fn discover_theme_paths(
@@ -106,7 +137,7 @@ impl ThemeSet {
     }
 
     /// The theme in a file. A fault of the file is `Io`, and what it holds is read as by `load_from_reader`.
-    #[tactic(auto, using(crate::proofs::FileLaws::not_read_from))]
+    #[tactic(auto, using(crate::proofs::FileLaws::not_opened, crate::proofs::FileLaws::of_file))]
     pub fn get_theme(
         files: &impl Files,
         alloc: Global,
@@ -132,7 +163,6 @@ impl ThemeSet {
 
     /// The theme of what a reader has left: the JSON of a theme, in which no number is a float. A fault of reading is `Io`,
     /// other bytes are `ReadSettings`, and a value that is no theme is `ParseTheme`.
-    #[tactic(auto, using(crate::proofs::FileLaws::not_read_from))]
     pub fn load_from_reader<R: BufRead>(
         alloc: Global,
         reader: &mut R,
@@ -140,17 +170,14 @@ impl ThemeSet {
     ) -> Result<Theme, LoadingError>
         ensures ok { IfOk result (λ theme. (bytes : List ℕ) × IfSome (R.Read.remaining reader.old) (λ left. bytes ≡ left)
             × IsThemeOf repository.old bytes repository.new theme) }
-        ensures err { IfErr result (λ e. (bytes : List ℕ) × IfSome (R.Read.remaining reader.old) (λ left. bytes ≡ left)
-            × RefusesTheme bytes e) }
+        ensures err { IfErr result (RefusesRead (R.Read.remaining reader.old)) }
         ensures whole { IsRepository repository.new }
         ensures kept { take (length repository.old) repository.new ≡ repository.old }
     {
         repository.is_whole();
         let mut bytes = Vec::new(alloc);
-        match reader.read_to_end(&mut bytes) {
-            Ok(_) => theme_of(alloc, bytes.as_slice(), repository),
-            Err(e) => Err(LoadingError::from(e)),
-        }
+        let read = reader.read_to_end(&mut bytes);
+        theme_read(alloc, read, bytes.as_slice(), repository)
     }
 
     /// A set of the themes in a folder and in the folders below it, as `add_from_folder` adds them.
@@ -163,7 +190,7 @@ impl ThemeSet {
         ensures ok { IfOk result (λ set. (found : List (List ℕ)) × IsWalk (path_bytes folder.entry) found
             × AddsThemes found repository.old [] repository.new set.themes) }
         ensures refusal { IfErr result (λ e. (all : List (List ℕ × ATheme))
-            × RefusesThemes (path_bytes folder.entry) repository.old [] e all) }
+            × RefusesThemes (path_bytes folder.entry) repository.old [] e repository.new all) }
         ensures whole { IsRepository repository.new }
         ensures kept { take (length repository.old) repository.new ≡ repository.old }
     {
@@ -175,8 +202,8 @@ impl ThemeSet {
     }
 
     /// Adds the themes in a folder and in the folders below it, each under its file's name without the extension. Of two
-    /// files of one name the later in the walk stays. A fault of the walk is `WalkDir`, and the set stays as it is. A file that
-    /// gives no theme is refused as by `get_theme`, and the themes before it stay.
+    /// files of one name the later in the walk stays. A fault of the walk is `WalkDir`, and set and repository stay as
+    /// they are. A file that gives no theme is refused as by `get_theme`, and the themes before it stay.
     pub fn add_from_folder(
         &mut self,
         files: &impl Files,
@@ -187,7 +214,7 @@ impl ThemeSet {
         ensures ok { OnOk result ((found : List (List ℕ)) × IsWalk (path_bytes folder.entry) found
             × AddsThemes found repository.old self.old.themes repository.new self.new.themes) }
         ensures err { IfErr result (λ e.
-            RefusesThemes (path_bytes folder.entry) repository.old self.old.themes e self.new.themes) }
+            RefusesThemes (path_bytes folder.entry) repository.old self.old.themes e repository.new self.new.themes) }
         ensures whole { IsRepository repository.new }
         ensures kept { take (length repository.old) repository.new ≡ repository.old }
     {

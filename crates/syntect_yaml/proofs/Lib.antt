@@ -10,3 +10,4 @@ pub mod BlockLaws
 pub mod YamlLaws
 pub mod Rows
 pub mod KeyLaws
+pub mod RefusedLaws

@@ -4,6 +4,7 @@ pub mod Lines
 pub mod Text
 pub mod Scalars
 pub mod Reading
+pub mod Refused
 pub mod Literal
 pub mod Flow
 pub mod Blocks

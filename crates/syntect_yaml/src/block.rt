@@ -11,7 +11,7 @@ use crate::error::Refusal;
 use crate::flow::flow;
 use crate::keys::add_key;
 use crate::literal::literal;
-use crate::place::{Spot, next, next_line};
+use crate::place::{Spot, next, next_line, next_visible, unread_behind};
 use crate::plain::after_first;
 use crate::quoted::{key, scalar};
 use crate::text::{Class, byte_at, ends_line, first, line_tail, run_len, skip, split_run};
@@ -48,13 +48,13 @@ fn inline(
         let (inside, rest) = literal(alloc, text, least)?;
         return match next(rest) {
             Some(spot) => Ok((Yaml::Scalar(Scalar::Text(inside)), spot)),
-            None => Err(Refusal::At(rest.len())),
+            None => Err(Refusal::At(next_visible(rest).len())),
         };
     }
     let (value, rest) = part(alloc, text, depth)?;
     match next_line(rest) {
         Some(spot) => Ok((value, spot)),
-        None => Err(Refusal::At(rest.len())),
+        None => Err(Refusal::At(unread_behind(rest).len())),
     }
 }
 
@@ -126,7 +126,7 @@ fn value(
                 let deeper = has_value(spot, column);
                 below(alloc, spot, column, deeper, depth)
             }
-            None => Err(Refusal::At(after.len())),
+            None => Err(Refusal::At(next_visible(after).len())),
         },
         None => inline(alloc, split_run(text, Class::Space).1, column + 1, depth),
     }
@@ -145,7 +145,7 @@ fn item(alloc: Global, text: &str, column: usize, depth: usize) -> Result<(Yaml,
                 let deeper = spot.column > column;
                 below(alloc, spot, column, deeper, depth)
             }
-            None => Err(Refusal::At(after.len())),
+            None => Err(Refusal::At(next_visible(after).len())),
         },
         None => {
             let spaces = run_len(text.as_bytes(), Class::Space);

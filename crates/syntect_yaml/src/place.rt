@@ -1,5 +1,5 @@
 //! Where the next visible character stands.
-ghost use Rattle.std.specs.Prelude.{◌≡◌, ◌<◌, ℕ, length, option_map, IfSome};
+ghost use Rattle.std.specs.Prelude.{◌≡◌, ◌<◌, ◌≤◌, ℕ, length, option_map, IfSome};
 ghost use Rattle.syntect_yaml.specs.Lines as lines;
 ghost use Rattle.syntect_yaml.specs.Text.{place_of, IsWithin};
 
@@ -95,4 +95,30 @@ pub(crate) fn next_line(text: &str) -> Option<Spot<'_>>
     ensures within { IsWithin text.now result }
 {
     next(line_tail(text, false)?)
+}
+
+/// From a line's start on, the first line that has more than white space and a comment: where nothing is read from here on, it is
+/// the one that cannot be read.
+pub(crate) fn next_visible(text: &str) -> &str
+    ensures { length result.now ≤ length text.now }
+{
+    let mut rest = text;
+    'lines: while !rest.is_empty() {
+        match line_tail(rest, true) {
+            Some(after) => rest = after,
+            None => return rest,
+        }
+    }
+    rest
+}
+
+/// What cannot be read behind something that ends on this line: the line below that has more than white space and a comment, or
+/// else what is left of this one.
+pub(crate) fn unread_behind(text: &str) -> &str
+    ensures { length result.now ≤ length text.now }
+{
+    match line_tail(text, false) {
+        Some(after) => next_visible(after),
+        None => split_run(text, Class::White).1,
+    }
 }

@@ -1,6 +1,8 @@
 //! The value of a text.
-ghost use Rattle.std.specs.Prelude.{◌≡◌, ◌+◌, ◌<◌, ◌≤◌, ℕ, false, length, option_map, Some, None, IfOk, IsErrOf, IsSome, ◌↔◌};
+ghost use Rattle.std.specs.Prelude.{◌≡◌, ◌==◌, ◌+◌, ◌<◌, ◌≤◌, ℕ, false, length, option_map, Some, None, IfOk, IfSome, IsErrOf, IsSome, ◌↔◌};
+ghost use Rattle.std.specs.List.{after_last};
 ghost use Rattle.syntect_yaml.specs.Reading.{Gives};
+ghost use Rattle.syntect_yaml.specs.Refused.{begins_character, IsPlaceBehind, IsPlaceIn};
 ghost use Rattle.syntect_yaml.specs.Text.{place_of, IsWithin};
 ghost use Rattle.syntect_yaml.specs.View.{view};
 ghost use Rattle.syntect_yaml.specs.Yaml as yaml;
@@ -8,7 +10,7 @@ ghost use Rattle.syntect_yaml.specs.Yaml.{yaml_of};
 
 use crate::block::block;
 use crate::error::{ReadError, Refusal};
-use crate::place::{Spot, is_line_of, next, seek, unmarked};
+use crate::place::{Spot, is_line_of, next, next_visible, seek, unmarked};
 use crate::text::{after_line, byte_at, first};
 use crate::value::Yaml;
 use std::alloc::{AllocError, Global};
@@ -87,7 +89,7 @@ fn value_of(alloc: Global, text: &str) -> Result<Option<Yaml>, Refusal>
     ensures { Gives (option_map view) result (yaml.value_of text.now) }
 {
     let Some(spot) = begin(text) else {
-        return Err(Refusal::At(text.len()));
+        return Err(Refusal::At(next_visible(text).len()));
     };
     if spot.rest.is_empty() {
         return Ok(None);
@@ -121,31 +123,52 @@ pub struct LinePlace {
     pub column: usize,
 }
 
-/// The place of the byte behind so many.
-fn place_behind(bytes: &[u8], count: usize) -> LinePlace {
-    let mut place = LinePlace { line: 1, column: 1 };
-    for byte in bytes.iter().take(count) {
-        if *byte == b'\n' {
-            place.line = place.line.saturating_add(1);
-            place.column = 1;
-        } else if *byte < 0x80 || *byte >= 0xC0 {
-            place.column = place.column.saturating_add(1);
-        }
-    }
-    place
+/// Whether a character begins with this byte.
+fn begins_character(byte: u8) -> bool
+    ensures { result ≡ begins_character byte }
+{
+    byte < 0x80 || byte >= 0xC0
 }
 
-/// Where a text is refused, if it has no value: at the latest part that could not be read.
+/// What stands behind the last line feed.
+fn last_line(bytes: &[u8]) -> &[u8]
+    ensures { result.now ≡ after_last (λ b. b == 10) bytes.now }
+{
+    let mut from = bytes.len();
+    while from > 0 && bytes[from - 1] != b'\n' {
+        from -= 1;
+    }
+    bytes.split_at(from).1
+}
+
+/// The place behind these bytes.
+#[tactic(auto, using(crate::proofs::RefusedLaws::fits))]
+fn place_behind(before: &[u8]) -> LinePlace
+    ensures { IsPlaceBehind before.now result }
+{
+    let feeds = before.iter().filter(|b| **b == b'\n').count();
+    let characters = last_line(before)
+        .iter()
+        .filter(|b| begins_character(**b))
+        .count();
+    LinePlace {
+        line: feeds + 1,
+        column: characters + 1,
+    }
+}
+
+/// Where a text is refused, if it has no value: at the latest part that could not be read. A byte order mark has no column.
 pub fn refused_at(alloc: Global, text: &str) -> Result<Option<LinePlace>, AllocError>
-    ensures { IfOk result (λ place. IsSome place ↔ (yaml_of text.now ≡ None)) }
+    ensures refused { IfOk result (λ place. IsSome place ↔ (yaml_of text.now ≡ None)) }
+    ensures place { IfOk result (λ found. IfSome found (IsPlaceIn (yaml.unmasked text.now))) }
 {
     let whole = unmasked(text);
     match value_of(alloc, whole) {
         Ok(_) => Ok(None),
-        Err(Refusal::At(left)) => Ok(Some(place_behind(
-            whole.as_bytes(),
-            whole.len().saturating_sub(left),
-        ))),
+        Err(Refusal::At(left)) => {
+            let count = whole.len().saturating_sub(left);
+            Ok(Some(place_behind(whole.as_bytes().split_at(count).0)))
+        }
         Err(Refusal::Memory) => Err(AllocError),
     }
 }

@@ -1,9 +1,11 @@
-use Rattle.std.proofs.Common.{◌++◌, ℕ, List, reverse}
 use Rattle.std.specs.Path.{path_bytes}
-use Rattle.syntect_base.specs.Walks.{IsWalk, Visits}
+use Rattle.syntect_base.specs.Walks.{GoesOn}
 use Rattle.syntect_base.proofs.utils.files_below.Given as goal
 
-abbrev pub invariant-loop : goal.invariant-loop
-invariant-loop g l = record {
-  walk : (rest : List (List ℕ)) → Visits (reverse l.ahead) rest → IsWalk (path_bytes l.folder) (l.found ++ rest);
+abbrev pub invariant-files : goal.invariant-files
+invariant-files g l = record {
+  walk : GoesOn (path_bytes l.folder) l.found l.walk;
 }
+
+abbrev pub decreases-files : goal.decreases-files
+decreases-files g l = l.walk.left

@@ -1,5 +1,5 @@
 use Rattle.std.proofs.Common.{rules}
-use Rattle.std.proofs.lemmas.Map.Text.{hash_map_updates_str}
+use Rattle.std.proofs.lemmas.Map.Text.{btree_map_updates_str}
 use Rattle.syntect_linker.specs.References.{has_name}
 use Rattle.syntect_linker.proofs.LinkLaws.{table_more}
 use Rattle.syntect_linker.proofs.directory.last_by_name.Goals as goal
@@ -7,4 +7,4 @@ use Rattle.syntect_linker.proofs.directory.last_by_name.Goals as goal
 pub loop-place-preserved : goal.loop-place-preserved
 loop-place-preserved c = λ name.
     table_more (has_name name) c.args.heads.now c.loop-place.place c.index-heads-place.result _ _ (search rules) c.index-heads-place.is (c.loop-place.invariant name)
-    (hash_map_updates_str c.index-heads-place.result.name c.loop-place.places c.insert.new.self _ (search rules) name)
+    (btree_map_updates_str c.index-heads-place.result.name c.loop-place.places c.insert.new.self _ (search rules) name)

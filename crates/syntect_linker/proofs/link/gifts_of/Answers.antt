@@ -1,4 +1,4 @@
-use Rattle.std.proofs.Common.{rules, ℕ, ◌≡◌}
+use Rattle.std.proofs.Common.{rules}
 use Rattle.syntect_linker.proofs.LinkLaws.{gift_given}
 use Rattle.syntect_linker.proofs.link.gifts_of.Goals as goal
 

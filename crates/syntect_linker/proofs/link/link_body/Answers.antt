@@ -1,4 +1,4 @@
-use Rattle.std.proofs.Common.{rules, arith, ◌≡◌, ◌∙◌, ⊎_elim, length, map, refl}
+use Rattle.std.proofs.Common.{arith, ◌≡◌, ◌∙◌, ⊎_elim, length, map, refl}
 use Rattle.std.proofs.lemmas.Grind.{common_steps}
 use Rattle.syntect_linker.specs.LinkedContexts.{context_with}
 use Rattle.syntect_linker.proofs.LinkLaws.{first_ends, second_ends}

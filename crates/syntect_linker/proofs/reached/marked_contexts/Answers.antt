@@ -1,4 +1,4 @@
-use Rattle.std.proofs.Common.{rules, [], ◌∙◌}
+use Rattle.std.proofs.Common.{rules, []}
 use Rattle.std.specs.HashMap as hash
 use Rattle.std.specs.HashSet as marks
 use Rattle.std.specs.Option.{option_map_or}

@@ -1,4 +1,4 @@
-use Rattle.std.proofs.Common.{ℕ, [], ◌∷◌, ◌+◌, length}
+use Rattle.std.proofs.Common.{[], ◌∷◌, ◌+◌, length}
 use Rattle.std.specs.HashSet as marks
 use Rattle.syntect_contexts.specs.Contexts.{is_same}
 use Rattle.syntect_linker.specs.Reached.{prototype_steps}

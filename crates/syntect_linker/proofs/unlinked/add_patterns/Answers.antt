@@ -1,4 +1,4 @@
-use Rattle.std.proofs.Common.{◌≡◌, ◌∙◌, ap, map}
+use Rattle.std.proofs.Common.{◌∙◌, ap, map}
 use Rattle.std.specs.Prelude.{string_bytes}
 use Rattle.syntect_linker.specs.Unlinked.{pushed_by, unlinked_among, with_texts}
 use Rattle.syntect_linker.proofs.UnlinkedLaws.{more_unlinked}

@@ -1,4 +1,4 @@
-use Rattle.std.proofs.Common.{◌≡◌, map, ap, ◌∙◌}
+use Rattle.std.proofs.Common.{map, ap, ◌∙◌}
 use Rattle.std.specs.Prelude.{string_bytes}
 use Rattle.syntect_linker.proofs.UnlinkedLaws.{texts_inserted}
 use Rattle.syntect_linker.proofs.unlinked.add_text.Goals as goal

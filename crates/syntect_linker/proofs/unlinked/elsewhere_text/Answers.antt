@@ -1,7 +1,7 @@
-use Rattle.std.proofs.Common.{rules, ◌≡◌, ◌++◌, ◌∷◌, [], List, ℕ, ap, sym, ◌∙◌}
+use Rattle.std.proofs.Common.{◌≡◌, ◌++◌, List, ℕ, ap, ◌∙◌}
 use Rattle.std.specs.Prelude.{string_bytes, codes}
 use Rattle.std.proofs.lemmas.List.{append_assoc}
-use Rattle.syntect_linker.specs.Unlinked.{sub_context_text, truth_text, elsewhere_text}
+use Rattle.syntect_linker.specs.Unlinked.{sub_context_text, truth_text}
 use Rattle.syntect_linker.proofs.unlinked.elsewhere_text.Goals as goal
 
 joined : (s a t b x y z w : List ℕ) → x ≡ s → y ≡ x ++ a → z ≡ y ++ t → w ≡ z ++ b → w ≡ s ++ (a ++ (t ++ b))

@@ -1,4 +1,4 @@
-use Rattle.std.proofs.Common.{ap, ◌∙◌, List, ℕ}
+use Rattle.std.proofs.Common.{ap, ◌∙◌}
 use Rattle.serde_json.specs.View.{members_view}
 use Rattle.syntect_metadata.specs.Merging as merging
 use Rattle.syntect_metadata.specs.Merging.{put_at, with_members}

@@ -1,9 +1,11 @@
-use Rattle.syntect_grammar.specs.Folders.{at_grammar, no_memory}
+use Rattle.std.proofs.Common.{[]}
+use Rattle.syntect_grammar.specs.Folders.{at_grammar}
+use Rattle.syntect_loader.specs.Files.{refused, no_memory}
 use Rattle.syntect_grammar.proofs.FolderLaws.{adds_one}
 use Rattle.syntect_grammar.proofs.syntax_set.SyntaxSetBuilder.add_grammar.Goals as goal
 
 pub returns-in_default-clause-refusal : goal.returns-in_default-clause-refusal
-returns-in_default-clause-refusal g c = at_grammar c.requires no_memory
+returns-in_default-clause-refusal g c = at_grammar c.requires (refused {bytes = []} tt no_memory)
 
 pub returns-in-Ok-add_loaded-clause-ok : goal.returns-in-Ok-add_loaded-clause-ok
 returns-in-Ok-add_loaded-clause-ok g c =
@@ -12,7 +14,7 @@ returns-in-Ok-add_loaded-clause-ok g c =
     c.add_loaded.ensures.entries c.add_loaded.ensures.metadata
 
 pub returns-in-Err-add_loaded-clause-refusal : goal.returns-in-Err-add_loaded-clause-refusal
-returns-in-Err-add_loaded-clause-refusal g c = at_grammar c.requires no_memory
+returns-in-Err-add_loaded-clause-refusal g c = at_grammar c.requires (refused {bytes = []} tt no_memory)
 
 pub returns-in-Err-clause-refusal : goal.returns-in-Err-clause-refusal
 returns-in-Err-clause-refusal g c = at_grammar c.requires c.in-Err.ensures.err

@@ -1,5 +1,5 @@
 use Rattle.std.proofs.Common.{◌≡◌, map, drop}
-use Rattle.syntect_metadata.specs.Ranking.{first_of, pattern_for}
+use Rattle.syntect_metadata.specs.Ranking.{first_of}
 use Rattle.syntect_metadata.proofs.scoped.ScopedMetadata.line_comment.Given as goal
 
 abbrev pub invariant-loop-set : goal.invariant-loop-set

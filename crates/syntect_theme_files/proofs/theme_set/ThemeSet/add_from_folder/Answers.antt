@@ -5,7 +5,7 @@ use Rattle.syntect_theme_files.proofs.theme_set.ThemeSet.add_from_folder.Goals a
 
 pub returns-in-Ok-clause-err : goal.returns-in-Ok-clause-err
 returns-in-Ok-clause-err g c =
-    refused_in c.add_themes.result (path_bytes c.args.folder) c.in-Ok.found c.as_slice.result.now c.args.repository.now c.args.self.now.themes c.add_themes.new.self.themes
+    refused_in c.add_themes.result (path_bytes c.args.folder) c.in-Ok.found c.as_slice.result.now c.args.repository.now c.add_themes.new.repository c.args.self.now.themes c.add_themes.new.self.themes
     c.in-Ok.ensures.ok c.as_slice.ensures c.add_themes.ensures.err
 
 pub returns-in-Err-clause-err : goal.returns-in-Err-clause-err

@@ -1,8 +1,8 @@
 use Rattle.std.proofs.Common.{◌≢◌}
 use Rattle.syntect_base.specs.declared.syntax.ParseSyntaxError.TheVariants as syntax
-use Rattle.syntect_grammar.specs.Folders.{no_memory}
-use Rattle.syntect_grammar.proofs.FolderLaws.{told_with_path}
-use Rattle.syntect_grammar.proofs.folders.refused_file.Goals as goal
+use Rattle.syntect_loader.specs.Files.{no_memory}
+use Rattle.syntect_loader.proofs.SyntaxFileLaws.{told_with_path}
+use Rattle.syntect_loader.proofs.files.refused_file.Goals as goal
 
 pub returns-in-Memory : goal.returns-in-Memory
 returns-in-Memory c = λ newlines repo bytes u f. no_memory
