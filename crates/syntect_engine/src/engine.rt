@@ -46,23 +46,32 @@ impl Search {
             ≡ found_by text.now (trees_of program.now) start self.old)) }
         ensures ends { IfOk result (EndsWith steps.old steps.new) }
     {
+        // in a place of its own, which a processor keeps at hand
+        let mut left = steps.left;
         let mut next = start;
         'steps: loop {
-            if !steps.take() {
-                return Ok(None);
+            if left == 0 {
+                if steps.limited {
+                    steps.left = 0;
+                    return Ok(None);
+                }
+                left = usize::MAX;
             }
+            left -= 1;
             next = match next {
                 Next::Enter { node, list } => self.enter(program, text, node, list)?,
                 Next::Turn { turns, list } => self.turn(program, text, turns, list)?,
                 Next::Leave { list } => self.leave(program, text, list)?,
                 Next::Fail => {
                     let Some(next) = self.back(program, text)? else {
+                        steps.left = left;
                         return Ok(Some(false));
                     };
                     next
                 }
                 Next::Found => {
                     let Some(next) = self.finish()? else {
+                        steps.left = left;
                         return Ok(Some(true));
                     };
                     next

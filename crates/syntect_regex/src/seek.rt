@@ -1,6 +1,6 @@
 //! Searches whose time is bounded: one that backs up too often goes on cell by cell of the pattern's plan, which doesn't back
 //! up at all.
-ghost use Rattle.std.specs.Prelude.{◌≡◌, ◌≤◌, IfOk, None};
+ghost use Rattle.std.specs.Prelude.{◌≡◌, ◌≤◌, IfOk, false};
 ghost use Rattle.syntect_engine.specs.Machine.{FindsAt, FindsGroups, FindsUpTo, groups_of};
 
 use std::alloc::AllocError;
@@ -20,16 +20,20 @@ const STEPS: usize = 16384;
 #[inline]
 fn steps_in(text: &str) -> Steps {
     Steps {
-        left: Some(text.len().saturating_mul(STEPS_A_BYTE).saturating_add(STEPS)),
+        left: text.len().saturating_mul(STEPS_A_BYTE).saturating_add(STEPS),
+        limited: true,
     }
 }
 
 /// As many steps as it takes.
 #[inline]
 fn any_steps() -> Steps
-    ensures { result.left ≡ None }
+    ensures { result.limited ≡ false }
 {
-    Steps { left: None }
+    Steps {
+        left: usize::MAX,
+        limited: false,
+    }
 }
 
 /// Whether the program matches at the place or at a later one, of which the least counts. Where it does, the search's groups

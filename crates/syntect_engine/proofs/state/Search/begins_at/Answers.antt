@@ -1,4 +1,4 @@
-use Rattle.std.proofs.Common.{◌≡◌, Bool, false, get_or, replicate, None}
+use Rattle.std.proofs.Common.{◌≡◌, refl, Bool, false, get_or, replicate, None}
 use Rattle.std.specs.Prelude.{slice_get}
 use Rattle.syntect_pattern.specs.Trees.{nothing}
 use Rattle.syntect_pattern.specs.Matches.{matches}
@@ -13,7 +13,7 @@ pub returns-then-is_lost-clause-finds : goal.returns-then-is_lost-clause-finds
 returns-then-is_lost-clause-finds c = c.is_lost.ensures.lost c.if-is_lost.true
 
 pub returns-then-is_lost-clause-ends : goal.returns-then-is_lost-clause-ends
-returns-then-is_lost-clause-ends c = ended c.args.steps.now c.args.steps.now false (λ e. e)
+returns-then-is_lost-clause-ends c = ended c.args.steps.now c.args.steps.now false refl
 
 pub returns-clause-finds : goal.returns-clause-finds
 returns-clause-finds c =

@@ -1,4 +1,4 @@
-use Rattle.std.proofs.Common.{◌≡◌, None, ◌-◌, suc, length}
+use Rattle.std.proofs.Common.{◌≡◌, ◌-◌, suc, length}
 use Rattle.syntect_pattern.specs.Trees.{Tree}
 use Rattle.syntect_pattern.specs.Matches.{found}
 use Rattle.syntect_pattern_table.specs.Program.{IsProgramOf}
@@ -7,7 +7,7 @@ use Rattle.syntect_engine.proofs.state.Search.find.Given as goal
 abbrev pub invariant-loop-place : goal.invariant-loop-place
 invariant-loop-place l = record {
   same : (tree : Tree) → IsProgramOf l.program tree → found l.text tree l.place ≡ found l.text tree l.fn.begin;
-  unlimited : l.fn.steps.left ≡ None → l.steps.left ≡ None;
+  kept : l.steps.limited ≡ l.fn.steps.limited;
 }
 
 abbrev pub decreases-loop-place : goal.decreases-loop-place

@@ -24,4 +24,4 @@ steps-preserved c =
     let goes =
     finish-part c.args.text.now (trees_of c.args.program.now) c.steps.self c.finish.new.self c.in_ok-next-in-Found.field-0 c.steps.next c.in-Some-2.next
     c.in-Found.is c.in-Some-2.is c.steps.invariant.fits c.in_ok-next-in-Found.ensures.part c.in_ok-next-in-Found.ensures.has_part in
-    record { found = goes.found ∙ c.steps.invariant.found; fits = goes.fits; unlimited = λ e. c.take.ensures.unlimited (c.steps.invariant.unlimited e) }
+    record { found = goes.found ∙ c.steps.invariant.found; fits = goes.fits; kept = c.steps.invariant.kept }
