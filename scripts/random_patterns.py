@@ -219,7 +219,7 @@ class Reader:
             sign = self.peek()
             self.at += 1
             if sign == "-" and on:
-                on = False
+                on, some = False, False
             elif sign and sign in "imx":
                 new[sign], some = on, True
             else:
