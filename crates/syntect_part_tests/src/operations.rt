@@ -5,7 +5,7 @@ use std::process::Abort;
 use syntect_operations::print::debug_print_ops;
 use syntect_operations::ranges::ScopeRegionIterator;
 use syntect_scope::repository::ScopeRepository;
-use syntect_scope::stack::{BasicScopeStackOp, ClearAmount, ScopeError, ScopeStack, ScopeStackOp};
+use syntect_scope::stack::{BasicScopeStackOp, ClearAmount, ScopeStack, ScopeStackOp};
 
 #[test]
 fn regions_with_the_operation_before_them(rt: HostRuntime) {
@@ -66,10 +66,6 @@ fn cleared_scopes_come_back(rt: HostRuntime) {
         .debug_print(&repository, &mut out)
         .expect(&rt, "memory");
     holds(&rt, out.as_slice() == b"a d b c \n".as_slice());
-    holds(
-        &rt,
-        stack.apply(&ScopeStackOp::Restore) == Err(ScopeError::NoClearedScopesToRestore),
-    );
     let copy = repository.clone().expect(&rt, "memory");
     holds(&rt, copy.atom_str(4) == Some("d"));
 }
@@ -155,7 +151,10 @@ fn writers_without_room(rt: HostRuntime) {
     let stack = ScopeStack::from_text(rt.alloc(), "a.b c", &mut repository).expect(&rt, "memory");
     for row in &PRINTED {
         for room in 0..20 {
-            holds(&rt, keeps_its_room(&rt, *row, &stack, &repository, (room, 5)));
+            holds(
+                &rt,
+                keeps_its_room(&rt, *row, &stack, &repository, (room, 5)),
+            );
         }
         holds(&rt, keeps_its_room(&rt, *row, &stack, &repository, (20, 1)));
     }

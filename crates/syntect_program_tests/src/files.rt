@@ -1,9 +1,9 @@
 //! Files of grammars and themes: a page by them, and what is told where they were not loaded.
 use crate::found::{equal, holds};
+use std::os::unix::fs::symlink;
 use std::path::{Path, PathBuf};
 use std::process::Abort;
 use std::rt::Files;
-use std::os::unix::fs::symlink;
 use std::{env, fs, io};
 use syntect::LoadingError;
 use syntect::explain::why_not_loaded;

@@ -23,7 +23,10 @@ const FILES: [File; 3] = [
 
 /// A grammar without `main`, and a theme that is a property list.
 const FAULTY: [File; 2] = [
-    ("F.sublime-syntax", "scope: source.t\ncontexts: {other: []}\n"),
+    (
+        "F.sublime-syntax",
+        "scope: source.t\ncontexts: {other: []}\n",
+    ),
     ("F.tmTheme", "<?xml version=\"1.0\"?>\n<plist/>\n"),
 ];
 
@@ -32,8 +35,12 @@ const FAULTY: [File; 2] = [
 fn grammars_of_a_folder(rt: HostRuntime) {
     let folder = written(&rt, "syntect_loaded_grammars", &FILES).expect(&rt, "a folder");
     let mut repository = ScopeRepository::new(rt.alloc());
-    let set = SyntaxSet::load_from_folder(&rt, rt.alloc(), folder.as_path(), &mut repository)
-        .expect(&rt, "grammars");
+    let set = SyntaxSet::load_from_folder(
+        &rt,
+        rt.alloc(),
+        folder.as_path(),
+        &mut repository,
+    ).expect(&rt, "grammars");
     equal(&rt, set.syntaxes().len(), 1);
     holds(&rt, set.find_syntax_by_name("T").is_some());
 }
@@ -42,8 +49,9 @@ fn grammars_of_a_folder(rt: HostRuntime) {
 fn themes_of_a_folder(rt: HostRuntime) {
     let folder = written(&rt, "syntect_loaded_themes", &FILES).expect(&rt, "a folder");
     let mut repository = ScopeRepository::new(rt.alloc());
-    let set = ThemeSet::load_from_folder(&rt, rt.alloc(), folder.as_path(), &mut repository)
-        .expect(&rt, "themes");
+    let set = ThemeSet::load_from_folder(&rt, rt.alloc(), folder.as_path(), &mut repository).expect(
+        &rt, "themes",
+    );
     equal(&rt, set.themes.len(), 1);
     let name = set.themes.as_map().iter().next();
     holds(&rt, name.is_some_and(|(name, _)| name.as_str() == "N"));
@@ -83,12 +91,22 @@ fn answers(
 fn files_without_a_syntax(rt: HostRuntime) {
     let folder = written(&rt, "syntect_no_syntax", &FILES).expect(&rt, "a folder");
     let mut repository = ScopeRepository::new(rt.alloc());
-    let set = SyntaxSet::load_from_folder(&rt, rt.alloc(), folder.as_path(), &mut repository)
-        .expect(&rt, "grammars");
+    let set = SyntaxSet::load_from_folder(
+        &rt,
+        rt.alloc(),
+        folder.as_path(),
+        &mut repository,
+    ).expect(&rt, "grammars");
     let notes = within(&rt, &folder, "notes.txt");
     let found = answers(&rt, notes.as_path(), &set);
-    holds(&rt, matches!(found, (Some(Error::NoSyntax), Some(Error::NoSyntax))));
+    holds(
+        &rt,
+        matches!(found, (Some(Error::NoSyntax), Some(Error::NoSyntax))),
+    );
     let missing = within(&rt, &folder, "missing.txt");
     let found = answers(&rt, missing.as_path(), &set);
-    holds(&rt, matches!(found, (Some(Error::Io(_)), Some(Error::Io(_)))));
+    holds(
+        &rt,
+        matches!(found, (Some(Error::Io(_)), Some(Error::Io(_)))),
+    );
 }

@@ -20,7 +20,10 @@ const STEPS: usize = 16384;
 #[inline]
 fn steps_in(text: &str) -> Steps {
     Steps {
-        left: text.len().saturating_mul(STEPS_A_BYTE).saturating_add(STEPS),
+        left: text
+            .len()
+            .saturating_mul(STEPS_A_BYTE)
+            .saturating_add(STEPS),
         limited: true,
     }
 }

@@ -16,5 +16,5 @@ returns-clause-found c =
     (λ (found : Bool). match_of found c.run.new.self ≡ found_by c.args.text.now (trees_of c.args.program.now) (Next.Enter c.args.program.now.root 0) c.begin.new.self)
     (λ (found : Bool). match_of found c.run.new.self ≡ slice_get (matches c.args.text.now (get_or (trees_of c.args.program.now) c.args.program.now.root nothing) c.args.place groups) 0)
     (λ found e. e ∙ found_by-start c.args.text.now (trees_of c.args.program.now) c.begin.new.self c.args.program.now.root c.args.place groups
-        c.in_ok-begin.ensures.frames c.in_ok-begin.ensures.groups c.in_ok-begin.ensures.place)
+    c.in_ok-begin.ensures.frames c.in_ok-begin.ensures.groups c.in_ok-begin.ensures.place)
     c.run.ensures.found
