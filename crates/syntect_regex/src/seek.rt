@@ -1,11 +1,10 @@
 //! Searches whose time is bounded: one that backs up too often goes on cell by cell of the pattern's plan, which doesn't back
 //! up at all.
-ghost use Rattle.std.specs.Prelude.{◌≡◌, ◌≤◌, IfOk, false};
+ghost use Rattle.std.specs.Prelude.{◌≤◌, IfOk};
 ghost use Rattle.syntect_engine.specs.Machine.{FindsAt, FindsGroups, FindsUpTo, groups_of};
 
 use std::alloc::AllocError;
 use syntect_engine::state::Search;
-use syntect_engine::steps::Steps;
 use syntect_linear::find as planned;
 use syntect_linear::plan::Plan;
 use syntect_pattern_table::program::Program;
@@ -16,24 +15,10 @@ const STEPS_A_BYTE: usize = 64;
 
 const STEPS: usize = 16384;
 
-/// The steps that a search of the text may take.
+/// How many steps a search of the text may take.
 #[inline]
-fn steps_in(text: &str) -> Steps {
-    Steps {
-        left: text.len().saturating_mul(STEPS_A_BYTE).saturating_add(STEPS),
-        limited: true,
-    }
-}
-
-/// As many steps as it takes.
-#[inline]
-fn any_steps() -> Steps
-    ensures { result.limited ≡ false }
-{
-    Steps {
-        left: usize::MAX,
-        limited: false,
-    }
+fn steps_in(text: &str) -> usize {
+    text.len().saturating_mul(STEPS_A_BYTE).saturating_add(STEPS)
 }
 
 /// Whether the program matches at the place or at a later one, of which the least counts. Where it does, the search's groups
@@ -48,7 +33,8 @@ pub(crate) fn find(
     ensures { IfOk result (λ found.
         FindsGroups text.now program.now begin (groups_of found search.new)) }
 {
-    match search.find(program, text, begin, &mut steps_in(text))? {
+    search.left = steps_in(text);
+    match search.find(program, text, begin, true)? {
         Some(found) => Ok(found),
         None => find_planned(search, program, text, begin),
     }
@@ -69,7 +55,7 @@ fn find_planned(
     if let Some(plan) = Plan::new(alloc, program)? {
         return planned::find(alloc, program, &plan, text, begin, &mut search.groups);
     }
-    match search.find(program, text, begin, &mut any_steps())? {
+    match search.find(program, text, begin, false)? {
         Some(found) => Ok(found),
         None => Ok(false),
     }
@@ -88,7 +74,8 @@ pub(crate) fn find_up_to(
     ensures { IfOk result (λ found.
         FindsUpTo text.now program.now begin last (groups_of found search.new)) }
 {
-    match search.find_up_to(program, text, begin, last, &mut steps_in(text))? {
+    search.left = steps_in(text);
+    match search.find_up_to(program, text, begin, last, true)? {
         Some(found) => Ok(found),
         None => find_up_to_planned(search, program, text, begin, last),
     }
@@ -111,7 +98,7 @@ fn find_up_to_planned(
     if let Some(plan) = Plan::new(alloc, program)? {
         return planned::find_up_to(alloc, program, &plan, text, begin, last, &mut search.groups);
     }
-    match search.find_up_to(program, text, begin, last, &mut any_steps())? {
+    match search.find_up_to(program, text, begin, last, false)? {
         Some(found) => Ok(found),
         None => Ok(false),
     }
@@ -128,7 +115,8 @@ pub(crate) fn begins_at(
     ensures { IfOk result (λ found.
         FindsAt text.now program.now place (groups_of found search.new)) }
 {
-    match search.begins_at(program, text, place, &mut steps_in(text))? {
+    search.left = steps_in(text);
+    match search.begins_at(program, text, place, true)? {
         Some(found) => Ok(found),
         None => begins_planned(search, program, text, place),
     }
@@ -149,7 +137,7 @@ fn begins_planned(
     if let Some(plan) = Plan::new(alloc, program)? {
         return planned::begins_at(alloc, program, &plan, text, place, &mut search.groups);
     }
-    match search.begins_at(program, text, place, &mut any_steps())? {
+    match search.begins_at(program, text, place, false)? {
         Some(found) => Ok(found),
         None => Ok(false),
     }
