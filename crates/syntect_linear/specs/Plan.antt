@@ -49,6 +49,11 @@ plan_cells t = suc (cells_of true t)
 abbrev pub IsHard : ℕ → Tree → Type 0
 IsHard most t = (is_free t ≡ false) ⊎ (most < plan_cells t)
 
+-- it has one
+pub record IsEasy (most : ℕ) (t : Tree) : Type 0 where
+  pub free : is_free t ≡ true
+  pub few : plan_cells t ≤ most
+
 -- cell 0 is the end, each other one stands behind those that go on, and the trees are free
 pub record AreCells (ts : List Tree) (cells : List Cell) : Type 0 where
   pub some : 0 < length cells

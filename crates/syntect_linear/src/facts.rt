@@ -40,7 +40,8 @@ pub fn facts_at(facts: &[Facts], node: usize) -> Facts
 
 /// One part after the other.
 fn in_sequence(a: Facts, b: Facts) -> Facts
-    ensures { (t u : Tree) → a ≡ spec.facts_of t → b ≡ spec.facts_of u → result ≡ spec.facts_of (seq t u) }
+    ensures { (t u : Tree) → a ≡ spec.facts_of t → b ≡ spec.facts_of u
+        → result ≡ spec.facts_of (seq t u) }
 {
     Facts {
         reads: a.reads || b.reads,
@@ -52,7 +53,8 @@ fn in_sequence(a: Facts, b: Facts) -> Facts
 
 /// One of two parts.
 fn one_of_two(a: Facts, b: Facts) -> Facts
-    ensures { (t u : Tree) → a ≡ spec.facts_of t → b ≡ spec.facts_of u → result ≡ spec.facts_of (alt t u) }
+    ensures { (t u : Tree) → a ≡ spec.facts_of t → b ≡ spec.facts_of u
+        → result ≡ spec.facts_of (alt t u) }
 {
     Facts {
         reads: a.reads && b.reads,

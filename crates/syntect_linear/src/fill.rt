@@ -54,7 +54,8 @@ pub fn rows_from(
     requires plan { IsPlanOf program.now plan.now }
     requires sights { AreSights text.now (trees_of program.now) plan.now.behinds sights.now }
     requires begin { begin ≤ length text.now }
-    ensures rows { IfOk result (λ rows. AreRows text.now (trees_of program.now) plan.now.cells rows.items) }
+    ensures rows { IfOk result (λ rows. AreRows text.now (trees_of program.now) plan.now.cells
+        rows.items) }
     ensures count { IfOk result (λ rows. length rows.items + begin ≡ length text.now + 1) }
 {
     let mut rows = Vec::new(alloc);

@@ -36,7 +36,8 @@ fn begins_here(
 ) -> Result<bool, AllocError>
     requires covers { Covers ground.now begin }
     requires later { begin ≤ place }
-    ensures { IfOk result (λ found. FindsAt ground.now.text.now ground.now.program.now place (groups_of found groups.new.items)) }
+    ensures { IfOk result (λ found. FindsAt ground.now.text.now ground.now.program.now place
+        (groups_of found groups.new.items)) }
 {
     if !is_boundary(ground.text, place) {
         return Ok(false);
@@ -61,7 +62,8 @@ pub fn begins_at(
     groups: &mut Vec<Option<Span>>,
 ) -> Result<bool, AllocError>
     requires { IsPlanOf program.now plan.now }
-    ensures { IfOk result (λ found. FindsAt text.now program.now place (groups_of found groups.new.items)) }
+    ensures { IfOk result (λ found. FindsAt text.now program.now place (groups_of found
+        groups.new.items)) }
 {
     if place > text.len() {
         return Ok(false);
@@ -91,7 +93,8 @@ pub fn find_up_to(
 ) -> Result<bool, AllocError>
     requires plan { IsPlanOf program.now plan.now }
     requires order { begin ≤ last }
-    ensures { IfOk result (λ found. FindsUpTo text.now program.now begin last (groups_of found groups.new.items)) }
+    ensures { IfOk result (λ found. FindsUpTo text.now program.now begin last (groups_of found
+        groups.new.items)) }
 {
     if begin > text.len() {
         return Ok(false);
@@ -126,7 +129,8 @@ pub fn find(
     groups: &mut Vec<Option<Span>>,
 ) -> Result<bool, AllocError>
     requires { IsPlanOf program.now plan.now }
-    ensures { IfOk result (λ found. FindsGroups text.now program.now begin (groups_of found groups.new.items)) }
+    ensures { IfOk result (λ found. FindsGroups text.now program.now begin (groups_of found
+        groups.new.items)) }
 {
     if begin > text.len() {
         return Ok(false);

@@ -31,7 +31,7 @@ impl Plan {
     ghost use Rattle.syntect_linear.specs.Cells as spec;
     ghost use Rattle.syntect_linear.specs.Facts.{AreFacts};
     ghost use Rattle.syntect_linear.specs.Onward.{reads, is_free};
-    ghost use Rattle.syntect_linear.specs.Plan.{AreCells, IsHard, all_cells, plan_cells, CanPush, Pushes, PushesBoth, PushesMore, Expands, IsPlanned};
+    ghost use Rattle.syntect_linear.specs.Plan.{AreCells, IsEasy, IsHard, all_cells, plan_cells, CanPush, Pushes, PushesBoth, PushesMore, Expands, IsPlanned};
     ghost use Rattle.syntect_linear.specs.PlanOf.{IsPlanOf};
 
     /// Whether each match of the item reads something.
@@ -238,7 +238,8 @@ impl Plan {
         requires facts { AreFacts self.old.facts (trees_of program.now) }
         requires cells { AreCells (trees_of program.now) self.old.cells }
         requires inside { number < length self.old.cells }
-        ensures step { IfOk result (λ p. Expands (trees_of program.now) self.old.cells self.old.behinds number p self.new.cells self.new.behinds) }
+        ensures step { IfOk result (λ p. Expands (trees_of program.now) self.old.cells
+            self.old.behinds number p self.new.cells self.new.behinds) }
         ensures facts { self.new.facts ≡ self.old.facts }
         ensures parts { self.new.parts ≡ self.old.parts }
     {
@@ -265,11 +266,14 @@ impl Plan {
     /// The end and the whole pattern.
     fn begin(alloc: Global, program: &Program, facts: Seq<Facts>) -> Result<Plan, AllocError>
         requires facts { AreFacts facts (trees_of program.now) }
-        requires free { is_free (slice_index_or (trees_of program.now) program.now.root nothing) ≡ true }
+        requires free { is_free (slice_index_or (trees_of program.now) program.now.root nothing)
+            ≡ true }
         ensures facts { IfOk result (λ plan. AreFacts plan.facts (trees_of program.now)) }
         ensures none { IfOk result (λ plan. plan.parts ≡ []) }
-        ensures cost { IfOk result (λ plan. all_cells (trees_of program.now) plan.cells ≡ plan_cells (slice_index_or (trees_of program.now) program.now.root nothing)) }
-        ensures planned { IfOk result (λ plan. IsPlanned (trees_of program.now) plan.cells plan.parts plan.behinds program.now.root) }
+        ensures cost { IfOk result (λ plan. all_cells (trees_of program.now) plan.cells
+            ≡ plan_cells (slice_index_or (trees_of program.now) program.now.root nothing)) }
+        ensures planned { IfOk result (λ plan. IsPlanned (trees_of program.now) plan.cells
+            plan.parts plan.behinds program.now.root) }
     {
         let mut cells = Seq::new(alloc);
         cells.push(Cell {
@@ -293,6 +297,8 @@ impl Plan {
         ensures plan { IfOk result (λ found. IfSome found (λ plan. IsPlanOf program.now plan)) }
         ensures count { IfOk result (λ found. IfSome found (λ plan. length plan.cells
             ≡ plan_cells (slice_index_or (trees_of program.now) program.now.root nothing))) }
+        ensures easy { IfOk result (λ found. IfSome found (λ plan. IsEasy MOST
+            (slice_index_or (trees_of program.now) program.now.root nothing))) }
         ensures none { IfOk result (λ found. IfNone found (IsHard MOST
             (slice_index_or (trees_of program.now) program.now.root nothing))) }
     {
