@@ -14,3 +14,4 @@ pub mod SequenceLaws
 pub mod LoopLaws
 pub mod SightLaws
 pub mod FindLaws
+pub mod StepsLaws
