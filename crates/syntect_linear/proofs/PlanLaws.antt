@@ -6,7 +6,7 @@ use Rattle.std.proofs.lemmas.Bool.{cases_lt}
 use Rattle.std.proofs.lemmas.List.{get_or_append_left, get_or_past}
 use Rattle.std.proofs.Math.Seq.{get_or-append_seam}
 use Rattle.syntect_pattern.specs.Trees.{Tree, nothing, one_of, anchor, same, seq, alt, repeat, group, atomic, ahead, behind}
-use Rattle.syntect_linear.specs.Onward.{reads, is_free}
+use Rattle.syntect_linear.specs.Onward.{reads, is_free, is_calm}
 use Rattle.syntect_linear.specs.Cells.{last_cell, cell_at, parts_at, item_tree, is_end}
 use Rattle.syntect_linear.specs.Plan.{AreCells, Grows, IsCell, IsPart, Extends, CanPush, Pushes, PushesBoth, PushesMore, turn_cells, more_cells, cells_of, cell_cells, all_cells, plan_cells, IsSequence, IsTurn, TurnIs, LooksFor, IsStep, IsStepOf, Expands, IsPlanned}
 use Rattle.syntect_linear.specs.declared.cells.Item.{Item}
@@ -126,7 +126,7 @@ pub expands-loop : (ts : List Tree) (old mid new : List Cell) (bs : List ℕ) (k
 expands-loop ts old mid new bs k c greedy least most body first more cells pos inside is some tree m h2 =
     let a : Tree = slice_index_or ts body nothing in
     let empty : c.empty < length old = let l = cells.empty k pos inside in let e = ap (λ (x : Cell). x.empty) is in omega arith in
-    let free : is_free a ≡ true = ap is_free (sym tree) ∙ ap (λ (x : Cell). is_free (item_tree ts x.item)) (sym is) ∙ cells.free k in
+    let free : is_free a ≡ true = and_left (is_free a) (is_calm a) (ap is_free (sym tree) ∙ ap (λ (x : Cell). is_free (item_tree ts x.item)) (sym is) ∙ cells.free k) in
     let n = h2 m.extends.cells (record { empty = let l = m.extends.grows.longer in omega arith; next = m.part.cell.inside; free = free }) in
     let all = extends-join ts old mid new m.extends n.extends in
     let rest : Tree = repeat greedy (least - 1) (option_map (λ k. k - 1) most) a in
@@ -193,7 +193,7 @@ more-is ts old new number c greedy least less most fewer body more cells pos ins
     let w : ℕ = cells_of (reads a) a in
     let next : c.next < length old = let z = cells.next number pos inside in let e = ap (λ (x : Cell). x.next) is in omega arith in
     let empty : c.empty < length old = let z = cells.empty number pos inside in let e = ap (λ (x : Cell). x.empty) is in omega arith in
-    let free : is_free a ≡ true = ap is_free (sym tree) ∙ ap (λ (x : Cell). is_free (item_tree ts x.item)) (sym is) ∙ cells.free number in
+    let free : (is_free a && is_calm a) ≡ true = ap is_free (sym tree) ∙ ap (λ (x : Cell). is_free (item_tree ts x.item)) (sym is) ∙ cells.free number in
     let p = h cells (record { empty = next; next = next; free = free }) in
     let same_tree : repeat greedy less fewer a ≡ repeat greedy (least - 1) (option_map (λ j. j - 1) most) a = ap (λ (n : ℕ). repeat greedy n fewer a) l ∙ ap (λ (o : Option ℕ). repeat greedy (least - 1) o a) f in
     record {
