@@ -15,3 +15,4 @@ pub mod LoopLaws
 pub mod SightLaws
 pub mod FindLaws
 pub mod StepsLaws
+pub mod CostLaws
