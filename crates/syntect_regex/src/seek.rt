@@ -8,6 +8,7 @@ use syntect_engine::state::Search;
 use syntect_linear::find as planned;
 use syntect_linear::plan::Plan;
 use syntect_pattern_table::program::Program;
+use syntect_turns::count::TurnCount;
 
 /// How many steps a search may take for each byte of the text, and beside them. Few searches of real patterns take a tenth of
 /// that; a plan takes a step for each of its cells at each byte.
@@ -53,7 +54,8 @@ fn find_planned(
 {
     let alloc = *search.frames.allocator();
     if let Some(plan) = Plan::new(alloc, program)? {
-        return planned::find(alloc, program, &plan, text, begin, &mut search.groups);
+        let mut count = TurnCount::none();
+        return planned::find(alloc, program, &plan, text, begin, &mut search.groups, &mut count);
     }
     match search.find(program, text, begin, false)? {
         Some(found) => Ok(found),
@@ -96,7 +98,8 @@ fn find_up_to_planned(
 {
     let alloc = *search.frames.allocator();
     if let Some(plan) = Plan::new(alloc, program)? {
-        return planned::find_up_to(alloc, program, &plan, text, begin, last, &mut search.groups);
+        let mut count = TurnCount::none();
+        return planned::find_up_to(alloc, program, &plan, text, begin, last, &mut search.groups, &mut count);
     }
     match search.find_up_to(program, text, begin, last, false)? {
         Some(found) => Ok(found),
@@ -135,7 +138,8 @@ fn begins_planned(
 {
     let alloc = *search.frames.allocator();
     if let Some(plan) = Plan::new(alloc, program)? {
-        return planned::begins_at(alloc, program, &plan, text, place, &mut search.groups);
+        let mut count = TurnCount::none();
+        return planned::begins_at(alloc, program, &plan, text, place, &mut search.groups, &mut count);
     }
     match search.begins_at(program, text, place, false)? {
         Some(found) => Ok(found),
