@@ -6,7 +6,7 @@ use Rattle.syntect_pattern.specs.Matches.{Groups, matches}
 use Rattle.syntect_engine.specs.declared.state.Frame.{Frame}
 use Rattle.syntect_engine.specs.declared.state.Next.{Next}
 use Rattle.syntect_engine.specs.declared.state.Search.{Search}
-use Rattle.syntect_engine.specs.Machine.{On, none, one, search, list_at, end, pending, tree_at, bound_of, found_by}
+use Rattle.syntect_engine.specs.Machine.{On, none, one, search, list_at, end, pending, tree_at, bound_of, found_by, Fits}
 use Rattle.syntect_engine.proofs.MachineLaws.{list_at-nil, pending-found}
 use Rattle.syntect_engine.proofs.FirstLaws.{search-end}
 
@@ -35,10 +35,10 @@ module _ (s : List ℕ) (ts : List Tree) where
       ∙ ap (λ (j : ℕ). (search s (tree_at s ts root) (end s ts) j g).found) hi
       ∙ search-end s ts (tree_at s ts root) i g
 
-pub if_ok_along : {A M E : Type 0} (r : Result A E) (f : A → M) (a b : M) → a ≡ b → IfOk r (λ x. f x ≡ a) → IfOk r (λ x. f x ≡ b)
-if_ok_along (Ok x) f a b e h = h ∙ e
-if_ok_along (Err x) f a b e h = tt
-
 pub none_holds : {A : Type 0} (o : Option A) (P : Type 0) → o ≡ None → IfNone o P → P
 none_holds None P e h = h
 none_holds (Some x) P e h = cc
+
+-- how many steps are left makes no difference
+pub fits-left : (s : List ℕ) (next : Next) (x : Search) (n : ℕ) → Fits s next x → Fits s next (record x { left = n })
+fits-left s next x n f = record { cells = f.cells; frames = f.frames; list = f.list; place = f.place; groups = f.groups }

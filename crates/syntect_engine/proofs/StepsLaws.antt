@@ -1,12 +1,6 @@
--- The answers of searches whose steps are counted.
-use Rattle.std.proofs.Common.{◌≡◌, Bool, Some, None, subst}
+-- The answers of searches that are limited.
+use Rattle.std.proofs.Common.{◌≡◌, Some, None, subst}
 use Rattle.std.specs.Prelude.{Option, Result, Ok, Err, IfOk, IfSome}
-use Rattle.syntect_engine.specs.Steps.{EndsWith}
-use Rattle.syntect_engine.specs.declared.steps.Steps.{Steps}
-
--- a search that has an answer
-pub ended : (old new : Steps) (b : Bool) → new.limited ≡ old.limited → EndsWith old new (Some b)
-ended old new b k = record { spent = λ (e : Some b ≡ None). cc; short = λ (e : Some b ≡ None). cc; kept = k }
 
 -- what holds of an answer, if there is one
 pub answer_map : {A E : Type 0} (r : Result (Option A) E) (P Q : A → Type 0) → ((x : A) → P x → Q x) → IfOk r (λ o. IfSome o P) → IfOk r (λ o. IfSome o Q)

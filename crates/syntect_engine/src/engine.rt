@@ -5,7 +5,6 @@ ghost use Rattle.syntect_engine.specs.Machine.{FindsAt};
 use crate::dead::is_dead;
 use crate::lines::{is_at_lines, next_start};
 use crate::state::{Next, Search};
-use crate::steps::Steps;
 use std::alloc::AllocError;
 use syntect_pattern_table::program::Program;
 use syntect_ways::text::is_boundary;
@@ -31,47 +30,38 @@ impl Search {
     ghost use Rattle.syntect_pattern.specs.Trees.{nothing};
     ghost use Rattle.syntect_pattern.specs.Matches.{matches};
     ghost use Rattle.syntect_engine.specs.Machine.{Fits, found_by, match_of, groups_of, FindsGroups, FindsUpTo};
-    ghost use Rattle.syntect_engine.specs.Steps.{EndsWith};
 
-    /// Takes steps until a match is found or nothing is left to try. None where no step is left before that.
+    /// Takes steps until a match is found or nothing is left to try. None where the search is limited, and no step is left before that.
     fn run(
         &mut self,
         program: &Program,
         text: &str,
         start: Next,
-        steps: &mut Steps,
+        limited: bool,
     ) -> Result<Option<bool>, AllocError>
         requires fits { Fits text.now start self.old }
         ensures found { IfOk result (λ r. IfSome r (λ found. match_of found self.new
             ≡ found_by text.now (trees_of program.now) start self.old)) }
-        ensures ends { IfOk result (EndsWith steps.old steps.new) }
+        ensures short { IfOk result (λ r. r ≡ None → limited ≡ true) }
     {
-        // in a place of its own, which a processor keeps at hand
-        let mut left = steps.left;
         let mut next = start;
         'steps: loop {
-            if left == 0 {
-                if steps.limited {
-                    steps.left = 0;
-                    return Ok(None);
-                }
-                left = usize::MAX;
+            if limited && self.left == 0 {
+                return Ok(None);
             }
-            left -= 1;
+            self.left = self.left.wrapping_sub(1);
             next = match next {
                 Next::Enter { node, list } => self.enter(program, text, node, list)?,
                 Next::Turn { turns, list } => self.turn(program, text, turns, list)?,
                 Next::Leave { list } => self.leave(program, text, list)?,
                 Next::Fail => {
                     let Some(next) = self.back(program, text)? else {
-                        steps.left = left;
                         return Ok(Some(false));
                     };
                     next
                 }
                 Next::Found => {
                     let Some(next) = self.finish()? else {
-                        steps.left = left;
                         return Ok(Some(true));
                     };
                     next
@@ -81,60 +71,60 @@ impl Search {
     }
 
     /// Whether the program matches at the place, where a character begins or the text ends. Where it does, the search's place
-    /// is the match's end, and its groups are the match's. None where the steps don't suffice.
+    /// is the match's end, and its groups are the match's. None where it is limited, and the steps that are left don't suffice.
     fn is_at(
         &mut self,
         program: &Program,
         text: &str,
         place: usize,
-        steps: &mut Steps,
+        limited: bool,
     ) -> Result<Option<bool>, AllocError>
         requires place { IsCharBoundary text.now place }
         ensures found { IfOk result (λ r. IfSome r (λ found. match_of found self.new
             ≡ slice_get (matches text.now
             (slice_index_or (trees_of program.now) program.now.root nothing) place
             (replicate program.now.groups None)) 0)) }
-        ensures ends { IfOk result (EndsWith steps.old steps.new) }
+        ensures short { IfOk result (λ r. r ≡ None → limited ≡ true) }
     {
         self.begin(program.groups, place)?;
         let start = Next::Enter {
             node: program.root,
             list: 0,
         };
-        self.run(program, text, start, steps)
+        self.run(program, text, start, limited)
     }
 
     /// Whether a match begins at the place, which it does on boundaries of characters alone. Where it does, the search's
-    /// groups are the match's. None where the steps don't suffice.
+    /// groups are the match's. None where it is limited, and the steps that are left don't suffice.
     pub fn begins_at(
         &mut self,
         program: &Program,
         text: &str,
         place: usize,
-        steps: &mut Steps,
+        limited: bool,
     ) -> Result<Option<bool>, AllocError>
         ensures finds { IfOk result (λ r. IfSome r (λ found.
             FindsAt text.now program.now place (groups_of found self.new))) }
-        ensures ends { IfOk result (EndsWith steps.old steps.new) }
+        ensures short { IfOk result (λ r. r ≡ None → limited ≡ true) }
     {
         if is_lost(program, text, place) {
             return Ok(Some(false));
         }
-        self.is_at(program, text, place, steps)
+        self.is_at(program, text, place, limited)
     }
 
     /// Whether the program matches at the place or at a later one, of which the least counts. Where it does, the search's
-    /// groups are the match's. None where the steps don't suffice.
+    /// groups are the match's. None where it is limited, and the steps that are left don't suffice.
     pub fn find(
         &mut self,
         program: &Program,
         text: &str,
         begin: usize,
-        steps: &mut Steps,
+        limited: bool,
     ) -> Result<Option<bool>, AllocError>
         ensures finds { IfOk result (λ r. IfSome r (λ found.
             FindsGroups text.now program.now begin (groups_of found self.new))) }
-        ensures ends { IfOk result (EndsWith steps.old steps.new) }
+        ensures short { IfOk result (λ r. r ≡ None → limited ≡ true) }
     {
         if begin > text.len() {
             return Ok(Some(false));
@@ -153,7 +143,7 @@ impl Search {
                 };
                 behind = next;
             }
-            match self.begins_at(program, text, place, steps)? {
+            match self.begins_at(program, text, place, limited)? {
                 Some(true) => return Ok(Some(true)),
                 Some(false) => {}
                 None => return Ok(None),
@@ -164,19 +154,19 @@ impl Search {
     }
 
     /// Whether the program matches at the place or at a later one up to `last`, of which the least counts. Where it does,
-    /// the search's groups are the match's. None where the steps don't suffice.
+    /// the search's groups are the match's. None where it is limited, and the steps that are left don't suffice.
     pub fn find_up_to(
         &mut self,
         program: &Program,
         text: &str,
         begin: usize,
         last: usize,
-        steps: &mut Steps,
+        limited: bool,
     ) -> Result<Option<bool>, AllocError>
         requires { begin ≤ last }
         ensures finds { IfOk result (λ r. IfSome r (λ found.
             FindsUpTo text.now program.now begin last (groups_of found self.new))) }
-        ensures ends { IfOk result (EndsWith steps.old steps.new) }
+        ensures short { IfOk result (λ r. r ≡ None → limited ≡ true) }
     {
         let end = if last < text.len() {
             last + 1
@@ -197,7 +187,7 @@ impl Search {
                 };
                 behind = needed;
             }
-            let begins = self.begins_at(program, text, place, steps)?;
+            let begins = self.begins_at(program, text, place, limited)?;
             match begins {
                 Some(true) => return Ok(Some(true)),
                 Some(false) => {}

@@ -8,6 +8,5 @@ mod enter;
 mod lines;
 mod pass;
 pub mod state;
-pub mod steps;
 mod stretch;
 mod turns;

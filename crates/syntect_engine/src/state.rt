@@ -115,6 +115,8 @@ pub struct Search {
     pub frames: Vec<Frame>,
     pub groups: Vec<Option<Span>>,
     pub place: usize,
+    /// How many steps are left, where the search is limited.
+    pub left: usize,
 }
 
 impl Search {
@@ -127,6 +129,7 @@ impl Search {
             frames: Vec::new(alloc),
             groups: Vec::new(alloc),
             place: 0,
+            left: 0,
         }
     }
 

@@ -9,9 +9,9 @@ use Rattle.syntect_pattern.specs.Matches.{Groups, Member, Way, only_if, past, pr
 use Rattle.syntect_pattern.proofs.Each.{Each, each_of}
 use Rattle.syntect_pattern_laws.proofs.TurnLaws.{matches-forward}
 use Rattle.syntect_ways.specs.Steps.{after_char}
-use Rattle.syntect_linear.specs.Onward.{Onward, reaches, chosen, moved, is_free, is_bare, reads, onward, prefer_end, turn_end, end_if}
+use Rattle.syntect_linear.specs.Onward.{Onward, reaches, chosen, moved, is_free, is_calm, is_bare, reads, onward, prefer_end, turn_end, end_if}
 use Rattle.syntect_linear.proofs.ReachLaws.{Leads, chosen-append, some-chosen, chosen-some, reaches-ends, reaches-flat_map, chosen-flat_map, chosen-alike, reaches-alike, reaches-chosen}
-use Rattle.syntect_linear.proofs.TreeLaws.{ends-matches, bare-groups, behind-matches}
+use Rattle.syntect_linear.proofs.TreeLaws.{and_left, ends-matches, bare-groups, behind-matches}
 use Rattle.syntect_linear.proofs.OnwardLaws.{moved-at, moved-past, moved-same, at-or-past, Ahead, following, then-moved, turn-moved, leads, same-place, other-place, onward-alike, turn-leads, turn-room}
 
 -- the match is the one that is chosen of these
@@ -159,7 +159,7 @@ module _ (s : List ℕ) (u : IsUtf8 s) where
       by more None f e = more e
       by more (Some v) f e = let same : x ≡ m = cc in ap is_some (ap (λ (y : Member). F y.0) (sym same) ∙ f)
 
-  module _ (greedy : Bool) (least : ℕ) (most : Option ℕ) (a : Tree) (free : is_free a ≡ true) (f g : Onward) (i : ℕ) (h : Groups) (c : IsCharBoundary s i) where
+  module _ (greedy : Bool) (least : ℕ) (most : Option ℕ) (a : Tree) (free : (is_free a && is_calm a) ≡ true) (f g : Onward) (i : ℕ) (h : Groups) (c : IsCharBoundary s i) where
     -- the loop behind a turn
     abbrev rest : Tree
     rest = repeat greedy (least - 1) (option_map (λ k. k - 1) most) a
@@ -179,7 +179,7 @@ module _ (s : List ℕ) (u : IsUtf8 s) where
         reaches-flat_map (Ahead s u i) (moved i f g) (moved i (moved i f g) (onward s rest (moved i f g)))
         (λ m. after_turn (m.0 == i) more m.0 m.1) (matches s a i h) (matches-forward s u a i h c)
         (turn-leads s u greedy (least - 1) (option_map (λ k. k - 1) most) a free (moved i f g) i)
-        ∙ reaches-any a free (moved i (moved i f g) (onward s rest (moved i f g))) i h
+        ∙ reaches-any a (and_left _ _ free) (moved i (moved i f g) (onward s rest (moved i f g))) i h
         ∙ onward-alike s u a (moved i (moved i f g) (onward s rest (moved i f g))) turned i c (λ j l d. turn-moved s u rest f g i j l d)
 
     turn-chosen : (m : Member) → chosen turned (matches s a i h) ≡ Some m → chosen (moved i f g) (turn i h) ≡ chosen (moved i f g) (after_turn (m.0 == i) more m.0 m.1)

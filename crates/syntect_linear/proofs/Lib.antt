@@ -14,3 +14,5 @@ pub mod SequenceLaws
 pub mod LoopLaws
 pub mod SightLaws
 pub mod FindLaws
+pub mod StepsLaws
+pub mod CostLaws

@@ -1,13 +1,13 @@
 -- Along the match, turn by turn.
 use Rattle.std.proofs.Common.{◌≡◌, ℕ, zero, suc, ◌+◌, ◌-◌, ◌<◌, ◌≤◌, List, [], ◌∷◌, length, Bool, true, false, Option, Some, None, refl, sym, ap, subst, ◌∙◌, arith, inl, inr, ◌⊎◌}
-use Rattle.std.specs.Prelude.{if◌then◌else◌, ◌==◌, not, is_some, slice_set, option_map, option_and_then, unwrap_or, IsUtf8, IsCharBoundary}
+use Rattle.std.specs.Prelude.{◌&&◌, if◌then◌else◌, ◌==◌, not, is_some, slice_set, option_map, option_and_then, unwrap_or, IsUtf8, IsCharBoundary}
 use Rattle.std.specs.Option.{option_or}
 use Rattle.syntect_pattern.specs.Text.{char_at}
 use Rattle.syntect_pattern.specs.Sets.{Set, holds}
 use Rattle.syntect_pattern.specs.Trees.{Anchor, Tree, nothing, one_of, anchor, same, seq, alt, repeat, group, atomic, ahead, behind}
 use Rattle.syntect_pattern.specs.Matches.{Groups, Member, only_if, look, close, after_turn, turns, matches}
 use Rattle.syntect_pattern_table.specs.Program.{trees_of}
-use Rattle.syntect_linear.specs.Onward.{Onward, chosen, reaches, moved, reads, onward, is_free, is_bare, end_if, has_turn, turn_end, prefer_end}
+use Rattle.syntect_linear.specs.Onward.{Onward, chosen, reaches, moved, reads, onward, is_free, is_calm, is_bare, end_if, has_turn, turn_end, prefer_end}
 use Rattle.syntect_linear.specs.Cells.{cell_at, parts_at, item_tree, is_end, tree_size}
 use Rattle.syntect_linear.specs.Ground.{IsReady, IsIn, ends_at}
 use Rattle.syntect_linear.specs.Step.{IsTreeAt}
@@ -59,7 +59,7 @@ module _ (x : Ground) (k place : ℕ) (g : Groups) (filled : IsFilled x place) (
   y : IsAt x.text.now (trees_of x.program.now) x.plan.now.cells x.plan.now.parts x.plan.now.behinds k (repeat greedy least most a)
   y = tree-at x place k (repeat greedy least most a) filled.ready here
 
-  fr : is_free a ≡ true
+  fr : (is_free a && is_calm a) ≡ true
   fr = free x.text.now ts cells x.plan.now.parts x.plan.now.behinds k (repeat greedy least most a) y
 
   u : IsUtf8 x.text.now

@@ -11,7 +11,7 @@ use Rattle.syntect_pattern.specs.Matches.{Groups, Member, Way, only_if, past, pr
 use Rattle.syntect_pattern.proofs.Each.{Each, each_of}
 use Rattle.syntect_pattern_laws.proofs.TurnLaws.{matches-forward, turns_enough}
 use Rattle.syntect_ways.specs.Steps.{after_char}
-use Rattle.syntect_linear.specs.Onward.{Onward, reaches, chosen, moved, is_free, reads, onward, prefer_end, turn_end, end_if}
+use Rattle.syntect_linear.specs.Onward.{Onward, reaches, chosen, moved, is_free, is_calm, reads, onward, prefer_end, turn_end, end_if}
 use Rattle.syntect_linear.proofs.ReachLaws.{SameEnds, Leads, Alike, reaches-append, chosen-append, reaches-ends, reaches-flat_map, chosen-flat_map, reaches-alike, chosen-alike}
 use Rattle.syntect_linear.proofs.TreeLaws.{ends-matches, and_left, and_right, behind-matches}
 
@@ -167,7 +167,7 @@ module _ (s : List ℕ) where
         let inside = c.0 in
         turns_enough s a greedy (length s - i) (suc (length s - j)) least most j h u c (omega (arith, l, inside)) (omega arith)
 
-    pub turn-leads : (greedy : Bool) (least : ℕ) (most : Option ℕ) (a : Tree) → is_free a ≡ true → (F : Onward) (i : ℕ)
+    pub turn-leads : (greedy : Bool) (least : ℕ) (most : Option ℕ) (a : Tree) → (is_free a && is_calm a) ≡ true → (F : Onward) (i : ℕ)
         → Leads (Ahead i) F (λ m. after_turn (m.0 == i) (turns (matches s a) greedy (length s - i) least most) m.0 m.1) (moved i F (onward s (repeat greedy least most a) F))
     unfolding onward
     turn-leads greedy least most a e F i m p =
@@ -187,7 +187,7 @@ module _ (s : List ℕ) where
             ∙ leads (repeat greedy least most a) e F (Ahead i) m p
             ∙ sym (moved-past i m.0 F (onward s (repeat greedy least most a) F) l)
 
-    turn-part : (greedy : Bool) (least : ℕ) (most : Option ℕ) (a : Tree) → is_free a ≡ true → (F : Onward) (i : ℕ) → IsCharBoundary s i
+    turn-part : (greedy : Bool) (least : ℕ) (most : Option ℕ) (a : Tree) → (is_free a && is_calm a) ≡ true → (F : Onward) (i : ℕ) → IsCharBoundary s i
         → onward s (repeat greedy least most a) F i
         ≡ prefer_end greedy (turn_end most (onward s a (moved i F (onward s (repeat greedy (least - 1) (option_map (λ k. k - 1) most) a) F)) i)) (end_if (least == 0) (F i))
     unfolding onward
@@ -216,7 +216,7 @@ module _ (s : List ℕ) where
         ]
 
     -- a loop: a turn that reads nothing leaves it
-    pub onward-repeat : (greedy : Bool) (least : ℕ) (most : Option ℕ) (a : Tree) → is_free a ≡ true → (f g : Onward) (i : ℕ) → IsCharBoundary s i
+    pub onward-repeat : (greedy : Bool) (least : ℕ) (most : Option ℕ) (a : Tree) → (is_free a && is_calm a) ≡ true → (f g : Onward) (i : ℕ) → IsCharBoundary s i
         → onward s (repeat greedy least most a) (moved i f g) i
         ≡ prefer_end greedy (turn_end most (onward s a (moved i f (following (repeat greedy (least - 1) (option_map (λ k. k - 1) most) a) g g)) i)) (end_if (least == 0) (f i))
     onward-repeat greedy least most a e f g i c =

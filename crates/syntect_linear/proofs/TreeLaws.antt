@@ -128,7 +128,7 @@ module _ (s : List ℕ) where
       (λ m n f. rw f (ends-matches b (and_right (is_free a) _ e) n.0 m.1 n.1))
   ends-matches (alt a b) e i g h =
       ends-append _ _ _ _ (ends-matches a (and_left _ _ e) i g h) (ends-matches b (and_right (is_free a) _ e) i g h)
-  ends-matches (repeat greedy least most a) e i g h = ends-turns (matches s a) greedy (ends-matches a e) (suc (length s - i)) least most i g h
+  ends-matches (repeat greedy least most a) e i g h = ends-turns (matches s a) greedy (ends-matches a (and_left _ _ e)) (suc (length s - i)) least most i g h
   ends-matches (group n a) e i g h = ends-map (close n i) (close n i) _ _ (ends-matches a e i g h) (λ m n f. f)
   ends-matches (atomic a) e i g h = ends-take _ _ (ends-matches a e i g h)
   ends-matches (ahead negated a) e i g h = ends-look negated i g h _ _ (ends-matches a e i g h)

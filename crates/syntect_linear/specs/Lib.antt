@@ -8,3 +8,4 @@ pub mod Ground
 pub mod Step
 pub mod Walk
 pub mod Finds
+pub mod Steps

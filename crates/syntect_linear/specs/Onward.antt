@@ -42,21 +42,31 @@ plain (seq a b) = plain a && plain b
 plain (alt a b) = plain a && plain b
 plain _ = false
 
--- there is no back reference, and what lookbehinds look for is plain
+-- the tree has no group
+abbrev pub is_bare : Tree → Bool
+is_bare t = looks_fail (λ _. true) true t
+
+-- no lookahead that sets groups stands in the tree
+abbrev pub is_calm : Tree → Bool
+is_calm (seq a b) = is_calm a && is_calm b
+is_calm (alt a b) = is_calm a && is_calm b
+is_calm (repeat greedy least most a) = is_calm a
+is_calm (group n a) = is_calm a
+is_calm (atomic a) = is_calm a
+is_calm (ahead negated a) = negated || is_bare a
+is_calm _ = true
+
+-- there is no back reference, what lookbehinds look for is plain, and no lookahead in a loop sets groups
 abbrev pub is_free : Tree → Bool
 is_free (same fold n) = false
 is_free (seq a b) = is_free a && is_free b
 is_free (alt a b) = is_free a && is_free b
-is_free (repeat greedy least most a) = is_free a
+is_free (repeat greedy least most a) = is_free a && is_calm a
 is_free (group n a) = is_free a
 is_free (atomic a) = is_free a
 is_free (ahead negated a) = is_free a
 is_free (behind negated a) = plain a
 is_free _ = true
-
--- the tree has no group
-abbrev pub is_bare : Tree → Bool
-is_bare t = looks_fail (λ _. true) true t
 
 module _ (s : List ℕ) where
   -- the end of the whole match, where the tree is matched from the place on and then what follows goes on

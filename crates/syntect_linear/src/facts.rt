@@ -20,6 +20,8 @@ pub struct Facts {
     pub free: bool,
     /// There is no group.
     pub bare: bool,
+    /// No lookahead there sets groups.
+    pub calm: bool,
 }
 
 /// A node that reads nothing.
@@ -28,6 +30,7 @@ const STAYS: Facts = Facts {
     plain: true,
     free: true,
     bare: true,
+    calm: true,
 };
 
 /// What is known of the node with the number.
@@ -40,25 +43,29 @@ pub fn facts_at(facts: &[Facts], node: usize) -> Facts
 
 /// One part after the other.
 fn in_sequence(a: Facts, b: Facts) -> Facts
-    ensures { (t u : Tree) → a ≡ spec.facts_of t → b ≡ spec.facts_of u → result ≡ spec.facts_of (seq t u) }
+    ensures { (t u : Tree) → a ≡ spec.facts_of t → b ≡ spec.facts_of u
+        → result ≡ spec.facts_of (seq t u) }
 {
     Facts {
         reads: a.reads || b.reads,
         plain: a.plain && b.plain,
         free: a.free && b.free,
         bare: a.bare && b.bare,
+        calm: a.calm && b.calm,
     }
 }
 
 /// One of two parts.
 fn one_of_two(a: Facts, b: Facts) -> Facts
-    ensures { (t u : Tree) → a ≡ spec.facts_of t → b ≡ spec.facts_of u → result ≡ spec.facts_of (alt t u) }
+    ensures { (t u : Tree) → a ≡ spec.facts_of t → b ≡ spec.facts_of u
+        → result ≡ spec.facts_of (alt t u) }
 {
     Facts {
         reads: a.reads && b.reads,
         plain: a.plain && b.plain,
         free: a.free && b.free,
         bare: a.bare && b.bare,
+        calm: a.calm && b.calm,
     }
 }
 
@@ -74,12 +81,14 @@ fn node_facts(node: &Node, before: &[Facts]) -> Facts
             plain: true,
             free: true,
             bare: true,
+            calm: true,
         },
         Node::Same { fold: _, group: _ } => Facts {
             reads: false,
             plain: false,
             free: false,
             bare: true,
+            calm: true,
         },
         Node::Sequence(first, second) => {
             in_sequence(facts_at(before, *first), facts_at(before, *second))
@@ -97,8 +106,9 @@ fn node_facts(node: &Node, before: &[Facts]) -> Facts
             Facts {
                 reads: *least > 0 && body.reads,
                 plain: false,
-                free: body.free,
+                free: body.free && body.calm,
                 bare: body.bare,
+                calm: body.calm,
             }
         }
         Node::Group { number: _, body } => {
@@ -108,19 +118,21 @@ fn node_facts(node: &Node, before: &[Facts]) -> Facts
                 plain: false,
                 free: body.free,
                 bare: false,
+                calm: body.calm,
             }
         }
         Node::Atomic(body) => Facts {
             plain: false,
             ..facts_at(before, *body)
         },
-        Node::Ahead { negated: _, body } => {
+        Node::Ahead { negated, body } => {
             let body = facts_at(before, *body);
             Facts {
                 reads: false,
                 plain: false,
                 free: body.free,
                 bare: body.bare,
+                calm: *negated || body.bare,
             }
         }
         Node::Behind { negated: _, body } => {
@@ -130,6 +142,7 @@ fn node_facts(node: &Node, before: &[Facts]) -> Facts
                 plain: false,
                 free: body.plain,
                 bare: body.bare,
+                calm: true,
             }
         }
     }

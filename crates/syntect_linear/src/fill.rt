@@ -1,42 +1,70 @@
 //! The rows of a text, from its end on.
-ghost use Rattle.std.specs.Prelude.{◌≡◌, ◌<◌, ◌≤◌, ◌+◌, ◌-◌, ℕ, None, IfOk, IsCharBoundary, List, length, slice_index_or};
+ghost use Rattle.std.specs.Prelude.{◌≡◌, ◌<◌, ◌≤◌, replicate, ◌+◌, ◌-◌, ◌*◌, ℕ, None, IfOk, OnOk, IsCharBoundary, List, length, slice_index_or};
 ghost use Rattle.syntect_pattern_table.specs.Program.{trees_of};
 ghost use Rattle.syntect_linear.specs.Ground.{IsIn, IsReady, Knows, ends_at};
 ghost use Rattle.syntect_linear.specs.PlanOf.{IsPlanOf};
 ghost use Rattle.syntect_linear.specs.Rows.{AreRows, AreSights};
+ghost use Rattle.syntect_linear.specs.Steps.{unknown};
 
 use crate::ground::{Ground, Known};
 use crate::plan::Plan;
 use crate::reach::reach;
 use std::alloc::{AllocError, Global};
 use syntect_pattern_table::program::Program;
+use syntect_turns::count::TurnCount;
 use syntect_values::seq::Seq;
 use syntect_ways::text::is_boundary;
 
+/// Nothing is known of so many cells.
+fn nothing_known(alloc: Global, count: usize) -> Result<Known, AllocError>
+    ensures { IfOk result (λ now. now.items ≡ replicate count None) }
+{
+    let mut now = Vec::new(alloc);
+    for _cell in 0..count {
+        now.push(None)?;
+    }
+    Ok(now)
+}
+
 /// What is known of a place before anything is. The last cells come first, since most cells go on with them, so that calls
 /// lie in one another less.
-fn known_of(alloc: Global, ground: &Ground, place: usize) -> Result<Known, AllocError>
+fn known_of(
+    alloc: Global,
+    ground: &Ground,
+    count: &mut TurnCount,
+    place: usize,
+) -> Result<Known, AllocError>
     requires { IsReady ground.now place }
-    ensures { IfOk result (λ now. Knows ground.now place now.items) }
+    ensures knows { IfOk result (λ now. Knows ground.now place now.items) }
+    ensures long { IfOk result (λ now. length now.items ≡ length ground.now.plan.now.cells) }
+    ensures steps { IfOk result (λ now. count.new.made + 4 * unknown now.items
+        ≤ count.old.made + 5 * length ground.now.plan.now.cells) }
 {
     let cells = ground.plan.cells.len();
-    let mut now = vec![in alloc; None; cells]?;
+    let mut now = nothing_known(alloc, cells)?;
     for back in 0..cells {
-        let _ = reach(ground, &mut now, place, cells - 1 - back);
+        let _ = reach(ground, &mut now, count, place, cells - 1 - back);
     }
     Ok(now)
 }
 
 /// Where the whole match ends from each cell at a place.
-fn row_of(alloc: Global, ground: &Ground, place: usize) -> Result<Seq<Option<usize>>, AllocError>
+fn row_of(
+    alloc: Global,
+    ground: &Ground,
+    count: &mut TurnCount,
+    place: usize,
+) -> Result<Seq<Option<usize>>, AllocError>
     requires { IsReady ground.now place }
-    ensures { IfOk result (λ row. (k : ℕ) → IsIn ground.now k
+    ensures ends { IfOk result (λ row. (k : ℕ) → IsIn ground.now k
         → slice_index_or row k None ≡ ends_at ground.now k place) }
+    ensures steps { OnOk result (count.new.made
+        ≤ count.old.made + 6 * length ground.now.plan.now.cells) }
 {
-    let mut now = known_of(alloc, ground, place)?;
+    let mut now = known_of(alloc, ground, count, place)?;
     let mut row = Vec::with_capacity(alloc, now.len())?;
     for cell in 0..ground.plan.cells.len() {
-        let end = reach(ground, &mut now, place, cell);
+        let end = reach(ground, &mut now, count, place, cell);
         row.push(end)?;
     }
     Ok(Seq::from_vec(row))
@@ -50,12 +78,16 @@ pub fn rows_from(
     text: &str,
     sights: &[Seq<bool>],
     begin: usize,
+    count: &mut TurnCount,
 ) -> Result<Vec<Seq<Option<usize>>>, AllocError>
     requires plan { IsPlanOf program.now plan.now }
     requires sights { AreSights text.now (trees_of program.now) plan.now.behinds sights.now }
     requires begin { begin ≤ length text.now }
-    ensures rows { IfOk result (λ rows. AreRows text.now (trees_of program.now) plan.now.cells rows.items) }
-    ensures count { IfOk result (λ rows. length rows.items + begin ≡ length text.now + 1) }
+    ensures rows { IfOk result (λ rows. AreRows text.now (trees_of program.now) plan.now.cells
+        rows.items) }
+    ensures there { IfOk result (λ rows. length rows.items + begin ≡ length text.now + 1) }
+    ensures steps { OnOk result (count.new.made
+        ≤ count.old.made + 6 * length plan.now.cells * (length text.now + 1)) }
 {
     let mut rows = Vec::new(alloc);
     let mut left = text.len() - begin + 1;
@@ -70,7 +102,7 @@ pub fn rows_from(
         };
         let place = begin + left;
         let row = if is_boundary(text, place) {
-            row_of(alloc, &ground, place)?
+            row_of(alloc, &ground, count, place)?
         } else {
             Seq::new(alloc)
         };

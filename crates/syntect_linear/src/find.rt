@@ -1,5 +1,5 @@
 //! The search of a pattern, in steps that are bounded by the pattern times the text.
-ghost use Rattle.std.specs.Prelude.{◌≡◌, ◌≤◌, IfOk, None, replicate};
+ghost use Rattle.std.specs.Prelude.{◌≡◌, ◌≤◌, ◌+◌, ◌*◌, IfOk, OnOk, None, length, replicate};
 ghost use Rattle.syntect_linear.specs.Finds.{Covers, FindsAt, FindsGroups, FindsUpTo, groups_of};
 ghost use Rattle.syntect_linear.specs.PlanOf.{IsPlanOf};
 
@@ -10,6 +10,7 @@ use crate::sight::sights_of;
 use crate::walk::{Span, leads, walk};
 use std::alloc::{AllocError, Global};
 use syntect_pattern_table::program::Program;
+use syntect_turns::count::TurnCount;
 use syntect_ways::text::is_boundary;
 
 /// The cell of the whole pattern.
@@ -36,7 +37,8 @@ fn begins_here(
 ) -> Result<bool, AllocError>
     requires covers { Covers ground.now begin }
     requires later { begin ≤ place }
-    ensures { IfOk result (λ found. FindsAt ground.now.text.now ground.now.program.now place (groups_of found groups.new.items)) }
+    ensures { IfOk result (λ found. FindsAt ground.now.text.now ground.now.program.now place
+        (groups_of found groups.new.items)) }
 {
     if !is_boundary(ground.text, place) {
         return Ok(false);
@@ -59,15 +61,19 @@ pub fn begins_at(
     text: &str,
     place: usize,
     groups: &mut Vec<Option<Span>>,
+    count: &mut TurnCount,
 ) -> Result<bool, AllocError>
     requires { IsPlanOf program.now plan.now }
-    ensures { IfOk result (λ found. FindsAt text.now program.now place (groups_of found groups.new.items)) }
+    ensures finds { IfOk result (λ found. FindsAt text.now program.now place (groups_of found
+        groups.new.items)) }
+    ensures steps { OnOk result (count.new.made
+        ≤ count.old.made + 6 * length plan.now.cells * (length text.now + 1)) }
 {
     if place > text.len() {
         return Ok(false);
     }
     let sights = sights_of(alloc, program, plan, text)?;
-    let rows = rows_from(alloc, program, plan, text, sights.as_slice(), place)?;
+    let rows = rows_from(alloc, program, plan, text, sights.as_slice(), place, count)?;
     let ground = Ground {
         program,
         plan,
@@ -88,16 +94,20 @@ pub fn find_up_to(
     begin: usize,
     last: usize,
     groups: &mut Vec<Option<Span>>,
+    count: &mut TurnCount,
 ) -> Result<bool, AllocError>
     requires plan { IsPlanOf program.now plan.now }
     requires order { begin ≤ last }
-    ensures { IfOk result (λ found. FindsUpTo text.now program.now begin last (groups_of found groups.new.items)) }
+    ensures finds { IfOk result (λ found. FindsUpTo text.now program.now begin last (groups_of found
+        groups.new.items)) }
+    ensures steps { OnOk result (count.new.made
+        ≤ count.old.made + 6 * length plan.now.cells * (length text.now + 1)) }
 {
     if begin > text.len() {
         return Ok(false);
     }
     let sights = sights_of(alloc, program, plan, text)?;
-    let rows = rows_from(alloc, program, plan, text, sights.as_slice(), begin)?;
+    let rows = rows_from(alloc, program, plan, text, sights.as_slice(), begin, count)?;
     let ground = Ground {
         program,
         plan,
@@ -124,12 +134,16 @@ pub fn find(
     text: &str,
     begin: usize,
     groups: &mut Vec<Option<Span>>,
+    count: &mut TurnCount,
 ) -> Result<bool, AllocError>
     requires { IsPlanOf program.now plan.now }
-    ensures { IfOk result (λ found. FindsGroups text.now program.now begin (groups_of found groups.new.items)) }
+    ensures finds { IfOk result (λ found. FindsGroups text.now program.now begin (groups_of found
+        groups.new.items)) }
+    ensures steps { OnOk result (count.new.made
+        ≤ count.old.made + 6 * length plan.now.cells * (length text.now + 1)) }
 {
     if begin > text.len() {
         return Ok(false);
     }
-    find_up_to(alloc, program, plan, text, begin, text.len(), groups)
+    find_up_to(alloc, program, plan, text, begin, text.len(), groups, count)
 }

@@ -1,5 +1,5 @@
 //! The plan of a search: the cells of a pattern.
-ghost use Rattle.std.specs.Prelude.{◌≡◌, ℕ, ◌<◌, ◌-◌, [], IfOk, IfSome, List, length, option_map, slice_index_or, true};
+ghost use Rattle.std.specs.Prelude.{◌≡◌, ℕ, ◌<◌, ◌-◌, [], IfOk, IfNone, IfSome, List, length, option_map, slice_index_or, is_none, ◌&&◌, ◌==◌, Some, true};
 ghost use Rattle.syntect_pattern.specs.Trees.{Tree, alt, nothing, repeat, seq};
 
 use crate::cells::{Cell, Item, Parts, cell_at};
@@ -31,7 +31,7 @@ impl Plan {
     ghost use Rattle.syntect_linear.specs.Cells as spec;
     ghost use Rattle.syntect_linear.specs.Facts.{AreFacts};
     ghost use Rattle.syntect_linear.specs.Onward.{reads, is_free};
-    ghost use Rattle.syntect_linear.specs.Plan.{AreCells, CanPush, Pushes, PushesBoth, PushesPart, Expands, IsPlanned};
+    ghost use Rattle.syntect_linear.specs.Plan.{AreCells, IsEasy, IsHard, all_cells, plan_cells, CanPush, Pushes, PushesBoth, PushesMore, Expands, IsPlanned};
     ghost use Rattle.syntect_linear.specs.PlanOf.{IsPlanOf};
 
     /// Whether each match of the item reads something.
@@ -101,14 +101,15 @@ impl Plan {
         body: usize,
     ) -> Result<usize, AllocError>
         ensures cells { IfOk result (λ more. (ts : List Tree) → AreFacts self.old.facts ts
-            → AreCells ts self.old.cells → number < length self.old.cells
-            → spec.cell_at self.old.cells number ≡ cell → cell.next < length self.old.cells
+            → AreCells ts self.old.cells → 0 < number → number < length self.old.cells
+            → spec.cell_at self.old.cells number ≡ cell
             → spec.item_tree ts cell.item ≡ repeat greedy least most (slice_index_or ts body nothing)
-            → PushesPart ts self.old.cells (repeat greedy (least - 1) (option_map (λ k. k - 1) most)
-            (slice_index_or ts body nothing)) cell.next more self.new.cells) }
+            → (most ≡ Some 0 → ⊥)
+            → PushesMore ts self.old.cells cell greedy least most (slice_index_or ts body nothing)
+            more self.new.cells) }
         ensures others { self.new ≡ record self.old { cells = self.new.cells } }
     {
-        if least == 0 && most.is_none() && cell.empty == cell.next {
+        if stays_same(cell, least, most) {
             return Ok(number);
         }
         let item = Item::Turns {
@@ -237,7 +238,8 @@ impl Plan {
         requires facts { AreFacts self.old.facts (trees_of program.now) }
         requires cells { AreCells (trees_of program.now) self.old.cells }
         requires inside { number < length self.old.cells }
-        ensures step { IfOk result (λ p. Expands (trees_of program.now) self.old.cells self.old.behinds number p self.new.cells self.new.behinds) }
+        ensures step { IfOk result (λ p. Expands (trees_of program.now) self.old.cells
+            self.old.behinds number p self.new.cells self.new.behinds) }
         ensures facts { self.new.facts ≡ self.old.facts }
         ensures parts { self.new.parts ≡ self.old.parts }
     {
@@ -264,10 +266,14 @@ impl Plan {
     /// The end and the whole pattern.
     fn begin(alloc: Global, program: &Program, facts: Seq<Facts>) -> Result<Plan, AllocError>
         requires facts { AreFacts facts (trees_of program.now) }
-        requires free { is_free (slice_index_or (trees_of program.now) program.now.root nothing) ≡ true }
+        requires free { is_free (slice_index_or (trees_of program.now) program.now.root nothing)
+            ≡ true }
         ensures facts { IfOk result (λ plan. AreFacts plan.facts (trees_of program.now)) }
         ensures none { IfOk result (λ plan. plan.parts ≡ []) }
-        ensures planned { IfOk result (λ plan. IsPlanned (trees_of program.now) plan.cells plan.parts plan.behinds program.now.root) }
+        ensures cost { IfOk result (λ plan. all_cells (trees_of program.now) plan.cells
+            ≡ plan_cells (slice_index_or (trees_of program.now) program.now.root nothing)) }
+        ensures planned { IfOk result (λ plan. IsPlanned (trees_of program.now) plan.cells
+            plan.parts plan.behinds program.now.root) }
     {
         let mut cells = Seq::new(alloc);
         cells.push(Cell {
@@ -288,7 +294,13 @@ impl Plan {
     /// The plan of a program. There is none for a pattern that has a back reference or a lookbehind for more than characters,
     /// anchors, sequences and branches, nor where too many cells are needed.
     pub fn new(alloc: Global, program: &Program) -> Result<Option<Plan>, AllocError>
-        ensures { IfOk result (λ found. IfSome found (λ plan. IsPlanOf program.now plan)) }
+        ensures plan { IfOk result (λ found. IfSome found (λ plan. IsPlanOf program.now plan)) }
+        ensures count { IfOk result (λ found. IfSome found (λ plan. length plan.cells
+            ≡ plan_cells (slice_index_or (trees_of program.now) program.now.root nothing))) }
+        ensures easy { IfOk result (λ found. IfSome found (λ plan. IsEasy MOST
+            (slice_index_or (trees_of program.now) program.now.root nothing))) }
+        ensures none { IfOk result (λ found. IfNone found (IsHard MOST
+            (slice_index_or (trees_of program.now) program.now.root nothing))) }
     {
         let facts = facts_of(alloc, program.nodes.as_slice())?;
         if !facts_at(facts.as_slice(), program.root).free {
@@ -305,6 +317,13 @@ impl Plan {
         }
         Ok(Some(plan))
     }
+}
+
+/// Whether the cell's loop is the same behind a turn.
+fn stays_same(cell: Cell, least: u32, most: Option<u32>) -> bool
+    ensures { result ≡ ((least == 0) && (is_none most && (cell.empty == cell.next))) }
+{
+    least == 0 && most.is_none() && cell.empty == cell.next
 }
 
 /// One turn less, if there is a limit.

@@ -1,29 +1,41 @@
 //! Where the whole match ends from a cell at a place, by the rows of the places behind it.
-ghost use Rattle.std.specs.Prelude.{◌≡◌, true, not, if◌then◌else◌};
+ghost use Rattle.std.specs.Prelude.{◌≡◌, ◌<◌, ℕ, suc, length, true, not, if◌then◌else◌};
 ghost use Rattle.syntect_linear.specs.Onward.{end_if, has_turn, prefer_end};
-ghost use Rattle.syntect_linear.specs.Ground.{IsIn, IsReady, Knows, ends_at};
+ghost use Rattle.syntect_linear.specs.Ground.{IsIn, IsReady, Knows, ends_at, height_of};
+ghost use Rattle.syntect_linear.specs.Steps.{Takes};
 ghost use Rattle.syntect_linear.specs.Step.{IsLoopAt, IsNodeAt};
 
 use crate::cells::{Item, cell_at, parts_at};
 use crate::ground::{Ground, Known};
 use crate::rows::{end_at, end_from, flag_at, keep, known_at};
 use syntect_pattern_table::node::Node;
+use syntect_turns::count::TurnCount;
 use syntect_ways::anchor::stands;
 use syntect_ways::past::{past_char, past_class};
 
 /// Where the whole match ends, if the cell goes on at the place.
 #[cycle(reach)]
-pub fn reach(ground: &Ground, now: &mut Known, place: usize, cell: usize) -> Option<usize>
+pub fn reach(
+    ground: &Ground,
+    now: &mut Known,
+    count: &mut TurnCount,
+    place: usize,
+    cell: usize,
+) -> Option<usize>
     requires ready { IsReady ground.now place }
     requires cell { IsIn ground.now cell }
     requires known { Knows ground.now place now.old.items }
+    requires long { length now.old.items ≡ length ground.now.plan.now.cells }
     ensures value { result ≡ ends_at ground.now cell place }
     ensures known { Knows ground.now place now.new.items }
+    ensures steps { Takes ground.now (suc (height_of ground.now cell)) now.old.items count.old.made
+        now.new.items count.new.made 1 }
 {
+    count.tick();
     if let Some(known) = known_at(now.as_slice(), cell) {
         return known;
     }
-    let end = reach_item(ground, now, place, cell);
+    let end = reach_item(ground, now, count, place, cell);
     keep(now, cell, end);
     end
 }
@@ -33,6 +45,7 @@ pub fn reach(ground: &Ground, now: &mut Known, place: usize, cell: usize) -> Opt
 fn reach_if(
     ground: &Ground,
     now: &mut Known,
+    count: &mut TurnCount,
     place: usize,
     cell: usize,
     test: bool,
@@ -40,11 +53,14 @@ fn reach_if(
     requires ready { IsReady ground.now place }
     requires cell { test ≡ true → IsIn ground.now cell }
     requires known { Knows ground.now place now.old.items }
+    requires long { length now.old.items ≡ length ground.now.plan.now.cells }
     ensures value { result ≡ end_if test (ends_at ground.now cell place) }
     ensures known { Knows ground.now place now.new.items }
+    ensures steps { (high : ℕ) → (test ≡ true → height_of ground.now cell < high)
+        → Takes ground.now high now.old.items count.old.made now.new.items count.new.made 1 }
 {
     if test {
-        reach(ground, now, place, cell)
+        reach(ground, now, count, place, cell)
     } else {
         None
     }
@@ -52,12 +68,21 @@ fn reach_if(
 
 /// The same as `reach`, by the cell's item.
 #[cycle(reach)]
-fn reach_item(ground: &Ground, now: &mut Known, place: usize, cell: usize) -> Option<usize>
+fn reach_item(
+    ground: &Ground,
+    now: &mut Known,
+    count: &mut TurnCount,
+    place: usize,
+    cell: usize,
+) -> Option<usize>
     requires ready { IsReady ground.now place }
     requires cell { IsIn ground.now cell }
     requires known { Knows ground.now place now.old.items }
+    requires long { length now.old.items ≡ length ground.now.plan.now.cells }
     ensures value { result ≡ ends_at ground.now cell place }
     ensures known { Knows ground.now place now.new.items }
+    ensures steps { Takes ground.now (height_of ground.now cell) now.old.items count.old.made
+        now.new.items count.new.made 2 }
 {
     let at = cell_at(ground.plan.cells.as_slice(), cell);
     match at.item {
@@ -67,10 +92,10 @@ fn reach_item(ground: &Ground, now: &mut Known, place: usize, cell: usize) -> Op
             least,
             most,
             body: _,
-        } => reach_loop(ground, now, place, cell, greedy, least, most),
+        } => reach_loop(ground, now, count, place, cell, greedy, least, most),
         Item::Node(node) => match ground.program.node(node) {
-            Some(node) => reach_node(ground, now, place, cell, node),
-            None => reach(ground, now, place, at.empty),
+            Some(node) => reach_node(ground, now, count, place, cell, node),
+            None => reach(ground, now, count, place, at.empty),
         },
     }
 }
@@ -80,6 +105,7 @@ fn reach_item(ground: &Ground, now: &mut Known, place: usize, cell: usize) -> Op
 fn reach_node(
     ground: &Ground,
     now: &mut Known,
+    count: &mut TurnCount,
     place: usize,
     cell: usize,
     node: &Node,
@@ -87,13 +113,16 @@ fn reach_node(
     requires ready { IsReady ground.now place }
     requires node { IsNodeAt ground.now cell node.now }
     requires known { Knows ground.now place now.old.items }
+    requires long { length now.old.items ≡ length ground.now.plan.now.cells }
     ensures value { result ≡ ends_at ground.now cell place }
     ensures known { Knows ground.now place now.new.items }
+    ensures steps { Takes ground.now (height_of ground.now cell) now.old.items count.old.made
+        now.new.items count.new.made 2 }
 {
     let at = cell_at(ground.plan.cells.as_slice(), cell);
     let parts = parts_at(ground.plan.parts.as_slice(), cell);
     match node {
-        Node::Nothing => reach(ground, now, place, at.empty),
+        Node::Nothing => reach(ground, now, count, place, at.empty),
         Node::Char(wanted) => {
             let next = past_char(ground.text, place, *wanted);
             end_from(ground.rows, ground.text, next, at.next)
@@ -104,37 +133,37 @@ fn reach_node(
         }
         Node::Anchor(anchor) => {
             let holds = stands(ground.text, place, *anchor);
-            reach_if(ground, now, place, at.empty, holds)
+            reach_if(ground, now, count, place, at.empty, holds)
         }
         Node::Same { fold: _, group: _ } => None,
-        Node::Sequence(_, _) => reach(ground, now, place, parts.first),
+        Node::Sequence(_, _) => reach(ground, now, count, place, parts.first),
         Node::Alternation(_, _) => {
-            if let Some(end) = reach(ground, now, place, parts.first) {
+            if let Some(end) = reach(ground, now, count, place, parts.first) {
                 return Some(end);
             }
-            reach(ground, now, place, parts.second)
+            reach(ground, now, count, place, parts.second)
         }
         Node::Repeat {
             greedy,
             least,
             most,
             body: _,
-        } => reach_loop(ground, now, place, cell, *greedy, *least, *most),
-        Node::Group { number: _, body: _ } => reach(ground, now, place, parts.first),
+        } => reach_loop(ground, now, count, place, cell, *greedy, *least, *most),
+        Node::Group { number: _, body: _ } => reach(ground, now, count, place, parts.first),
         Node::Atomic(_) => {
-            let end = reach(ground, now, place, parts.first)?;
+            let end = reach(ground, now, count, place, parts.first)?;
             if end == place {
-                return reach(ground, now, place, at.empty);
+                return reach(ground, now, count, place, at.empty);
             }
             end_at(ground.rows, ground.text.len().saturating_sub(end), at.next)
         }
         Node::Ahead { negated, body: _ } => {
-            let found = reach(ground, now, place, parts.first).is_some();
-            reach_if(ground, now, place, at.empty, looks(found, *negated))
+            let found = reach(ground, now, count, place, parts.first).is_some();
+            reach_if(ground, now, count, place, at.empty, looks(found, *negated))
         }
         Node::Behind { negated, body: _ } => {
             let found = flag_at(ground.sights, parts.first, place);
-            reach_if(ground, now, place, at.empty, looks(found, *negated))
+            reach_if(ground, now, count, place, at.empty, looks(found, *negated))
         }
     }
 }
@@ -144,6 +173,7 @@ fn reach_node(
 fn reach_loop(
     ground: &Ground,
     now: &mut Known,
+    count: &mut TurnCount,
     place: usize,
     cell: usize,
     greedy: bool,
@@ -153,13 +183,16 @@ fn reach_loop(
     requires ready { IsReady ground.now place }
     requires turns { IsLoopAt ground.now cell greedy least most }
     requires known { Knows ground.now place now.old.items }
+    requires long { length now.old.items ≡ length ground.now.plan.now.cells }
     ensures value { result ≡ ends_at ground.now cell place }
     ensures known { Knows ground.now place now.new.items }
+    ensures steps { Takes ground.now (height_of ground.now cell) now.old.items count.old.made
+        now.new.items count.new.made 2 }
 {
     let at = cell_at(ground.plan.cells.as_slice(), cell);
     let parts = parts_at(ground.plan.parts.as_slice(), cell);
-    let turn = reach_if(ground, now, place, parts.first, may_turn(most));
-    let leave = reach_if(ground, now, place, at.empty, least == 0);
+    let turn = reach_if(ground, now, count, place, parts.first, may_turn(most));
+    let leave = reach_if(ground, now, count, place, at.empty, least == 0);
     prefer(greedy, turn, leave)
 }
 

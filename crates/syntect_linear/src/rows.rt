@@ -40,7 +40,8 @@ pub fn end_from(
     place: Option<usize>,
     cell: usize,
 ) -> Option<usize>
-    ensures { result ≡ option_and_then (λ j. spec.row_end rows.now (length text.now - j) cell) place }
+    ensures { result ≡ option_and_then (λ j. spec.row_end rows.now (length text.now - j) cell)
+        place }
 {
     match place {
         Some(place) => end_at(rows, text.len().saturating_sub(place), cell),

@@ -91,7 +91,8 @@ fn past_single(
 
 /// The places in one row or the other.
 fn either(alloc: Global, one: &[bool], other: &[bool]) -> Result<Vec<bool>, AllocError>
-    ensures { IfOk result (λ row. (j : ℕ) → flag_of row.items j ≡ (flag_of one.now j || flag_of other.now j)) }
+    ensures { IfOk result (λ row. (j : ℕ) → flag_of row.items j
+        ≡ (flag_of one.now j || flag_of other.now j)) }
 {
     let mut row = Vec::new(alloc);
     for place in 0..one.len().max(other.len()) {
@@ -111,7 +112,8 @@ fn past(
     requires utf8 { IsUtf8 text.now }
     requires plain { plain (slice_index_or (trees_of program.now) node nothing) ≡ true }
     requires bounds { AreBounds text.now before.now }
-    ensures { IfOk result (λ row. IsImage text.now (slice_index_or (trees_of program.now) node nothing) before.now row.items) }
+    ensures { IfOk result (λ row. IsImage text.now (slice_index_or (trees_of program.now) node
+        nothing) before.now row.items) }
 {
     match program.node(node) {
         Some(Node::Sequence(first, second)) => {
@@ -147,7 +149,8 @@ pub fn sights_of(
     text: &str,
 ) -> Result<Vec<Seq<bool>>, AllocError>
     requires { IsPlanOf program.now plan.now }
-    ensures { IfOk result (λ sights. AreSights text.now (trees_of program.now) plan.now.behinds sights.items) }
+    ensures { IfOk result (λ sights. AreSights text.now (trees_of program.now) plan.now.behinds
+        sights.items) }
 {
     let mut sights = Vec::new(alloc);
     if plan.behinds.is_empty() {

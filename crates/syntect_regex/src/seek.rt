@@ -1,14 +1,14 @@
 //! Searches whose time is bounded: one that backs up too often goes on cell by cell of the pattern's plan, which doesn't back
 //! up at all.
-ghost use Rattle.std.specs.Prelude.{◌≡◌, ◌≤◌, IfOk, false};
+ghost use Rattle.std.specs.Prelude.{◌≤◌, IfOk};
 ghost use Rattle.syntect_engine.specs.Machine.{FindsAt, FindsGroups, FindsUpTo, groups_of};
 
 use std::alloc::AllocError;
 use syntect_engine::state::Search;
-use syntect_engine::steps::Steps;
 use syntect_linear::find as planned;
 use syntect_linear::plan::Plan;
 use syntect_pattern_table::program::Program;
+use syntect_turns::count::TurnCount;
 
 /// How many steps a search may take for each byte of the text, and beside them. Few searches of real patterns take a tenth of
 /// that; a plan takes a step for each of its cells at each byte.
@@ -16,27 +16,10 @@ const STEPS_A_BYTE: usize = 64;
 
 const STEPS: usize = 16384;
 
-/// The steps that a search of the text may take.
+/// How many steps a search of the text may take.
 #[inline]
-fn steps_in(text: &str) -> Steps {
-    Steps {
-        left: text
-            .len()
-            .saturating_mul(STEPS_A_BYTE)
-            .saturating_add(STEPS),
-        limited: true,
-    }
-}
-
-/// As many steps as it takes.
-#[inline]
-fn any_steps() -> Steps
-    ensures { result.limited ≡ false }
-{
-    Steps {
-        left: usize::MAX,
-        limited: false,
-    }
+fn steps_in(text: &str) -> usize {
+    text.len().saturating_mul(STEPS_A_BYTE).saturating_add(STEPS)
 }
 
 /// Whether the program matches at the place or at a later one, of which the least counts. Where it does, the search's groups
@@ -51,7 +34,8 @@ pub(crate) fn find(
     ensures { IfOk result (λ found.
         FindsGroups text.now program.now begin (groups_of found search.new)) }
 {
-    match search.find(program, text, begin, &mut steps_in(text))? {
+    search.left = steps_in(text);
+    match search.find(program, text, begin, true)? {
         Some(found) => Ok(found),
         None => find_planned(search, program, text, begin),
     }
@@ -70,9 +54,10 @@ fn find_planned(
 {
     let alloc = *search.frames.allocator();
     if let Some(plan) = Plan::new(alloc, program)? {
-        return planned::find(alloc, program, &plan, text, begin, &mut search.groups);
+        let mut count = TurnCount::none();
+        return planned::find(alloc, program, &plan, text, begin, &mut search.groups, &mut count);
     }
-    match search.find(program, text, begin, &mut any_steps())? {
+    match search.find(program, text, begin, false)? {
         Some(found) => Ok(found),
         None => Ok(false),
     }
@@ -91,7 +76,8 @@ pub(crate) fn find_up_to(
     ensures { IfOk result (λ found.
         FindsUpTo text.now program.now begin last (groups_of found search.new)) }
 {
-    match search.find_up_to(program, text, begin, last, &mut steps_in(text))? {
+    search.left = steps_in(text);
+    match search.find_up_to(program, text, begin, last, true)? {
         Some(found) => Ok(found),
         None => find_up_to_planned(search, program, text, begin, last),
     }
@@ -112,9 +98,10 @@ fn find_up_to_planned(
 {
     let alloc = *search.frames.allocator();
     if let Some(plan) = Plan::new(alloc, program)? {
-        return planned::find_up_to(alloc, program, &plan, text, begin, last, &mut search.groups);
+        let mut count = TurnCount::none();
+        return planned::find_up_to(alloc, program, &plan, text, begin, last, &mut search.groups, &mut count);
     }
-    match search.find_up_to(program, text, begin, last, &mut any_steps())? {
+    match search.find_up_to(program, text, begin, last, false)? {
         Some(found) => Ok(found),
         None => Ok(false),
     }
@@ -131,7 +118,8 @@ pub(crate) fn begins_at(
     ensures { IfOk result (λ found.
         FindsAt text.now program.now place (groups_of found search.new)) }
 {
-    match search.begins_at(program, text, place, &mut steps_in(text))? {
+    search.left = steps_in(text);
+    match search.begins_at(program, text, place, true)? {
         Some(found) => Ok(found),
         None => begins_planned(search, program, text, place),
     }
@@ -150,9 +138,10 @@ fn begins_planned(
 {
     let alloc = *search.frames.allocator();
     if let Some(plan) = Plan::new(alloc, program)? {
-        return planned::begins_at(alloc, program, &plan, text, place, &mut search.groups);
+        let mut count = TurnCount::none();
+        return planned::begins_at(alloc, program, &plan, text, place, &mut search.groups, &mut count);
     }
-    match search.begins_at(program, text, place, &mut any_steps())? {
+    match search.begins_at(program, text, place, false)? {
         Some(found) => Ok(found),
         None => Ok(false),
     }

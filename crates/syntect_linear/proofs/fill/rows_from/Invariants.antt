@@ -1,4 +1,4 @@
-use Rattle.std.proofs.Common.{◌≡◌, ◌+◌, ◌≤◌, ◌-◌, length}
+use Rattle.std.proofs.Common.{◌≡◌, ◌+◌, ◌≤◌, ◌-◌, ◌*◌, length}
 use Rattle.syntect_pattern_table.specs.Program.{trees_of}
 use Rattle.syntect_linear.specs.Rows.{AreRows}
 use Rattle.syntect_linear.proofs.fill.rows_from.Given as goal
@@ -6,7 +6,8 @@ use Rattle.syntect_linear.proofs.fill.rows_from.Given as goal
 abbrev pub invariant-places : goal.invariant-places
 invariant-places l = record {
   rows_are : AreRows l.text (trees_of l.program) l.plan.cells l.rows.items;
-  count : length l.rows.items + (l.begin + l.left) ≡ length l.text + 1;
+  there : length l.rows.items + (l.begin + l.left) ≡ length l.text + 1;
+  paid : l.count.made ≤ l.initial.count.made + 6 * length l.plan.cells * length l.rows.items;
 }
 
 abbrev pub decreases-places : goal.decreases-places

@@ -5,12 +5,12 @@ use Rattle.syntect_linear.proofs.FindLaws.{found-here, found-step, found-past}
 use Rattle.syntect_linear.proofs.find.find_up_to.Goals as goal
 use Rattle.syntect_linear.proofs.find.find_up_to.Goals.{then-starts-test+else-place-text, else-starts-test}
 
-pub returns-then-begin-text : goal.returns-then-begin-text
-returns-then-begin-text c = λ tree h.
+pub returns-then-begin-text-clause-finds : goal.returns-then-begin-text-clause-finds
+returns-then-begin-text-clause-finds c = λ tree h.
     found-past c.args.text.now tree c.args.begin (omega arith) ∙ sym (found-past c.args.text.now tree (suc c.args.last) (omega (arith, c.requires.order)))
 
-pub returns-then-branch : goal.returns-then-branch
-returns-then-branch c = λ tree h.
+pub returns-then-branch-clause-finds : goal.returns-then-branch-clause-finds
+returns-then-branch-clause-finds c = λ tree h.
     let s = c.args.text.now in
     let groups = c.begins_here.new.groups.items in
     let here : found_at s tree c.starts.place ≡ Some groups = sym (c.in_ok-begins_here.ensures tree h) ∙ ap (λ b. groups_of b groups) c.if-branch.true in
@@ -27,8 +27,8 @@ starts-preserved c = record {
       rw add-one (sym (found-step s tree c.starts.place c.if-place-text.true none) ∙ c.starts.invariant.same tree h);
 }
 
-pub returns : goal.returns
-returns c = λ tree h.
+pub returns-clause-finds : goal.returns-clause-finds
+returns-clause-finds c = λ tree h.
     let s = c.args.text.now in
     let place = c.starts.place in
     let near = c.starts.invariant.within in

@@ -1,4 +1,4 @@
-use Rattle.std.proofs.Common.{◌≡◌, ℕ, ◌<◌, ◌*◌, ◌+◌, List, Bool, true, false, Option, Some, None, refl, sym, ap, subst, ◌∙◌, arith, get_or}
+use Rattle.std.proofs.Common.{◌≡◌, suc, ℕ, ◌<◌, ◌*◌, ◌+◌, List, Bool, true, false, Option, Some, None, refl, sym, ap, subst, ◌∙◌, arith, get_or}
 use Rattle.syntect_pattern.specs.Trees.{Tree, nothing, seq, alt, group, atomic, ahead, behind, anchor, repeat}
 use Rattle.syntect_pattern_table.specs.Program.{trees_of}
 use Rattle.syntect_pattern_table.specs.Table.{node_tree}
@@ -13,6 +13,7 @@ use Rattle.syntect_linear.specs.Ground.{ends_at, height_of}
 use Rattle.syntect_linear.specs.Step.{IsTreeAt}
 use Rattle.syntect_linear.proofs.GroundLaws.{nothing-goes, anchor-goes, seq-goes, alt-goes, group-goes, ahead-goes, behind-goes, char-goes, atomic-goes, loop-goes, first-is, second-is, empty-is, next-is, item-is, tree-more, if-lower, known-set, or-chosen, or-second}
 use Rattle.syntect_linear.proofs.CellLaws.{ends-end}
+use Rattle.syntect_linear.proofs.StepsLaws.{takes-one, takes-both, takes-keep, none-if}
 use Rattle.syntect_linear.proofs.reach.+reach.Goals as goal
 
 pub reach_node-reach-requires-in-Sequence : goal.reach_node-reach-requires-in-Sequence
@@ -24,7 +25,7 @@ reach_node-reach-requires-in-Sequence t c =
     let empty = empty-is _ _ c.cell_at-at.result c.args.cell c.cell_at-at.ensures c.as_slice.ensures in
     let next = next-is _ _ c.cell_at-at.result c.args.cell c.cell_at-at.ensures c.as_slice.ensures in
     let g = seq-goes x c.args.place c.args.cell c.requires.ready (get_or ts c.in-Sequence.field-0 nothing) (get_or ts c.in-Sequence.field-1 nothing) (tree-more x c.args.cell _ _ (ap (node_tree ts) c.in-Sequence.is) c.requires.node) c.parts_at-parts.result.first first in
-    (omega (arith, c.decreases, g.1.lower), (c.requires.ready, (g.1.there, c.requires.known)))
+    (omega (arith, c.decreases, g.1.lower), (c.requires.ready, (g.1.there, (c.requires.known, c.requires.long))))
 
 pub reach_node-returns-in-Sequence-clause-value : goal.reach_node-returns-in-Sequence-clause-value
 reach_node-returns-in-Sequence-clause-value t c =
@@ -46,7 +47,7 @@ reach_node-reach-requires t c =
     let empty = empty-is _ _ c.cell_at-at.result c.args.cell c.cell_at-at.ensures c.as_slice.ensures in
     let next = next-is _ _ c.cell_at-at.result c.args.cell c.cell_at-at.ensures c.as_slice.ensures in
     let g = nothing-goes x c.args.place c.args.cell c.requires.ready (tree-more x c.args.cell _ _ (ap (node_tree ts) c.in-Nothing.is) c.requires.node) c.cell_at-at.result.empty empty in
-    (omega (arith, c.decreases, g.1.lower), (c.requires.ready, (g.1.there, c.requires.known)))
+    (omega (arith, c.decreases, g.1.lower), (c.requires.ready, (g.1.there, (c.requires.known, c.requires.long))))
 
 pub reach_node-returns-in-Nothing-clause-value : goal.reach_node-returns-in-Nothing-clause-value
 reach_node-returns-in-Nothing-clause-value t c =
@@ -68,7 +69,7 @@ reach_node-reach-requires-in-Group t c =
     let empty = empty-is _ _ c.cell_at-at.result c.args.cell c.cell_at-at.ensures c.as_slice.ensures in
     let next = next-is _ _ c.cell_at-at.result c.args.cell c.cell_at-at.ensures c.as_slice.ensures in
     let g = group-goes x c.args.place c.args.cell c.requires.ready c.in-Group.number (get_or ts c.in-Group.body nothing) (tree-more x c.args.cell _ _ (ap (node_tree ts) c.in-Group.is) c.requires.node) c.parts_at-parts.result.first first in
-    (omega (arith, c.decreases, g.1.lower), (c.requires.ready, (g.1.there, c.requires.known)))
+    (omega (arith, c.decreases, g.1.lower), (c.requires.ready, (g.1.there, (c.requires.known, c.requires.long))))
 
 pub reach_node-returns-in-Group-clause-value : goal.reach_node-returns-in-Group-clause-value
 reach_node-returns-in-Group-clause-value t c =
@@ -90,7 +91,7 @@ reach_node-reach-requires-in-Alternation t c =
     let empty = empty-is _ _ c.cell_at-at.result c.args.cell c.cell_at-at.ensures c.as_slice.ensures in
     let next = next-is _ _ c.cell_at-at.result c.args.cell c.cell_at-at.ensures c.as_slice.ensures in
     let g = alt-goes x c.args.place c.args.cell c.requires.ready (get_or ts c.in-Alternation.field-0 nothing) (get_or ts c.in-Alternation.field-1 nothing) (tree-more x c.args.cell _ _ (ap (node_tree ts) c.in-Alternation.is) c.requires.node) c.parts_at-parts.result.first c.parts_at-parts.result.second first second in
-    (omega (arith, c.decreases, g.1.lower), (c.requires.ready, (g.1.there, c.requires.known)))
+    (omega (arith, c.decreases, g.1.lower), (c.requires.ready, (g.1.there, (c.requires.known, c.requires.long))))
 
 pub reach_node-reach-requires-in-Alternation-2 : goal.reach_node-reach-requires-in-Alternation-2
 reach_node-reach-requires-in-Alternation-2 t c =
@@ -101,7 +102,7 @@ reach_node-reach-requires-in-Alternation-2 t c =
     let empty = empty-is _ _ c.cell_at-at.result c.args.cell c.cell_at-at.ensures c.as_slice.ensures in
     let next = next-is _ _ c.cell_at-at.result c.args.cell c.cell_at-at.ensures c.as_slice.ensures in
     let g = alt-goes x c.args.place c.args.cell c.requires.ready (get_or ts c.in-Alternation.field-0 nothing) (get_or ts c.in-Alternation.field-1 nothing) (tree-more x c.args.cell _ _ (ap (node_tree ts) c.in-Alternation.is) c.requires.node) c.parts_at-parts.result.first c.parts_at-parts.result.second first second in
-    (omega (arith, c.decreases, g.2.lower), (c.requires.ready, (g.2.there, c.reach-in-Alternation.ensures.known)))
+    (omega (arith, c.decreases, g.2.lower), (c.requires.ready, (g.2.there, (c.reach-in-Alternation.ensures.known, c.reach-in-Alternation.ensures.steps.long ∙ c.requires.long))))
 
 pub reach_node-returns-in-Some-clause-value : goal.reach_node-returns-in-Some-clause-value
 reach_node-returns-in-Some-clause-value t c =
@@ -134,7 +135,7 @@ reach_node-reach_if-requires t c =
     let empty = empty-is _ _ c.cell_at-at.result c.args.cell c.cell_at-at.ensures c.as_slice.ensures in
     let next = next-is _ _ c.cell_at-at.result c.args.cell c.cell_at-at.ensures c.as_slice.ensures in
     let g = anchor-goes x c.args.place c.args.cell c.requires.ready (anchor_of c.in-Anchor.anchor) (tree-more x c.args.cell _ _ (ap (node_tree ts) c.in-Anchor.is) c.requires.node) c.cell_at-at.result.empty empty in
-    (if-lower c.stands-holds.result (6 * height_of x c.cell_at-at.result.empty + 5) t (omega (arith, c.decreases)) (λ z. omega (arith, c.decreases, g.1.lower)), (c.requires.ready, ((λ z. g.1.there), c.requires.known)))
+    (if-lower c.stands-holds.result (6 * height_of x c.cell_at-at.result.empty + 5) t (omega (arith, c.decreases)) (λ z. omega (arith, c.decreases, g.1.lower)), (c.requires.ready, ((λ z. g.1.there), (c.requires.known, c.requires.long))))
 
 pub reach_node-returns-in-Anchor-clause-value : goal.reach_node-returns-in-Anchor-clause-value
 reach_node-returns-in-Anchor-clause-value t c =
@@ -156,7 +157,7 @@ reach_node-reach-requires-in-Ahead t c =
     let empty = empty-is _ _ c.cell_at-at.result c.args.cell c.cell_at-at.ensures c.as_slice.ensures in
     let next = next-is _ _ c.cell_at-at.result c.args.cell c.cell_at-at.ensures c.as_slice.ensures in
     let g = ahead-goes x c.args.place c.args.cell c.requires.ready c.in-Ahead.negated (get_or ts c.in-Ahead.body nothing) (tree-more x c.args.cell _ _ (ap (node_tree ts) c.in-Ahead.is) c.requires.node) c.parts_at-parts.result.first c.cell_at-at.result.empty first empty in
-    (omega (arith, c.decreases, g.1.lower), (c.requires.ready, (g.1.there, c.requires.known)))
+    (omega (arith, c.decreases, g.1.lower), (c.requires.ready, (g.1.there, (c.requires.known, c.requires.long))))
 
 pub reach_node-reach_if-requires-in-Ahead : goal.reach_node-reach_if-requires-in-Ahead
 reach_node-reach_if-requires-in-Ahead t c =
@@ -167,7 +168,7 @@ reach_node-reach_if-requires-in-Ahead t c =
     let empty = empty-is _ _ c.cell_at-at.result c.args.cell c.cell_at-at.ensures c.as_slice.ensures in
     let next = next-is _ _ c.cell_at-at.result c.args.cell c.cell_at-at.ensures c.as_slice.ensures in
     let g = ahead-goes x c.args.place c.args.cell c.requires.ready c.in-Ahead.negated (get_or ts c.in-Ahead.body nothing) (tree-more x c.args.cell _ _ (ap (node_tree ts) c.in-Ahead.is) c.requires.node) c.parts_at-parts.result.first c.cell_at-at.result.empty first empty in
-    (if-lower c.looks.result (6 * height_of x c.cell_at-at.result.empty + 5) t (omega (arith, c.decreases)) (λ z. omega (arith, c.decreases, g.2.lower)), (c.requires.ready, ((λ z. g.2.there), c.reach-in-Ahead.ensures.known)))
+    (if-lower c.looks.result (6 * height_of x c.cell_at-at.result.empty + 5) t (omega (arith, c.decreases)) (λ z. omega (arith, c.decreases, g.2.lower)), (c.requires.ready, ((λ z. g.2.there), (c.reach-in-Ahead.ensures.known, c.reach-in-Ahead.ensures.steps.long ∙ c.requires.long))))
 
 pub reach_node-returns-in-Ahead-clause-value : goal.reach_node-returns-in-Ahead-clause-value
 reach_node-returns-in-Ahead-clause-value t c =
@@ -192,7 +193,7 @@ reach_node-reach_if-requires-in-Behind t c =
     let empty = empty-is _ _ c.cell_at-at.result c.args.cell c.cell_at-at.ensures c.as_slice.ensures in
     let next = next-is _ _ c.cell_at-at.result c.args.cell c.cell_at-at.ensures c.as_slice.ensures in
     let g = behind-goes x c.args.place c.args.cell c.requires.ready c.in-Behind.negated (get_or ts c.in-Behind.body nothing) (tree-more x c.args.cell _ _ (ap (node_tree ts) c.in-Behind.is) c.requires.node) c.parts_at-parts.result.first c.cell_at-at.result.empty c.flag_at-found.result first empty c.flag_at-found.ensures in
-    (if-lower c.looks-in-Behind.result (6 * height_of x c.cell_at-at.result.empty + 5) t (omega (arith, c.decreases)) (λ z. omega (arith, c.decreases, g.1.lower)), (c.requires.ready, ((λ z. g.1.there), c.requires.known)))
+    (if-lower c.looks-in-Behind.result (6 * height_of x c.cell_at-at.result.empty + 5) t (omega (arith, c.decreases)) (λ z. omega (arith, c.decreases, g.1.lower)), (c.requires.ready, ((λ z. g.1.there), (c.requires.known, c.requires.long))))
 
 pub reach_node-returns-in-Behind-clause-value : goal.reach_node-returns-in-Behind-clause-value
 reach_node-returns-in-Behind-clause-value t c =
@@ -216,7 +217,7 @@ reach_node-reach-requires-in-Atomic t c =
     let empty = empty-is _ _ c.cell_at-at.result c.args.cell c.cell_at-at.ensures c.as_slice.ensures in
     let next = next-is _ _ c.cell_at-at.result c.args.cell c.cell_at-at.ensures c.as_slice.ensures in
     let g = atomic-goes x c.args.place c.args.cell c.requires.ready (get_or ts c.in-Atomic.field-0 nothing) (tree-more x c.args.cell _ _ (ap (node_tree ts) c.in-Atomic.is) c.requires.node) c.parts_at-parts.result.first c.cell_at-at.result.empty c.cell_at-at.result.next first empty next in
-    (omega (arith, c.decreases, g.0.lower), (c.requires.ready, (g.0.there, c.requires.known)))
+    (omega (arith, c.decreases, g.0.lower), (c.requires.ready, (g.0.there, (c.requires.known, c.requires.long))))
 
 pub reach_node-returns-in_err-end-in-Atomic-clause-value : goal.reach_node-returns-in_err-end-in-Atomic-clause-value
 reach_node-returns-in_err-end-in-Atomic-clause-value t c =
@@ -239,7 +240,7 @@ reach_node-reach-requires-then-end-place t c =
     let next = next-is _ _ c.cell_at-at.result c.args.cell c.cell_at-at.ensures c.as_slice.ensures in
     let g = atomic-goes x c.args.place c.args.cell c.requires.ready (get_or ts c.in-Atomic.field-0 nothing) (tree-more x c.args.cell _ _ (ap (node_tree ts) c.in-Atomic.is) c.requires.node) c.parts_at-parts.result.first c.cell_at-at.result.empty c.cell_at-at.result.next first empty next in
     let h = g.2 c.in_ok-end-in-Atomic.end (sym c.in_ok-end-in-Atomic.ensures.value) c.if-end-place.true in
-    (omega (arith, c.decreases, h.1.lower), (c.requires.ready, (h.1.there, c.reach-in-Atomic.ensures.known)))
+    (omega (arith, c.decreases, h.1.lower), (c.requires.ready, (h.1.there, (c.reach-in-Atomic.ensures.known, c.reach-in-Atomic.ensures.steps.long ∙ c.requires.long))))
 
 pub reach_node-returns-then-end-place-clause-value : goal.reach_node-returns-then-end-place-clause-value
 reach_node-returns-then-end-place-clause-value t c =
@@ -294,7 +295,7 @@ reach_loop-reach_if-turn-requires t c =
     let empty = empty-is _ _ c.cell_at-at.result c.args.cell c.cell_at-at.ensures c.as_slice.ensures in
     let next = next-is _ _ c.cell_at-at.result c.args.cell c.cell_at-at.ensures c.as_slice.ensures in
     let g = loop-goes x c.args.place c.args.cell c.requires.ready c.args.greedy c.args.least c.args.most c.requires.turns.body c.requires.turns.at c.parts_at-parts.result.first c.cell_at-at.result.empty first empty in
-    (if-lower c.may_turn.result (6 * height_of x c.parts_at-parts.result.first + 5) t (omega (arith, c.decreases)) (λ z. let l = g.1 (sym c.may_turn.ensures ∙ z) in omega (arith, c.decreases, l.lower)), (c.requires.ready, ((λ z. (g.1 (sym c.may_turn.ensures ∙ z)).there), c.requires.known)))
+    (if-lower c.may_turn.result (6 * height_of x c.parts_at-parts.result.first + 5) t (omega (arith, c.decreases)) (λ z. let l = g.1 (sym c.may_turn.ensures ∙ z) in omega (arith, c.decreases, l.lower)), (c.requires.ready, ((λ z. (g.1 (sym c.may_turn.ensures ∙ z)).there), (c.requires.known, c.requires.long))))
 
 pub reach_loop-reach_if-leave-requires : goal.reach_loop-reach_if-leave-requires
 reach_loop-reach_if-leave-requires t c =
@@ -305,7 +306,7 @@ reach_loop-reach_if-leave-requires t c =
     let empty = empty-is _ _ c.cell_at-at.result c.args.cell c.cell_at-at.ensures c.as_slice.ensures in
     let next = next-is _ _ c.cell_at-at.result c.args.cell c.cell_at-at.ensures c.as_slice.ensures in
     let g = loop-goes x c.args.place c.args.cell c.requires.ready c.args.greedy c.args.least c.args.most c.requires.turns.body c.requires.turns.at c.parts_at-parts.result.first c.cell_at-at.result.empty first empty in
-    (if-lower (c.args.least == 0) (6 * height_of x c.cell_at-at.result.empty + 5) t (omega (arith, c.decreases)) (λ z. let l = g.2 z in omega (arith, c.decreases, l.lower)), (c.requires.ready, ((λ z. (g.2 z).there), c.reach_if-turn.ensures.known)))
+    (if-lower (c.args.least == 0) (6 * height_of x c.cell_at-at.result.empty + 5) t (omega (arith, c.decreases)) (λ z. let l = g.2 z in omega (arith, c.decreases, l.lower)), (c.requires.ready, ((λ z. (g.2 z).there), (c.reach_if-turn.ensures.known, (c.reach_if-turn.ensures.steps (height_of x c.args.cell) (λ z. (g.1 (sym c.may_turn.ensures ∙ z)).lower)).long ∙ c.requires.long))))
 
 pub reach_loop-returns-clause-value : goal.reach_loop-returns-clause-value
 reach_loop-returns-clause-value t c =
@@ -334,7 +335,7 @@ reach_item-reach-requires t c =
       tree = ap (item_tree ts) (sym item ∙ c.in-Node.is) ∙ c.in-None.ensures;
     } in
     let g = nothing-goes x c.args.place c.args.cell c.requires.ready at c.cell_at-at.result.empty empty in
-    (omega (arith, c.decreases, g.1.lower), (c.requires.ready, (g.1.there, c.requires.known)))
+    (omega (arith, c.decreases, g.1.lower), (c.requires.ready, (g.1.there, (c.requires.known, c.requires.long))))
 
 pub reach_item-returns-in-None-clause-value : goal.reach_item-returns-in-None-clause-value
 reach_item-returns-in-None-clause-value t c =
@@ -363,3 +364,158 @@ pub reach-returns-clause-known : goal.reach-returns-clause-known
 reach-returns-clause-known t c =
     known-set c.args.ground.now c.args.place c.args.cell c.reach_item-end.new.now.items c.keep.new.now.items c.reach_item-end.result c.keep.ensures
     c.reach_item-end.ensures.value c.reach_item-end.ensures.known
+
+pub reach_node-returns-in-Sequence-clause-steps : goal.reach_node-returns-in-Sequence-clause-steps
+reach_node-returns-in-Sequence-clause-steps t c =
+    let x = c.args.ground.now in
+    let ts = trees_of x.program.now in
+    let first = first-is _ _ c.parts_at-parts.result c.args.cell c.parts_at-parts.ensures c.as_slice-2.ensures in
+    let second = second-is _ _ c.parts_at-parts.result c.args.cell c.parts_at-parts.ensures c.as_slice-2.ensures in
+    let empty = empty-is _ _ c.cell_at-at.result c.args.cell c.cell_at-at.ensures c.as_slice.ensures in
+    let next = next-is _ _ c.cell_at-at.result c.args.cell c.cell_at-at.ensures c.as_slice.ensures in
+    let g = seq-goes x c.args.place c.args.cell c.requires.ready (get_or ts c.in-Sequence.field-0 nothing) (get_or ts c.in-Sequence.field-1 nothing) (tree-more x c.args.cell _ _ (ap (node_tree ts) c.in-Sequence.is) c.requires.node) c.parts_at-parts.result.first first in
+    takes-one x (suc (height_of x c.parts_at-parts.result.first)) (height_of x c.args.cell) c.args.now.now.items c.reach-in-Sequence.new.now.items c.args.count.now.made c.reach-in-Sequence.new.count.made 1 2 c.reach-in-Sequence.ensures.steps (omega (arith, g.1.lower)) (omega arith)
+
+pub reach_node-returns-in-Nothing-clause-steps : goal.reach_node-returns-in-Nothing-clause-steps
+reach_node-returns-in-Nothing-clause-steps t c =
+    let x = c.args.ground.now in
+    let ts = trees_of x.program.now in
+    let first = first-is _ _ c.parts_at-parts.result c.args.cell c.parts_at-parts.ensures c.as_slice-2.ensures in
+    let second = second-is _ _ c.parts_at-parts.result c.args.cell c.parts_at-parts.ensures c.as_slice-2.ensures in
+    let empty = empty-is _ _ c.cell_at-at.result c.args.cell c.cell_at-at.ensures c.as_slice.ensures in
+    let next = next-is _ _ c.cell_at-at.result c.args.cell c.cell_at-at.ensures c.as_slice.ensures in
+    let g = nothing-goes x c.args.place c.args.cell c.requires.ready (tree-more x c.args.cell _ _ (ap (node_tree ts) c.in-Nothing.is) c.requires.node) c.cell_at-at.result.empty empty in
+    takes-one x (suc (height_of x c.cell_at-at.result.empty)) (height_of x c.args.cell) c.args.now.now.items c.reach.new.now.items c.args.count.now.made c.reach.new.count.made 1 2 c.reach.ensures.steps (omega (arith, g.1.lower)) (omega arith)
+
+pub reach_node-returns-in-Group-clause-steps : goal.reach_node-returns-in-Group-clause-steps
+reach_node-returns-in-Group-clause-steps t c =
+    let x = c.args.ground.now in
+    let ts = trees_of x.program.now in
+    let first = first-is _ _ c.parts_at-parts.result c.args.cell c.parts_at-parts.ensures c.as_slice-2.ensures in
+    let second = second-is _ _ c.parts_at-parts.result c.args.cell c.parts_at-parts.ensures c.as_slice-2.ensures in
+    let empty = empty-is _ _ c.cell_at-at.result c.args.cell c.cell_at-at.ensures c.as_slice.ensures in
+    let next = next-is _ _ c.cell_at-at.result c.args.cell c.cell_at-at.ensures c.as_slice.ensures in
+    let g = group-goes x c.args.place c.args.cell c.requires.ready c.in-Group.number (get_or ts c.in-Group.body nothing) (tree-more x c.args.cell _ _ (ap (node_tree ts) c.in-Group.is) c.requires.node) c.parts_at-parts.result.first first in
+    takes-one x (suc (height_of x c.parts_at-parts.result.first)) (height_of x c.args.cell) c.args.now.now.items c.reach-in-Group.new.now.items c.args.count.now.made c.reach-in-Group.new.count.made 1 2 c.reach-in-Group.ensures.steps (omega (arith, g.1.lower)) (omega arith)
+
+pub reach_node-returns-in-Some-clause-steps : goal.reach_node-returns-in-Some-clause-steps
+reach_node-returns-in-Some-clause-steps t c =
+    let x = c.args.ground.now in
+    let ts = trees_of x.program.now in
+    let first = first-is _ _ c.parts_at-parts.result c.args.cell c.parts_at-parts.ensures c.as_slice-2.ensures in
+    let second = second-is _ _ c.parts_at-parts.result c.args.cell c.parts_at-parts.ensures c.as_slice-2.ensures in
+    let empty = empty-is _ _ c.cell_at-at.result c.args.cell c.cell_at-at.ensures c.as_slice.ensures in
+    let next = next-is _ _ c.cell_at-at.result c.args.cell c.cell_at-at.ensures c.as_slice.ensures in
+    let g = alt-goes x c.args.place c.args.cell c.requires.ready (get_or ts c.in-Alternation.field-0 nothing) (get_or ts c.in-Alternation.field-1 nothing) (tree-more x c.args.cell _ _ (ap (node_tree ts) c.in-Alternation.is) c.requires.node) c.parts_at-parts.result.first c.parts_at-parts.result.second first second in
+    takes-one x (suc (height_of x c.parts_at-parts.result.first)) (height_of x c.args.cell) c.args.now.now.items c.reach-in-Alternation.new.now.items c.args.count.now.made c.reach-in-Alternation.new.count.made 1 2 c.reach-in-Alternation.ensures.steps (omega (arith, g.1.lower)) (omega arith)
+
+pub reach_node-returns-in_default-clause-steps : goal.reach_node-returns-in_default-clause-steps
+reach_node-returns-in_default-clause-steps t c =
+    let x = c.args.ground.now in
+    let ts = trees_of x.program.now in
+    let first = first-is _ _ c.parts_at-parts.result c.args.cell c.parts_at-parts.ensures c.as_slice-2.ensures in
+    let second = second-is _ _ c.parts_at-parts.result c.args.cell c.parts_at-parts.ensures c.as_slice-2.ensures in
+    let empty = empty-is _ _ c.cell_at-at.result c.args.cell c.cell_at-at.ensures c.as_slice.ensures in
+    let next = next-is _ _ c.cell_at-at.result c.args.cell c.cell_at-at.ensures c.as_slice.ensures in
+    let g = alt-goes x c.args.place c.args.cell c.requires.ready (get_or ts c.in-Alternation.field-0 nothing) (get_or ts c.in-Alternation.field-1 nothing) (tree-more x c.args.cell _ _ (ap (node_tree ts) c.in-Alternation.is) c.requires.node) c.parts_at-parts.result.first c.parts_at-parts.result.second first second in
+    takes-both x (suc (height_of x c.parts_at-parts.result.first)) (suc (height_of x c.parts_at-parts.result.second)) (height_of x c.args.cell) c.args.now.now.items c.reach-in-Alternation.new.now.items c.reach-in-Alternation-2.new.now.items c.args.count.now.made c.reach-in-Alternation.new.count.made c.reach-in-Alternation-2.new.count.made c.reach-in-Alternation.ensures.steps c.reach-in-Alternation-2.ensures.steps (omega (arith, g.1.lower)) (omega (arith, g.2.lower))
+
+pub reach_node-returns-in-Anchor-clause-steps : goal.reach_node-returns-in-Anchor-clause-steps
+reach_node-returns-in-Anchor-clause-steps t c =
+    let x = c.args.ground.now in
+    let ts = trees_of x.program.now in
+    let first = first-is _ _ c.parts_at-parts.result c.args.cell c.parts_at-parts.ensures c.as_slice-2.ensures in
+    let second = second-is _ _ c.parts_at-parts.result c.args.cell c.parts_at-parts.ensures c.as_slice-2.ensures in
+    let empty = empty-is _ _ c.cell_at-at.result c.args.cell c.cell_at-at.ensures c.as_slice.ensures in
+    let next = next-is _ _ c.cell_at-at.result c.args.cell c.cell_at-at.ensures c.as_slice.ensures in
+    let g = anchor-goes x c.args.place c.args.cell c.requires.ready (anchor_of c.in-Anchor.anchor) (tree-more x c.args.cell _ _ (ap (node_tree ts) c.in-Anchor.is) c.requires.node) c.cell_at-at.result.empty empty in
+    takes-one x (height_of x c.args.cell) (height_of x c.args.cell) c.args.now.now.items c.reach_if.new.now.items c.args.count.now.made c.reach_if.new.count.made 1 2 (c.reach_if.ensures.steps (height_of x c.args.cell) (λ z. g.1.lower)) (omega arith) (omega arith)
+
+pub reach_node-returns-in-Behind-clause-steps : goal.reach_node-returns-in-Behind-clause-steps
+reach_node-returns-in-Behind-clause-steps t c =
+    let x = c.args.ground.now in
+    let ts = trees_of x.program.now in
+    let first = first-is _ _ c.parts_at-parts.result c.args.cell c.parts_at-parts.ensures c.as_slice-2.ensures in
+    let second = second-is _ _ c.parts_at-parts.result c.args.cell c.parts_at-parts.ensures c.as_slice-2.ensures in
+    let empty = empty-is _ _ c.cell_at-at.result c.args.cell c.cell_at-at.ensures c.as_slice.ensures in
+    let next = next-is _ _ c.cell_at-at.result c.args.cell c.cell_at-at.ensures c.as_slice.ensures in
+    let g = behind-goes x c.args.place c.args.cell c.requires.ready c.in-Behind.negated (get_or ts c.in-Behind.body nothing) (tree-more x c.args.cell _ _ (ap (node_tree ts) c.in-Behind.is) c.requires.node) c.parts_at-parts.result.first c.cell_at-at.result.empty c.flag_at-found.result first empty c.flag_at-found.ensures in
+    takes-one x (height_of x c.args.cell) (height_of x c.args.cell) c.args.now.now.items c.reach_if-in-Behind.new.now.items c.args.count.now.made c.reach_if-in-Behind.new.count.made 1 2 (c.reach_if-in-Behind.ensures.steps (height_of x c.args.cell) (λ z. g.1.lower)) (omega arith) (omega arith)
+
+pub reach_node-returns-in-Ahead-clause-steps : goal.reach_node-returns-in-Ahead-clause-steps
+reach_node-returns-in-Ahead-clause-steps t c =
+    let x = c.args.ground.now in
+    let ts = trees_of x.program.now in
+    let first = first-is _ _ c.parts_at-parts.result c.args.cell c.parts_at-parts.ensures c.as_slice-2.ensures in
+    let second = second-is _ _ c.parts_at-parts.result c.args.cell c.parts_at-parts.ensures c.as_slice-2.ensures in
+    let empty = empty-is _ _ c.cell_at-at.result c.args.cell c.cell_at-at.ensures c.as_slice.ensures in
+    let next = next-is _ _ c.cell_at-at.result c.args.cell c.cell_at-at.ensures c.as_slice.ensures in
+    let g = ahead-goes x c.args.place c.args.cell c.requires.ready c.in-Ahead.negated (get_or ts c.in-Ahead.body nothing) (tree-more x c.args.cell _ _ (ap (node_tree ts) c.in-Ahead.is) c.requires.node) c.parts_at-parts.result.first c.cell_at-at.result.empty first empty in
+    let found : c.is_some-found.result ≡ is_some (ends_at x c.parts_at-parts.result.first c.args.place) = c.is_some-found.ensures ∙ ap is_some c.reach-in-Ahead.ensures.value in
+    takes-both x (suc (height_of x c.parts_at-parts.result.first)) (height_of x c.args.cell) (height_of x c.args.cell) c.args.now.now.items c.reach-in-Ahead.new.now.items c.reach_if-in-Ahead.new.now.items c.args.count.now.made c.reach-in-Ahead.new.count.made c.reach_if-in-Ahead.new.count.made c.reach-in-Ahead.ensures.steps (c.reach_if-in-Ahead.ensures.steps (height_of x c.args.cell) (λ z. g.2.lower)) (omega (arith, g.1.lower)) (omega arith)
+
+pub reach_node-returns-in_err-end-in-Atomic-clause-steps : goal.reach_node-returns-in_err-end-in-Atomic-clause-steps
+reach_node-returns-in_err-end-in-Atomic-clause-steps t c =
+    let x = c.args.ground.now in
+    let ts = trees_of x.program.now in
+    let first = first-is _ _ c.parts_at-parts.result c.args.cell c.parts_at-parts.ensures c.as_slice-2.ensures in
+    let second = second-is _ _ c.parts_at-parts.result c.args.cell c.parts_at-parts.ensures c.as_slice-2.ensures in
+    let empty = empty-is _ _ c.cell_at-at.result c.args.cell c.cell_at-at.ensures c.as_slice.ensures in
+    let next = next-is _ _ c.cell_at-at.result c.args.cell c.cell_at-at.ensures c.as_slice.ensures in
+    let g = atomic-goes x c.args.place c.args.cell c.requires.ready (get_or ts c.in-Atomic.field-0 nothing) (tree-more x c.args.cell _ _ (ap (node_tree ts) c.in-Atomic.is) c.requires.node) c.parts_at-parts.result.first c.cell_at-at.result.empty c.cell_at-at.result.next first empty next in
+    takes-one x (suc (height_of x c.parts_at-parts.result.first)) (height_of x c.args.cell) c.args.now.now.items c.reach-in-Atomic.new.now.items c.args.count.now.made c.reach-in-Atomic.new.count.made 1 2 c.reach-in-Atomic.ensures.steps (omega (arith, g.0.lower)) (omega arith)
+
+pub reach_node-returns-else-end-place-clause-steps : goal.reach_node-returns-else-end-place-clause-steps
+reach_node-returns-else-end-place-clause-steps t c =
+    let x = c.args.ground.now in
+    let ts = trees_of x.program.now in
+    let first = first-is _ _ c.parts_at-parts.result c.args.cell c.parts_at-parts.ensures c.as_slice-2.ensures in
+    let second = second-is _ _ c.parts_at-parts.result c.args.cell c.parts_at-parts.ensures c.as_slice-2.ensures in
+    let empty = empty-is _ _ c.cell_at-at.result c.args.cell c.cell_at-at.ensures c.as_slice.ensures in
+    let next = next-is _ _ c.cell_at-at.result c.args.cell c.cell_at-at.ensures c.as_slice.ensures in
+    let g = atomic-goes x c.args.place c.args.cell c.requires.ready (get_or ts c.in-Atomic.field-0 nothing) (tree-more x c.args.cell _ _ (ap (node_tree ts) c.in-Atomic.is) c.requires.node) c.parts_at-parts.result.first c.cell_at-at.result.empty c.cell_at-at.result.next first empty next in
+    takes-one x (suc (height_of x c.parts_at-parts.result.first)) (height_of x c.args.cell) c.args.now.now.items c.reach-in-Atomic.new.now.items c.args.count.now.made c.reach-in-Atomic.new.count.made 1 2 c.reach-in-Atomic.ensures.steps (omega (arith, g.0.lower)) (omega arith)
+
+pub reach_node-returns-then-end-place-clause-steps : goal.reach_node-returns-then-end-place-clause-steps
+reach_node-returns-then-end-place-clause-steps t c =
+    let x = c.args.ground.now in
+    let ts = trees_of x.program.now in
+    let first = first-is _ _ c.parts_at-parts.result c.args.cell c.parts_at-parts.ensures c.as_slice-2.ensures in
+    let second = second-is _ _ c.parts_at-parts.result c.args.cell c.parts_at-parts.ensures c.as_slice-2.ensures in
+    let empty = empty-is _ _ c.cell_at-at.result c.args.cell c.cell_at-at.ensures c.as_slice.ensures in
+    let next = next-is _ _ c.cell_at-at.result c.args.cell c.cell_at-at.ensures c.as_slice.ensures in
+    let g = atomic-goes x c.args.place c.args.cell c.requires.ready (get_or ts c.in-Atomic.field-0 nothing) (tree-more x c.args.cell _ _ (ap (node_tree ts) c.in-Atomic.is) c.requires.node) c.parts_at-parts.result.first c.cell_at-at.result.empty c.cell_at-at.result.next first empty next in
+    let h = g.2 c.in_ok-end-in-Atomic.end (sym c.in_ok-end-in-Atomic.ensures.value) c.if-end-place.true in
+    takes-both x (suc (height_of x c.parts_at-parts.result.first)) (suc (height_of x c.cell_at-at.result.empty)) (height_of x c.args.cell) c.args.now.now.items c.reach-in-Atomic.new.now.items c.reach-then-end-place.new.now.items c.args.count.now.made c.reach-in-Atomic.new.count.made c.reach-then-end-place.new.count.made c.reach-in-Atomic.ensures.steps c.reach-then-end-place.ensures.steps (omega (arith, g.0.lower)) (omega (arith, h.1.lower))
+
+pub reach_loop-returns-clause-steps : goal.reach_loop-returns-clause-steps
+reach_loop-returns-clause-steps t c =
+    let x = c.args.ground.now in
+    let ts = trees_of x.program.now in
+    let first = first-is _ _ c.parts_at-parts.result c.args.cell c.parts_at-parts.ensures c.as_slice-2.ensures in
+    let second = second-is _ _ c.parts_at-parts.result c.args.cell c.parts_at-parts.ensures c.as_slice-2.ensures in
+    let empty = empty-is _ _ c.cell_at-at.result c.args.cell c.cell_at-at.ensures c.as_slice.ensures in
+    let next = next-is _ _ c.cell_at-at.result c.args.cell c.cell_at-at.ensures c.as_slice.ensures in
+    let g = loop-goes x c.args.place c.args.cell c.requires.ready c.args.greedy c.args.least c.args.most c.requires.turns.body c.requires.turns.at c.parts_at-parts.result.first c.cell_at-at.result.empty first empty in
+    takes-both x (height_of x c.args.cell) (height_of x c.args.cell) (height_of x c.args.cell) c.args.now.now.items c.reach_if-turn.new.now.items c.reach_if-leave.new.now.items c.args.count.now.made c.reach_if-turn.new.count.made c.reach_if-leave.new.count.made (c.reach_if-turn.ensures.steps (height_of x c.args.cell) (λ z. (g.1 (sym c.may_turn.ensures ∙ z)).lower)) (c.reach_if-leave.ensures.steps (height_of x c.args.cell) (λ z. (g.2 z).lower)) (omega arith) (omega arith)
+
+pub reach_item-returns-in-None-clause-steps : goal.reach_item-returns-in-None-clause-steps
+reach_item-returns-in-None-clause-steps t c =
+    let x = c.args.ground.now in
+    let ts = trees_of x.program.now in
+    let item = item-is _ _ c.cell_at-at.result c.args.cell c.cell_at-at.ensures c.as_slice.ensures in
+    let empty = empty-is _ _ c.cell_at-at.result c.args.cell c.cell_at-at.ensures c.as_slice.ensures in
+    let at : IsTreeAt x c.args.cell nothing = record {
+      inside = c.requires.cell;
+      real = ap is_end (sym item ∙ c.in-Node.is);
+      tree = ap (item_tree ts) (sym item ∙ c.in-Node.is) ∙ c.in-None.ensures;
+    } in
+    let g = nothing-goes x c.args.place c.args.cell c.requires.ready at c.cell_at-at.result.empty empty in
+    takes-one x (suc (height_of x c.cell_at-at.result.empty)) (height_of x c.args.cell) c.args.now.now.items c.reach.new.now.items c.args.count.now.made c.reach.new.count.made 1 2 c.reach.ensures.steps (omega (arith, g.1.lower)) (omega arith)
+
+pub reach-returns-clause-steps : goal.reach-returns-clause-steps
+reach-returns-clause-steps t c =
+    let x = c.args.ground.now in
+    takes-keep x c.args.cell c.args.now.now.items c.reach_item-end.new.now.items c.keep.new.now.items c.args.count.now.made c.tick.new.self.made c.reach_item-end.new.count.made c.reach_item-end.result
+    c.tick.ensures c.reach_item-end.ensures.steps
+    (ap (λ (l : List (Option (Option ℕ))). get_or l c.args.cell None) (sym c.as_slice.ensures.value) ∙ sym c.known_at.ensures ∙ none-if c.known_at.result c.in_default.not-Some) (omega (arith, c.requires.cell, c.requires.long)) c.keep.ensures

@@ -1,4 +1,4 @@
-use Rattle.std.proofs.Common.{◌≡◌, refl, Bool, false, get_or, replicate, None}
+use Rattle.std.proofs.Common.{◌≡◌, Bool, get_or, replicate, None}
 use Rattle.std.specs.Prelude.{slice_get}
 use Rattle.syntect_pattern.specs.Trees.{nothing}
 use Rattle.syntect_pattern.specs.Matches.{matches}
@@ -6,14 +6,11 @@ use Rattle.syntect_pattern_table.specs.Program.{trees_of}
 use Rattle.syntect_engine.specs.Machine.{match_of, groups_of, FindsAt}
 use Rattle.syntect_ways.proofs.BoundaryLaws.{true-boundary}
 use Rattle.syntect_engine.proofs.FindLaws.{found_at-boundary}
-use Rattle.syntect_engine.proofs.StepsLaws.{ended, answer_map}
+use Rattle.syntect_engine.proofs.StepsLaws.{answer_map}
 use Rattle.syntect_engine.proofs.state.Search.begins_at.Goals as goal
 
 pub returns-then-is_lost-clause-finds : goal.returns-then-is_lost-clause-finds
 returns-then-is_lost-clause-finds c = c.is_lost.ensures.lost c.if-is_lost.true
-
-pub returns-then-is_lost-clause-ends : goal.returns-then-is_lost-clause-ends
-returns-then-is_lost-clause-ends c = ended c.args.steps.now c.args.steps.now false refl
 
 pub returns-clause-finds : goal.returns-clause-finds
 returns-clause-finds c =

@@ -24,7 +24,6 @@ loop-place-preserved c = record {
       rw add-one (sym (found-step s tree next c.next_start-place.ensures.inside nothing_here)
       ∙ sym (found-jump s tree c.loop-place.place next c.next_start-place.ensures.later (omega (arith, c.next_start-place.ensures.inside)) (λ k p q. c.next_start-place.ensures.skipped k p q tree is))
       ∙ c.loop-place.invariant.same tree is);
-  kept = c.in_ok-begins_at.ensures.ends.kept ∙ c.loop-place.invariant.kept;
 }
 
 pub returns-clause-finds : goal.returns-clause-finds
@@ -50,4 +49,4 @@ pub returns-then-begin-text-clause-finds : goal.returns-then-begin-text-clause-f
 returns-then-begin-text-clause-finds c = λ tree is. sym (found-past c.args.text.now tree c.args.begin (omega arith))
 
 pub loop-place-init : goal.loop-place-init
-loop-place-init c = record { same = λ tree is. refl; kept = refl }
+loop-place-init c = record { same = λ tree is. refl }

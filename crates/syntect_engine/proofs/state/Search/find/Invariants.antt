@@ -7,7 +7,6 @@ use Rattle.syntect_engine.proofs.state.Search.find.Given as goal
 abbrev pub invariant-loop-place : goal.invariant-loop-place
 invariant-loop-place l = record {
   same : (tree : Tree) → IsProgramOf l.program tree → found l.text tree l.place ≡ found l.text tree l.fn.begin;
-  kept : l.steps.limited ≡ l.fn.steps.limited;
 }
 
 abbrev pub decreases-loop-place : goal.decreases-loop-place

@@ -8,7 +8,6 @@ abbrev pub invariant-loop-place : goal.invariant-loop-place
 invariant-loop-place l = record {
   within : l.place ≤ suc l.fn.last;
   same : (tree : Tree) → IsProgramOf l.program tree → found l.text tree l.place ≡ found l.text tree l.fn.begin;
-  kept : l.steps.limited ≡ l.fn.steps.limited;
 }
 
 abbrev pub decreases-loop-place : goal.decreases-loop-place

@@ -7,6 +7,7 @@ invariant-frames l = record {
   cells : l.self.cells ≡ l.fn.self.cells;
   groups : l.self.groups ≡ l.fn.self.groups;
   place : l.self.place ≡ l.fn.self.place;
+  left : l.self.left ≡ l.fn.self.left;
 }
 
 abbrev pub decreases-frames : goal.decreases-frames

@@ -7,7 +7,6 @@ abbrev pub invariant-steps : goal.invariant-steps
 invariant-steps l = record {
   found : found_by l.text (trees_of l.program) l.next l.self ≡ found_by l.text (trees_of l.program) l.fn.start l.fn.self;
   fits : Fits l.text l.next l.self;
-  kept : l.steps.limited ≡ l.fn.steps.limited;
 }
 
 abbrev pub decreases-steps : goal.decreases-steps

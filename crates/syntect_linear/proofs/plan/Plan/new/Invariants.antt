@@ -1,7 +1,10 @@
-use Rattle.std.proofs.Common.{◌-◌, ◌≤◌, length}
+use Rattle.std.proofs.Common.{◌≡◌, ◌-◌, ◌≤◌, length, get_or, true}
 use Rattle.syntect_pattern_table.specs.Program.{trees_of}
 use Rattle.syntect_linear.specs.Facts.{AreFacts}
-use Rattle.syntect_linear.specs.Plan.{IsPlanned}
+use Rattle.syntect_linear.specs.Plan.{IsPlanned, plan_cells}
+use Rattle.syntect_pattern.specs.Trees.{nothing}
+use Rattle.syntect_linear.specs.Onward.{is_free}
+use Rattle.syntect_linear.proofs.PlanLaws.{Counts}
 use Rattle.syntect_linear.proofs.plan.Plan.new.Given as goal
 
 abbrev pub invariant-cells : goal.invariant-cells
@@ -9,6 +12,9 @@ invariant-cells l = record {
   facts_are : AreFacts l.plan.facts (trees_of l.program);
   planned : IsPlanned (trees_of l.program) l.plan.cells l.plan.parts l.plan.behinds l.program.root;
   order : length l.plan.parts ≤ length l.plan.cells;
+  few : length l.plan.parts ≡ length l.plan.cells → length l.plan.cells ≤ 20000;
+  free : is_free (get_or (trees_of l.program) l.program.root nothing) ≡ true;
+  counts : Counts (trees_of l.program) l.plan.cells (length l.plan.parts) (plan_cells (get_or (trees_of l.program) l.program.root nothing));
 }
 
 abbrev pub decreases-cells : goal.decreases-cells

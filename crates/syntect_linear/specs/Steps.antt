@@ -1,0 +1,48 @@
+-- How many steps the rows take.
+use Rattle.std.specs.Prelude.{◌≡◌, ℕ, suc, ◌+◌, ◌-◌, ◌*◌, ◌≤◌, ◌||◌, if◌then◌else◌, List, [], ◌∷◌, length, Option, Some, None, slice_index_or}
+use Rattle.syntect_pattern.specs.Trees.{Tree, seq, alt, repeat, group, atomic, ahead}
+use Rattle.syntect_pattern_table.specs.Program.{trees_of}
+use Rattle.syntect_linear.specs.Onward.{is_bare}
+use Rattle.syntect_linear.specs.Cells.{cell_at, item_tree}
+use Rattle.syntect_linear.specs.Ground.{height_of}
+use Rattle.syntect_linear.specs.declared.ground.Ground.{Ground}
+
+-- of how many cells nothing is known yet
+abbrev pub unknown : List (Option (Option ℕ)) → ℕ
+unknown [] = 0
+unknown (None ∷ now) = suc (unknown now)
+unknown (Some o ∷ now) = unknown now
+
+-- Steps at a place: what is known of cells that are as high as this or higher stays, and the steps are paid for by what became
+-- known, but for a few.
+pub record Takes (x : Ground) (high : ℕ) (old : List (Option (Option ℕ))) (before : ℕ) (new : List (Option (Option ℕ))) (after few : ℕ) : Type 0 where
+  pub long : length new ≡ length old
+  pub kept : (j : ℕ) → high ≤ height_of x j → slice_index_or new j None ≡ slice_index_or old j None
+  pub paid : after + 4 * unknown new ≤ before + 4 * unknown old + few
+
+-- how many steps a walk through the tree takes for each byte, and as many for none
+abbrev pub walk_cost : Tree → ℕ
+walk_cost (seq a b) = suc (walk_cost a + walk_cost b)
+walk_cost (alt a b) = suc (walk_cost a + walk_cost b)
+walk_cost (repeat greedy least most a) = suc (suc (walk_cost a + walk_cost a))
+walk_cost (group n a) = suc (walk_cost a)
+walk_cost (atomic a) = suc (walk_cost a)
+walk_cost _ = 1
+
+-- how many more it takes for each byte of the text, for lookaheads that set groups
+abbrev pub look_cost : Tree → ℕ
+look_cost (seq a b) = look_cost a + look_cost b
+look_cost (alt a b) = look_cost a + look_cost b
+look_cost (repeat greedy least most a) = look_cost a
+look_cost (group n a) = look_cost a
+look_cost (atomic a) = look_cost a
+look_cost (ahead negated a) = if negated || is_bare a then 0 else walk_cost a + look_cost a
+look_cost _ = 0
+
+-- the steps of a walk through a tree
+abbrev pub Within : ℕ → Tree → ℕ → ℕ → ℕ → ℕ → Type 0
+Within long t place end before after = after ≤ before + (walk_cost t * suc (end - place) + look_cost t * suc long)
+
+-- the same of a cell's tree
+pub record Costs (x : Ground) (k place before end after : ℕ) : Type 0 where
+  pub steps : Within (length x.text.now) (item_tree (trees_of x.program.now) (cell_at x.plan.now.cells k).item) place end before after
