@@ -19,7 +19,9 @@ const STEPS: usize = 16384;
 /// How many steps a search of the text may take.
 #[inline]
 fn steps_in(text: &str) -> usize {
-    text.len().saturating_mul(STEPS_A_BYTE).saturating_add(STEPS)
+    text.len()
+        .saturating_mul(STEPS_A_BYTE)
+        .saturating_add(STEPS)
 }
 
 /// Whether the program matches at the place or at a later one, of which the least counts. Where it does, the search's groups
@@ -55,7 +57,15 @@ fn find_planned(
     let alloc = *search.frames.allocator();
     if let Some(plan) = Plan::new(alloc, program)? {
         let mut count = TurnCount::none();
-        return planned::find(alloc, program, &plan, text, begin, &mut search.groups, &mut count);
+        return planned::find(
+            alloc,
+            program,
+            &plan,
+            text,
+            begin,
+            &mut search.groups,
+            &mut count,
+        );
     }
     match search.find(program, text, begin, false)? {
         Some(found) => Ok(found),
@@ -99,7 +109,16 @@ fn find_up_to_planned(
     let alloc = *search.frames.allocator();
     if let Some(plan) = Plan::new(alloc, program)? {
         let mut count = TurnCount::none();
-        return planned::find_up_to(alloc, program, &plan, text, begin, last, &mut search.groups, &mut count);
+        return planned::find_up_to(
+            alloc,
+            program,
+            &plan,
+            text,
+            begin,
+            last,
+            &mut search.groups,
+            &mut count,
+        );
     }
     match search.find_up_to(program, text, begin, last, false)? {
         Some(found) => Ok(found),
@@ -139,7 +158,15 @@ fn begins_planned(
     let alloc = *search.frames.allocator();
     if let Some(plan) = Plan::new(alloc, program)? {
         let mut count = TurnCount::none();
-        return planned::begins_at(alloc, program, &plan, text, place, &mut search.groups, &mut count);
+        return planned::begins_at(
+            alloc,
+            program,
+            &plan,
+            text,
+            place,
+            &mut search.groups,
+            &mut count,
+        );
     }
     match search.begins_at(program, text, place, false)? {
         Some(found) => Ok(found),
