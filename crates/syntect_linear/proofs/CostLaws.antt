@@ -151,3 +151,34 @@ module _ (x : Ground) (k place : ℕ) (r : IsReady x place) where
   pub loop-calm : (greedy : Bool) (least : ℕ) (most : Option ℕ) (a : Tree) → IsTreeAt x k (repeat greedy least most a) → look_cost a ≡ 0
   loop-calm greedy least most a h =
       calm-look a (and_right (is_free a) (is_calm a) (free x.text.now ts cells x.plan.now.parts x.plan.now.behinds k (repeat greedy least most a) (tree-at x place k (repeat greedy least most a) r h)))
+
+cost-some : (t : Tree) → 1 ≤ walk_cost t
+cost-some nothing = omega arith
+cost-some (one_of a) = omega arith
+cost-some (anchor a) = omega arith
+cost-some (same fold n) = omega arith
+cost-some (seq a b) = omega arith
+cost-some (alt a b) = omega arith
+cost-some (repeat greedy least most a) = omega arith
+cost-some (group n a) = omega arith
+cost-some (atomic a) = omega arith
+cost-some (ahead negated a) = omega arith
+cost-some (behind negated a) = omega arith
+
+-- one step
+pub costs-stay : (x : Ground) (k place before end : ℕ) → Costs x k place before end (suc before)
+costs-stay x k place before end =
+    let t : Tree = item_tree (trees_of x.program.now) (cell_at x.plan.now.cells k).item in
+    record { steps = one-cost (walk_cost t) (look_cost t) (suc (length x.text.now)) (end - place) before (cost-some t) }
+
+pub costs-tick : (x : Ground) (k place m0 m1 end after : ℕ) → m1 ≡ m0 + 1 → Costs x k place m1 end (suc after) → Costs x k place m0 end after
+costs-tick x k place m0 m1 end after e h = record { steps = let s = h.steps in omega (arith, s, e) }
+
+-- more of one part
+pub costs-up : (x : Ground) (k n place before end after : ℕ) (t a : Tree) → item_tree (trees_of x.program.now) (cell_at x.plan.now.cells k).item ≡ t
+    → item_tree (trees_of x.program.now) (cell_at x.plan.now.cells n).item ≡ a → walk_cost t ≡ suc (walk_cost a) → look_cost t ≡ look_cost a
+    → Costs x n place before end after → Costs x k place before end (suc after)
+costs-up x k n place before end after t a e f c l h =
+    let s = costs-of x n place before end after a f h in
+    let u = up-cost (walk_cost a) (look_cost a) (suc (length x.text.now)) (end - place) before after s in
+    costs-is x k place before end (suc after) t e (rw (c, l) u)

@@ -1,5 +1,5 @@
 -- The least place that has a match.
-use Rattle.std.proofs.Common.{◌≡◌, ℕ, zero, suc, ◌+◌, ◌-◌, ◌<◌, ◌≤◌, Bool, true, false, List, [], ◌∷◌, length, get_or, refl, sym, ◌∙◌, ap, subst, arith, Option, Some, None}
+use Rattle.std.proofs.Common.{◌≡◌, ℕ, zero, suc, mul-le-mul_left, ◌*◌, ◌+◌, ◌-◌, ◌<◌, ◌≤◌, Bool, true, false, List, [], ◌∷◌, length, get_or, refl, sym, ◌∙◌, ap, subst, arith, Option, Some, None}
 use Rattle.std.specs.Prelude.{IsCharBoundary, IsUtf8, slice_get, option_map, option_and_then, replicate, if◌then◌else◌, is_some}
 use Rattle.std.specs.Option.{option_or}
 use Rattle.syntect_pattern.specs.Text.{is_boundary}
@@ -19,6 +19,8 @@ use Rattle.syntect_linear.specs.declared.cells.Cell.{Cell}
 use Rattle.syntect_linear.proofs.OnwardLaws.{moved-same, onward-alike}
 use Rattle.syntect_linear.proofs.ChosenLaws.{reaches-any, chosen-forward}
 use Rattle.syntect_linear.proofs.CellLaws.{ends-part, ends-end}
+use Rattle.syntect_linear.specs.Steps.{walk_cost, look_cost, Costs}
+use Rattle.syntect_linear.proofs.CostLaws.{walks-on, costs-of}
 use Rattle.syntect_linear.proofs.WalkLaws.{part-chosen}
 
 pub covers-filled : (x : Ground) (begin place : ℕ) → Covers x begin → begin ≤ place → IsCharBoundary x.text.now place → IsFilled x place
@@ -76,6 +78,20 @@ module _ (x : Ground) (place : ℕ) (filled : IsFilled x place) where
       ends-part s ts cells filled.ready.plan_is.planned.cells_are filled.ready.utf8 1 root 0 0 place filled.ready.boundary part
       ∙ onward-alike s filled.ready.utf8 root (moved place (ends_at x 0) (ends_at x 0)) Some place filled.ready.boundary (λ j l d. moved-same place j (ends_at x 0) ∙ zero-end j)
 
+  -- the steps of the walk along the whole match
+  pub whole-cost : (before : ℕ) (g : Groups) (end : ℕ) (h : Groups) (after : ℕ) → Walks x 1 place g end h → Costs x 1 place before end after
+      → after ≤ before + (walk_cost (get_or (trees_of x.program.now) x.program.now.root nothing) + look_cost (get_or (trees_of x.program.now) x.program.now.root nothing)) * (length x.text.now + 1)
+  whole-cost before g end h after w c =
+      let on = walks-on x 1 place g end h filled w in
+      let e : item_tree ts (cell_at cells 1).item ≡ root = ap (item_tree ts) part.cell.item_is ∙ part.tree in
+      let s = costs-of x 1 place before end after root e c in
+      let short : suc (end - place) ≤ length x.text.now + 1 = omega (arith, on.1) in
+      let m = mul-le-mul_left (walk_cost root) short in
+      let n : suc (length x.text.now) ≡ length x.text.now + 1 = omega arith in
+      let l : look_cost root * suc (length x.text.now) ≡ look_cost root * (length x.text.now + 1) = ap (λ (k : ℕ). look_cost root * k) n in
+      let d : (walk_cost root + look_cost root) * (length x.text.now + 1) ≡ walk_cost root * (length x.text.now + 1) + look_cost root * (length x.text.now + 1) = grind arith in
+      omega (arith, s, m, l, d)
+
   module _ (tree : Tree) (h : IsProgramOf x.program.now tree) (at : is_boundary x.text.now place ≡ true) where
     found-is : found_at s tree place ≡ option_map (λ (m : Member). m.1) (slice_get (matches s root place (replicate x.program.now.groups None)) 0)
     unfolding found_at
@@ -124,3 +140,24 @@ module _ (s : List ℕ) (tree : Tree) where
 pub groups-up_to : (s : List ℕ) (p : Program) (from : ℕ) (b : Bool) (g : Groups) → FindsUpTo s p from (length s) (groups_of b g) → FindsGroups s p from (groups_of b g)
 groups-up_to s p from true g h tree is = sym (h tree is)
 groups-up_to s p from false g h tree is = sym (h tree is ∙ found-past s tree (suc (length s)) (omega arith))
+
+-- what is paid for a match alone
+pub paid-none : (b : Bool) (before after cost : ℕ) → b ≡ false → after ≤ before + (if b then cost else 0) → after ≤ before
+paid-none true before after cost e l = cc
+paid-none false before after cost e l = omega (arith, l)
+
+pub paid-match : (b : Bool) (before after cost : ℕ) → b ≡ true → after ≤ before + (if b then cost else 0) → after ≤ before + cost
+paid-match true before after cost e l = l
+paid-match false before after cost e l = cc
+
+-- the rows and the walk together
+pub paid-all : (cells walk long old rows before after : ℕ) → rows ≤ old + 6 * cells * long → before ≤ rows → after ≤ before + walk * long
+    → after ≤ old + (6 * cells + walk) * long
+paid-all cells walk long old rows before after r b w =
+    let d : (6 * cells + walk) * long ≡ 6 * cells * long + walk * long = grind arith in
+    omega (arith, r, b, w, d)
+
+pub paid-rows : (cells walk long old rows before : ℕ) → rows ≤ old + 6 * cells * long → before ≤ rows → before ≤ old + (6 * cells + walk) * long
+paid-rows cells walk long old rows before r b =
+    let d : (6 * cells + walk) * long ≡ 6 * cells * long + walk * long = grind arith in
+    omega (arith, r, b, d)

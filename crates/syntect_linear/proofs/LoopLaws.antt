@@ -131,6 +131,9 @@ module _ (x : Ground) (k place : ℕ) (g : Groups) (filled : IsFilled x place) (
       can-walk x k place g filled first a f h.more h.first_is (if-some (has_turn most) (ends_at x first place) c.0).1
       (let z = size-is x k place g filled (repeat greedy least most a) here in omega arith)
 
+  pub turn-tree : is_some (ends_at x k place) ≡ true → takes ≡ true → item_tree ts (cell_at cells first).item ≡ a
+  turn-tree found e = let h = is-turn e found in ap (item_tree ts) h.first_is.cell.item_is ∙ h.first_is.tree
+
   turn-chosen : (found : is_some (ends_at x k place) ≡ true) (e : takes ≡ true) (m : Member) → Walks x first place g m.0 m.1
       → chosen (turned x.text.now u greedy least most a fr (E f) (E n) place g filled.ready.boundary) (matches x.text.now a place g) ≡ Some m
   turn-chosen found e m w =

@@ -31,8 +31,9 @@ use Rattle.syntect_linear.proofs.GroundLaws.{tree-at}
 use Rattle.syntect_linear.proofs.WalkLaws.{size_of, chosen-each, filled-on, CanWalk, can-walk, size-is, part-chosen, ends-forward, walks-by}
 
 -- A cell that goes on at a later place.
-pub record GoesTo (x : Ground) (k place : ℕ) (g : Groups) (m mid : ℕ) (h : Groups) : Type 0 where
+pub record GoesTo (x : Ground) (k place : ℕ) (g : Groups) (b : Tree) (m mid : ℕ) (h : Groups) : Type 0 where
   pub filled : IsFilled x mid
+  pub is_tree : item_tree (trees_of x.program.now) (cell_at x.plan.now.cells m).item ≡ b
   pub inside : IsIn x m
   pub real : is_end (cell_at x.plan.now.cells m).item ≡ false
   pub found : is_some (ends_at x m mid) ≡ true
@@ -100,11 +101,12 @@ module _ (x : Ground) (k place : ℕ) (g : Groups) (filled : IsFilled x place) (
 
   second-walks : (m mid : ℕ) (h : Groups) (e : ℕ) → IsFilled x mid → IsPart ts cells m b e n → is_some (ends_at x m mid) ≡ true
       → chosen (moved place (E f) (E n)) (matches x.text.now (seq a b) place g) ≡ chosen (moved mid (E e) (E n)) (matches x.text.now b mid h)
-      → GoesTo x k place g m mid h
+      → GoesTo x k place g b m mid h
   second-walks m mid h e fill p found alike =
       let c = can-walk x k mid h fill m b e n p found (let z = size-is x k place g filled (seq a b) here in omega arith) in
       record {
         filled = fill;
+        is_tree = ap (item_tree ts) p.cell.item_is ∙ p.tree;
         inside = c.inside;
         real = c.real;
         found = found;
@@ -113,7 +115,7 @@ module _ (x : Ground) (k place : ℕ) (g : Groups) (filled : IsFilled x place) (
       }
 
   pub seq-second : (m mid : ℕ) (h : Groups) → Walks x first place g mid h → m ≡ (if mid == place then (cell_at cells first).empty else (cell_at cells first).next)
-      → GoesTo x k place g m mid h
+      → GoesTo x k place g b m mid h
   seq-second m mid h w q =
       let c = part-chosen x k place g filled first a st.at st.behind_it mid h st.first_is w in
       let on = ends-forward x k place g filled a (moved place (E st.at) (E st.behind_it)) (mid, h) c in
@@ -131,7 +133,7 @@ module _ (x : Ground) (k place : ℕ) (g : Groups) (filled : IsFilled x place) (
             ∙ st.first_is.cell.empty_is (ap reads st.first_is.tree ∙ stays) in
             let some : is_some (ends_at x st.at mid) ≡ true =
             ap (λ (j : ℕ). is_some (ends_at x st.at j)) z ∙ sym (ap is_some (moved-at place (E st.at) (E st.behind_it))) ∙ sym (ap (λ (j : ℕ). is_some (moved place (E st.at) (E st.behind_it) j)) z) ∙ leads_on in
-            let P : ℕ → Type 0 = λ j. GoesTo x k place g j mid h in
+            let P : ℕ → Type 0 = λ j. GoesTo x k place g b j mid h in
             subst P (sym is)
             (second-walks st.at mid h f fill (st.again_is stays) some
             (all ∙ ap (λ (j : ℕ). chosen (moved j (E f) (E n)) (matches x.text.now b mid h)) (sym z)))
@@ -139,7 +141,7 @@ module _ (x : Ground) (k place : ℕ) (g : Groups) (filled : IsFilled x place) (
             let is : m ≡ st.behind_it =
             q ∙ ap (λ (c : Bool). if c then (cell_at cells first).empty else (cell_at cells first).next) (other-place place mid l) ∙ st.first_is.cell.next_is in
             let some : is_some (ends_at x st.behind_it mid) ≡ true = sym (ap is_some (moved-past place mid (E st.at) (E st.behind_it) l)) ∙ leads_on in
-            let P : ℕ → Type 0 = λ j. GoesTo x k place g j mid h in
+            let P : ℕ → Type 0 = λ j. GoesTo x k place g b j mid h in
             subst P (sym is)
             (second-walks st.behind_it mid h n fill st.second_is some
             (all ∙ chosen-past_place x.text.now u b (E f) (E n) place mid h l on.1))

@@ -1,5 +1,5 @@
 -- Along the match, part by part.
-use Rattle.std.proofs.Common.{◌≡◌, ℕ, zero, suc, ◌+◌, ◌-◌, ◌<◌, ◌≤◌, List, [], ◌∷◌, length, Bool, true, false, Option, Some, None, refl, sym, ap, subst, ◌∙◌, arith, inl, inr, ◌⊎◌}
+use Rattle.std.proofs.Common.{◌≡◌, ℕ, zero, suc, ◌+◌, ◌*◌, ◌-◌, ◌<◌, ◌≤◌, List, [], ◌∷◌, length, Bool, true, false, Option, Some, None, refl, sym, ap, subst, ◌∙◌, arith, inl, inr, ◌⊎◌}
 use Rattle.std.specs.Prelude.{if◌then◌else◌, ◌==◌, not, is_some, slice_set, option_map, option_and_then, unwrap_or, IsUtf8, IsCharBoundary}
 use Rattle.std.specs.Option.{option_or}
 use Rattle.syntect_pattern.specs.Text.{char_at}
@@ -11,6 +11,7 @@ use Rattle.syntect_linear.specs.Onward.{Onward, chosen, reaches, moved, reads, o
 use Rattle.syntect_linear.specs.Cells.{cell_at, parts_at, item_tree, is_end, tree_size}
 use Rattle.syntect_linear.specs.Ground.{IsReady, IsIn, ends_at}
 use Rattle.syntect_linear.specs.Step.{IsTreeAt}
+use Rattle.syntect_linear.specs.Steps.{walk_cost, look_cost}
 use Rattle.syntect_linear.specs.Walk.{IsFilled, Walks}
 use Rattle.syntect_linear.specs.declared.ground.Ground.{Ground}
 use Rattle.syntect_linear.specs.declared.cells.Cell.{Cell}
@@ -34,12 +35,16 @@ abbrev pub size_of : Ground → ℕ → ℕ
 size_of x k = tree_size (item_tree (trees_of x.program.now) (cell_at x.plan.now.cells k).item)
 
 -- A loop goes on with another cell at a later place: what is chosen from there on is what is chosen from the start.
-pub record Continues (x : Ground) (k place : ℕ) (g : Groups) (turn at : ℕ) (h : Groups) (greedy : Bool) (least : ℕ) (most : Option ℕ) : Type 0 where
+pub record Continues (x : Ground) (k place : ℕ) (g : Groups) (turn at : ℕ) (h : Groups) (greedy : Bool) (least : ℕ) (most : Option ℕ) (before after : ℕ) : Type 0 where
   pub body : Tree
   pub is_loop : IsTreeAt x turn (repeat greedy least most body)
   pub found : is_some (ends_at x turn at) ≡ true
   pub size : size_of x turn ≡ size_of x k
   pub same : (end : ℕ) (l : Groups) → Walks x turn at h end l → Walks x k place g end l
+  pub later : place ≤ at
+  pub cost : walk_cost (item_tree (trees_of x.program.now) (cell_at x.plan.now.cells k).item) ≡ suc (suc (walk_cost body + walk_cost body))
+  pub calm : look_cost body ≡ 0
+  pub paid : after ≤ before + (walk_cost body + walk_cost body) * (at - place)
 
 -- what goes on behind a part that ended there
 abbrev pub follow : Ground → ℕ → ℕ → ℕ → ℕ

@@ -46,3 +46,7 @@ Within long t place end before after = after ≤ before + (walk_cost t * suc (en
 -- the same of a cell's tree
 pub record Costs (x : Ground) (k place before end after : ℕ) : Type 0 where
   pub steps : Within (length x.text.now) (item_tree (trees_of x.program.now) (cell_at x.plan.now.cells k).item) place end before after
+
+-- how many steps a search takes for each byte of the text, in a plan of so many cells for the tree
+abbrev pub step_weight : ℕ → Tree → ℕ
+step_weight cells t = 6 * cells + (walk_cost t + look_cost t)

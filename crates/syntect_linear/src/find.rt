@@ -1,7 +1,10 @@
 //! The search of a pattern, in steps that are bounded by the pattern times the text.
-ghost use Rattle.std.specs.Prelude.{◌≡◌, ◌≤◌, ◌+◌, ◌*◌, IfOk, OnOk, None, length, replicate};
+ghost use Rattle.std.specs.Prelude.{◌≡◌, ◌≤◌, ◌+◌, ◌*◌, IfOk, OnOk, None, if◌then◌else◌, length, replicate, slice_index_or};
 ghost use Rattle.syntect_linear.specs.Finds.{Covers, FindsAt, FindsGroups, FindsUpTo, groups_of};
 ghost use Rattle.syntect_linear.specs.PlanOf.{IsPlanOf};
+ghost use Rattle.syntect_linear.specs.Steps.{look_cost, step_weight, walk_cost};
+ghost use Rattle.syntect_pattern.specs.Trees.{nothing};
+ghost use Rattle.syntect_pattern_table.specs.Program.{trees_of};
 
 use crate::fill::rows_from;
 use crate::ground::Ground;
@@ -34,11 +37,16 @@ fn begins_here(
     begin: usize,
     place: usize,
     groups: &mut Vec<Option<Span>>,
+    count: &mut TurnCount,
 ) -> Result<bool, AllocError>
     requires covers { Covers ground.now begin }
     requires later { begin ≤ place }
-    ensures { IfOk result (λ found. FindsAt ground.now.text.now ground.now.program.now place
+    ensures finds { IfOk result (λ found. FindsAt ground.now.text.now ground.now.program.now place
         (groups_of found groups.new.items)) }
+    ensures steps { IfOk result (λ found. count.new.made ≤ count.old.made + (if found
+        then (walk_cost (slice_index_or (trees_of ground.now.program.now) ground.now.program.now.root nothing)
+        + look_cost (slice_index_or (trees_of ground.now.program.now) ground.now.program.now.root nothing))
+        * (length ground.now.text.now + 1) else 0)) }
 {
     if !is_boundary(ground.text, place) {
         return Ok(false);
@@ -47,7 +55,7 @@ fn begins_here(
         return Ok(false);
     }
     let mut unset = no_groups(alloc, ground.program.groups)?;
-    let _ = walk(ground, place, WHOLE, &mut unset);
+    let _ = walk(ground, place, WHOLE, &mut unset, count);
     *groups = unset;
     Ok(true)
 }
@@ -66,8 +74,9 @@ pub fn begins_at(
     requires { IsPlanOf program.now plan.now }
     ensures finds { IfOk result (λ found. FindsAt text.now program.now place (groups_of found
         groups.new.items)) }
-    ensures steps { OnOk result (count.new.made
-        ≤ count.old.made + 6 * length plan.now.cells * (length text.now + 1)) }
+    ensures steps { OnOk result (count.new.made ≤ count.old.made
+        + step_weight (length plan.now.cells) (slice_index_or (trees_of program.now) program.now.root nothing)
+        * (length text.now + 1)) }
 {
     if place > text.len() {
         return Ok(false);
@@ -81,7 +90,7 @@ pub fn begins_at(
         sights: sights.as_slice(),
         rows: rows.as_slice(),
     };
-    begins_here(alloc, &ground, place, place, groups)
+    begins_here(alloc, &ground, place, place, groups, count)
 }
 
 /// Whether the program matches at the place or at a later one up to `last`, of which the least counts. Where it does, the
@@ -100,8 +109,9 @@ pub fn find_up_to(
     requires order { begin ≤ last }
     ensures finds { IfOk result (λ found. FindsUpTo text.now program.now begin last (groups_of found
         groups.new.items)) }
-    ensures steps { OnOk result (count.new.made
-        ≤ count.old.made + 6 * length plan.now.cells * (length text.now + 1)) }
+    ensures steps { OnOk result (count.new.made ≤ count.old.made
+        + step_weight (length plan.now.cells) (slice_index_or (trees_of program.now) program.now.root nothing)
+        * (length text.now + 1)) }
 {
     if begin > text.len() {
         return Ok(false);
@@ -117,7 +127,7 @@ pub fn find_up_to(
     };
     let mut place = begin;
     'starts: while place <= last && place <= text.len() {
-        if begins_here(alloc, &ground, begin, place, groups)? {
+        if begins_here(alloc, &ground, begin, place, groups, count)? {
             return Ok(true);
         }
         place += 1;
@@ -139,8 +149,9 @@ pub fn find(
     requires { IsPlanOf program.now plan.now }
     ensures finds { IfOk result (λ found. FindsGroups text.now program.now begin (groups_of found
         groups.new.items)) }
-    ensures steps { OnOk result (count.new.made
-        ≤ count.old.made + 6 * length plan.now.cells * (length text.now + 1)) }
+    ensures steps { OnOk result (count.new.made ≤ count.old.made
+        + step_weight (length plan.now.cells) (slice_index_or (trees_of program.now) program.now.root nothing)
+        * (length text.now + 1)) }
 {
     if begin > text.len() {
         return Ok(false);

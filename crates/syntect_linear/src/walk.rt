@@ -1,9 +1,10 @@
 //! The match that the rows lead along, without a step back.
-ghost use Rattle.std.specs.Prelude.{◌≡◌, ◌&&◌, ◌==◌, not, is_some, slice_set, Some, true, false, if◌then◌else◌};
+ghost use Rattle.std.specs.Prelude.{◌≡◌, suc, ◌&&◌, ◌==◌, not, is_some, slice_set, Some, true, false, if◌then◌else◌};
 ghost use Rattle.syntect_linear.specs.Ground.{IsIn, ends_at};
 ghost use Rattle.syntect_linear.specs.Onward.{end_if, has_turn};
 ghost use Rattle.syntect_linear.specs.Cells as spec;
 ghost use Rattle.syntect_linear.specs.Step.{IsLoopAt, IsNodeAt};
+ghost use Rattle.syntect_linear.specs.Steps.{Costs};
 ghost use Rattle.syntect_linear.specs.Walk.{IsFilled, Walks};
 
 use crate::cells::{Item, cell_at, parts_at};
@@ -13,6 +14,7 @@ use crate::plan::one_less;
 use crate::reach::may_turn;
 use crate::rows::end_at;
 use syntect_pattern_table::node::Node;
+use syntect_turns::count::TurnCount;
 use syntect_ways::past::{past_char, past_class};
 
 /// From one place to another.
@@ -39,13 +41,21 @@ fn close(groups: &mut Vec<Option<Span>>, group: usize, start: usize, end: usize)
 
 /// Goes through the cell's item from the place on, to where its match ends, and sets the groups.
 #[cycle(walk)]
-pub fn walk(ground: &Ground, place: usize, cell: usize, groups: &mut Vec<Option<Span>>) -> usize
+pub fn walk(
+    ground: &Ground,
+    place: usize,
+    cell: usize,
+    groups: &mut Vec<Option<Span>>,
+    count: &mut TurnCount,
+) -> usize
     requires filled { IsFilled ground.now place }
     requires cell { IsIn ground.now cell }
     requires real { spec.is_end (spec.cell_at ground.now.plan.now.cells cell).item ≡ false }
     requires found { is_some (ends_at ground.now cell place) ≡ true }
-    ensures { Walks ground.now cell place groups.old.items result groups.new.items }
+    ensures walks { Walks ground.now cell place groups.old.items result groups.new.items }
+    ensures steps { Costs ground.now cell place count.old.made result count.new.made }
 {
+    count.tick();
     let at = cell_at(ground.plan.cells.as_slice(), cell);
     match at.item {
         Item::End => place,
@@ -54,9 +64,9 @@ pub fn walk(ground: &Ground, place: usize, cell: usize, groups: &mut Vec<Option<
             least,
             most,
             body: _,
-        } => walk_turns(ground, place, cell, groups, greedy, least, most),
+        } => walk_turns(ground, place, cell, groups, count, greedy, least, most),
         Item::Node(node) => match ground.program.node(node) {
-            Some(node) => walk_node(ground, place, cell, groups, node),
+            Some(node) => walk_node(ground, place, cell, groups, count, node),
             None => place,
         },
     }
@@ -69,40 +79,42 @@ fn walk_node(
     place: usize,
     cell: usize,
     groups: &mut Vec<Option<Span>>,
+    count: &mut TurnCount,
     node: &Node,
 ) -> usize
     requires filled { IsFilled ground.now place }
     requires node { IsNodeAt ground.now cell node.now }
     requires found { is_some (ends_at ground.now cell place) ≡ true }
-    ensures { Walks ground.now cell place groups.old.items result groups.new.items }
+    ensures walks { Walks ground.now cell place groups.old.items result groups.new.items }
+    ensures steps { Costs ground.now cell place count.old.made result (suc count.new.made) }
 {
     let parts = parts_at(ground.plan.parts.as_slice(), cell);
     match node {
         Node::Char(wanted) => past_char(ground.text, place, *wanted).unwrap_or(place),
         Node::Class(class) => past_class(ground.text, place, class).unwrap_or(place),
         Node::Sequence(_, _) => {
-            let middle = walk(ground, place, parts.first, groups);
+            let middle = walk(ground, place, parts.first, groups, count);
             let second = follows(ground, parts.first, middle == place);
-            walk(ground, middle, second, groups)
+            walk(ground, middle, second, groups, count)
         }
         Node::Alternation(_, _) => {
             if leads(ground, place, parts.first) {
-                return walk(ground, place, parts.first, groups);
+                return walk(ground, place, parts.first, groups, count);
             }
-            walk(ground, place, parts.second, groups)
+            walk(ground, place, parts.second, groups, count)
         }
         Node::Repeat {
             greedy,
             least,
             most,
             body: _,
-        } => walk_turns(ground, place, cell, groups, *greedy, *least, *most),
+        } => walk_turns(ground, place, cell, groups, count, *greedy, *least, *most),
         Node::Group { number, body: _ } => {
-            let end = walk(ground, place, parts.first, groups);
+            let end = walk(ground, place, parts.first, groups, count);
             close(groups, *number, place, end);
             end
         }
-        Node::Atomic(_) => walk(ground, place, parts.first, groups),
+        Node::Atomic(_) => walk(ground, place, parts.first, groups, count),
         Node::Ahead { negated, body } => {
             if *negated {
                 return place;
@@ -110,7 +122,7 @@ fn walk_node(
             if facts_at(ground.plan.facts.as_slice(), *body).bare {
                 return place;
             }
-            let _ = walk(ground, place, parts.first, groups);
+            let _ = walk(ground, place, parts.first, groups, count);
             place
         }
         Node::Nothing => place,
@@ -162,6 +174,7 @@ fn walk_turns(
     place: usize,
     cell: usize,
     groups: &mut Vec<Option<Span>>,
+    count: &mut TurnCount,
     greedy: bool,
     least: u32,
     most: Option<u32>,
@@ -169,7 +182,8 @@ fn walk_turns(
     requires filled { IsFilled ground.now place }
     requires turns { IsLoopAt ground.now cell greedy least most }
     requires found { is_some (ends_at ground.now cell place) ≡ true }
-    ensures { Walks ground.now cell place groups.old.items result groups.new.items }
+    ensures walks { Walks ground.now cell place groups.old.items result groups.new.items }
+    ensures steps { Costs ground.now cell place count.old.made result (suc count.new.made) }
 {
     let mut at = place;
     let mut turn = cell;
@@ -177,7 +191,7 @@ fn walk_turns(
     let mut most = most;
     'turns: while takes_turn(ground, at, turn, greedy, least, most) {
         let first = parts_at(ground.plan.parts.as_slice(), turn).first;
-        let end = walk(ground, at, first, groups);
+        let end = walk(ground, at, first, groups, count);
         if end == at {
             return end;
         }

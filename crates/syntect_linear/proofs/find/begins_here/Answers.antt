@@ -1,22 +1,28 @@
 use Rattle.std.proofs.Common.{◌≡◌, sym, ◌∙◌, ap, List, Option, subst, replicate, None}
 use Rattle.syntect_pattern.specs.Matches.{Groups}
 use Rattle.syntect_linear.specs.Walk.{Walks}
-use Rattle.syntect_linear.proofs.FindLaws.{covers-filled, found_at-between, found-none, found-some}
+use Rattle.syntect_linear.proofs.FindLaws.{covers-filled, found_at-between, found-none, found-some, whole-cost}
 use Rattle.syntect_linear.proofs.find.begins_here.Goals as goal
 
-pub returns-then-not-is_boundary : goal.returns-then-not-is_boundary
-returns-then-not-is_boundary c = λ tree h.
+pub returns-then-not-is_boundary-clause-finds : goal.returns-then-not-is_boundary-clause-finds
+returns-then-not-is_boundary-clause-finds c = λ tree h.
     found_at-between c.args.ground.now.text.now tree c.args.place (sym c.is_boundary.ensures.value ∙ c.if-not-is_boundary.true)
 
-pub returns-then-not-leads : goal.returns-then-not-leads
-returns-then-not-leads c = λ tree h.
+pub returns-then-not-leads-clause-finds : goal.returns-then-not-leads-clause-finds
+returns-then-not-leads-clause-finds c = λ tree h.
     let at = c.if-not-is_boundary.false in
     found-none c.args.ground.now c.args.place (covers-filled c.args.ground.now c.args.begin c.args.place c.requires.covers c.requires.later (c.is_boundary.ensures.boundary at))
     tree h (sym c.is_boundary.ensures.value ∙ at) (sym c.leads.ensures ∙ c.if-not-leads.true)
 
-pub returns : goal.returns
-returns c = λ tree h.
+pub returns-clause-finds : goal.returns-clause-finds
+returns-clause-finds c = λ tree h.
     let at = c.if-not-is_boundary.false in
     found-some c.args.ground.now c.args.place (covers-filled c.args.ground.now c.args.begin c.args.place c.requires.covers c.requires.later (c.is_boundary.ensures.boundary at))
     tree h (sym c.is_boundary.ensures.value ∙ at) c.walk.result c.walk.new.groups.items
-    (subst (λ (g : Groups). Walks c.args.ground.now 1 c.args.place g c.walk.result c.walk.new.groups.items) c.in_ok-unset.ensures c.walk.ensures)
+    (subst (λ (g : Groups). Walks c.args.ground.now 1 c.args.place g c.walk.result c.walk.new.groups.items) c.in_ok-unset.ensures c.walk.ensures.walks)
+
+pub returns-clause-steps : goal.returns-clause-steps
+returns-clause-steps c =
+    let at = c.if-not-is_boundary.false in
+    let filled = covers-filled c.args.ground.now c.args.begin c.args.place c.requires.covers c.requires.later (c.is_boundary.ensures.boundary at) in
+    whole-cost c.args.ground.now c.args.place filled c.args.count.now.made c.in_ok-unset.unset.items c.walk.result c.walk.new.groups.items c.walk.new.count.made c.walk.ensures.walks c.walk.ensures.steps

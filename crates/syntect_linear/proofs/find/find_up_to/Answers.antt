@@ -1,7 +1,7 @@
 use Rattle.std.proofs.Common.{◌≡◌, ◌≤◌, refl, sym, ◌∙◌, ap, arith, Some, None, add-one, suc, length}
 use Rattle.syntect_pattern.specs.Matches.{found, found_at}
 use Rattle.syntect_linear.specs.Finds.{groups_of}
-use Rattle.syntect_linear.proofs.FindLaws.{found-here, found-step, found-past}
+use Rattle.syntect_linear.proofs.FindLaws.{found-here, found-step, found-past, paid-none, paid-match, paid-all, paid-rows}
 use Rattle.syntect_linear.proofs.find.find_up_to.Goals as goal
 use Rattle.syntect_linear.proofs.find.find_up_to.Goals.{then-starts-test+else-place-text, else-starts-test}
 
@@ -13,17 +13,18 @@ pub returns-then-branch-clause-finds : goal.returns-then-branch-clause-finds
 returns-then-branch-clause-finds c = λ tree h.
     let s = c.args.text.now in
     let groups = c.begins_here.new.groups.items in
-    let here : found_at s tree c.starts.place ≡ Some groups = sym (c.in_ok-begins_here.ensures tree h) ∙ ap (λ b. groups_of b groups) c.if-branch.true in
+    let here : found_at s tree c.starts.place ≡ Some groups = sym (c.in_ok-begins_here.ensures.finds tree h) ∙ ap (λ b. groups_of b groups) c.if-branch.true in
     sym (c.starts.invariant.same tree h) ∙ found-here s tree c.starts.place groups c.if-place-text.true here
 
 pub starts-preserved : goal.starts-preserved
 starts-preserved c = record {
   within = omega (arith, c.starts-test.true);
+  paid = omega (arith, paid-none _ c.starts.count.made c.begins_here.new.count.made _ c.if-branch.false c.in_ok-begins_here.ensures.steps, c.starts.invariant.paid);
   later = omega (arith, c.starts.invariant.later);
   same = λ tree h.
       let s = c.args.text.now in
       let groups = c.begins_here.new.groups.items in
-      let none : found_at s tree c.starts.place ≡ None = sym (c.in_ok-begins_here.ensures tree h) ∙ ap (λ b. groups_of b groups) c.if-branch.false in
+      let none : found_at s tree c.starts.place ≡ None = sym (c.in_ok-begins_here.ensures.finds tree h) ∙ ap (λ b. groups_of b groups) c.if-branch.false in
       rw add-one (sym (found-step s tree c.starts.place c.if-place-text.true none) ∙ c.starts.invariant.same tree h);
 }
 
@@ -40,3 +41,12 @@ returns-clause-finds c = λ tree h.
       | else-starts-test w ↦
           sym (c.starts.invariant.same tree h) ∙ ap (found s tree) (let at : place ≡ suc c.args.last = omega (arith, near, w.starts-test.false) in at)
     ]
+
+pub returns-then-branch-clause-steps : goal.returns-then-branch-clause-steps
+returns-then-branch-clause-steps c =
+    let paid = paid-match _ c.starts.count.made c.begins_here.new.count.made _ c.if-branch.true c.in_ok-begins_here.ensures.steps in
+    paid-all _ _ _ c.args.count.now.made _ c.starts.count.made c.begins_here.new.count.made c.in_ok-rows.ensures.steps c.starts.invariant.paid paid
+
+pub returns-clause-steps : goal.returns-clause-steps
+returns-clause-steps c =
+    paid-rows _ _ _ c.args.count.now.made _ c.starts.count.made c.in_ok-rows.ensures.steps c.starts.invariant.paid

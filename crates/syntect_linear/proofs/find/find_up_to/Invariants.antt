@@ -7,6 +7,7 @@ use Rattle.syntect_linear.proofs.find.find_up_to.Given as goal
 abbrev pub invariant-starts : goal.invariant-starts
 invariant-starts l = record {
   within : l.place ≤ suc l.fn.last;
+  paid : l.count.made ≤ l.initial.count.made;
   later : l.begin ≤ l.place;
   same : (tree : Tree) → IsProgramOf l.program tree → found l.text tree l.place ≡ found l.text tree l.begin;
 }

@@ -1,5 +1,5 @@
-use Rattle.std.proofs.Common.{◌≡◌, ℕ, ◌<◌, ◌-◌, Bool, true, false, Option, Some, refl, sym, ap, subst, ◌∙◌, arith, get_or, inl, inr, length}
-use Rattle.std.specs.Prelude.{is_some, option_map}
+use Rattle.std.proofs.Common.{◌≡◌, suc, ◌≤◌, ◌+◌, ◌*◌, ℕ, ◌<◌, ◌-◌, Bool, true, false, Option, Some, refl, sym, ap, subst, ◌∙◌, arith, get_or, inl, inr, length}
+use Rattle.std.specs.Prelude.{if◌then◌else◌, ◌||◌, is_some, option_map}
 use Rattle.syntect_pattern.specs.Anchors.{anchor_of}
 use Rattle.syntect_pattern.specs.Sets.{range}
 use Rattle.syntect_pattern.specs.Trees.{Tree, nothing, seq, alt, group, atomic, ahead, behind, anchor, repeat}
@@ -17,11 +17,13 @@ use Rattle.syntect_linear.specs.declared.cells.Cell.{Cell}
 use Rattle.syntect_linear.proofs.GroundLaws.{first-is, second-is, tree-more, item-is}
 use Rattle.syntect_linear.proofs.WalkLaws.{size_of, walks-nothing, walks-anchor, walks-behind, walks-bare_ahead, walks-char, alt-first, alt-second, group-walks, atomic-walks, ahead-walks, CanWalk, follow, loop-is}
 use Rattle.syntect_linear.proofs.SequenceLaws.{seq-first, seq-second}
-use Rattle.syntect_linear.proofs.LoopLaws.{turn-leaves, turn-first, turn-stays, turn-goes, takes}
+use Rattle.syntect_linear.proofs.LoopLaws.{turn-leaves, turn-first, turn-stays, turn-goes, turn-tree, takes}
+use Rattle.syntect_linear.specs.Steps.{walk_cost, look_cost}
+use Rattle.syntect_linear.proofs.CostLaws.{walks-on, costs-is, costs-of, costs-stay, costs-tick, costs-up, seq-cost, left-cost, right-cost, look-costs, turn-cost, turns-cost, last-cost, seq-tree, alt-trees, group-tree, atomic-tree, ahead-tree, loop-calm}
 use Rattle.syntect_linear.proofs.walk.+walk.Goals as goal
 
-pub walk_node-returns-in-Nothing : goal.walk_node-returns-in-Nothing
-walk_node-returns-in-Nothing t c =
+pub walk_node-returns-in-Nothing-clause-walks : goal.walk_node-returns-in-Nothing-clause-walks
+walk_node-returns-in-Nothing-clause-walks t c =
     let x = c.args.ground.now in
     let ts = trees_of x.program.now in
     let g = c.args.groups.now.items in
@@ -29,8 +31,8 @@ walk_node-returns-in-Nothing t c =
     let second = second-is _ _ c.parts_at-parts.result c.args.cell c.parts_at-parts.ensures c.as_slice.ensures in
     walks-nothing x c.args.cell c.args.place g c.requires.filled (tree-more x c.args.cell _ _ (ap (node_tree ts) c.in-Nothing.is) c.requires.node) c.requires.found
 
-pub walk_node-returns-in-Anchor : goal.walk_node-returns-in-Anchor
-walk_node-returns-in-Anchor t c =
+pub walk_node-returns-in-Anchor-clause-walks : goal.walk_node-returns-in-Anchor-clause-walks
+walk_node-returns-in-Anchor-clause-walks t c =
     let x = c.args.ground.now in
     let ts = trees_of x.program.now in
     let g = c.args.groups.now.items in
@@ -38,8 +40,8 @@ walk_node-returns-in-Anchor t c =
     let second = second-is _ _ c.parts_at-parts.result c.args.cell c.parts_at-parts.ensures c.as_slice.ensures in
     walks-anchor x c.args.cell c.args.place g c.requires.filled (anchor_of c.in-Anchor.field-0) (tree-more x c.args.cell _ _ (ap (node_tree ts) c.in-Anchor.is) c.requires.node) c.requires.found
 
-pub walk_node-returns-in-Behind : goal.walk_node-returns-in-Behind
-walk_node-returns-in-Behind t c =
+pub walk_node-returns-in-Behind-clause-walks : goal.walk_node-returns-in-Behind-clause-walks
+walk_node-returns-in-Behind-clause-walks t c =
     let x = c.args.ground.now in
     let ts = trees_of x.program.now in
     let g = c.args.groups.now.items in
@@ -47,8 +49,8 @@ walk_node-returns-in-Behind t c =
     let second = second-is _ _ c.parts_at-parts.result c.args.cell c.parts_at-parts.ensures c.as_slice.ensures in
     walks-behind x c.args.cell c.args.place g c.requires.filled c.in-Behind.negated (get_or ts c.in-Behind.body nothing) (tree-more x c.args.cell _ _ (ap (node_tree ts) c.in-Behind.is) c.requires.node) c.requires.found
 
-pub walk_node-returns-in-Char : goal.walk_node-returns-in-Char
-walk_node-returns-in-Char t c =
+pub walk_node-returns-in-Char-clause-walks : goal.walk_node-returns-in-Char-clause-walks
+walk_node-returns-in-Char-clause-walks t c =
     let x = c.args.ground.now in
     let ts = trees_of x.program.now in
     let g = c.args.groups.now.items in
@@ -57,8 +59,8 @@ walk_node-returns-in-Char t c =
     let w = walks-char x c.args.cell c.args.place g c.requires.filled (range c.in-Char.wanted c.in-Char.wanted) (tree-more x c.args.cell _ _ (ap (node_tree ts) c.in-Char.is) c.requires.node) c.requires.found c.past_char.result c.past_char.ensures.value in
     subst (λ (e : ℕ). Walks x c.args.cell c.args.place g e g) (sym c.unwrap_or.ensures) w
 
-pub walk_node-returns-in-Class : goal.walk_node-returns-in-Class
-walk_node-returns-in-Class t c =
+pub walk_node-returns-in-Class-clause-walks : goal.walk_node-returns-in-Class-clause-walks
+walk_node-returns-in-Class-clause-walks t c =
     let x = c.args.ground.now in
     let ts = trees_of x.program.now in
     let g = c.args.groups.now.items in
@@ -67,15 +69,15 @@ walk_node-returns-in-Class t c =
     let w = walks-char x c.args.cell c.args.place g c.requires.filled (set_of c.in-Class.class) (tree-more x c.args.cell _ _ (ap (node_tree ts) c.in-Class.is) c.requires.node) c.requires.found c.past_class.result c.past_class.ensures.value in
     subst (λ (e : ℕ). Walks x c.args.cell c.args.place g e g) (sym c.unwrap_or-in-Class.ensures) w
 
-pub walk_node-returns-then-leads : goal.walk_node-returns-then-leads
-walk_node-returns-then-leads t c =
+pub walk_node-returns-then-leads-clause-walks : goal.walk_node-returns-then-leads-clause-walks
+walk_node-returns-then-leads-clause-walks t c =
     let x = c.args.ground.now in
     let ts = trees_of x.program.now in
     let g = c.args.groups.now.items in
     let first = first-is _ _ c.parts_at-parts.result c.args.cell c.parts_at-parts.ensures c.as_slice.ensures in
     let second = second-is _ _ c.parts_at-parts.result c.args.cell c.parts_at-parts.ensures c.as_slice.ensures in
     let a = alt-first x c.args.cell c.args.place g c.requires.filled (get_or ts c.in-Alternation.field-0 nothing) (get_or ts c.in-Alternation.field-1 nothing) (tree-more x c.args.cell _ _ (ap (node_tree ts) c.in-Alternation.is) c.requires.node) (sym (c.leads.ensures ∙ ap (λ (j : ℕ). is_some (ends_at x j c.args.place)) first) ∙ c.if-leads.true) in
-    a.1 c.walk-then-leads.result c.walk-then-leads.new.groups.items (subst (λ (j : ℕ). Walks x j c.args.place g c.walk-then-leads.result c.walk-then-leads.new.groups.items) first c.walk-then-leads.ensures)
+    a.1 c.walk-then-leads.result c.walk-then-leads.new.groups.items (subst (λ (j : ℕ). Walks x j c.args.place g c.walk-then-leads.result c.walk-then-leads.new.groups.items) first c.walk-then-leads.ensures.walks)
 
 pub walk_node-walk-requires-in-Alternation : goal.walk_node-walk-requires-in-Alternation
 walk_node-walk-requires-in-Alternation t c =
@@ -88,15 +90,15 @@ walk_node-walk-requires-in-Alternation t c =
     let w : CanWalk x c.args.cell c.args.place g c.requires.filled c.parts_at-parts.result.second = subst (λ (j : ℕ). CanWalk x c.args.cell c.args.place g c.requires.filled j) (sym second) a.0 in
     (omega (arith, c.decreases, w.smaller), (c.requires.filled, (w.inside, (w.real, w.found))))
 
-pub walk_node-returns-else-leads : goal.walk_node-returns-else-leads
-walk_node-returns-else-leads t c =
+pub walk_node-returns-else-leads-clause-walks : goal.walk_node-returns-else-leads-clause-walks
+walk_node-returns-else-leads-clause-walks t c =
     let x = c.args.ground.now in
     let ts = trees_of x.program.now in
     let g = c.args.groups.now.items in
     let first = first-is _ _ c.parts_at-parts.result c.args.cell c.parts_at-parts.ensures c.as_slice.ensures in
     let second = second-is _ _ c.parts_at-parts.result c.args.cell c.parts_at-parts.ensures c.as_slice.ensures in
     let a = alt-second x c.args.cell c.args.place g c.requires.filled (get_or ts c.in-Alternation.field-0 nothing) (get_or ts c.in-Alternation.field-1 nothing) (tree-more x c.args.cell _ _ (ap (node_tree ts) c.in-Alternation.is) c.requires.node) c.requires.found (sym (c.leads.ensures ∙ ap (λ (j : ℕ). is_some (ends_at x j c.args.place)) first) ∙ c.if-leads.false) in
-    a.1 c.walk-in-Alternation.result c.walk-in-Alternation.new.groups.items (subst (λ (j : ℕ). Walks x j c.args.place g c.walk-in-Alternation.result c.walk-in-Alternation.new.groups.items) second c.walk-in-Alternation.ensures)
+    a.1 c.walk-in-Alternation.result c.walk-in-Alternation.new.groups.items (subst (λ (j : ℕ). Walks x j c.args.place g c.walk-in-Alternation.result c.walk-in-Alternation.new.groups.items) second c.walk-in-Alternation.ensures.walks)
 
 pub walk_node-walk-end-requires : goal.walk_node-walk-end-requires
 walk_node-walk-end-requires t c =
@@ -109,8 +111,8 @@ walk_node-walk-end-requires t c =
     let w : CanWalk x c.args.cell c.args.place g c.requires.filled c.parts_at-parts.result.first = subst (λ (j : ℕ). CanWalk x c.args.cell c.args.place g c.requires.filled j) (sym first) a.0 in
     (omega (arith, c.decreases, w.smaller), (c.requires.filled, (w.inside, (w.real, w.found))))
 
-pub walk_node-returns-in-Group : goal.walk_node-returns-in-Group
-walk_node-returns-in-Group t c =
+pub walk_node-returns-in-Group-clause-walks : goal.walk_node-returns-in-Group-clause-walks
+walk_node-returns-in-Group-clause-walks t c =
     let x = c.args.ground.now in
     let ts = trees_of x.program.now in
     let g = c.args.groups.now.items in
@@ -118,7 +120,7 @@ walk_node-returns-in-Group t c =
     let second = second-is _ _ c.parts_at-parts.result c.args.cell c.parts_at-parts.ensures c.as_slice.ensures in
     let a = group-walks x c.args.cell c.args.place g c.requires.filled c.in-Group.number (get_or ts c.in-Group.body nothing) (tree-more x c.args.cell _ _ (ap (node_tree ts) c.in-Group.is) c.requires.node) c.requires.found in
     subst (λ (h : Groups). Walks x c.args.cell c.args.place g c.walk-end.result h) (sym c.close.ensures)
-    (a.1 c.walk-end.result c.walk-end.new.groups.items (subst (λ (j : ℕ). Walks x j c.args.place g c.walk-end.result c.walk-end.new.groups.items) first c.walk-end.ensures))
+    (a.1 c.walk-end.result c.walk-end.new.groups.items (subst (λ (j : ℕ). Walks x j c.args.place g c.walk-end.result c.walk-end.new.groups.items) first c.walk-end.ensures.walks))
 
 pub walk_node-walk-requires-in-Atomic : goal.walk_node-walk-requires-in-Atomic
 walk_node-walk-requires-in-Atomic t c =
@@ -131,18 +133,18 @@ walk_node-walk-requires-in-Atomic t c =
     let w : CanWalk x c.args.cell c.args.place g c.requires.filled c.parts_at-parts.result.first = subst (λ (j : ℕ). CanWalk x c.args.cell c.args.place g c.requires.filled j) (sym first) a.0 in
     (omega (arith, c.decreases, w.smaller), (c.requires.filled, (w.inside, (w.real, w.found))))
 
-pub walk_node-returns-in-Atomic : goal.walk_node-returns-in-Atomic
-walk_node-returns-in-Atomic t c =
+pub walk_node-returns-in-Atomic-clause-walks : goal.walk_node-returns-in-Atomic-clause-walks
+walk_node-returns-in-Atomic-clause-walks t c =
     let x = c.args.ground.now in
     let ts = trees_of x.program.now in
     let g = c.args.groups.now.items in
     let first = first-is _ _ c.parts_at-parts.result c.args.cell c.parts_at-parts.ensures c.as_slice.ensures in
     let second = second-is _ _ c.parts_at-parts.result c.args.cell c.parts_at-parts.ensures c.as_slice.ensures in
     let a = atomic-walks x c.args.cell c.args.place g c.requires.filled (get_or ts c.in-Atomic.field-0 nothing) (tree-more x c.args.cell _ _ (ap (node_tree ts) c.in-Atomic.is) c.requires.node) c.requires.found in
-    a.1 c.walk-in-Atomic.result c.walk-in-Atomic.new.groups.items (subst (λ (j : ℕ). Walks x j c.args.place g c.walk-in-Atomic.result c.walk-in-Atomic.new.groups.items) first c.walk-in-Atomic.ensures)
+    a.1 c.walk-in-Atomic.result c.walk-in-Atomic.new.groups.items (subst (λ (j : ℕ). Walks x j c.args.place g c.walk-in-Atomic.result c.walk-in-Atomic.new.groups.items) first c.walk-in-Atomic.ensures.walks)
 
-pub walk_node-returns-then-negated : goal.walk_node-returns-then-negated
-walk_node-returns-then-negated t c =
+pub walk_node-returns-then-negated-clause-walks : goal.walk_node-returns-then-negated-clause-walks
+walk_node-returns-then-negated-clause-walks t c =
     let x = c.args.ground.now in
     let ts = trees_of x.program.now in
     let g = c.args.groups.now.items in
@@ -152,8 +154,8 @@ walk_node-returns-then-negated t c =
     let at : IsTreeAt x c.args.cell (ahead c.in-Ahead.negated b) = (tree-more x c.args.cell _ _ (ap (node_tree ts) c.in-Ahead.is) c.requires.node) in
     walks-bare_ahead x c.args.cell c.args.place g c.requires.filled c.in-Ahead.negated b at c.requires.found (inl c.if-negated.true)
 
-pub walk_node-returns-then-facts_at : goal.walk_node-returns-then-facts_at
-walk_node-returns-then-facts_at t c =
+pub walk_node-returns-then-facts_at-clause-walks : goal.walk_node-returns-then-facts_at-clause-walks
+walk_node-returns-then-facts_at-clause-walks t c =
     let x = c.args.ground.now in
     let ts = trees_of x.program.now in
     let g = c.args.groups.now.items in
@@ -178,8 +180,8 @@ walk_node-walk-requires-in-Ahead t c =
     let w : CanWalk x c.args.cell c.args.place g c.requires.filled c.parts_at-parts.result.first = subst (λ (j : ℕ). CanWalk x c.args.cell c.args.place g c.requires.filled j) (sym first) a.0 in
     (omega (arith, c.decreases, w.smaller), (c.requires.filled, (w.inside, (w.real, w.found))))
 
-pub walk_node-returns-else-facts_at : goal.walk_node-returns-else-facts_at
-walk_node-returns-else-facts_at t c =
+pub walk_node-returns-else-facts_at-clause-walks : goal.walk_node-returns-else-facts_at-clause-walks
+walk_node-returns-else-facts_at-clause-walks t c =
     let x = c.args.ground.now in
     let ts = trees_of x.program.now in
     let g = c.args.groups.now.items in
@@ -188,7 +190,7 @@ walk_node-returns-else-facts_at t c =
     let b = (get_or ts c.in-Ahead.body nothing) in
     let at : IsTreeAt x c.args.cell (ahead c.in-Ahead.negated b) = (tree-more x c.args.cell _ _ (ap (node_tree ts) c.in-Ahead.is) c.requires.node) in
     let a = ahead-walks x c.args.cell c.args.place g c.requires.filled b (tree-more x c.args.cell _ _ (ap (λ (n : Bool). ahead n b) c.if-negated.false) at) c.requires.found in
-    a.1 c.walk-in-Ahead.result c.walk-in-Ahead.new.groups.items (subst (λ (j : ℕ). Walks x j c.args.place g c.walk-in-Ahead.result c.walk-in-Ahead.new.groups.items) first c.walk-in-Ahead.ensures)
+    a.1 c.walk-in-Ahead.result c.walk-in-Ahead.new.groups.items (subst (λ (j : ℕ). Walks x j c.args.place g c.walk-in-Ahead.result c.walk-in-Ahead.new.groups.items) first c.walk-in-Ahead.ensures.walks)
 
 pub walk_node-walk-middle-requires : goal.walk_node-walk-middle-requires
 walk_node-walk-middle-requires t c =
@@ -210,11 +212,11 @@ walk_node-walk-requires t c =
     let p = (parts_at x.plan.now.parts c.args.cell).first in
     let after = c.follows-second.ensures ∙ ap (λ (j : ℕ). follow x j c.walk-middle.result c.args.place) first in
     let s = seq-second x c.args.cell c.args.place g c.requires.filled (get_or ts c.in-Sequence.field-0 nothing) (get_or ts c.in-Sequence.field-1 nothing) (tree-more x c.args.cell _ _ (ap (node_tree ts) c.in-Sequence.is) c.requires.node) c.follows-second.result c.walk-middle.result c.walk-middle.new.groups.items
-    (subst (λ (j : ℕ). Walks x j c.args.place g c.walk-middle.result c.walk-middle.new.groups.items) first c.walk-middle.ensures) after in
+    (subst (λ (j : ℕ). Walks x j c.args.place g c.walk-middle.result c.walk-middle.new.groups.items) first c.walk-middle.ensures.walks) after in
     (omega (arith, c.decreases, s.smaller), (s.filled, (s.inside, (s.real, s.found))))
 
-pub walk_node-returns-in-Sequence : goal.walk_node-returns-in-Sequence
-walk_node-returns-in-Sequence t c =
+pub walk_node-returns-in-Sequence-clause-walks : goal.walk_node-returns-in-Sequence-clause-walks
+walk_node-returns-in-Sequence-clause-walks t c =
     let x = c.args.ground.now in
     let ts = trees_of x.program.now in
     let g = c.args.groups.now.items in
@@ -223,11 +225,11 @@ walk_node-returns-in-Sequence t c =
     let p = (parts_at x.plan.now.parts c.args.cell).first in
     let after = c.follows-second.ensures ∙ ap (λ (j : ℕ). follow x j c.walk-middle.result c.args.place) first in
     let s = seq-second x c.args.cell c.args.place g c.requires.filled (get_or ts c.in-Sequence.field-0 nothing) (get_or ts c.in-Sequence.field-1 nothing) (tree-more x c.args.cell _ _ (ap (node_tree ts) c.in-Sequence.is) c.requires.node) c.follows-second.result c.walk-middle.result c.walk-middle.new.groups.items
-    (subst (λ (j : ℕ). Walks x j c.args.place g c.walk-middle.result c.walk-middle.new.groups.items) first c.walk-middle.ensures) after in
-    s.same c.walk.result c.walk.new.groups.items c.walk.ensures
+    (subst (λ (j : ℕ). Walks x j c.args.place g c.walk-middle.result c.walk-middle.new.groups.items) first c.walk-middle.ensures.walks) after in
+    s.same c.walk.result c.walk.new.groups.items c.walk.ensures.walks
 
-pub walk-returns-in-None : goal.walk-returns-in-None
-walk-returns-in-None t c =
+pub walk-returns-in-None-clause-walks : goal.walk-returns-in-None-clause-walks
+walk-returns-in-None-clause-walks t c =
     let x = c.args.ground.now in
     let ts = trees_of x.program.now in
     let item = item-is _ _ c.cell_at-at.result c.args.cell c.cell_at-at.ensures c.as_slice.ensures in
@@ -238,8 +240,8 @@ walk-returns-in-None t c =
       tree = ap (item_tree ts) (sym item ∙ c.in-Node.is) ∙ c.in-None.ensures;
     }) c.requires.found
 
-pub walk_turns-returns : goal.walk_turns-returns
-walk_turns-returns t c =
+pub walk_turns-returns-clause-walks : goal.walk_turns-returns-clause-walks
+walk_turns-returns-clause-walks t c =
     let x = c.args.ground.now in
     let g = c.turns.groups.items in
     let i = c.turns.invariant in
@@ -257,14 +259,14 @@ walk_turns-walk-end-requires t c =
     subst (λ (j : ℕ). CanWalk x c.turns.turn c.turns.at g i.filled j) (sym first) (turn-first x c.turns.turn c.turns.at g i.filled c.args.greedy c.turns.least c.turns.most i.goes.body i.goes.is_loop i.goes.found (test ∙ c.turns-test.true)) in
     (omega (arith, c.decreases, w.smaller, i.goes.size), (i.filled, (w.inside, (w.real, w.found))))
 
-pub walk_turns-returns-then-end-at : goal.walk_turns-returns-then-end-at
-walk_turns-returns-then-end-at t c =
+pub walk_turns-returns-then-end-at-clause-walks : goal.walk_turns-returns-then-end-at-clause-walks
+walk_turns-returns-then-end-at-clause-walks t c =
     let x = c.args.ground.now in
     let g = c.turns.groups.items in
     let i = c.turns.invariant in
     let test = sym c.takes_turn.ensures in
     let first = first-is _ _ c.parts_at-first.result c.turns.turn c.parts_at-first.ensures c.as_slice.ensures in
-    i.goes.same c.walk-end.result c.walk-end.new.groups.items (turn-stays x c.turns.turn c.turns.at g i.filled c.args.greedy c.turns.least c.turns.most i.goes.body i.goes.is_loop i.goes.found (test ∙ c.turns-test.true) c.walk-end.result c.walk-end.new.groups.items (subst (λ (j : ℕ). Walks x j c.turns.at g c.walk-end.result c.walk-end.new.groups.items) first c.walk-end.ensures) c.if-end-at.true)
+    i.goes.same c.walk-end.result c.walk-end.new.groups.items (turn-stays x c.turns.turn c.turns.at g i.filled c.args.greedy c.turns.least c.turns.most i.goes.body i.goes.is_loop i.goes.found (test ∙ c.turns-test.true) c.walk-end.result c.walk-end.new.groups.items (subst (λ (j : ℕ). Walks x j c.turns.at g c.walk-end.result c.walk-end.new.groups.items) first c.walk-end.ensures.walks) c.if-end-at.true)
 
 pub walk_turns-turns-preserved : goal.walk_turns-turns-preserved
 walk_turns-turns-preserved t c =
@@ -274,7 +276,9 @@ walk_turns-turns-preserved t c =
     let test = sym c.takes_turn.ensures in
     let first = first-is _ _ c.parts_at-first.result c.turns.turn c.parts_at-first.ensures c.as_slice.ensures in
     let after = c.follows-turn.ensures ∙ ap (λ (j : ℕ). (cell_at x.plan.now.cells j).next) first in
-    let n = turn-goes x c.turns.turn c.turns.at g i.filled c.args.greedy c.turns.least c.turns.most i.goes.body i.goes.is_loop i.goes.found (test ∙ c.turns-test.true) c.walk-end.result c.walk-end.new.groups.items (subst (λ (j : ℕ). Walks x j c.turns.at g c.walk-end.result c.walk-end.new.groups.items) first c.walk-end.ensures) c.if-end-at.false c.follows-turn.result after in
+    let n = turn-goes x c.turns.turn c.turns.at g i.filled c.args.greedy c.turns.least c.turns.most i.goes.body i.goes.is_loop i.goes.found (test ∙ c.turns-test.true) c.walk-end.result c.walk-end.new.groups.items (subst (λ (j : ℕ). Walks x j c.turns.at g c.walk-end.result c.walk-end.new.groups.items) first c.walk-end.ensures.walks) c.if-end-at.false c.follows-turn.result after in
+    let u = costs-of x c.parts_at-first.result.first c.turns.at c.turns.count.made c.walk-end.result c.walk-end.new.count.made i.goes.body (ap (λ (j : ℕ). item_tree (trees_of x.program.now) (cell_at x.plan.now.cells j).item) first ∙ turn-tree x c.turns.turn c.turns.at g i.filled c.args.greedy c.turns.least c.turns.most i.goes.body i.goes.is_loop i.goes.found (test ∙ c.turns-test.true)) c.walk-end.ensures.steps in
+    let v = subst (λ (l : ℕ). c.walk-end.new.count.made ≤ c.turns.count.made + (walk_cost i.goes.body * suc (c.walk-end.result - c.turns.at) + l * (suc (length x.text.now)))) i.goes.calm u in
     record {
       filled = n.filled_there;
       goes = record {
@@ -283,6 +287,13 @@ walk_turns-turns-preserved t c =
         found = n.found;
         size = n.size ∙ i.goes.size;
         same = λ e l w. i.goes.same e l (n.same e l w);
+        later = omega (arith, i.goes.later, n.later);
+        cost = i.goes.cost;
+        calm = i.goes.calm;
+        paid =
+            let far : c.walk-end.result - c.args.place ≡ (c.turns.at - c.args.place) + (c.walk-end.result - c.turns.at) = omega (arith, i.goes.later, n.later) in
+            let p = turn-cost (walk_cost i.goes.body) (suc (length x.text.now)) (c.turns.at - c.args.place) (c.walk-end.result - c.turns.at) c.args.count.now.made c.turns.count.made c.walk-end.new.count.made (omega (arith, n.later)) i.goes.paid v in
+            rw far p;
       };
     }
 
@@ -294,5 +305,192 @@ walk_turns-turns-smaller t c =
     let test = sym c.takes_turn.ensures in
     let first = first-is _ _ c.parts_at-first.result c.turns.turn c.parts_at-first.ensures c.as_slice.ensures in
     let after = c.follows-turn.ensures ∙ ap (λ (j : ℕ). (cell_at x.plan.now.cells j).next) first in
-    let n = turn-goes x c.turns.turn c.turns.at g i.filled c.args.greedy c.turns.least c.turns.most i.goes.body i.goes.is_loop i.goes.found (test ∙ c.turns-test.true) c.walk-end.result c.walk-end.new.groups.items (subst (λ (j : ℕ). Walks x j c.turns.at g c.walk-end.result c.walk-end.new.groups.items) first c.walk-end.ensures) c.if-end-at.false c.follows-turn.result after in
+    let n = turn-goes x c.turns.turn c.turns.at g i.filled c.args.greedy c.turns.least c.turns.most i.goes.body i.goes.is_loop i.goes.found (test ∙ c.turns-test.true) c.walk-end.result c.walk-end.new.groups.items (subst (λ (j : ℕ). Walks x j c.turns.at g c.walk-end.result c.walk-end.new.groups.items) first c.walk-end.ensures.walks) c.if-end-at.false c.follows-turn.result after in
     let l = n.later in let b = n.filled_there.ready.boundary.0 in omega (arith, l, b)
+
+pub walk-returns-in-Turns-clause-steps : goal.walk-returns-in-Turns-clause-steps
+walk-returns-in-Turns-clause-steps t c =
+    let x = c.args.ground.now in
+    costs-tick x c.args.cell c.args.place c.args.count.now.made c.tick.new.self.made c.walk_turns.result c.walk_turns.new.count.made c.tick.ensures c.walk_turns.ensures.steps
+
+pub walk-returns-in-Some-clause-steps : goal.walk-returns-in-Some-clause-steps
+walk-returns-in-Some-clause-steps t c =
+    let x = c.args.ground.now in
+    costs-tick x c.args.cell c.args.place c.args.count.now.made c.tick.new.self.made c.walk_node.result c.walk_node.new.count.made c.tick.ensures c.walk_node.ensures.steps
+
+pub walk-returns-in-None-clause-steps : goal.walk-returns-in-None-clause-steps
+walk-returns-in-None-clause-steps t c =
+    let x = c.args.ground.now in
+    costs-tick x c.args.cell c.args.place c.args.count.now.made c.tick.new.self.made c.args.place c.tick.new.self.made c.tick.ensures (costs-stay x c.args.cell c.args.place c.tick.new.self.made c.args.place)
+
+pub walk_node-returns-in-Nothing-clause-steps : goal.walk_node-returns-in-Nothing-clause-steps
+walk_node-returns-in-Nothing-clause-steps t c =
+    let x = c.args.ground.now in
+    costs-stay x c.args.cell c.args.place c.args.count.now.made c.args.place
+
+pub walk_node-returns-in-Anchor-clause-steps : goal.walk_node-returns-in-Anchor-clause-steps
+walk_node-returns-in-Anchor-clause-steps t c =
+    let x = c.args.ground.now in
+    costs-stay x c.args.cell c.args.place c.args.count.now.made c.args.place
+
+pub walk_node-returns-in-Behind-clause-steps : goal.walk_node-returns-in-Behind-clause-steps
+walk_node-returns-in-Behind-clause-steps t c =
+    let x = c.args.ground.now in
+    costs-stay x c.args.cell c.args.place c.args.count.now.made c.args.place
+
+pub walk_node-returns-in-Char-clause-steps : goal.walk_node-returns-in-Char-clause-steps
+walk_node-returns-in-Char-clause-steps t c =
+    let x = c.args.ground.now in
+    costs-stay x c.args.cell c.args.place c.args.count.now.made c.unwrap_or.result
+
+pub walk_node-returns-in-Class-clause-steps : goal.walk_node-returns-in-Class-clause-steps
+walk_node-returns-in-Class-clause-steps t c =
+    let x = c.args.ground.now in
+    costs-stay x c.args.cell c.args.place c.args.count.now.made c.unwrap_or-in-Class.result
+
+pub walk_node-returns-then-negated-clause-steps : goal.walk_node-returns-then-negated-clause-steps
+walk_node-returns-then-negated-clause-steps t c =
+    let x = c.args.ground.now in
+    costs-stay x c.args.cell c.args.place c.args.count.now.made c.args.place
+
+pub walk_node-returns-then-facts_at-clause-steps : goal.walk_node-returns-then-facts_at-clause-steps
+walk_node-returns-then-facts_at-clause-steps t c =
+    let x = c.args.ground.now in
+    costs-stay x c.args.cell c.args.place c.args.count.now.made c.args.place
+
+pub walk_node-returns-in-Group-clause-steps : goal.walk_node-returns-in-Group-clause-steps
+walk_node-returns-in-Group-clause-steps t c =
+    let x = c.args.ground.now in
+    let ts = trees_of x.program.now in
+    let g = c.args.groups.now.items in
+    let first = first-is _ _ c.parts_at-parts.result c.args.cell c.parts_at-parts.ensures c.as_slice.ensures in
+    let second = second-is _ _ c.parts_at-parts.result c.args.cell c.parts_at-parts.ensures c.as_slice.ensures in
+    let a = group-walks x c.args.cell c.args.place g c.requires.filled c.in-Group.number (get_or ts c.in-Group.body nothing) (tree-more x c.args.cell _ _ (ap (node_tree ts) c.in-Group.is) c.requires.node) c.requires.found in
+    costs-up x c.args.cell c.parts_at-parts.result.first c.args.place c.args.count.now.made c.walk-end.result c.walk-end.new.count.made (group c.in-Group.number (get_or ts c.in-Group.body nothing)) (get_or ts c.in-Group.body nothing) ((tree-more x c.args.cell _ _ (ap (node_tree ts) c.in-Group.is) c.requires.node)).tree (ap (λ (j : ℕ). item_tree ts (cell_at x.plan.now.cells j).item) first ∙ group-tree x c.args.cell c.args.place c.requires.filled.ready c.in-Group.number (get_or ts c.in-Group.body nothing) (tree-more x c.args.cell _ _ (ap (node_tree ts) c.in-Group.is) c.requires.node)) refl refl c.walk-end.ensures.steps
+
+pub walk_node-returns-in-Atomic-clause-steps : goal.walk_node-returns-in-Atomic-clause-steps
+walk_node-returns-in-Atomic-clause-steps t c =
+    let x = c.args.ground.now in
+    let ts = trees_of x.program.now in
+    let g = c.args.groups.now.items in
+    let first = first-is _ _ c.parts_at-parts.result c.args.cell c.parts_at-parts.ensures c.as_slice.ensures in
+    let second = second-is _ _ c.parts_at-parts.result c.args.cell c.parts_at-parts.ensures c.as_slice.ensures in
+    let a = atomic-walks x c.args.cell c.args.place g c.requires.filled (get_or ts c.in-Atomic.field-0 nothing) (tree-more x c.args.cell _ _ (ap (node_tree ts) c.in-Atomic.is) c.requires.node) c.requires.found in
+    costs-up x c.args.cell c.parts_at-parts.result.first c.args.place c.args.count.now.made c.walk-in-Atomic.result c.walk-in-Atomic.new.count.made (atomic (get_or ts c.in-Atomic.field-0 nothing)) (get_or ts c.in-Atomic.field-0 nothing) ((tree-more x c.args.cell _ _ (ap (node_tree ts) c.in-Atomic.is) c.requires.node)).tree (ap (λ (j : ℕ). item_tree ts (cell_at x.plan.now.cells j).item) first ∙ atomic-tree x c.args.cell c.args.place c.requires.filled.ready (get_or ts c.in-Atomic.field-0 nothing) (tree-more x c.args.cell _ _ (ap (node_tree ts) c.in-Atomic.is) c.requires.node)) refl refl c.walk-in-Atomic.ensures.steps
+
+pub walk_node-returns-then-leads-clause-steps : goal.walk_node-returns-then-leads-clause-steps
+walk_node-returns-then-leads-clause-steps t c =
+    let x = c.args.ground.now in
+    let ts = trees_of x.program.now in
+    let g = c.args.groups.now.items in
+    let first = first-is _ _ c.parts_at-parts.result c.args.cell c.parts_at-parts.ensures c.as_slice.ensures in
+    let second = second-is _ _ c.parts_at-parts.result c.args.cell c.parts_at-parts.ensures c.as_slice.ensures in
+    let a = alt-first x c.args.cell c.args.place g c.requires.filled (get_or ts c.in-Alternation.field-0 nothing) (get_or ts c.in-Alternation.field-1 nothing) (tree-more x c.args.cell _ _ (ap (node_tree ts) c.in-Alternation.is) c.requires.node) (sym (c.leads.ensures ∙ ap (λ (j : ℕ). is_some (ends_at x j c.args.place)) first) ∙ c.if-leads.true) in
+    let ta : Tree = (get_or ts c.in-Alternation.field-0 nothing) in
+    let tb : Tree = (get_or ts c.in-Alternation.field-1 nothing) in
+    let e = alt-trees x c.args.cell c.args.place c.requires.filled.ready ta tb (tree-more x c.args.cell _ _ (ap (node_tree ts) c.in-Alternation.is) c.requires.node) in
+    let s = costs-of x c.parts_at-parts.result.first c.args.place c.args.count.now.made c.walk-then-leads.result c.walk-then-leads.new.count.made ta (ap (λ (j : ℕ). item_tree ts (cell_at x.plan.now.cells j).item) first ∙ e.0) c.walk-then-leads.ensures.steps in
+    costs-is x c.args.cell c.args.place c.args.count.now.made c.walk-then-leads.result (suc c.walk-then-leads.new.count.made) (alt ta tb) ((tree-more x c.args.cell _ _ (ap (node_tree ts) c.in-Alternation.is) c.requires.node)).tree
+    (left-cost (walk_cost ta) (walk_cost tb) (look_cost ta) (look_cost tb) (suc (length x.text.now)) (c.walk-then-leads.result - c.args.place) c.args.count.now.made c.walk-then-leads.new.count.made s)
+
+pub walk_node-returns-else-leads-clause-steps : goal.walk_node-returns-else-leads-clause-steps
+walk_node-returns-else-leads-clause-steps t c =
+    let x = c.args.ground.now in
+    let ts = trees_of x.program.now in
+    let g = c.args.groups.now.items in
+    let first = first-is _ _ c.parts_at-parts.result c.args.cell c.parts_at-parts.ensures c.as_slice.ensures in
+    let second = second-is _ _ c.parts_at-parts.result c.args.cell c.parts_at-parts.ensures c.as_slice.ensures in
+    let a = alt-second x c.args.cell c.args.place g c.requires.filled (get_or ts c.in-Alternation.field-0 nothing) (get_or ts c.in-Alternation.field-1 nothing) (tree-more x c.args.cell _ _ (ap (node_tree ts) c.in-Alternation.is) c.requires.node) c.requires.found (sym (c.leads.ensures ∙ ap (λ (j : ℕ). is_some (ends_at x j c.args.place)) first) ∙ c.if-leads.false) in
+    let ta : Tree = (get_or ts c.in-Alternation.field-0 nothing) in
+    let tb : Tree = (get_or ts c.in-Alternation.field-1 nothing) in
+    let e = alt-trees x c.args.cell c.args.place c.requires.filled.ready ta tb (tree-more x c.args.cell _ _ (ap (node_tree ts) c.in-Alternation.is) c.requires.node) in
+    let s = costs-of x c.parts_at-parts.result.second c.args.place c.args.count.now.made c.walk-in-Alternation.result c.walk-in-Alternation.new.count.made tb (ap (λ (j : ℕ). item_tree ts (cell_at x.plan.now.cells j).item) second ∙ e.1) c.walk-in-Alternation.ensures.steps in
+    costs-is x c.args.cell c.args.place c.args.count.now.made c.walk-in-Alternation.result (suc c.walk-in-Alternation.new.count.made) (alt ta tb) ((tree-more x c.args.cell _ _ (ap (node_tree ts) c.in-Alternation.is) c.requires.node)).tree
+    (right-cost (walk_cost ta) (walk_cost tb) (look_cost ta) (look_cost tb) (suc (length x.text.now)) (c.walk-in-Alternation.result - c.args.place) c.args.count.now.made c.walk-in-Alternation.new.count.made s)
+
+pub walk_node-returns-in-Sequence-clause-steps : goal.walk_node-returns-in-Sequence-clause-steps
+walk_node-returns-in-Sequence-clause-steps t c =
+    let x = c.args.ground.now in
+    let ts = trees_of x.program.now in
+    let g = c.args.groups.now.items in
+    let first = first-is _ _ c.parts_at-parts.result c.args.cell c.parts_at-parts.ensures c.as_slice.ensures in
+    let second = second-is _ _ c.parts_at-parts.result c.args.cell c.parts_at-parts.ensures c.as_slice.ensures in
+    let p = (parts_at x.plan.now.parts c.args.cell).first in
+    let after = c.follows-second.ensures ∙ ap (λ (j : ℕ). follow x j c.walk-middle.result c.args.place) first in
+    let s = seq-second x c.args.cell c.args.place g c.requires.filled (get_or ts c.in-Sequence.field-0 nothing) (get_or ts c.in-Sequence.field-1 nothing) (tree-more x c.args.cell _ _ (ap (node_tree ts) c.in-Sequence.is) c.requires.node) c.follows-second.result c.walk-middle.result c.walk-middle.new.groups.items
+    (subst (λ (j : ℕ). Walks x j c.args.place g c.walk-middle.result c.walk-middle.new.groups.items) first c.walk-middle.ensures.walks) after in
+    let ta : Tree = (get_or ts c.in-Sequence.field-0 nothing) in
+    let tb : Tree = (get_or ts c.in-Sequence.field-1 nothing) in
+    let e = seq-tree x c.args.cell c.args.place c.requires.filled.ready ta tb (tree-more x c.args.cell _ _ (ap (node_tree ts) c.in-Sequence.is) c.requires.node) in
+    let on = walks-on x c.parts_at-parts.result.first c.args.place g c.walk-middle.result c.walk-middle.new.groups.items c.requires.filled c.walk-middle.ensures.walks in
+    let more = walks-on x c.follows-second.result c.walk-middle.result c.walk-middle.new.groups.items c.walk.result c.walk.new.groups.items s.filled c.walk.ensures.walks in
+    let u = costs-of x c.parts_at-parts.result.first c.args.place c.args.count.now.made c.walk-middle.result c.walk-middle.new.count.made ta (ap (λ (j : ℕ). item_tree ts (cell_at x.plan.now.cells j).item) first ∙ e) c.walk-middle.ensures.steps in
+    let v = costs-of x c.follows-second.result c.walk-middle.result c.walk-middle.new.count.made c.walk.result c.walk.new.count.made tb s.is_tree c.walk.ensures.steps in
+    costs-is x c.args.cell c.args.place c.args.count.now.made c.walk.result (suc c.walk.new.count.made) (seq ta tb) ((tree-more x c.args.cell _ _ (ap (node_tree ts) c.in-Sequence.is) c.requires.node)).tree
+    (seq-cost (walk_cost ta) (walk_cost tb) (look_cost ta) (look_cost tb) (suc (length x.text.now)) (c.walk.result - c.args.place) (c.walk-middle.result - c.args.place) (c.walk.result - c.walk-middle.result)
+    c.args.count.now.made c.walk-middle.new.count.made c.walk.new.count.made (omega (arith, on.0, more.0)) (omega (arith, on.0, more.0)) u v)
+
+pub walk_node-returns-else-facts_at-clause-steps : goal.walk_node-returns-else-facts_at-clause-steps
+walk_node-returns-else-facts_at-clause-steps t c =
+    let x = c.args.ground.now in
+    let ts = trees_of x.program.now in
+    let g = c.args.groups.now.items in
+    let first = first-is _ _ c.parts_at-parts.result c.args.cell c.parts_at-parts.ensures c.as_slice.ensures in
+    let second = second-is _ _ c.parts_at-parts.result c.args.cell c.parts_at-parts.ensures c.as_slice.ensures in
+    let b = (get_or ts c.in-Ahead.body nothing) in
+    let at : IsTreeAt x c.args.cell (ahead c.in-Ahead.negated b) = (tree-more x c.args.cell _ _ (ap (node_tree ts) c.in-Ahead.is) c.requires.node) in
+    let a = ahead-walks x c.args.cell c.args.place g c.requires.filled b (tree-more x c.args.cell _ _ (ap (λ (n : Bool). ahead n b) c.if-negated.false) at) c.requires.found in
+    let on = walks-on x c.parts_at-parts.result.first c.args.place g c.walk-in-Ahead.result c.walk-in-Ahead.new.groups.items c.requires.filled c.walk-in-Ahead.ensures.walks in
+    let e = ahead-tree x c.args.cell c.args.place c.requires.filled.ready c.in-Ahead.negated b at in
+    let u = costs-of x c.parts_at-parts.result.first c.args.place c.args.count.now.made c.walk-in-Ahead.result c.walk-in-Ahead.new.count.made b (ap (λ (j : ℕ). item_tree ts (cell_at x.plan.now.cells j).item) first ∙ e) c.walk-in-Ahead.ensures.steps in
+    let bare : is_bare b ≡ false =
+    sym (ap (λ (f : Facts). f.bare) (c.facts_at.ensures ∙ ap (λ l. facts_at l c.in-Ahead.body) c.as_slice-in-Ahead.ensures ∙ c.requires.filled.ready.plan_is.facts_are c.in-Ahead.body)) ∙ c.if-facts_at.false in
+    let looks : look_cost (ahead c.in-Ahead.negated b) ≡ walk_cost b + look_cost b =
+    ap (λ (n : Bool). if n || is_bare b then 0 else walk_cost b + look_cost b) c.if-negated.false ∙ ap (λ (n : Bool). if n then 0 else walk_cost b + look_cost b) bare in
+    let v = look-costs (walk_cost b) (look_cost b) (suc (length x.text.now)) (c.walk-in-Ahead.result - c.args.place) c.args.count.now.made c.walk-in-Ahead.new.count.made (omega (arith, on.1)) u in
+    let none : c.args.place - c.args.place ≡ 0 = omega arith in
+    costs-is x c.args.cell c.args.place c.args.count.now.made c.args.place (suc c.walk-in-Ahead.new.count.made) (ahead c.in-Ahead.negated b) at.tree (rw (looks, none) v)
+
+pub walk_turns-returns-clause-steps : goal.walk_turns-returns-clause-steps
+walk_turns-returns-clause-steps t c =
+    let x = c.args.ground.now in
+    let g = c.turns.groups.items in
+    let i = c.turns.invariant in
+    let test = sym c.takes_turn.ensures in
+    let tree : Tree = item_tree (trees_of x.program.now) (cell_at x.plan.now.cells c.args.cell).item in
+    let cost = turns-cost (walk_cost i.goes.body) (look_cost (item_tree (trees_of x.program.now) (cell_at x.plan.now.cells c.args.cell).item)) (suc (length x.text.now)) (c.turns.at - c.args.place) c.args.count.now.made c.turns.count.made i.goes.paid in
+    record { steps = rw i.goes.cost cost }
+
+pub walk_turns-returns-then-end-at-clause-steps : goal.walk_turns-returns-then-end-at-clause-steps
+walk_turns-returns-then-end-at-clause-steps t c =
+    let x = c.args.ground.now in
+    let g = c.turns.groups.items in
+    let i = c.turns.invariant in
+    let test = sym c.takes_turn.ensures in
+    let first = first-is _ _ c.parts_at-first.result c.turns.turn c.parts_at-first.ensures c.as_slice.ensures in
+    let u = costs-of x c.parts_at-first.result.first c.turns.at c.turns.count.made c.walk-end.result c.walk-end.new.count.made i.goes.body (ap (λ (j : ℕ). item_tree (trees_of x.program.now) (cell_at x.plan.now.cells j).item) first ∙ turn-tree x c.turns.turn c.turns.at g i.filled c.args.greedy c.turns.least c.turns.most i.goes.body i.goes.is_loop i.goes.found (test ∙ c.turns-test.true)) c.walk-end.ensures.steps in
+    let v = subst (λ (l : ℕ). c.walk-end.new.count.made ≤ c.turns.count.made + (walk_cost i.goes.body * suc (c.walk-end.result - c.turns.at) + l * (suc (length x.text.now)))) i.goes.calm u in
+    let none : c.walk-end.result - c.turns.at ≡ 0 = omega (arith, c.if-end-at.true) in
+    let w = subst (λ (y : ℕ). c.walk-end.new.count.made ≤ c.turns.count.made + (walk_cost i.goes.body * suc y + 0 * (suc (length x.text.now)))) none v in
+    let far : c.turns.at - c.args.place ≡ c.walk-end.result - c.args.place = ap (λ (e : ℕ). e - c.args.place) (sym c.if-end-at.true) in
+    let paid = subst (λ (y : ℕ). c.turns.count.made ≤ c.args.count.now.made + (walk_cost i.goes.body + walk_cost i.goes.body) * y) far i.goes.paid in
+    let cost = last-cost (walk_cost i.goes.body) (look_cost (item_tree (trees_of x.program.now) (cell_at x.plan.now.cells c.args.cell).item)) (suc (length x.text.now)) (c.walk-end.result - c.args.place) c.args.count.now.made c.turns.count.made c.walk-end.new.count.made paid w in
+    record { steps = rw i.goes.cost cost }
+
+pub walk_turns-turns-init : goal.walk_turns-turns-init
+walk_turns-turns-init t c =
+    let x = c.args.ground.now in
+    record {
+      filled = c.requires.filled;
+      goes = record {
+        body = c.requires.turns.body;
+        is_loop = c.requires.turns.at;
+        found = c.requires.found;
+        size = refl;
+        same = λ e l w. w;
+        later = omega arith;
+        cost = ap walk_cost c.requires.turns.at.tree;
+        calm = loop-calm x c.args.cell c.args.place c.requires.filled.ready c.args.greedy c.args.least c.args.most c.requires.turns.body c.requires.turns.at;
+        paid = omega arith;
+      };
+    }
