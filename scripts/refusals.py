@@ -185,6 +185,10 @@ def is_refused_call(kind, whole, disturbed):
     return told and left and fronts and again
 
 
+# Calls that look for a syntax in a file's first line: of a first read that is short they see the front of it, as they say.
+FRONTS = ["HighlightFile::new", "highlighted_html_for_file"]
+
+
 def call(runs, name, totals):
     """One call with its requests and reads."""
     words = ["shown", "call", name]
@@ -199,6 +203,8 @@ def call(runs, name, totals):
                 verdict = "as undisturbed"
             elif kind != "SHORT_READ" and disturbed[0] == 0 and is_refused_call(kind, outcome[1], disturbed[1]):
                 verdict = "refused"
+            elif kind == "SHORT_READ" and name in FRONTS and number == before + 1 and disturbed[0] == 0:
+                verdict = "by the front that was read"
             else:
                 verdict = "WRONG"
                 wrong = True

@@ -18,30 +18,47 @@ const GRAMMAR: &str =
 const TWO_LINES: &str =
     "<pre style=\"background-color:#ffffff;\">\n<span style=\"color:#000000;\">a\n</span><span style=\"color:#000000;\">b</span></pre>\n";
 
-/// A reader that gives bytes, and fails where they end.
+/// A reader that gives bytes, so many at a time at most, and may fail where they end.
 #[derive(Clone, Copy)]
-struct Failing<'a> {
+struct Given<'a> {
     bytes: &'a [u8],
+    width: usize,
+    fails: bool,
 }
 
-impl Read for Failing<'_> {
+/// A reader that fails where its bytes end.
+fn failing(bytes: &[u8]) -> Given<'_> {
+    Given {
+        bytes,
+        width: usize::MAX,
+        fails: true,
+    }
+}
+
+/// A reader that gives one byte at a time.
+fn dribbling(bytes: &[u8]) -> Given<'_> {
+    Given {
+        bytes,
+        width: 1,
+        fails: false,
+    }
+}
+
+impl Read for Given<'_> {
     fn read(&mut self, buf: &mut [u8]) -> io::Result<usize> {
-        if self.bytes.is_empty() {
-            return Err(broken());
-        }
-        let mut bytes = self.bytes;
-        let count = bytes.read(buf)?;
-        self.bytes = bytes;
+        let mut front = self.fill_buf()?;
+        let count = front.read(buf)?;
+        self.consume(count);
         Ok(count)
     }
 }
 
-impl BufRead for Failing<'_> {
+impl BufRead for Given<'_> {
     fn fill_buf(&mut self) -> io::Result<&[u8]> {
-        if self.bytes.is_empty() {
+        if self.bytes.is_empty() && self.fails {
             return Err(broken());
         }
-        Ok(self.bytes)
+        Ok(self.bytes.split_at(self.bytes.len().min(self.width)).0)
     }
 
     fn consume(&mut self, amount: usize) {
@@ -49,7 +66,7 @@ impl BufRead for Failing<'_> {
     }
 }
 
-/// The fault of such a reader.
+/// The fault of a reader that fails.
 fn broken() -> io::Error {
     io::Error::from(io::ErrorKind::BrokenPipe)
 }
@@ -93,13 +110,14 @@ fn leading_out(alloc: Global) -> Option<SyntaxSet> {
     builder.build(alloc, &mut repository).ok()
 }
 
-/// Readers that give all, that fail, and whose bytes are no text.
+/// Readers that give all, at once or a byte at a time, that fail, and whose bytes are no text.
 pub fn readers(alloc: Global) -> Option<bool> {
     let set = leading_out(alloc)?;
     let whole: &[u8] = b"a\nb";
     let no_text: &[u8] = b"\xff\n";
     let mut holds = comes_to(alloc, whole, &set, Outcome::Page(TWO_LINES))?;
-    holds &= comes_to(alloc, Failing { bytes: b"x" }, &set, Outcome::Io)?;
+    holds &= comes_to(alloc, dribbling(whole), &set, Outcome::Page(TWO_LINES))?;
+    holds &= comes_to(alloc, failing(b"x"), &set, Outcome::Io)?;
     holds &= comes_to(alloc, no_text, &set, Outcome::Io)?;
     Some(holds)
 }
@@ -109,24 +127,29 @@ pub fn faults_behind_lines(alloc: Global) -> Option<bool> {
     let set = leading_out(alloc)?;
     let late: &[u8] = b"a\n\xff\n";
     let refused: &[u8] = b"ax\n\xff\n";
-    let mut holds = comes_to(alloc, Failing { bytes: b"a\n" }, &set, Outcome::Io)?;
+    let mut holds = comes_to(alloc, failing(b"a\n"), &set, Outcome::Io)?;
     holds &= comes_to(alloc, late, &set, Outcome::Io)?;
     holds &= comes_to(alloc, refused, &set, Outcome::Unresolved)?;
-    holds &= comes_to(alloc, Failing { bytes: b"x\n" }, &set, Outcome::Unresolved)?;
+    holds &= comes_to(alloc, failing(b"x\n"), &set, Outcome::Unresolved)?;
     Some(holds)
 }
 
 /// A theme that does not end.
 const HALF_A_THEME: &str = "{\"settings\":[{\"set";
 
-/// A theme's reader that fails where its bytes end, and one that ends there.
+/// A theme that ends.
+const A_THEME: &str = "{\"settings\":[{\"settings\":{}}]}";
+
+/// A theme's reader that fails where its bytes end, one that ends there, and one that gives a byte at a time.
 pub fn theme_readers(alloc: Global) -> Option<bool> {
     let mut repository = ScopeRepository::new(alloc);
     let mut bytes = HALF_A_THEME.as_bytes();
-    let mut failing = Failing { bytes };
-    let failed = ThemeSet::load_from_reader(alloc, &mut failing, &mut repository);
+    let mut faulty = failing(bytes);
+    let failed = ThemeSet::load_from_reader(alloc, &mut faulty, &mut repository);
     let ended = ThemeSet::load_from_reader(alloc, &mut bytes, &mut repository);
+    let mut slow = dribbling(A_THEME.as_bytes());
+    let whole = ThemeSet::load_from_reader(alloc, &mut slow, &mut repository);
     let is_io = matches!(failed, Err(LoadingError::Io(_)));
     let is_json = matches!(ended, Err(LoadingError::ReadSettings(SettingsError::Json)));
-    Some(is_io & is_json)
+    Some(is_io & is_json & whole.is_ok())
 }
