@@ -1,6 +1,4 @@
-use Rattle.std.proofs.Common.{◌≡◌, Bool, true, false, sym, ◌∙◌, arith, refl, length, ap, suc}
-use Rattle.syntect_pattern.specs.Trees.{Tree}
-use Rattle.syntect_pattern.specs.Matches.{Groups, found}
+use Rattle.std.proofs.Common.{Bool, sym, arith, length}
 use Rattle.syntect_ways.proofs.WayLaws.{if_ok_map}
 use Rattle.syntect_linear.specs.Finds.{FindsGroups, FindsUpTo, groups_of}
 use Rattle.syntect_linear.proofs.FindLaws.{found-past, groups-up_to}

@@ -1,7 +1,6 @@
-use Rattle.std.proofs.Common.{◌≡◌, ◌<◌, ℕ, length, List, ap, subst, sym, ◌∙◌, get_or, rules}
-use Rattle.syntect_pattern.specs.Trees.{Tree, nothing, seq, alt, group}
+use Rattle.std.proofs.Common.{◌≡◌, ◌<◌, ℕ, length, List, ap, ◌∙◌, get_or}
+use Rattle.syntect_pattern.specs.Trees.{Tree, nothing, seq, alt}
 use Rattle.syntect_pattern_table.specs.Table.{node_tree}
-use Rattle.syntect_pattern_table.specs.declared.node.Node.{Node}
 use Rattle.syntect_ways.proofs.WayLaws.{if_ok_map}
 use Rattle.syntect_linear.specs.Cells.{cell_at, item_tree}
 use Rattle.syntect_linear.specs.Facts.{AreFacts}
