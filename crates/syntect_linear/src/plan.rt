@@ -10,7 +10,7 @@ use syntect_pattern_table::program::Program;
 use syntect_values::seq::Seq;
 
 /// At most about so many cells a plan has.
-const MOST: usize = 20000;
+const MOST: usize = 40000;
 
 /// The cells of a pattern.
 #[derive(Drop)]
