@@ -1,10 +1,10 @@
 -- What goes on from cells.
-use Rattle.std.proofs.Common.{◌≡◌, ℕ, zero, suc, ◌+◌, ◌-◌, ◌<◌, ◌≤◌, List, [], ◌∷◌, ◌++◌, length, get_or, Bool, true, false, Option, Some, None, refl, sym, ap, subst, ◌∙◌, arith, inl, inr, ◌⊎◌}
+use Rattle.std.proofs.Common.{◌≡◌, ℕ, zero, suc, ◌+◌, ◌<◌, List, [], ◌∷◌, ◌++◌, length, get_or, Bool, true, false, Some, refl, sym, ap, ◌∙◌, arith, inl, inr, ◌⊎◌}
 use Rattle.std.specs.Prelude.{if◌then◌else◌, IsUtf8, IsCharBoundary}
-use Rattle.syntect_pattern.specs.Trees.{Tree, nothing}
-use Rattle.syntect_linear.specs.Onward.{Onward, moved, reads, is_free, onward}
+use Rattle.syntect_pattern.specs.Trees.{Tree}
+use Rattle.syntect_linear.specs.Onward.{Onward, moved, reads, onward}
 use Rattle.syntect_linear.specs.Cells.{last_cell, cell_at, item_tree, is_end, tree_size, item_end, cell_end, ends_from, ends, item_height, cell_height, heights_from, height}
-use Rattle.syntect_linear.specs.Plan.{AreCells, IsCell, IsPart}
+use Rattle.syntect_linear.specs.Plan.{AreCells, IsPart}
 use Rattle.syntect_linear.specs.declared.cells.Item.{Item}
 use Rattle.syntect_linear.specs.declared.cells.Item.TheVariants.{End, Node, Turns}
 use Rattle.syntect_linear.specs.declared.cells.Cell.{Cell}

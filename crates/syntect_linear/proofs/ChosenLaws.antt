@@ -1,18 +1,18 @@
 -- The member that is chosen of a tree's matches.
-use Rattle.std.proofs.Common.{◌≡◌, ◌⊎◌, inl, inr, ℕ, zero, suc, ◌+◌, ◌-◌, ◌≤◌, ◌<◌, List, [], ◌∷◌, ◌++◌, length, map, take, Bool, true, false, Option, Some, None, refl, sym, ap, subst, ◌∙◌, arith}
-use Rattle.std.specs.Prelude.{not, ◌&&◌, if◌then◌else◌, ◌==◌, is_some, option_map, option_and_then, IsUtf8, IsCharBoundary}
+use Rattle.std.proofs.Common.{◌≡◌, ◌⊎◌, inl, inr, ℕ, zero, suc, ◌+◌, ◌-◌, ◌≤◌, ◌<◌, List, [], ◌∷◌, ◌++◌, length, map, take, Bool, true, false, Option, Some, None, refl, sym, ap, ◌∙◌, arith}
+use Rattle.std.specs.Prelude.{◌&&◌, if◌then◌else◌, ◌==◌, is_some, option_map, IsUtf8, IsCharBoundary}
 use Rattle.std.specs.List.{flat_map}
 use Rattle.std.specs.Option.{option_or}
 use Rattle.std.specs.Char.{len_utf8}
-use Rattle.syntect_pattern.specs.Trees.{Tree, nothing, one_of, anchor, same, seq, alt, repeat, group, atomic, ahead, behind}
-use Rattle.syntect_pattern.specs.Matches.{Groups, Member, Way, only_if, past, prefer, while_left, after_turn, turns, stay, stay_unless, look, close, stands, matches}
-use Rattle.syntect_pattern.proofs.Each.{Each, each_of}
+use Rattle.syntect_pattern.specs.Trees.{Tree, seq, repeat}
+use Rattle.syntect_pattern.specs.Matches.{Groups, Member, Way, only_if, past, prefer, while_left, after_turn, turns, look, close, matches}
+use Rattle.syntect_pattern.proofs.Each.{Each}
 use Rattle.syntect_pattern_laws.proofs.TurnLaws.{matches-forward}
 use Rattle.syntect_ways.specs.Steps.{after_char}
-use Rattle.syntect_linear.specs.Onward.{Onward, reaches, chosen, moved, is_free, is_calm, is_bare, reads, onward, prefer_end, turn_end, end_if}
-use Rattle.syntect_linear.proofs.ReachLaws.{Leads, chosen-append, some-chosen, chosen-some, reaches-ends, reaches-flat_map, chosen-flat_map, chosen-alike, reaches-alike, reaches-chosen}
-use Rattle.syntect_linear.proofs.TreeLaws.{and_left, ends-matches, bare-groups, behind-matches}
-use Rattle.syntect_linear.proofs.OnwardLaws.{moved-at, moved-past, moved-same, at-or-past, Ahead, following, then-moved, turn-moved, leads, same-place, other-place, onward-alike, turn-leads, turn-room}
+use Rattle.syntect_linear.specs.Onward.{Onward, reaches, chosen, moved, is_free, is_calm, reads, onward, turn_end, end_if}
+use Rattle.syntect_linear.proofs.ReachLaws.{chosen-append, some-chosen, reaches-ends, reaches-flat_map, chosen-flat_map, chosen-alike}
+use Rattle.syntect_linear.proofs.TreeLaws.{and_left, ends-matches, behind-matches}
+use Rattle.syntect_linear.proofs.OnwardLaws.{moved-at, moved-past, moved-same, Ahead, following, then-moved, turn-moved, leads, same-place, other-place, onward-alike, turn-leads, turn-room}
 
 -- the match is the one that is chosen of these
 abbrev pub Chooses : Onward → List Member → Member → Type 0

@@ -1,21 +1,21 @@
 -- The steps of a walk.
-use Rattle.std.proofs.Common.{◌≡◌, ℕ, zero, suc, ◌+◌, ◌-◌, ◌*◌, ◌<◌, ◌≤◌, List, length, Bool, true, false, Option, Some, None, refl, sym, ap, subst, ◌∙◌, arith, mul-le-mul_left}
-use Rattle.std.specs.Prelude.{◌&&◌, ◌||◌, if◌then◌else◌, ◌==◌, is_some, option_map, IsUtf8, IsCharBoundary}
-use Rattle.syntect_pattern.specs.Trees.{Anchor, Tree, nothing, one_of, anchor, same, seq, alt, repeat, group, atomic, ahead, behind}
+use Rattle.std.proofs.Common.{◌≡◌, ℕ, suc, ◌+◌, ◌-◌, ◌*◌, ◌<◌, ◌≤◌, List, length, Bool, true, Option, refl, sym, ap, subst, ◌∙◌, arith, mul-le-mul_left}
+use Rattle.std.specs.Prelude.{if◌then◌else◌, IsCharBoundary}
+use Rattle.syntect_pattern.specs.Trees.{Tree, nothing, one_of, anchor, same, seq, alt, repeat, group, atomic, ahead, behind}
 use Rattle.syntect_pattern.specs.Matches.{Groups, Member, matches}
 use Rattle.syntect_pattern_table.specs.Program.{trees_of}
 use Rattle.syntect_pattern_laws.proofs.TurnLaws.{matches-forward}
-use Rattle.syntect_linear.specs.Onward.{is_bare, is_calm, is_free}
-use Rattle.syntect_linear.specs.Cells.{cell_at, parts_at, item_tree, is_end}
+use Rattle.syntect_linear.specs.Onward.{is_calm, is_free}
+use Rattle.syntect_linear.specs.Cells.{cell_at, parts_at, item_tree}
 use Rattle.syntect_linear.specs.Plan.{IsPart, IsSequence, IsTurn, TurnIs}
-use Rattle.syntect_linear.specs.Ground.{IsReady, ends_at}
+use Rattle.syntect_linear.specs.Ground.{IsReady}
 use Rattle.syntect_linear.specs.Step.{IsTreeAt}
 use Rattle.syntect_linear.specs.Walk.{IsFilled, Walks}
 use Rattle.syntect_linear.specs.Steps.{walk_cost, look_cost, Within, Costs}
 use Rattle.syntect_linear.specs.declared.ground.Ground.{Ground}
 use Rattle.syntect_linear.specs.declared.cells.Cell.{Cell}
 use Rattle.syntect_linear.proofs.TreeLaws.{and_left, and_right}
-use Rattle.syntect_linear.proofs.StepLaws.{IsAt, step, free}
+use Rattle.syntect_linear.proofs.StepLaws.{step, free}
 use Rattle.syntect_linear.proofs.GroundLaws.{tree-at}
 use Rattle.syntect_linear.proofs.WalkLaws.{chosen-each}
 

@@ -1,8 +1,6 @@
 -- What is known of the nodes of a table.
-use Rattle.std.proofs.Common.{◌≡◌, ℕ, zero, suc, ◌+◌, ◌<◌, List, [], ◌∷◌, ◌++◌, length, take, get_or, refl, sym, ap, subst, ◌∙◌, arith, length-append, zero-add, add-one}
-use Rattle.std.proofs.Math.ListN.{get_or-append}
-use Rattle.std.proofs.Math.Seq.{get_or-append_seam, take-suc}
-use Rattle.std.proofs.lemmas.List.{get_or_past, take_more, length-take-le}
+use Rattle.std.proofs.Common.{◌≡◌, ℕ, zero, suc, ◌+◌, ◌<◌, List, [], ◌∷◌, ◌++◌, length, take, get_or, refl, sym, ap, ◌∙◌, arith, zero-add}
+use Rattle.std.proofs.lemmas.List.{take_more, length-take-le}
 use Rattle.syntect_pattern.specs.Trees.{Tree, nothing}
 use Rattle.syntect_pattern_table.specs.Table.{node_tree, trees, trees_from}
 use Rattle.syntect_pattern_table.specs.declared.node.Node.{Node}

@@ -1,19 +1,18 @@
 -- The least place that has a match.
-use Rattle.std.proofs.Common.{◌≡◌, ℕ, zero, suc, mul-le-mul_left, ◌*◌, ◌+◌, ◌-◌, ◌<◌, ◌≤◌, Bool, true, false, List, [], ◌∷◌, length, get_or, refl, sym, ◌∙◌, ap, subst, arith, Option, Some, None}
-use Rattle.std.specs.Prelude.{IsCharBoundary, IsUtf8, slice_get, option_map, option_and_then, replicate, if◌then◌else◌, is_some}
+use Rattle.std.proofs.Common.{◌≡◌, ℕ, suc, mul-le-mul_left, ◌*◌, ◌+◌, ◌-◌, ◌<◌, ◌≤◌, Bool, true, false, List, [], ◌∷◌, length, get_or, refl, sym, ◌∙◌, ap, arith, Some, None}
+use Rattle.std.specs.Prelude.{IsCharBoundary, slice_get, option_map, replicate, if◌then◌else◌, is_some}
 use Rattle.std.specs.Option.{option_or}
 use Rattle.syntect_pattern.specs.Text.{is_boundary}
 use Rattle.syntect_pattern.specs.Trees.{Tree, nothing, group}
 use Rattle.syntect_pattern.specs.Matches.{Groups, Member, matches, unset, found_at, found_within, found}
 use Rattle.syntect_pattern_table.specs.Program.{trees_of, IsProgramOf}
 use Rattle.syntect_pattern_table.specs.declared.program.Program.{Program}
-use Rattle.syntect_ways.proofs.BoundaryLaws.{boundary-true}
-use Rattle.syntect_linear.specs.Onward.{Onward, reaches, chosen, moved, is_free, onward}
+use Rattle.syntect_linear.specs.Onward.{reaches, chosen, moved, is_free, onward}
 use Rattle.syntect_linear.specs.Cells.{cell_at, item_tree, is_end}
 use Rattle.syntect_linear.specs.Plan.{IsPart}
-use Rattle.syntect_linear.specs.Ground.{IsReady, IsIn, ends_at}
+use Rattle.syntect_linear.specs.Ground.{IsIn, ends_at}
 use Rattle.syntect_linear.specs.Walk.{IsFilled, Walks}
-use Rattle.syntect_linear.specs.Finds.{Covers, FindsAt, FindsGroups, FindsUpTo, groups_of}
+use Rattle.syntect_linear.specs.Finds.{Covers, FindsGroups, FindsUpTo, groups_of}
 use Rattle.syntect_linear.specs.declared.ground.Ground.{Ground}
 use Rattle.syntect_linear.specs.declared.cells.Cell.{Cell}
 use Rattle.syntect_linear.proofs.OnwardLaws.{moved-same, onward-alike}

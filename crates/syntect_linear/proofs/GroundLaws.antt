@@ -1,5 +1,5 @@
 -- What a search stands on.
-use Rattle.std.proofs.Common.{◌≡◌, ℕ, zero, suc, [], ◌∷◌, ◌+◌, ◌-◌, ◌<◌, ◌≤◌, List, length, Bool, true, false, Option, Some, None, refl, sym, ap, subst, ◌∙◌, arith, set, get_or, inl, inr, ◌⊎◌}
+use Rattle.std.proofs.Common.{◌≡◌, ℕ, zero, suc, [], ◌∷◌, ◌+◌, ◌-◌, ◌<◌, List, length, Bool, true, false, Option, Some, None, refl, sym, ap, subst, ◌∙◌, arith, set, get_or}
 use Rattle.std.specs.Prelude.{if◌then◌else◌, ◌==◌, not, is_some, IfSome, option_and_then, IsCharBoundary}
 use Rattle.std.specs.Option.{option_or}
 use Rattle.std.specs.Char.{len_utf8}
@@ -10,10 +10,10 @@ use Rattle.syntect_ways.specs.Steps.{after_char}
 use Rattle.syntect_linear.specs.Onward.{plain, moved, prefer_end, turn_end, has_turn, end_if}
 use Rattle.syntect_linear.specs.Plan.{TurnIs}
 use Rattle.syntect_linear.proofs.OnwardLaws.{moved-at, moved-past}
-use Rattle.syntect_pattern.specs.Trees.{Anchor, Tree, nothing, one_of, anchor, same, seq, alt, repeat, group, atomic, ahead, behind}
+use Rattle.syntect_pattern.specs.Trees.{Anchor, Tree, nothing, one_of, anchor, seq, alt, repeat, group, atomic, ahead, behind}
 use Rattle.syntect_pattern_table.specs.Program.{trees_of}
 use Rattle.syntect_linear.specs.Cells.{cell_at, parts_at}
-use Rattle.syntect_linear.specs.Rows.{row_end, row_flag, ends_here, AreKnown, AreRows}
+use Rattle.syntect_linear.specs.Rows.{row_end, row_flag, ends_here}
 use Rattle.syntect_linear.specs.Ground.{IsReady, IsIn, Knows, ends_at, height_of}
 use Rattle.syntect_linear.specs.Step.{IsTreeAt}
 use Rattle.syntect_linear.specs.declared.ground.Ground.{Ground}

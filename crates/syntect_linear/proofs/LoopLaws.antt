@@ -1,35 +1,22 @@
 -- Along the match, turn by turn.
-use Rattle.std.proofs.Common.{◌≡◌, ℕ, zero, suc, ◌+◌, ◌-◌, ◌<◌, ◌≤◌, List, [], ◌∷◌, length, Bool, true, false, Option, Some, None, refl, sym, ap, subst, ◌∙◌, arith, inl, inr, ◌⊎◌}
-use Rattle.std.specs.Prelude.{◌&&◌, if◌then◌else◌, ◌==◌, not, is_some, slice_set, option_map, option_and_then, unwrap_or, IsUtf8, IsCharBoundary}
-use Rattle.std.specs.Option.{option_or}
-use Rattle.syntect_pattern.specs.Text.{char_at}
-use Rattle.syntect_pattern.specs.Sets.{Set, holds}
-use Rattle.syntect_pattern.specs.Trees.{Anchor, Tree, nothing, one_of, anchor, same, seq, alt, repeat, group, atomic, ahead, behind}
-use Rattle.syntect_pattern.specs.Matches.{Groups, Member, only_if, look, close, after_turn, turns, matches}
+use Rattle.std.proofs.Common.{◌≡◌, ℕ, zero, suc, ◌-◌, ◌<◌, List, length, Bool, true, false, Option, Some, None, refl, sym, ap, subst, ◌∙◌, arith, inl, inr, ◌⊎◌}
+use Rattle.std.specs.Prelude.{◌&&◌, if◌then◌else◌, ◌==◌, not, is_some, option_map, IsUtf8}
+use Rattle.syntect_pattern.specs.Trees.{Tree, repeat}
+use Rattle.syntect_pattern.specs.Matches.{Groups, Member, after_turn, turns, matches}
 use Rattle.syntect_pattern_table.specs.Program.{trees_of}
-use Rattle.syntect_linear.specs.Onward.{Onward, chosen, reaches, moved, reads, onward, is_free, is_calm, is_bare, end_if, has_turn, turn_end, prefer_end}
+use Rattle.syntect_linear.specs.Onward.{Onward, chosen, moved, onward, is_free, is_calm, end_if, has_turn, turn_end, prefer_end}
 use Rattle.syntect_linear.specs.Cells.{cell_at, parts_at, item_tree, is_end, tree_size}
-use Rattle.syntect_linear.specs.Ground.{IsReady, IsIn, ends_at}
+use Rattle.syntect_linear.specs.Ground.{ends_at}
 use Rattle.syntect_linear.specs.Step.{IsTreeAt}
 use Rattle.syntect_linear.specs.Walk.{IsFilled, Walks}
 use Rattle.syntect_linear.specs.declared.ground.Ground.{Ground}
 use Rattle.syntect_linear.specs.declared.cells.Cell.{Cell}
-use Rattle.syntect_linear.specs.declared.cells.Parts.{Parts}
-use Rattle.syntect_linear.specs.declared.cells.Item.{Item}
-use Rattle.syntect_linear.specs.Plan.{IsPart, IsSequence, IsTurn, TurnIs}
-use Rattle.syntect_linear.specs.Rows.{row_end}
-use Rattle.syntect_ways.specs.Steps.{after_char}
-use Rattle.syntect_pattern.proofs.Each.{Each}
-use Rattle.syntect_pattern_laws.proofs.TurnLaws.{matches-forward}
-use Rattle.syntect_linear.proofs.TreeLaws.{bare-groups, plain-bare, behind-matches, and_left, and_right}
-use Rattle.syntect_linear.proofs.CellLaws.{either-bool}
-use Rattle.syntect_linear.proofs.OnwardLaws.{moved-at, moved-past, moved-same, following, at-or-past, same-place, other-place, onward-one_of}
-use Rattle.syntect_linear.proofs.ChosenLaws.{reaches-any, chosen-reads, chosen-stays, chosen-past, chosen-one, stays-look, chosen-leads, first-chosen, second-chosen, chosen-close, chosen-first, chosen-stay, chosen-forward, chosen-seq, chosen-past_place, chosen-turn, chosen-empty, chosen-more, chosen-leave, turned}
-use Rattle.syntect_linear.proofs.ReachLaws.{reaches-chosen}
-use Rattle.syntect_linear.proofs.StepLaws.{IsAt, goes, free, step, part-goes, following-is, region, zero-ends, at-one_of, at-alt, at-group, at-atomic, at-ahead, at-seq, at-repeat, turn-ends}
+use Rattle.syntect_linear.specs.Plan.{IsTurn, TurnIs}
+use Rattle.syntect_linear.proofs.OnwardLaws.{moved-past}
+use Rattle.syntect_linear.proofs.ChosenLaws.{chosen-leads, chosen-forward, chosen-turn, chosen-empty, chosen-more, chosen-leave, turned}
+use Rattle.syntect_linear.proofs.StepLaws.{IsAt, free, step, following-is, at-repeat, turn-ends}
 use Rattle.syntect_linear.proofs.GroundLaws.{tree-at, turn-if}
-use Rattle.syntect_linear.proofs.WalkLaws.{size_of, if-some, chosen-each, filled-on, CanWalk, can-walk, size-is, part-chosen, ends-forward, walks-by}
-use Rattle.syntect_linear.proofs.WalkLaws.{Continues}
+use Rattle.syntect_linear.proofs.WalkLaws.{size_of, if-some, filled-on, CanWalk, can-walk, size-is, part-chosen, ends-forward, walks-by}
 
 module _ (x : Ground) (k place : ℕ) (g : Groups) (filled : IsFilled x place) (greedy : Bool) (least : ℕ) (most : Option ℕ) (a : Tree) (here : IsTreeAt x k (repeat greedy least most a)) where
   abbrev ts : List Tree

@@ -1,19 +1,19 @@
 -- Where the parts of a tree go on.
-use Rattle.std.proofs.Common.{◌≡◌, ◌⊎◌, inl, inr, ℕ, zero, suc, ◌+◌, ◌-◌, ◌≤◌, ◌<◌, List, [], ◌∷◌, ◌++◌, length, map, take, Bool, true, false, Option, Some, None, refl, sym, ap, subst, ◌∙◌, arith}
+use Rattle.std.proofs.Common.{◌≡◌, ◌⊎◌, inl, inr, ℕ, zero, suc, ◌+◌, ◌-◌, ◌≤◌, ◌<◌, List, [], ◌∷◌, length, map, take, Bool, true, false, Option, Some, None, refl, sym, ap, subst, ◌∙◌, arith}
 use Rattle.std.specs.Prelude.{not, ◌&&◌, if◌then◌else◌, ◌==◌, is_some, option_map, option_and_then, IsUtf8, IsCharBoundary}
 use Rattle.std.specs.List.{flat_map}
 use Rattle.std.specs.Option.{option_or}
 use Rattle.std.specs.Char.{len_utf8}
 use Rattle.syntect_pattern.specs.Text.{char_at}
 use Rattle.syntect_pattern.specs.Sets.{Set, holds}
-use Rattle.syntect_pattern.specs.Trees.{Tree, Anchor, nothing, one_of, anchor, same, seq, alt, repeat, group, atomic, ahead, behind}
-use Rattle.syntect_pattern.specs.Matches.{Groups, Member, Way, only_if, past, prefer, while_left, after_turn, turns, stay, stay_unless, look, close, stands, matches}
-use Rattle.syntect_pattern.proofs.Each.{Each, each_of}
+use Rattle.syntect_pattern.specs.Trees.{Tree, Anchor, nothing, one_of, anchor, seq, alt, repeat, group, atomic, ahead}
+use Rattle.syntect_pattern.specs.Matches.{Groups, Member, Way, only_if, past, prefer, while_left, after_turn, turns, look, close, stands, matches}
+use Rattle.syntect_pattern.proofs.Each.{Each}
 use Rattle.syntect_pattern_laws.proofs.TurnLaws.{matches-forward, turns_enough}
 use Rattle.syntect_ways.specs.Steps.{after_char}
-use Rattle.syntect_linear.specs.Onward.{Onward, reaches, chosen, moved, is_free, is_calm, reads, onward, prefer_end, turn_end, end_if}
-use Rattle.syntect_linear.proofs.ReachLaws.{SameEnds, Leads, Alike, reaches-append, chosen-append, reaches-ends, reaches-flat_map, chosen-flat_map, reaches-alike, chosen-alike}
-use Rattle.syntect_linear.proofs.TreeLaws.{ends-matches, and_left, and_right, behind-matches}
+use Rattle.syntect_linear.specs.Onward.{Onward, reaches, moved, is_free, is_calm, reads, onward, prefer_end, turn_end, end_if}
+use Rattle.syntect_linear.proofs.ReachLaws.{Leads, reaches-append, reaches-ends, reaches-flat_map, reaches-alike}
+use Rattle.syntect_linear.proofs.TreeLaws.{ends-matches, behind-matches}
 
 or-none : {A : Type 0} (o : Option A) → option_or o None ≡ o
 or-none None = refl

@@ -1,6 +1,6 @@
 -- Plans that grow.
 use Rattle.std.proofs.Common.{◌≡◌, ℕ, zero, suc, ◌+◌, ◌-◌, ◌*◌, ◌<◌, ◌≤◌, add-zero, List, [], ◌∷◌, ◌++◌, length, Bool, true, false, Option, Some, None, refl, sym, ap, subst, ◌∙◌, arith, inl, inr, length-append}
-use Rattle.std.specs.Prelude.{option_map, slice_index_or, ◌&&◌, ◌||◌, ◌==◌, if◌then◌else◌, sum_by, is_none}
+use Rattle.std.specs.Prelude.{option_map, slice_index_or, ◌&&◌, ◌||◌, ◌==◌, if◌then◌else◌, is_none}
 use Rattle.std.proofs.lemmas.List.Sums.{sum_by-append}
 use Rattle.std.proofs.lemmas.Bool.{cases_lt}
 use Rattle.std.proofs.lemmas.List.{get_or_append_left, get_or_past}
@@ -8,7 +8,7 @@ use Rattle.std.proofs.Math.Seq.{get_or-append_seam}
 use Rattle.syntect_pattern.specs.Trees.{Tree, nothing, one_of, anchor, same, seq, alt, repeat, group, atomic, ahead, behind}
 use Rattle.syntect_linear.specs.Onward.{reads, is_free, is_calm}
 use Rattle.syntect_linear.specs.Cells.{last_cell, cell_at, parts_at, item_tree, is_end}
-use Rattle.syntect_linear.specs.Plan.{AreCells, Grows, IsCell, IsPart, Extends, CanPush, Pushes, PushesBoth, PushesMore, turn_cells, more_cells, cells_of, cell_cells, all_cells, plan_cells, IsSequence, IsTurn, TurnIs, LooksFor, IsStep, IsStepOf, Expands, IsPlanned}
+use Rattle.syntect_linear.specs.Plan.{AreCells, Grows, IsCell, IsPart, Extends, CanPush, Pushes, PushesBoth, PushesMore, turn_cells, more_cells, cells_of, cell_cells, all_cells, plan_cells, IsTurn, TurnIs, LooksFor, IsStep, IsStepOf, Expands, IsPlanned}
 use Rattle.syntect_linear.specs.declared.cells.Item.{Item}
 use Rattle.syntect_linear.specs.declared.cells.Item.TheVariants.{End, Node, Turns}
 use Rattle.syntect_linear.specs.declared.cells.Cell.{Cell}

@@ -1,9 +1,9 @@
 -- The first member that leads anywhere.
-use Rattle.std.proofs.Common.{◌≡◌, ℕ, List, [], ◌∷◌, ◌++◌, map, take, Bool, true, false, Option, Some, None, refl, sym, ap, ◌∙◌, cond}
-use Rattle.std.specs.Prelude.{if◌then◌else◌, ◌==◌, is_some, option_and_then}
+use Rattle.std.proofs.Common.{◌≡◌, ℕ, List, [], ◌∷◌, ◌++◌, map, take, Bool, true, false, Option, Some, None, refl, sym, ap, ◌∙◌}
+use Rattle.std.specs.Prelude.{if◌then◌else◌, is_some, option_and_then}
 use Rattle.std.specs.List.{flat_map}
 use Rattle.std.specs.Option.{option_or}
-use Rattle.syntect_pattern.specs.Matches.{Groups, Member}
+use Rattle.syntect_pattern.specs.Matches.{Member}
 use Rattle.syntect_pattern.proofs.Each.{Each}
 use Rattle.syntect_linear.specs.Onward.{Onward, reaches, chosen}
 

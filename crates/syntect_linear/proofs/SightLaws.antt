@@ -9,8 +9,7 @@ use Rattle.std.proofs.lemmas.Bool.Decides.{nat_tests}
 use Rattle.syntect_pattern.specs.Text.{is_boundary, char_at}
 use Rattle.syntect_pattern.specs.Sets.{Set, holds}
 use Rattle.syntect_pattern.specs.Trees.{Anchor, Tree, nothing, one_of, anchor, same, seq, alt, repeat, group, atomic, ahead, behind}
-use Rattle.syntect_pattern.specs.Matches.{Member, Way, ending_at, or_else, stands, matches, ending_here}
-use Rattle.syntect_pattern.proofs.Each.{Each}
+use Rattle.syntect_pattern.specs.Matches.{Member, ending_at, or_else, stands, matches, ending_here}
 use Rattle.syntect_pattern_laws.proofs.TurnLaws.{matches-forward}
 use Rattle.std.proofs.lemmas.Str.{IsCharBoundary-start}
 use Rattle.syntect_ways.specs.Steps.{after_char}
@@ -18,10 +17,10 @@ use Rattle.syntect_ways.proofs.BoundaryLaws.{boundary-true, true-boundary}
 use Rattle.syntect_linear.specs.Onward.{Onward, reaches, chosen, onward, end_if, is_free, plain}
 use Rattle.syntect_linear.specs.Rows.{only_at, leads_to, flag_of, row_flag, IsImage, AreBounds, marked, is_single, single_end, ends_here}
 use Rattle.syntect_linear.proofs.ReachLaws.{chosen-some}
-use Rattle.syntect_linear.proofs.TreeLaws.{and_left, and_right, plain-free}
+use Rattle.syntect_linear.proofs.TreeLaws.{and_right, plain-free}
 use Rattle.syntect_linear.proofs.OnwardLaws.{onward-nothing, onward-one_of, onward-anchor, onward-alt, onward-then, first-ends}
 use Rattle.syntect_linear.proofs.ChosenLaws.{chosen-leads}
-use Rattle.syntect_linear.proofs.WalkLaws.{chosen-each, then-some, if-some}
+use Rattle.syntect_linear.proofs.WalkLaws.{chosen-each, if-some}
 
 -- -- Trees without parts
 

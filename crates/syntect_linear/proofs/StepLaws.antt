@@ -1,21 +1,20 @@
 -- Where the whole match ends from a cell, by its parts.
-use Rattle.std.proofs.Common.{◌≡◌, ℕ, zero, suc, ◌+◌, ◌-◌, ◌<◌, ◌≤◌, List, [], ◌∷◌, ◌++◌, length, get_or, Bool, true, false, Option, Some, None, refl, sym, ap, subst, ◌∙◌, arith, inl, inr, ◌⊎◌}
+use Rattle.std.proofs.Common.{◌≡◌, ℕ, zero, suc, ◌+◌, ◌-◌, ◌<◌, ◌≤◌, List, [], length, Bool, true, false, Option, Some, None, refl, sym, ap, subst, ◌∙◌, arith, inl, inr, ◌⊎◌}
 use Rattle.std.specs.Prelude.{if◌then◌else◌, ◌&&◌, ◌||◌, ◌==◌, nat_lt, not, is_some, option_map, option_and_then, IsUtf8, IsCharBoundary}
 use Rattle.std.specs.Option.{option_or}
 use Rattle.std.specs.Char.{len_utf8}
 use Rattle.syntect_pattern.specs.Text.{char_at}
 use Rattle.syntect_pattern.specs.Sets.{Set, holds}
-use Rattle.syntect_pattern.specs.Trees.{Anchor, Tree, nothing, one_of, anchor, same, seq, alt, repeat, group, atomic, ahead, behind}
-use Rattle.syntect_pattern.specs.Matches.{stands, matches}
+use Rattle.syntect_pattern.specs.Trees.{Anchor, Tree, nothing, one_of, anchor, seq, alt, repeat, group, atomic, ahead, behind}
+use Rattle.syntect_pattern.specs.Matches.{stands}
 use Rattle.syntect_ways.specs.Steps.{after_char}
 use Rattle.syntect_linear.specs.Onward.{Onward, moved, reads, is_free, onward, prefer_end, turn_end, end_if}
-use Rattle.syntect_linear.specs.Cells.{last_cell, cell_at, parts_at, item_tree, is_end, tree_size, ends, height}
-use Rattle.syntect_linear.specs.Plan.{AreCells, IsCell, IsPart, IsSequence, IsTurn, TurnIs, LooksFor, IsStep, IsStepOf, IsPlanned}
+use Rattle.syntect_linear.specs.Cells.{cell_at, parts_at, item_tree, is_end, tree_size, ends, height}
+use Rattle.syntect_linear.specs.Plan.{IsPart, IsSequence, IsTurn, TurnIs, LooksFor, IsStep, IsPlanned}
 use Rattle.syntect_linear.specs.Rows.{ends_here}
-use Rattle.syntect_linear.specs.declared.cells.Item.{Item}
 use Rattle.syntect_linear.specs.declared.cells.Cell.{Cell}
 use Rattle.syntect_linear.specs.declared.cells.Parts.{Parts}
-use Rattle.syntect_linear.proofs.TreeLaws.{and_left, and_right}
+use Rattle.syntect_linear.proofs.TreeLaws.{and_right}
 use Rattle.syntect_linear.proofs.OnwardLaws.{following, moved-at, moved-past, moved-same, onward-alike, onward-nothing, onward-one_of, onward-anchor, onward-alt, onward-group, onward-atomic, onward-ahead, onward-seq, onward-repeat, onward-reads, look-end, first-ends, first-behind}
 use Rattle.syntect_linear.proofs.CellLaws.{real-inside, height-part, height-end, ends-part, ends-end, either-bool}
 

@@ -1,13 +1,12 @@
 -- What the matches of a tree have in common.
-use Rattle.std.proofs.Common.{◌≡◌, ◌⊎◌, inl, inr, ℕ, zero, suc, ◌+◌, ◌-◌, ◌≤◌, ◌<◌, List, [], ◌∷◌, ◌++◌, length, map, take, Bool, true, false, Option, Some, None, refl, sym, ap, ◌∙◌, arith}
+use Rattle.std.proofs.Common.{◌≡◌, ◌⊎◌, inl, inr, ℕ, zero, suc, ◌+◌, ◌-◌, ◌≤◌, ◌<◌, List, [], ◌∷◌, length, Bool, true, false, Option, Some, None, refl, ap, ◌∙◌, arith}
 use Rattle.std.specs.Prelude.{not, ◌&&◌, ◌||◌, nat_lt, if◌then◌else◌, ◌==◌, slice_set, option_map, IsUtf8, IsCharBoundary}
 use Rattle.std.specs.List.{flat_map}
 use Rattle.std.specs.Char.{len_utf8}
 use Rattle.syntect_pattern.specs.Text.{char_at, is_boundary}
 use Rattle.syntect_pattern.specs.Sets.{holds}
 use Rattle.syntect_pattern.specs.Trees.{Tree, nothing, one_of, anchor, same, seq, alt, repeat, group, atomic, ahead, behind}
-use Rattle.syntect_pattern.specs.Matches.{Groups, Member, Way, only_if, past, prefer, while_left, after_turn, turns, ending_at, or_else, stay, stay_unless, look, close, stands, ending_here, matches}
-use Rattle.syntect_pattern.specs.Nesting.{looks_fail}
+use Rattle.syntect_pattern.specs.Matches.{Groups, Member, Way, only_if, past, prefer, while_left, after_turn, turns, ending_at, or_else, look, close, stands, ending_here, matches}
 use Rattle.syntect_pattern.proofs.Each.{Each, each_of, each-append, each-flat_map, each-map, each-take}
 use Rattle.syntect_pattern_laws.proofs.MatchLaws.{Step, IsClosed, steps-matches}
 use Rattle.syntect_pattern_laws.proofs.TurnLaws.{matches-forward}

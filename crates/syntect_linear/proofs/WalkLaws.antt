@@ -1,15 +1,15 @@
 -- Along the match, part by part.
-use Rattle.std.proofs.Common.{◌≡◌, ℕ, zero, suc, ◌+◌, ◌*◌, ◌-◌, ◌<◌, ◌≤◌, List, [], ◌∷◌, length, Bool, true, false, Option, Some, None, refl, sym, ap, subst, ◌∙◌, arith, inl, inr, ◌⊎◌}
-use Rattle.std.specs.Prelude.{if◌then◌else◌, ◌==◌, not, is_some, slice_set, option_map, option_and_then, unwrap_or, IsUtf8, IsCharBoundary}
+use Rattle.std.proofs.Common.{◌≡◌, ℕ, suc, ◌+◌, ◌*◌, ◌-◌, ◌<◌, ◌≤◌, List, [], ◌∷◌, length, Bool, true, false, Option, Some, None, refl, sym, ap, subst, ◌∙◌, arith, inl, inr, ◌⊎◌}
+use Rattle.std.specs.Prelude.{if◌then◌else◌, ◌==◌, is_some, slice_set, option_map, option_and_then, unwrap_or, IsUtf8, IsCharBoundary}
 use Rattle.std.specs.Option.{option_or}
 use Rattle.syntect_pattern.specs.Text.{char_at}
 use Rattle.syntect_pattern.specs.Sets.{Set, holds}
-use Rattle.syntect_pattern.specs.Trees.{Anchor, Tree, nothing, one_of, anchor, same, seq, alt, repeat, group, atomic, ahead, behind}
+use Rattle.syntect_pattern.specs.Trees.{Anchor, Tree, nothing, one_of, anchor, alt, repeat, group, atomic, ahead, behind}
 use Rattle.syntect_pattern.specs.Matches.{Groups, Member, only_if, look, close, matches}
 use Rattle.syntect_pattern_table.specs.Program.{trees_of}
 use Rattle.syntect_linear.specs.Onward.{Onward, chosen, reaches, moved, reads, onward, is_free, is_bare, end_if}
 use Rattle.syntect_linear.specs.Cells.{cell_at, parts_at, item_tree, is_end, tree_size}
-use Rattle.syntect_linear.specs.Ground.{IsReady, IsIn, ends_at}
+use Rattle.syntect_linear.specs.Ground.{IsIn, ends_at}
 use Rattle.syntect_linear.specs.Step.{IsTreeAt}
 use Rattle.syntect_linear.specs.Steps.{walk_cost, look_cost}
 use Rattle.syntect_linear.specs.Walk.{IsFilled, Walks}
@@ -17,17 +17,17 @@ use Rattle.syntect_linear.specs.declared.ground.Ground.{Ground}
 use Rattle.syntect_linear.specs.declared.cells.Cell.{Cell}
 use Rattle.syntect_linear.specs.declared.cells.Parts.{Parts}
 use Rattle.syntect_linear.specs.declared.cells.Item.{Item}
-use Rattle.syntect_linear.specs.Plan.{IsPart, IsSequence, IsTurn, TurnIs}
+use Rattle.syntect_linear.specs.Plan.{IsPart}
 use Rattle.syntect_linear.specs.Rows.{row_end}
 use Rattle.syntect_ways.specs.Steps.{after_char}
 use Rattle.syntect_pattern.proofs.Each.{Each}
 use Rattle.syntect_pattern_laws.proofs.TurnLaws.{matches-forward}
-use Rattle.syntect_linear.proofs.TreeLaws.{bare-groups, plain-bare, behind-matches, and_left, and_right}
+use Rattle.syntect_linear.proofs.TreeLaws.{bare-groups, plain-bare, and_left}
 use Rattle.syntect_linear.proofs.CellLaws.{either-bool}
-use Rattle.syntect_linear.proofs.OnwardLaws.{moved-at, moved-past, moved-same, following, at-or-past, same-place, other-place, onward-one_of}
-use Rattle.syntect_linear.proofs.ChosenLaws.{reaches-any, chosen-reads, chosen-stays, chosen-past, chosen-one, stays-look, chosen-leads, first-chosen, second-chosen, chosen-close, chosen-first, chosen-stay, chosen-forward, chosen-seq, chosen-past_place, chosen-turn, chosen-empty, chosen-more, chosen-leave}
+use Rattle.syntect_linear.proofs.OnwardLaws.{moved-at, moved-same, onward-one_of}
+use Rattle.syntect_linear.proofs.ChosenLaws.{reaches-any, chosen-reads, chosen-stays, chosen-past, stays-look, first-chosen, second-chosen, chosen-close, chosen-first, chosen-stay, chosen-forward}
 use Rattle.syntect_linear.proofs.ReachLaws.{reaches-chosen}
-use Rattle.syntect_linear.proofs.StepLaws.{IsAt, goes, free, step, part-goes, following-is, region, zero-ends, at-one_of, at-alt, at-group, at-atomic, at-ahead, at-seq, at-repeat}
+use Rattle.syntect_linear.proofs.StepLaws.{IsAt, goes, free, step, part-goes, region, zero-ends, at-one_of, at-alt, at-group, at-atomic, at-ahead}
 use Rattle.syntect_linear.proofs.GroundLaws.{tree-at}
 
 -- how large the tree of a cell's item is

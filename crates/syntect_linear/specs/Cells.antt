@@ -1,6 +1,6 @@
 -- The cells of a plan, and what goes on from them.
-use Rattle.std.specs.Prelude.{ℕ, zero, suc, ◌+◌, ◌-◌, Bool, true, false, List, [], ◌∷◌, ◌++◌, Option, Some, if◌then◌else◌, slice_index_or}
-use Rattle.syntect_pattern.specs.Trees.{Tree, nothing, one_of, anchor, same, seq, alt, repeat, group, atomic, ahead, behind}
+use Rattle.std.specs.Prelude.{ℕ, zero, suc, ◌+◌, Bool, true, false, List, [], ◌∷◌, ◌++◌, Some, if◌then◌else◌, slice_index_or}
+use Rattle.syntect_pattern.specs.Trees.{Tree, nothing, seq, alt, repeat, group, atomic, ahead, behind}
 use Rattle.syntect_linear.specs.Onward.{Onward, moved, reads, onward}
 use Rattle.syntect_linear.specs.declared.cells.Item.{Item}
 use Rattle.syntect_linear.specs.declared.cells.Item.TheVariants.{End, Node, Turns}

@@ -1,10 +1,9 @@
 -- The plan of a pattern: its cells, and the cells of their parts.
 use Rattle.std.specs.Prelude.{◌≡◌, ◌⊎◌, ℕ, zero, suc, ◌+◌, ◌-◌, ◌*◌, ◌<◌, ◌≤◌, ◌||◌, ◌==◌, if◌then◌else◌, sum_by, Bool, true, false, List, length, Option, Some, None, option_map, slice_index_or}
-use Rattle.syntect_pattern.specs.Trees.{Tree, nothing, one_of, anchor, seq, alt, repeat, group, atomic, ahead, behind}
+use Rattle.syntect_pattern.specs.Trees.{Tree, nothing, seq, alt, repeat, group, atomic, ahead, behind}
 use Rattle.syntect_linear.specs.Onward.{reads, is_free}
 use Rattle.syntect_linear.specs.Cells.{last_cell, cell_at, parts_at, item_tree, is_end}
 use Rattle.syntect_linear.specs.declared.cells.Item.{Item}
-use Rattle.syntect_linear.specs.declared.cells.Item.TheVariants.{Node}
 use Rattle.syntect_linear.specs.declared.cells.Cell.{Cell}
 use Rattle.syntect_linear.specs.declared.cells.Parts.{Parts}
 
@@ -44,8 +43,8 @@ all_cells ts cells = sum_by (cell_cells ts) cells
 abbrev pub plan_cells : Tree → ℕ
 plan_cells t = suc (cells_of true t)
 
--- The pattern has no plan of at most so many cells: it has a back reference, or a lookbehind looks for what isn't plain, or
--- it takes more cells.
+-- The pattern has no plan of at most so many cells: it has a back reference, or a lookbehind looks for what isn't plain, or a
+-- lookahead in a loop sets groups, or it takes more cells.
 abbrev pub IsHard : ℕ → Tree → Type 0
 IsHard most t = (is_free t ≡ false) ⊎ (most < plan_cells t)
 

@@ -1,5 +1,5 @@
 -- Where the whole match ends, from each cell and each place.
-use Rattle.std.specs.Prelude.{◌≡◌, ℕ, ◌-◌, ◌<◌, ◌≤◌, ◌==◌, Bool, true, false, List, [], length, Option, Some, None, slice_index_or, slice_set, is_some, IsUtf8, IsCharBoundary}
+use Rattle.std.specs.Prelude.{◌≡◌, ℕ, ◌-◌, ◌<◌, ◌==◌, Bool, true, false, List, [], length, Option, Some, None, slice_index_or, slice_set, is_some, IsCharBoundary}
 use Rattle.syntect_pattern.specs.Trees.{Tree, nothing, one_of, anchor}
 use Rattle.syntect_pattern.specs.Matches.{matches, ending_here}
 use Rattle.syntect_linear.specs.Onward.{Onward, reaches, plain, onward, end_if}

@@ -10,7 +10,7 @@ use syntect_pattern_table::program::Program;
 use syntect_values::seq::Seq;
 
 /// At most about so many cells a plan has.
-const MOST: usize = 20000;
+const MOST: usize = 40000;
 
 /// The cells of a pattern.
 #[derive(Drop)]
@@ -291,8 +291,8 @@ impl Plan {
         Ok(plan)
     }
 
-    /// The plan of a program. There is none for a pattern that has a back reference or a lookbehind for more than characters,
-    /// anchors, sequences and branches, nor where too many cells are needed.
+    /// The plan of a program. There is none for a pattern that has a back reference, a lookbehind for more than characters,
+    /// anchors, sequences and branches, or a lookahead in a loop that sets groups, nor where too many cells are needed.
     pub fn new(alloc: Global, program: &Program) -> Result<Option<Plan>, AllocError>
         ensures plan { IfOk result (λ found. IfSome found (λ plan. IsPlanOf program.now plan)) }
         ensures count { IfOk result (λ found. IfSome found (λ plan. length plan.cells

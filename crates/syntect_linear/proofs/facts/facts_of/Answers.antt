@@ -1,4 +1,4 @@
-use Rattle.std.proofs.Common.{◌≡◌, List, [], ap, subst, sym, ◌∙◌, arith, refl, length, length-append, ◌∷◌, take}
+use Rattle.std.proofs.Common.{List, [], ap, subst, sym, ◌∙◌, arith, length, length-append, ◌∷◌, take}
 use Rattle.syntect_pattern_table.specs.Table.{trees}
 use Rattle.syntect_linear.specs.Facts.{AreFacts}
 use Rattle.syntect_linear.specs.declared.facts.Facts.{Facts}

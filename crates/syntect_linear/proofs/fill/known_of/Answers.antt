@@ -1,5 +1,4 @@
-use Rattle.std.proofs.Common.{◌≡◌, ap, ◌∙◌, arith, length}
-use Rattle.syntect_linear.specs.Steps.{unknown}
+use Rattle.std.proofs.Common.{◌≡◌, ◌∙◌, arith, length}
 use Rattle.syntect_linear.proofs.StepsLaws.{none-known, none-length, unknown-most}
 use Rattle.syntect_linear.proofs.fill.known_of.Goals as goal
 

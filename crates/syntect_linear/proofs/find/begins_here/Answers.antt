@@ -1,4 +1,4 @@
-use Rattle.std.proofs.Common.{◌≡◌, sym, ◌∙◌, ap, List, Option, subst, replicate, None}
+use Rattle.std.proofs.Common.{sym, ◌∙◌, subst}
 use Rattle.syntect_pattern.specs.Matches.{Groups}
 use Rattle.syntect_linear.specs.Walk.{Walks}
 use Rattle.syntect_linear.proofs.FindLaws.{covers-filled, found_at-between, found-none, found-some, whole-cost}

@@ -1,4 +1,4 @@
-use Rattle.std.proofs.Common.{◌≡◌, ◌≤◌, refl, sym, ◌∙◌, ap, arith, Some, None, add-one, suc, length}
+use Rattle.std.proofs.Common.{◌≡◌, sym, ◌∙◌, ap, arith, Some, None, add-one, suc}
 use Rattle.syntect_pattern.specs.Matches.{found, found_at}
 use Rattle.syntect_linear.specs.Finds.{groups_of}
 use Rattle.syntect_linear.proofs.FindLaws.{found-here, found-step, found-past, paid-none, paid-match, paid-all, paid-rows}

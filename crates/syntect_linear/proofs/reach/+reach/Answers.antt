@@ -1,5 +1,5 @@
-use Rattle.std.proofs.Common.{◌≡◌, suc, ℕ, ◌<◌, ◌*◌, ◌+◌, List, Bool, true, false, Option, Some, None, refl, sym, ap, subst, ◌∙◌, arith, get_or}
-use Rattle.syntect_pattern.specs.Trees.{Tree, nothing, seq, alt, group, atomic, ahead, behind, anchor, repeat}
+use Rattle.std.proofs.Common.{◌≡◌, suc, ℕ, ◌*◌, ◌+◌, List, Bool, Option, None, sym, ap, ◌∙◌, arith, get_or}
+use Rattle.syntect_pattern.specs.Trees.{nothing}
 use Rattle.syntect_pattern_table.specs.Program.{trees_of}
 use Rattle.syntect_pattern_table.specs.Table.{node_tree}
 use Rattle.std.specs.Prelude.{if◌then◌else◌, ◌==◌, not, is_some}

@@ -1,4 +1,4 @@
-use Rattle.std.proofs.Common.{ℕ, ◌+◌, ◌*◌}
+use Rattle.std.proofs.Common.{◌+◌, ◌*◌}
 use Rattle.std.specs.Prelude.{if◌then◌else◌}
 use Rattle.syntect_pattern_table.specs.Program.{trees_of}
 use Rattle.syntect_linear.specs.Cells.{height}

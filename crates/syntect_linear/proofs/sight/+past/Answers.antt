@@ -7,7 +7,7 @@ use Rattle.syntect_ways.proofs.OkLaws.{if_ok_map}
 use Rattle.syntect_linear.specs.Onward.{plain}
 use Rattle.syntect_linear.specs.Cells.{tree_size}
 use Rattle.syntect_linear.specs.Rows.{IsImage, flag_of, is_single}
-use Rattle.syntect_linear.proofs.TreeLaws.{and_left, and_right}
+use Rattle.syntect_linear.proofs.TreeLaws.{and_right}
 use Rattle.syntect_linear.proofs.SightLaws.{image-of, image-seq, image-alt, image-bounds}
 use Rattle.syntect_linear.proofs.sight.+past.Goals as goal
 

@@ -1,4 +1,4 @@
-use Rattle.std.proofs.Common.{sym, ◌∙◌, arith}
+use Rattle.std.proofs.Common.{arith}
 use Rattle.syntect_linear.proofs.SightLaws.{bounds-all}
 use Rattle.syntect_linear.proofs.sight.bounds.Goals as goal
 

@@ -1,6 +1,6 @@
-use Rattle.std.proofs.Common.{◌≡◌, List, Bool, length, subst, sym, ◌∙◌, arith, ℕ}
+use Rattle.std.proofs.Common.{◌≡◌, length, subst, arith, ℕ}
 use Rattle.syntect_pattern_table.specs.Table.{node_tree}
-use Rattle.syntect_linear.proofs.SightLaws.{Spreads, spreads-more, spreads-image, spreads-none}
+use Rattle.syntect_linear.proofs.SightLaws.{Spreads, spreads-more, spreads-image}
 use Rattle.syntect_linear.proofs.sight.past_single.Goals as goal
 
 pub loop-place-preserved : goal.loop-place-preserved

@@ -1,6 +1,4 @@
-use Rattle.std.proofs.Common.{◌≡◌, ◌+◌, ℕ, Bool, List, ap, sym, ◌∙◌, arith, get_or, subst, true, false, refl, length, length-append, ◌∷◌, [], arith}
-use Rattle.std.proofs.lemmas.List.{get_or_default}
-use Rattle.syntect_pattern.specs.Text.{is_boundary}
+use Rattle.std.proofs.Common.{◌≡◌, ℕ, Bool, List, ap, sym, ◌∙◌, arith, get_or, subst, true, false, length, length-append, ◌∷◌, [], arith}
 use Rattle.syntect_pattern.specs.Trees.{Tree, nothing}
 use Rattle.syntect_pattern_table.specs.Program.{trees_of}
 use Rattle.syntect_linear.specs.Onward.{plain}

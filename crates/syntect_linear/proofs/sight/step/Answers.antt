@@ -1,4 +1,4 @@
-use Rattle.std.proofs.Common.{◌≡◌, ap, sym, ◌∙◌}
+use Rattle.std.proofs.Common.{ap, sym, ◌∙◌}
 use Rattle.syntect_pattern.specs.Anchors.{anchor_of}
 use Rattle.syntect_pattern.specs.Sets.{range}
 use Rattle.syntect_pattern_table.specs.Table.{node_tree, set_of}

@@ -1,23 +1,22 @@
-use Rattle.std.proofs.Common.{◌≡◌, suc, ◌≤◌, ◌+◌, ◌*◌, ℕ, ◌<◌, ◌-◌, Bool, true, false, Option, Some, refl, sym, ap, subst, ◌∙◌, arith, get_or, inl, inr, length}
-use Rattle.std.specs.Prelude.{if◌then◌else◌, ◌||◌, is_some, option_map}
+use Rattle.std.proofs.Common.{◌≡◌, suc, ◌≤◌, ◌+◌, ◌*◌, ℕ, ◌-◌, Bool, true, false, refl, sym, ap, subst, ◌∙◌, arith, get_or, inl, inr, length}
+use Rattle.std.specs.Prelude.{if◌then◌else◌, ◌||◌, is_some}
 use Rattle.syntect_pattern.specs.Anchors.{anchor_of}
 use Rattle.syntect_pattern.specs.Sets.{range}
-use Rattle.syntect_pattern.specs.Trees.{Tree, nothing, seq, alt, group, atomic, ahead, behind, anchor, repeat}
+use Rattle.syntect_pattern.specs.Trees.{Tree, nothing, seq, alt, group, atomic, ahead}
 use Rattle.syntect_pattern.specs.Matches.{Groups}
 use Rattle.syntect_pattern_table.specs.Program.{trees_of}
 use Rattle.syntect_pattern_table.specs.Table.{node_tree, set_of}
 use Rattle.syntect_linear.specs.Onward.{is_bare}
-use Rattle.syntect_linear.specs.Cells.{cell_at, parts_at, item_tree, is_end}
+use Rattle.syntect_linear.specs.Cells.{cell_at, parts_at, item_tree}
 use Rattle.syntect_linear.specs.Facts.{facts_at}
 use Rattle.syntect_linear.specs.Ground.{ends_at}
 use Rattle.syntect_linear.specs.Step.{IsTreeAt}
 use Rattle.syntect_linear.specs.Walk.{Walks}
 use Rattle.syntect_linear.specs.declared.facts.Facts.{Facts}
-use Rattle.syntect_linear.specs.declared.cells.Cell.{Cell}
 use Rattle.syntect_linear.proofs.GroundLaws.{first-is, second-is, tree-more, item-is}
-use Rattle.syntect_linear.proofs.WalkLaws.{size_of, walks-nothing, walks-anchor, walks-behind, walks-bare_ahead, walks-char, alt-first, alt-second, group-walks, atomic-walks, ahead-walks, CanWalk, follow, loop-is}
+use Rattle.syntect_linear.proofs.WalkLaws.{walks-nothing, walks-anchor, walks-behind, walks-bare_ahead, walks-char, alt-first, alt-second, group-walks, atomic-walks, ahead-walks, CanWalk, follow, loop-is}
 use Rattle.syntect_linear.proofs.SequenceLaws.{seq-first, seq-second}
-use Rattle.syntect_linear.proofs.LoopLaws.{turn-leaves, turn-first, turn-stays, turn-goes, turn-tree, takes}
+use Rattle.syntect_linear.proofs.LoopLaws.{turn-leaves, turn-first, turn-stays, turn-goes, turn-tree}
 use Rattle.syntect_linear.specs.Steps.{walk_cost, look_cost}
 use Rattle.syntect_linear.proofs.CostLaws.{walks-on, costs-is, costs-of, costs-stay, costs-tick, costs-up, seq-cost, left-cost, right-cost, look-costs, turn-cost, turns-cost, last-cost, seq-tree, alt-trees, group-tree, atomic-tree, ahead-tree, loop-calm}
 use Rattle.syntect_linear.proofs.walk.+walk.Goals as goal

@@ -1,12 +1,5 @@
-use Rattle.std.proofs.Common.{◌≡◌, ◌≤◌, ◌+◌, ◌*◌, ◌-◌, length, true}
-use Rattle.std.specs.Prelude.{is_some, option_map}
-use Rattle.syntect_pattern.specs.Trees.{Tree, repeat}
-use Rattle.syntect_pattern.specs.Matches.{matches}
-use Rattle.syntect_pattern_table.specs.Program.{trees_of}
-use Rattle.syntect_linear.specs.Cells.{tree_size, item_tree, cell_at}
-use Rattle.syntect_linear.specs.Ground.{ends_at}
-use Rattle.syntect_linear.specs.Step.{IsTreeAt}
-use Rattle.syntect_linear.specs.Walk.{IsFilled, Walks}
+use Rattle.std.proofs.Common.{◌+◌, ◌*◌, ◌-◌, length}
+use Rattle.syntect_linear.specs.Walk.{IsFilled}
 use Rattle.syntect_linear.proofs.WalkLaws.{size_of, Continues}
 use Rattle.syntect_linear.proofs.walk.+walk.Given as goal
 

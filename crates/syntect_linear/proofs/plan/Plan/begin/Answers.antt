@@ -1,4 +1,4 @@
-use Rattle.std.proofs.Common.{◌≡◌, List, [], ◌++◌, ◌∷◌, ap, subst, sym, ◌∙◌}
+use Rattle.std.proofs.Common.{◌≡◌, List, [], ◌++◌, ◌∷◌, ap, ◌∙◌}
 use Rattle.syntect_pattern_table.specs.Program.{trees_of}
 use Rattle.syntect_linear.specs.Cells.{last_cell}
 use Rattle.syntect_linear.specs.declared.cells.Cell.{Cell}

@@ -1,9 +1,6 @@
 use Rattle.std.proofs.Common.{◌≡◌, List, ap, subst, sym, ◌∙◌, Some, ℕ, Option, false, true, eqb}
 use Rattle.std.specs.Option.{option_eq}
 use Rattle.syntect_linear.specs.Facts.{AreFacts}
-use Rattle.syntect_linear.specs.Plan.{AreCells, Pushes, Expands}
-use Rattle.syntect_linear.specs.declared.cells.Cell.{Cell}
-use Rattle.syntect_linear.specs.declared.cells.Item.TheVariants.{Node}
 use Rattle.syntect_linear.specs.declared.facts.Facts.{Facts}
 use Rattle.syntect_linear.specs.declared.plan.Plan.{Plan}
 use Rattle.syntect_linear.proofs.PlanLaws.{expands-loop}

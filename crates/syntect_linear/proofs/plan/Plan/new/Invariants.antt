@@ -12,10 +12,10 @@ invariant-cells l = record {
   facts_are : AreFacts l.plan.facts (trees_of l.program);
   planned : IsPlanned (trees_of l.program) l.plan.cells l.plan.parts l.plan.behinds l.program.root;
   order : length l.plan.parts ≤ length l.plan.cells;
-  few : length l.plan.parts ≡ length l.plan.cells → length l.plan.cells ≤ 20000;
+  few : length l.plan.parts ≡ length l.plan.cells → length l.plan.cells ≤ 40000;
   free : is_free (get_or (trees_of l.program) l.program.root nothing) ≡ true;
   counts : Counts (trees_of l.program) l.plan.cells (length l.plan.parts) (plan_cells (get_or (trees_of l.program) l.program.root nothing));
 }
 
 abbrev pub decreases-cells : goal.decreases-cells
-decreases-cells l = 20001 - length l.plan.parts
+decreases-cells l = 40001 - length l.plan.parts

@@ -1,4 +1,4 @@
-use Rattle.std.proofs.Common.{◌≡◌, ◌<◌, ℕ, List, Option, Bool, Some, sym, ap, ◌∙◌, length, get_or}
+use Rattle.std.proofs.Common.{◌≡◌, ◌<◌, ℕ, List, Some, sym, ◌∙◌, length, get_or}
 use Rattle.syntect_pattern.specs.Trees.{Tree, nothing, repeat}
 use Rattle.syntect_ways.proofs.OkLaws.{if_ok_map}
 use Rattle.syntect_linear.specs.Cells.{cell_at, item_tree}
