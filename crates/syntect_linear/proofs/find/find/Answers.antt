@@ -1,12 +1,5 @@
-<<<<<<< HEAD
-use Rattle.std.proofs.Common.{◌≡◌, Bool, true, false, sym, ◌∙◌, arith, refl, length, ap, suc}
-use Rattle.syntect_pattern.specs.Trees.{Tree}
-use Rattle.syntect_pattern.specs.Matches.{Groups, found}
-use Rattle.syntect_ways.proofs.OkLaws.{if_ok_map}
-=======
 use Rattle.std.proofs.Common.{Bool, sym, arith, length}
 use Rattle.syntect_ways.proofs.OkLaws.{if_ok_map}
->>>>>>> b937c81b368022038fd00f447d014ba8e33d23aa
 use Rattle.syntect_linear.specs.Finds.{FindsGroups, FindsUpTo, groups_of}
 use Rattle.syntect_linear.proofs.FindLaws.{found-past, groups-up_to}
 use Rattle.syntect_linear.proofs.find.find.Goals as goal

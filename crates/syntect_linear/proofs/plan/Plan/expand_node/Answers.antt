@@ -1,12 +1,7 @@
 use Rattle.std.proofs.Common.{◌≡◌, ◌<◌, ℕ, length, List, ap, ◌∙◌, get_or}
 use Rattle.syntect_pattern.specs.Trees.{Tree, nothing, seq, alt}
 use Rattle.syntect_pattern_table.specs.Table.{node_tree}
-<<<<<<< HEAD
-use Rattle.syntect_pattern_table.specs.declared.node.Node.{Node}
 use Rattle.syntect_ways.proofs.OkLaws.{if_ok_map}
-=======
-use Rattle.syntect_ways.proofs.OkLaws.{if_ok_map}
->>>>>>> b937c81b368022038fd00f447d014ba8e33d23aa
 use Rattle.syntect_linear.specs.Cells.{cell_at, item_tree}
 use Rattle.syntect_linear.specs.Facts.{AreFacts}
 use Rattle.syntect_linear.specs.Plan.{AreCells, CanPush, Pushes, Expands}
