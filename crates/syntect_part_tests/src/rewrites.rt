@@ -46,21 +46,11 @@ fn chains_of_nothing(rt: HostRuntime) {
     let alloc = rt.alloc();
     let mut table = Table::new(alloc);
     put_chain(&rt, alloc, &mut table, "");
-    equal(
-        &rt,
-        rewrite(alloc, "a{{v63}}b{{v63}}", &table, true)
-            .expect(&rt, "memory")
-            .as_str(),
-        "ab",
-    );
+    let text = rewrite(alloc, "a{{v63}}b{{v63}}", &table, true).expect(&rt, "memory");
+    equal(&rt, text.as_str(), "ab");
     let mut table = Table::new(alloc);
     put_chain(&rt, alloc, &mut table, "{{open}}");
     put(&rt, alloc, &mut table, "open", "x{{v63}}y{{v62}}");
-    equal(
-        &rt,
-        rewrite(alloc, "{{open}}{{v0}}", &table, true)
-            .expect(&rt, "memory")
-            .as_str(),
-        "xyxy",
-    );
+    let text = rewrite(alloc, "{{open}}{{v0}}", &table, true).expect(&rt, "memory");
+    equal(&rt, text.as_str(), "xyxy");
 }
