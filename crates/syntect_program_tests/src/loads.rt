@@ -63,7 +63,7 @@ fn faulty_files_of_a_folder(rt: HostRuntime) {
     let folder = written(&rt, "syntect_faulty_files", &FAULTY).expect(&rt, "a folder");
     let mut repository = ScopeRepository::new(rt.alloc());
     let set = SyntaxSet::load_from_folder(&rt, rt.alloc(), folder.as_path(), &mut repository);
-    let is_named = match set {
+    let is_named = match &set {
         Err(LoadingError::ParseSyntax(ParseSyntaxError::MainMissing, path)) => {
             path.as_str().ends_with("F.sublime-syntax")
         }
