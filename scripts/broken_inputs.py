@@ -1,7 +1,8 @@
 #!/usr/bin/env python3
-"""Runs syncat over broken inputs, and counts what it answers.
+"""Runs syncat over broken inputs, and counts what it answers; or calls of the library.
 
     python3 scripts/broken_inputs.py SYNCAT MATERIAL COUNT SEED [KEEP]
+    python3 scripts/broken_inputs.py --calls FAULTS FOLDER COUNT SEED [KEEP]
 
 SYNCAT is the built program. MATERIAL is a folder with `grammars`, `themes` (JSON) and `texts`, real ones. Each of COUNT runs
 takes one grammar, a theme, a file of metadata and a part of a text, and breaks one of them, or the patterns of the grammar, in
@@ -12,6 +13,11 @@ A run may end with status 0, and then says nothing on standard error; or with st
 error and nothing on standard output. It has 20 seconds, 2 GB of memory and 1 MB of stack. What ends otherwise is printed, its
 inputs are kept in the folder KEEP (broken_inputs in the current one), and the status is 1. At the end the answers are
 counted by what was broken.
+
+With --calls FAULTS is the built syntect_faults, and COUNT inputs are made of each file of FOLDER (its data/broken): grammars,
+themes, settings, patterns and texts, each of which the library has to answer. Each input has the same limits. One that is not
+answered is kept in KEEP under its number and its file's name, and one that ends the program or runs past its time under that
+of its run; `FAULTS input FILE` tries it again.
 """
 
 import os
@@ -200,7 +206,55 @@ def one(syncat, material, seed, number, keep, work):
     return number, kind, answer, spent
 
 
+def is_late(folder):
+    """Whether the input that is being tried stands there for longer than it may take."""
+    times = [os.path.getmtime(os.path.join(folder, name)) for name in os.listdir(folder)]
+    return bool(times) and time.time() - max(times) > SECONDS
+
+
+def run_calls(faults, folder, count, seed, kept):
+    """A run of the calls over so many inputs of each file: how it ends, and what it prints of each file."""
+    os.makedirs(kept)
+    words = [faults, "broken", folder, str(count), str(seed), kept]
+    with tempfile.TemporaryFile() as out:
+        child = subprocess.Popen(words, stdout=out, stderr=subprocess.STDOUT, preexec_fn=limited, stdin=subprocess.DEVNULL)
+        end = None
+        while child.poll() is None:
+            time.sleep(0.05)
+            if is_late(kept):
+                child.kill()
+                end = "TIME"
+        out.seek(0)
+        told = out.read().decode(errors="replace")
+    if child.returncode == 0:
+        shutil.rmtree(kept)
+    return end or child.returncode, told
+
+
+def calls(faults, folder, count, seed, keep):
+    """Runs of at most a thousand inputs of each file; whether all were answered."""
+    figures, wrong, begin = Counter(), 0, time.monotonic()
+    for first in range(0, count, 1000):
+        part = min(1000, count - first)
+        kept = os.path.join(keep, f"{seed}-{first}")
+        end, told = run_calls(faults, folder, part, int(seed) * 1000003 + first, kept)
+        for name, accepted, refused in re.findall(r"^(.*): (\d+) accepted, (\d+) refused$", told, re.M):
+            figures[os.path.basename(name), "accepted"] += int(accepted)
+            figures[os.path.basename(name), "refused"] += int(refused)
+        if end != 0:
+            wrong += 1
+            print(f"run {seed}-{first}: {end}, kept in {kept}", flush=True)
+    for (name, answer), value in sorted(figures.items()):
+        print(f"{name}: {answer}: {value}")
+    print(f"{sum(figures.values())} inputs answered in {time.monotonic() - begin:.0f} s, {wrong} runs wrong")
+    return wrong == 0
+
+
 def main():
+    if sys.argv[1:2] == ["--calls"] and len(sys.argv) in (6, 7):
+        keep = os.path.abspath(sys.argv[6] if len(sys.argv) == 7 else "broken_inputs")
+        faults, folder = os.path.abspath(sys.argv[2]), os.path.abspath(sys.argv[3])
+        sys.exit(0 if calls(faults, folder, int(sys.argv[4]), sys.argv[5], keep) else 1)
     if len(sys.argv) not in (5, 6):
         sys.exit(__doc__)
     syncat, material = os.path.abspath(sys.argv[1]), Material(sys.argv[2])

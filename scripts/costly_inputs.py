@@ -116,6 +116,42 @@ def nested_flow(depth):
     return HEAD + "contexts: {main: []}\nx: " + "[" * depth + "]" * depth + "\n", "a\n"
 
 
+def nested_maps(name, depth):
+    """A file of JSON in the folder, or the theme, of maps in one another."""
+    return contexts("  main: []\n"), "a\n", {name: '{"a":' * depth + "1" + "}" * depth}
+
+
+def deep_theme(depth):
+    """A theme whose first item holds maps in one another under a key of its own."""
+    return contexts("  main: []\n"), "a\n", {"theme.tmTheme": '{"settings":[{"settings":{},"x":' + '{"a":' * depth + "1" + "}" * depth + "}]}"}
+
+
+def selector(text):
+    """A theme of one rule with this selector."""
+    theme = '{"settings":[{"settings":{}},{"scope":"' + text + '","settings":{"foreground":"#030303"}}]}'
+    return main_of("a"), "a\n", {"theme.tmTheme": theme}
+
+
+def flow_maps(depth):
+    return HEAD + "contexts: {main: []}\nx: " + "{a: " * depth + "1" + "}" * depth + "\n", "a\n"
+
+
+def lists_on_a_line(depth):
+    """Lists in one another whose marks stand on one line."""
+    return HEAD + "contexts: {main: []}\nx:\n  " + "- " * depth + "y\n", "a\n"
+
+
+def variables_in_a_row(count):
+    """Each variable is the one before it."""
+    rows = ["variables:\n  v0: a\n"] + [f"  v{n}: '{{{{v{n - 1}}}}}'\n" for n in range(1, count)]
+    return contexts(f"  main:\n    - match: '{{{{v{count - 1}}}}}'\n      scope: word\n", "".join(rows)), "a\n"
+
+
+def open_contexts(count):
+    """A context that pushes itself at each place."""
+    return contexts("  main:\n    - meta_scope: word\n    - match: x\n      push: main\n"), "x" * count + "\n"
+
+
 def cost(pattern, text):
     return main_of(pattern), text
 
@@ -157,6 +193,24 @@ INPUTS = {
     "lists nested 100000 deep": lambda: nested_flow(100000),
     "200 groups in one another": lambda: cost("(" * 200 + "a" + ")" * 200, "a\n"),
     "100000 groups in one another": lambda: cost("(" * 100000 + "a" + ")" * 100000, "a\n"),
+    "200 lookaheads in one another": lambda: cost("(?=" * 200 + "a" + ")" * 200, "a\n"),
+    "100000 lookaheads in one another": lambda: cost("(?=" * 100000 + "a" + ")" * 100000, "a\n"),
+    "100 lookbehinds in one another": lambda: cost("(?<=" * 100 + "a" + ")" * 100 + "b", "ab\n"),
+    "12 loops in one another on 60 places": lambda: cost("(" * 12 + "a" + ")*" * 12 + "b", "a" * 60 + "\n"),
+    "14 loops in one another on one place": lambda: cost("(" * 14 + "a" + ")*" * 14 + "b", "a\n"),
+    "100000 branches": lambda: cost("|".join(f"a{n}" for n in range(100000)), "a99999\n"),
+    "a selector of 10000 scopes": lambda: selector("a " * 10000),
+    "a selector of 10000 exclusions": lambda: selector("source" + " - b" * 10000),
+    "10000 selectors": lambda: selector("a, " * 10000 + "source"),
+    "a theme with maps 100 deep": lambda: deep_theme(100),
+    "a theme of maps 100000 deep": lambda: nested_maps("theme.tmTheme", 100000),
+    "metadata of maps 100000 deep": lambda: nested_maps("folder/a.tmPreferences", 100000),
+    "maps nested 99 deep": lambda: flow_maps(99),
+    "maps nested 100000 deep": lambda: flow_maps(100000),
+    "lists 99 deep on a line": lambda: lists_on_a_line(99),
+    "lists 100000 deep on a line": lambda: lists_on_a_line(100000),
+    "variables in a row, 10000": lambda: variables_in_a_row(10000),
+    "2000 contexts open": lambda: open_contexts(2000),
     "a loop in a loop, (a*)*b on 20 places": lambda: cost("(a*)*b", "a" * 20 + "\n"),
     "a lookbehind over a line of 10000 bytes": lambda: cost("(?<=x.*)y", "a" * 10000 + "\n"),
     "a line of 10 MB, a word": lambda: cost("\\w+", "a" * 10000000 + "\n"),

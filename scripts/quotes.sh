@@ -4,7 +4,7 @@
 #   sh scripts/quotes.sh
 #
 # README.md quotes the program crates/syntect_pager/src/main.rt and its line of crates.txt, whole, and docs/CALLING.md the proof
-# of crates/syntect_callers/src/folder.rt. Ends with status 1, and shows where they differ, if they do.
+# of crates/syntect_folder_page/src/folder.rt. Ends with status 1, and shows where they differ, if they do.
 set -eu
 
 cd "$(dirname "$0")/.."
@@ -20,7 +20,7 @@ same() {
 }
 
 same README.md rust crates/syntect_pager/src/main.rt
-same docs/CALLING.md antt crates/syntect_callers/proofs/folder/page_by_folder/Answers.antt
+same docs/CALLING.md antt crates/syntect_folder_page/proofs/folder/page_by_folder/Answers.antt
 grep -qFx "    $(grep '^syntect_pager:' crates.txt)" README.md || {
     echo "quotes.sh: README.md does not quote the line of syntect_pager in crates.txt" >&2
     status=1

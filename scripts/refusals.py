@@ -4,12 +4,15 @@
     python3 scripts/refusals.py PROGRAM WORD..
     python3 scripts/refusals.py --calls PROGRAM [NAME..]
 
-PROGRAM is run with these words, as syncat with its four: each run has to end as the undisturbed one, or with status 1 (2 where not even
-its words can be read), one line on standard error and, unless a write fails, nothing on standard output. A short read or write must change nothing.
+PROGRAM is run with these words, as syncat with its four: each run has to end as the undisturbed one, or with status 1 (2 where
+not even its words can be read), one line on standard error and, unless a write fails, nothing on standard output. A short read
+or write must change nothing.
 
-With --calls PROGRAM is one that makes the calls of syntect_call_trials, run in crates/syntect_bench/data: with the words `shown calls`
-it prints their names, with `shown call NAME` it makes one three times over. Of each call, or of those named here, only the requests and reads between the start and the end of the first call are disturbed. The call then has to answer as undisturbed, or that
-there is no memory (of a read: that it failed) with what it left as it was before; and made again it has to answer as undisturbed.
+With --calls PROGRAM is syntect_faults, run in crates/syntect_faults/data: with the word `calls` it prints the names of calls, with
+`call NAME` it makes one three times over. Of each call, or of those named here, only the requests and reads between the start and
+the end of the first call are disturbed. The call then has to answer as undisturbed, or that there is no memory (of a read: that it
+failed) with what it left as it was before; and made again it has to answer as undisturbed. Calls that look for a syntax in a
+file's first line are to show no more of a first read that is short than the front that it gave.
 
 It needs cc and a C library whose allocation can be replaced (glibc on Linux). It prints a line for each call or each kind of
 fault with its figures, and each wrong run; its status is 1 if there is one.
@@ -123,7 +126,7 @@ class Runs:
 
 
 def is_fault(outcome, kind, whole):
-    """Whether a run ends with status 1, or 2 where the words cannot be read, and one line, and with no text but a front of the whole where a write fails."""
+    """Whether a run ends with status 1, or 2 where the words can't be read, and one line; where a write fails, with a front."""
     status, out, err = outcome
     front = whole.startswith(out) if kind == "REFUSE_WRITE" else out == b""
     told = err.count(b"\n") == 1 or (kind == "REFUSE_WRITE" and err == b"")
@@ -189,9 +192,15 @@ def is_refused_call(kind, whole, disturbed):
 FRONTS = ["HighlightFile::new", "highlighted_html_for_file"]
 
 
+def is_by_front(whole, disturbed):
+    """Whether the first call finds no syntax, and the later ones answer as undisturbed."""
+    whole, found = blocks(whole), blocks(disturbed)
+    return len(found) == len(whole) and any("NoSyntax" in line for line in of_kind(found[1], "answer")) and found[2:] == whole[2:]
+
+
 def call(runs, name, totals):
     """One call with its requests and reads."""
-    words = ["shown", "call", name]
+    words = ["call", name]
     outcome, _, (memory, read, memory_end, read_end) = runs.counted(words)
     numbers = {"REFUSE_MEMORY": (memory, memory_end), "REFUSE_READ": (read, read_end), "SHORT_READ": (read, read_end)}
     wrong = outcome[0] != 0 or len(blocks(outcome[1])) < 3
@@ -203,7 +212,7 @@ def call(runs, name, totals):
                 verdict = "as undisturbed"
             elif kind != "SHORT_READ" and disturbed[0] == 0 and is_refused_call(kind, outcome[1], disturbed[1]):
                 verdict = "refused"
-            elif kind == "SHORT_READ" and name in FRONTS and number == before + 1 and disturbed[0] == 0:
+            elif kind == "SHORT_READ" and name in FRONTS and number == before + 1 and is_by_front(outcome[1], disturbed[1]):
                 verdict = "by the front that was read"
             else:
                 verdict = "WRONG"
@@ -218,7 +227,7 @@ def call(runs, name, totals):
 
 def calls(runs, names):
     """Calls of these names, or all."""
-    names = names or runs.run(["shown", "calls"])[1].decode().split()
+    names = names or runs.run(["calls"])[1].decode().split()
     totals = Counter()
     wrong = [name for name in names if call(runs, name, totals)]
     told = ", ".join(f"{value} {verdict}" for verdict, value in sorted(totals.items()))

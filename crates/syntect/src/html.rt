@@ -27,6 +27,7 @@ pub use syntect_writers::html::{
     styled_line_to_highlighted_html,
 };
 use syntect_writers::lines::LinesWithEndings;
+use syntect_writers::spans::SpanWriter;
 
 /// What ends a page.
 const CLOSING: &str = "</pre>\n";
@@ -47,10 +48,10 @@ pub fn highlighted_html_for_string(
 {
     let mut highlighter = HighlightLines::new(alloc, syntax, theme)?;
     let (mut page, color) = start_highlighted_html_snippet(alloc, theme)?;
-    let behind = IncludeBackground::IfDifferent(color);
+    let mut writer = SpanWriter::new(alloc, IncludeBackground::IfDifferent(color));
     for line in LinesWithEndings::from(s) {
         let pieces = highlighter.highlight_line(alloc, line, ss)?;
-        append_highlighted_html_for_styled_line(pieces.as_slice(), behind, &mut page)?;
+        writer.append(pieces.as_slice(), &mut page)?;
     }
     page.push_str(CLOSING)?;
     Ok(page)
@@ -112,7 +113,7 @@ fn page_of_lines<R: BufRead + Drop>(
         → IfErr result (λ e. (text : List ℕ) × IsTextOf (R.remaining reader) text × IsStopped ss.now syntax text e) }
 {
     let (mut page, color) = start_highlighted_html_snippet(alloc, theme)?;
-    let ground = IncludeBackground::IfDifferent(color);
+    let mut spans = SpanWriter::new(alloc, IncludeBackground::IfDifferent(color));
     let mut bytes = Vec::new(alloc);
     for _ in 0..u64::MAX {
         if !next_line(&mut reader, &mut bytes)? {
@@ -121,7 +122,7 @@ fn page_of_lines<R: BufRead + Drop>(
         }
         let line = text_of(bytes.as_slice())?;
         let pieces = highlighter.highlight_line(alloc, line, ss)?;
-        append_highlighted_html_for_styled_line(pieces.as_slice(), ground, &mut page)?;
+        spans.append(pieces.as_slice(), &mut page)?;
     }
     Err(Error::Io(IoError::new(ErrorKind::Other, "too many lines")))
 }

@@ -122,7 +122,8 @@ fn entry_name(text: &str) -> Option<&str>
 #[tactic(auto, using(crate::proofs::NameLaws::entry_text, crate::proofs::NameLaws::entry_none))]
 fn entry_of(sought: Sought, name: &[u8]) -> Result<Option<&str>, LoadingError>
     ensures entry { IfOk result (λ entry. option_copied entry ≡ entry_of name.now) }
-    ensures passed { IfOk result (λ entry. ¬ (IsUtf8 name.now) → is_sought sought name.now ≡ false) }
+    ensures passed { IfOk result (λ entry.
+        ¬ (IsUtf8 name.now) → is_sought sought name.now ≡ false) }
     ensures fault { IfErr result (λ e. ¬ (IsUtf8 name.now) × (is_sought sought name.now ≡ true)) }
     ensures err { IfErr result (λ e. e ≡ WalkDir) }
 {
@@ -140,7 +141,8 @@ fn add_entry(
     name: &[u8],
     names: &mut Vec<Text>,
 ) -> Result<(), LoadingError>
-    ensures ok { OnOk result (names.new.items ≡ names.old.items ++ filter_map entry_of (name.now ∷ [])) }
+    ensures ok { OnOk result
+        (names.new.items ≡ names.old.items ++ filter_map entry_of (name.now ∷ [])) }
     ensures err { IfErr result IsWalkFault }
 {
     match entry_of(sought, name) {
@@ -161,7 +163,8 @@ fn name_len(bytes: &[u8]) -> usize
 
 /// What stands before the first NUL, and what stands behind it.
 fn first_name(bytes: &[u8]) -> (&[u8], &[u8])
-    ensures entries { entries_in bytes.now ≡ filter_map entry_of (result.0.now ∷ []) ++ entries_in result.1.now }
+    ensures entries { entries_in bytes.now
+        ≡ filter_map entry_of (result.0.now ∷ []) ++ entries_in result.1.now }
     ensures shorter { 0 < length bytes.now → length result.1.now < length bytes.now }
 {
     let (name, rest) = bytes.split_at(name_len(bytes));
@@ -217,7 +220,8 @@ fn enter(
     ahead: &mut Seq<Text>,
 ) -> Result<(), LoadingError>
     ensures ok { OnOk result ((rest : List (List ℕ)) → Visits (reverse ahead.new) rest
-        → (inner files : List (List ℕ)) × IsWalk folder.now inner × Visits (reverse ahead.old) files × (rest ≡ inner ++ files)) }
+        → (inner files : List (List ℕ)) × IsWalk folder.now inner
+        × Visits (reverse ahead.old) files × (rest ≡ inner ++ files)) }
     ensures err { IfErr result IsWalkFault }
 {
     let bytes = match listing(files, alloc, folder) {
@@ -260,7 +264,8 @@ fn go_on(
     ahead: &mut Seq<Text>,
     left: &mut u64,
 ) -> Result<Option<Text>, LoadingError>
-    ensures first { IfOk result (λ found. IfSome found (λ path. (rest : List (List ℕ)) → Visits (reverse ahead.new) rest
+    ensures first { IfOk result (λ found. IfSome found (λ path.
+        (rest : List (List ℕ)) → Visits (reverse ahead.new) rest
         → Visits (reverse ahead.old) (path ∷ rest))) }
     ensures fewer { IfOk result (λ found. IfSome found (λ _. left.new < left.old)) }
     ensures ended { IfOk result (λ found. IfNone found (ahead.new ≡ [])) }

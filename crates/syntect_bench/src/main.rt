@@ -9,19 +9,15 @@ use crate::modes::{MODES, Runs, fits, number_at, word_at};
 use std::process::ExitCode;
 use std::rt::{Clock, Files};
 use std::{env, io};
-use syntect_call_trials::calls as part_calls;
 use syntect_edit_trials::rows::run_edit_rows;
 use syntect_edit_trials::shown::show_edits;
 use syntect_edit_trials::tried::{time_edits_of, try_file};
-use syntect_fault_trials::calls as upper_calls;
-use syntect_fault_trials::campaign::{fronts_answered, try_broken};
 use syntect_queries::patterns::time_patterns;
 use syntect_queries::queries::{answers, count_answers, count_patterns, time_queries};
 use syntect_queries::searches::time_searches;
 use syntect_rows::calls::run_calls;
 use syntect_rows::files::{Asked, run_scope_rows, show_asked};
 use syntect_rows::run::{run_row_files, show_row};
-use syntect_set_trials::calls as set_calls;
 use syntect_timing::first::{show, time};
 use syntect_timing::loads::time_loads;
 use syntect_timing::reading::time_file;
@@ -73,7 +69,6 @@ fn run(
         Runs::Scopes => show_asked(rt, first, Asked::Scopes(second)),
         Runs::ShownEdits => Ok(status_of(show_edits(rt, false)?)),
         Runs::ShownLongEdit => Ok(status_of(show_edits(rt, true)?)),
-        Runs::Calls | Runs::ShownCall => show_calls(rt, runs, second),
         Runs::RandomEdits | Runs::TimeEdits => run_edits(rt, runs, words),
         Runs::TimeAtoms => time_atoms(rt),
         Runs::TimeSearches => time_searches(rt),
@@ -87,24 +82,6 @@ fn run(
 /// The status of what comes out, or doesn't.
 fn status_of(comes_out: bool) -> ExitCode {
     ExitCode::from(u8::from(!comes_out))
-}
-
-/// Prints the names of calls, or makes the call of this name.
-fn show_calls(
-    rt: &(impl Print + AllocGlobal + Files),
-    runs: Runs,
-    name: &str,
-) -> io::Result<ExitCode> {
-    if let Runs::Calls = runs {
-        part_calls::show_names(rt)?;
-        set_calls::show_names(rt)?;
-        upper_calls::show_names(rt)?;
-    } else {
-        part_calls::show_call(rt, name);
-        set_calls::show_call(rt, name);
-        upper_calls::show_call(rt, name);
-    }
-    Ok(ExitCode::SUCCESS)
 }
 
 /// Edits the text of a file, as the words ask for.
@@ -140,9 +117,6 @@ fn run_rounds(
         number_at(words, 3),
         number_at(words, 4),
     ) {
-        (Runs::Broken, Some(inputs), Some(seed), _) => {
-            Ok(status_of(try_broken(rt, first, inputs, seed)?))
-        }
         (Runs::TimeFile, Some(rounds), _, _) => time(rt, first, rounds),
         (Runs::TimeQueries, Some(rounds), _, _) => time_queries(rt, first, rounds),
         (Runs::TimePatterns, Some(rounds), Some(other), _) => {
@@ -192,19 +166,10 @@ const EDITS: u32 = 400;
 
 const SEED: u32 = 1;
 
-/// What broken inputs are made of, how many of each file, and a grammar whose fronts are tried.
-const BROKEN: &str = "broken";
-
-const INPUTS: u32 = 200;
-
-const FRONTS: &str = "broken/grammar.yaml";
-
-/// Edits that look random, edits that are shown, and broken inputs. Answers whether all comes out.
+/// Edits that look random, and edits that are shown. Answers whether all comes out.
 fn run_trials(rt: &(impl Print + Eprint + AllocGlobal + Files)) -> io::Result<bool> {
-    let mut all = try_file(rt, EDITED, EDITS, SEED)?;
-    all &= show_edits(rt, false)?;
-    all &= print_outcome(rt, "row R13.3 of fronts", fronts_answered(rt, FRONTS)?)?;
-    Ok(all & try_broken(rt, BROKEN, INPUTS, SEED)?)
+    let all = try_file(rt, EDITED, EDITS, SEED)?;
+    Ok(all & show_edits(rt, false)?)
 }
 
 /// Runs each example. The status is 0 if all come out as they are written, else 1.

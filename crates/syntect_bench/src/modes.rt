@@ -24,12 +24,6 @@ pub enum Runs {
     /// Shows some edits, or one of a text of as many lines as a block of a buffer has.
     ShownEdits,
     ShownLongEdit,
-    /// Prints the names of calls that can be refused for want of memory.
-    Calls,
-    /// Makes such a call, and shows what it answers and leaves.
-    ShownCall,
-    /// Tries broken inputs that are made of a folder's files, so many of each, from a seed.
-    Broken,
     /// Prints how long edits of a line take.
     TimeEdits,
     /// Prints how long a repository takes for 60000 new atoms.
@@ -53,7 +47,7 @@ pub enum Runs {
 }
 
 /// The words of each, in capitals what stands for any word.
-pub const MODES: [(&str, Runs); 24] = [
+pub const MODES: [(&str, Runs); 21] = [
     ("row FILE", Runs::Row),
     ("answers FILE", Runs::Answers),
     ("themes FOLDER", Runs::Themes),
@@ -65,9 +59,6 @@ pub const MODES: [(&str, Runs); 24] = [
     ("edits FOLDER THEME FILE N SEED", Runs::RandomEdits),
     ("shown edits", Runs::ShownEdits),
     ("shown edits long", Runs::ShownLongEdit),
-    ("shown calls", Runs::Calls),
-    ("shown call NAME", Runs::ShownCall),
-    ("broken FOLDER N SEED", Runs::Broken),
     ("time edits FOLDER THEME FILE LINE N", Runs::TimeEdits),
     ("time atoms", Runs::TimeAtoms),
     ("time searches", Runs::TimeSearches),

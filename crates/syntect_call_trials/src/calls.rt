@@ -1,25 +1,17 @@
 //! Calls that can be refused for want of memory, each made a few times over, with what it answers and what it leaves.
 use crate::{files, metadata, patterns, scopes, selectors, styles, writers};
-use std::io;
 use std::rt::Files;
 
-/// Prints the names of the calls.
-pub fn show_names(rt: &impl Print) -> io::Result<()> {
-    for names in [
-        files::NAMES.as_slice(),
-        metadata::NAMES.as_slice(),
-        patterns::NAMES.as_slice(),
-        scopes::NAMES.as_slice(),
-        selectors::NAMES.as_slice(),
-        styles::NAMES.as_slice(),
-        writers::NAMES.as_slice(),
-    ] {
-        for name in names {
-            println!(rt; "{name}")?;
-        }
-    }
-    Ok(())
-}
+/// The names of the calls.
+pub const NAMES: [&[&str]; 7] = [
+    &files::NAMES,
+    &metadata::NAMES,
+    &patterns::NAMES,
+    &scopes::NAMES,
+    &selectors::NAMES,
+    &styles::NAMES,
+    &writers::NAMES,
+];
 
 /// Makes the call of this name, and shows each time what it answers and leaves. Shows nothing if there is none.
 pub fn show_call(rt: &(impl Print + AllocGlobal + Files), name: &str) {

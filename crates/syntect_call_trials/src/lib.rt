@@ -5,7 +5,7 @@ pub mod calls;
 mod files;
 pub mod given;
 pub mod marks;
-mod metadata;
+pub mod metadata;
 mod patterns;
 mod scopes;
 mod selectors;

@@ -10,8 +10,9 @@ use syntect_scope::repository::ScopeRepository;
 use syntect_scope::scope::Scope;
 use syntect_values::text::Text;
 
+/// A pattern for each question, and what begins a comment.
 const SETTINGS: &str =
-    r#"{"increaseIndentPattern":"\\{$","shellVariables":[{"name":"TM_COMMENT_START","value":"// "}]}"#;
+    r#"{"increaseIndentPattern":"\\{$","decreaseIndentPattern":"\\}","bracketIndentNextLinePattern":"if","disableIndentNextLinePattern":"else","unIndentedLinePattern":"//","shellVariables":[{"name":"TM_COMMENT_START","value":"// "}]}"#;
 
 /// The settings.
 fn settings_of(alloc: Global) -> Map<String, Value> {
@@ -21,7 +22,8 @@ fn settings_of(alloc: Global) -> Map<String, Value> {
     }
 }
 
-fn entry_of(alloc: Global, path: &str, scope: &str) -> Option<RawMetadataEntry> {
+/// The entry of a file that has the settings.
+pub fn entry_of(alloc: Global, path: &str, scope: &str) -> Option<RawMetadataEntry> {
     Some(RawMetadataEntry {
         path: Text::from_str(alloc, path).ok()?,
         scope: Text::from_str(alloc, scope).ok()?,
@@ -30,7 +32,7 @@ fn entry_of(alloc: Global, path: &str, scope: &str) -> Option<RawMetadataEntry> 
 }
 
 /// Two entries, the later first.
-fn entries_of(alloc: Global) -> LoadMetadata {
+pub fn entries_of(alloc: Global) -> LoadMetadata {
     let mut entries = LoadMetadata::default(alloc);
     for (path, scope) in &[("b", "source"), ("a", "source.t")] {
         if let Some(entry) = entry_of(alloc, *path, *scope) {
@@ -40,7 +42,8 @@ fn entries_of(alloc: Global) -> LoadMetadata {
     entries
 }
 
-fn metadata_of(alloc: Global, repository: &mut ScopeRepository) -> Metadata {
+/// The metadata of the two.
+pub fn metadata_of(alloc: Global, repository: &mut ScopeRepository) -> Metadata {
     match Metadata::from_loaded(alloc, entries_of(alloc), repository) {
         Ok(metadata) => metadata,
         Err(_) => Metadata::default(alloc),

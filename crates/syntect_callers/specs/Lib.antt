@@ -1,4 +1,3 @@
-pub mod Folders
 pub mod Third
 pub mod Grammars
 pub mod ClassedPages

@@ -4,6 +4,5 @@
 #![tactic(auto)]
 
 pub mod classed;
-pub mod folder;
 pub mod third;
 pub mod whole;

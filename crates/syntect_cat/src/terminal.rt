@@ -52,10 +52,13 @@ fn terminal_text_of_lines<R: BufRead + Drop>(
     mut highlighter: HighlightLines<'_>,
     set: &SyntaxSet,
 ) -> Result<String, Error>
-    ensures shown { (definitions : List ADefinition) (theme : ATheme) (syntax : ASyntax) → IsBuiltOf set.now syntax definitions
+    ensures shown { (definitions : List ADefinition) (theme : ATheme) (syntax : ASyntax)
+        → IsBuiltOf set.now syntax definitions
         → Leads set.now theme syntax [] [] highlighter.entry
-        → IfOk result (λ all. (text : List ℕ) × IsTextOf (R.remaining reader) text × IsUtf8 text × IsTerminalText set.now theme syntax text (string_bytes all)) }
-    ensures refused { (definitions : List ADefinition) (theme : ATheme) (syntax : ASyntax) → IsBuiltOf set.now syntax definitions
+        → IfOk result (λ all. (text : List ℕ) × IsTextOf (R.remaining reader) text × IsUtf8 text
+        × IsTerminalText set.now theme syntax text (string_bytes all)) }
+    ensures refused { (definitions : List ADefinition) (theme : ATheme) (syntax : ASyntax)
+        → IsBuiltOf set.now syntax definitions
         → Leads set.now theme syntax [] [] highlighter.entry
         → IfErr result (HasStopped set.now syntax (R.remaining reader)) }
 {

@@ -1,12 +1,12 @@
 -- How a search begins and ends.
 use Rattle.std.proofs.Common.{◌≡◌, ℕ, List, [], refl, ◌∙◌, ap, Some, None, reverse}
-use Rattle.std.specs.Prelude.{Option, Result, Ok, Err, IfOk, IfNone, slice_get}
+use Rattle.std.specs.Prelude.{Option, IfNone, slice_get}
 use Rattle.syntect_pattern.specs.Trees.{Tree}
 use Rattle.syntect_pattern.specs.Matches.{Groups, matches}
 use Rattle.syntect_engine.specs.declared.state.Frame.{Frame}
 use Rattle.syntect_engine.specs.declared.state.Next.{Next}
 use Rattle.syntect_engine.specs.declared.state.Search.{Search}
-use Rattle.syntect_engine.specs.Machine.{On, none, one, search, list_at, end, pending, tree_at, bound_of, found_by, Fits}
+use Rattle.syntect_engine.specs.Machine.{On, none, one, search, list_at, end, pending, tree_at, bound_of, found_by}
 use Rattle.syntect_engine.proofs.MachineLaws.{list_at-nil, pending-found}
 use Rattle.syntect_engine.proofs.FirstLaws.{search-end}
 
@@ -38,7 +38,3 @@ module _ (s : List ℕ) (ts : List Tree) where
 pub none_holds : {A : Type 0} (o : Option A) (P : Type 0) → o ≡ None → IfNone o P → P
 none_holds None P e h = h
 none_holds (Some x) P e h = cc
-
--- how many steps are left makes no difference
-pub fits-left : (s : List ℕ) (next : Next) (x : Search) (n : ℕ) → Fits s next x → Fits s next (record x { left = n })
-fits-left s next x n f = record { cells = f.cells; frames = f.frames; list = f.list; place = f.place; groups = f.groups }

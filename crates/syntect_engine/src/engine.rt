@@ -1,5 +1,5 @@
 //! The search of a pattern: a machine whose choices stand in lists of its own.
-ghost use Rattle.std.specs.Prelude.{◌≡◌, ◌≤◌, IfOk, IfSome, slice_index_or, None, Some, IsCharBoundary, true, false};
+ghost use Rattle.std.specs.Prelude.{◌≡◌, ◌+◌, ◌≤◌, IfOk, IfSome, OnOk, slice_index_or, None, Some, IsCharBoundary, true, false};
 ghost use Rattle.syntect_engine.specs.Machine.{FindsAt};
 
 use crate::dead::is_dead;
@@ -7,6 +7,7 @@ use crate::lines::{is_at_lines, next_start};
 use crate::state::{Next, Search};
 use std::alloc::AllocError;
 use syntect_pattern_table::program::Program;
+use syntect_turns::count::TurnCount;
 use syntect_ways::text::is_boundary;
 
 /// Whether no match begins at the place, as far as the characters there tell.
@@ -38,30 +39,38 @@ impl Search {
         text: &str,
         start: Next,
         limited: bool,
+        count: &mut TurnCount,
     ) -> Result<Option<bool>, AllocError>
         requires fits { Fits text.now start self.old }
         ensures found { IfOk result (λ r. IfSome r (λ found. match_of found self.new
             ≡ found_by text.now (trees_of program.now) start self.old)) }
         ensures short { IfOk result (λ r. r ≡ None → limited ≡ true) }
+        ensures steps { limited ≡ true → OnOk result (count.new.made + self.new.left
+            ≡ count.old.made + self.old.left) }
     {
         let mut next = start;
+        let mut left = self.left;
         'steps: loop {
-            if limited && self.left == 0 {
+            if limited && left == 0 {
+                self.left = left;
                 return Ok(None);
             }
-            self.left = self.left.wrapping_sub(1);
+            left = left.wrapping_sub(1);
+            count.tick();
             next = match next {
                 Next::Enter { node, list } => self.enter(program, text, node, list)?,
                 Next::Turn { turns, list } => self.turn(program, text, turns, list)?,
                 Next::Leave { list } => self.leave(program, text, list)?,
                 Next::Fail => {
                     let Some(next) = self.back(program, text)? else {
+                        self.left = left;
                         return Ok(Some(false));
                     };
                     next
                 }
                 Next::Found => {
                     let Some(next) = self.finish()? else {
+                        self.left = left;
                         return Ok(Some(true));
                     };
                     next
@@ -78,6 +87,7 @@ impl Search {
         text: &str,
         place: usize,
         limited: bool,
+        count: &mut TurnCount,
     ) -> Result<Option<bool>, AllocError>
         requires place { IsCharBoundary text.now place }
         ensures found { IfOk result (λ r. IfSome r (λ found. match_of found self.new
@@ -85,13 +95,15 @@ impl Search {
             (slice_index_or (trees_of program.now) program.now.root nothing) place
             (replicate program.now.groups None)) 0)) }
         ensures short { IfOk result (λ r. r ≡ None → limited ≡ true) }
+        ensures steps { limited ≡ true → OnOk result (count.new.made + self.new.left
+            ≡ count.old.made + self.old.left) }
     {
         self.begin(program.groups, place)?;
         let start = Next::Enter {
             node: program.root,
             list: 0,
         };
-        self.run(program, text, start, limited)
+        self.run(program, text, start, limited, count)
     }
 
     /// Whether a match begins at the place, which it does on boundaries of characters alone. Where it does, the search's
@@ -102,15 +114,18 @@ impl Search {
         text: &str,
         place: usize,
         limited: bool,
+        count: &mut TurnCount,
     ) -> Result<Option<bool>, AllocError>
         ensures finds { IfOk result (λ r. IfSome r (λ found.
             FindsAt text.now program.now place (groups_of found self.new))) }
         ensures short { IfOk result (λ r. r ≡ None → limited ≡ true) }
+        ensures steps { limited ≡ true → OnOk result (count.new.made + self.new.left
+            ≡ count.old.made + self.old.left) }
     {
         if is_lost(program, text, place) {
             return Ok(Some(false));
         }
-        self.is_at(program, text, place, limited)
+        self.is_at(program, text, place, limited, count)
     }
 
     /// Whether the program matches at the place or at a later one, of which the least counts. Where it does, the search's
@@ -121,10 +136,13 @@ impl Search {
         text: &str,
         begin: usize,
         limited: bool,
+        count: &mut TurnCount,
     ) -> Result<Option<bool>, AllocError>
         ensures finds { IfOk result (λ r. IfSome r (λ found.
             FindsGroups text.now program.now begin (groups_of found self.new))) }
         ensures short { IfOk result (λ r. r ≡ None → limited ≡ true) }
+        ensures steps { limited ≡ true → OnOk result (count.new.made + self.new.left
+            ≡ count.old.made + self.old.left) }
     {
         if begin > text.len() {
             return Ok(Some(false));
@@ -143,7 +161,7 @@ impl Search {
                 };
                 behind = next;
             }
-            match self.begins_at(program, text, place, limited)? {
+            match self.begins_at(program, text, place, limited, count)? {
                 Some(true) => return Ok(Some(true)),
                 Some(false) => {}
                 None => return Ok(None),
@@ -162,11 +180,14 @@ impl Search {
         begin: usize,
         last: usize,
         limited: bool,
+        count: &mut TurnCount,
     ) -> Result<Option<bool>, AllocError>
         requires { begin ≤ last }
         ensures finds { IfOk result (λ r. IfSome r (λ found.
             FindsUpTo text.now program.now begin last (groups_of found self.new))) }
         ensures short { IfOk result (λ r. r ≡ None → limited ≡ true) }
+        ensures steps { limited ≡ true → OnOk result (count.new.made + self.new.left
+            ≡ count.old.made + self.old.left) }
     {
         let end = if last < text.len() {
             last + 1
@@ -187,7 +208,7 @@ impl Search {
                 };
                 behind = needed;
             }
-            let begins = self.begins_at(program, text, place, limited)?;
+            let begins = self.begins_at(program, text, place, limited, count)?;
             match begins {
                 Some(true) => return Ok(Some(true)),
                 Some(false) => {}

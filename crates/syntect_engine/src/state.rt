@@ -139,6 +139,7 @@ impl Search {
         ensures frames { OnOk result (self.new.frames.items ≡ []) }
         ensures groups { OnOk result (self.new.groups.items ≡ replicate groups None) }
         ensures place { OnOk result (self.new.place ≡ place) }
+        ensures left { OnOk result (self.new.left ≡ self.old.left) }
     {
         self.cells.clear();
         self.frames.clear();

@@ -137,30 +137,82 @@ fn input(bytes: &Vec<u8>, seed: &mut u64) -> Result<Vec<u8>, AllocError> {
     Ok(input)
 }
 
-/// Tries so many inputs that are made of a file's bytes.
-fn try_bytes(
-    alloc: Global,
-    path: &str,
-    bytes: &Vec<u8>,
-    (inputs, seed): (u32, &mut u64),
-) -> Result<Counts, AllocError> {
+/// A set and a theme for texts.
+#[derive(Drop)]
+struct Given {
+    set: SyntaxSet,
+    theme: Theme,
+}
+
+fn make_given(alloc: Global) -> Given {
     let mut repository = ScopeRepository::new(alloc);
     let set = set_of(alloc, &mut repository);
     let theme = theme_of(alloc, &mut repository);
-    let (mut all, mut refused) = (0u32, 0u32);
+    Given { set, theme }
+}
+
+/// The name of a file.
+fn name_of(path: &str) -> &str {
+    path.rsplit('/').next().unwrap_or(path)
+}
+
+/// Writes an input into a folder, if there is one, before it is tried: one that ends the program stays there.
+fn keep(rt: &(impl AllocGlobal + Files), keep: &str, name: &str, input: &[u8]) -> io::Result<()> {
+    if keep.is_empty() {
+        return Ok(());
+    }
+    let path = format!(in rt.alloc(); "{keep}/{name}")?;
+    fs::write(rt, path.as_str(), input)
+}
+
+/// Keeps an input that was not answered, and tells its number.
+fn keep_unanswered(
+    rt: &(impl Eprint + AllocGlobal + Files),
+    folder: &str,
+    (path, number): (&str, u32),
+    input: &[u8],
+) -> io::Result<()> {
+    eprintln!(rt; "{path}: input {number} is not answered")?;
+    let name = format!(in rt.alloc(); "{number}-{}", name_of(path))?;
+    keep(rt, folder, name.as_str(), input)
+}
+
+/// Tries an input, and counts how it is answered.
+fn try_input(
+    rt: &(impl Eprint + AllocGlobal + Files),
+    (path, folder): (&str, &str),
+    input: &[u8],
+    given: &Given,
+    counts: &mut Counts,
+) -> io::Result<()> {
+    keep(rt, folder, name_of(path), input)?;
+    match accepted(rt.alloc(), path, input, &given.set, &given.theme) {
+        Some(true) => counts.accepted = counts.accepted.saturating_add(1),
+        Some(false) => counts.refused = counts.refused.saturating_add(1),
+        None => keep_unanswered(rt, folder, (path, counts.inputs), input)?,
+    }
+    counts.inputs = counts.inputs.saturating_add(1);
+    Ok(())
+}
+
+/// Tries so many inputs that are made of a file's bytes.
+fn try_bytes(
+    rt: &(impl Eprint + AllocGlobal + Files),
+    (path, folder): (&str, &str),
+    bytes: &Vec<u8>,
+    (inputs, seed): (u32, &mut u64),
+) -> io::Result<Counts> {
+    let given = make_given(rt.alloc());
+    let mut counts = Counts {
+        inputs: 0,
+        accepted: 0,
+        refused: 0,
+    };
     for _ in 0..inputs {
         let input = input(bytes, seed)?;
-        match accepted(alloc, path, input.as_slice(), &set, &theme) {
-            Some(true) => all = all.saturating_add(1),
-            Some(false) => refused = refused.saturating_add(1),
-            None => {}
-        }
+        try_input(rt, (path, folder), input.as_slice(), &given, &mut counts)?;
     }
-    Ok(Counts {
-        inputs,
-        accepted: all,
-        refused,
-    })
+    Ok(counts)
 }
 
 /// Prints how many inputs were answered, and elsewhere how. Answers whether all were.
@@ -176,25 +228,35 @@ fn print_counts(rt: &(impl Print + Eprint), path: &str, counts: Counts) -> io::R
     Ok(answered == inputs)
 }
 
-/// Tries so many broken inputs of each file of a folder, from a seed. Answers whether each was answered.
+/// Tries so many broken inputs of each file of a folder, from a seed. In the second folder, if it has a name, the input stands
+/// that is being tried, under the name of its file, and each that was not answered, under its number too. Answers whether
+/// each was answered.
 pub fn try_broken(
     rt: &(impl Print + Eprint + AllocGlobal + Files),
-    folder: &str,
+    (folder, kept): (&str, &str),
     inputs: u32,
     seed: u32,
 ) -> io::Result<bool> {
-    let alloc = rt.alloc();
-    let Ok(paths) = files_below(rt, alloc, Path::new(folder)) else {
+    let Ok(paths) = files_below(rt, rt.alloc(), Path::new(folder)) else {
         return Ok(false);
     };
     let mut seed = u64::from(seed);
     let mut all = true;
     for path in paths.as_slice() {
         let bytes = fs::read(rt, path.as_str())?;
-        let counts = try_bytes(alloc, path.as_str(), &bytes, (inputs, &mut seed))?;
+        let counts = try_bytes(rt, (path.as_str(), kept), &bytes, (inputs, &mut seed))?;
         all &= print_counts(rt, path.as_str(), counts)?;
     }
     Ok(all)
+}
+
+/// Prints how the bytes of a file are answered, as an input of the kind that its name ends with. Answers whether they are.
+pub fn show_input(rt: &(impl Print + AllocGlobal + Files), path: &str) -> io::Result<bool> {
+    let bytes = fs::read(rt, path)?;
+    let given = make_given(rt.alloc());
+    let accepted = accepted(rt.alloc(), path, bytes.as_slice(), &given.set, &given.theme);
+    println!(rt; "{path}: {accepted:?}")?;
+    Ok(accepted.is_some())
 }
 
 /// Whether each front of a grammar's text, from the empty one to the whole, loads or is refused for what it says.

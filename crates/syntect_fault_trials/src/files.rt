@@ -7,14 +7,15 @@ use syntect::explain::{why_not_loaded, why_not_read};
 use syntect::html::highlighted_html_for_file;
 use syntect::parsing::syntax_definition::ContextReference;
 use syntect::parsing::{ParsingError, Scope, ScopeRepository};
+use syntect::reading::next_line;
 use syntect_call_trials::given::theme_of;
 use syntect_call_trials::marks::{TIMES, answer, begin, end};
 use syntect_set_trials::given::set_of;
 
 const TEXT: &str = "kept/text";
 
-/// A grammar without a value.
-const FAULTY: &str = "no_patterns.txt";
+/// A text that is no value.
+const FAULTY: &str = "faulty.yaml";
 
 fn file_new(rt: &(impl Print + AllocGlobal + Files)) {
     let alloc = rt.alloc();
@@ -68,12 +69,24 @@ fn told_of_line(rt: &(impl Print + AllocGlobal)) {
     }
 }
 
+fn line_of_reader(rt: &(impl Print + AllocGlobal)) {
+    for _ in 0..TIMES {
+        let mut bytes = "a\nb".as_bytes();
+        let mut line = Vec::new(rt.alloc());
+        begin(rt);
+        let is_read = next_line(&mut bytes, &mut line);
+        end(rt);
+        answer(rt, &is_read);
+    }
+}
+
 /// The calls.
-pub const NAMES: [&str; 4] = [
+pub const NAMES: [&str; 5] = [
     "HighlightFile::new",
     "highlighted_html_for_file",
     "why_not_loaded",
     "why_not_read",
+    "next_line",
 ];
 
 /// Makes the call of this name, if there is one.
@@ -83,6 +96,7 @@ pub fn make(rt: &(impl Print + AllocGlobal + Files), name: &str) {
         "highlighted_html_for_file" => page_of_file(rt),
         "why_not_loaded" => told_of_file(rt),
         "why_not_read" => told_of_line(rt),
+        "next_line" => line_of_reader(rt),
         _ => {}
     }
 }

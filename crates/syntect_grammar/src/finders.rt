@@ -70,7 +70,8 @@ fn ends_in_path(whole: &str, path: &str) -> bool
 
 /// The first line of what a reader has left, with its line feed if it has one.
 fn first_line_of<R: BufRead>(alloc: Global, reader: &mut R) -> Result<String, io::Error>
-    ensures { IfOk result (λ line. IfSome (R.Read.remaining reader.old) (λ left. string_bytes line ≡ take_through 10 left)) }
+    ensures { IfOk result (λ line. IfSome (R.Read.remaining reader.old) (λ left.
+        string_bytes line ≡ take_through 10 left)) }
 {
     let mut line = String::new(alloc);
     reader.read_line(&mut line)?;

@@ -56,8 +56,10 @@ impl SyntaxSetBuilder {
         lines_include_newline: bool,
         repository: &mut ScopeRepository,
     ) -> Result<(), LoadingError>
-        ensures ok { OnOk result (AddsFolder lines_include_newline (path_bytes folder.entry) repository.old self.old repository.new self.new) }
-        ensures err { IfErr result (λ e. RefusesFolder lines_include_newline (path_bytes folder.entry) repository.old self.old e repository.new self.new) }
+        ensures ok { OnOk result (AddsFolder lines_include_newline (path_bytes folder.entry)
+            repository.old self.old repository.new self.new) }
+        ensures err { IfErr result (λ e. RefusesFolder lines_include_newline (path_bytes folder.entry)
+            repository.old self.old e repository.new self.new) }
         ensures kept { Keeps repository.old repository.new }
     {
         let mut walk = match Walk::new(files, alloc, folder, Sought::Grammars) {
@@ -169,9 +171,13 @@ impl SyntaxSet {
         folder: Path<'_>,
         repository: &mut ScopeRepository,
     ) -> Result<SyntaxSet, LoadingError>
-        ensures ok { IfOk result (λ set. (builder : ABuilder) × (left : List (List ℕ)) × AddsFolder false (path_bytes folder.entry) repository.old no_definitions left builder
-            × (syntaxes_in set ≡ linked (definitions_in builder)) × (set_paths set ≡ paths_in builder) × IsMergedOf left builder repository.new (metadata_in set)) }
-        ensures err { IfErr result (λ e. e ≢ Memory → (builder : ABuilder) × RefusesFolder false (path_bytes folder.entry) repository.old no_definitions e repository.new builder) }
+        ensures ok { IfOk result (λ set. (builder : ABuilder) × (left : List (List ℕ))
+            × AddsFolder false (path_bytes folder.entry) repository.old no_definitions left builder
+            × (syntaxes_in set ≡ linked (definitions_in builder)) × (set_paths set ≡ paths_in builder)
+            × IsMergedOf left builder repository.new (metadata_in set)) }
+        ensures err { IfErr result (λ e. e ≢ Memory → (builder : ABuilder)
+            × RefusesFolder false (path_bytes folder.entry) repository.old no_definitions e
+            repository.new builder) }
         ensures kept { Keeps repository.old repository.new }
     {
         let mut builder = SyntaxSetBuilder::new(alloc);

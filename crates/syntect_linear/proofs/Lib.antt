@@ -16,3 +16,4 @@ pub mod SightLaws
 pub mod FindLaws
 pub mod StepsLaws
 pub mod CostLaws
+pub mod LinearLaws

@@ -9,3 +9,4 @@ pub mod Step
 pub mod Walk
 pub mod Finds
 pub mod Steps
+pub mod Linear

@@ -1,5 +1,5 @@
 //! The plan of a search: the cells of a pattern.
-ghost use Rattle.std.specs.Prelude.{◌≡◌, ℕ, ◌<◌, ◌-◌, [], IfOk, IfNone, IfSome, List, length, option_map, slice_index_or, is_none, ◌&&◌, ◌==◌, Some, true};
+ghost use Rattle.std.specs.Prelude.{◌≡◌, ℕ, ◌<◌, ◌≤◌, ◌+◌, ◌-◌, [], IfOk, IfNone, IfSome, OnOk, is_some, List, length, option_map, slice_index_or, is_none, ◌&&◌, ◌==◌, Some, true};
 ghost use Rattle.syntect_pattern.specs.Trees.{Tree, alt, nothing, repeat, seq};
 
 use crate::cells::{Cell, Item, Parts, cell_at};
@@ -7,6 +7,7 @@ use crate::facts::{Facts, facts_at, facts_of};
 use std::alloc::{AllocError, Global};
 use syntect_pattern_table::node::Node;
 use syntect_pattern_table::program::Program;
+use syntect_turns::count::TurnCount;
 use syntect_values::seq::Seq;
 
 /// At most about so many cells a plan has.
@@ -30,6 +31,7 @@ impl Plan {
     ghost use Rattle.syntect_pattern_table.specs.Table.{node_tree};
     ghost use Rattle.syntect_linear.specs.Cells as spec;
     ghost use Rattle.syntect_linear.specs.Facts.{AreFacts};
+    ghost use Rattle.syntect_linear.specs.Linear.{is_linear};
     ghost use Rattle.syntect_linear.specs.Onward.{reads, is_free};
     ghost use Rattle.syntect_linear.specs.Plan.{AreCells, IsEasy, IsHard, all_cells, plan_cells, CanPush, Pushes, PushesBoth, PushesMore, Expands, IsPlanned};
     ghost use Rattle.syntect_linear.specs.PlanOf.{IsPlanOf};
@@ -291,9 +293,14 @@ impl Plan {
         Ok(plan)
     }
 
-    /// The plan of a program. There is none for a pattern that has a back reference, a lookbehind for more than characters,
-    /// anchors, sequences and branches, or a lookahead in a loop that sets groups, nor where too many cells are needed.
-    pub fn new(alloc: Global, program: &Program) -> Result<Option<Plan>, AllocError>
+    /// The plan of a program, in a step for each cell. There is none for a pattern that has a back reference, a lookbehind for
+    /// more than characters, anchors, sequences and branches, or a lookahead in a loop that sets groups, nor where too many
+    /// cells are needed.
+    pub fn new(
+        alloc: Global,
+        program: &Program,
+        count: &mut TurnCount,
+    ) -> Result<Option<Plan>, AllocError>
         ensures plan { IfOk result (λ found. IfSome found (λ plan. IsPlanOf program.now plan)) }
         ensures count { IfOk result (λ found. IfSome found (λ plan. length plan.cells
             ≡ plan_cells (slice_index_or (trees_of program.now) program.now.root nothing))) }
@@ -301,6 +308,10 @@ impl Plan {
             (slice_index_or (trees_of program.now) program.now.root nothing))) }
         ensures none { IfOk result (λ found. IfNone found (IsHard MOST
             (slice_index_or (trees_of program.now) program.now.root nothing))) }
+        ensures linear { IfOk result (λ found. is_some found
+            ≡ is_linear (slice_index_or (trees_of program.now) program.now.root nothing)) }
+        ensures steps { OnOk result (count.new.made ≤ count.old.made
+            + plan_cells (slice_index_or (trees_of program.now) program.now.root nothing)) }
     {
         let facts = facts_of(alloc, program.nodes.as_slice())?;
         if !facts_at(facts.as_slice(), program.root).free {
@@ -311,6 +322,7 @@ impl Plan {
             if plan.cells.len() > MOST {
                 return Ok(None);
             }
+            count.tick();
             let number = plan.parts.len();
             let parts = plan.expand(program, number)?;
             plan.parts.push(parts)?;

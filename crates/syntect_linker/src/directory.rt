@@ -59,8 +59,10 @@ impl<'a> Model for Directory<'a> {
 
     ghost view = { λ a. a.heads.now };
 
-    ghost invariant = { λ a. ((scope : List ℕ) → tree.get (slice_cmp nat_cmp) a.by_scope scope ≡ last_that (has_scope scope) a.heads.now)
-        × ((name : List ℕ) → tree.get_by (λ k. slice_cmp nat_cmp name k.now) a.by_name ≡ last_that (has_name name) a.heads.now)
+    ghost invariant = { λ a. ((scope : List ℕ) → tree.get (slice_cmp nat_cmp) a.by_scope scope
+        ≡ last_that (has_scope scope) a.heads.now)
+        × ((name : List ℕ) → tree.get_by (λ k. slice_cmp nat_cmp name k.now) a.by_name
+        ≡ last_that (has_name name) a.heads.now)
         × (a.none ≡ []) };
 }
 
@@ -69,7 +71,8 @@ fn last_by_scope(
     alloc: Global,
     heads: &[SyntaxReference],
 ) -> Result<BTreeMap<Scope, usize>, AllocError>
-    ensures { IfOk result (λ m. (scope : List ℕ) → tree.get (slice_cmp nat_cmp) m scope ≡ last_that (has_scope scope) heads.now) }
+    ensures { IfOk result (λ m. (scope : List ℕ) → tree.get (slice_cmp nat_cmp) m scope
+        ≡ last_that (has_scope scope) heads.now) }
 {
     let mut places = BTreeMap::new(alloc);
     for (place, head) in heads.iter().enumerate() {
@@ -83,7 +86,9 @@ fn last_by_name<'a>(
     alloc: Global,
     heads: &'a [SyntaxReference],
 ) -> Result<BTreeMap<&'a str, usize>, AllocError>
-    ensures { IfOk result (λ m. (name : List ℕ) → tree.get_by (λ k. slice_cmp nat_cmp name k.now) m ≡ last_that (has_name name) heads.now) }
+    ensures { IfOk result (λ m. (name : List ℕ)
+        → tree.get_by (λ k. slice_cmp nat_cmp name k.now) m
+        ≡ last_that (has_name name) heads.now) }
 {
     let mut places = BTreeMap::new(alloc);
     for (place, head) in heads.iter().enumerate() {

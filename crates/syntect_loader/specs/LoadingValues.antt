@@ -99,8 +99,8 @@ is_list_with p v = list_is (list_in v)
     list_is None = false
     list_is (Some vs) = p vs
 
--- what follows a push or a set: several references where the list begins with a text or with a list that begins with a
--- map, and none where it begins with an empty list; else one
+-- What a push or a set has is told by the first member of its list. A text there is the first of several names, a list with
+-- a map in front is the first of several contexts, and an empty list means that nothing is pushed. All else is one reference.
 abbrev pub is_several : Node → Bool
 is_several = is_list_with (begins_with (λ v. is_some (text_in v) || is_list_with (begins_with is_map) v))
 

@@ -18,7 +18,8 @@ use syntect_scope::repository::ScopeRepository;
 
 /// The refusal of the text in a file that is no grammar, with the file's path. Want of memory is passed on as such.
 fn refused_file(alloc: Global, path: &str, e: ParseSyntaxError) -> LoadingError
-    ensures { (newlines : Bool) (repo : List (List ℕ)) (bytes : List ℕ) → IsUtf8 bytes → Fails (loaded bytes newlines (path_file_stem path.now) repo) e
+    ensures { (newlines : Bool) (repo : List (List ℕ)) (bytes : List ℕ) → IsUtf8 bytes
+        → Fails (loaded bytes newlines (path_file_stem path.now) repo) e
         → RefusesSyntax newlines path.now bytes repo result }
 {
     match e {
@@ -38,8 +39,10 @@ fn load_text(
     lines_include_newline: bool,
     repository: &mut ScopeRepository,
 ) -> Result<SyntaxDefinition, LoadingError>
-    ensures ok { IfOk result (IsSyntaxOf lines_include_newline path.now repository.old text.now repository.new) }
-    ensures err { IfErr result (RefusesSyntax lines_include_newline path.now text.now repository.old) }
+    ensures ok { IfOk result
+        (IsSyntaxOf lines_include_newline path.now repository.old text.now repository.new) }
+    ensures err { IfErr result
+        (RefusesSyntax lines_include_newline path.now text.now repository.old) }
     ensures kept { Keeps repository.old repository.new }
 {
     let loaded = SyntaxDefinition::load_from_str(
@@ -64,10 +67,12 @@ fn load_read(
     repository: &mut ScopeRepository,
 ) -> Result<SyntaxDefinition, LoadingError>
     ensures ok { IfOk result (λ d. IsOkAnd read (λ text.
-        IsSyntaxOf lines_include_newline path.now repository.old (string_bytes text) repository.new d)) }
+        IsSyntaxOf lines_include_newline path.now repository.old (string_bytes text)
+        repository.new d)) }
     ensures fault { IfErr read (λ fault. IsErrAnd result (IsReadFault fault)) }
     ensures err { IfOk read (λ text.
-        IfErr result (RefusesSyntax lines_include_newline path.now (string_bytes text) repository.old)) }
+        IfErr result (RefusesSyntax lines_include_newline path.now (string_bytes text)
+        repository.old)) }
     ensures kept { Keeps repository.old repository.new }
 {
     match read {
@@ -90,9 +95,11 @@ fn load_from_reader<R: Read + Drop>(
     lines_include_newline: bool,
     repository: &mut ScopeRepository,
 ) -> Result<SyntaxDefinition, LoadingError>
-    ensures ok { IfOk result (λ d. (bytes : List ℕ) × IfSome (R.Read.remaining reader) (λ left. bytes ≡ left)
+    ensures ok { IfOk result (λ d. (bytes : List ℕ)
+        × IfSome (R.Read.remaining reader) (λ left. bytes ≡ left)
         × IsSyntaxOf lines_include_newline path.now repository.old bytes repository.new d) }
-    ensures err { IfErr result (RefusesRead lines_include_newline path.now (R.Read.remaining reader) repository.old) }
+    ensures err { IfErr result
+        (RefusesRead lines_include_newline path.now (R.Read.remaining reader) repository.old) }
     ensures kept { Keeps repository.old repository.new }
 {
     let read = io::read_to_string(alloc, reader);
@@ -109,8 +116,10 @@ pub fn load_file(
     lines_include_newline: bool,
     repository: &mut ScopeRepository,
 ) -> Result<SyntaxDefinition, LoadingError>
-    ensures ok { IfOk result (λ d. (bytes : List ℕ) × IsSyntaxOf lines_include_newline path.now repository.old bytes repository.new d) }
-    ensures err { IfErr result (RefusesRead lines_include_newline path.now None repository.old) }
+    ensures ok { IfOk result (λ d. (bytes : List ℕ)
+        × IsSyntaxOf lines_include_newline path.now repository.old bytes repository.new d) }
+    ensures err { IfErr result
+        (RefusesRead lines_include_newline path.now None repository.old) }
     ensures kept { Keeps repository.old repository.new }
 {
     match fs::open(files, path) {

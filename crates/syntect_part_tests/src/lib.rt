@@ -19,8 +19,6 @@ mod rewrites;
 #[cfg(test)]
 mod scopes;
 #[cfg(test)]
-mod searches;
-#[cfg(test)]
 mod selectors;
 #[cfg(test)]
 mod styles;

@@ -79,9 +79,9 @@ is_in p x = if nat_lt x 128 then bit_at p.ascii x == 1 else (if x == 128 then p.
 abbrev pub begins_at : ℕ → Firsts → Begins
 begins_at x f = record { read = is_in f.read x; stay = is_in f.stay x }
 
--- so begin these trees
-abbrev pub Begin : ℕ → List Firsts → List Tree → Type 0
-Begin x fs ts = (k : ℕ) (d : Firsts) → k < length fs → begins_at x (slice_index_or fs k d) ≡ begins x (slice_index_or ts k nothing)
+-- so begin these trees: where they read something, and where they read nothing
+abbrev pub Begin : ℕ → List Places → List Places → List Tree → Type 0
+Begin x rs ss ts = (k : ℕ) (d : Places) → k < length rs → begins_at x (record { read = slice_index_or rs k d; stay = slice_index_or ss k d }) ≡ begins x (slice_index_or ts k nothing)
 
 -- for all that can stand there whether a match can begin
 abbrev pub AreStarts : List Bool → Tree → Type 0

@@ -1,10 +1,11 @@
 //! Where a match can begin, as far as the byte there tells.
 ghost use Rattle.std.specs.Prelude.{◌≡◌, ◌<◌, ◌||◌, ◌&&◌, ◌==◌, nat_lt, not, ℕ, IfOk, List, length, slice_index_or, true, false};
 ghost use Rattle.syntect_pattern.specs.Sets.{holds, range};
-ghost use Rattle.syntect_pattern.specs.Trees.{Tree};
+ghost use Rattle.syntect_pattern.specs.Trees.{Tree, nothing};
 ghost use Rattle.syntect_pattern_table.specs.Table.{IsOrdered, node_tree, parts_before, set_of, trees};
 ghost use Rattle.syntect_pattern.specs.Anchors.{anchor_of};
 ghost use Rattle.syntect_pattern_table.specs.Starts as spec;
+ghost use Rattle.syntect_pattern_table.specs.declared.starts.Places.{Places as APlaces};
 ghost use Rattle.syntect_pattern_table.specs.Starts.{AreFirsts, Begin, begins, begins_at, either_begins, looked_begins, looped_begins, reads, sequence_begins, stays};
 
 use crate::ascii::put;
@@ -202,10 +203,25 @@ fn ahead(a: Firsts, negated: bool) -> Firsts
     }
 }
 
+/// Where the node at a place can begin, by two lists: where those that read something do, and those that read nothing.
+fn at(reads: &[Places], stays: &[Places], place: usize) -> Firsts
+    requires inside { place < length reads.now }
+    requires both { length stays.now ≡ length reads.now }
+    ensures { (ts : List Tree) (x : ℕ) → Begin x reads.now stays.now ts
+        → begins_at x result ≡ begins x (slice_index_or ts place nothing) }
+{
+    Firsts {
+        read: reads[place],
+        stay: stays[place],
+    }
+}
+
 /// Where the node can begin, by where those of the nodes before it do.
-fn firsts_of(node: &Node, before: &[Firsts]) -> Firsts
-    requires parts { parts_before (length before.now) node.now ≡ true }
-    ensures { (ts : List Tree) (x : ℕ) → x < 130 → Begin x before.now ts → begins_at x result ≡ begins x (node_tree ts node.now) }
+fn firsts_of(node: &Node, reads: &[Places], stays: &[Places]) -> Firsts
+    requires parts { parts_before (length reads.now) node.now ≡ true }
+    requires both { length stays.now ≡ length reads.now }
+    ensures { (ts : List Tree) (x : ℕ) → x < 130 → Begin x reads.now stays.now ts
+        → begins_at x result ≡ begins x (node_tree ts node.now) }
 {
     match node {
         Node::Nothing
@@ -232,17 +248,21 @@ fn firsts_of(node: &Node, before: &[Firsts]) -> Firsts
             read: anywhere(),
             stay: anywhere(),
         },
-        Node::Sequence(first, second) => in_sequence(before[*first], before[*second]),
-        Node::Alternation(first, second) => one_of_two(before[*first], before[*second]),
+        Node::Sequence(first, second) => {
+            in_sequence(at(reads, stays, *first), at(reads, stays, *second))
+        }
+        Node::Alternation(first, second) => {
+            one_of_two(at(reads, stays, *first), at(reads, stays, *second))
+        }
         Node::Repeat {
             greedy: _,
             least,
             most: _,
             body,
-        } => in_loop(before[*body], *least),
-        Node::Group { number: _, body } => before[*body],
-        Node::Atomic(body) => before[*body],
-        Node::Ahead { negated, body } => ahead(before[*body], *negated),
+        } => in_loop(at(reads, stays, *body), *least),
+        Node::Group { number: _, body } => at(reads, stays, *body),
+        Node::Atomic(body) => at(reads, stays, *body),
+        Node::Ahead { negated, body } => ahead(at(reads, stays, *body), *negated),
     }
 }
 
@@ -259,12 +279,25 @@ pub fn start_at(text: &str, place: usize) -> u8
     }
 }
 
-/// Where a match can begin that reads something or that reads nothing.
-fn begun(firsts: Firsts) -> Places
-    ensures { (x : ℕ) → spec.is_in result x ≡ (spec.is_in firsts.read x
-        || spec.is_in firsts.stay x) }
+fn place_at(places: &[Places], place: usize) -> Places
+    requires { place < length places.now }
+    ensures { (d : APlaces) → result ≡ slice_index_or places.now place d }
 {
-    either(firsts.read, firsts.stay)
+    places[place]
+}
+
+/// Adds to each of the places what the others have there.
+fn join(places: &mut Vec<Places>, others: &[Places])
+    requires { length others.now ≡ length places.old.items }
+    ensures count { length places.new.items ≡ length places.old.items }
+    ensures joined { (k x : ℕ) (d : APlaces) → k < length places.new.items
+        → spec.is_in (slice_index_or places.new.items k d) x
+        ≡ (spec.is_in (slice_index_or places.old.items k d) x || spec.is_in (slice_index_or others.now k d) x) }
+{
+    for place in 0..others.len() {
+        let other = place_at(others, place);
+        places[place] = either(places[place], other);
+    }
 }
 
 /// Where matches of each node can begin.
@@ -273,14 +306,15 @@ pub fn places_of(alloc: Global, nodes: &[Node]) -> Result<Seq<Places>, AllocErro
     ensures count { IfOk result (λ ps. length ps ≡ length nodes.now) }
     ensures firsts { IfOk result (λ ps. AreFirsts ps (trees nodes.now)) }
 {
-    let mut before = Vec::with_capacity(alloc, nodes.len())?;
-    let mut places = Vec::with_capacity(alloc, nodes.len())?;
+    let mut reads = Vec::with_capacity(alloc, nodes.len())?;
+    let mut stays = Vec::with_capacity(alloc, nodes.len())?;
     for place in 0..nodes.len() {
-        let next = firsts_of(&nodes[place], before.as_slice());
-        places.push(begun(next))?;
-        before.push(next)?;
+        let next = firsts_of(&nodes[place], reads.as_slice(), stays.as_slice());
+        reads.push(next.read)?;
+        stays.push(next.stay)?;
     }
-    Ok(Seq::from_vec(places))
+    join(&mut reads, stays.as_slice());
+    Ok(Seq::from_vec(reads))
 }
 
 /// For all that can stand at a place whether it is one of these.

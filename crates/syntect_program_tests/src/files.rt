@@ -9,7 +9,7 @@ use syntect::LoadingError;
 use syntect::explain::why_not_loaded;
 use syntect::highlighting::ThemeSet;
 use syntect::parsing::{ScopeRepository, SyntaxSetBuilder};
-use syntect_callers::folder::page_by_folder;
+use syntect_folder_page::folder::page_by_folder;
 
 /// A grammar in which each word behind a space is a `word`.
 const GRAMMAR: &str = r#"%YAML 1.2

@@ -1,4 +1,4 @@
--- The pattern that matches just a text.
+-- Texts as patterns.
 use Rattle.std.specs.Prelude.{ℕ, Bool, List, [], ◌∷◌, chars, encode_utf8_all, if◌then◌else◌}
 use Rattle.std.specs.List.{flat_map}
 use Rattle.syntect_pattern.specs.Reading.{◌∈◌}

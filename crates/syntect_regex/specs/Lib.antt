@@ -5,3 +5,4 @@ pub use Rattle.syntect_pattern.specs.Found
 pub mod Region
 pub mod Escape
 pub mod Begins
+pub mod Bounds

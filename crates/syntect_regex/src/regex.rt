@@ -1,5 +1,5 @@
 //! Patterns.
-ghost use Rattle.std.specs.Prelude.{◌≡◌, ℕ, ◌≤◌, ◌==◌, ◌++◌, encode_utf8_all, OnOk, take, drop, string_bytes, IfOk, OnErr, IfSome, IfNone, IsCharBoundary, is_some, is_ok, unwrap_or, option_and_then, if◌then◌else◌, None, true};
+ghost use Rattle.std.specs.Prelude.{◌≡◌, ℕ, ◌+◌, ◌≤◌, length, ◌==◌, ◌++◌, encode_utf8_all, OnOk, take, drop, string_bytes, IfOk, OnErr, IfSome, IfNone, IsCharBoundary, is_some, is_ok, unwrap_or, option_and_then, if◌then◌else◌, None, true};
 ghost use Rattle.std.specs.Cmp.Lexicographic.{pointwise};
 ghost use Rattle.std.proofs.Common.{rules};
 ghost use Rattle.std.specs.Cmp.Rules.{comparing};
@@ -8,6 +8,7 @@ ghost use Rattle.syntect_pattern.specs.Pattern.{pattern_tree, pattern_found};
 ghost use Rattle.syntect_pattern.specs.Found.{IsPatternMatch};
 ghost use Rattle.syntect_pattern_table.specs.Starts.{is_in};
 ghost use Rattle.syntect_regex.specs.declared.error.PatternError.{PatternError};
+ghost use Rattle.syntect_regex.specs.Bounds.{pattern_is_linear, search_bound};
 ghost use Rattle.syntect_regex.specs.Begins.{NoneBeginsOutside, BeginsAtEdges};
 ghost use Rattle.syntect_regex.specs.Escape.{is_special, escaped_char, escaped};
 ghost use Rattle.syntect_regex.specs.Region.{TakesMatch, TakesUpTo, TriesAt, Leaves, pattern_begins};
@@ -19,9 +20,11 @@ use crate::seek::begins_at;
 use std::alloc::{AllocError, Global};
 use std::marker::Model;
 use syntect_engine::state::Search;
+use syntect_linear::plan::Plan;
 use syntect_pattern_reader::compiler::compile;
 use syntect_pattern_table::program::Program;
 use syntect_pattern_table::starts::Places;
+use syntect_turns::count::TurnCount;
 
 /// A pattern, ready to be searched. It is its text: equal texts are equal patterns.
 pub struct Regex {
@@ -79,8 +82,8 @@ impl Regex {
         self.text.as_str()
     }
 
-    /// Whether the group of the number stands in a lookaround, which group 0, the whole match, never does. None without such
-    /// a group, and for a text that is no pattern.
+    /// Whether a lookaround holds the group with this number. None holds group 0, since that is the whole match. There is no
+    /// answer where the pattern has no such group, nor where the text is no pattern.
     pub fn group(&self, number: usize) -> Option<bool>
         ensures { result ≡ option_and_then (λ tree. group_in_look tree number) (pattern_tree self.now) }
     {
@@ -116,6 +119,20 @@ impl Regex {
             Some(program) => is_at_edges(program),
             None => false,
         }
+    }
+
+    /// Whether each search takes steps in proportion to the text: those of a pattern without back references, whose
+    /// lookbehinds look for nothing but characters, anchors, sequences and branches, in which no lookahead in a loop sets
+    /// groups, and which is not too large with its counted loops written out. A text that is no pattern is searched in no
+    /// step.
+    pub fn is_linear(&self, alloc: Global) -> Result<bool, AllocError>
+        ensures { IfOk result (λ linear. linear ≡ pattern_is_linear self.now) }
+    {
+        let Some(program) = &self.program else {
+            return Ok(true);
+        };
+        let plan = Plan::new(alloc, program, &mut TurnCount::none())?;
+        Ok(plan.is_some())
     }
 
     /// An equal pattern, with a copy of what was made of the text.
@@ -156,11 +173,37 @@ impl Regex {
         ensures is_match { IfOk result (λ found. found ≡ true → IsPatternMatch self.now (take end text.now) begin region.new) }
         ensures err { OnErr result (region.new ≡ region.old) }
     {
+        self.search_counted(text, begin, end, region, &mut TurnCount::none())
+    }
+
+    /// Searches as `search_into` does, and counts its steps. Of a linear pattern they are within a bound that goes by the
+    /// pattern and the length of what is searched. A step is one of the search that backs up, which may read a stretch of
+    /// characters at once, or one at a cell of the pattern's plan. What is passed over before a place where a match may begin
+    /// isn't counted, nor are a plan's passes over the pattern's nodes, and over the text for what lookbehinds look for.
+    pub fn search_counted(
+        &self,
+        text: &str,
+        begin: usize,
+        end: usize,
+        region: &mut Region,
+        count: &mut TurnCount,
+    ) -> Result<bool, AllocError>
+        requires order { begin ≤ end }
+        requires begin_boundary { IsCharBoundary text.now begin }
+        requires end_boundary { IsCharBoundary text.now end }
+        ensures ok { IfOk result (λ found. TakesMatch
+            (pattern_found self.now (take end text.now) begin) region.old found region.new) }
+        ensures is_match { IfOk result (λ found. found ≡ true
+            → IsPatternMatch self.now (take end text.now) begin region.new) }
+        ensures err { OnErr result (region.new ≡ region.old) }
+        ensures steps { pattern_is_linear self.now ≡ true
+            → OnOk result (count.new.made ≤ count.old.made + search_bound self.now end) }
+    {
         syntect_pattern_laws::pattern_matches_are_laid_out();
         let Some(program) = &self.program else {
             return Ok(false);
         };
-        region.find(program, text.split_at(end).0, begin)
+        region.find(program, text.split_at(end).0, begin, count)
     }
 
     /// Searches the text for a match that begins at a place from `begin` to `last`, both being byte positions. The least
@@ -177,10 +220,30 @@ impl Regex {
         ensures ok { IfOk result (λ found. TakesUpTo (pattern_found self.now text.now) begin last region.old found region.new) }
         ensures err { OnErr result (region.new ≡ region.old) }
     {
+        self.search_up_to_counted(text, begin, last, region, &mut TurnCount::none())
+    }
+
+    /// Searches as `search_up_to` does, and counts its steps as `search_counted` does.
+    pub fn search_up_to_counted(
+        &self,
+        text: &str,
+        begin: usize,
+        last: usize,
+        region: &mut Region,
+        count: &mut TurnCount,
+    ) -> Result<bool, AllocError>
+        requires { begin ≤ last }
+        ensures ok { IfOk result (λ found. TakesUpTo
+            (pattern_found self.now text.now) begin last region.old found region.new) }
+        ensures err { OnErr result (region.new ≡ region.old) }
+        ensures steps { pattern_is_linear self.now ≡ true
+            → OnOk result (count.new.made
+            ≤ count.old.made + search_bound self.now (length text.now)) }
+    {
         let Some(program) = &self.program else {
             return Ok(false);
         };
-        region.find_up_to(program, text, begin, last)
+        region.find_up_to(program, text, begin, last, count)
     }
 
     /// Whether a match begins at the place, a byte position. Where one does, the region has the groups of the first one; else,
@@ -195,10 +258,27 @@ impl Regex {
         ensures ok { IfOk result (λ b. TriesAt self.now text.now place region.old b region.new) }
         ensures err { OnErr result (region.new ≡ region.old) }
     {
+        self.match_at_counted(text, place, region, &mut TurnCount::none())
+    }
+
+    /// Tells as `match_at` does, and counts the steps as `search_counted` does.
+    pub fn match_at_counted(
+        &self,
+        text: &str,
+        place: usize,
+        region: &mut Region,
+        count: &mut TurnCount,
+    ) -> Result<bool, AllocError>
+        ensures ok { IfOk result (λ b. TriesAt self.now text.now place region.old b region.new) }
+        ensures err { OnErr result (region.new ≡ region.old) }
+        ensures steps { pattern_is_linear self.now ≡ true
+            → OnOk result (count.new.made
+            ≤ count.old.made + search_bound self.now (length text.now)) }
+    {
         let Some(program) = &self.program else {
             return Ok(false);
         };
-        region.find_at(program, text, place)
+        region.find_at(program, text, place, count)
     }
 
     /// Searches as `search_into` does, where a region is perhaps lent. Without one the memory of the search is let go.
@@ -231,7 +311,7 @@ impl Regex {
             return Ok(false);
         };
         let mut search = Search::new(alloc);
-        begins_at(&mut search, program, text, 0)
+        begins_at(&mut search, program, text, 0, &mut TurnCount::none())
     }
 }
 
@@ -284,7 +364,8 @@ fn push_escaped(pattern: &mut String, c: char) -> Result<(), AllocError>
     pattern.push(c)
 }
 
-/// The pattern that matches just this text.
+/// The text as a pattern: a backslash stands before each character that can have a meaning in one. White space stays as it is,
+/// so where the flag `x` is set, the pattern passes over it.
 pub fn escape(alloc: Global, text: &str) -> Result<String, AllocError>
     ensures { IfOk result (λ t. string_bytes t ≡ escaped text.now) }
 {

@@ -1,6 +1,7 @@
 //! Where the groups of a match stand.
-ghost use Rattle.std.specs.Prelude.{◌≡◌, ◌≤◌, ◌↔◌, true, [], IfOk, OnErr, None, slice_index_or};
+ghost use Rattle.std.specs.Prelude.{◌≡◌, ◌≤◌, ◌↔◌, true, [], IfOk, OnErr, OnOk, None, length, slice_index_or};
 ghost use Rattle.syntect_pattern.specs.Matches.{Groups};
+ghost use Rattle.syntect_regex.specs.Bounds.{IsWithinBound};
 ghost use Rattle.syntect_regex.specs.Region.{Takes, TakesHere, TakesNear, same_groups, same_groups-equiv};
 ghost use Rattle.std.specs.Cmp.{partial_equiv_from_equiv};
 
@@ -10,6 +11,7 @@ use std::marker::Model;
 use std::mem;
 use syntect_engine::state::{Search, Span};
 use syntect_pattern_table::program::Program;
+use syntect_turns::count::TurnCount;
 
 /// Where each group of a match stands, from 0, which is the whole match. A region also keeps the memory of the last search
 /// for the next one: to search many times, hand in the same one.
@@ -79,11 +81,14 @@ impl Region {
         program: &Program,
         text: &str,
         begin: usize,
+        count: &mut TurnCount,
     ) -> Result<bool, AllocError>
         ensures found { IfOk result (λ b. Takes text.now program.now begin self.old b self.new) }
         ensures err { OnErr result (self.new ≡ self.old) }
+        ensures steps { OnOk result (IsWithinBound program.now (length text.now)
+            count.old.made count.new.made) }
     {
-        let found = find(&mut self.search, program, text, begin)?;
+        let found = find(&mut self.search, program, text, begin, count)?;
         if found {
             mem::swap(&mut self.positions, &mut self.search.groups);
         }
@@ -97,12 +102,15 @@ impl Region {
         text: &str,
         begin: usize,
         last: usize,
+        count: &mut TurnCount,
     ) -> Result<bool, AllocError>
         requires { begin ≤ last }
         ensures found { IfOk result (λ b. TakesNear text.now program.now begin last self.old b self.new) }
         ensures err { OnErr result (self.new ≡ self.old) }
+        ensures steps { OnOk result (IsWithinBound program.now (length text.now)
+            count.old.made count.new.made) }
     {
-        let is_found = find_up_to(&mut self.search, program, text, begin, last)?;
+        let is_found = find_up_to(&mut self.search, program, text, begin, last, count)?;
         if is_found {
             mem::swap(&mut self.positions, &mut self.search.groups);
         }
@@ -115,11 +123,14 @@ impl Region {
         program: &Program,
         text: &str,
         place: usize,
+        count: &mut TurnCount,
     ) -> Result<bool, AllocError>
         ensures found { IfOk result (λ b. TakesHere text.now program.now place self.old b self.new) }
         ensures err { OnErr result (self.new ≡ self.old) }
+        ensures steps { OnOk result (IsWithinBound program.now (length text.now)
+            count.old.made count.new.made) }
     {
-        let is_here = begins_at(&mut self.search, program, text, place)?;
+        let is_here = begins_at(&mut self.search, program, text, place, count)?;
         if is_here {
             mem::swap(&mut self.positions, &mut self.search.groups);
         }

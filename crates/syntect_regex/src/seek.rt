@@ -1,7 +1,8 @@
 //! Searches whose time is bounded: one that backs up too often goes on cell by cell of the pattern's plan, which doesn't back
 //! up at all.
-ghost use Rattle.std.specs.Prelude.{◌≤◌, IfOk};
+ghost use Rattle.std.specs.Prelude.{◌≤◌, ◌+◌, ◌*◌, IfOk, OnOk, length};
 ghost use Rattle.syntect_engine.specs.Machine.{FindsAt, FindsGroups, FindsUpTo, groups_of};
+ghost use Rattle.syntect_regex.specs.Bounds.{IsWithinBound, IsWithinPlan};
 
 use std::alloc::AllocError;
 use syntect_engine::state::Search;
@@ -18,7 +19,9 @@ const STEPS: usize = 16384;
 
 /// How many steps a search of the text may take.
 #[inline]
-fn steps_in(text: &str) -> usize {
+fn steps_in(text: &str) -> usize
+    ensures { result ≤ length text.now * 64 + 16384 }
+{
     text.len()
         .saturating_mul(STEPS_A_BYTE)
         .saturating_add(STEPS)
@@ -32,14 +35,17 @@ pub(crate) fn find(
     program: &Program,
     text: &str,
     begin: usize,
+    count: &mut TurnCount,
 ) -> Result<bool, AllocError>
-    ensures { IfOk result (λ found.
+    ensures finds { IfOk result (λ found.
         FindsGroups text.now program.now begin (groups_of found search.new)) }
+    ensures steps { OnOk result (IsWithinBound program.now (length text.now)
+        count.old.made count.new.made) }
 {
     search.left = steps_in(text);
-    match search.find(program, text, begin, true)? {
+    match search.find(program, text, begin, true, count)? {
         Some(found) => Ok(found),
-        None => find_planned(search, program, text, begin),
+        None => find_planned(search, program, text, begin, count),
     }
 }
 
@@ -50,13 +56,15 @@ fn find_planned(
     program: &Program,
     text: &str,
     begin: usize,
+    count: &mut TurnCount,
 ) -> Result<bool, AllocError>
-    ensures { IfOk result (λ found.
+    ensures finds { IfOk result (λ found.
         FindsGroups text.now program.now begin (groups_of found search.new)) }
+    ensures steps { OnOk result (IsWithinPlan program.now (length text.now)
+        count.old.made count.new.made) }
 {
     let alloc = *search.frames.allocator();
-    if let Some(plan) = Plan::new(alloc, program)? {
-        let mut count = TurnCount::none();
+    if let Some(plan) = Plan::new(alloc, program, count)? {
         return planned::find(
             alloc,
             program,
@@ -64,10 +72,10 @@ fn find_planned(
             text,
             begin,
             &mut search.groups,
-            &mut count,
+            count,
         );
     }
-    match search.find(program, text, begin, false)? {
+    match search.find(program, text, begin, false, count)? {
         Some(found) => Ok(found),
         None => Ok(false),
     }
@@ -81,15 +89,18 @@ pub(crate) fn find_up_to(
     text: &str,
     begin: usize,
     last: usize,
+    count: &mut TurnCount,
 ) -> Result<bool, AllocError>
     requires { begin ≤ last }
-    ensures { IfOk result (λ found.
+    ensures finds { IfOk result (λ found.
         FindsUpTo text.now program.now begin last (groups_of found search.new)) }
+    ensures steps { OnOk result (IsWithinBound program.now (length text.now)
+        count.old.made count.new.made) }
 {
     search.left = steps_in(text);
-    match search.find_up_to(program, text, begin, last, true)? {
+    match search.find_up_to(program, text, begin, last, true, count)? {
         Some(found) => Ok(found),
-        None => find_up_to_planned(search, program, text, begin, last),
+        None => find_up_to_planned(search, program, text, begin, last, count),
     }
 }
 
@@ -101,14 +112,16 @@ fn find_up_to_planned(
     text: &str,
     begin: usize,
     last: usize,
+    count: &mut TurnCount,
 ) -> Result<bool, AllocError>
     requires { begin ≤ last }
-    ensures { IfOk result (λ found.
+    ensures finds { IfOk result (λ found.
         FindsUpTo text.now program.now begin last (groups_of found search.new)) }
+    ensures steps { OnOk result (IsWithinPlan program.now (length text.now)
+        count.old.made count.new.made) }
 {
     let alloc = *search.frames.allocator();
-    if let Some(plan) = Plan::new(alloc, program)? {
-        let mut count = TurnCount::none();
+    if let Some(plan) = Plan::new(alloc, program, count)? {
         return planned::find_up_to(
             alloc,
             program,
@@ -117,10 +130,10 @@ fn find_up_to_planned(
             begin,
             last,
             &mut search.groups,
-            &mut count,
+            count,
         );
     }
-    match search.find_up_to(program, text, begin, last, false)? {
+    match search.find_up_to(program, text, begin, last, false, count)? {
         Some(found) => Ok(found),
         None => Ok(false),
     }
@@ -133,14 +146,17 @@ pub(crate) fn begins_at(
     program: &Program,
     text: &str,
     place: usize,
+    count: &mut TurnCount,
 ) -> Result<bool, AllocError>
-    ensures { IfOk result (λ found.
+    ensures finds { IfOk result (λ found.
         FindsAt text.now program.now place (groups_of found search.new)) }
+    ensures steps { OnOk result (IsWithinBound program.now (length text.now)
+        count.old.made count.new.made) }
 {
     search.left = steps_in(text);
-    match search.begins_at(program, text, place, true)? {
+    match search.begins_at(program, text, place, true, count)? {
         Some(found) => Ok(found),
-        None => begins_planned(search, program, text, place),
+        None => begins_planned(search, program, text, place, count),
     }
 }
 
@@ -151,13 +167,15 @@ fn begins_planned(
     program: &Program,
     text: &str,
     place: usize,
+    count: &mut TurnCount,
 ) -> Result<bool, AllocError>
-    ensures { IfOk result (λ found.
+    ensures finds { IfOk result (λ found.
         FindsAt text.now program.now place (groups_of found search.new)) }
+    ensures steps { OnOk result (IsWithinPlan program.now (length text.now)
+        count.old.made count.new.made) }
 {
     let alloc = *search.frames.allocator();
-    if let Some(plan) = Plan::new(alloc, program)? {
-        let mut count = TurnCount::none();
+    if let Some(plan) = Plan::new(alloc, program, count)? {
         return planned::begins_at(
             alloc,
             program,
@@ -165,10 +183,10 @@ fn begins_planned(
             text,
             place,
             &mut search.groups,
-            &mut count,
+            count,
         );
     }
-    match search.begins_at(program, text, place, false)? {
+    match search.begins_at(program, text, place, false, count)? {
         Some(found) => Ok(found),
         None => Ok(false),
     }

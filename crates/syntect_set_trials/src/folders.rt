@@ -1,9 +1,10 @@
 //! Calls that read folders of grammars, and the file that a syntax is looked for.
 use crate::given::set_of;
+use crate::sets::show_name;
 use std::path::Path;
 use std::rt::Files;
 use syntect_call_trials::marks::{TIMES, answer, begin, end, stays};
-use syntect_grammar::syntax_set::{SyntaxReference, SyntaxSet, SyntaxSetBuilder};
+use syntect_grammar::syntax_set::{SyntaxSet, SyntaxSetBuilder};
 use syntect_scope::repository::ScopeRepository;
 
 /// A folder of two grammars and a file of metadata.
@@ -18,14 +19,6 @@ fn show_syntaxes(rt: &(impl Print + AllocGlobal), builder: &SyntaxSetBuilder) {
         let _ = write!(names, "{};", definition.name.as_str());
     }
     stays(rt, names.as_str());
-}
-
-/// Shows the name of a syntax.
-fn show_name(rt: &impl Print, syntax: Option<&SyntaxReference>) {
-    match syntax {
-        Some(syntax) => answer(rt, syntax.name.as_str()),
-        None => answer(rt, "none"),
-    }
 }
 
 fn add_syntaxes(rt: &(impl Print + AllocGlobal + Files)) {

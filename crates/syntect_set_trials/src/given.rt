@@ -4,7 +4,8 @@ use syntect_grammar::syntax_definition::SyntaxDefinition;
 use syntect_grammar::syntax_set::{SyntaxSet, SyntaxSetBuilder};
 use syntect_scope::repository::ScopeRepository;
 
-/// A grammar with a prototype, a variable, captures and a text that ends with the word that it began with.
+/// A grammar with a prototype, a variable, captures, a text that ends with the word that it began with, and an include in
+/// another one.
 pub const GRAMMAR: &str = r##"name: T
 scope: source.t
 file_extensions: [t]
@@ -26,6 +27,15 @@ contexts:
           pop: true
     - match: '!'
       push: 'scope:source.none'
+    - match: '@'
+      push: quoted
+      with_prototype:
+        - include: included
+  included:
+    - include: words
+  words:
+    - match: '{{word}}'
+      scope: word.t
   quoted:
     - meta_scope: string.t
     - match: '"'

@@ -2,6 +2,8 @@
 #![tactic(auto)]
 
 pub mod calls;
+mod copies;
 mod folders;
 pub mod given;
+mod patterns;
 mod sets;

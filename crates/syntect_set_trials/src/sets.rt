@@ -8,7 +8,7 @@ use syntect_scope::repository::ScopeRepository;
 use syntect_shown::definitions::write_definitions;
 
 /// Shows all that definitions hold.
-fn show_definitions(
+pub fn show_definitions(
     rt: &(impl Print + AllocGlobal),
     builder: &SyntaxSetBuilder,
     repository: &ScopeRepository,
@@ -26,7 +26,7 @@ fn show_set(rt: &(impl Print + AllocGlobal), set: SyntaxSet, repository: &ScopeR
 }
 
 /// Shows the name of a syntax.
-fn show_name(rt: &impl Print, syntax: Option<&SyntaxReference>) {
+pub fn show_name(rt: &impl Print, syntax: Option<&SyntaxReference>) {
     match syntax {
         Some(syntax) => answer(rt, syntax.name.as_str()),
         None => answer(rt, "none"),

@@ -252,8 +252,10 @@ fn rules(
     items: &[Value],
     repository: &mut ScopeRepository,
 ) -> Result<Seq<ThemeItem>, AllocError>
-    ensures ok { IfOk result (λ rules. rules ≡ loading.rules_in repository.old (items_view items.now)) }
-    ensures atoms { OnOk result (repository.new ≡ loading.after_rules repository.old (items_view items.now)) }
+    ensures ok { IfOk result (λ rules.
+        rules ≡ loading.rules_in repository.old (items_view items.now)) }
+    ensures atoms { OnOk result
+        (repository.new ≡ loading.after_rules repository.old (items_view items.now)) }
     ensures whole { IsRepository repository.new }
     ensures kept { take (length repository.old) repository.new ≡ repository.old }
 {

@@ -214,7 +214,8 @@ impl ThemeSet {
         ensures ok { OnOk result ((found : List (List ℕ)) × IsWalk (path_bytes folder.entry) found
             × AddsThemes found repository.old self.old.themes repository.new self.new.themes) }
         ensures err { IfErr result (λ e.
-            RefusesThemes (path_bytes folder.entry) repository.old self.old.themes e repository.new self.new.themes) }
+            RefusesThemes (path_bytes folder.entry) repository.old self.old.themes e
+            repository.new self.new.themes) }
         ensures whole { IsRepository repository.new }
         ensures kept { take (length repository.old) repository.new ≡ repository.old }
     {

@@ -30,11 +30,11 @@ six_joined o a b c d e f r s t u v z er es et eu ev ez =
     three_joined t d e f u v z eu ev ez ∙ ap (λ (k : List ℕ). k ++ (d ++ (e ++ f))) (three_joined o a b c r s t er es et)
     ∙ simp append_assoc
 
--- a tag in parts, behind what ends the span before it
-pub tag_joined : (close ground flags digits : List ℕ)
-    → (close ++ codes "<span style=\"") ++ (ground ++ (flags ++ (codes "color:#" ++ (digits ++ codes ";\">"))))
-    ≡ close ++ (codes "<span style=\"" ++ ((ground ++ (flags ++ (codes "color:" ++ ((35 ∷ digits) ++ codes ";")))) ++ codes "\">"))
-tag_joined close ground flags digits = simp append_assoc
+-- a tag in parts
+pub tag_joined : (ground flags digits : List ℕ)
+    → codes "<span style=\"" ++ (ground ++ (flags ++ (codes "color:#" ++ (digits ++ codes ";\">"))))
+    ≡ codes "<span style=\"" ++ ((ground ++ (flags ++ (codes "color:" ++ ((35 ∷ digits) ++ codes ";")))) ++ codes "\">")
+tag_joined ground flags digits = simp append_assoc
 
 -- spans whose first one has the style and this much of its text
 pub spans_behind : (bg : IncludeBackground) (style : Style) (text : List ℕ) (ps : List (Style × List ℕ))

@@ -4,6 +4,7 @@ pub mod Lines
 pub mod Names
 pub mod Opened
 pub mod Spans
+pub mod Tags
 pub mod Tails
 pub mod Terminal
 pub mod Text

@@ -1,12 +1,10 @@
 //! HTML with inline styles.
 ghost use Rattle.std.specs.Prelude.{◌≡◌, ◌++◌, string_bytes, codes, IfOk, OnOk, OnErr};
 ghost use Rattle.syntect_writers.specs.Spans.{rgb_digits, rgb_text, color_digits, flags_text, same_color, same_style, tells_background, asked_for, color_property, background_text, open_tag, is_blank, continues, line_text, opening, background_of};
-ghost use Rattle.syntect_writers.specs.Opened.{behind_open, line_behind, close_of, continued};
 ghost use Rattle.syntect_theme.specs.Modifying.{bits_of};
-ghost use Rattle.std.specs.Prelude.{◌<◌, ◌∷◌, List, ℕ};
-ghost use Rattle.syntect_theme.specs.declared.style.Style.{Style as Plain};
 
 use crate::bytes::hex_pair;
+use crate::spans::SpanWriter;
 use crate::tail::Tail;
 use std::alloc::{AllocError, Global};
 use std::mem::replace;
@@ -158,104 +156,27 @@ fn is_blank(text: &str) -> bool
 }
 
 /// Whether a piece goes into the span of this style.
-fn continues(before: Style, style: Style, text: &str) -> bool
+pub(crate) fn continues(before: Style, style: Style, text: &str) -> bool
     ensures { result ≡ continues before (style, text.now) }
 {
     same_style(style, before) || (same_color(style.background, before.background) && is_blank(text))
 }
 
-/// What stands before a span's style: the end of the span that is open, if one is, and the beginning of the tag. It is one
-/// text, since most spans follow another one.
-fn opening_of(last: Option<Style>) -> &'static str
-    ensures { result.now ≡ close_of last ++ codes "<span style=\"" }
-{
-    match last {
-        Some(_) => "</span><span style=\"",
-        None => "<span style=\"",
-    }
-}
-
-/// Ends the span that is open, if one is, and begins another one.
-fn open_span(
+/// Puts the tag last that opens a span of a style.
+pub(crate) fn push_tag(
     out: &mut Tail,
-    last: Option<Style>,
     bg: IncludeBackground,
     style: Style,
 ) -> Result<(), AllocError>
     ensures front { out.new.front ≡ out.old.front }
-    ensures back { OnOk result (out.new.back
-        ≡ out.old.back ++ (close_of last ++ open_tag bg style)) }
+    ensures back { OnOk result (out.new.back ≡ out.old.back ++ open_tag bg style) }
 {
-    out.push_str(opening_of(last))?;
+    out.push_str("<span style=\"")?;
     push_background(out, bg, style)?;
     push_flags(out, style.font_style)?;
     out.push_str("color:#")?;
     push_digits(out, style.foreground)?;
     out.push_str(";\">")?;
-    Ok(())
-}
-
-/// Ends the span that is open, if one is.
-fn close_span(out: &mut Tail, last: Option<Style>) -> Result<(), AllocError>
-    ensures front { out.new.front ≡ out.old.front }
-    ensures back { OnOk result (out.new.back ≡ out.old.back ++ close_of last) }
-{
-    if last.is_some() {
-        out.push_str("</span>")?;
-    }
-    Ok(())
-}
-
-/// The style of the open span, if the piece goes into it.
-fn continued(last: Option<Style>, style: Style, text: &str) -> Option<Style>
-    ensures { result ≡ continued last (style, text.now) }
-{
-    match last {
-        Some(before) if continues(before, style, text) => Some(before),
-        _ => None,
-    }
-}
-
-/// Puts a piece last, behind those whose span is open. Answers the style of the span that is then open.
-fn push_piece(
-    out: &mut Tail,
-    bg: IncludeBackground,
-    last: Option<Style>,
-    style: Style,
-    text: &str,
-) -> Result<Style, AllocError>
-    ensures front { out.new.front ≡ out.old.front }
-    ensures back { (ps : List (Plain × List ℕ)) → IfOk result (λ s.
-        out.new.back ++ behind_open bg s ps
-        ≡ out.old.back ++ line_behind bg last ((style, text.now) ∷ ps)) }
-{
-    match continued(last, style, text) {
-        Some(before) => {
-            out.push_escaped(text)?;
-            Ok(before)
-        }
-        None => {
-            open_span(out, last, bg, style)?;
-            out.push_escaped(text)?;
-            Ok(style)
-        }
-    }
-}
-
-/// Puts a line of pieces last, as spans.
-fn push_line(out: &mut Tail, v: &[(Style, &str)], bg: IncludeBackground) -> Result<(), AllocError>
-    ensures front { out.new.front ≡ out.old.front }
-    ensures back { OnOk result (out.new.back ≡ out.old.back ++ line_text bg v.now) }
-{
-    let mut last = None;
-    for piece in v {
-        let (style, text) = *piece;
-        match push_piece(out, bg, last, style, text) {
-            Ok(open) => last = Some(open),
-            Err(e) => return Err(e),
-        }
-    }
-    close_span(out, last)?;
     Ok(())
 }
 
@@ -269,17 +190,7 @@ pub fn append_highlighted_html_for_styled_line(
     ensures ok { OnOk result (string_bytes s.new ≡ string_bytes s.old ++ line_text bg v.now) }
     ensures err { OnErr result (string_bytes s.new ≡ string_bytes s.old) }
 {
-    let mut tail = Tail::behind(replace(s, String::new(*s.allocator())));
-    match push_line(&mut tail, v, bg) {
-        Ok(()) => {
-            *s = tail.into_text();
-            Ok(())
-        }
-        Err(e) => {
-            *s = tail.into_front();
-            Err(e)
-        }
-    }
+    SpanWriter::of_one_line(*s.allocator(), bg).append(v, s)
 }
 
 /// A line of styled pieces as spans with inline styles.

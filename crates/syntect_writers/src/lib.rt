@@ -9,6 +9,7 @@ pub mod html;
 pub mod latex;
 pub mod laws;
 pub mod lines;
+pub mod spans;
 mod tail;
 pub mod terminal;
 mod text;

@@ -1,4 +1,4 @@
-use Rattle.std.proofs.Common.{◌≡◌, Bool, true, false, refl, sym, ◌∙◌, ap, arith, Some, None, add-one, suc, length}
+use Rattle.std.proofs.Common.{◌≡◌, Bool, true, false, refl, sym, ◌∙◌, arith, Some, None, add-one, suc, length}
 use Rattle.syntect_pattern.specs.Matches.{found_at}
 use Rattle.syntect_engine.specs.Machine.{groups_of, FindsAt}
 use Rattle.syntect_engine.proofs.StepsLaws.{answer_holds}
@@ -17,6 +17,7 @@ returns-in-Some-true-clause-finds c = λ tree is.
 
 pub loop-place-preserved : goal.loop-place-preserved
 loop-place-preserved c = record {
+  paid = λ l. c.in_ok-begins_at.ensures.steps l ∙ c.loop-place.invariant.paid l;
   same = λ tree is.
       let s = c.args.text.now in
       let next = c.next_start-place.result in
@@ -49,4 +50,4 @@ pub returns-then-begin-text-clause-finds : goal.returns-then-begin-text-clause-f
 returns-then-begin-text-clause-finds c = λ tree is. sym (found-past c.args.text.now tree c.args.begin (omega arith))
 
 pub loop-place-init : goal.loop-place-init
-loop-place-init c = record { same = λ tree is. refl }
+loop-place-init c = record { same = λ tree is. refl; paid = λ l. refl }

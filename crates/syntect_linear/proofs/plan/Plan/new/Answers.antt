@@ -9,6 +9,7 @@ use Rattle.syntect_pattern.specs.Trees.{nothing}
 use Rattle.syntect_linear.specs.declared.cells.Parts.{Parts}
 use Rattle.syntect_linear.specs.declared.facts.Facts.{Facts}
 use Rattle.syntect_linear.proofs.PlanLaws.{Counts, counts-begin, counts-more, counts-most, counts-all, planned-more}
+use Rattle.syntect_linear.proofs.LinearLaws.{linear-hard, linear-easy}
 use Rattle.syntect_linear.proofs.plan.Plan.new.Goals as goal
 
 not-false : (b : Bool) → not b ≡ false → b ≡ true
@@ -27,6 +28,7 @@ cells-init c = record {
       let zero_parts : length c.in_ok-plan.plan.parts ≡ 0 = ap length c.in_ok-plan.ensures.none in
       subst (λ (k : ℕ). Counts (trees_of c.args.program.now) c.in_ok-plan.plan.cells k (plan_cells (get_or (trees_of c.args.program.now) c.args.program.now.root nothing)))
       (sym zero_parts) (counts-begin (trees_of c.args.program.now) c.in_ok-plan.plan.cells _ c.in_ok-plan.ensures.cost);
+  paid = omega (arith, ap length c.in_ok-plan.ensures.none);
 }
 
 pub cells-preserved : goal.cells-preserved
@@ -51,6 +53,7 @@ cells-preserved c =
           let long : length c.push.new.self ≡ length old.parts + 1 = ap length all ∙ length-append old.parts (c.in_ok-parts.parts ∷ []) ∙ omega arith in
           subst (λ (k : ℕ). Counts ts new.cells k (plan_cells (get_or ts c.args.program.now.root nothing))) (sym long)
           (counts-more ts old.cells new.cells old.behinds new.behinds (length old.parts) _ c.in_ok-parts.parts (omega arith) step c.cells.invariant.counts);
+      paid = omega (arith, c.tick.ensures, c.cells.invariant.paid, ap length all, length-append old.parts (c.in_ok-parts.parts ∷ []));
       order = omega (arith, ap length all, length-append old.parts (c.in_ok-parts.parts ∷ []), step.extends.grows.longer);
     }
 
@@ -77,3 +80,21 @@ returns-clause-easy c =
     let all = counts-all ts c.cells.plan.cells total (subst (λ (k : ℕ). Counts ts c.cells.plan.cells k total) over i.counts) in
     let few = i.few over in
     record { free = i.free; few = omega (arith, all, few) }
+
+pub returns-then-len-gt-MOST-clause-linear : goal.returns-then-len-gt-MOST-clause-linear
+returns-then-len-gt-MOST-clause-linear c = linear-hard _ (returns-then-len-gt-MOST-clause-none c)
+
+pub returns-clause-linear : goal.returns-clause-linear
+returns-clause-linear c = linear-easy _ (returns-clause-easy c)
+
+pub returns-then-len-gt-MOST-clause-steps : goal.returns-then-len-gt-MOST-clause-steps
+returns-then-len-gt-MOST-clause-steps c =
+    let i = c.cells.invariant in
+    let m = counts-most (trees_of c.args.program.now) c.cells.plan.cells (length c.cells.plan.parts) _ i.order i.counts in
+    omega (arith, m, i.order, i.paid)
+
+pub returns-clause-steps : goal.returns-clause-steps
+returns-clause-steps c =
+    let i = c.cells.invariant in
+    let m = counts-most (trees_of c.args.program.now) c.cells.plan.cells (length c.cells.plan.parts) _ i.order i.counts in
+    omega (arith, m, i.order, i.paid)

@@ -1,4 +1,4 @@
-use Rattle.std.proofs.Common.{◌≡◌, ◌-◌, ◌≤◌, length, get_or, true}
+use Rattle.std.proofs.Common.{◌≡◌, ◌+◌, ◌-◌, ◌≤◌, length, get_or, true}
 use Rattle.syntect_pattern_table.specs.Program.{trees_of}
 use Rattle.syntect_linear.specs.Facts.{AreFacts}
 use Rattle.syntect_linear.specs.Plan.{IsPlanned, plan_cells}
@@ -15,6 +15,7 @@ invariant-cells l = record {
   few : length l.plan.parts ≡ length l.plan.cells → length l.plan.cells ≤ 40000;
   free : is_free (get_or (trees_of l.program) l.program.root nothing) ≡ true;
   counts : Counts (trees_of l.program) l.plan.cells (length l.plan.parts) (plan_cells (get_or (trees_of l.program) l.program.root nothing));
+  paid : l.count.made ≡ l.fn.count.made + length l.plan.parts;
 }
 
 abbrev pub decreases-cells : goal.decreases-cells

@@ -1,0 +1,6 @@
+mod NestingLaws
+mod PartLaws
+mod StepLaws
+mod ItemLaws
+mod DepthLaws
+mod Rows

@@ -1,0 +1,33 @@
+//! Laws of loading, which no function needs: how deep values and contexts nest. Each is the contract
+//! of a function that does nothing.
+#![tactic(auto)]
+
+ghost use Rattle.syntect_loader_laws.specs.Laws.{BoundIsNotReached, DepthIsEnough, DepthIsNotFelt};
+ghost use Rattle.syntect_loader_laws.specs.Nesting.{TextsNestWithin};
+
+/// The value of a text nests no deeper than the bound on values, whatever the text is.
+#[tactic(auto, using(crate::proofs::NestingLaws::texts_nest_within))]
+pub fn texts_nest_within()
+    ensures { TextsNestWithin }
+{}
+
+/// Contexts nest less deep than the value that they are read from: a bound that is as great as the
+/// value is deep gives the same definition or refusal as any greater one.
+#[tactic(auto, using(crate::proofs::DepthLaws::depth_is_enough))]
+pub fn depth_is_enough()
+    ensures { DepthIsEnough }
+{}
+
+/// The bound on how deep contexts nest is never felt: a greater one gives no text another
+/// definition, and no other refusal.
+#[tactic(auto, using(crate::proofs::DepthLaws::depth_is_not_felt))]
+pub fn depth_is_not_felt()
+    ensures { DepthIsNotFelt }
+{}
+
+/// The refusal at that bound is one that no text reaches: whatever is done in its place, each text
+/// has the definition or refusal that it has.
+#[tactic(auto, using(crate::proofs::DepthLaws::bound_is_not_reached))]
+pub fn bound_is_not_reached()
+    ensures { BoundIsNotReached }
+{}

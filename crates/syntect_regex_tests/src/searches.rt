@@ -1,0 +1,138 @@
+//! Regions, copies of patterns, and searches whose steps are counted.
+use crate::found::{equal, holds};
+use syntect_regex::regex::Regex;
+use syntect_regex::region::Region;
+use syntect_turns::count::TurnCount;
+
+#[test]
+fn keeps_a_region_without_a_match(rt: HostRuntime) {
+    let regex = Regex::new(
+        rt.alloc(),
+        String::from_str(rt.alloc(), "b").expect(&rt, "an answer"),
+    )
+    .expect(&rt, "an answer");
+    let copy = regex.clone(rt.alloc()).expect(&rt, "an answer");
+    let mut region = Region::default(rt.alloc());
+    holds(
+        &rt,
+        regex
+            .search_into("ab", 0, 2, &mut region)
+            .expect(&rt, "an answer"),
+    );
+    let before = region.clone(rt.alloc()).expect(&rt, "an answer");
+    holds(
+        &rt,
+        !copy
+            .search_into("ab", 0, 1, &mut region)
+            .expect(&rt, "an answer"),
+    );
+    holds(&rt, region == before);
+    equal(&rt, region.pos(0), Some((1, 2)));
+    equal(&rt, region.pos(1), None);
+}
+
+#[test]
+fn copies_are_searched_alike(rt: HostRuntime) {
+    let regex = Regex::new(
+        rt.alloc(),
+        String::from_str(rt.alloc(), "b").expect(&rt, "an answer"),
+    )
+    .expect(&rt, "an answer");
+    let copy = regex.clone(rt.alloc()).expect(&rt, "an answer");
+    holds(
+        &rt,
+        !regex.is_match(rt.alloc(), "ab").expect(&rt, "an answer"),
+    );
+    holds(
+        &rt,
+        regex.is_match(rt.alloc(), "ba").expect(&rt, "an answer"),
+    );
+    holds(&rt, regex == copy);
+    equal(&rt, regex.regex_str(), "b");
+}
+
+#[test]
+fn tells_where_a_match_begins(rt: HostRuntime) {
+    let regex = Regex::new(
+        rt.alloc(),
+        String::from_str(rt.alloc(), "(?<=a)b|c").expect(&rt, "an answer"),
+    )
+    .expect(&rt, "an answer");
+    let mut region = Region::default(rt.alloc());
+    holds(
+        &rt,
+        !regex
+            .match_at("abc", 0, &mut region)
+            .expect(&rt, "an answer"),
+    );
+    equal(&rt, region.pos(0), None);
+    holds(
+        &rt,
+        regex
+            .match_at("abc", 1, &mut region)
+            .expect(&rt, "an answer"),
+    );
+    equal(&rt, region.pos(0), Some((1, 2)));
+    holds(
+        &rt,
+        !regex
+            .match_at("abc", 3, &mut region)
+            .expect(&rt, "an answer"),
+    );
+    equal(&rt, region.pos(0), Some((1, 2)));
+}
+
+/// Of the letters `b` in `abcb` those up to a place are looked for.
+#[test]
+fn searches_up_to_a_place(rt: HostRuntime) {
+    let text = String::from_str(rt.alloc(), "b").expect(&rt, "memory");
+    let regex = Regex::new(rt.alloc(), text).expect(&rt, "memory");
+    let mut region = Region::default(rt.alloc());
+    for (begin, last, wanted) in [(0, 1, true), (2, 2, false), (2, 3, true), (4, 4, false)] {
+        let found = regex.search_up_to("abcb", begin, last, &mut region);
+        equal(&rt, found.expect(&rt, "memory"), wanted);
+    }
+    equal(&rt, region.pos(0), Some((3, 4)));
+}
+
+/// A pattern of which each search is bounded, and the others.
+#[test]
+fn tells_which_patterns_are_linear(rt: HostRuntime) {
+    let patterns = [
+        ("(a+)+b", true),
+        ("(?<=ab|c)d", true),
+        ("(a)\\1", false),
+        ("(?<=a+)b", false),
+        ("(?:(?=(a))b)*", false),
+        ("(?:a{1000}){1000}", false),
+        ("(", true),
+    ];
+    for (pattern, wanted) in patterns {
+        let text = String::from_str(rt.alloc(), pattern).expect(&rt, "memory");
+        let regex = Regex::new(rt.alloc(), text).expect(&rt, "memory");
+        equal(
+            &rt,
+            regex.is_linear(rt.alloc()).expect(&rt, "memory"),
+            wanted,
+        );
+    }
+}
+
+/// A search that is counted finds what one that isn't does, also where it goes on by a plan.
+#[test]
+fn counts_the_steps_of_a_search(rt: HostRuntime) {
+    let text = String::from_str(rt.alloc(), "(a+)+b").expect(&rt, "memory");
+    let regex = Regex::new(rt.alloc(), text).expect(&rt, "memory");
+    let mut region = Region::default(rt.alloc());
+    let mut count = TurnCount::none();
+    let line = "aaaaaaaaaaaaaaaaaaaaaaaaaaaaaaaaaaaaaaaacb";
+    let found = regex.search_counted(line, 0, 42, &mut region, &mut count);
+    equal(&rt, found.expect(&rt, "memory"), false);
+    let found = regex.search_up_to_counted(line, 0, 5, &mut region, &mut count);
+    equal(&rt, found.expect(&rt, "memory"), false);
+    let found = regex.match_at_counted(line, 0, &mut region, &mut count);
+    equal(&rt, found.expect(&rt, "memory"), false);
+    let found = regex.search_counted("aab", 1, 3, &mut region, &mut count);
+    equal(&rt, found.expect(&rt, "memory"), true);
+    equal(&rt, region.pos(0), Some((1, 3)));
+}
