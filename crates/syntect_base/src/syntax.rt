@@ -1,6 +1,6 @@
 //! Why a text is no syntax.
 use std::alloc::{AllocError, AllocFailed};
-use syntect_regex::error::PatternError;
+use syntect_pattern::error::PatternError;
 use syntect_scope::repository::ParseScopeError;
 use thiserror::Error;
 

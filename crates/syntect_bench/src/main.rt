@@ -65,6 +65,7 @@ fn run(
         Runs::Styles => show_styles(rt, first, second),
         Runs::Unlinked => show_asked(rt, first, Asked::Unlinked),
         Runs::Orderly => show_asked(rt, first, Asked::Orderly),
+        Runs::Linear => show_asked(rt, first, Asked::Linear),
         Runs::Syntaxes => show_asked(rt, first, Asked::Syntaxes(second)),
         Runs::Scopes => show_asked(rt, first, Asked::Scopes(second)),
         Runs::ShownEdits => Ok(status_of(show_edits(rt, false)?)),

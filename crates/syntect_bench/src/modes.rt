@@ -15,6 +15,8 @@ pub enum Runs {
     Unlinked,
     /// Prints which grammars of a folder clear scopes, and whether they put them back in order.
     Orderly,
+    /// Prints how many patterns each grammar of a folder has, and those that are not searched in linear time.
+    Linear,
     /// Prints the syntax of each file in a list by the grammars of a folder.
     Syntaxes,
     /// Prints the scopes of a text by the grammars of a folder.
@@ -47,13 +49,14 @@ pub enum Runs {
 }
 
 /// The words of each, in capitals what stands for any word.
-pub const MODES: [(&str, Runs); 21] = [
+pub const MODES: [(&str, Runs); 22] = [
     ("row FILE", Runs::Row),
     ("answers FILE", Runs::Answers),
     ("themes FOLDER", Runs::Themes),
     ("styles THEME STACKS", Runs::Styles),
     ("unlinked FOLDER", Runs::Unlinked),
     ("orderly FOLDER", Runs::Orderly),
+    ("linear FOLDER", Runs::Linear),
     ("which FOLDER LIST", Runs::Syntaxes),
     ("scopes FOLDER FILE", Runs::Scopes),
     ("edits FOLDER THEME FILE N SEED", Runs::RandomEdits),

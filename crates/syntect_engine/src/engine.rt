@@ -25,6 +25,21 @@ fn is_lost(program: &Program, text: &str, place: usize) -> bool
     is_dead(program, text, place, program.root)
 }
 
+/// The same of a place where it is known that what stands there can begin a match, unless the text ends there.
+#[inline]
+fn is_lost_there(program: &Program, text: &str, place: usize) -> bool
+    ensures lost { result ≡ true → FindsAt text.now program.now place None }
+    ensures boundary { result ≡ false → IsCharBoundary text.now place }
+{
+    if place >= text.len() {
+        return is_lost(program, text, place);
+    }
+    if !is_boundary(text, place) {
+        return true;
+    }
+    is_dead(program, text, place, program.root)
+}
+
 impl Search {
     ghost use Rattle.syntect_pattern_table.specs.Program.{trees_of};
     ghost use Rattle.std.specs.Prelude.{replicate, slice_get};
@@ -128,6 +143,27 @@ impl Search {
         self.is_at(program, text, place, limited, count)
     }
 
+    /// The same of a place where it is known that what stands there can begin a match, unless the text ends there.
+    fn begins_there(
+        &mut self,
+        program: &Program,
+        text: &str,
+        place: usize,
+        limited: bool,
+        count: &mut TurnCount,
+    ) -> Result<Option<bool>, AllocError>
+        ensures finds { IfOk result (λ r. IfSome r (λ found.
+            FindsAt text.now program.now place (groups_of found self.new))) }
+        ensures short { IfOk result (λ r. r ≡ None → limited ≡ true) }
+        ensures steps { limited ≡ true → OnOk result (count.new.made + self.new.left
+            ≡ count.old.made + self.old.left) }
+    {
+        if is_lost_there(program, text, place) {
+            return Ok(Some(false));
+        }
+        self.is_at(program, text, place, limited, count)
+    }
+
     /// Whether the program matches at the place or at a later one, of which the least counts. Where it does, the search's
     /// groups are the match's. None where it is limited, and the steps that are left don't suffice.
     pub fn find(
@@ -161,7 +197,7 @@ impl Search {
                 };
                 behind = next;
             }
-            match self.begins_at(program, text, place, limited, count)? {
+            match self.begins_there(program, text, place, limited, count)? {
                 Some(true) => return Ok(Some(true)),
                 Some(false) => {}
                 None => return Ok(None),
@@ -208,7 +244,7 @@ impl Search {
                 };
                 behind = needed;
             }
-            let begins = self.begins_at(program, text, place, limited, count)?;
+            let begins = self.begins_there(program, text, place, limited, count)?;
             match begins {
                 Some(true) => return Ok(Some(true)),
                 Some(false) => {}

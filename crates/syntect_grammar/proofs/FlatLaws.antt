@@ -57,6 +57,10 @@ module _ (set : SyntaxSet) (flat : Flat) (id : ContextId) (k : ℕ) (m : MatchPa
       ap (filter_map (pattern_at set)) g ∙ filter_map-append (pattern_at set) flats (flat ∷ [])
       ∙ ap (λ (o : Option MatchPattern). filter_map (pattern_at set) flats ++ cons_option o []) found_there
 
+  pub counted_more : (flats after : List Flat) → after ≡ flats ++ flat ∷ [] → length flats ≡ length (filter_map (pattern_at set) flats) → length after ≡ length (filter_map (pattern_at set) after)
+  counted_more flats after g n =
+      omega (arith, ap length g, length-append flats (flat ∷ []), ap length (one_more flats after g), length-append (filter_map (pattern_at set) flats) (m ∷ []), n)
+
   pub tells_more : (flats after : List Flat) → after ≡ flats ++ flat ∷ [] → flat.has_captures ≡ m.has_captures → NoneBeginsOutside flat.begins m.regex
       → (flat.at_edges ≡ true → BeginsAtEdges m.regex) → All (Tells set) flats → All (Tells set) after
   tells_more flats after g c b a t =
@@ -158,7 +162,7 @@ finds_in_set set id flats a = λ test. a.finds test ∙ ap (find test) (same_pat
 
 -- what is true of the lists of the same syntaxes is true of the set's
 pub in_set : (set : SyntaxSet) (id : ContextId) (flats : List Flat) → AreFlatsOf (set_of (syntaxes_in set)) id flats → AreFlatsOf set id flats
-in_set set id flats a = record { finds = finds_in_set set id flats a; tells = a.tells }
+in_set set id flats a = record { finds = finds_in_set set id flats a; few = omega (arith, a.few, ap length (same_patterns set id)); tells = a.tells }
 
 -- what holds of what is there implies what is implied
 pub if_some : {X : Type 0} (P Q : X → Type 0) → ((x : X) → P x → Q x) → (o : Option X) → IfSome o P → IfSome o Q

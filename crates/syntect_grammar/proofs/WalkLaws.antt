@@ -1,5 +1,5 @@
 -- A walk that enters each context once gives what the walk by include paths gives, but for patterns that came before.
-use Rattle.std.proofs.Common.{◌≡◌, ℕ, suc, ◌+◌, ◌≤◌, ◌<◌, Bool, true, false, ◌||◌, ◌==◌, List, [], ◌∷◌, ◌++◌, length, map, find, Option, Some, None, refl, ap, sym, ◌∙◌, subst, arith, append_assoc, append-nil, if◌then◌else◌}
+use Rattle.std.proofs.Common.{◌≡◌, ℕ, suc, ◌+◌, ◌≤◌, ◌<◌, Bool, true, false, ◌||◌, ◌==◌, List, [], ◌∷◌, ◌++◌, length, map, find, Option, Some, None, refl, ap, sym, ◌∙◌, subst, arith, append_assoc, append-nil, length-append, if◌then◌else◌}
 use Rattle.std.specs.List.{list_any}
 use Rattle.std.proofs.lemmas.Bool.Decides.{nat_tests}
 use Rattle.syntect_contexts.specs.Contexts.{is_same, target}
@@ -202,12 +202,13 @@ ids_top (f ∷ fs) id ps = ap (λ (l : List ContextId). f.0 ∷ l) (ids_top fs i
 
 -- ---- the walk ----
 
--- What was given and what is left find what the context's walk finds. As long as a test finds nothing, what was entered is
+-- What was given and what is left find what the context's walk finds, and are no more than that. As long as a test finds nothing, what was entered is
 -- through, or being walked, and there what was passed is through.
 pub record IsWalk (set : SyntaxSet) (root : ContextId) (seen : List ContextId) (fs : List Visit) (out : List MatchPattern) : Type 0 where
   pub rest : List MatchPattern
   pub is_left : IsLeft set [] fs rest
   pub same : (test : MatchPattern → Bool) → find test (out ++ rest) ≡ find test (patterns_of set root)
+  pub few : length out + length rest ≤ length (patterns_of set root)
   pub through : (test : MatchPattern → Bool) → find test out ≡ None → LeavesThrough set test seen (ids fs)
   pub passed : (test : MatchPattern → Bool) → find test out ≡ None → ArePassed set test seen fs
   pub entered : (id : ContextId) → is_in id (ids fs) ≡ true → is_in id seen ≡ true
@@ -217,6 +218,7 @@ walk_begins set root = record {
   rest = [] ++ patterns_of set root;
   is_left = ([], patterns_of set root, refl, (room_is_not_felt_at set root).0, refl);
   same = λ test. refl;
+  few = omega arith;
   through = λ test n id s e. let k : true ≡ false = sym s ∙ e in cc;
   passed = λ test n. (([], refl, tt), tt);
   entered = λ id h. h;
@@ -230,6 +232,7 @@ walk_pops set root seen fs id ps out nil w =
       rest = t.below;
       is_left = t.is_left;
       same = λ test. ap (λ (l : List MatchPattern). find test (out ++ l)) (sym (t.joins ∙ ap (λ (l : List MatchPattern). l ++ t.below) (gives_nothing ps t.ms nil t.walk))) ∙ w.same test;
+      few = omega (arith, w.few, ap length t.joins, length-append t.ms t.below);
       through = λ test n x s e. by test n x s e (is_same x id) refl;
       passed = λ test n. passed_below set test seen fs (id, ps) (w.passed test n);
       entered = λ x h. w.entered x (ap (is_in x) (ids_top fs id ps) ∙ in_left x (ids fs) (id ∷ []) h);
@@ -270,6 +273,7 @@ walk_takes set root seen fs id m ps out w = by (top_of set [] fs id (Match m ∷
       rest = rest ++ below;
       is_left = with_top set [] fs id ps rest below v l;
       same = λ test. ap (find test) (append_assoc out (m ∷ []) (rest ++ below)) ∙ ap (λ (x : List MatchPattern). find test (out ++ x)) (sym e) ∙ w.same test;
+      few = omega (arith, w.few, ap length e, length-append out (m ∷ []), length-append rest below, length-append (m ∷ rest) below);
       through = λ test n x s k. w.through test (none_left test out (m ∷ []) n) x s (sym (ap (is_in x) same_ids) ∙ k);
       passed = λ test n. goes_on set test seen fs id (Match m) ps (none_here test m (none_right test out (m ∷ []) n), tt) (w.passed test (none_left test out (m ∷ []) n));
       entered = λ x h. w.entered x (sym (ap (is_in x) same_ids) ∙ h);
@@ -350,6 +354,7 @@ walk_passes set root seen fs id r ps out none w = by (top_of set [] fs id (Inclu
       rest = rest ++ below;
       is_left = with_top set [] fs id ps rest below v l;
       same = λ test. found_past test out (rest ++ below) w.rest (λ n. sym (ap (find test) (e ∙ append_assoc inner rest below) ∙ none_first test inner (rest ++ below) (h test n))) ∙ w.same test;
+      few = omega (arith, w.few, ap length e, length-append (inner ++ rest) below, length-append inner rest, length-append rest below);
       through = λ test n x s k. w.through test n x s (sym (ap (is_in x) same_ids) ∙ k);
       passed = λ test n. goes_on set test seen fs id (Include r) ps (known, tt) (w.passed test n);
       entered = λ x k. w.entered x (sym (ap (is_in x) same_ids) ∙ k);
@@ -418,6 +423,7 @@ walk_enters set root seen fs id r ps out t some w = by (top_of set [] fs id (Inc
       rest = inner ++ (rest ++ below);
       is_left = with_top set [] (fs ++ (id, ps) ∷ []) t (entries set t) inner (rest ++ below) (subst (λ (q : List ContextId). Walks set (q ++ t ∷ []) (entries set t) inner) (sym (ids_top fs id ps)) u) (with_top set [] fs id ps rest below v l);
       same = λ test. ap (λ (x : List MatchPattern). find test (out ++ x)) (sym (e ∙ append_assoc inner rest below)) ∙ w.same test;
+      few = omega (arith, w.few, ap length e, ap length (append_assoc inner rest below));
       through = through;
       passed = λ test n. passed_join set test (seen ++ t ∷ []) (fs ++ (id, ps) ∷ []) (frame_of set t)
           (goes_on set test (seen ++ t ∷ []) fs id (Include r) ps (known, tt) (passed_more set test seen t (fs ++ (id, Include r ∷ ps) ∷ []) (w.passed test n)))
@@ -457,6 +463,10 @@ walk_enters set root seen fs id r ps out t some w = by (top_of set [] fs id (Inc
 
     by : Top set [] fs id (Include r ∷ ps) w.rest → IsWalk set root (seen ++ t ∷ []) ((fs ++ (id, ps) ∷ []) ++ frame_of set t ∷ []) out
     by u = by_walk (Include r ∷ ps) u.ms u.below refl u.walk u.is_left u.joins
+
+-- a walk gives no more than the context's walk
+pub walk_gives : (set : SyntaxSet) (root : ContextId) (seen : List ContextId) (fs : List Visit) (out : List MatchPattern) → IsWalk set root seen fs out → length out ≤ length (patterns_of set root)
+walk_gives set root seen fs out w = omega (arith, w.few)
 
 pub walk_ends : (set : SyntaxSet) (root : ContextId) (seen : List ContextId) (out : List MatchPattern) → IsWalk set root seen [] out → FindsSame out (patterns_of set root)
 walk_ends set root seen out w = λ test. ap (find test) (sym (ap (λ (l : List MatchPattern). out ++ l) w.is_left ∙ append-nil out)) ∙ w.same test

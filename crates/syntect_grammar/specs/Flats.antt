@@ -1,5 +1,5 @@
 -- The patterns of a context's walk, as a set keeps them.
-use Rattle.std.specs.Prelude.{◌≡◌, ℕ, ◌<◌, true, List, [], length, Option, None, IfSome, slice_index_or}
+use Rattle.std.specs.Prelude.{◌≡◌, ℕ, ◌<◌, ◌≤◌, true, List, [], length, Option, None, IfSome, slice_index_or}
 use Rattle.std.specs.List.{All, filter_map}
 use Rattle.std.specs.Option.{option_and_then}
 use Rattle.syntect_regex.specs.Begins.{BeginsAtEdges, NoneBeginsOutside}
@@ -21,9 +21,11 @@ abbrev pub Tells : SyntaxSet → Flat → Type 0
 Tells set flat = IfSome (pattern_at set flat) (λ m. (flat.has_captures ≡ m.has_captures) × NoneBeginsOutside flat.begins m.regex
     × (flat.at_edges ≡ true → BeginsAtEdges m.regex))
 
--- each test finds the same first pattern at these places as in the context's walk, and what is kept of them is true
+-- Each test finds the same first pattern at these places as in the context's walk, there are no more of them than that has
+-- patterns, and what is kept of them is true.
 pub record AreFlatsOf (set : SyntaxSet) (id : ContextId) (flats : List Flat) : Type 0 where
   pub finds : FindsSame (filter_map (pattern_at set) flats) (patterns_of set id)
+  pub few : length flats ≤ length (patterns_of set id)
   pub tells : All (Tells set) flats
 
 -- those that a table holds for a context, if it holds any

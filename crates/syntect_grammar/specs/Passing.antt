@@ -12,8 +12,8 @@ use Rattle.syntect_base.specs.declared.syntax.ParseSyntaxError.TheVariants as sy
 use Rattle.syntect_base.specs.declared.theme.ParseThemeError.{ParseThemeError}
 use Rattle.syntect_base.specs.declared.loading.SettingsError.{SettingsError}
 use Rattle.syntect_base.specs.Refusals.{from_theme, from_settings}
-use Rattle.syntect_regex.specs.declared.error.PatternError.{PatternError}
-use Rattle.syntect_regex.specs.declared.error.PatternError.TheVariants as pattern
+use Rattle.syntect_pattern.specs.declared.error.PatternError.{PatternError}
+use Rattle.syntect_pattern.specs.declared.error.PatternError.TheVariants as pattern
 use Rattle.std.specs.IoError.{error_kind}
 use Rattle.std.specs.declared.io.Error.{Error as IoError}
 use Rattle.std.specs.declared.io.ErrorKind.{ErrorKind}

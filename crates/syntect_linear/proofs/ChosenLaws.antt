@@ -9,10 +9,10 @@ use Rattle.syntect_pattern.specs.Matches.{Groups, Member, Way, only_if, past, pr
 use Rattle.syntect_pattern.proofs.Each.{Each}
 use Rattle.syntect_pattern_laws.proofs.TurnLaws.{matches-forward}
 use Rattle.syntect_ways.specs.Steps.{after_char}
-use Rattle.syntect_linear.specs.Onward.{Onward, reaches, chosen, moved, is_free, is_calm, reads, onward, turn_end, end_if}
-use Rattle.syntect_linear.proofs.ReachLaws.{chosen-append, some-chosen, reaches-ends, reaches-flat_map, chosen-flat_map, chosen-alike}
-use Rattle.syntect_linear.proofs.TreeLaws.{and_left, ends-matches, behind-matches}
-use Rattle.syntect_linear.proofs.OnwardLaws.{moved-at, moved-past, moved-same, Ahead, following, then-moved, turn-moved, leads, same-place, other-place, onward-alike, turn-leads, turn-room}
+use Rattle.syntect_plan.specs.Onward.{Onward, reaches, chosen, moved, is_free, is_calm, reads, onward, turn_end, end_if}
+use Rattle.syntect_plan.proofs.ReachLaws.{chosen-append, some-chosen, reaches-ends, reaches-flat_map, chosen-flat_map, chosen-alike}
+use Rattle.syntect_plan.proofs.TreeLaws.{and_left, ends-matches, behind-matches}
+use Rattle.syntect_plan.proofs.OnwardLaws.{moved-at, moved-past, moved-same, Ahead, following, then-moved, turn-moved, leads, same-place, other-place, onward-alike, turn-leads, turn-room}
 
 -- the match is the one that is chosen of these
 abbrev pub Chooses : Onward → List Member → Member → Type 0

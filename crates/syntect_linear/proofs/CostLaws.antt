@@ -5,16 +5,16 @@ use Rattle.syntect_pattern.specs.Trees.{Tree, nothing, one_of, anchor, same, seq
 use Rattle.syntect_pattern.specs.Matches.{Groups, Member, matches}
 use Rattle.syntect_pattern_table.specs.Program.{trees_of}
 use Rattle.syntect_pattern_laws.proofs.TurnLaws.{matches-forward}
-use Rattle.syntect_linear.specs.Onward.{is_calm, is_free}
-use Rattle.syntect_linear.specs.Cells.{cell_at, parts_at, item_tree}
-use Rattle.syntect_linear.specs.Plan.{IsPart, IsSequence, IsTurn, TurnIs}
+use Rattle.syntect_plan.specs.Onward.{is_calm, is_free}
+use Rattle.syntect_plan.specs.Cells.{cell_at, parts_at, item_tree}
+use Rattle.syntect_plan.specs.Plan.{IsPart, IsSequence, IsTurn, TurnIs}
 use Rattle.syntect_linear.specs.Ground.{IsReady}
 use Rattle.syntect_linear.specs.Step.{IsTreeAt}
 use Rattle.syntect_linear.specs.Walk.{IsFilled, Walks}
-use Rattle.syntect_linear.specs.Steps.{walk_cost, look_cost, Within, Costs}
+use Rattle.syntect_linear.specs.Steps.{stay_cost, read_cost, walk_cost, look_cost, Within, Costs}
 use Rattle.syntect_linear.specs.declared.ground.Ground.{Ground}
-use Rattle.syntect_linear.specs.declared.cells.Cell.{Cell}
-use Rattle.syntect_linear.proofs.TreeLaws.{and_left, and_right}
+use Rattle.syntect_plan.specs.declared.cells.Cell.{Cell}
+use Rattle.syntect_plan.proofs.TreeLaws.{and_left, and_right}
 use Rattle.syntect_linear.proofs.StepLaws.{step, free}
 use Rattle.syntect_linear.proofs.GroundLaws.{tree-at}
 use Rattle.syntect_linear.proofs.WalkLaws.{chosen-each}
@@ -40,62 +40,58 @@ costs-of x k place before end after t e h = let P : Tree → Type 0 = λ v. With
 
 -- -- Numbers
 
-pub one-cost : (c l n y b : ℕ) → 1 ≤ c → suc b ≤ b + (c * suc y + l * n)
-one-cost c l n y b h = let m = mul-le-mul_left (suc y) h in let e : suc y * c ≡ c * suc y = grind arith in let f : suc y * 1 ≡ suc y = grind arith in omega arith
+pub one-cost : (s r l n y b : ℕ) → 1 ≤ s → suc b ≤ b + (s + r * y + l * n)
+one-cost s r l n y b h = omega arith
 
-pub up-cost : (c l n y b0 b1 : ℕ) → b1 ≤ b0 + (c * suc y + l * n) → suc b1 ≤ b0 + (suc c * suc y + l * n)
-up-cost c l n y b0 b1 h = let e : suc c * suc y ≡ suc y + c * suc y = grind arith in omega arith
+pub up-cost : (s r l n y b0 b1 : ℕ) → b1 ≤ b0 + (s + r * y + l * n) → suc b1 ≤ b0 + (suc s + r * y + l * n)
+up-cost s r l n y b0 b1 h = omega arith
 
-pub seq-cost : (c d l k n x y z b0 b1 b2 : ℕ) → y ≤ x → z ≤ x → b1 ≤ b0 + (c * suc y + l * n) → b2 ≤ b1 + (d * suc z + k * n)
-    → suc b2 ≤ b0 + (suc (c + d) * suc x + (l + k) * n)
-seq-cost c d l k n x y z b0 b1 b2 p q h i =
-    let yx : suc y ≤ suc x = omega arith in
-    let zx : suc z ≤ suc x = omega arith in
-    let a = mul-le-mul_left c yx in
-    let b = mul-le-mul_left d zx in
-    let e : suc (c + d) * suc x ≡ suc x + (c * suc x + d * suc x) = grind arith in
+pub seq-cost : (s t r q l k n x y z b0 b1 b2 : ℕ) → y ≤ x → z ≤ x → b1 ≤ b0 + (s + r * y + l * n) → b2 ≤ b1 + (t + q * z + k * n)
+    → suc b2 ≤ b0 + (suc (s + t) + (r + q) * x + (l + k) * n)
+seq-cost s t r q l k n x y z b0 b1 b2 low high h i =
+    let a = mul-le-mul_left r low in
+    let b = mul-le-mul_left q high in
+    let e : (r + q) * x ≡ r * x + q * x = grind arith in
     let f : (l + k) * n ≡ l * n + k * n = grind arith in
     omega arith
 
-pub left-cost : (c d l k n y b0 b1 : ℕ) → b1 ≤ b0 + (c * suc y + l * n) → suc b1 ≤ b0 + (suc (c + d) * suc y + (l + k) * n)
-left-cost c d l k n y b0 b1 h =
-    let e : suc (c + d) * suc y ≡ suc y + (c * suc y + d * suc y) = grind arith in
+pub left-cost : (s t r q l k n y b0 b1 : ℕ) → b1 ≤ b0 + (s + r * y + l * n) → suc b1 ≤ b0 + (suc (s + t) + (r + q) * y + (l + k) * n)
+left-cost s t r q l k n y b0 b1 h =
+    let e : (r + q) * y ≡ r * y + q * y = grind arith in
     let f : (l + k) * n ≡ l * n + k * n = grind arith in
     omega arith
 
-pub right-cost : (c d l k n y b0 b1 : ℕ) → b1 ≤ b0 + (d * suc y + k * n) → suc b1 ≤ b0 + (suc (c + d) * suc y + (l + k) * n)
-right-cost c d l k n y b0 b1 h =
-    let e : suc (c + d) * suc y ≡ suc y + (c * suc y + d * suc y) = grind arith in
+pub right-cost : (s t r q l k n y b0 b1 : ℕ) → b1 ≤ b0 + (t + q * y + k * n) → suc b1 ≤ b0 + (suc (s + t) + (r + q) * y + (l + k) * n)
+right-cost s t r q l k n y b0 b1 h =
+    let e : (r + q) * y ≡ r * y + q * y = grind arith in
     let f : (l + k) * n ≡ l * n + k * n = grind arith in
     omega arith
 
 -- a lookahead that sets groups
-pub look-costs : (c l n y b0 b1 : ℕ) → y < n → b1 ≤ b0 + (c * suc y + l * n) → suc b1 ≤ b0 + (1 * suc 0 + (c + l) * n)
-look-costs c l n y b0 b1 p h =
-    let yn : suc y ≤ n = omega arith in
-    let a = mul-le-mul_left c yn in
-    let f : (c + l) * n ≡ c * n + l * n = grind arith in
+pub look-costs : (s r l n y b0 b1 : ℕ) → y < n → b1 ≤ b0 + (s + r * y + l * n) → suc b1 ≤ b0 + (1 + 0 * 0 + ((s + r) + l) * n)
+look-costs s r l n y b0 b1 p h =
+    let one : 1 ≤ n = omega arith in
+    let within : y ≤ n = omega arith in
+    let a = mul-le-mul_left s one in
+    let b = mul-le-mul_left r within in
+    let d : s * 1 ≡ s = grind arith in
+    let f : ((s + r) + l) * n ≡ s * n + (r * n + l * n) = grind arith in
     omega arith
 
 -- turns
-pub turn-cost : (c n y z b0 b1 b2 : ℕ) → 0 < z → b1 ≤ b0 + (c + c) * y → b2 ≤ b1 + (c * suc z + 0 * n) → b2 ≤ b0 + (c + c) * (y + z)
-turn-cost c n y z b0 b1 b2 p h k =
-    let zz : suc z ≤ z + z = omega arith in
-    let a = mul-le-mul_left c zz in
-    let e : c * (z + z) ≡ c * z + c * z = grind arith in
-    let f : (c + c) * (y + z) ≡ (c + c) * y + (c * z + c * z) = grind arith in
+pub turn-cost : (s r n y z b0 b1 b2 : ℕ) → 0 < z → b1 ≤ b0 + (s + r) * y → b2 ≤ b1 + (s + r * z + 0 * n) → b2 ≤ b0 + (s + r) * (y + z)
+turn-cost s r n y z b0 b1 b2 p h k =
+    let one : 1 ≤ z = omega arith in
+    let a = mul-le-mul_left s one in
+    let d : s * 1 ≡ s = grind arith in
+    let f : (s + r) * (y + z) ≡ (s + r) * y + (s * z + r * z) = grind arith in
     omega arith
 
-pub turns-cost : (c l n y b0 b1 : ℕ) → b1 ≤ b0 + (c + c) * y → suc b1 ≤ b0 + (suc (suc (c + c)) * suc y + l * n)
-turns-cost c l n y b0 b1 h =
-    let e : suc (suc (c + c)) * suc y ≡ suc y + suc y + ((c + c) * y + (c + c)) = grind arith in
-    omega arith
+pub turns-cost : (s r l n y b0 b1 : ℕ) → b1 ≤ b0 + (s + r) * y → suc b1 ≤ b0 + (suc s + (s + r) * y + l * n)
+turns-cost s r l n y b0 b1 h = omega arith
 
-pub last-cost : (c l n y b0 b1 b2 : ℕ) → b1 ≤ b0 + (c + c) * y → b2 ≤ b1 + (c * suc 0 + 0 * n) → suc b2 ≤ b0 + (suc (suc (c + c)) * suc y + l * n)
-last-cost c l n y b0 b1 b2 h k =
-    let e : suc (suc (c + c)) * suc y ≡ suc y + suc y + ((c + c) * y + (c + c)) = grind arith in
-    let f : c * suc 0 ≡ c = grind arith in
-    omega arith
+pub last-cost : (s r l n y b0 b1 b2 : ℕ) → b1 ≤ b0 + (s + r) * y → b2 ≤ b1 + (s + r * 0 + 0 * n) → suc b2 ≤ b0 + (suc s + (s + r) * y + l * n)
+last-cost s r l n y b0 b1 b2 h k = let e : r * 0 ≡ 0 = grind arith in omega arith
 
 pub calm-look : (t : Tree) → is_calm t ≡ true → look_cost t ≡ 0
 calm-look nothing e = refl
@@ -128,7 +124,7 @@ module _ (x : Ground) (k place : ℕ) (r : IsReady x place) where
   abbrev second : ℕ
   second = (parts_at x.plan.now.parts k).second
 
-  st : (t : Tree) → IsTreeAt x k t → Rattle.syntect_linear.specs.Plan.IsStep ts cells x.plan.now.behinds (cell_at cells k).empty (cell_at cells k).next (parts_at x.plan.now.parts k) t
+  st : (t : Tree) → IsTreeAt x k t → Rattle.syntect_plan.specs.Plan.IsStep ts cells x.plan.now.behinds (cell_at cells k).empty (cell_at cells k).next (parts_at x.plan.now.parts k) t
   st t h = step x.text.now ts cells x.plan.now.parts x.plan.now.behinds k t (tree-at x place k t r h)
 
   pub seq-tree : (a b : Tree) → IsTreeAt x k (seq a b) → tree_of first ≡ a
@@ -152,7 +148,7 @@ module _ (x : Ground) (k place : ℕ) (r : IsReady x place) where
   loop-calm greedy least most a h =
       calm-look a (and_right (is_free a) (is_calm a) (free x.text.now ts cells x.plan.now.parts x.plan.now.behinds k (repeat greedy least most a) (tree-at x place k (repeat greedy least most a) r h)))
 
-cost-some : (t : Tree) → 1 ≤ walk_cost t
+cost-some : (t : Tree) → 1 ≤ stay_cost t
 cost-some nothing = omega arith
 cost-some (one_of a) = omega arith
 cost-some (anchor a) = omega arith
@@ -169,16 +165,16 @@ cost-some (behind negated a) = omega arith
 pub costs-stay : (x : Ground) (k place before end : ℕ) → Costs x k place before end (suc before)
 costs-stay x k place before end =
     let t : Tree = item_tree (trees_of x.program.now) (cell_at x.plan.now.cells k).item in
-    record { steps = one-cost (walk_cost t) (look_cost t) (suc (length x.text.now)) (end - place) before (cost-some t) }
+    record { steps = one-cost (stay_cost t) (read_cost t) (look_cost t) (suc (length x.text.now)) (end - place) before (cost-some t) }
 
 pub costs-tick : (x : Ground) (k place m0 m1 end after : ℕ) → m1 ≡ m0 + 1 → Costs x k place m1 end (suc after) → Costs x k place m0 end after
 costs-tick x k place m0 m1 end after e h = record { steps = let s = h.steps in omega (arith, s, e) }
 
 -- more of one part
 pub costs-up : (x : Ground) (k n place before end after : ℕ) (t a : Tree) → item_tree (trees_of x.program.now) (cell_at x.plan.now.cells k).item ≡ t
-    → item_tree (trees_of x.program.now) (cell_at x.plan.now.cells n).item ≡ a → walk_cost t ≡ suc (walk_cost a) → look_cost t ≡ look_cost a
+    → item_tree (trees_of x.program.now) (cell_at x.plan.now.cells n).item ≡ a → stay_cost t ≡ suc (stay_cost a) → read_cost t ≡ read_cost a → look_cost t ≡ look_cost a
     → Costs x n place before end after → Costs x k place before end (suc after)
-costs-up x k n place before end after t a e f c l h =
+costs-up x k n place before end after t a e f c d l h =
     let s = costs-of x n place before end after a f h in
-    let u = up-cost (walk_cost a) (look_cost a) (suc (length x.text.now)) (end - place) before after s in
-    costs-is x k place before end (suc after) t e (rw (c, l) u)
+    let u = up-cost (stay_cost a) (read_cost a) (look_cost a) (suc (length x.text.now)) (end - place) before after s in
+    costs-is x k place before end (suc after) t e (rw (c, d, l) u)

@@ -7,18 +7,18 @@ use Rattle.syntect_pattern.specs.Trees.{Tree, nothing, group}
 use Rattle.syntect_pattern.specs.Matches.{Groups, Member, matches, unset, found_at, found_within, found}
 use Rattle.syntect_pattern_table.specs.Program.{trees_of, IsProgramOf}
 use Rattle.syntect_pattern_table.specs.declared.program.Program.{Program}
-use Rattle.syntect_linear.specs.Onward.{reaches, chosen, moved, is_free, onward}
-use Rattle.syntect_linear.specs.Cells.{cell_at, item_tree, is_end}
-use Rattle.syntect_linear.specs.Plan.{IsPart}
+use Rattle.syntect_plan.specs.Onward.{reaches, chosen, moved, is_free, onward}
+use Rattle.syntect_plan.specs.Cells.{cell_at, item_tree, is_end}
+use Rattle.syntect_plan.specs.Plan.{IsPart}
 use Rattle.syntect_linear.specs.Ground.{IsIn, ends_at}
 use Rattle.syntect_linear.specs.Walk.{IsFilled, Walks}
 use Rattle.syntect_linear.specs.Finds.{Covers, FindsGroups, FindsUpTo, groups_of}
 use Rattle.syntect_linear.specs.declared.ground.Ground.{Ground}
-use Rattle.syntect_linear.specs.declared.cells.Cell.{Cell}
-use Rattle.syntect_linear.proofs.OnwardLaws.{moved-same, onward-alike}
+use Rattle.syntect_plan.specs.declared.cells.Cell.{Cell}
+use Rattle.syntect_plan.proofs.OnwardLaws.{moved-same, onward-alike}
 use Rattle.syntect_linear.proofs.ChosenLaws.{reaches-any, chosen-forward}
-use Rattle.syntect_linear.proofs.CellLaws.{ends-part, ends-end}
-use Rattle.syntect_linear.specs.Steps.{walk_cost, look_cost, Costs}
+use Rattle.syntect_plan.proofs.CellLaws.{ends-part, ends-end}
+use Rattle.syntect_linear.specs.Steps.{stay_cost, read_cost, walk_cost, look_cost, Costs}
 use Rattle.syntect_linear.proofs.CostLaws.{walks-on, costs-of}
 use Rattle.syntect_linear.proofs.WalkLaws.{part-chosen}
 
@@ -84,12 +84,16 @@ module _ (x : Ground) (place : ℕ) (filled : IsFilled x place) where
       let on = walks-on x 1 place g end h filled w in
       let e : item_tree ts (cell_at cells 1).item ≡ root = ap (item_tree ts) part.cell.item_is ∙ part.tree in
       let s = costs-of x 1 place before end after root e c in
-      let short : suc (end - place) ≤ length x.text.now + 1 = omega (arith, on.1) in
-      let m = mul-le-mul_left (walk_cost root) short in
+      let short : end - place ≤ length x.text.now + 1 = omega (arith, on.1) in
+      let one : 1 ≤ length x.text.now + 1 = omega arith in
+      let m = mul-le-mul_left (read_cost root) short in
+      let o = mul-le-mul_left (stay_cost root) one in
+      let p : stay_cost root * 1 ≡ stay_cost root = grind arith in
       let n : suc (length x.text.now) ≡ length x.text.now + 1 = omega arith in
       let l : look_cost root * suc (length x.text.now) ≡ look_cost root * (length x.text.now + 1) = ap (λ (k : ℕ). look_cost root * k) n in
-      let d : (walk_cost root + look_cost root) * (length x.text.now + 1) ≡ walk_cost root * (length x.text.now + 1) + look_cost root * (length x.text.now + 1) = grind arith in
-      omega (arith, s, m, l, d)
+      let d : (walk_cost root + look_cost root) * (length x.text.now + 1)
+      ≡ stay_cost root * (length x.text.now + 1) + read_cost root * (length x.text.now + 1) + look_cost root * (length x.text.now + 1) = grind arith in
+      omega (arith, s, m, o, p, l, d)
 
   module _ (tree : Tree) (h : IsProgramOf x.program.now tree) (at : is_boundary x.text.now place ≡ true) where
     found-is : found_at s tree place ≡ option_map (λ (m : Member). m.1) (slice_get (matches s root place (replicate x.program.now.groups None)) 0)

@@ -7,18 +7,18 @@ use Rattle.syntect_pattern.specs.Text.{char_at}
 use Rattle.syntect_pattern.specs.Sets.{Set, holds}
 use Rattle.syntect_pattern.specs.Matches.{stands}
 use Rattle.syntect_ways.specs.Steps.{after_char}
-use Rattle.syntect_linear.specs.Onward.{plain, moved, prefer_end, turn_end, has_turn, end_if}
-use Rattle.syntect_linear.specs.Plan.{TurnIs}
-use Rattle.syntect_linear.proofs.OnwardLaws.{moved-at, moved-past}
+use Rattle.syntect_plan.specs.Onward.{plain, moved, prefer_end, turn_end, has_turn, end_if}
+use Rattle.syntect_plan.specs.Plan.{TurnIs}
+use Rattle.syntect_plan.proofs.OnwardLaws.{moved-at, moved-past}
 use Rattle.syntect_pattern.specs.Trees.{Anchor, Tree, nothing, one_of, anchor, seq, alt, repeat, group, atomic, ahead, behind}
 use Rattle.syntect_pattern_table.specs.Program.{trees_of}
-use Rattle.syntect_linear.specs.Cells.{cell_at, parts_at}
+use Rattle.syntect_plan.specs.Cells.{cell_at, parts_at}
 use Rattle.syntect_linear.specs.Rows.{row_end, row_flag, ends_here}
 use Rattle.syntect_linear.specs.Ground.{IsReady, IsIn, Knows, ends_at, height_of}
 use Rattle.syntect_linear.specs.Step.{IsTreeAt}
 use Rattle.syntect_linear.specs.declared.ground.Ground.{Ground}
-use Rattle.syntect_linear.specs.declared.cells.Cell.{Cell}
-use Rattle.syntect_linear.specs.declared.cells.Parts.{Parts}
+use Rattle.syntect_plan.specs.declared.cells.Cell.{Cell}
+use Rattle.syntect_plan.specs.declared.cells.Parts.{Parts}
 use Rattle.syntect_linear.proofs.StepLaws.{IsAt, Below, free, g-inside, at-nothing, at-anchor, at-one_of, at-seq, at-alt, at-group, at-atomic, atomic-ends, atomic-empty, at-ahead, at-behind, at-repeat}
 
 pub tree-at : (x : Ground) (place k : ℕ) (t : Tree) → IsReady x place → IsTreeAt x k t

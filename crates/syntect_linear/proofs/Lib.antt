@@ -1,11 +1,4 @@
-pub mod ReachLaws
-pub mod TreeLaws
-pub mod OnwardLaws
 pub mod ChosenLaws
-pub mod FactLaws
-pub mod PlanLaws
-pub mod FoldLaws
-pub mod CellLaws
 pub mod StepLaws
 pub mod GroundLaws
 pub mod RowLaws
@@ -16,4 +9,3 @@ pub mod SightLaws
 pub mod FindLaws
 pub mod StepsLaws
 pub mod CostLaws
-pub mod LinearLaws

@@ -4,15 +4,15 @@ use Rattle.std.specs.Prelude.{◌&&◌, if◌then◌else◌, ◌==◌, not, is_s
 use Rattle.syntect_pattern.specs.Trees.{Tree, repeat}
 use Rattle.syntect_pattern.specs.Matches.{Groups, Member, after_turn, turns, matches}
 use Rattle.syntect_pattern_table.specs.Program.{trees_of}
-use Rattle.syntect_linear.specs.Onward.{Onward, chosen, moved, onward, is_free, is_calm, end_if, has_turn, turn_end, prefer_end}
-use Rattle.syntect_linear.specs.Cells.{cell_at, parts_at, item_tree, is_end, tree_size}
+use Rattle.syntect_plan.specs.Onward.{Onward, chosen, moved, onward, is_free, is_calm, end_if, has_turn, turn_end, prefer_end}
+use Rattle.syntect_plan.specs.Cells.{cell_at, parts_at, item_tree, is_end, tree_size}
 use Rattle.syntect_linear.specs.Ground.{ends_at}
 use Rattle.syntect_linear.specs.Step.{IsTreeAt}
 use Rattle.syntect_linear.specs.Walk.{IsFilled, Walks}
 use Rattle.syntect_linear.specs.declared.ground.Ground.{Ground}
-use Rattle.syntect_linear.specs.declared.cells.Cell.{Cell}
-use Rattle.syntect_linear.specs.Plan.{IsTurn, TurnIs}
-use Rattle.syntect_linear.proofs.OnwardLaws.{moved-past}
+use Rattle.syntect_plan.specs.declared.cells.Cell.{Cell}
+use Rattle.syntect_plan.specs.Plan.{IsTurn, TurnIs}
+use Rattle.syntect_plan.proofs.OnwardLaws.{moved-past}
 use Rattle.syntect_linear.proofs.ChosenLaws.{chosen-leads, chosen-forward, chosen-turn, chosen-empty, chosen-more, chosen-leave, turned}
 use Rattle.syntect_linear.proofs.StepLaws.{IsAt, free, step, following-is, at-repeat, turn-ends}
 use Rattle.syntect_linear.proofs.GroundLaws.{tree-at, turn-if}

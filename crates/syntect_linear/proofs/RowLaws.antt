@@ -5,9 +5,9 @@ use Rattle.std.proofs.lemmas.Bool.{cases_lt}
 use Rattle.std.proofs.lemmas.List.{get_or_append_left}
 use Rattle.std.proofs.Math.Seq.{get_or-append_seam}
 use Rattle.syntect_pattern.specs.Trees.{Tree}
-use Rattle.syntect_linear.specs.Cells.{ends}
+use Rattle.syntect_plan.specs.Cells.{ends}
 use Rattle.syntect_linear.specs.Rows.{AreRows, row_end}
-use Rattle.syntect_linear.specs.declared.cells.Cell.{Cell}
+use Rattle.syntect_plan.specs.declared.cells.Cell.{Cell}
 
 -- one row more, of the place before
 pub rows-push : (s : List ℕ) (ts : List Tree) (cells : List Cell) (rows new : List (List (Option ℕ))) (row : List (Option ℕ)) (place : ℕ) → new ≡ rows ++ row ∷ []

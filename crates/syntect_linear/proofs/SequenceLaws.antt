@@ -4,17 +4,17 @@ use Rattle.std.specs.Prelude.{if◌then◌else◌, ◌==◌, is_some, IsUtf8, Is
 use Rattle.syntect_pattern.specs.Trees.{Tree, seq}
 use Rattle.syntect_pattern.specs.Matches.{Groups, Member, matches}
 use Rattle.syntect_pattern_table.specs.Program.{trees_of}
-use Rattle.syntect_linear.specs.Onward.{Onward, chosen, moved, reads, is_free}
-use Rattle.syntect_linear.specs.Cells.{cell_at, parts_at, item_tree, is_end}
+use Rattle.syntect_plan.specs.Onward.{Onward, chosen, moved, reads, is_free}
+use Rattle.syntect_plan.specs.Cells.{cell_at, parts_at, item_tree, is_end}
 use Rattle.syntect_linear.specs.Ground.{IsIn, ends_at}
 use Rattle.syntect_linear.specs.Step.{IsTreeAt}
 use Rattle.syntect_linear.specs.Walk.{IsFilled, Walks}
 use Rattle.syntect_linear.specs.declared.ground.Ground.{Ground}
-use Rattle.syntect_linear.specs.declared.cells.Cell.{Cell}
-use Rattle.syntect_linear.specs.Plan.{IsPart, IsSequence}
-use Rattle.syntect_linear.proofs.TreeLaws.{behind-matches, and_right}
-use Rattle.syntect_linear.proofs.CellLaws.{either-bool}
-use Rattle.syntect_linear.proofs.OnwardLaws.{moved-at, moved-past, following, at-or-past, same-place, other-place}
+use Rattle.syntect_plan.specs.declared.cells.Cell.{Cell}
+use Rattle.syntect_plan.specs.Plan.{IsPart, IsSequence}
+use Rattle.syntect_plan.proofs.TreeLaws.{behind-matches, and_right}
+use Rattle.syntect_plan.proofs.CellLaws.{either-bool}
+use Rattle.syntect_plan.proofs.OnwardLaws.{moved-at, moved-past, following, at-or-past, same-place, other-place}
 use Rattle.syntect_linear.proofs.ChosenLaws.{chosen-reads, chosen-leads, chosen-forward, chosen-seq, chosen-past_place}
 use Rattle.syntect_linear.proofs.StepLaws.{IsAt, free, step, following-is, at-seq}
 use Rattle.syntect_linear.proofs.GroundLaws.{tree-at}

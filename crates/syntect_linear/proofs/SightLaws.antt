@@ -14,11 +14,11 @@ use Rattle.syntect_pattern_laws.proofs.TurnLaws.{matches-forward}
 use Rattle.std.proofs.lemmas.Str.{IsCharBoundary-start}
 use Rattle.syntect_ways.specs.Steps.{after_char}
 use Rattle.syntect_ways.proofs.BoundaryLaws.{boundary-true, true-boundary}
-use Rattle.syntect_linear.specs.Onward.{Onward, reaches, chosen, onward, end_if, is_free, plain}
+use Rattle.syntect_plan.specs.Onward.{Onward, reaches, chosen, onward, end_if, is_free, plain}
 use Rattle.syntect_linear.specs.Rows.{only_at, leads_to, flag_of, row_flag, IsImage, AreBounds, marked, is_single, single_end, ends_here}
-use Rattle.syntect_linear.proofs.ReachLaws.{chosen-some}
-use Rattle.syntect_linear.proofs.TreeLaws.{and_right, plain-free}
-use Rattle.syntect_linear.proofs.OnwardLaws.{onward-nothing, onward-one_of, onward-anchor, onward-alt, onward-then, first-ends}
+use Rattle.syntect_plan.proofs.ReachLaws.{chosen-some}
+use Rattle.syntect_plan.proofs.TreeLaws.{and_right, plain-free}
+use Rattle.syntect_plan.proofs.OnwardLaws.{onward-nothing, onward-one_of, onward-anchor, onward-alt, onward-then, first-ends}
 use Rattle.syntect_linear.proofs.ChosenLaws.{chosen-leads}
 use Rattle.syntect_linear.proofs.WalkLaws.{chosen-each, if-some}
 

@@ -8,15 +8,15 @@ use Rattle.syntect_pattern.specs.Sets.{Set, holds}
 use Rattle.syntect_pattern.specs.Trees.{Anchor, Tree, nothing, one_of, anchor, seq, alt, repeat, group, atomic, ahead, behind}
 use Rattle.syntect_pattern.specs.Matches.{stands}
 use Rattle.syntect_ways.specs.Steps.{after_char}
-use Rattle.syntect_linear.specs.Onward.{Onward, moved, reads, is_free, onward, prefer_end, turn_end, end_if}
-use Rattle.syntect_linear.specs.Cells.{cell_at, parts_at, item_tree, is_end, tree_size, ends, height}
-use Rattle.syntect_linear.specs.Plan.{IsPart, IsSequence, IsTurn, TurnIs, LooksFor, IsStep, IsPlanned}
+use Rattle.syntect_plan.specs.Onward.{Onward, moved, reads, is_free, onward, prefer_end, turn_end, end_if}
+use Rattle.syntect_plan.specs.Cells.{cell_at, parts_at, item_tree, is_end, tree_size, ends, height}
+use Rattle.syntect_plan.specs.Plan.{IsPart, IsSequence, IsTurn, TurnIs, LooksFor, IsStep, IsPlanned}
 use Rattle.syntect_linear.specs.Rows.{ends_here}
-use Rattle.syntect_linear.specs.declared.cells.Cell.{Cell}
-use Rattle.syntect_linear.specs.declared.cells.Parts.{Parts}
-use Rattle.syntect_linear.proofs.TreeLaws.{and_right}
-use Rattle.syntect_linear.proofs.OnwardLaws.{following, moved-at, moved-past, moved-same, onward-alike, onward-nothing, onward-one_of, onward-anchor, onward-alt, onward-group, onward-atomic, onward-ahead, onward-seq, onward-repeat, onward-reads, look-end, first-ends, first-behind}
-use Rattle.syntect_linear.proofs.CellLaws.{real-inside, height-part, height-end, ends-part, ends-end, either-bool}
+use Rattle.syntect_plan.specs.declared.cells.Cell.{Cell}
+use Rattle.syntect_plan.specs.declared.cells.Parts.{Parts}
+use Rattle.syntect_plan.proofs.TreeLaws.{and_right}
+use Rattle.syntect_plan.proofs.OnwardLaws.{following, moved-at, moved-past, moved-same, onward-alike, onward-nothing, onward-one_of, onward-anchor, onward-alt, onward-group, onward-atomic, onward-ahead, onward-seq, onward-repeat, onward-reads, look-end, first-ends, first-behind}
+use Rattle.syntect_plan.proofs.CellLaws.{real-inside, height-part, height-end, ends-part, ends-end, either-bool}
 
 -- a cell of a plan that has this tree
 pub record IsAt (s : List ℕ) (ts : List Tree) (cells : List Cell) (parts : List Parts) (behinds : List ℕ) (k : ℕ) (t : Tree) : Type 0 where

@@ -7,26 +7,26 @@ use Rattle.syntect_pattern.specs.Sets.{Set, holds}
 use Rattle.syntect_pattern.specs.Trees.{Anchor, Tree, nothing, one_of, anchor, alt, repeat, group, atomic, ahead, behind}
 use Rattle.syntect_pattern.specs.Matches.{Groups, Member, only_if, look, close, matches}
 use Rattle.syntect_pattern_table.specs.Program.{trees_of}
-use Rattle.syntect_linear.specs.Onward.{Onward, chosen, reaches, moved, reads, onward, is_free, is_bare, end_if}
-use Rattle.syntect_linear.specs.Cells.{cell_at, parts_at, item_tree, is_end, tree_size}
+use Rattle.syntect_plan.specs.Onward.{Onward, chosen, reaches, moved, reads, onward, is_free, is_bare, end_if}
+use Rattle.syntect_plan.specs.Cells.{cell_at, parts_at, item_tree, is_end, tree_size}
 use Rattle.syntect_linear.specs.Ground.{IsIn, ends_at}
 use Rattle.syntect_linear.specs.Step.{IsTreeAt}
-use Rattle.syntect_linear.specs.Steps.{walk_cost, look_cost}
+use Rattle.syntect_linear.specs.Steps.{stay_cost, read_cost, look_cost}
 use Rattle.syntect_linear.specs.Walk.{IsFilled, Walks}
 use Rattle.syntect_linear.specs.declared.ground.Ground.{Ground}
-use Rattle.syntect_linear.specs.declared.cells.Cell.{Cell}
-use Rattle.syntect_linear.specs.declared.cells.Parts.{Parts}
-use Rattle.syntect_linear.specs.declared.cells.Item.{Item}
-use Rattle.syntect_linear.specs.Plan.{IsPart}
+use Rattle.syntect_plan.specs.declared.cells.Cell.{Cell}
+use Rattle.syntect_plan.specs.declared.cells.Parts.{Parts}
+use Rattle.syntect_plan.specs.declared.cells.Item.{Item}
+use Rattle.syntect_plan.specs.Plan.{IsPart}
 use Rattle.syntect_linear.specs.Rows.{row_end}
 use Rattle.syntect_ways.specs.Steps.{after_char}
 use Rattle.syntect_pattern.proofs.Each.{Each}
 use Rattle.syntect_pattern_laws.proofs.TurnLaws.{matches-forward}
-use Rattle.syntect_linear.proofs.TreeLaws.{bare-groups, plain-bare, and_left}
-use Rattle.syntect_linear.proofs.CellLaws.{either-bool}
-use Rattle.syntect_linear.proofs.OnwardLaws.{moved-at, moved-same, onward-one_of}
+use Rattle.syntect_plan.proofs.TreeLaws.{bare-groups, plain-bare, and_left}
+use Rattle.syntect_plan.proofs.CellLaws.{either-bool}
+use Rattle.syntect_plan.proofs.OnwardLaws.{moved-at, moved-same, onward-one_of}
 use Rattle.syntect_linear.proofs.ChosenLaws.{reaches-any, chosen-reads, chosen-stays, chosen-past, stays-look, first-chosen, second-chosen, chosen-close, chosen-first, chosen-stay, chosen-forward}
-use Rattle.syntect_linear.proofs.ReachLaws.{reaches-chosen}
+use Rattle.syntect_plan.proofs.ReachLaws.{reaches-chosen}
 use Rattle.syntect_linear.proofs.StepLaws.{IsAt, goes, free, step, part-goes, region, zero-ends, at-one_of, at-alt, at-group, at-atomic, at-ahead}
 use Rattle.syntect_linear.proofs.GroundLaws.{tree-at}
 
@@ -42,9 +42,10 @@ pub record Continues (x : Ground) (k place : ℕ) (g : Groups) (turn at : ℕ) (
   pub size : size_of x turn ≡ size_of x k
   pub same : (end : ℕ) (l : Groups) → Walks x turn at h end l → Walks x k place g end l
   pub later : place ≤ at
-  pub cost : walk_cost (item_tree (trees_of x.program.now) (cell_at x.plan.now.cells k).item) ≡ suc (suc (walk_cost body + walk_cost body))
+  pub stays : stay_cost (item_tree (trees_of x.program.now) (cell_at x.plan.now.cells k).item) ≡ suc (stay_cost body)
+  pub reads : read_cost (item_tree (trees_of x.program.now) (cell_at x.plan.now.cells k).item) ≡ stay_cost body + read_cost body
   pub calm : look_cost body ≡ 0
-  pub paid : after ≤ before + (walk_cost body + walk_cost body) * (at - place)
+  pub paid : after ≤ before + (stay_cost body + read_cost body) * (at - place)
 
 -- what goes on behind a part that ended there
 abbrev pub follow : Ground → ℕ → ℕ → ℕ → ℕ

@@ -4,7 +4,7 @@ use Rattle.syntect_pattern.specs.Trees.{Tree}
 use Rattle.syntect_pattern.specs.Matches.{Groups, found_at, found}
 use Rattle.syntect_pattern_table.specs.Program.{trees_of, IsProgramOf}
 use Rattle.syntect_pattern_table.specs.declared.program.Program.{Program}
-use Rattle.syntect_linear.specs.PlanOf.{IsPlanOf}
+use Rattle.syntect_plan.specs.PlanOf.{IsPlanOf}
 use Rattle.syntect_linear.specs.Rows.{AreRows, AreSights}
 use Rattle.syntect_linear.specs.declared.ground.Ground.{Ground}
 

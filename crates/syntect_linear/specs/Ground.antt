@@ -1,8 +1,8 @@
 -- What a search stands on.
 use Rattle.std.specs.Prelude.{ℕ, ◌-◌, ◌<◌, ◌≤◌, List, length, Option, IsUtf8, IsCharBoundary}
 use Rattle.syntect_pattern_table.specs.Program.{trees_of}
-use Rattle.syntect_linear.specs.Cells as cells
-use Rattle.syntect_linear.specs.PlanOf.{IsPlanOf}
+use Rattle.syntect_plan.specs.Cells as cells
+use Rattle.syntect_plan.specs.PlanOf.{IsPlanOf}
 use Rattle.syntect_linear.specs.Rows.{AreRows, AreKnown, AreSights}
 use Rattle.syntect_linear.specs.declared.ground.Ground.{Ground}
 

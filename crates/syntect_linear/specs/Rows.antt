@@ -2,9 +2,9 @@
 use Rattle.std.specs.Prelude.{◌≡◌, ℕ, ◌-◌, ◌<◌, ◌==◌, Bool, true, false, List, [], length, Option, Some, None, slice_index_or, slice_set, is_some, IsCharBoundary}
 use Rattle.syntect_pattern.specs.Trees.{Tree, nothing, one_of, anchor}
 use Rattle.syntect_pattern.specs.Matches.{matches, ending_here}
-use Rattle.syntect_linear.specs.Onward.{Onward, reaches, plain, onward, end_if}
-use Rattle.syntect_linear.specs.Cells.{ends}
-use Rattle.syntect_linear.specs.declared.cells.Cell.{Cell}
+use Rattle.syntect_plan.specs.Onward.{Onward, reaches, plain, onward, end_if}
+use Rattle.syntect_plan.specs.Cells.{ends}
+use Rattle.syntect_plan.specs.declared.cells.Cell.{Cell}
 
 -- the end that a row has for a cell
 abbrev pub row_end : List (List (Option ℕ)) → ℕ → ℕ → Option ℕ

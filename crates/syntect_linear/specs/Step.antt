@@ -4,7 +4,7 @@ use Rattle.syntect_pattern.specs.Trees.{Tree, repeat}
 use Rattle.syntect_pattern_table.specs.Program.{trees_of}
 use Rattle.syntect_pattern_table.specs.Table.{node_tree}
 use Rattle.syntect_pattern_table.specs.declared.node.Node.{Node}
-use Rattle.syntect_linear.specs.Cells.{cell_at, item_tree, is_end}
+use Rattle.syntect_plan.specs.Cells.{cell_at, item_tree, is_end}
 use Rattle.syntect_linear.specs.Ground.{IsIn}
 use Rattle.syntect_linear.specs.declared.ground.Ground.{Ground}
 

@@ -2,8 +2,8 @@
 use Rattle.std.specs.Prelude.{◌≡◌, ℕ, suc, ◌+◌, ◌-◌, ◌*◌, ◌≤◌, ◌||◌, if◌then◌else◌, List, [], ◌∷◌, length, Option, Some, None, slice_index_or}
 use Rattle.syntect_pattern.specs.Trees.{Tree, seq, alt, repeat, group, atomic, ahead}
 use Rattle.syntect_pattern_table.specs.Program.{trees_of}
-use Rattle.syntect_linear.specs.Onward.{is_bare}
-use Rattle.syntect_linear.specs.Cells.{cell_at, item_tree}
+use Rattle.syntect_plan.specs.Onward.{is_bare}
+use Rattle.syntect_plan.specs.Cells.{cell_at, item_tree}
 use Rattle.syntect_linear.specs.Ground.{height_of}
 use Rattle.syntect_linear.specs.declared.ground.Ground.{Ground}
 
@@ -20,14 +20,27 @@ pub record Takes (x : Ground) (high : ℕ) (old : List (Option (Option ℕ))) (b
   pub kept : (j : ℕ) → high ≤ height_of x j → slice_index_or new j None ≡ slice_index_or old j None
   pub paid : after + 4 * unknown new ≤ before + 4 * unknown old + few
 
--- how many steps a walk through the tree takes for each byte, and as many for none
+-- how many steps a walk through the tree takes where it reads nothing
+abbrev pub stay_cost : Tree → ℕ
+stay_cost (seq a b) = suc (stay_cost a + stay_cost b)
+stay_cost (alt a b) = suc (stay_cost a + stay_cost b)
+stay_cost (repeat greedy least most a) = suc (stay_cost a)
+stay_cost (group n a) = suc (stay_cost a)
+stay_cost (atomic a) = suc (stay_cost a)
+stay_cost _ = 1
+
+-- how many more for each byte that it reads: each turn of a loop goes into its body again
+abbrev pub read_cost : Tree → ℕ
+read_cost (seq a b) = read_cost a + read_cost b
+read_cost (alt a b) = read_cost a + read_cost b
+read_cost (repeat greedy least most a) = stay_cost a + read_cost a
+read_cost (group n a) = read_cost a
+read_cost (atomic a) = read_cost a
+read_cost _ = 0
+
+-- both together
 abbrev pub walk_cost : Tree → ℕ
-walk_cost (seq a b) = suc (walk_cost a + walk_cost b)
-walk_cost (alt a b) = suc (walk_cost a + walk_cost b)
-walk_cost (repeat greedy least most a) = suc (suc (walk_cost a + walk_cost a))
-walk_cost (group n a) = suc (walk_cost a)
-walk_cost (atomic a) = suc (walk_cost a)
-walk_cost _ = 1
+walk_cost t = stay_cost t + read_cost t
 
 -- how many more it takes for each byte of the text, for lookaheads that set groups
 abbrev pub look_cost : Tree → ℕ
@@ -41,7 +54,7 @@ look_cost _ = 0
 
 -- the steps of a walk through a tree
 abbrev pub Within : ℕ → Tree → ℕ → ℕ → ℕ → ℕ → Type 0
-Within long t place end before after = after ≤ before + (walk_cost t * suc (end - place) + look_cost t * suc long)
+Within long t place end before after = after ≤ before + (stay_cost t + read_cost t * (end - place) + look_cost t * suc long)
 
 -- the same of a cell's tree
 pub record Costs (x : Ground) (k place before end after : ℕ) : Type 0 where

@@ -2,8 +2,8 @@
 use Rattle.std.specs.Prelude.{◌≡◌, ℕ, ◌-◌, ◌<◌, length, Some}
 use Rattle.syntect_pattern.specs.Matches.{Groups, matches}
 use Rattle.syntect_pattern_table.specs.Program.{trees_of}
-use Rattle.syntect_linear.specs.Onward.{chosen, moved}
-use Rattle.syntect_linear.specs.Cells.{cell_at, item_tree}
+use Rattle.syntect_plan.specs.Onward.{chosen, moved}
+use Rattle.syntect_plan.specs.Cells.{cell_at, item_tree}
 use Rattle.syntect_linear.specs.Ground.{IsReady, ends_at}
 use Rattle.syntect_linear.specs.declared.ground.Ground.{Ground}
 

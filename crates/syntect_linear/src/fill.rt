@@ -2,15 +2,16 @@
 ghost use Rattle.std.specs.Prelude.{◌≡◌, ◌<◌, ◌≤◌, replicate, ◌+◌, ◌-◌, ◌*◌, ℕ, None, IfOk, OnOk, IsCharBoundary, List, length, slice_index_or};
 ghost use Rattle.syntect_pattern_table.specs.Program.{trees_of};
 ghost use Rattle.syntect_linear.specs.Ground.{IsIn, IsReady, Knows, ends_at};
-ghost use Rattle.syntect_linear.specs.PlanOf.{IsPlanOf};
+ghost use Rattle.syntect_plan.specs.PlanOf.{IsPlanOf};
 ghost use Rattle.syntect_linear.specs.Rows.{AreRows, AreSights};
 ghost use Rattle.syntect_linear.specs.Steps.{unknown};
 
 use crate::ground::{Ground, Known};
-use crate::plan::Plan;
 use crate::reach::reach;
 use std::alloc::{AllocError, Global};
 use syntect_pattern_table::program::Program;
+use syntect_plan::order::{cell_in, order_of};
+use syntect_plan::plan::Plan;
 use syntect_turns::count::TurnCount;
 use syntect_values::seq::Seq;
 use syntect_ways::text::is_boundary;
@@ -26,11 +27,11 @@ fn nothing_known(alloc: Global, count: usize) -> Result<Known, AllocError>
     Ok(now)
 }
 
-/// What is known of a place before anything is. The last cells come first, since most cells go on with them, so that calls
-/// lie in one another less.
+/// What is known of a place before anything is.
 fn known_of(
     alloc: Global,
     ground: &Ground,
+    order: &[(usize, usize)],
     count: &mut TurnCount,
     place: usize,
 ) -> Result<Known, AllocError>
@@ -42,8 +43,9 @@ fn known_of(
 {
     let cells = ground.plan.cells.len();
     let mut now = nothing_known(alloc, cells)?;
-    for back in 0..cells {
-        let _ = reach(ground, &mut now, count, place, cells - 1 - back);
+    for late in 0..cells {
+        let cell = cell_in(order, late).min(cells - 1);
+        let _ = reach(ground, &mut now, count, place, cell);
     }
     Ok(now)
 }
@@ -52,6 +54,7 @@ fn known_of(
 fn row_of(
     alloc: Global,
     ground: &Ground,
+    order: &[(usize, usize)],
     count: &mut TurnCount,
     place: usize,
 ) -> Result<Seq<Option<usize>>, AllocError>
@@ -61,7 +64,7 @@ fn row_of(
     ensures steps { OnOk result (count.new.made
         ≤ count.old.made + 6 * length ground.now.plan.now.cells) }
 {
-    let mut now = known_of(alloc, ground, count, place)?;
+    let mut now = known_of(alloc, ground, order, count, place)?;
     let mut row = Vec::with_capacity(alloc, now.len())?;
     for cell in 0..ground.plan.cells.len() {
         let end = reach(ground, &mut now, count, place, cell);
@@ -89,6 +92,7 @@ pub fn rows_from(
     ensures steps { OnOk result (count.new.made
         ≤ count.old.made + 6 * length plan.now.cells * (length text.now + 1)) }
 {
+    let order = order_of(alloc, program, plan)?;
     let mut rows = Vec::new(alloc);
     let mut left = text.len() - begin + 1;
     'places: while left > 0 {
@@ -102,7 +106,7 @@ pub fn rows_from(
         };
         let place = begin + left;
         let row = if is_boundary(text, place) {
-            row_of(alloc, &ground, count, place)?
+            row_of(alloc, &ground, order.as_slice(), count, place)?
         } else {
             Seq::new(alloc)
         };

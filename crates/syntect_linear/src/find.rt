@@ -1,18 +1,18 @@
 //! The search of a pattern, in steps that are bounded by the pattern times the text.
 ghost use Rattle.std.specs.Prelude.{◌≡◌, ◌≤◌, ◌+◌, ◌*◌, IfOk, OnOk, None, if◌then◌else◌, length, replicate, slice_index_or};
 ghost use Rattle.syntect_linear.specs.Finds.{Covers, FindsAt, FindsGroups, FindsUpTo, groups_of};
-ghost use Rattle.syntect_linear.specs.PlanOf.{IsPlanOf};
+ghost use Rattle.syntect_plan.specs.PlanOf.{IsPlanOf};
 ghost use Rattle.syntect_linear.specs.Steps.{look_cost, step_weight, walk_cost};
 ghost use Rattle.syntect_pattern.specs.Trees.{nothing};
 ghost use Rattle.syntect_pattern_table.specs.Program.{trees_of};
 
 use crate::fill::rows_from;
 use crate::ground::Ground;
-use crate::plan::Plan;
 use crate::sight::sights_of;
 use crate::walk::{Span, leads, walk};
 use std::alloc::{AllocError, Global};
 use syntect_pattern_table::program::Program;
+use syntect_plan::plan::Plan;
 use syntect_turns::count::TurnCount;
 use syntect_ways::text::is_boundary;
 

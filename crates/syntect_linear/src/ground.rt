@@ -1,6 +1,6 @@
 //! What a search stands on.
-use crate::plan::Plan;
 use syntect_pattern_table::program::Program;
+use syntect_plan::plan::Plan;
 use syntect_values::seq::Seq;
 
 /// What is known of the cells at a place, where anything is.

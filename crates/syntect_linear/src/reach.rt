@@ -1,14 +1,14 @@
 //! Where the whole match ends from a cell at a place, by the rows of the places behind it.
 ghost use Rattle.std.specs.Prelude.{◌≡◌, ◌<◌, ℕ, suc, length, true, not, if◌then◌else◌};
-ghost use Rattle.syntect_linear.specs.Onward.{end_if, has_turn, prefer_end};
+ghost use Rattle.syntect_plan.specs.Onward.{end_if, has_turn, prefer_end};
 ghost use Rattle.syntect_linear.specs.Ground.{IsIn, IsReady, Knows, ends_at, height_of};
 ghost use Rattle.syntect_linear.specs.Steps.{Takes};
 ghost use Rattle.syntect_linear.specs.Step.{IsLoopAt, IsNodeAt};
 
-use crate::cells::{Item, cell_at, parts_at};
 use crate::ground::{Ground, Known};
 use crate::rows::{end_at, end_from, flag_at, keep, known_at};
 use syntect_pattern_table::node::Node;
+use syntect_plan::cells::{Item, cell_at, parts_at};
 use syntect_turns::count::TurnCount;
 use syntect_ways::anchor::stands;
 use syntect_ways::past::{past_char, past_class};

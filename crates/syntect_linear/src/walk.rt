@@ -1,19 +1,19 @@
 //! The match that the rows lead along, without a step back.
 ghost use Rattle.std.specs.Prelude.{◌≡◌, suc, ◌&&◌, ◌==◌, not, is_some, slice_set, Some, true, false, if◌then◌else◌};
 ghost use Rattle.syntect_linear.specs.Ground.{IsIn, ends_at};
-ghost use Rattle.syntect_linear.specs.Onward.{end_if, has_turn};
-ghost use Rattle.syntect_linear.specs.Cells as spec;
+ghost use Rattle.syntect_plan.specs.Onward.{end_if, has_turn};
+ghost use Rattle.syntect_plan.specs.Cells as spec;
 ghost use Rattle.syntect_linear.specs.Step.{IsLoopAt, IsNodeAt};
 ghost use Rattle.syntect_linear.specs.Steps.{Costs};
 ghost use Rattle.syntect_linear.specs.Walk.{IsFilled, Walks};
 
-use crate::cells::{Item, cell_at, parts_at};
-use crate::facts::facts_at;
 use crate::ground::Ground;
-use crate::plan::one_less;
 use crate::reach::may_turn;
 use crate::rows::end_at;
 use syntect_pattern_table::node::Node;
+use syntect_plan::cells::{Item, cell_at, parts_at};
+use syntect_plan::facts::facts_at;
+use syntect_plan::plan::one_less;
 use syntect_turns::count::TurnCount;
 use syntect_ways::past::{past_char, past_class};
 

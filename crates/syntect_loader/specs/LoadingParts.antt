@@ -5,7 +5,7 @@ use Rattle.syntect_scope.specs.Repository.{with_atoms, with_scopes, atom_texts, 
 use Rattle.syntect_scope.specs.declared.repository.ParseScopeError.{ParseScopeError}
 use Rattle.syntect_pattern.specs.Pattern.{pattern_tree}
 use Rattle.syntect_pattern.specs.Trees.{group_in_look}
-use Rattle.syntect_regex.specs.declared.error.PatternError.TheVariants.{NotAPattern}
+use Rattle.syntect_pattern.specs.declared.error.PatternError.TheVariants.{NotAPattern}
 use Rattle.syntect_yaml.specs.Node.{Node, number_of}
 use Rattle.syntect_yaml.specs.declared.value.Scalar.{Scalar}
 use Rattle.syntect_contexts.specs.Contexts.{Scopes}

@@ -4,7 +4,7 @@ use Rattle.std.specs.Prelude.{◌≡◌, ℕ, List, [], ◌∷◌, length, take,
 use Rattle.syntect_scope.specs.declared.repository.ParseScopeError.{ParseScopeError}
 use Rattle.syntect_scope.specs.declared.repository.ParseScopeError.TheVariants.{TooLong, TooManyAtoms}
 use Rattle.syntect_scope.specs.declared.repository.ParseScopeError.TheVariants as ScopeError
-use Rattle.syntect_regex.specs.declared.error.PatternError.{PatternError}
+use Rattle.syntect_pattern.specs.declared.error.PatternError.{PatternError}
 use Rattle.syntect_base.specs.declared.syntax.ParseSyntaxError.{ParseSyntaxError}
 use Rattle.syntect_base.specs.declared.syntax.ParseSyntaxError.TheVariants.{InvalidYaml, EmptyFile, MissingMandatoryKey, RegexCompileError, InvalidScope, BadFileRef, MainMissing, TypeMismatch, Memory}
 use Rattle.syntect_loader.specs.declared.yaml_load_state.Reading.{Reading}

@@ -10,10 +10,9 @@ use Rattle.syntect_loader.specs.LoadingValues.{list_in, map_in, escape_items, ah
 use Rattle.syntect_loader.specs.LoadingParts.{scope}
 use Rattle.syntect_loader.specs.LoadingContexts.{begin, context}
 use Rattle.syntect_loader.specs.Loading.{definition_in, contexts_at, scope_text_at, of_kind, wanted_by, nothing_read, variables_at, finish, enter, prototype_name}
-use Rattle.syntect_loader_laws.specs.Depth.{depth}
+use Rattle.syntect_yaml_laws.specs.Laws.{nesting, ReadFits}
 use Rattle.syntect_loader_laws.specs.Inner.{Inner, top_context_over, top_entry_over, read_contexts_over, definition_over, definition_in_over, context_above}
 use Rattle.syntect_loader_laws.specs.Laws.{DepthIsEnough, DepthIsNotFelt, BoundIsNotReached}
-use Rattle.syntect_loader_laws.proofs.NestingLaws.{texts_nest_within}
 use Rattle.syntect_loader_laws.proofs.PartLaws.{Within, AllWithin, EntriesWithin, get_within, list_within, map_within}
 use Rattle.syntect_loader_laws.proofs.StepLaws.{Same, same_rest, same_first, same_found, same_each}
 use Rattle.syntect_loader_laws.proofs.ItemLaws.{Agree, named_same, escape_same, ahead_items_same}
@@ -70,14 +69,14 @@ module _ (one other : Inner) (d : ℕ) (agree : 0 < d → Agree one other (d - 2
   top_same (Some name) None i = λ s. refl
   top_same None items i = λ s. refl
 
-  entry_same : (found : List ℕ) (e : Scalar × Node) → depth e.1 ≤ d
+  entry_same : (found : List ℕ) (e : Scalar × Node) → nesting e.1 ≤ d
       → Same (top_entry_over one found e) (top_entry_over other found e)
   entry_same found e i =
       let name = text_of e.0 in
       same_first (top_context_over one name (list_in e.1)) (top_context_over other name (list_in e.1)) _
       (top_same name (list_in e.1) (list_within e.1 d (omega arith)))
 
-  contexts_within : (v : Node) → depth v ≤ d → IfOk (contexts_at v) (EntriesWithin d)
+  contexts_within : (v : Node) → nesting v ≤ d → IfOk (contexts_at v) (EntriesWithin d)
   contexts_within v i = by (get (codes "contexts") v) (get_within (codes "contexts") v d (omega arith))
     where
       kind : (o : Option (List (Scalar × Node))) → IfSome o (EntriesWithin d) → IfOk (of_kind o) (EntriesWithin d)
@@ -88,16 +87,16 @@ module _ (one other : Inner) (d : ℕ) (agree : 0 < d → Agree one other (d - 2
       by None j = tt
       by (Some w) j = kind (map_in w) (map_within w d (omega (arith, j)))
 
-  read_same : (v : Node) → depth v ≤ d → Same (read_contexts_over one v) (read_contexts_over other v)
+  read_same : (v : Node) → nesting v ≤ d → Same (read_contexts_over one v) (read_contexts_over other v)
   read_same v i =
       same_rest (known wrong_kind (map_in v)) _ _ (λ es.
       same_found (EntriesWithin d) (contexts_at v) _ _ (contexts_within v i) (λ contexts within.
       same_rest (found_in (scope_text_at v)) _ _ (λ text.
       same_rest (scope text) _ _ (λ top_scope.
       same_first (each (top_entry_over one) [] contexts) (each (top_entry_over other) [] contexts) _
-      (same_each (λ e. depth e.1 ≤ d) (top_entry_over one) (top_entry_over other) [] contexts within entry_same)))))
+      (same_each (λ e. nesting e.1 ≤ d) (top_entry_over one) (top_entry_over other) [] contexts within entry_same)))))
 
-  definition_same : (v : Node) (b : Bool) (fallback : Option (List ℕ)) (repository : List (List ℕ)) → depth v ≤ d
+  definition_same : (v : Node) (b : Bool) (fallback : Option (List ℕ)) (repository : List (List ℕ)) → nesting v ≤ d
       → definition_over one v b fallback repository ≡ definition_over other v b fallback repository
   definition_same v b fallback repository i =
       ap (finish v fallback) (read_same v i (nothing_read (variables_at v) b repository))
@@ -105,14 +104,14 @@ module _ (one other : Inner) (d : ℕ) (agree : 0 < d → Agree one other (d - 2
 -- ---- the laws ----
 
 module _ (lines_include_newline : Bool) (fallback : Option (List ℕ)) (repository : List (List ℕ)) where
-  above_same : (deep : Inner) (m n : ℕ) (v : Node) → depth v ≤ m → depth v ≤ n
+  above_same : (deep : Inner) (m n : ℕ) (v : Node) → nesting v ≤ m → nesting v ≤ n
       → definition_over (context m) v lines_include_newline fallback repository
       ≡ definition_over (context_above deep n) v lines_include_newline fallback repository
   above_same deep m n v h k =
-      definition_same (context m) (context_above deep n) (depth v) (contexts_agree deep m n (depth v) h k) v
+      definition_same (context m) (context_above deep n) (nesting v) (contexts_agree deep m n (nesting v) h k) v
       lines_include_newline fallback repository (omega arith)
 
-  within_same : (m n : ℕ) (v : Node) → depth v ≤ m → depth v ≤ n
+  within_same : (m n : ℕ) (v : Node) → nesting v ≤ m → nesting v ≤ n
       → definition_over (context m) v lines_include_newline fallback repository
       ≡ definition_over (context n) v lines_include_newline fallback repository
   within_same m n v h k = above_same no_context m n v h k ∙ sym (above_same no_context n n v k k)
@@ -122,10 +121,10 @@ module _ (lines_include_newline : Bool) (fallback : Option (List ℕ)) (reposito
 
 pub depth_is_enough : DepthIsEnough
 depth_is_enough v n lines_include_newline fallback repository h =
-    within_same lines_include_newline fallback repository n (depth v) v h (omega arith)
+    within_same lines_include_newline fallback repository n (nesting v) v h (omega arith)
 
-pub depth_is_not_felt : DepthIsNotFelt
-depth_is_not_felt text n lines_include_newline fallback repository h = go (yaml_of text) refl
+pub depth_is_not_felt : ReadFits → DepthIsNotFelt
+depth_is_not_felt fits text n lines_include_newline fallback repository h = go (yaml_of text) refl
   where
     go : (o : Option (Option Node)) → yaml_of text ≡ o
         → definition_in_over (context n) o lines_include_newline fallback repository
@@ -133,11 +132,11 @@ depth_is_not_felt text n lines_include_newline fallback repository h = go (yaml_
     go None e = refl
     go (Some None) e = refl
     go (Some (Some v)) e =
-        let within : depth v ≤ deepest = texts_nest_within text v e in
+        let within : nesting v ≤ deepest = (fits text v e).1 in
         within_same lines_include_newline fallback repository n deepest v (omega arith) within
 
-pub bound_is_not_reached : BoundIsNotReached
-bound_is_not_reached text deep lines_include_newline fallback repository = go (yaml_of text) refl
+pub bound_is_not_reached : ReadFits → BoundIsNotReached
+bound_is_not_reached fits text deep lines_include_newline fallback repository = go (yaml_of text) refl
   where
     go : (o : Option (Option Node)) → yaml_of text ≡ o
         → definition_in_over (context_above deep deepest) o lines_include_newline fallback repository
@@ -145,5 +144,5 @@ bound_is_not_reached text deep lines_include_newline fallback repository = go (y
     go None e = refl
     go (Some None) e = refl
     go (Some (Some v)) e =
-        let within : depth v ≤ deepest = texts_nest_within text v e in
+        let within : nesting v ≤ deepest = (fits text v e).1 in
         sym (above_same lines_include_newline fallback repository deep deepest deepest v within within)

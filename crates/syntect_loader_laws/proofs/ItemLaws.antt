@@ -12,7 +12,7 @@ use Rattle.syntect_loader.specs.LoadingContexts as loading
 use Rattle.syntect_loader.specs.LoadingContexts.{named_context, new_context}
 use Rattle.syntect_contexts.specs.declared.context.ContextReference.{ContextReference}
 use Rattle.syntect_contexts.specs.declared.context.Context.{Context}
-use Rattle.syntect_loader_laws.specs.Depth.{depth}
+use Rattle.syntect_yaml_laws.specs.Laws.{nesting}
 use Rattle.syntect_loader_laws.specs.Inner.{Inner}
 use Rattle.syntect_loader_laws.proofs.PartLaws.{Within, AllWithin, unwrap_within, get_within, list_within, list_at_within}
 use Rattle.syntect_loader_laws.proofs.StepLaws.{Same, same_rest, same_first, same_both, same_each}
@@ -38,16 +38,16 @@ module _ (one other : Inner) where
     reference_by_same b None (Some items) h = inline_same true items (agree.shallow true items h)
     reference_by_same b None None h = λ s. refl
 
-    reference_same : (b : Bool) (v : Node) → depth v ≤ suc d
+    reference_same : (b : Bool) (v : Node) → nesting v ≤ suc d
         → Same (loading.reference one b v) (loading.reference other b v)
     reference_same b v h = reference_by_same b (text_in v) (list_in v) (list_within v d h)
 
-    add_same : (found : List ContextReference) (v : Node) → depth v ≤ suc d
+    add_same : (found : List ContextReference) (v : Node) → nesting v ≤ suc d
         → Same (loading.add_reference one found v) (loading.add_reference other found v)
     add_same found v h =
         same_first (loading.reference one false v) (loading.reference other false v) _ (reference_same false v h)
 
-    references_same : (v : Node) → depth v ≤ suc d → Same (loading.references one v) (loading.references other v)
+    references_same : (v : Node) → nesting v ≤ suc d → Same (loading.references one v) (loading.references other v)
     references_same v h = go (is_none v) (is_several v)
       where
         go : (a b : Bool)
@@ -65,7 +65,7 @@ module _ (one other : Inner) where
             (λ found x k. add_same found x (omega (arith, k)))
         go false false = add_same [] v h
 
-    embed_same : (m v : Node) (escape : Option Node) → depth v ≤ suc d
+    embed_same : (m v : Node) (escape : Option Node) → nesting v ≤ suc d
         → Same (loading.embedded_until one m v escape) (loading.embedded_until other m v escape)
     embed_same m v None h = λ s. refl
     embed_same m v (Some escape) h =
@@ -100,7 +100,7 @@ module _ (one other : Inner) where
         (inline_same false items (agree.shallow false items h))
     prototype_same None escape h = ahead_same escape
 
-    match_same : (m : Node) → depth m ≤ suc (suc d) → Same (loading.match one m) (loading.match other m)
+    match_same : (m : Node) → nesting m ≤ suc (suc d) → Same (loading.match one m) (loading.match other m)
     match_same m h =
         same_rest (finding (loading.pattern_at m)) _ _ (λ text.
         same_rest (perhaps scopes [] (at text_in (codes "scope") m)) _ _ (λ ss.
@@ -114,13 +114,13 @@ module _ (one other : Inner) where
         (prototype_same (at list_in (codes "with_prototype") m) (get (codes "escape") m)
         (list_at_within (codes "with_prototype") m d h))))))
 
-    entry_same : (c : Context) (m : Node) (include : Option Node) → depth m ≤ suc (suc d)
+    entry_same : (c : Context) (m : Node) (include : Option Node) → nesting m ≤ suc (suc d)
         → IfSome include (Within (suc d)) → Same (loading.entry_by one c m include) (loading.entry_by other c m include)
     entry_same c m (Some v) h k =
         same_first (loading.reference one false v) (loading.reference other false v) _ (reference_same false v k)
     entry_same c m None h k = same_first (loading.match one m) (loading.match other m) _ (match_same m h)
 
-    item_of_same : (c : Context) (m : Node) → depth m ≤ suc (suc d)
+    item_of_same : (c : Context) (m : Node) → nesting m ≤ suc (suc d)
         → Same (loading.item_of one c m) (loading.item_of other c m)
     item_of_same c m h = go (loading.is_setting m)
       where
@@ -133,7 +133,7 @@ module _ (one other : Inner) where
   -- ---- contexts ----
 
   -- what is no map is refused, and a map nests
-  item_same : (c : Context) (v : Node) (n : ℕ) → depth v ≤ n → (0 < n → Agree one other (n - 2))
+  item_same : (c : Context) (v : Node) (n : ℕ) → nesting v ≤ n → (0 < n → Agree one other (n - 2))
       → Same (loading.item one c v) (loading.item other c v)
   item_same c (node.scalar s) n h agree = λ t. refl
   item_same c (node.list vs) n h agree = λ t. refl

@@ -1,4 +1,3 @@
-mod NestingLaws
 mod PartLaws
 mod StepLaws
 mod ItemLaws

@@ -6,7 +6,7 @@ use Rattle.syntect_yaml.specs.Node.{Node, no_items, item, no_entries, entry}
 use Rattle.syntect_yaml.specs.declared.value.Scalar.TheVariants.{Text}
 use Rattle.syntect_loader.specs.LoadingSteps.{wrong_kind}
 use Rattle.syntect_loader.specs.LoadingContexts.{context}
-use Rattle.syntect_loader_laws.specs.Depth.{depth}
+use Rattle.syntect_yaml_laws.specs.Laws.{nesting}
 use Rattle.syntect_loader_laws.specs.Inner.{definition_over}
 
 -- { scope: text.nested, contexts: { main: [{ include: [] }] } }
@@ -18,7 +18,7 @@ nested_grammar =
     (item (node.map (entry (Text (codes "include")) (node.list no_items) no_entries)) no_items)) no_entries))
     no_entries))
 
-depth_row : depth nested_grammar ≡ 5
+depth_row : nesting nested_grammar ≡ 5
 depth_row = refl
 
 -- a bound that is too small is felt

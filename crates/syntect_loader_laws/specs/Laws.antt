@@ -4,7 +4,7 @@ use Rattle.syntect_yaml.specs.Node.{Node}
 use Rattle.syntect_yaml.specs.Yaml.{deepest}
 use Rattle.syntect_loader.specs.LoadingContexts.{context}
 use Rattle.syntect_loader.specs.Loading.{loaded}
-use Rattle.syntect_loader_laws.specs.Depth.{depth}
+use Rattle.syntect_yaml_laws.specs.Laws.{nesting}
 use Rattle.syntect_loader_laws.specs.Inner.{Inner, definition_over, loaded_over, context_above}
 
 -- A bound on contexts as great as a value is deep is enough for it: any greater one gives the same
@@ -13,9 +13,9 @@ abbrev pub DepthIsEnough : Type 0
 DepthIsEnough =
     (v : Node) (n : ℕ) (lines_include_newline : Bool) (fallback : Option (List ℕ))
     (repository : List (List ℕ))
-    → depth v ≤ n
+    → nesting v ≤ n
     → definition_over (context n) v lines_include_newline fallback repository
-    ≡ definition_over (context (depth v)) v lines_include_newline fallback repository
+    ≡ definition_over (context (nesting v)) v lines_include_newline fallback repository
 
 -- No text has another definition, or another refusal, where contexts may nest deeper.
 abbrev pub DepthIsNotFelt : Type 0

@@ -1,4 +1,2 @@
-pub mod Depth
-pub mod Nesting
 pub mod Inner
 pub mod Laws

@@ -1,15 +1,10 @@
-//! Laws of loading, which no function needs: how deep values and contexts nest. Each is the contract
-//! of a function that does nothing.
+//! Laws of loading, which no function needs: how deep contexts nest. Each is the contract of a
+//! function that does nothing.
 #![tactic(auto)]
 
 ghost use Rattle.syntect_loader_laws.specs.Laws.{BoundIsNotReached, DepthIsEnough, DepthIsNotFelt};
-ghost use Rattle.syntect_loader_laws.specs.Nesting.{TextsNestWithin};
 
-/// The value of a text nests no deeper than the bound on values, whatever the text is.
-#[tactic(auto, using(crate::proofs::NestingLaws::texts_nest_within))]
-pub fn texts_nest_within()
-    ensures { TextsNestWithin }
-{}
+use syntect_yaml_laws::what_is_read_fits;
 
 /// Contexts nest less deep than the value that they are read from: a bound that is as great as the
 /// value is deep gives the same definition or refusal as any greater one.
@@ -23,11 +18,15 @@ pub fn depth_is_enough()
 #[tactic(auto, using(crate::proofs::DepthLaws::depth_is_not_felt))]
 pub fn depth_is_not_felt()
     ensures { DepthIsNotFelt }
-{}
+{
+    what_is_read_fits();
+}
 
 /// The refusal at that bound is one that no text reaches: whatever is done in its place, each text
 /// has the definition or refusal that it has.
 #[tactic(auto, using(crate::proofs::DepthLaws::bound_is_not_reached))]
 pub fn bound_is_not_reached()
     ensures { BoundIsNotReached }
-{}
+{
+    what_is_read_fits();
+}

@@ -27,3 +27,5 @@ pub mod RefusalLaws
 pub mod StandingLaws
 pub mod StateLaws
 pub mod LinkedLaws
+pub mod WorkLaws
+pub mod PrototypeLaws

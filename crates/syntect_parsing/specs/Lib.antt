@@ -15,3 +15,4 @@ pub mod Meaning
 pub mod Step
 pub mod Bound
 pub mod Standing
+pub mod Work

@@ -11,3 +11,7 @@ standing state = state.standing
 -- how many turns its reader made so far
 abbrev pub turns_made : ParseState → ℕ
 turns_made state = state.count.made
+
+-- how many steps their searches took
+abbrev pub steps_made : ParseState → ℕ
+steps_made state = state.steps.made

@@ -7,8 +7,9 @@ ghost use Rattle.syntect_winner.specs.Chain.{last};
 ghost use Rattle.syntect_winner.specs.Engine.{dialect};
 ghost use Rattle.syntect_parsing.specs.Line.{start_id, start_of, at_start, first_push};
 ghost use Rattle.syntect_parsing.specs.Meaning.{MayLackStart, Accepts, MayRefuse};
-ghost use Rattle.syntect_parsing.specs.States.{standing, turns_made};
+ghost use Rattle.syntect_parsing.specs.States.{standing, turns_made, steps_made};
 ghost use Rattle.syntect_parsing.specs.Bound.{TakesTurns, TakesAll, TakesNoMore, IsTold, most_turns};
+ghost use Rattle.syntect_parsing.specs.Work.{TakesSteps, TakesMostSteps, UnlessMemory};
 
 use crate::turn::turn;
 use std::alloc::{AllocError, AllocFailed, Global};
@@ -33,12 +34,13 @@ pub struct Standing {
     pub first_line: bool,
 }
 
-/// What is kept between two lines: where the reader stands, and how many turns it made so far, which contracts alone see.
-/// Two states are equal that stand alike, whatever they count.
+/// What is kept between two lines: where the reader stands, how many turns it made so far, and how many steps their searches
+/// took, which contracts alone see. Two states are equal that stand alike, whatever they count.
 #[derive(Clone, PartialEq, Eq)]
 pub struct ParseState {
     standing: Standing,
     count: TurnCount,
+    steps: TurnCount,
 }
 
 /// Written out, so that crates above call it and needn't prove each part's drop again.
@@ -47,6 +49,7 @@ impl Drop for ParseState {
         let ParseState {
             standing: _,
             count: _,
+            steps: _,
         } = self;
     }
 }
@@ -66,6 +69,7 @@ impl ParseState {
     pub fn new(alloc: Global, syntax: &SyntaxReference) -> Result<ParseState, ParsingError>
         ensures found { IfOk result (λ state. start_of syntax.now ≡ Some (standing state)) }
         ensures none_made { IfOk result (λ state. turns_made state ≡ 0) }
+        ensures no_steps { IfOk result (λ state. steps_made state ≡ 0) }
         ensures refused { IfErr result (MayLackStart syntax.now) }
     {
         let Some(context) = start_id(syntax) else {
@@ -84,6 +88,7 @@ impl ParseState {
                 first_line: true,
             },
             count: TurnCount::none(),
+            steps: TurnCount::none(),
         })
     }
 
@@ -97,6 +102,10 @@ impl ParseState {
     /// The state counts the turns, each of which takes a match, passes over a character, or ends the line or refuses it: an
     /// accepted line takes exactly those of its reading, a refused one no more, and neither more than
     /// `levels + (r + 1) * 1001 * (bytes + 1)`, with `r` the longest list of contexts that a match of the set opens, or 1.
+    /// It counts the steps of their searches too, as `Regex::search_counted` does. Where the patterns that the line's turns look
+    /// at are linear, they are at most `turns * patterns * 2 * most * (bytes + 1)`, unless memory was wanting: `patterns` is how
+    /// many a turn looks at, and `most` how many steps a search of one takes (`steps`). Where all patterns of the set are linear
+    /// and none uses back references, a formula of the set and the line's length bounds them (`most_steps`).
     pub fn parse_line(
         &mut self,
         alloc: Global,
@@ -114,13 +123,24 @@ impl ParseState {
             (standing self.old) (turns_made self.old) (turns_made self.new)) }
         ensures bound { turns_made self.new
             ≤ turns_made self.old + most_turns syntax_set.now line.now (standing self.old) }
+        ensures steps { UnlessMemory result (TakesSteps syntax_set.now line.now
+            (standing self.old) (turns_made self.new - turns_made self.old)
+            (steps_made self.old) (steps_made self.new)) }
+        ensures most_steps { UnlessMemory result (TakesMostSteps syntax_set.now line.now
+            (standing self.old) (steps_made self.old) (steps_made self.new)) }
     {
         if self.standing.levels.is_empty() {
             return Err(ParsingError::MissingMainContext);
         }
-        let ParseState { standing, count } = self;
+        let ParseState {
+            standing,
+            count,
+            steps,
+        } = self;
         let mut regions = Regions::new(alloc);
+        regions.steps = steps.copy();
         let read = read_line(alloc, syntax_set, line, standing, &mut regions, count);
+        *steps = regions.steps.copy();
         let (left, ops, _) = match read {
             Ok(read) => read,
             Err(e) => return Err(e),
@@ -131,7 +151,7 @@ impl ParseState {
 
     /// The state after the next line, and its operations, as `parse_line` leaves and answers them. This state stays, so it
     /// needn't be copied where it may be wanted again. The searches' memory can be kept from line to line; what is in it
-    /// before doesn't matter. Refused as `parse_line` is.
+    /// before doesn't matter, and its count of steps begins as this state's. Refused as `parse_line` is.
     pub fn after_line(
         &self,
         alloc: Global,
@@ -147,13 +167,27 @@ impl ParseState {
             (standing self.now) (turns_made self.now) (turns_made r.0)) }
         ensures bound { IfOk result (λ r. turns_made r.0
             ≤ turns_made self.now + most_turns syntax_set.now line.now (standing self.now)) }
+        ensures steps { IfOk result (λ r. TakesSteps syntax_set.now line.now
+            (standing self.now) (turns_made r.0 - turns_made self.now)
+            (steps_made self.now) (steps_made r.0)) }
+        ensures most_steps { IfOk result (λ r. TakesMostSteps syntax_set.now line.now
+            (standing self.now) (steps_made self.now) (steps_made r.0)) }
     {
         if self.standing.levels.is_empty() {
             return Err(ParsingError::MissingMainContext);
         }
         let mut count = self.count.copy();
+        regions.steps = self.steps.copy();
         match read_line(alloc, syntax_set, line, &self.standing, regions, &mut count) {
-            Ok((standing, ops, _)) => Ok((ParseState { standing, count }, ops)),
+            Ok((standing, ops, _)) => {
+                let steps = regions.steps.copy();
+                let state = ParseState {
+                    standing,
+                    count,
+                    steps,
+                };
+                Ok((state, ops))
+            }
             Err(e) => Err(e),
         }
     }
@@ -252,6 +286,10 @@ fn read_line(
         (TakesNoMore dialect set.now line.now state.now count.old.made count.new.made) }
     ensures bound { count.new.made ≤ count.old.made + most_turns set.now line.now state.now }
     ensures told { IfOk result (λ r. IsTold (count.new.made - count.old.made) r.2) }
+    ensures steps { UnlessMemory result (TakesSteps set.now line.now state.now
+        (count.new.made - count.old.made) regions.old.steps.made regions.new.steps.made) }
+    ensures most_steps { UnlessMemory result (TakesMostSteps set.now line.now state.now
+        regions.old.steps.made regions.new.steps.made) }
 {
     dialect_finds_in_text();
     let mut ops = match first_operations(alloc, set, state) {

@@ -11,6 +11,7 @@ ghost use Rattle.syntect_winner.specs.Reader.{AreGroupsBy};
 ghost use Rattle.syntect_parsing.specs.Candidates.{IsTakenFrom, live_of};
 ghost use Rattle.syntect_parsing.specs.Orderly.{is_orderly};
 ghost use Rattle.syntect_parsing.specs.Step.{MakesStep, RefusesStep, Turns, RefusesTurn};
+ghost use Rattle.syntect_parsing.specs.Work.{TakesTurnSteps, UnlessMemory};
 
 use crate::emit::emit;
 use crate::laws::dialect_lays_groups_out;
@@ -47,7 +48,7 @@ fn trim(alloc: Global, p: &mut Position)
     p.cuts = Seq::from_vec(cuts);
 }
 
-/// The best of the matches that a turn has to choose from, once cuts are dropped.
+/// The best of the matches that a turn has to choose from, once cuts are dropped. The steps of the searches are counted.
 fn best_match<'s>(
     reader: &LineReader<'s, '_>,
     regions: &mut Regions,
@@ -63,6 +64,8 @@ fn best_match<'s>(
         (live_in dialect reader.now.set.now reader.now.line.now reader.now.position.now)) }
     ensures refused { IfErr result (RefusesStep (turn_on dialect reader.now.set.now
         reader.now.line.now reader.now.position.now (last reader.now.position.now.levels))) }
+    ensures steps { UnlessMemory result (TakesTurnSteps reader.now.set.now reader.now.line.now
+        reader.now.position.now regions.old.steps.made regions.new.steps.made) }
 {
     let Some(top) = reader.position.levels.as_slice().last() else {
         return Ok(Best::none());
@@ -124,6 +127,8 @@ pub fn turn(
         (Turns dialect set.now line.now p.old p.new ops.old.items ops.new.items) }
     ensures refused { IfErr result (RefusesTurn dialect set.now line.now p.old) }
     ensures counted { count.new.made ≡ count.old.made + 1 }
+    ensures steps { UnlessMemory result (TakesTurnSteps set.now line.now (trimmed p.old)
+        regions.old.steps.made regions.new.steps.made) }
 {
     dialect_finds_in_text();
     dialect_finds_on_boundaries();

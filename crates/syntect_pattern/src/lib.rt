@@ -3,4 +3,5 @@
 
 pub mod anchor;
 pub mod character;
+pub mod error;
 pub mod named;

@@ -4,7 +4,8 @@ use Rattle.syntect_pattern.specs.Trees.{Tree, nothing, group}
 use Rattle.syntect_pattern.specs.Pattern.{pattern_tree}
 use Rattle.syntect_pattern_table.specs.Program.{trees_of}
 use Rattle.syntect_pattern_table.specs.declared.program.Program.{Program}
-use Rattle.syntect_linear.specs.Linear.{is_linear, planned_steps}
+use Rattle.syntect_linear.specs.Linear.{planned_steps}
+use Rattle.syntect_plan.specs.Linear.{is_linear}
 
 -- A search of a text so long backs up in at most sixty-four steps for each byte and 16384 beside them; where they don't suffice,
 -- it goes on by the tree's plan.

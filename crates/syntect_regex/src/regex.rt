@@ -7,7 +7,7 @@ ghost use Rattle.syntect_pattern.specs.Trees.{group_in_look};
 ghost use Rattle.syntect_pattern.specs.Pattern.{pattern_tree, pattern_found};
 ghost use Rattle.syntect_pattern.specs.Found.{IsPatternMatch};
 ghost use Rattle.syntect_pattern_table.specs.Starts.{is_in};
-ghost use Rattle.syntect_regex.specs.declared.error.PatternError.{PatternError};
+ghost use Rattle.syntect_pattern.specs.declared.error.PatternError.{PatternError};
 ghost use Rattle.syntect_regex.specs.Bounds.{pattern_is_linear, search_bound};
 ghost use Rattle.syntect_regex.specs.Begins.{NoneBeginsOutside, BeginsAtEdges};
 ghost use Rattle.syntect_regex.specs.Escape.{is_special, escaped_char, escaped};
@@ -20,10 +20,10 @@ use crate::seek::begins_at;
 use std::alloc::{AllocError, Global};
 use std::marker::Model;
 use syntect_engine::state::Search;
-use syntect_linear::plan::Plan;
 use syntect_pattern_reader::compiler::compile;
 use syntect_pattern_table::program::Program;
 use syntect_pattern_table::starts::Places;
+use syntect_plan::plan::Plan;
 use syntect_turns::count::TurnCount;
 
 /// A pattern, ready to be searched. It is its text: equal texts are equal patterns.
@@ -179,7 +179,8 @@ impl Regex {
     /// Searches as `search_into` does, and counts its steps. Of a linear pattern they are within a bound that goes by the
     /// pattern and the length of what is searched. A step is one of the search that backs up, which may read a stretch of
     /// characters at once, or one at a cell of the pattern's plan. What is passed over before a place where a match may begin
-    /// isn't counted, nor are a plan's passes over the pattern's nodes, and over the text for what lookbehinds look for.
+    /// isn't counted, nor are a plan's passes over the pattern's nodes, the ordering of its cells, and its passes over the text
+    /// for what lookbehinds look for.
     pub fn search_counted(
         &self,
         text: &str,

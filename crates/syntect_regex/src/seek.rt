@@ -7,8 +7,8 @@ ghost use Rattle.syntect_regex.specs.Bounds.{IsWithinBound, IsWithinPlan};
 use std::alloc::AllocError;
 use syntect_engine::state::Search;
 use syntect_linear::find as planned;
-use syntect_linear::plan::Plan;
 use syntect_pattern_table::program::Program;
+use syntect_plan::plan::Plan;
 use syntect_turns::count::TurnCount;
 
 /// How many steps a search may take for each byte of the text, and beside them. Few searches of real patterns take a tenth of

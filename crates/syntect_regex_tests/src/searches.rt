@@ -100,6 +100,8 @@ fn searches_up_to_a_place(rt: HostRuntime) {
 fn tells_which_patterns_are_linear(rt: HostRuntime) {
     let patterns = [
         ("(a+)+b", true),
+        ("((((((((((((((((a*)*)*)*)*)*)*)*)*)*)*)*)*)*)*)*)*b", true),
+        ("((((((((((((((((a+)+)+)+)+)+)+)+)+)+)+)+)+)+)+)+)+b", true),
         ("(?<=ab|c)d", true),
         ("(a)\\1", false),
         ("(?<=a+)b", false),
@@ -116,6 +118,21 @@ fn tells_which_patterns_are_linear(rt: HostRuntime) {
             wanted,
         );
     }
+}
+
+/// Sixteen loops in one another, through which a search that backs up has as many ways as there are.
+#[test]
+fn searches_loops_in_one_another(rt: HostRuntime) {
+    let pattern = "((((((((((((((((a*)*)*)*)*)*)*)*)*)*)*)*)*)*)*)*)*b";
+    let text = String::from_str(rt.alloc(), pattern).expect(&rt, "memory");
+    let regex = Regex::new(rt.alloc(), text).expect(&rt, "memory");
+    let mut region = Region::default(rt.alloc());
+    let line = "aaaaaaaaaaaaaaaaaaaaaaaaaaaaaaaaaaaaaaaa";
+    let found = regex.search_into(line, 0, 40, &mut region);
+    equal(&rt, found.expect(&rt, "memory"), false);
+    let found = regex.search_into("caaab", 0, 5, &mut region);
+    equal(&rt, found.expect(&rt, "memory"), true);
+    equal(&rt, region.pos(0), Some((1, 5)));
 }
 
 /// A search that is counted finds what one that isn't does, also where it goes on by a plan.

@@ -10,6 +10,7 @@ use std::rt::Files;
 use std::{fs, io};
 use syntect_parsing::syntax_set::{SyntaxReference, SyntaxSet, SyntaxSetBuilder};
 use syntect_scope::repository::ScopeRepository;
+use syntect_shown::linear::write_linear;
 use syntect_shown::orderly::write_orderly;
 use syntect_theme::theme::Theme;
 
@@ -124,6 +125,8 @@ pub enum Asked<'a> {
     Unlinked,
     /// Which syntaxes clear scopes, and whether they put them back in order.
     Orderly,
+    /// How many patterns each syntax has, and those that are not searched in linear time.
+    Linear,
     /// The syntax of each file in a list, a path a line.
     Syntaxes(&'a str),
     /// The scopes of each stretch of a file's lines.
@@ -162,6 +165,7 @@ fn write_asked(
     match asked {
         Asked::Unlinked => write_unlinked(alloc, &set, &repository, out),
         Asked::Orderly => write_orderly(alloc, &set, out),
+        Asked::Linear => write_linear(alloc, &set, out),
         Asked::Syntaxes(list) => write_syntaxes_of(files, &set, list, out),
         Asked::Scopes(path) => {
             let theme = Theme::default(alloc);

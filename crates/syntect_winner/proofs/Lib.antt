@@ -7,3 +7,4 @@ pub mod PartLaws
 pub mod RunLaws
 pub mod AheadLaws
 pub mod SweepLaws
+pub mod StepLaws

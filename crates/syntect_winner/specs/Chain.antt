@@ -1,14 +1,15 @@
 -- Which patterns a turn looks at, in which order.
 pub use Rattle.syntect_grammar.specs.Patterns.{entries, included, walk_patterns, walk, room_in, patterns_in, patterns_of, GivesNothing, unresolved, lacking, around, Walks, ended, own, passed_over, followed}
 pub use Rattle.syntect_contexts.specs.Contexts.{count_contexts}
-use Rattle.std.specs.Prelude.{◌-◌, Bool, true, false, List, ◌++◌, length, drop, map, Option, None, slice_get, unwrap_or}
-use Rattle.std.specs.Option.{option_to_list}
+use Rattle.std.specs.Prelude.{◌-◌, Bool, true, false, List, [], ◌++◌, length, drop, map, Option, None, slice_get, unwrap_or}
+use Rattle.std.specs.Option.{option_map_or, option_to_list}
 use Rattle.std.specs.List.{flat_map}
 use Rattle.syntect_contexts.specs.Substitution.{Opening}
 use Rattle.syntect_winner.specs.declared.position.Position.{Position}
 use Rattle.syntect_contexts.specs.declared.context.ContextId.{ContextId}
 use Rattle.syntect_contexts.specs.declared.context.MatchPattern.{MatchPattern}
 use Rattle.syntect_contexts.specs.declared.context.Context.{Context}
+use Rattle.syntect_grammar.specs.Contexts.{context_at}
 use Rattle.syntect_grammar.specs.declared.syntax_set.SyntaxSet.{SyntaxSet}
 use Rattle.syntect_winner.specs.declared.level.Level.{Level}
 
@@ -42,6 +43,10 @@ chain set p top context =
     flat_map (λ l. flat_map (members set true l.opening) l.prototypes) (in_sight p)
     ++ flat_map (members set false None) (option_to_list context.prototype)
     ++ members set false top.opening top.context
+
+-- the chain of a turn at a position; nothing where no context is open, or the set lacks the top one
+abbrev pub chain_at : SyntaxSet → Position → List Member
+chain_at set p = option_map_or (λ top. option_map_or (chain set p top) (context_at set top.context) []) (last p.levels) []
 
 -- the prototypes of the chain, in its order
 abbrev pub prototypes_in : Position → Context → List ContextId

@@ -7,3 +7,4 @@ pub mod Parts
 pub mod Reader
 pub mod Ahead
 pub mod Best
+pub mod Steps

@@ -1,11 +1,12 @@
 //! Which match a turn takes.
-ghost use Rattle.std.specs.Prelude.{◌≡◌, ◌≤◌, ◌+◌, IfOk, unwrap_or, if◌then◌else◌, true, false, Some, None};
+ghost use Rattle.std.specs.Prelude.{◌≡◌, ◌≤◌, ◌+◌, ℕ, length, IfOk, OnOk, unwrap_or, if◌then◌else◌, true, false, Some, None};
 ghost use Rattle.std.specs.Option.{option_map, option_copied};
 ghost use Rattle.syntect_winner.specs.Engine.{dialect};
 ghost use Rattle.syntect_winner.specs.Turn.{searched_text, loops, counts, turns_back, char_len};
 ghost use Rattle.syntect_winner.specs.Best.{IsNear, choice_by};
 ghost use Rattle.syntect_winner.specs.Candidates.{SkipsTo, member_of, text_of, chosen};
 ghost use Rattle.syntect_winner.specs.Reader.{AreGroupsBy, match_of, seen_by};
+ghost use Rattle.syntect_winner.specs.Steps.{IsWithin};
 
 use crate::laws::dialect_finds_in_text;
 use crate::position::{MOST_IDLE, MOST_LEVELS, Position};
@@ -17,27 +18,34 @@ use syntect_grammar::syntax_definition::{MatchOperation, MatchPattern};
 use syntect_openings::opening::Opening;
 use syntect_regex::regex::Regex;
 use syntect_regex::region::Region;
+use syntect_turns::count::TurnCount;
 use syntect_ways::text::char_at;
 
-/// Where searches put the groups of their matches, and the groups of the best match so far.
+/// Where searches put the groups of their matches, the groups of the best match so far, and how many steps searches took,
+/// which contracts alone see.
 #[derive(Drop)]
 pub struct Regions {
     pub searched: Region,
     pub best: Region,
+    pub steps: TurnCount,
 }
 
 impl Regions {
-    /// Two without groups. Takes no memory.
-    pub fn new(alloc: Global) -> Regions {
+    /// Two without groups, and no step. Takes no memory.
+    pub fn new(alloc: Global) -> Regions
+        ensures { result.steps.made ≡ 0 }
+    {
         Regions {
             searched: Region::new(alloc),
             best: Region::new(alloc),
+            steps: TurnCount::none(),
         }
     }
 
     /// Keeps the groups that were found last as those of the best match.
     pub fn keep(&mut self)
-        ensures { self.new.best ≡ self.old.searched }
+        ensures best { self.new.best ≡ self.old.searched }
+        ensures steps { self.new.steps ≡ self.old.steps }
     {
         mem::swap(&mut self.searched, &mut self.best);
     }
@@ -188,21 +196,26 @@ fn owned(alloc: Global, substituted: Option<Regex>) -> Result<Option<OwnRegex>, 
 }
 
 /// The match of a pattern of the chain from the reader's place on, if it has one that counts, unless it begins behind `last`.
+/// The steps of the search are counted.
 pub fn search_entry<'s>(
     reader: &LineReader<'_, '_>,
     entry: &Entry<'s, '_>,
     last: usize,
     region: &mut Region,
+    count: &mut TurnCount,
 ) -> Result<Option<Candidate<'s>>, AllocError>
     requires order { reader.now.position.now.place ≤ last }
     ensures near { IfOk result (λ m. IsNear (match_of reader.now (member_of entry.now)) last
         (option_map (seen_by reader.now) m)) }
     ensures groups { IfOk result (λ m. AreGroupsBy reader.now m region.new) }
+    ensures steps { (w : ℕ) → IsWithin (length reader.now.line.now) w (member_of entry.now)
+        → OnOk result (count.new.made ≤ count.old.made + w) }
 {
     dialect_finds_in_text();
     let substituted = substituted(entry)?;
     let regex = searched(entry.pattern, &substituted);
-    if !regex.search_up_to(reader.line, reader.position.place, last, region)? {
+    let place = reader.position.place;
+    if !regex.search_up_to_counted(reader.line, place, last, region, count)? {
         return Ok(None);
     }
     let Some((start, end)) = region.pos(0) else {

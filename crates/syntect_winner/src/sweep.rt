@@ -1,18 +1,19 @@
 //! What a turn finds: it looks at place after place, and at each tries the patterns that can begin with what stands there, in
 //! the order of the chain.
-ghost use Rattle.std.specs.Prelude.{◌≡◌, ◌≤◌, ◌<◌, ◌+◌, [], Bool, List, ℕ, length, map, IfOk, Some, None, true, false, slice_index_or, unwrap_or};
+ghost use Rattle.std.specs.Prelude.{◌≡◌, ◌≤◌, ◌<◌, ◌+◌, ◌*◌, [], Bool, List, ℕ, length, map, IfOk, OnOk, Some, None, true, false, slice_index_or, unwrap_or};
 ghost use Rattle.std.specs.Option.{option_copied};
 ghost use Rattle.std.specs.List.{All, flat_map, list_any};
 ghost use Rattle.syntect_contexts.specs.declared.context.MatchPattern.{MatchPattern as APattern};
 ghost use Rattle.syntect_grammar.specs.Flats.{AreFlatsOf, pattern_at};
 ghost use Rattle.syntect_pattern.specs.Matches.{is_word_edge};
-ghost use Rattle.syntect_winner.specs.Ahead.{AddsAll, AddsAt, AddsMember, AddsRun, AllAhead, AreAhead, AreAheadFrom, AreReplaced, FindsHere, IsAhead, IsBare, IsBestAt, IsRuledOut, IsRun, list_in};
+ghost use Rattle.syntect_winner.specs.Ahead.{AddsAll, AddsAt, AddsMember, AddsRun, AllAhead, AreAhead, AreAheadFrom, AreReplaced, FindsHere, IsAhead, IsBare, IsBestAt, IsRuledOut, IsRun, list_in, run_members};
 ghost use Rattle.syntect_contexts.specs.Substitution.{Groups};
 ghost use Rattle.syntect_winner.specs.Best.{choice_by};
 ghost use Rattle.syntect_winner.specs.Candidates.{member_of};
 ghost use Rattle.syntect_winner.specs.Engine.{dialect};
 ghost use Rattle.syntect_winner.specs.Parts.{part_members};
 ghost use Rattle.syntect_winner.specs.Reader.{AreGroupsBy, matches_of};
+ghost use Rattle.syntect_winner.specs.Steps.{AreWithin, IsWithin, place_steps, turn_steps};
 ghost use Rattle.syntect_winner.specs.Turn.{Live, searched_text, winner};
 
 use crate::chain::Part;
@@ -241,9 +242,17 @@ fn with_searched<'s>(
         → FindsHere reader.now place (member_of entry.now) g → best.entry.candidate ≡ None
         → IsBestAt reader.now place ms best.entry
         → IfOk result (AddsMember reader.now place true (member_of entry.now) ms) }
+    ensures steps { (w : ℕ) → IsWithin (length reader.now.line.now) w (member_of entry.now)
+        → OnOk result (regions.new.steps.made ≤ regions.old.steps.made + w) }
 {
     dialect_finds_in_text();
-    match search_entry(reader, entry, place, &mut regions.searched)? {
+    match search_entry(
+        reader,
+        entry,
+        place,
+        &mut regions.searched,
+        &mut regions.steps,
+    )? {
         Some(m) => {
             if m.start <= place {
                 regions.keep();
@@ -306,10 +315,13 @@ fn with_entry<'s>(
     ensures best { (ms : List Live) → IsAhead reader.now lost.old place (member_of entry.now)
         → best.entry.candidate ≡ None → IsBestAt reader.now place ms best.entry
         → IfOk result (AddsMember reader.now place lost.new (member_of entry.now) ms) }
+    ensures steps { (w : ℕ) → IsWithin (length reader.now.line.now) w (member_of entry.now)
+        → OnOk result (regions.new.steps.made ≤ regions.old.steps.made + 2 * w) }
 {
     dialect_finds_in_text();
     let regex = regex_of(entry.pattern, replaced);
-    if !regex.match_at(reader.line, place, &mut regions.searched)? {
+    let searched = &mut regions.searched;
+    if !regex.match_at_counted(reader.line, place, searched, &mut regions.steps)? {
         return Ok(best);
     }
     if *lost {
@@ -360,6 +372,9 @@ fn with_pattern<'s>(
     ensures best { (ms : List Live) → AreAheadFrom reader.now lost.old place run.now index
         → best.entry.candidate ≡ None → IsBestAt reader.now place ms best.entry
         → IfOk result (AddsAt reader.now place lost.new run.now index ms) }
+    ensures steps { (w : ℕ) → AreWithin (length reader.now.line.now) w
+        (run_members reader.now.set.now run.now)
+        → OnOk result (regions.new.steps.made ≤ regions.old.steps.made + 2 * w) }
 {
     let flat = list_in(&run.flats).as_slice()[index];
     let Some(pattern) = reader.set.pattern_at(&flat) else {
@@ -393,6 +408,10 @@ fn with_run<'s>(
     ensures best { (ms : List Live) → AreAhead reader.now lost.old place run.now
         → IsBestAt reader.now place ms best.entry
         → IfOk result (AddsRun reader.now place lost.new run.now ms) }
+    ensures steps { (w : ℕ) → AreWithin (length reader.now.line.now) w
+        (run_members reader.now.set.now run.now)
+        → OnOk result (regions.new.steps.made ≤ regions.old.steps.made
+        + place_steps (length (run_members reader.now.set.now run.now)) w) }
 {
     dialect_finds_in_text();
     let count = list_in(&run.flats).as_slice().len();
@@ -421,6 +440,10 @@ fn best_at<'s>(
         AreGroupsBy reader.now b.candidate regions.new.best) }
     ensures best { AllAhead reader.now lost.old place runs.now
         → IfOk result (AddsAll reader.now place lost.new runs.now) }
+    ensures steps { (w : ℕ) → AreWithin (length reader.now.line.now) w
+        (flat_map (run_members reader.now.set.now) runs.now)
+        → OnOk result (regions.new.steps.made ≤ regions.old.steps.made
+        + place_steps (length (flat_map (run_members reader.now.set.now) runs.now)) w) }
 {
     let mut best = Best {
         start: place + 1,
@@ -434,6 +457,7 @@ fn best_at<'s>(
 }
 
 /// What a chain has: the places are gone through from the turn's own on, up to the first where a match begins that counts.
+/// Where what is searched for each of its patterns is linear, the steps of all searches are within a bound.
 pub fn best_of_chain<'s>(
     reader: &LineReader<'s, '_>,
     parts: &[Part<'_>],
@@ -443,6 +467,11 @@ pub fn best_of_chain<'s>(
     ensures best { IfOk result (λ b. choice_by reader.now.line.now reader.now.position.now.place b
         ≡ winner reader.now.line.now reader.now.position.now
         (matches_of reader.now (flat_map (part_members reader.now.set.now) parts.now))) }
+    ensures steps { (w : ℕ) → AreWithin (length reader.now.line.now) w
+        (flat_map (part_members reader.now.set.now) parts.now)
+        → OnOk result (regions.new.steps.made ≤ regions.old.steps.made
+        + turn_steps (length (flat_map (part_members reader.now.set.now) parts.now)) w
+        (length reader.now.line.now)) }
 {
     dialect_finds_in_text();
     let runs = runs_of(reader, parts)?;

@@ -2,8 +2,8 @@ use Rattle.std.proofs.Common.{◌≡◌, ◌∙◌, arith, length}
 use Rattle.syntect_linear.proofs.StepsLaws.{none-known, none-length, unknown-most}
 use Rattle.syntect_linear.proofs.fill.known_of.Goals as goal
 
-pub loop-back-init : goal.loop-back-init
-loop-back-init c =
+pub loop-late-init : goal.loop-late-init
+loop-late-init c =
     let long : length c.in_ok-now.now.items ≡ length c.args.ground.now.plan.now.cells = none-length _ _ c.in_ok-now.ensures ∙ c.len-cells.ensures in
     let most = unknown-most c.in_ok-now.now.items in
     record {

@@ -1,7 +1,7 @@
 use Rattle.std.proofs.Common.{◌≡◌, ◌≤◌, ◌*◌, ◌+◌, ◌-◌, ◌<◌, ℕ, length, get_or, Option, List, None, ap, sym, ◌∙◌, arith, ◌∷◌, [], length-append, true, false}
 use Rattle.std.specs.Prelude.{IsCharBoundary}
 use Rattle.syntect_pattern_table.specs.Program.{trees_of}
-use Rattle.syntect_linear.specs.Cells.{ends}
+use Rattle.syntect_plan.specs.Cells.{ends}
 use Rattle.syntect_ways.proofs.BoundaryLaws.{true-boundary}
 use Rattle.syntect_turns.specs.declared.count.TurnCount.{TurnCount}
 use Rattle.syntect_linear.proofs.StepsLaws.{rows-cost}

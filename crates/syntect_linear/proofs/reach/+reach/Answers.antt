@@ -6,13 +6,13 @@ use Rattle.std.specs.Prelude.{if◌then◌else◌, ◌==◌, not, is_some}
 use Rattle.syntect_pattern.specs.Anchors.{anchor_of}
 use Rattle.syntect_pattern.specs.Sets.{range}
 use Rattle.syntect_pattern_table.specs.Table.{set_of}
-use Rattle.syntect_linear.specs.Cells.{item_tree, is_end}
-use Rattle.syntect_linear.specs.Onward.{end_if, has_turn, prefer_end}
+use Rattle.syntect_plan.specs.Cells.{item_tree, is_end}
+use Rattle.syntect_plan.specs.Onward.{end_if, has_turn, prefer_end}
 use Rattle.syntect_linear.specs.Rows.{row_end}
 use Rattle.syntect_linear.specs.Ground.{ends_at, height_of}
 use Rattle.syntect_linear.specs.Step.{IsTreeAt}
 use Rattle.syntect_linear.proofs.GroundLaws.{nothing-goes, anchor-goes, seq-goes, alt-goes, group-goes, ahead-goes, behind-goes, char-goes, atomic-goes, loop-goes, first-is, second-is, empty-is, next-is, item-is, tree-more, if-lower, known-set, or-chosen, or-second}
-use Rattle.syntect_linear.proofs.CellLaws.{ends-end}
+use Rattle.syntect_plan.proofs.CellLaws.{ends-end}
 use Rattle.syntect_linear.proofs.StepsLaws.{takes-one, takes-both, takes-keep, none-if}
 use Rattle.syntect_linear.proofs.reach.+reach.Goals as goal
 

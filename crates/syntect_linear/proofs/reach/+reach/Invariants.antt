@@ -1,7 +1,7 @@
 use Rattle.std.proofs.Common.{◌+◌, ◌*◌}
 use Rattle.std.specs.Prelude.{if◌then◌else◌}
 use Rattle.syntect_pattern_table.specs.Program.{trees_of}
-use Rattle.syntect_linear.specs.Cells.{height}
+use Rattle.syntect_plan.specs.Cells.{height}
 use Rattle.syntect_linear.proofs.reach.+reach.Given as goal
 
 abbrev pub decreases-reach : goal.decreases-reach

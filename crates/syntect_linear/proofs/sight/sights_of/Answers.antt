@@ -1,10 +1,10 @@
 use Rattle.std.proofs.Common.{◌≡◌, ℕ, Bool, List, ap, sym, ◌∙◌, arith, get_or, subst, true, false, length, length-append, ◌∷◌, [], arith}
 use Rattle.syntect_pattern.specs.Trees.{Tree, nothing}
 use Rattle.syntect_pattern_table.specs.Program.{trees_of}
-use Rattle.syntect_linear.specs.Onward.{plain}
-use Rattle.syntect_linear.specs.Facts.{facts_at}
+use Rattle.syntect_plan.specs.Onward.{plain}
+use Rattle.syntect_plan.specs.Facts.{facts_at}
 use Rattle.syntect_linear.specs.Rows.{IsImage, flag_of, ends_here}
-use Rattle.syntect_linear.specs.declared.facts.Facts.{Facts}
+use Rattle.syntect_plan.specs.declared.facts.Facts.{Facts}
 use Rattle.syntect_ways.proofs.BoundaryLaws.{boundary-true}
 use Rattle.syntect_linear.proofs.SightLaws.{sight-is, sights-more}
 use Rattle.syntect_linear.proofs.sight.sights_of.Goals as goal

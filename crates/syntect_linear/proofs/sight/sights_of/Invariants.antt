@@ -2,7 +2,7 @@ use Rattle.std.proofs.Common.{◌≡◌, ◌<◌, ℕ, length, get_or, true}
 use Rattle.std.specs.Prelude.{IsCharBoundary}
 use Rattle.syntect_pattern.specs.Trees.{nothing}
 use Rattle.syntect_pattern_table.specs.Program.{trees_of}
-use Rattle.syntect_linear.specs.Onward.{plain}
+use Rattle.syntect_plan.specs.Onward.{plain}
 use Rattle.syntect_linear.specs.Rows.{row_flag, ends_here}
 use Rattle.syntect_linear.proofs.sight.sights_of.Given as goal
 

@@ -6,18 +6,18 @@ use Rattle.syntect_pattern.specs.Trees.{Tree, nothing, seq, alt, group, atomic, 
 use Rattle.syntect_pattern.specs.Matches.{Groups}
 use Rattle.syntect_pattern_table.specs.Program.{trees_of}
 use Rattle.syntect_pattern_table.specs.Table.{node_tree, set_of}
-use Rattle.syntect_linear.specs.Onward.{is_bare}
-use Rattle.syntect_linear.specs.Cells.{cell_at, parts_at, item_tree}
-use Rattle.syntect_linear.specs.Facts.{facts_at}
+use Rattle.syntect_plan.specs.Onward.{is_bare}
+use Rattle.syntect_plan.specs.Cells.{cell_at, parts_at, item_tree}
+use Rattle.syntect_plan.specs.Facts.{facts_at}
 use Rattle.syntect_linear.specs.Ground.{ends_at}
 use Rattle.syntect_linear.specs.Step.{IsTreeAt}
 use Rattle.syntect_linear.specs.Walk.{Walks}
-use Rattle.syntect_linear.specs.declared.facts.Facts.{Facts}
+use Rattle.syntect_plan.specs.declared.facts.Facts.{Facts}
 use Rattle.syntect_linear.proofs.GroundLaws.{first-is, second-is, tree-more, item-is}
 use Rattle.syntect_linear.proofs.WalkLaws.{walks-nothing, walks-anchor, walks-behind, walks-bare_ahead, walks-char, alt-first, alt-second, group-walks, atomic-walks, ahead-walks, CanWalk, follow, loop-is}
 use Rattle.syntect_linear.proofs.SequenceLaws.{seq-first, seq-second}
 use Rattle.syntect_linear.proofs.LoopLaws.{turn-leaves, turn-first, turn-stays, turn-goes, turn-tree}
-use Rattle.syntect_linear.specs.Steps.{walk_cost, look_cost}
+use Rattle.syntect_linear.specs.Steps.{stay_cost, read_cost, walk_cost, look_cost}
 use Rattle.syntect_linear.proofs.CostLaws.{walks-on, costs-is, costs-of, costs-stay, costs-tick, costs-up, seq-cost, left-cost, right-cost, look-costs, turn-cost, turns-cost, last-cost, seq-tree, alt-trees, group-tree, atomic-tree, ahead-tree, loop-calm}
 use Rattle.syntect_linear.proofs.walk.+walk.Goals as goal
 
@@ -277,7 +277,7 @@ walk_turns-turns-preserved t c =
     let after = c.follows-turn.ensures ∙ ap (λ (j : ℕ). (cell_at x.plan.now.cells j).next) first in
     let n = turn-goes x c.turns.turn c.turns.at g i.filled c.args.greedy c.turns.least c.turns.most i.goes.body i.goes.is_loop i.goes.found (test ∙ c.turns-test.true) c.walk-end.result c.walk-end.new.groups.items (subst (λ (j : ℕ). Walks x j c.turns.at g c.walk-end.result c.walk-end.new.groups.items) first c.walk-end.ensures.walks) c.if-end-at.false c.follows-turn.result after in
     let u = costs-of x c.parts_at-first.result.first c.turns.at c.turns.count.made c.walk-end.result c.walk-end.new.count.made i.goes.body (ap (λ (j : ℕ). item_tree (trees_of x.program.now) (cell_at x.plan.now.cells j).item) first ∙ turn-tree x c.turns.turn c.turns.at g i.filled c.args.greedy c.turns.least c.turns.most i.goes.body i.goes.is_loop i.goes.found (test ∙ c.turns-test.true)) c.walk-end.ensures.steps in
-    let v = subst (λ (l : ℕ). c.walk-end.new.count.made ≤ c.turns.count.made + (walk_cost i.goes.body * suc (c.walk-end.result - c.turns.at) + l * (suc (length x.text.now)))) i.goes.calm u in
+    let v = subst (λ (l : ℕ). c.walk-end.new.count.made ≤ c.turns.count.made + (stay_cost i.goes.body + read_cost i.goes.body * (c.walk-end.result - c.turns.at) + l * (suc (length x.text.now)))) i.goes.calm u in
     record {
       filled = n.filled_there;
       goes = record {
@@ -287,11 +287,12 @@ walk_turns-turns-preserved t c =
         size = n.size ∙ i.goes.size;
         same = λ e l w. i.goes.same e l (n.same e l w);
         later = omega (arith, i.goes.later, n.later);
-        cost = i.goes.cost;
+        stays = i.goes.stays;
+        reads = i.goes.reads;
         calm = i.goes.calm;
         paid =
             let far : c.walk-end.result - c.args.place ≡ (c.turns.at - c.args.place) + (c.walk-end.result - c.turns.at) = omega (arith, i.goes.later, n.later) in
-            let p = turn-cost (walk_cost i.goes.body) (suc (length x.text.now)) (c.turns.at - c.args.place) (c.walk-end.result - c.turns.at) c.args.count.now.made c.turns.count.made c.walk-end.new.count.made (omega (arith, n.later)) i.goes.paid v in
+            let p = turn-cost (stay_cost i.goes.body) (read_cost i.goes.body) (suc (length x.text.now)) (c.turns.at - c.args.place) (c.walk-end.result - c.turns.at) c.args.count.now.made c.turns.count.made c.walk-end.new.count.made (omega (arith, n.later)) i.goes.paid v in
             rw far p;
       };
     }
@@ -365,7 +366,7 @@ walk_node-returns-in-Group-clause-steps t c =
     let first = first-is _ _ c.parts_at-parts.result c.args.cell c.parts_at-parts.ensures c.as_slice.ensures in
     let second = second-is _ _ c.parts_at-parts.result c.args.cell c.parts_at-parts.ensures c.as_slice.ensures in
     let a = group-walks x c.args.cell c.args.place g c.requires.filled c.in-Group.number (get_or ts c.in-Group.body nothing) (tree-more x c.args.cell _ _ (ap (node_tree ts) c.in-Group.is) c.requires.node) c.requires.found in
-    costs-up x c.args.cell c.parts_at-parts.result.first c.args.place c.args.count.now.made c.walk-end.result c.walk-end.new.count.made (group c.in-Group.number (get_or ts c.in-Group.body nothing)) (get_or ts c.in-Group.body nothing) ((tree-more x c.args.cell _ _ (ap (node_tree ts) c.in-Group.is) c.requires.node)).tree (ap (λ (j : ℕ). item_tree ts (cell_at x.plan.now.cells j).item) first ∙ group-tree x c.args.cell c.args.place c.requires.filled.ready c.in-Group.number (get_or ts c.in-Group.body nothing) (tree-more x c.args.cell _ _ (ap (node_tree ts) c.in-Group.is) c.requires.node)) refl refl c.walk-end.ensures.steps
+    costs-up x c.args.cell c.parts_at-parts.result.first c.args.place c.args.count.now.made c.walk-end.result c.walk-end.new.count.made (group c.in-Group.number (get_or ts c.in-Group.body nothing)) (get_or ts c.in-Group.body nothing) ((tree-more x c.args.cell _ _ (ap (node_tree ts) c.in-Group.is) c.requires.node)).tree (ap (λ (j : ℕ). item_tree ts (cell_at x.plan.now.cells j).item) first ∙ group-tree x c.args.cell c.args.place c.requires.filled.ready c.in-Group.number (get_or ts c.in-Group.body nothing) (tree-more x c.args.cell _ _ (ap (node_tree ts) c.in-Group.is) c.requires.node)) refl refl refl c.walk-end.ensures.steps
 
 pub walk_node-returns-in-Atomic-clause-steps : goal.walk_node-returns-in-Atomic-clause-steps
 walk_node-returns-in-Atomic-clause-steps t c =
@@ -375,7 +376,7 @@ walk_node-returns-in-Atomic-clause-steps t c =
     let first = first-is _ _ c.parts_at-parts.result c.args.cell c.parts_at-parts.ensures c.as_slice.ensures in
     let second = second-is _ _ c.parts_at-parts.result c.args.cell c.parts_at-parts.ensures c.as_slice.ensures in
     let a = atomic-walks x c.args.cell c.args.place g c.requires.filled (get_or ts c.in-Atomic.field-0 nothing) (tree-more x c.args.cell _ _ (ap (node_tree ts) c.in-Atomic.is) c.requires.node) c.requires.found in
-    costs-up x c.args.cell c.parts_at-parts.result.first c.args.place c.args.count.now.made c.walk-in-Atomic.result c.walk-in-Atomic.new.count.made (atomic (get_or ts c.in-Atomic.field-0 nothing)) (get_or ts c.in-Atomic.field-0 nothing) ((tree-more x c.args.cell _ _ (ap (node_tree ts) c.in-Atomic.is) c.requires.node)).tree (ap (λ (j : ℕ). item_tree ts (cell_at x.plan.now.cells j).item) first ∙ atomic-tree x c.args.cell c.args.place c.requires.filled.ready (get_or ts c.in-Atomic.field-0 nothing) (tree-more x c.args.cell _ _ (ap (node_tree ts) c.in-Atomic.is) c.requires.node)) refl refl c.walk-in-Atomic.ensures.steps
+    costs-up x c.args.cell c.parts_at-parts.result.first c.args.place c.args.count.now.made c.walk-in-Atomic.result c.walk-in-Atomic.new.count.made (atomic (get_or ts c.in-Atomic.field-0 nothing)) (get_or ts c.in-Atomic.field-0 nothing) ((tree-more x c.args.cell _ _ (ap (node_tree ts) c.in-Atomic.is) c.requires.node)).tree (ap (λ (j : ℕ). item_tree ts (cell_at x.plan.now.cells j).item) first ∙ atomic-tree x c.args.cell c.args.place c.requires.filled.ready (get_or ts c.in-Atomic.field-0 nothing) (tree-more x c.args.cell _ _ (ap (node_tree ts) c.in-Atomic.is) c.requires.node)) refl refl refl c.walk-in-Atomic.ensures.steps
 
 pub walk_node-returns-then-leads-clause-steps : goal.walk_node-returns-then-leads-clause-steps
 walk_node-returns-then-leads-clause-steps t c =
@@ -390,7 +391,7 @@ walk_node-returns-then-leads-clause-steps t c =
     let e = alt-trees x c.args.cell c.args.place c.requires.filled.ready ta tb (tree-more x c.args.cell _ _ (ap (node_tree ts) c.in-Alternation.is) c.requires.node) in
     let s = costs-of x c.parts_at-parts.result.first c.args.place c.args.count.now.made c.walk-then-leads.result c.walk-then-leads.new.count.made ta (ap (λ (j : ℕ). item_tree ts (cell_at x.plan.now.cells j).item) first ∙ e.0) c.walk-then-leads.ensures.steps in
     costs-is x c.args.cell c.args.place c.args.count.now.made c.walk-then-leads.result (suc c.walk-then-leads.new.count.made) (alt ta tb) ((tree-more x c.args.cell _ _ (ap (node_tree ts) c.in-Alternation.is) c.requires.node)).tree
-    (left-cost (walk_cost ta) (walk_cost tb) (look_cost ta) (look_cost tb) (suc (length x.text.now)) (c.walk-then-leads.result - c.args.place) c.args.count.now.made c.walk-then-leads.new.count.made s)
+    (left-cost (stay_cost ta) (stay_cost tb) (read_cost ta) (read_cost tb) (look_cost ta) (look_cost tb) (suc (length x.text.now)) (c.walk-then-leads.result - c.args.place) c.args.count.now.made c.walk-then-leads.new.count.made s)
 
 pub walk_node-returns-else-leads-clause-steps : goal.walk_node-returns-else-leads-clause-steps
 walk_node-returns-else-leads-clause-steps t c =
@@ -405,7 +406,7 @@ walk_node-returns-else-leads-clause-steps t c =
     let e = alt-trees x c.args.cell c.args.place c.requires.filled.ready ta tb (tree-more x c.args.cell _ _ (ap (node_tree ts) c.in-Alternation.is) c.requires.node) in
     let s = costs-of x c.parts_at-parts.result.second c.args.place c.args.count.now.made c.walk-in-Alternation.result c.walk-in-Alternation.new.count.made tb (ap (λ (j : ℕ). item_tree ts (cell_at x.plan.now.cells j).item) second ∙ e.1) c.walk-in-Alternation.ensures.steps in
     costs-is x c.args.cell c.args.place c.args.count.now.made c.walk-in-Alternation.result (suc c.walk-in-Alternation.new.count.made) (alt ta tb) ((tree-more x c.args.cell _ _ (ap (node_tree ts) c.in-Alternation.is) c.requires.node)).tree
-    (right-cost (walk_cost ta) (walk_cost tb) (look_cost ta) (look_cost tb) (suc (length x.text.now)) (c.walk-in-Alternation.result - c.args.place) c.args.count.now.made c.walk-in-Alternation.new.count.made s)
+    (right-cost (stay_cost ta) (stay_cost tb) (read_cost ta) (read_cost tb) (look_cost ta) (look_cost tb) (suc (length x.text.now)) (c.walk-in-Alternation.result - c.args.place) c.args.count.now.made c.walk-in-Alternation.new.count.made s)
 
 pub walk_node-returns-in-Sequence-clause-steps : goal.walk_node-returns-in-Sequence-clause-steps
 walk_node-returns-in-Sequence-clause-steps t c =
@@ -426,7 +427,7 @@ walk_node-returns-in-Sequence-clause-steps t c =
     let u = costs-of x c.parts_at-parts.result.first c.args.place c.args.count.now.made c.walk-middle.result c.walk-middle.new.count.made ta (ap (λ (j : ℕ). item_tree ts (cell_at x.plan.now.cells j).item) first ∙ e) c.walk-middle.ensures.steps in
     let v = costs-of x c.follows-second.result c.walk-middle.result c.walk-middle.new.count.made c.walk.result c.walk.new.count.made tb s.is_tree c.walk.ensures.steps in
     costs-is x c.args.cell c.args.place c.args.count.now.made c.walk.result (suc c.walk.new.count.made) (seq ta tb) ((tree-more x c.args.cell _ _ (ap (node_tree ts) c.in-Sequence.is) c.requires.node)).tree
-    (seq-cost (walk_cost ta) (walk_cost tb) (look_cost ta) (look_cost tb) (suc (length x.text.now)) (c.walk.result - c.args.place) (c.walk-middle.result - c.args.place) (c.walk.result - c.walk-middle.result)
+    (seq-cost (stay_cost ta) (stay_cost tb) (read_cost ta) (read_cost tb) (look_cost ta) (look_cost tb) (suc (length x.text.now)) (c.walk.result - c.args.place) (c.walk-middle.result - c.args.place) (c.walk.result - c.walk-middle.result)
     c.args.count.now.made c.walk-middle.new.count.made c.walk.new.count.made (omega (arith, on.0, more.0)) (omega (arith, on.0, more.0)) u v)
 
 pub walk_node-returns-else-facts_at-clause-steps : goal.walk_node-returns-else-facts_at-clause-steps
@@ -446,7 +447,7 @@ walk_node-returns-else-facts_at-clause-steps t c =
     sym (ap (λ (f : Facts). f.bare) (c.facts_at.ensures ∙ ap (λ l. facts_at l c.in-Ahead.body) c.as_slice-in-Ahead.ensures ∙ c.requires.filled.ready.plan_is.facts_are c.in-Ahead.body)) ∙ c.if-facts_at.false in
     let looks : look_cost (ahead c.in-Ahead.negated b) ≡ walk_cost b + look_cost b =
     ap (λ (n : Bool). if n || is_bare b then 0 else walk_cost b + look_cost b) c.if-negated.false ∙ ap (λ (n : Bool). if n then 0 else walk_cost b + look_cost b) bare in
-    let v = look-costs (walk_cost b) (look_cost b) (suc (length x.text.now)) (c.walk-in-Ahead.result - c.args.place) c.args.count.now.made c.walk-in-Ahead.new.count.made (omega (arith, on.1)) u in
+    let v = look-costs (stay_cost b) (read_cost b) (look_cost b) (suc (length x.text.now)) (c.walk-in-Ahead.result - c.args.place) c.args.count.now.made c.walk-in-Ahead.new.count.made (omega (arith, on.1)) u in
     let none : c.args.place - c.args.place ≡ 0 = omega arith in
     costs-is x c.args.cell c.args.place c.args.count.now.made c.args.place (suc c.walk-in-Ahead.new.count.made) (ahead c.in-Ahead.negated b) at.tree (rw (looks, none) v)
 
@@ -457,8 +458,8 @@ walk_turns-returns-clause-steps t c =
     let i = c.turns.invariant in
     let test = sym c.takes_turn.ensures in
     let tree : Tree = item_tree (trees_of x.program.now) (cell_at x.plan.now.cells c.args.cell).item in
-    let cost = turns-cost (walk_cost i.goes.body) (look_cost (item_tree (trees_of x.program.now) (cell_at x.plan.now.cells c.args.cell).item)) (suc (length x.text.now)) (c.turns.at - c.args.place) c.args.count.now.made c.turns.count.made i.goes.paid in
-    record { steps = rw i.goes.cost cost }
+    let cost = turns-cost (stay_cost i.goes.body) (read_cost i.goes.body) (look_cost (item_tree (trees_of x.program.now) (cell_at x.plan.now.cells c.args.cell).item)) (suc (length x.text.now)) (c.turns.at - c.args.place) c.args.count.now.made c.turns.count.made i.goes.paid in
+    record { steps = rw (i.goes.stays, i.goes.reads) cost }
 
 pub walk_turns-returns-then-end-at-clause-steps : goal.walk_turns-returns-then-end-at-clause-steps
 walk_turns-returns-then-end-at-clause-steps t c =
@@ -468,13 +469,13 @@ walk_turns-returns-then-end-at-clause-steps t c =
     let test = sym c.takes_turn.ensures in
     let first = first-is _ _ c.parts_at-first.result c.turns.turn c.parts_at-first.ensures c.as_slice.ensures in
     let u = costs-of x c.parts_at-first.result.first c.turns.at c.turns.count.made c.walk-end.result c.walk-end.new.count.made i.goes.body (ap (λ (j : ℕ). item_tree (trees_of x.program.now) (cell_at x.plan.now.cells j).item) first ∙ turn-tree x c.turns.turn c.turns.at g i.filled c.args.greedy c.turns.least c.turns.most i.goes.body i.goes.is_loop i.goes.found (test ∙ c.turns-test.true)) c.walk-end.ensures.steps in
-    let v = subst (λ (l : ℕ). c.walk-end.new.count.made ≤ c.turns.count.made + (walk_cost i.goes.body * suc (c.walk-end.result - c.turns.at) + l * (suc (length x.text.now)))) i.goes.calm u in
+    let v = subst (λ (l : ℕ). c.walk-end.new.count.made ≤ c.turns.count.made + (stay_cost i.goes.body + read_cost i.goes.body * (c.walk-end.result - c.turns.at) + l * (suc (length x.text.now)))) i.goes.calm u in
     let none : c.walk-end.result - c.turns.at ≡ 0 = omega (arith, c.if-end-at.true) in
-    let w = subst (λ (y : ℕ). c.walk-end.new.count.made ≤ c.turns.count.made + (walk_cost i.goes.body * suc y + 0 * (suc (length x.text.now)))) none v in
+    let w = subst (λ (y : ℕ). c.walk-end.new.count.made ≤ c.turns.count.made + (stay_cost i.goes.body + read_cost i.goes.body * y + 0 * (suc (length x.text.now)))) none v in
     let far : c.turns.at - c.args.place ≡ c.walk-end.result - c.args.place = ap (λ (e : ℕ). e - c.args.place) (sym c.if-end-at.true) in
-    let paid = subst (λ (y : ℕ). c.turns.count.made ≤ c.args.count.now.made + (walk_cost i.goes.body + walk_cost i.goes.body) * y) far i.goes.paid in
-    let cost = last-cost (walk_cost i.goes.body) (look_cost (item_tree (trees_of x.program.now) (cell_at x.plan.now.cells c.args.cell).item)) (suc (length x.text.now)) (c.walk-end.result - c.args.place) c.args.count.now.made c.turns.count.made c.walk-end.new.count.made paid w in
-    record { steps = rw i.goes.cost cost }
+    let paid = subst (λ (y : ℕ). c.turns.count.made ≤ c.args.count.now.made + (stay_cost i.goes.body + read_cost i.goes.body) * y) far i.goes.paid in
+    let cost = last-cost (stay_cost i.goes.body) (read_cost i.goes.body) (look_cost (item_tree (trees_of x.program.now) (cell_at x.plan.now.cells c.args.cell).item)) (suc (length x.text.now)) (c.walk-end.result - c.args.place) c.args.count.now.made c.turns.count.made c.walk-end.new.count.made paid w in
+    record { steps = rw (i.goes.stays, i.goes.reads) cost }
 
 pub walk_turns-turns-init : goal.walk_turns-turns-init
 walk_turns-turns-init t c =
@@ -488,7 +489,8 @@ walk_turns-turns-init t c =
         size = refl;
         same = λ e l w. w;
         later = omega arith;
-        cost = ap walk_cost c.requires.turns.at.tree;
+        stays = ap stay_cost c.requires.turns.at.tree;
+        reads = ap read_cost c.requires.turns.at.tree;
         calm = loop-calm x c.args.cell c.args.place c.requires.filled.ready c.args.greedy c.args.least c.args.most c.requires.turns.body c.requires.turns.at;
         paid = omega arith;
       };

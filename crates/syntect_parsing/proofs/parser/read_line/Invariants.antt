@@ -1,9 +1,14 @@
+use Rattle.std.proofs.Common.{◌-◌}
 use Rattle.syntect_parsing.specs.Step.{turns_left}
 use Rattle.syntect_parsing.proofs.Runs.{ReadSoFar}
+use Rattle.syntect_parsing.proofs.WorkLaws.{StepsSoFar}
 use Rattle.syntect_parsing.proofs.parser.read_line.Given as goal
 
 abbrev pub invariant-loop-e : goal.invariant-loop-e
-invariant-loop-e l = ReadSoFar l.set l.line l.state l.p l.ops.items l.fn.count.made l.count.made l.turns
+invariant-loop-e l = record {
+  read : ReadSoFar l.set l.line l.state l.p l.ops.items l.fn.count.made l.count.made l.turns;
+  steps : StepsSoFar l.set l.line l.state l.p (l.count.made - l.fn.count.made) l.fn.regions.steps.made l.regions.steps.made;
+}
 
 abbrev pub decreases-loop-e : goal.decreases-loop-e
 decreases-loop-e l = turns_left l.set l.line l.p

@@ -1,8 +1,11 @@
-use Rattle.std.proofs.Common.{rules, map, find, ap, ◌∙◌}
+use Rattle.std.proofs.Common.{rules, ◌≡◌, sym, ◌+◌, ◌≤◌, List, length, subst, map, find, ap, ◌∙◌}
 use Rattle.std.specs.List.{flat_map}
+use Rattle.syntect_winner.specs.Chain.{Member, chain_at}
 use Rattle.syntect_winner.specs.Parts.{seen_part, part_members}
+use Rattle.syntect_winner.specs.Steps.{AreWithin, turn_steps}
 use Rattle.syntect_winner.proofs.PartLaws.{parts_make_chain}
 use Rattle.syntect_parsing.proofs.ChainLaws.{chain_wins, chain_steps}
+use Rattle.syntect_parsing.proofs.WorkLaws.{chain_known}
 use Rattle.syntect_parsing.proofs.turn.best_match.Goals as goal
 
 pub returns-clause-chosen : goal.returns-clause-chosen
@@ -18,3 +21,12 @@ returns-clause-wins c =
     (search rules) (search rules) (λ f. ap (find f)
     (parts_make_chain c.args.reader.now.set.now c.args.reader.now.position.now c.in-Some.top.now c.in-Some-context_at.context.now c.as_slice-2.result.now
     (ap (map seen_part) c.as_slice-2.ensures.value ∙ c.in_ok-parts.ensures))) c.in_ok-best_of_chain.ensures.best
+
+pub returns-clause-steps : goal.returns-clause-steps
+returns-clause-steps c = λ most all.
+    let same : flat_map (part_members c.args.reader.now.set.now) c.as_slice-2.result.now ≡ chain_at c.args.reader.now.set.now c.args.reader.now.position.now =
+    parts_make_chain c.args.reader.now.set.now c.args.reader.now.position.now c.in-Some.top.now c.in-Some-context_at.context.now c.as_slice-2.result.now
+    (ap (map seen_part) c.as_slice-2.ensures.value ∙ c.in_ok-parts.ensures)
+    ∙ chain_known c.args.reader.now.set.now c.args.reader.now.position.now c.in-Some.top.now c.in-Some-context_at.context.now (search rules) (search rules) in
+    subst (λ (ms : List Member). c.best_of_chain.new.regions.steps.made ≤ c.args.regions.now.steps.made + turn_steps (length ms) most (length c.args.reader.now.line.now)) same
+    (c.in_ok-best_of_chain.ensures.steps most (subst (λ (ms : List Member). AreWithin (length c.args.reader.now.line.now) most ms) (sym same) all))

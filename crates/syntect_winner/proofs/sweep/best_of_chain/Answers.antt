@@ -1,6 +1,18 @@
-use Rattle.std.proofs.Common.{arith}
-use Rattle.syntect_winner.proofs.SweepLaws.{chain_ended, chain_won}
+use Rattle.std.proofs.Common.{false, arith, length}
+use Rattle.std.specs.List.{flat_map}
+use Rattle.syntect_winner.specs.Parts.{part_members}
+use Rattle.syntect_winner.specs.Steps.{place_steps}
+use Rattle.syntect_winner.proofs.SweepLaws.{all_first, chain_ended, chain_won}
+use Rattle.syntect_winner.proofs.StepLaws.{of_parts, places_begin, spent, spent_last}
 use Rattle.syntect_winner.proofs.sweep.best_of_chain.Goals as goal
+
+pub places-init : goal.places-init
+places-init c = record {
+  near = omega arith;
+  within = c.args.reader.now.boundary.0;
+  ahead = all_first c.args.reader.now false c.in_ok-runs.runs.items;
+  steps = λ w all. places_begin c.args.regions.now.steps.made (length c.args.reader.now.line.now) c.args.reader.now.position.now.place (place_steps (length (flat_map (part_members c.args.reader.now.set.now) c.args.parts.now)) w);
+}
 
 pub best_at-requires-clause-runs : goal.best_at-requires-clause-runs
 best_at-requires-clause-runs c = rw c.as_slice-in-places.ensures.value c.in_ok-runs.ensures.runs
@@ -26,6 +38,11 @@ places-preserved-else-next-reader c = record {
   near = omega (arith, c.places.invariant.near, c.next_place-next.ensures.later);
   within = omega (arith, c.if-next-reader.false);
   ahead = rw c.as_slice-in-places.ensures.value at (c.in_ok-found.ensures.best (rw c.as_slice-in-places.ensures.value (rw c.as_slice.ensures.value at c.next_place-next.ensures.ahead c.places.lost c.in_ok-runs.ensures.runs c.places.invariant.ahead))).ahead c.if-found.false;
+  steps = λ w all.
+      spent c.places.regions.steps.made c.best_at.new.regions.steps.made c.args.regions.now.steps.made _ _ _ (place_steps (length (flat_map (part_members c.args.reader.now.set.now) c.args.parts.now)) w) (c.places.invariant.steps w all)
+      (of_parts c.args.reader.now.set.now c.as_slice-in-places.result.now c.args.parts.now (length c.args.reader.now.line.now) w c.places.regions.steps.made c.best_at.new.regions.steps.made
+      (rw c.as_slice-in-places.ensures.value c.in_ok-runs.ensures.parts) (c.in_ok-found.ensures.steps w) all)
+      (omega (arith, c.next_place-next.ensures.later, c.if-next-reader.false));
 }
 
 pub places-preserved-else-next-reader-2 : goal.places-preserved-else-next-reader-2
@@ -33,6 +50,11 @@ places-preserved-else-next-reader-2 c = record {
   near = omega (arith, c.places.invariant.near, c.next_place-next.ensures.later);
   within = omega (arith, c.if-next-reader.false);
   ahead = rw c.as_slice-in-places.ensures.value at (c.in_ok-found.ensures.best (rw c.as_slice-in-places.ensures.value (rw c.as_slice.ensures.value at c.next_place-next.ensures.ahead c.places.lost c.in_ok-runs.ensures.runs c.places.invariant.ahead))).ahead c.if-found.false;
+  steps = λ w all.
+      spent c.places.regions.steps.made c.best_at.new.regions.steps.made c.args.regions.now.steps.made _ _ _ (place_steps (length (flat_map (part_members c.args.reader.now.set.now) c.args.parts.now)) w) (c.places.invariant.steps w all)
+      (of_parts c.args.reader.now.set.now c.as_slice-in-places.result.now c.args.parts.now (length c.args.reader.now.line.now) w c.places.regions.steps.made c.best_at.new.regions.steps.made
+      (rw c.as_slice-in-places.ensures.value c.in_ok-runs.ensures.parts) (c.in_ok-found.ensures.steps w) all)
+      (omega (arith, c.next_place-next.ensures.later, c.if-next-reader.false));
 }
 
 pub places-preserved : goal.places-preserved
@@ -40,4 +62,23 @@ places-preserved c = record {
   near = omega (arith, c.places.invariant.near, c.next_place-next.ensures.later);
   within = omega (arith, c.if-next-reader.false);
   ahead = rw c.as_slice-in-places.ensures.value at (c.in_ok-found.ensures.best (rw c.as_slice-in-places.ensures.value (rw c.as_slice.ensures.value at c.next_place-next.ensures.ahead c.places.lost c.in_ok-runs.ensures.runs c.places.invariant.ahead))).ahead c.if-found.false;
+  steps = λ w all.
+      spent c.places.regions.steps.made c.best_at.new.regions.steps.made c.args.regions.now.steps.made _ _ _ (place_steps (length (flat_map (part_members c.args.reader.now.set.now) c.args.parts.now)) w) (c.places.invariant.steps w all)
+      (of_parts c.args.reader.now.set.now c.as_slice-in-places.result.now c.args.parts.now (length c.args.reader.now.line.now) w c.places.regions.steps.made c.best_at.new.regions.steps.made
+      (rw c.as_slice-in-places.ensures.value c.in_ok-runs.ensures.parts) (c.in_ok-found.ensures.steps w) all)
+      (omega (arith, c.next_place-next.ensures.later, c.if-next-reader.false));
 }
+
+pub returns-then-found-clause-steps : goal.returns-then-found-clause-steps
+returns-then-found-clause-steps c = λ w all.
+    spent_last c.places.regions.steps.made c.best_at.new.regions.steps.made c.args.regions.now.steps.made _ _ (place_steps (length (flat_map (part_members c.args.reader.now.set.now) c.args.parts.now)) w) (c.places.invariant.steps w all)
+    (of_parts c.args.reader.now.set.now c.as_slice-in-places.result.now c.args.parts.now (length c.args.reader.now.line.now) w c.places.regions.steps.made c.best_at.new.regions.steps.made
+    (rw c.as_slice-in-places.ensures.value c.in_ok-runs.ensures.parts) (c.in_ok-found.ensures.steps w) all)
+    (omega (arith, c.places.invariant.within))
+
+pub returns-then-next-reader-clause-steps : goal.returns-then-next-reader-clause-steps
+returns-then-next-reader-clause-steps c = λ w all.
+    spent_last c.places.regions.steps.made c.best_at.new.regions.steps.made c.args.regions.now.steps.made _ _ (place_steps (length (flat_map (part_members c.args.reader.now.set.now) c.args.parts.now)) w) (c.places.invariant.steps w all)
+    (of_parts c.args.reader.now.set.now c.as_slice-in-places.result.now c.args.parts.now (length c.args.reader.now.line.now) w c.places.regions.steps.made c.best_at.new.regions.steps.made
+    (rw c.as_slice-in-places.ensures.value c.in_ok-runs.ensures.parts) (c.in_ok-found.ensures.steps w) all)
+    (omega (arith, c.places.invariant.within))

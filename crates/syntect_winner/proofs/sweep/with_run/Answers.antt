@@ -1,8 +1,9 @@
-use Rattle.std.proofs.Common.{◌+◌, ◌++◌, take, inl, inr}
+use Rattle.std.proofs.Common.{◌∙◌, ◌+◌, ◌-◌, ◌*◌, ◌++◌, ap, length, take, inl, inr, arith}
 use Rattle.syntect_winner.specs.Ahead.{list_in}
 use Rattle.syntect_winner.specs.Parts.{flat_members}
 use Rattle.syntect_winner.specs.Reader.{matches_of}
 use Rattle.syntect_winner.proofs.SweepLaws.{begun, begun_ahead, none_held, one_held, run_ended, skipped, skipped_ahead, stepped, stepped_ahead, still_from, still_up_to}
+use Rattle.syntect_winner.proofs.StepLaws.{more_room, run_spent, spent}
 use Rattle.syntect_winner.proofs.sweep.with_run.Goals.{then-loop-index-test+else-is_none, else-loop-index-test}
 use Rattle.syntect_winner.proofs.sweep.with_run.Goals as goal
 
@@ -17,6 +18,7 @@ loop-index-init c = record {
   ahead = λ ms a h is.
       begun_ahead c.dialect_finds_in_text.ensures c.args.reader.now c.args.place c.args.run.now c.requires.run c.args.lost.now c.next_in-index.result
       c.next_in-index.ensures.plain c.next_in-index.ensures.passed a;
+  steps = λ w all. omega (arith, more_room (length c.as_slice-count.result.now - c.next_in-index.result) (length c.as_slice-count.result.now) (2 * w) (omega arith));
 }
 
 pub loop-index-preserved : goal.loop-index-preserved
@@ -47,6 +49,9 @@ loop-index-preserved c = record {
       is
       (still_up_to c.dialect_finds_in_text.ensures c.args.reader.now c.args.place c.args.run.now c.loop-index.lost c.with_pattern.new.lost (c.args.place + 1) c.loop-index.index c.in_ok-best.ensures.lost
       (c.loop-index.invariant.ahead ms a h (c.in_ok-best.ensures.grows is))));
+  steps = λ w all.
+      spent c.loop-index.regions.steps.made c.with_pattern.new.regions.steps.made c.args.regions.now.steps.made _ _ _ (2 * w) (c.loop-index.invariant.steps w all) (c.in_ok-best.ensures.steps w all)
+      (omega (arith, c.loop-index-test.true, c.next_in-index-in-loop-index.ensures.later));
 }
 
 pub returns-clause-best : goal.returns-clause-best
@@ -58,3 +63,7 @@ returns-clause-best c = λ ms a h.
       | else-loop-index-test w ↦ inl (rw (c.as_slice-count.ensures, c.list_in.ensures) at w.loop-index-test.false)
     ])
     (still_from c.dialect_finds_in_text.ensures c.args.reader.now c.args.place c.args.run.now c.args.lost.now c.loop-index.lost c.loop-index.index c.loop-index.invariant.lost a)
+
+pub returns-clause-steps : goal.returns-clause-steps
+returns-clause-steps c = λ w all.
+    run_spent c.args.reader.now.set.now c.args.run.now w c.args.regions.now.steps.made c.loop-index.regions.steps.made _ (length c.as_slice-count.result.now) c.requires.run (ap length (c.as_slice-count.ensures ∙ c.list_in.ensures)) (c.loop-index.invariant.steps w all)

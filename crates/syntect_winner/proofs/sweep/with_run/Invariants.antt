@@ -1,7 +1,8 @@
-use Rattle.std.proofs.Common.{◌≡◌, ◌+◌, ◌++◌, ◌-◌, List, take, true, false}
-use Rattle.syntect_winner.specs.Ahead.{AreAhead, AreAheadUpTo, IsBestAt, list_in}
+use Rattle.std.proofs.Common.{◌≡◌, ℕ, ◌+◌, ◌*◌, ◌≤◌, ◌++◌, ◌-◌, List, length, take, true, false}
+use Rattle.syntect_winner.specs.Ahead.{AreAhead, AreAheadUpTo, IsBestAt, list_in, run_members}
 use Rattle.syntect_winner.specs.Parts.{flat_members}
 use Rattle.syntect_winner.specs.Reader.{AreGroupsBy, matches_of}
+use Rattle.syntect_winner.specs.Steps.{AreWithin}
 use Rattle.syntect_winner.specs.Turn.{Live}
 use Rattle.syntect_winner.proofs.sweep.with_run.Given as goal
 
@@ -14,6 +15,7 @@ invariant-loop-index l = record {
       → IsBestAt l.reader l.place (ms ++ matches_of l.reader (flat_members l.reader.set.now l.run.part (take l.index (list_in l.run.flats)))) l.best;
   ahead : (ms : List Live) → AreAhead l.reader l.fn.lost l.place l.run → IsBestAt l.reader l.place ms l.fn.best
       → l.best.is_match ≡ false → AreAheadUpTo l.reader l.lost (l.place + 1) l.run l.index;
+  steps : (w : ℕ) → AreWithin (length l.reader.line.now) w (run_members l.reader.set.now l.run) → l.regions.steps.made + (l.count - l.index) * (2 * w) ≤ l.fn.regions.steps.made + l.count * (2 * w);
 }
 
 abbrev pub decreases-loop-index : goal.decreases-loop-index

@@ -23,4 +23,4 @@ returns-clause-best c = λ ms g a h n b.
 
 pub returns-then-m-place-clause-groups : goal.returns-then-m-place-clause-groups
 returns-then-m-place-clause-groups c = λ h.
-    groups_led c.args.reader.now c.in-Some.m c.led_by.result.candidate _ c.keep.new.self.best c.led_by.ensures.candidate (c.keep.ensures ∙ c.in_ok-m.ensures.groups c.in-Some.m c.in-Some.is)
+    groups_led c.args.reader.now c.in-Some.m c.led_by.result.candidate _ c.keep.new.self.best c.led_by.ensures.candidate (c.keep.ensures.best ∙ c.in_ok-m.ensures.groups c.in-Some.m c.in-Some.is)

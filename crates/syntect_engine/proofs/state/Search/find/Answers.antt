@@ -9,19 +9,19 @@ pub returns-in-Some-true-clause-finds : goal.returns-in-Some-true-clause-finds
 returns-in-Some-true-clause-finds c = λ tree is.
     let s = c.args.text.now in
     let next = c.next_start-place.result in
-    let groups = c.begins_at.new.self.groups.items in
-    let here : found_at s tree next ≡ Some groups = sym (answer_holds c.in_ok-begins_at.field-0 c.in-Some-true.field-0 true (λ (b : Bool). FindsAt s c.args.program.now next (groups_of b c.begins_at.new.self)) c.in-Some-true.is c.in-Some-true.field-0-test c.in_ok-begins_at.ensures.finds tree is) in
+    let groups = c.begins_there.new.self.groups.items in
+    let here : found_at s tree next ≡ Some groups = sym (answer_holds c.in_ok-begins_there.field-0 c.in-Some-true.field-0 true (λ (b : Bool). FindsAt s c.args.program.now next (groups_of b c.begins_there.new.self)) c.in-Some-true.is c.in-Some-true.field-0-test c.in_ok-begins_there.ensures.finds tree is) in
     sym (found-here s tree next groups c.next_start-place.ensures.inside here)
     ∙ sym (found-jump s tree c.loop-place.place next c.next_start-place.ensures.later (omega (arith, c.next_start-place.ensures.inside)) (λ k p q. c.next_start-place.ensures.skipped k p q tree is))
     ∙ c.loop-place.invariant.same tree is
 
 pub loop-place-preserved : goal.loop-place-preserved
 loop-place-preserved c = record {
-  paid = λ l. c.in_ok-begins_at.ensures.steps l ∙ c.loop-place.invariant.paid l;
+  paid = λ l. c.in_ok-begins_there.ensures.steps l ∙ c.loop-place.invariant.paid l;
   same = λ tree is.
       let s = c.args.text.now in
       let next = c.next_start-place.result in
-      let nothing_here : found_at s tree next ≡ None = sym (answer_holds c.in_ok-begins_at.field-0 c.in-Some-false.field-0 false (λ (b : Bool). FindsAt s c.args.program.now next (groups_of b c.begins_at.new.self)) c.in-Some-false.is c.in-Some-false.field-0-test c.in_ok-begins_at.ensures.finds tree is) in
+      let nothing_here : found_at s tree next ≡ None = sym (answer_holds c.in_ok-begins_there.field-0 c.in-Some-false.field-0 false (λ (b : Bool). FindsAt s c.args.program.now next (groups_of b c.begins_there.new.self)) c.in-Some-false.is c.in-Some-false.field-0-test c.in_ok-begins_there.ensures.finds tree is) in
       rw add-one (sym (found-step s tree next c.next_start-place.ensures.inside nothing_here)
       ∙ sym (found-jump s tree c.loop-place.place next c.next_start-place.ensures.later (omega (arith, c.next_start-place.ensures.inside)) (λ k p q. c.next_start-place.ensures.skipped k p q tree is))
       ∙ c.loop-place.invariant.same tree is);

@@ -44,12 +44,12 @@ returns-in-Some-true-clause-finds c = λ tree is.
     let s = c.args.text.now in
     let next = c.next_start-place.result in
     let inside = c.next_start-place.ensures.inside in
-    let groups = c.begins_at.new.self.groups.items in
+    let groups = c.begins_there.new.self.groups.items in
     let within : next ≤ length s = elim c.if-last-text.branch [
       | then-last-text w ↦ omega (arith, inside, w.end-is, w.if-last-text.true)
       | else-last-text w ↦ omega (arith, inside, w.end-is)
     ] in
-    let here : found_at s tree next ≡ Some groups = sym (answer_holds c.in_ok-begins.begins c.in-Some-true.field-0 true (λ (b : Bool). FindsAt s c.args.program.now next (groups_of b c.begins_at.new.self)) c.in-Some-true.is c.in-Some-true.field-0-test c.in_ok-begins.ensures.finds tree is) in
+    let here : found_at s tree next ≡ Some groups = sym (answer_holds c.in_ok-begins.begins c.in-Some-true.field-0 true (λ (b : Bool). FindsAt s c.args.program.now next (groups_of b c.begins_there.new.self)) c.in-Some-true.is c.in-Some-true.field-0-test c.in_ok-begins.ensures.finds tree is) in
     sym (c.loop-place.invariant.same tree is)
     ∙ found-jump s tree c.loop-place.place next c.next_start-place.ensures.later (omega (arith, within)) (λ k p q. c.next_start-place.ensures.skipped k p q tree is)
     ∙ found-here s tree next groups within here
@@ -67,7 +67,7 @@ loop-place-preserved c =
       within = omega (arith, c.if-place-last.false);
       paid = λ l. c.in_ok-begins.ensures.steps l ∙ c.loop-place.invariant.paid l;
       same = λ tree is.
-          let nothing_here : found_at s tree next ≡ None = sym (answer_holds c.in_ok-begins.begins c.in-Some-false.field-0 false (λ (b : Bool). FindsAt s c.args.program.now next (groups_of b c.begins_at.new.self)) c.in-Some-false.is c.in-Some-false.field-0-test c.in_ok-begins.ensures.finds tree is) in
+          let nothing_here : found_at s tree next ≡ None = sym (answer_holds c.in_ok-begins.begins c.in-Some-false.field-0 false (λ (b : Bool). FindsAt s c.args.program.now next (groups_of b c.begins_there.new.self)) c.in-Some-false.is c.in-Some-false.field-0-test c.in_ok-begins.ensures.finds tree is) in
           rw add-one (sym (found-step s tree next within nothing_here)
           ∙ sym (found-jump s tree c.loop-place.place next c.next_start-place.ensures.later (omega (arith, within)) (λ k p q. c.next_start-place.ensures.skipped k p q tree is))
           ∙ c.loop-place.invariant.same tree is);

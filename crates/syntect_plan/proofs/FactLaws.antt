@@ -1,0 +1,43 @@
+-- What is known of the nodes of a table.
+use Rattle.std.proofs.Common.{◌≡◌, ℕ, zero, suc, ◌+◌, ◌<◌, List, [], ◌∷◌, ◌++◌, length, take, get_or, refl, sym, ap, ◌∙◌, arith, zero-add}
+use Rattle.std.proofs.lemmas.List.{take_more, length-take-le}
+use Rattle.syntect_pattern.specs.Trees.{Tree, nothing}
+use Rattle.syntect_pattern_table.specs.Table.{node_tree, trees, trees_from}
+use Rattle.syntect_pattern_table.specs.declared.node.Node.{Node}
+use Rattle.syntect_pattern_table.proofs.TableLaws.{trees-append, length-trees_from}
+use Rattle.syntect_plan.specs.Facts.{facts_of, facts_at, AreFacts}
+use Rattle.syntect_plan.specs.declared.facts.Facts.{Facts}
+
+-- one more of each of two lists
+pub facts-push : (fs : List Facts) (ts : List Tree) (f : Facts) (t : Tree) → length fs ≡ length ts → AreFacts fs ts → f ≡ facts_of t → AreFacts (fs ++ f ∷ []) (ts ++ t ∷ [])
+facts-push [] [] f t l a e zero = e
+facts-push [] [] f t l a e (suc n) = refl
+facts-push [] (u ∷ ts) f t l a e n = absurd (omega arith)
+facts-push (x ∷ fs) [] f t l a e n = absurd (omega arith)
+facts-push (x ∷ fs) (u ∷ ts) f t l a e zero = a zero
+facts-push (x ∷ fs) (u ∷ ts) f t l a e (suc n) = facts-push fs ts f t (omega arith) (λ k. a (suc k)) e n
+
+pub trees-take : (nodes : List Node) (i : ℕ) (d : Node) → i < length nodes → trees (take (i + 1) nodes) ≡ trees (take i nodes) ++ node_tree (trees (take i nodes)) (get_or nodes i d) ∷ []
+unfolding trees
+trees-take nodes i d l = ap (trees_from []) (take_more nodes i d l) ∙ trees-append [] (take i nodes) (get_or nodes i d ∷ [])
+
+pub length-trees : (nodes : List Node) → length (trees nodes) ≡ length nodes
+unfolding trees
+length-trees nodes = length-trees_from [] nodes ∙ zero-add (length nodes)
+
+pub facts-more : (nodes : List Node) (fs new : List Facts) (f : Facts) (i : ℕ) (x : Node) → new ≡ fs ++ f ∷ [] → length fs ≡ i → i < length nodes → x ≡ get_or nodes i x
+    → AreFacts fs (trees (take i nodes)) → f ≡ facts_of (node_tree (trees (take i nodes)) x) → AreFacts new (trees (take (i + 1) nodes))
+facts-more nodes fs new f i x e l inside is a right =
+    let ts : List Tree = trees (take i nodes) in
+    let long : length fs ≡ length ts = l ∙ sym (length-trees (take i nodes) ∙ length-take-le i nodes (omega arith)) in
+    let here : f ≡ facts_of (node_tree ts (get_or nodes i x)) = right ∙ ap (λ (n : Node). facts_of (node_tree ts n)) is in
+    let pushed : AreFacts (fs ++ f ∷ []) (ts ++ node_tree ts (get_or nodes i x) ∷ []) = facts-push fs ts f (node_tree ts (get_or nodes i x)) long a here in
+    rw (e, trees-take nodes i x inside) pushed
+
+pub facts-none : (fs : List Facts) → fs ≡ [] → AreFacts fs (trees [])
+unfolding trees
+facts-none fs e n = rw e (none n)
+  where
+    none : (n : ℕ) → facts_at [] n ≡ facts_of (get_or (trees_from [] []) n nothing)
+    none zero = refl
+    none (suc n) = refl

@@ -1,0 +1,10 @@
+pub mod ReachLaws
+pub mod TreeLaws
+pub mod OnwardLaws
+pub mod FactLaws
+pub mod PlanLaws
+pub mod FoldLaws
+pub mod CellLaws
+pub mod BuildLaws
+pub mod MakesLaws
+pub mod LinearLaws

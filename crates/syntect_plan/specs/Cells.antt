@@ -1,0 +1,89 @@
+-- The cells of a plan, and what goes on from them.
+use Rattle.std.specs.Prelude.{ℕ, zero, suc, ◌+◌, Bool, true, false, List, [], ◌∷◌, ◌++◌, Some, if◌then◌else◌, slice_index_or}
+use Rattle.syntect_pattern.specs.Trees.{Tree, nothing, seq, alt, repeat, group, atomic, ahead, behind}
+use Rattle.syntect_plan.specs.Onward.{Onward, moved, reads, onward}
+use Rattle.syntect_plan.specs.declared.cells.Item.{Item}
+use Rattle.syntect_plan.specs.declared.cells.Item.TheVariants.{End, Node, Turns}
+use Rattle.syntect_plan.specs.declared.cells.Source.{Source}
+use Rattle.syntect_plan.specs.declared.cells.Source.TheVariants.{Own, Shared, Beside}
+use Rattle.syntect_plan.specs.declared.cells.Cell.{Cell}
+use Rattle.syntect_plan.specs.declared.cells.Parts.{Parts}
+
+-- there the whole match ends
+abbrev pub last_cell : Cell
+last_cell = record { item = End; empty = 0; next = 0; source = Own }
+
+-- the cell with the number
+abbrev pub cell_at : List Cell → ℕ → Cell
+cell_at cells k = slice_index_or cells k last_cell
+
+abbrev pub beside_or : ℕ → Source → ℕ
+beside_or k Own = k
+beside_or k (Shared p) = k
+beside_or k (Beside p) = p
+
+-- the cell of the same item before what goes on behind this one alone, which may be this one
+abbrev pub partner_of : List Cell → ℕ → ℕ
+partner_of cells k = beside_or k (cell_at cells k).source
+
+-- the cells of its parts
+abbrev pub parts_at : List Parts → ℕ → Parts
+parts_at parts k = slice_index_or parts k (record { first = 0; second = 0 })
+
+-- the nodes of a tree, and two for a part that is matched on its own
+abbrev pub tree_size : Tree → ℕ
+tree_size (seq a b) = suc (tree_size a + tree_size b)
+tree_size (alt a b) = suc (tree_size a + tree_size b)
+tree_size (repeat greedy least most a) = suc (tree_size a)
+tree_size (group n a) = suc (tree_size a)
+tree_size (atomic a) = suc (suc (tree_size a))
+tree_size (ahead negated a) = suc (suc (tree_size a))
+tree_size (behind negated a) = suc (tree_size a)
+tree_size _ = suc zero
+
+-- the tree of an item
+abbrev pub item_tree : List Tree → Item → Tree
+item_tree ts End = nothing
+item_tree ts (Node n) = slice_index_or ts n nothing
+item_tree ts (Turns greedy least most n) = repeat greedy least most (slice_index_or ts n nothing)
+
+module _ (s : List ℕ) (ts : List Tree) where
+  -- where the whole match ends that goes on with the item, before what goes on at the place and behind it
+  abbrev pub item_end : Onward → Onward → Item → Onward
+  item_end f g End i = Some i
+  item_end f g (Node n) i = onward s (item_tree ts (Node n)) (moved i f g) i
+  item_end f g (Turns greedy least most n) i = onward s (item_tree ts (Turns greedy least most n)) (moved i f g) i
+
+  abbrev pub cell_end : List Onward → Cell → Onward
+  cell_end before c = item_end (slice_index_or before c.empty Some) (slice_index_or before c.next Some) c.item
+
+  abbrev pub ends_from : List Onward → List Cell → List Onward
+  ends_from before [] = before
+  ends_from before (c ∷ cells) = ends_from (before ++ cell_end before c ∷ []) cells
+
+  -- where the whole match ends that goes on with the cell, for each place
+  unfoldable pub ends : List Cell → ℕ → Onward
+  ends cells k = slice_index_or (ends_from [] cells) k Some
+
+-- the whole match ends there
+abbrev pub is_end : Item → Bool
+is_end End = true
+is_end _ = false
+
+module _ (ts : List Tree) where
+  -- how much of the pattern can be gone through at one place from the item on, before what goes on at the place
+  abbrev pub item_height : ℕ → Item → ℕ
+  item_height rest End = zero
+  item_height rest (Node n) = tree_size (item_tree ts (Node n)) + (if reads (item_tree ts (Node n)) then 0 else rest)
+  item_height rest (Turns greedy least most n) = tree_size (item_tree ts (Turns greedy least most n)) + (if reads (item_tree ts (Turns greedy least most n)) then 0 else rest)
+
+  abbrev pub cell_height : List ℕ → Cell → ℕ
+  cell_height before c = item_height (slice_index_or before c.empty 0) c.item
+
+  abbrev pub heights_from : List ℕ → List Cell → List ℕ
+  heights_from before [] = before
+  heights_from before (c ∷ cells) = heights_from (before ++ cell_height before c ∷ []) cells
+
+  -- the same of the cell with the number
+  unfoldable pub height : List Cell → ℕ → ℕ
+  height cells k = slice_index_or (heights_from [] cells) k 0

@@ -1,0 +1,161 @@
+//! What the matches of nodes have in common.
+ghost use Rattle.std.specs.Prelude.{◌≡◌, IfOk, List};
+ghost use Rattle.syntect_pattern.specs.Trees.{Tree, seq, alt};
+ghost use Rattle.syntect_pattern_table.specs.Table.{node_tree, trees};
+ghost use Rattle.syntect_plan.specs.Facts as spec;
+ghost use Rattle.syntect_plan.specs.Facts.{AreFacts};
+
+use std::alloc::{AllocError, Global};
+use syntect_pattern_table::node::Node;
+use syntect_values::seq::Seq;
+
+/// What is known of a node's matches.
+#[derive(Clone, Copy)]
+pub struct Facts {
+    /// Each of them reads something.
+    pub reads: bool,
+    /// A lookbehind can look for the node.
+    pub plain: bool,
+    /// There is no back reference, and what lookbehinds look for is plain.
+    pub free: bool,
+    /// There is no group.
+    pub bare: bool,
+    /// No lookahead there sets groups.
+    pub calm: bool,
+}
+
+/// A node that reads nothing.
+const STAYS: Facts = Facts {
+    reads: false,
+    plain: true,
+    free: true,
+    bare: true,
+    calm: true,
+};
+
+/// What is known of the node with the number.
+#[inline]
+pub fn facts_at(facts: &[Facts], node: usize) -> Facts
+    ensures { result ≡ spec.facts_at facts.now node }
+{
+    facts.get(node).copied().unwrap_or(STAYS)
+}
+
+/// One part after the other.
+fn in_sequence(a: Facts, b: Facts) -> Facts
+    ensures { (t u : Tree) → a ≡ spec.facts_of t → b ≡ spec.facts_of u
+        → result ≡ spec.facts_of (seq t u) }
+{
+    Facts {
+        reads: a.reads || b.reads,
+        plain: a.plain && b.plain,
+        free: a.free && b.free,
+        bare: a.bare && b.bare,
+        calm: a.calm && b.calm,
+    }
+}
+
+/// One of two parts.
+fn one_of_two(a: Facts, b: Facts) -> Facts
+    ensures { (t u : Tree) → a ≡ spec.facts_of t → b ≡ spec.facts_of u
+        → result ≡ spec.facts_of (alt t u) }
+{
+    Facts {
+        reads: a.reads && b.reads,
+        plain: a.plain && b.plain,
+        free: a.free && b.free,
+        bare: a.bare && b.bare,
+        calm: a.calm && b.calm,
+    }
+}
+
+/// What is known of the node, by what is known of those before it.
+fn node_facts(node: &Node, before: &[Facts]) -> Facts
+    ensures { (ts : List Tree) → AreFacts before.now ts
+        → result ≡ spec.facts_of (node_tree ts node.now) }
+{
+    match node {
+        Node::Nothing | Node::Anchor(_) => STAYS,
+        Node::Char(_) | Node::Class(_) => Facts {
+            reads: true,
+            plain: true,
+            free: true,
+            bare: true,
+            calm: true,
+        },
+        Node::Same { fold: _, group: _ } => Facts {
+            reads: false,
+            plain: false,
+            free: false,
+            bare: true,
+            calm: true,
+        },
+        Node::Sequence(first, second) => {
+            in_sequence(facts_at(before, *first), facts_at(before, *second))
+        }
+        Node::Alternation(first, second) => {
+            one_of_two(facts_at(before, *first), facts_at(before, *second))
+        }
+        Node::Repeat {
+            greedy: _,
+            least,
+            most: _,
+            body,
+        } => {
+            let body = facts_at(before, *body);
+            Facts {
+                reads: *least > 0 && body.reads,
+                plain: false,
+                free: body.free && body.calm,
+                bare: body.bare,
+                calm: body.calm,
+            }
+        }
+        Node::Group { number: _, body } => {
+            let body = facts_at(before, *body);
+            Facts {
+                reads: body.reads,
+                plain: false,
+                free: body.free,
+                bare: false,
+                calm: body.calm,
+            }
+        }
+        Node::Atomic(body) => Facts {
+            plain: false,
+            ..facts_at(before, *body)
+        },
+        Node::Ahead { negated, body } => {
+            let body = facts_at(before, *body);
+            Facts {
+                reads: false,
+                plain: false,
+                free: body.free,
+                bare: body.bare,
+                calm: *negated || body.bare,
+            }
+        }
+        Node::Behind { negated: _, body } => {
+            let body = facts_at(before, *body);
+            Facts {
+                reads: false,
+                plain: false,
+                free: body.plain,
+                bare: body.bare,
+                calm: true,
+            }
+        }
+    }
+}
+
+/// What is known of each node.
+pub fn facts_of(alloc: Global, nodes: &[Node]) -> Result<Seq<Facts>, AllocError>
+    ensures { IfOk result (λ fs. AreFacts fs (trees nodes.now)) }
+{
+    let mut facts = Vec::new(alloc);
+    for node in nodes {
+        let next = node_facts(node, facts.as_slice());
+        facts.push(next)?;
+    }
+    Ok(Seq::from_vec(facts))
+}

@@ -1,0 +1,7 @@
+//! The plan of a pattern: its parts with what goes on behind each, by which a search needn't back up.
+#![tactic(auto)]
+
+pub mod cells;
+pub mod facts;
+pub mod order;
+pub mod plan;

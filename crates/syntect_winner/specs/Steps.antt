@@ -1,0 +1,27 @@
+-- How many steps the searches of a turn take at most.
+use Rattle.std.specs.Prelude.{◌≡◌, ℕ, ◌+◌, ◌*◌, nat_le, Bool, true, ◌&&◌, List}
+use Rattle.std.specs.List.{list_all}
+use Rattle.syntect_regex.specs.Bounds.{pattern_is_linear, search_bound}
+use Rattle.syntect_winner.specs.Chain.{Member}
+use Rattle.syntect_winner.specs.Engine.{dialect}
+use Rattle.syntect_winner.specs.Turn.{searched_text}
+
+-- what is searched for the member is linear, and a search of it in a text so long takes at most so many steps
+abbrev pub is_within : ℕ → ℕ → Member → Bool
+is_within long most m = let text = searched_text dialect m.pattern m.opening in pattern_is_linear text && nat_le (search_bound text long) most
+
+abbrev pub IsWithin : ℕ → ℕ → Member → Type 0
+IsWithin long most m = is_within long most m ≡ true
+
+-- so it is with each of these
+abbrev pub AreWithin : ℕ → ℕ → List Member → Type 0
+AreWithin long most ms = list_all (is_within long most) ms ≡ true
+
+-- the most steps of so many patterns at a place: each is tried there, and where matches were passed over, since they don't
+-- count, it is searched once more
+abbrev pub place_steps : ℕ → ℕ → ℕ
+place_steps patterns most = patterns * (2 * most)
+
+-- the most steps of a turn with a chain of so many patterns, in a line so long: it looks at each place, and at the line's end
+abbrev pub turn_steps : ℕ → ℕ → ℕ → ℕ
+turn_steps patterns most long = place_steps patterns most * (long + 1)
