@@ -20,7 +20,7 @@ use syntect_ways::text::is_boundary;
 fn nothing_known(alloc: Global, count: usize) -> Result<Known, AllocError>
     ensures { IfOk result (λ now. now.items ≡ replicate count None) }
 {
-    let mut now = Vec::new(alloc);
+    let mut now = Vec::with_capacity(alloc, count)?;
     for _cell in 0..count {
         now.push(None)?;
     }
@@ -93,8 +93,8 @@ pub fn rows_from(
         ≤ count.old.made + 6 * length plan.now.cells * (length text.now + 1)) }
 {
     let order = order_of(alloc, program, plan)?;
-    let mut rows = Vec::new(alloc);
     let mut left = text.len() - begin + 1;
+    let mut rows = Vec::with_capacity(alloc, left)?;
     'places: while left > 0 {
         left -= 1;
         let ground = Ground {

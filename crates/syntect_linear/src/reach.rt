@@ -15,6 +15,7 @@ use syntect_ways::past::{past_char, past_class};
 
 /// Where the whole match ends, if the cell goes on at the place.
 #[cycle(reach)]
+#[inline(always)]
 pub fn reach(
     ground: &Ground,
     now: &mut Known,
@@ -42,6 +43,7 @@ pub fn reach(
 
 /// The same where the test holds, and else none.
 #[cycle(reach)]
+#[inline(always)]
 fn reach_if(
     ground: &Ground,
     now: &mut Known,
@@ -68,6 +70,7 @@ fn reach_if(
 
 /// The same as `reach`, by the cell's item.
 #[cycle(reach)]
+#[inline(never)]
 fn reach_item(
     ground: &Ground,
     now: &mut Known,
