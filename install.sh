@@ -172,8 +172,8 @@ start=$(date +%s)
 state=$(mktemp -d)
 trap 'rm -rf "$state"' EXIT
 mkdir -p "$build"
-echo "Proving the $all crates that $program stands on, on $processors processors. A first build takes about half an hour"
-echo "on four free processors, and more on fewer; a later one takes what has changed. Each line is a crate that stands."
+echo "Proving the $all crates that $program stands on, on $processors processors. A first build takes some forty minutes"
+echo "on four processors, and more on fewer; a later one takes what has changed. Each line is a crate that stands."
 for crate in $crates; do
     work "$crate" &
 done
