@@ -35,7 +35,7 @@ pub struct Firsts {
 
 /// Nothing can stand there.
 #[tactic(auto, using(crate::proofs::PlaceLaws::none_in))]
-pub(crate) fn nowhere() -> Places
+pub fn nowhere() -> Places
     ensures { (x : ℕ) → spec.is_in result x ≡ false }
 {
     Places {
@@ -47,7 +47,7 @@ pub(crate) fn nowhere() -> Places
 
 /// Anything can stand there.
 #[tactic(auto, using(crate::proofs::PlaceLaws::all_in))]
-fn anywhere() -> Places
+pub fn anywhere() -> Places
     ensures { (x : ℕ) → spec.is_in result x ≡ true }
 {
     Places {
@@ -59,7 +59,7 @@ fn anywhere() -> Places
 
 /// What is in one of the two.
 #[tactic(auto, using(crate::proofs::PlaceLaws::either_in))]
-pub(crate) fn either(a: Places, b: Places) -> Places
+pub fn either(a: Places, b: Places) -> Places
     ensures { (x : ℕ) → spec.is_in result x ≡ (spec.is_in a x || spec.is_in b x) }
 {
     Places {
@@ -95,7 +95,7 @@ pub fn is_in(places: Places, x: u8) -> bool
 }
 
 /// Where the character can stand.
-fn places_of_char(wanted: char) -> Places
+pub fn places_of_char(wanted: char) -> Places
     ensures { (x : ℕ) → x < 130 → spec.is_in result x ≡ spec.can_hold (range wanted wanted) x }
 {
     if wanted.is_ascii() {
@@ -114,7 +114,7 @@ fn places_of_char(wanted: char) -> Places
 }
 
 /// Where a character of the class can stand.
-fn places_of_class(class: &Class) -> Places
+pub fn places_of_class(class: &Class) -> Places
     ensures { (x : ℕ) → x < 130 → spec.is_in result x ≡ spec.can_hold (set_of class.now) x }
 {
     Places {
@@ -161,7 +161,7 @@ fn places_of_anchor(anchor: Anchor) -> Places
 }
 
 /// Where the one behind the other can begin.
-fn in_sequence(a: Firsts, b: Firsts) -> Firsts
+pub fn in_sequence(a: Firsts, b: Firsts) -> Firsts
     ensures { (x : ℕ) → begins_at x result ≡ sequence_begins (begins_at x a) (begins_at x b) }
 {
     Firsts {
@@ -171,7 +171,7 @@ fn in_sequence(a: Firsts, b: Firsts) -> Firsts
 }
 
 /// Where one of the two can begin.
-fn one_of_two(a: Firsts, b: Firsts) -> Firsts
+pub fn one_of_two(a: Firsts, b: Firsts) -> Firsts
     ensures { (x : ℕ) → begins_at x result ≡ either_begins (begins_at x a) (begins_at x b) }
 {
     Firsts {
@@ -181,7 +181,7 @@ fn one_of_two(a: Firsts, b: Firsts) -> Firsts
 }
 
 /// Where a loop of at least so many turns can begin.
-fn in_loop(a: Firsts, least: u32) -> Firsts
+pub fn in_loop(a: Firsts, least: u32) -> Firsts
     ensures { (x : ℕ) → begins_at x result ≡ looped_begins (least == 0) (begins_at x a) }
 {
     let stay = if least == 0 { anywhere() } else { a.stay };
@@ -189,7 +189,7 @@ fn in_loop(a: Firsts, least: u32) -> Firsts
 }
 
 /// Where a lookahead can begin.
-fn ahead(a: Firsts, negated: bool) -> Firsts
+pub fn ahead(a: Firsts, negated: bool) -> Firsts
     ensures { (x : ℕ) → begins_at x result ≡ looked_begins negated (begins_at x a) }
 {
     let stay = if negated {

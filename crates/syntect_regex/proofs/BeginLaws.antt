@@ -14,8 +14,10 @@ use Rattle.syntect_pattern_table.specs.declared.starts.Places.{Places}
 use Rattle.syntect_pattern_table.proofs.BeginLaws.{start-past, start-ascii, start-wide}
 use Rattle.syntect_pattern_table.proofs.StartLaws.{found_at-nothing}
 use Rattle.syntect_engine.proofs.FindLaws.{found-past, found-step}
-use Rattle.syntect_pattern_reader.specs.Compiled.{IsCompiled}
-use Rattle.syntect_regex.specs.Begins.{BeginsAtEdges, IsAtEdges, NoneBeginsOutside}
+use Rattle.syntect_pattern_reader.specs.Compiled.{Compiles, IsCompiled}
+use Rattle.syntect_regex.specs.Begins.{BeginsAtEdges, IsAtEdges, NoneBeginsBefore, NoneBeginsOutside}
+use Rattle.syntect_word_ends.specs.Ends.{IsWordUpTo, StandsBehind, ends, passes}
+use Rattle.syntect_word_ends.proofs.EndLaws.{none-in_word}
 
 start-bound : (s : List ℕ) (i : ℕ) → start_at s i < 130
 start-bound s i = elim (cases_lt i (length s)) [
@@ -67,3 +69,20 @@ none-off-edges s tree i h out = go (is_boundary s i)
 pub edges-found : (pattern : List ℕ) (p : Program) → IsCompiled pattern p → IsAtEdges (get_or (trees_of p) p.root nothing) → BeginsAtEdges pattern
 edges-found pattern p is h s i out =
     pattern-next s pattern is.tree i is.reads (found-next s is.tree i (none-off-edges s is.tree i (subst IsAtEdges is.program.root h) out))
+
+-- ---- in words ----
+
+-- what can stand behind words by the root of a program
+pub none-before : (pattern : List ℕ) (p : Program) → IsCompiled pattern p → (places : Places) → StandsBehind places (get_or (trees_of p) p.root nothing) → NoneBeginsBefore places pattern
+none-before pattern p is places behind s u i e word out =
+    let x : ℕ = start_at s e in
+    let dead : (passes is.tree x || ends is.tree x) ≡ false =
+    sym (ap (λ (t : Tree). passes t x || ends t x) is.program.root) ∙ behind x (start-bound s e) out in
+    pattern-next s pattern is.tree i is.reads (found-next s is.tree i (none-in_word s u is.tree i e word dead))
+
+-- so it is of a text that is no pattern
+pub none-compiled : (pattern : List ℕ) (program : Option Program) → Compiles pattern program → (places : Places)
+    → ((p : Program) → program ≡ Some p → StandsBehind places (get_or (trees_of p) p.root nothing)) → NoneBeginsBefore places pattern
+none-compiled pattern None is places h s u i e word out =
+    ap (λ (o : Option Tree). option_and_then (λ t. found s t i) o) is ∙ sym (ap (λ (o : Option Tree). option_and_then (λ t. found s t (i + 1)) o) is)
+none-compiled pattern (Some p) is places h s u i e word out = none-before pattern p is places (h p refl) s u i e word out

@@ -5,6 +5,7 @@ use Rattle.syntect_pattern.specs.Matches.{Groups, is_word_edge, matches}
 use Rattle.syntect_pattern.specs.Pattern.{pattern_found}
 use Rattle.syntect_pattern_table.specs.Starts.{is_in, start_at}
 use Rattle.syntect_pattern_table.specs.declared.starts.Places.{Places}
+use Rattle.syntect_word_ends.specs.Ends.{IsWordUpTo}
 
 -- no match of the pattern begins at a place where something stands that is none of these
 abbrev pub NoneBeginsOutside : Places → List ℕ → Type 0
@@ -18,4 +19,9 @@ IsAtEdges tree = (s : List ℕ) (place : ℕ) (g : Groups) → is_word_edge s pl
 -- no match of the pattern begins but where a word begins or ends
 abbrev pub BeginsAtEdges : List ℕ → Type 0
 BeginsAtEdges pattern = (s : List ℕ) → (place : ℕ) → is_word_edge s place ≡ false
+    → pattern_found pattern s place ≡ pattern_found pattern s (place + 1)
+
+-- no match of the pattern begins in a word that has something behind it which is none of these
+abbrev pub NoneBeginsBefore : Places → List ℕ → Type 0
+NoneBeginsBefore places pattern = (s : List ℕ) → IsUtf8 s → (place e : ℕ) → IsWordUpTo s place e → is_in places (start_at s e) ≡ false
     → pattern_found pattern s place ≡ pattern_found pattern s (place + 1)

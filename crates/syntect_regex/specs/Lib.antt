@@ -2,6 +2,7 @@ pub use Rattle.syntect_pattern.specs.Pattern
 pub use Rattle.syntect_pattern.specs.Matches
 pub use Rattle.syntect_pattern.specs.Nesting
 pub use Rattle.syntect_pattern.specs.Found
+pub use Rattle.syntect_word_ends.specs.Ends
 pub mod Region
 pub mod Escape
 pub mod Begins

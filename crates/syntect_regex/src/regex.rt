@@ -1,15 +1,17 @@
 //! Patterns.
-ghost use Rattle.std.specs.Prelude.{◌≡◌, ℕ, ◌+◌, ◌≤◌, length, ◌==◌, ◌++◌, encode_utf8_all, OnOk, take, drop, string_bytes, IfOk, OnErr, IfSome, IfNone, IsCharBoundary, is_some, is_ok, unwrap_or, option_and_then, if◌then◌else◌, None, true};
+ghost use Rattle.std.specs.Prelude.{◌≡◌, ℕ, ◌+◌, ◌≤◌, length, ◌==◌, ◌++◌, encode_utf8_all, OnOk, take, drop, string_bytes, IfOk, OnErr, IfSome, IfNone, IsCharBoundary, is_some, is_ok, unwrap_or, option_and_then, if◌then◌else◌, None, Some, slice_index_or, true};
 ghost use Rattle.std.specs.Cmp.Lexicographic.{pointwise};
 ghost use Rattle.std.proofs.Common.{rules};
 ghost use Rattle.std.specs.Cmp.Rules.{comparing};
-ghost use Rattle.syntect_pattern.specs.Trees.{group_in_look};
+ghost use Rattle.syntect_pattern.specs.Trees.{group_in_look, nothing};
 ghost use Rattle.syntect_pattern.specs.Pattern.{pattern_tree, pattern_found};
 ghost use Rattle.syntect_pattern.specs.Found.{IsPatternMatch};
-ghost use Rattle.syntect_pattern_table.specs.Starts.{is_in};
+ghost use Rattle.syntect_pattern_table.specs.Program.{trees_of};
+ghost use Rattle.syntect_pattern_table.specs.declared.program.Program.{Program};
+ghost use Rattle.syntect_word_ends.specs.Ends.{StandsBehind};
 ghost use Rattle.syntect_pattern.specs.declared.error.PatternError.{PatternError};
 ghost use Rattle.syntect_regex.specs.Bounds.{pattern_is_linear, search_bound};
-ghost use Rattle.syntect_regex.specs.Begins.{NoneBeginsOutside, BeginsAtEdges};
+ghost use Rattle.syntect_regex.specs.Begins.{NoneBeginsBefore, NoneBeginsOutside, BeginsAtEdges};
 ghost use Rattle.syntect_regex.specs.Escape.{is_special, escaped_char, escaped};
 ghost use Rattle.syntect_regex.specs.Region.{TakesMatch, TakesUpTo, TriesAt, Leaves, pattern_begins};
 
@@ -22,15 +24,18 @@ use std::marker::Model;
 use syntect_engine::state::Search;
 use syntect_pattern_reader::compiler::compile;
 use syntect_pattern_table::program::Program;
-use syntect_pattern_table::starts::Places;
+use syntect_pattern_table::starts::{Places, anywhere};
 use syntect_plan::plan::Plan;
 use syntect_turns::count::TurnCount;
+use syntect_word_ends::ends::behind_words;
 
 /// A pattern, ready to be searched. It is its text: equal texts are equal patterns.
 pub struct Regex {
     text: String,
     /// None if the text is no pattern.
     program: Option<Program>,
+    /// What can stand behind a word in which a match begins.
+    behind: Places,
 }
 
 /// Written out, so that crates above call it and needn't prove each part's drop again.
@@ -39,6 +44,7 @@ impl Drop for Regex {
         let Regex {
             text: _,
             program: _,
+            behind: _,
         } = self;
     }
 }
@@ -46,12 +52,14 @@ impl Drop for Regex {
 impl Model for Regex {
     ghost use Rattle.std.specs.Prelude.{List, ℕ, string_bytes};
     ghost use Rattle.syntect_pattern_reader.specs.Compiled.{Compiles};
+    ghost use Rattle.syntect_regex.specs.Begins.{NoneBeginsBefore};
 
     ghost Value = { List ℕ };
 
     ghost view = { λ a. string_bytes a.text };
 
-    ghost invariant = { λ a. Compiles (string_bytes a.text) a.program };
+    ghost invariant = { λ a. Compiles (string_bytes a.text) a.program
+        × NoneBeginsBefore a.behind (string_bytes a.text) };
 }
 
 impl Regex {
@@ -60,7 +68,12 @@ impl Regex {
         ensures { IfOk result (λ r. r ≡ string_bytes text) }
     {
         let program = compile(alloc, text.as_str())?;
-        Ok(Regex { text, program })
+        let behind = behind_of(alloc, &program)?;
+        Ok(Regex {
+            text,
+            program,
+            behind,
+        })
     }
 
     /// Why the text is no pattern, if it is none: `NotAPattern`, or `Memory` where that was wanting.
@@ -121,6 +134,14 @@ impl Regex {
         }
     }
 
+    /// What can stand behind a word in which a match begins: in a word that has something else behind it none begins. The
+    /// word's characters are those of ASCII.
+    pub fn behind_words(&self) -> Places
+        ensures { NoneBeginsBefore result self.now }
+    {
+        self.behind
+    }
+
     /// Whether each search takes steps in proportion to the text: those of a pattern without back references, whose
     /// lookbehinds look for nothing but characters, anchors, sequences and branches, in which no lookahead in a loop sets
     /// groups, and which is not too large with its counted loops written out. A text that is no pattern is searched in no
@@ -144,12 +165,14 @@ impl Regex {
             return Ok(Regex {
                 text,
                 program: None,
+                behind: self.behind,
             });
         };
         let copy = program.clone(alloc)?;
         Ok(Regex {
             text,
             program: Some(copy),
+            behind: self.behind,
         })
     }
 
@@ -316,15 +339,14 @@ impl Regex {
     }
 }
 
-/// All that can stand at a place.
-#[tactic(auto, using(syntect_pattern_table::proofs::PlaceLaws::all_in))]
-fn anywhere() -> Places
-    ensures { (x : ℕ) → is_in result x ≡ true }
+/// What can stand behind a word in which a match of the program begins; anything where there is none.
+fn behind_of(alloc: Global, program: &Option<Program>) -> Result<Places, AllocError>
+    ensures { IfOk result (λ places. (p : Program) → program.now ≡ Some p
+        → StandsBehind places (slice_index_or (trees_of p) p.root nothing)) }
 {
-    Places {
-        ascii: u128::MAX,
-        wide: true,
-        end: true,
+    match program {
+        Some(program) => behind_words(alloc, program),
+        None => Ok(anywhere()),
     }
 }
 

@@ -10,5 +10,5 @@ pub returns-in-Some-get : goal.returns-in-Some-get
 returns-in-Some-get c =
     subst (NoneBeginsOutside c.in-Some-get.places.now) c.self.view_is
     (none-outside (string_bytes c.self.inside.text) c.in-Some.program
-    (subst (λ (o : Option Program). Compiles (string_bytes c.self.inside.text) o) c.in-Some.is c.self.invariant)
+    (subst (λ (o : Option Program). Compiles (string_bytes c.self.inside.text) o) c.in-Some.is c.self.invariant.0)
     c.in-Some-get.places.now c.in-Some-get.ensures)

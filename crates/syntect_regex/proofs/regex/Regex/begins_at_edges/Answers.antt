@@ -10,5 +10,5 @@ pub returns-in-Some : goal.returns-in-Some
 returns-in-Some c = λ yes.
     subst BeginsAtEdges c.self.view_is
     (edges-found (string_bytes c.self.inside.text) c.in-Some.program
-    (subst (λ (o : Option Program). Compiles (string_bytes c.self.inside.text) o) c.in-Some.is c.self.invariant)
+    (subst (λ (o : Option Program). Compiles (string_bytes c.self.inside.text) o) c.in-Some.is c.self.invariant.0)
     (c.is_at_edges.ensures yes))

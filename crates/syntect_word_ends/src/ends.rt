@@ -1,0 +1,168 @@
+//! What can stand behind a word in which a match begins. A pattern such as `[a-z]+\(` reads a word and then wants a
+//! parenthesis, so it needn't be tried at a word that is followed by anything else.
+ghost use Rattle.std.specs.Prelude.{◌≡◌, ◌<◌, ◌≤◌, ℕ, IfOk, List, length, slice_index_or, true};
+ghost use Rattle.std.specs.List.{list_any};
+ghost use Rattle.syntect_pattern.specs.Sets.{range};
+ghost use Rattle.syntect_pattern.specs.Trees.{Tree, nothing};
+ghost use Rattle.syntect_pattern_table.specs.Program.{trees_of};
+ghost use Rattle.syntect_pattern_table.specs.Starts.{begins_at, is_in};
+ghost use Rattle.syntect_pattern_table.specs.Table.{IsOrdered, node_tree, parts_before, set_of, trees};
+ghost use Rattle.syntect_word_ends.specs.Ends.{IsWordUpTo, Span, StandsBehind, has_word, is_word_char, spans};
+
+use std::alloc::{AllocError, Global};
+use syntect_pattern_table::node::{Class, Node};
+use syntect_pattern_table::program::Program;
+use syntect_pattern_table::starts::{
+    Firsts, Places, ahead, anywhere, either, in_loop, in_sequence, nowhere, one_of_two,
+    places_of_char, places_of_class,
+};
+
+/// The ASCII characters of words.
+const WORD_CHARS: [char; 63] = [
+    '0', '1', '2', '3', '4', '5', '6', '7', '8', '9', 'A', 'B', 'C', 'D', 'E', 'F', 'G', 'H', 'I',
+    'J', 'K', 'L', 'M', 'N', 'O', 'P', 'Q', 'R', 'S', 'T', 'U', 'V', 'W', 'X', 'Y', 'Z', '_', 'a',
+    'b', 'c', 'd', 'e', 'f', 'g', 'h', 'i', 'j', 'k', 'l', 'm', 'n', 'o', 'p', 'q', 'r', 's', 't',
+    'u', 'v', 'w', 'x', 'y', 'z',
+];
+
+/// The most characters of a word that are gone through, so that long words cost no more.
+const LONGEST: usize = 32;
+
+/// Whether the class holds an ASCII character of words.
+#[tactic(auto, unfolding(crate::specs::Ends::has_word))]
+fn class_has_word(class: &Class) -> bool
+    ensures { result ≡ has_word (set_of class.now) }
+{
+    WORD_CHARS.iter().any(|c| class.holds(*c))
+}
+
+/// Whether the character is an ASCII character of words.
+#[tactic(auto, unfolding(crate::specs::Ends::has_word))]
+fn char_has_word(wanted: char) -> bool
+    ensures { result ≡ has_word (range wanted wanted) }
+{
+    WORD_CHARS.iter().any(|c| wanted <= *c && *c <= wanted)
+}
+
+/// Anywhere, where this holds.
+fn anywhere_if(holds: bool) -> Places
+    ensures { (x : ℕ) → is_in result x ≡ holds }
+{
+    if holds { anywhere() } else { nowhere() }
+}
+
+/// Where the part at a place goes past a word and ends in it, by two lists.
+fn part(reads: &[Places], stays: &[Places], place: usize) -> Firsts
+    requires inside { place < length reads.now }
+    requires both { length stays.now ≡ length reads.now }
+    ensures { (ts : List Tree) (x : ℕ) → Span x reads.now stays.now ts
+        → begins_at x result ≡ spans x (slice_index_or ts place nothing) }
+{
+    Firsts {
+        read: reads[place],
+        stay: stays[place],
+    }
+}
+
+/// What can stand behind a word for matches of the node that begin in it: of those that go on past the word, and of those that
+/// end in it; by that of the nodes before it.
+fn spans_of_node(node: &Node, reads: &[Places], stays: &[Places]) -> Firsts
+    requires parts { parts_before (length reads.now) node.now ≡ true }
+    requires both { length stays.now ≡ length reads.now }
+    ensures { (ts : List Tree) (x : ℕ) → x < 130 → Span x reads.now stays.now ts
+        → begins_at x result ≡ spans x (node_tree ts node.now) }
+{
+    match node {
+        Node::Nothing
+        | Node::Anchor(_)
+        | Node::Behind {
+            negated: _,
+            body: _,
+        } => Firsts {
+            read: nowhere(),
+            stay: anywhere(),
+        },
+        Node::Char(wanted) => Firsts {
+            read: places_of_char(*wanted),
+            stay: anywhere_if(char_has_word(*wanted)),
+        },
+        Node::Class(class) => Firsts {
+            read: places_of_class(class),
+            stay: anywhere_if(class_has_word(class)),
+        },
+        Node::Same { fold: _, group: _ } => Firsts {
+            read: anywhere(),
+            stay: anywhere(),
+        },
+        Node::Sequence(first, second) => {
+            in_sequence(part(reads, stays, *first), part(reads, stays, *second))
+        }
+        Node::Alternation(first, second) => {
+            one_of_two(part(reads, stays, *first), part(reads, stays, *second))
+        }
+        Node::Repeat {
+            greedy: _,
+            least,
+            most: _,
+            body,
+        } => in_loop(part(reads, stays, *body), *least),
+        Node::Group { number: _, body } => part(reads, stays, *body),
+        Node::Atomic(body) => part(reads, stays, *body),
+        Node::Ahead { negated, body } => ahead(part(reads, stays, *body), *negated),
+    }
+}
+
+/// The same of each node.
+fn spans_of(alloc: Global, nodes: &[Node]) -> Result<(Vec<Places>, Vec<Places>), AllocError>
+    requires { IsOrdered nodes.now }
+    ensures reads { IfOk result (λ p. length p.0.items ≡ length nodes.now) }
+    ensures stays { IfOk result (λ p. length p.1.items ≡ length nodes.now) }
+    ensures spans { IfOk result (λ p. (x : ℕ) → x < 130
+        → Span x p.0.items p.1.items (trees nodes.now)) }
+{
+    let mut reads = Vec::with_capacity(alloc, nodes.len())?;
+    let mut stays = Vec::with_capacity(alloc, nodes.len())?;
+    for place in 0..nodes.len() {
+        let next = spans_of_node(&nodes[place], reads.as_slice(), stays.as_slice());
+        reads.push(next.read)?;
+        stays.push(next.stay)?;
+    }
+    Ok((reads, stays))
+}
+
+/// What can stand behind a word in which a match of the program begins, and up to where the word goes on.
+pub fn behind_words(alloc: Global, program: &Program) -> Result<Places, AllocError>
+    ensures { IfOk result (λ places. StandsBehind places
+        (slice_index_or (trees_of program.now) program.now.root nothing)) }
+{
+    let root = program.root;
+    let nodes = program.nodes.as_slice();
+    if root >= nodes.len() {
+        return Ok(anywhere());
+    }
+    let (reads, stays) = spans_of(alloc, nodes)?;
+    Ok(either(reads[root], stays[root]))
+}
+
+/// Whether the byte is an ASCII character of words.
+fn is_word_byte(byte: u8) -> bool
+    ensures { result ≡ is_word_char byte }
+{
+    (b'0' <= byte && byte <= b'9')
+        || ((b'A' <= byte && byte <= b'Z')
+            || ((b'_' <= byte && byte <= b'_') || (b'a' <= byte && byte <= b'z')))
+}
+
+/// Up to where the ASCII characters from a place on are those of a word. Of a long word only the front is looked at.
+pub fn word_end(text: &str, place: usize) -> usize
+    requires { place ≤ length text.now }
+    ensures { IsWordUpTo text.now place result }
+{
+    let bytes = text.as_bytes();
+    let last = bytes.len().min(place.saturating_add(LONGEST));
+    let mut end = place;
+    while end < last && is_word_byte(bytes[end]) {
+        end += 1;
+    }
+    end
+}
