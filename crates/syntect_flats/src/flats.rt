@@ -7,6 +7,8 @@ use syntect_pattern_table::starts::Places;
 pub struct Flat {
     /// What can stand at a place where a match of it begins.
     pub begins: Places,
+    /// What can stand behind a word in which a match of it begins.
+    pub behind: Places,
     /// Whether it is known that its matches begin only where a word begins or ends.
     pub at_edges: bool,
     /// The context that holds it.
@@ -15,4 +17,15 @@ pub struct Flat {
     pub index: usize,
     /// Whether it has back references into the match that opened its context.
     pub has_captures: bool,
+}
+
+/// What is seen of a place.
+#[derive(Clone, Copy)]
+pub struct Outlook {
+    /// What stands there: an ASCII character, 128 for any other one, or 129 for the end.
+    pub here: u8,
+    /// What stands behind the word's characters that stand there, which may be none.
+    pub behind: u8,
+    /// Whether it is known that no word begins or ends there.
+    pub off_edges: bool,
 }
