@@ -1,19 +1,16 @@
-//! A context's flat list, with a table that tells for each thing that can be seen of a place which patterns may begin there.
+//! A context's flat list, with a table that tells for each thing that can stand at a place which patterns can begin there.
 ghost use Rattle.std.specs.Prelude.{◌≡◌, ◌≤◌, ◌<◌, ◌+◌, ◌/◌, ◌%◌, ◌*◌, ℕ, length, IfOk, slice_index_or, true, false};
 ghost use Rattle.std.specs.Int.{bit_at};
-ghost use Rattle.syntect_flats.specs.Rows.{AreRowsOf, IsOut, IsUnset, bit_of, has_bit, may_begin};
+ghost use Rattle.syntect_pattern_table.specs.Starts.{is_in};
+ghost use Rattle.syntect_flats.specs.Rows.{AreRowsOf, IsCut, IsOut, bit_of, has_bit};
 
 use crate::flats::{Flat, Outlook};
 use std::alloc::{AllocError, Global};
 use std::marker::Model;
-use syntect_pattern_table::starts::is_in;
+use syntect_pattern_table::starts::{Places, is_in};
 
 /// How many things can stand at a place: each ASCII character, any other one, and the end.
-const STARTS: u16 = 130;
-
-/// How many things can be seen of a place: what stands there, what stands behind the word there, and that no word begins or
-/// ends there.
-const SIGHTS: u16 = 261;
+const STARTS: u8 = 130;
 
 /// The least and the greatest length of a list that has a table: a shorter one is gone through as fast.
 const SHORT: usize = 8;
@@ -24,8 +21,8 @@ const LONG: usize = 65536;
 #[derive(Drop)]
 pub struct FlatList {
     flats: Vec<Flat>,
-    /// A row of bits for each thing that can be seen of a place, each of so many words: which patterns may begin there. No
-    /// words where there is no table.
+    /// A row of bits for each thing that can stand at a place, each of so many words: which patterns can begin there. No words
+    /// where there is no table.
     rows: Vec<u64>,
     words: u16,
 }
@@ -63,33 +60,19 @@ fn set_bit(rows: &mut Vec<u64>, place: usize, bit: u32)
     }
 }
 
-/// Whether the pattern may begin where one thing is seen.
-fn may_begin(flat: &Flat, z: u16) -> bool
-    requires { z < 261 }
-    ensures { result ≡ may_begin flat.now z }
-{
-    if z < STARTS {
-        is_in(flat.begins, z as u8)
-    } else if z < STARTS + STARTS {
-        is_in(flat.behind, (z - STARTS) as u8)
-    } else {
-        !flat.at_edges
-    }
-}
-
-/// Sets the bit of a pattern in the rows of what may be seen where its matches begin.
-fn mark(rows: &mut Vec<u64>, words: u16, index: usize, flat: &Flat)
+/// Sets the bit of a pattern in the rows of what can stand where its matches begin.
+fn mark(rows: &mut Vec<u64>, words: u16, index: usize, begins: Places)
     requires { index < 65536 }
-    ensures marks { (z : ℕ) → z < 261 → may_begin flat.now z ≡ true
-        → bit_of rows.new.items words z index ≡ true }
+    ensures marks { (x : ℕ) → x < 130 → is_in begins x ≡ true
+        → bit_of rows.new.items words x index ≡ true }
     ensures others { (p b : ℕ) → has_bit rows.old.items p b ≡ true
         → has_bit rows.new.items p b ≡ true }
 {
-    for z in 0..SIGHTS {
-        if may_begin(flat, z) {
+    for x in 0..STARTS {
+        if is_in(begins, x) {
             set_bit(
                 rows,
-                z as usize * words as usize + index / 64,
+                x as usize * words as usize + index / 64,
                 (index % 64) as u32,
             );
         }
@@ -99,68 +82,41 @@ fn mark(rows: &mut Vec<u64>, words: u16, index: usize, flat: &Flat)
 /// The table of a list.
 fn rows_of(alloc: Global, words: u16, flats: &[Flat]) -> Result<Vec<u64>, AllocError>
     requires { length flats.now ≤ 65536 }
-    ensures { IfOk result (λ rows. (z k : ℕ) (d : Flat) → z < 261 → k < length flats.now
-        → may_begin (slice_index_or flats.now k d) z ≡ true
-        → bit_of rows.items words z k ≡ true) }
+    ensures { IfOk result (λ rows. (x k : ℕ) (d : Flat) → x < 130 → k < length flats.now
+        → is_in (slice_index_or flats.now k d).begins x ≡ true
+        → bit_of rows.items words x k ≡ true) }
 {
-    let mut rows = vec![in alloc; 0u64; SIGHTS as usize * words as usize]?;
+    let mut rows = vec![in alloc; 0u64; STARTS as usize * words as usize]?;
     for (index, flat) in flats.iter().enumerate() {
-        mark(&mut rows, words, index, flat);
+        mark(&mut rows, words, index, flat.begins);
     }
     Ok(rows)
 }
 
-/// Whether no match of the pattern begins where this is seen.
-fn is_out(flat: &Flat, outlook: Outlook) -> bool
-    ensures { result ≡ true → IsOut outlook flat.now }
-{
-    if !is_in(flat.begins, outlook.here) {
-        return true;
-    }
-    if !is_in(flat.behind, outlook.behind) {
-        return true;
-    }
-    outlook.off_edges && flat.at_edges
-}
-
 /// The same, pattern by pattern.
-fn next_tested(flats: &[Flat], outlook: Outlook, from: usize) -> usize
+fn next_tested(flats: &[Flat], x: u8, from: usize) -> usize
+    requires { x < 130 }
     ensures later { from ≤ result }
     ensures passed { (k : ℕ) (d : Flat) → from ≤ k → k < result → k < length flats.now
-        → IsOut outlook (slice_index_or flats.now k d) }
+        → is_in (slice_index_or flats.now k d).begins x ≡ false }
 {
     let mut next = from;
-    while next < flats.len() && is_out(&flats[next], outlook) {
+    while next < flats.len() && !is_in(flats[next].begins, x) {
         next += 1;
     }
     next
 }
 
-/// The word at the place of the row of patterns that may begin where no word begins or ends; all bits are set where it isn't
-/// known that none does.
-fn edge_word(rows: &[u64], place: usize, off_edges: bool) -> u64
-    ensures off { off_edges ≡ true
-        → result ≡ slice_index_or rows.now place 18446744073709551615 }
-    ensures on { off_edges ≡ false → result ≡ 18446744073709551615 }
+/// Whether the pattern has no match that begins where this is seen, whatever stands there.
+fn is_cut(flat: &Flat, outlook: Outlook) -> bool
+    requires { outlook.behind < 130 }
+    ensures { result ≡ true → IsCut outlook flat.now }
 {
-    if off_edges {
-        word_at(rows, place)
+    if is_in(flat.behind, outlook.behind) {
+        outlook.off_edges && flat.at_edges
     } else {
-        u64::MAX
+        true
     }
-}
-
-/// The bits of the patterns from `next` on that may begin where this is seen, of those whose bits stand in one word.
-fn rest_of(rows: &[u64], words: u16, outlook: Outlook, next: usize) -> u64
-    ensures unset { (i : ℕ) → bit_at result i ≡ 0
-        → IsUnset rows.now words outlook (next / 64) (next % 64 + i) }
-    ensures width { (i : ℕ) → bit_at result i ≡ 1 → next % 64 + i < 64 }
-{
-    let (words, place) = (words as usize, next / 64);
-    let here = word_at(rows, outlook.here as usize * words + place);
-    let behind = word_at(rows, (130 + outlook.behind as usize) * words + place);
-    let edges = edge_word(rows, 260 * words + place, outlook.off_edges);
-    (here & behind & edges) >> (next % 64)
 }
 
 impl FlatList {
@@ -188,6 +144,29 @@ impl FlatList {
         self.flats.as_slice()
     }
 
+    /// An index not below this one: no pattern from this one up to it can begin where this stands, an ASCII character, 128 for
+    /// any other one, or 129 for the end.
+    fn next_begun(&self, x: u8, from: usize) -> usize
+        requires { x < 130 }
+        ensures later { from ≤ result }
+        ensures passed { (k : ℕ) (d : Flat) → from ≤ k → k < result → k < length self.now
+            → is_in (slice_index_or self.now k d).begins x ≡ false }
+    {
+        if self.words == 0 {
+            return next_tested(self.flats.as_slice(), x, from);
+        }
+        let row = x as usize * self.words as usize;
+        let mut next = from;
+        while next < self.flats.len() {
+            let rest = word_at(self.rows.as_slice(), row + next / 64) >> (next % 64);
+            if rest != 0 {
+                return next + rest.trailing_zeros() as usize;
+            }
+            next = (next / 64 + 1) * 64;
+        }
+        next
+    }
+
     /// An index not below this one: no pattern from this one up to it can begin where this is seen. That the pattern there can
     /// begin so, unless the list ends, is what makes a search fast; no contract says it.
     pub fn next(&self, outlook: Outlook, from: usize) -> usize
@@ -197,16 +176,9 @@ impl FlatList {
         ensures passed { (k : ℕ) (d : Flat) → from ≤ k → k < result → k < length self.now
             → IsOut outlook (slice_index_or self.now k d) }
     {
-        if self.words == 0 {
-            return next_tested(self.flats.as_slice(), outlook, from);
-        }
-        let mut next = from;
-        while next < self.flats.len() {
-            let rest = rest_of(self.rows.as_slice(), self.words, outlook, next);
-            if rest != 0 {
-                return next + rest.trailing_zeros() as usize;
-            }
-            next = (next / 64 + 1) * 64;
+        let mut next = self.next_begun(outlook.here, from);
+        while next < self.flats.len() && is_cut(&self.flats[next], outlook) {
+            next = self.next_begun(outlook.here, next + 1);
         }
         next
     }

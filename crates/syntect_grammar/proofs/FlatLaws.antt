@@ -9,7 +9,7 @@ use Rattle.std.proofs.lemmas.Bool.{cases_lt}
 use Rattle.std.proofs.lemmas.List.{get_or_past}
 use Rattle.std.proofs.lemmas.List.Elements.{All-append, All-cons, All-nil, filter_map-append}
 use Rattle.std.proofs.lemmas.Option.{get_or_from_slice_get, slice_get-get_or, unwrap_or-slice_get}
-use Rattle.syntect_regex.specs.Begins.{BeginsAtEdges, NoneBeginsOutside}
+use Rattle.syntect_regex.specs.Begins.{BeginsAtEdges, NoneBeginsBefore, NoneBeginsOutside}
 use Rattle.syntect_contexts.specs.Contexts.{is_same, match_in, match_of, target}
 use Rattle.syntect_grammar.specs.Contexts.{context_at, set_of, syntaxes_in}
 use Rattle.syntect_grammar.specs.Flats.{AreFlatsOf, AreListsOf, IsTableOf, Tells, flats_at, pattern_at}
@@ -62,10 +62,10 @@ module _ (set : SyntaxSet) (flat : Flat) (id : ContextId) (k : ℕ) (m : MatchPa
       omega (arith, ap length g, length-append flats (flat ∷ []), ap length (one_more flats after g), length-append (filter_map (pattern_at set) flats) (m ∷ []), n)
 
   pub tells_more : (flats after : List Flat) → after ≡ flats ++ flat ∷ [] → flat.has_captures ≡ m.has_captures → NoneBeginsOutside flat.begins m.regex
-      → (flat.at_edges ≡ true → BeginsAtEdges m.regex) → All (Tells set) flats → All (Tells set) after
-  tells_more flats after g c b a t =
+      → NoneBeginsBefore flat.behind m.regex → (flat.at_edges ≡ true → BeginsAtEdges m.regex) → All (Tells set) flats → All (Tells set) after
+  tells_more flats after g c b f a t =
       let tells : Tells set flat =
-      subst (λ (o : Option MatchPattern). IfSome o (λ (x : MatchPattern). (flat.has_captures ≡ x.has_captures) × NoneBeginsOutside flat.begins x.regex × (flat.at_edges ≡ true → BeginsAtEdges x.regex))) (sym found_there) (c, b, a) in
+      subst (λ (o : Option MatchPattern). IfSome o (λ (x : MatchPattern). (flat.has_captures ≡ x.has_captures) × NoneBeginsOutside flat.begins x.regex × NoneBeginsBefore flat.behind x.regex × (flat.at_edges ≡ true → BeginsAtEdges x.regex))) (sym found_there) (c, b, f, a) in
       subst (All (Tells set)) (sym g) (All-append (Tells set) flats (flat ∷ []) t (All-cons (Tells set) flat [] tells (All-nil (Tells set))))
 
 -- ---- tables ----

@@ -7,7 +7,7 @@ ghost use Rattle.syntect_grammar.specs.Contexts.{context_at, set_of};
 ghost use Rattle.syntect_grammar.specs.Flats.{AreFlatsOf, AreListsOf, IsTableOf};
 ghost use Rattle.syntect_grammar.specs.Patterns.{entries};
 ghost use Rattle.syntect_grammar.specs.Walk.{at_first, entering};
-ghost use Rattle.syntect_regex.specs.Begins.{BeginsAtEdges, NoneBeginsOutside};
+ghost use Rattle.syntect_regex.specs.Begins.{BeginsAtEdges, NoneBeginsBefore, NoneBeginsOutside};
 
 use crate::syntax_definition::{Context, ContextId, ContextReference, MatchPattern, Pattern};
 use std::alloc::{AllocError, Global};
@@ -63,10 +63,12 @@ fn flat_of(context: ContextId, index: usize, m: &MatchPattern) -> Flat
     ensures index { result.index ≡ index }
     ensures captures { result.has_captures ≡ m.now.has_captures }
     ensures begins { NoneBeginsOutside result.begins m.now.regex }
+    ensures behind { NoneBeginsBefore result.behind m.now.regex }
     ensures edges { result.at_edges ≡ true → BeginsAtEdges m.now.regex }
 {
     Flat {
         begins: m.regex.begins(),
+        behind: m.regex.behind_words(),
         at_edges: m.regex.begins_at_edges(),
         context,
         index,

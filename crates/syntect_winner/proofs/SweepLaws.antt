@@ -8,12 +8,15 @@ use Rattle.std.proofs.lemmas.List.{append-nil, get_or_default, take_all}
 use Rattle.std.proofs.Math.Seq.{take-length}
 use Rattle.std.proofs.lemmas.List.Elements.{All-get_or}
 use Rattle.syntect_pattern.specs.Pattern.{pattern_found}
-use Rattle.syntect_regex.specs.Begins.{BeginsAtEdges, NoneBeginsOutside}
+use Rattle.syntect_regex.specs.Begins.{BeginsAtEdges, NoneBeginsBefore, NoneBeginsOutside}
 use Rattle.syntect_contexts.specs.declared.context.MatchPattern.{MatchPattern}
 use Rattle.syntect_grammar.specs.Flats.{pattern_at, Tells}
 use Rattle.syntect_grammar.specs.declared.syntax_set.SyntaxSet.{SyntaxSet}
+use Rattle.syntect_flats.specs.Rows.{IsOut}
 use Rattle.syntect_flats.specs.declared.flats.Flat.{Flat}
-use Rattle.syntect_winner.specs.Ahead.{AddsAll, AddsAt, AddsRun, AllAhead, AreAhead, AreAheadFrom, AreAheadUpTo, IsAhead, IsBare, IsBestAt, IsRuledOut, IsRun, list_in, run_members}
+use Rattle.syntect_flats.specs.declared.flats.Outlook.{Outlook}
+use Rattle.syntect_pattern_table.specs.Starts.{is_in}
+use Rattle.syntect_winner.specs.Ahead.{AddsAll, AddsAt, AddsRun, AllAhead, AreAhead, AreAheadFrom, AreAheadUpTo, IsAhead, IsBare, IsBestAt, IsRuledOut, IsRun, Sees, list_in, run_members}
 use Rattle.syntect_winner.specs.Engine.{dialect}
 use Rattle.syntect_winner.specs.Found.{FindsInText}
 use Rattle.syntect_winner.specs.Parts.{flat_members, part_member, part_members}
@@ -28,6 +31,12 @@ use Rattle.syntect_winner.specs.declared.reader.LineReader.{LineReader}
 use Rattle.syntect_winner.specs.declared.search.Best.{Best}
 use Rattle.syntect_winner.specs.declared.search.Candidate.{Candidate}
 use Rattle.syntect_winner.specs.declared.sweep.Run.{Run}
+
+-- what is seen of a place rules patterns out
+pub ruled_out : (o : Outlook) (line : List ℕ) (i : ℕ) (flat : Flat) → Sees o line i → IsOut o flat → IsRuledOut line i flat
+ruled_out o line i flat s (inl e) = inl (sym (ap (is_in flat.begins) s.here) ∙ e)
+ruled_out o line i flat s (inr (inl e)) = inr (inl (record { end = s.end; word = s.word; out = sym (ap (is_in flat.behind) s.behind) ∙ e }))
+ruled_out o line i flat s (inr (inr p)) = inr (inr (p.1, s.edges p.0))
 
 module _ (finds : FindsInText dialect) (reader : LineReader) (i : ℕ) (run : Run) where
   abbrev flats : List Flat
@@ -93,19 +102,20 @@ module _ (finds : FindsInText dialect) (reader : LineReader) (i : ℕ) (run : Ru
     own_text : (k : ℕ) (d : Flat) (m : MatchPattern) → k < length flats → pattern_at reader.set.now (get_or flats k d) ≡ Some m → run.replaced.items ≡ [] → m.regex ≡ searched_text dialect m (option_copied run.part.opening)
     own_text k d m l e n = (rw n at (r.replaced k d m l e))
 
-    none_here : (flat : Flat) (pattern : List ℕ) → NoneBeginsOutside flat.begins pattern × (flat.at_edges ≡ true → BeginsAtEdges pattern) → IsRuledOut reader.line.now i flat
+    none_here : (flat : Flat) (pattern : List ℕ) → NoneBeginsOutside flat.begins pattern × NoneBeginsBefore flat.behind pattern × (flat.at_edges ≡ true → BeginsAtEdges pattern) → IsRuledOut reader.line.now i flat
         → pattern_found pattern reader.line.now i ≡ pattern_found pattern reader.line.now (i + 1)
     none_here flat pattern h (inl out) = h.0 reader.line.now reader.text i out
-    none_here flat pattern h (inr off) = h.1 off.0 reader.line.now i off.1
+    none_here flat pattern h (inr (inl cut)) = h.1 reader.line.now reader.text i cut.end cut.word cut.out
+    none_here flat pattern h (inr (inr off)) = h.2 off.0 reader.line.now i off.1
 
     pub passes : (lost : Bool) (k : ℕ) (d : Flat) → k < length flats → run.replaced.items ≡ [] → IsRuledOut reader.line.now i (get_or flats k d)
         → ((m : MatchPattern) → pattern_at reader.set.now (get_or flats k d) ≡ Some m → IsAhead reader lost i (part_member run.part m))
         → (m : MatchPattern) → pattern_at reader.set.now (get_or flats k d) ≡ Some m → IsAhead reader lost (i + 1) (part_member run.part m)
     passes lost k d l n out a m e =
         let told : Tells reader.set.now (get_or flats k d) = All-get_or (Tells reader.set.now) flats k d l r.flats.tells in
-        let begins : (((get_or flats k d).has_captures ≡ m.has_captures)) × NoneBeginsOutside (get_or flats k d).begins m.regex × ((get_or flats k d).at_edges ≡ true → BeginsAtEdges m.regex) = rw e at told in
+        let begins : (((get_or flats k d).has_captures ≡ m.has_captures)) × NoneBeginsOutside (get_or flats k d).begins m.regex × NoneBeginsBefore (get_or flats k d).behind m.regex × ((get_or flats k d).at_edges ≡ true → BeginsAtEdges m.regex) = rw e at told in
         let same : m.regex ≡ searched_text dialect m (option_copied run.part.opening) = own_text k d m l e n in
-        ahead_next reader (part_member run.part m) lost i (a m e) (rw same at (none_here (get_or flats k d) m.regex (begins.1, begins.2) out))
+        ahead_next reader (part_member run.part m) lost i (a m e) (rw same at (none_here (get_or flats k d) m.regex (begins.1, begins.2, begins.3) out))
 
     -- those between two indexes that can't begin here change nothing,
     pub skipped : (lost : Bool) (b : Best) (ms : List Live) (j k : ℕ) → j ≤ k → (j < k → run.replaced.items ≡ [])

@@ -7,9 +7,11 @@ use Rattle.syntect_pattern_table.specs.Starts.{is_in, start_at}
 use Rattle.syntect_contexts.specs.Substitution.{Groups}
 use Rattle.syntect_contexts.specs.declared.context.MatchPattern.{MatchPattern}
 use Rattle.syntect_flats.specs.declared.flats.Flat.{Flat}
+use Rattle.syntect_flats.specs.declared.flats.Outlook.{Outlook}
 use Rattle.syntect_grammar.specs.Flats.{AreFlatsOf, pattern_at}
 use Rattle.syntect_grammar.specs.declared.syntax_set.SyntaxSet.{SyntaxSet}
 use Rattle.syntect_regex.specs.Region.{BeginsAt}
+use Rattle.syntect_word_ends.specs.Ends.{IsWordUpTo}
 use Rattle.syntect_winner.specs.Best.{IsBest}
 use Rattle.syntect_winner.specs.Chain.{Member}
 use Rattle.syntect_winner.specs.Engine.{dialect}
@@ -63,12 +65,26 @@ AreAhead reader lost i run = AreAheadFrom reader lost i run 0
 abbrev pub AllAhead : LineReader → Bool → ℕ → List Run → Type 0
 AllAhead reader lost i runs = (k : ℕ) (r : Run) → k < length runs → AreAhead reader lost i (slice_index_or runs k r)
 
--- No match of the pattern begins at the place: nothing that stands there begins one, or a word goes on there and the pattern's
--- matches begin only where one begins or ends.
+-- what is seen of a place of the line
+pub record Sees (o : Outlook) (line : List ℕ) (i : ℕ) : Type 0 where
+  pub here : o.here ≡ start_at line i
+  pub end : ℕ
+  pub word : IsWordUpTo line i end
+  pub behind : o.behind ≡ start_at line end
+  pub edges : o.off_edges ≡ true → is_word_edge line i ≡ false
+
+-- something stands behind the word at the place that no match of the pattern has behind a word in which it begins
+pub record IsCutOff (line : List ℕ) (i : ℕ) (flat : Flat) : Type 0 where
+  pub end : ℕ
+  pub word : IsWordUpTo line i end
+  pub out : is_in flat.behind (start_at line end) ≡ false
+
+-- No match of the pattern begins at the place: nothing that stands there begins one, or the word there is cut off, or a word
+-- goes on there and the pattern's matches begin only where one begins or ends.
 abbrev pub IsRuledOut : List ℕ → ℕ → Flat → Type 0
 IsRuledOut line i flat =
     (is_in flat.begins (start_at line i) ≡ false)
-    ⊎ ((flat.at_edges ≡ true) × (is_word_edge line i ≡ false))
+    ⊎ (IsCutOff line i flat ⊎ ((flat.at_edges ≡ true) × (is_word_edge line i ≡ false)))
 
 -- no pattern of the part can begin at the place, and each is searched as it stands
 pub record IsBare (line : List ℕ) (i : ℕ) (run : Run) : Type 0 where

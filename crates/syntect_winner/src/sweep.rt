@@ -6,7 +6,7 @@ ghost use Rattle.std.specs.List.{All, flat_map, list_any};
 ghost use Rattle.syntect_contexts.specs.declared.context.MatchPattern.{MatchPattern as APattern};
 ghost use Rattle.syntect_grammar.specs.Flats.{AreFlatsOf, pattern_at};
 ghost use Rattle.syntect_pattern.specs.Matches.{is_word_edge};
-ghost use Rattle.syntect_winner.specs.Ahead.{AddsAll, AddsAt, AddsMember, AddsRun, AllAhead, AreAhead, AreAheadFrom, AreReplaced, FindsHere, IsAhead, IsBare, IsBestAt, IsRuledOut, IsRun, list_in, run_members};
+ghost use Rattle.syntect_winner.specs.Ahead.{AddsAll, AddsAt, AddsMember, AddsRun, AllAhead, AreAhead, AreAheadFrom, AreReplaced, FindsHere, IsAhead, IsBare, IsBestAt, IsRuledOut, IsRun, Sees, list_in, run_members};
 ghost use Rattle.syntect_contexts.specs.Substitution.{Groups};
 ghost use Rattle.syntect_winner.specs.Best.{choice_by};
 ghost use Rattle.syntect_winner.specs.Candidates.{member_of};
@@ -23,7 +23,7 @@ use crate::search::{
     Best, Candidate, Entry, OwnRegex, Regions, counts, led_by, search_entry, substituted,
 };
 use std::alloc::{AllocError, Global};
-use syntect_flats::flats::Flat;
+use syntect_flats::flats::{Flat, Outlook};
 use syntect_flats::list::FlatList;
 use syntect_grammar::syntax_definition::MatchPattern;
 use syntect_grammar::syntax_set::SyntaxSet;
@@ -32,6 +32,7 @@ use syntect_pattern_table::starts::start_at;
 use syntect_regex::regex::Regex;
 use syntect_ways::anchor::stands;
 use syntect_ways::text::is_boundary;
+use syntect_word_ends::ends::word_end;
 
 /// A flat list: one that the set keeps, or one of this turn alone.
 #[derive(Drop)]
@@ -139,67 +140,57 @@ fn is_off_edges(line: &str, place: usize) -> bool
     is_boundary(line, place) && !stands(line, place, Anchor::WordEdge)
 }
 
-/// An index of a list, not below this one: no pattern from this one up to it can begin at the place, where no word begins or
-/// ends.
-fn next_apart(list: &FlatList, line: &str, place: usize, from: usize) -> usize
-    requires { is_word_edge line.now place ≡ false }
-    ensures later { from ≤ result }
-    ensures passed { (k : ℕ) (d : Flat) → from ≤ k → k < result → k < length list.now
-        → IsRuledOut line.now place (slice_index_or list.now k d) }
+/// What is seen of a place.
+fn outlook_of(line: &str, place: usize) -> Outlook
+    requires { place ≤ length line.now }
+    ensures here { result.here < 130 }
+    ensures behind { result.behind < 130 }
+    ensures sees { Sees result line.now place }
 {
-    let x = start_at(line, place);
-    let flats = list.as_slice();
-    let mut next = list.next(x, from);
-    while next < flats.len() && flats[next].at_edges {
-        next = list.next(x, next + 1);
-    }
-    next
-}
-
-/// The same for any place.
-fn next_of(list: &FlatList, line: &str, place: usize, from: usize) -> usize
-    ensures later { from ≤ result }
-    ensures passed { (k : ℕ) (d : Flat) → from ≤ k → k < result → k < length list.now
-        → IsRuledOut line.now place (slice_index_or list.now k d) }
-{
-    let next = list.next(start_at(line, place), from);
-    match list.as_slice().get(next) {
-        Some(flat) if flat.at_edges && is_off_edges(line, place) => {
-            next_apart(list, line, place, from)
-        }
-        _ => next,
+    let end = word_end(line, place);
+    Outlook {
+        here: start_at(line, place),
+        behind: start_at(line, end),
+        off_edges: is_off_edges(line, place),
     }
 }
 
-/// An index of a part, not below this one: no pattern from this one up to it can begin at the place. Where patterns are
-/// replaced none is passed over, since what they begin with is known of them as they stand.
-fn next_in(run: &Run<'_, '_>, line: &str, place: usize, from: usize) -> usize
+/// An index of a part, not below this one: no pattern from this one up to it can begin at a place of which this is seen. Where
+/// patterns are replaced none is passed over, since what they begin with is known of them as they stand.
+fn next_in(run: &Run<'_, '_>, outlook: Outlook, from: usize) -> usize
+    requires here { outlook.here < 130 }
+    requires behind { outlook.behind < 130 }
     ensures later { from ≤ result }
     ensures plain { from < result → run.now.replaced.items ≡ [] }
-    ensures passed { (k : ℕ) (d : Flat) → from ≤ k → k < result
-        → k < length (list_in run.now.flats)
-        → IsRuledOut line.now place (slice_index_or (list_in run.now.flats) k d) }
+    ensures passed { (line : List ℕ) (place : ℕ) → Sees outlook line place
+        → (k : ℕ) (d : Flat) → from ≤ k → k < result → k < length (list_in run.now.flats)
+        → IsRuledOut line place (slice_index_or (list_in run.now.flats) k d) }
 {
     if run.replaced.is_empty() {
-        next_of(list_in(&run.flats), line, place, from)
+        list_in(&run.flats).next(outlook, from)
     } else {
         from
     }
 }
 
-/// Whether no pattern of the part can begin at the place.
-fn is_bare(run: &Run<'_, '_>, line: &str, place: usize) -> bool
-    ensures { result ≡ true → IsBare line.now place run.now }
+/// Whether no pattern of the part can begin at a place of which this is seen.
+fn is_bare(run: &Run<'_, '_>, outlook: Outlook) -> bool
+    requires here { outlook.here < 130 }
+    requires behind { outlook.behind < 130 }
+    ensures { (line : List ℕ) (place : ℕ) → Sees outlook line place → result ≡ true
+        → IsBare line place run.now }
 {
-    next_in(run, line, place, 0) >= list_in(&run.flats).as_slice().len()
+    next_in(run, outlook, 0) >= list_in(&run.flats).as_slice().len()
 }
 
 /// Whether that is so of all parts.
 fn are_bare(runs: &[Run<'_, '_>], line: &str, place: usize) -> bool
+    requires { place ≤ length line.now }
     ensures { result ≡ true → All (IsBare line.now place) runs.now }
 {
+    let outlook = outlook_of(line, place);
     for run in runs {
-        if !is_bare(run, line, place) {
+        if !is_bare(run, outlook) {
             return false;
         }
     }
@@ -389,16 +380,21 @@ fn with_pattern<'s>(
     with_entry(reader, &entry, replaced, place, best, lost, regions)
 }
 
-/// What is found with the patterns of a part more, none of whose matches that count begins before the place.
+/// What is found with the patterns of a part more, none of whose matches that count begins before the place, of which this is
+/// seen.
 fn with_run<'s>(
     reader: &LineReader<'s, '_>,
     run: &Run<'s, '_>,
     place: usize,
+    outlook: Outlook,
     best: Best<'s>,
     lost: &mut bool,
     regions: &mut Regions,
 ) -> Result<Best<'s>, AllocError>
     requires order { reader.now.position.now.place ≤ place }
+    requires here { outlook.here < 130 }
+    requires behind { outlook.behind < 130 }
+    requires sees { Sees outlook reader.now.line.now place }
     requires run { IsRun reader.now.set.now run.now }
     ensures lost { lost.old ≡ true → lost.new ≡ true }
     ensures groups { AreAhead reader.now lost.old place run.now → IfOk result (λ b.
@@ -416,10 +412,10 @@ fn with_run<'s>(
     dialect_finds_in_text();
     let count = list_in(&run.flats).as_slice().len();
     let mut best = best;
-    let mut index = next_in(run, reader.line, place, 0);
+    let mut index = next_in(run, outlook, 0);
     while index < count && best.candidate.is_none() {
         best = with_pattern(reader, run, index, place, best, lost, regions)?;
-        index = next_in(run, reader.line, place, index + 1);
+        index = next_in(run, outlook, index + 1);
     }
     Ok(best)
 }
@@ -445,13 +441,14 @@ fn best_at<'s>(
         → OnOk result (regions.new.steps.made ≤ regions.old.steps.made
         + place_steps (length (flat_map (run_members reader.now.set.now) runs.now)) w) }
 {
+    let outlook = outlook_of(reader.line, place);
     let mut best = Best {
         start: place + 1,
         is_match: false,
         candidate: None,
     };
     for run in runs {
-        best = with_run(reader, run, place, best, lost, regions)?;
+        best = with_run(reader, run, place, outlook, best, lost, regions)?;
     }
     Ok(best)
 }

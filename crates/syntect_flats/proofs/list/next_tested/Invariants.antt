@@ -1,12 +1,12 @@
-use Rattle.std.proofs.Common.{length, get_or, ◌-◌, ◌≤◌, ◌<◌, ℕ}
-use Rattle.syntect_flats.specs.Rows.{IsOut}
+use Rattle.std.proofs.Common.{length, get_or, ◌-◌, ◌≡◌, ◌≤◌, ◌<◌, ℕ, false}
+use Rattle.syntect_pattern_table.specs.Starts.{is_in}
 use Rattle.syntect_flats.specs.declared.flats.Flat.{Flat}
 use Rattle.syntect_flats.proofs.list.next_tested.Given as goal
 
 abbrev pub invariant-loop-next : goal.invariant-loop-next
 invariant-loop-next l = record {
   later : l.from ≤ l.next;
-  passed : (k : ℕ) (d : Flat) → l.from ≤ k → k < l.next → k < length l.flats → IsOut l.outlook (get_or l.flats k d);
+  passed : (k : ℕ) (d : Flat) → l.from ≤ k → k < l.next → k < length l.flats → is_in (get_or l.flats k d).begins l.x ≡ false;
 }
 
 abbrev pub decreases-loop-next : goal.decreases-loop-next
