@@ -25,6 +25,8 @@ pub struct FlatList {
     /// where there is no table.
     rows: Vec<u64>,
     words: u16,
+    /// Whether it matters for one of the patterns what stands behind a word.
+    asks: bool,
 }
 
 impl Model for FlatList {
@@ -119,22 +121,40 @@ fn is_cut(flat: &Flat, outlook: Outlook) -> bool
     }
 }
 
+/// Whether something that stands behind a word rules one of the patterns out.
+fn any_asks(flats: &[Flat]) -> bool {
+    flats.iter().any(|flat| flat.behind.ascii != u128::MAX)
+}
+
 impl FlatList {
     /// The list of these patterns.
     pub fn new(alloc: Global, flats: Vec<Flat>) -> Result<FlatList, AllocError>
         ensures { IfOk result (λ l. l ≡ flats.items) }
     {
         let count = flats.len();
+        let asks = any_asks(flats.as_slice());
         if count < SHORT || count > LONG {
             return Ok(FlatList {
                 flats,
                 rows: Vec::new(alloc),
                 words: 0,
+                asks,
             });
         }
         let words = ((count + 63) / 64) as u16;
         let rows = rows_of(alloc, words, flats.as_slice())?;
-        Ok(FlatList { flats, rows, words })
+        Ok(FlatList {
+            flats,
+            rows,
+            words,
+            asks,
+        })
+    }
+
+    /// Whether it matters for one of the patterns what stands behind a word. No contract says it: who looks for that in vain
+    /// is only slower, and who doesn't passes over less.
+    pub fn asks(&self) -> bool {
+        self.asks
     }
 
     /// The patterns.
@@ -146,7 +166,7 @@ impl FlatList {
 
     /// An index not below this one: no pattern from this one up to it can begin where this stands, an ASCII character, 128 for
     /// any other one, or 129 for the end.
-    fn next_begun(&self, x: u8, from: usize) -> usize
+    pub fn next_begun(&self, x: u8, from: usize) -> usize
         requires { x < 130 }
         ensures later { from ≤ result }
         ensures passed { (k : ℕ) (d : Flat) → from ≤ k → k < result → k < length self.now

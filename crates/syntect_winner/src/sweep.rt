@@ -6,6 +6,7 @@ ghost use Rattle.std.specs.List.{All, flat_map, list_any};
 ghost use Rattle.syntect_contexts.specs.declared.context.MatchPattern.{MatchPattern as APattern};
 ghost use Rattle.syntect_grammar.specs.Flats.{AreFlatsOf, pattern_at};
 ghost use Rattle.syntect_pattern.specs.Matches.{is_word_edge};
+ghost use Rattle.syntect_pattern_table.specs.Starts.{is_in};
 ghost use Rattle.syntect_winner.specs.Ahead.{AddsAll, AddsAt, AddsMember, AddsRun, AllAhead, AreAhead, AreAheadFrom, AreReplaced, FindsHere, IsAhead, IsBare, IsBestAt, IsRuledOut, IsRun, Sees, list_in, run_members};
 ghost use Rattle.syntect_contexts.specs.Substitution.{Groups};
 ghost use Rattle.syntect_winner.specs.Best.{choice_by};
@@ -32,7 +33,7 @@ use syntect_pattern_table::starts::start_at;
 use syntect_regex::regex::Regex;
 use syntect_ways::anchor::stands;
 use syntect_ways::text::is_boundary;
-use syntect_word_ends::ends::word_end;
+use syntect_word_ends::ends::{is_word_byte, word_end};
 
 /// A flat list: one that the set keeps, or one of this turn alone.
 #[derive(Drop)]
@@ -140,18 +141,19 @@ fn is_off_edges(line: &str, place: usize) -> bool
     is_boundary(line, place) && !stands(line, place, Anchor::WordEdge)
 }
 
-/// What is seen of a place.
-fn outlook_of(line: &str, place: usize) -> Outlook
+/// What is seen of a place; with `asks` what stands behind the word there too.
+fn outlook_of(line: &str, place: usize, asks: bool) -> Outlook
     requires { place ≤ length line.now }
     ensures here { result.here < 130 }
     ensures behind { result.behind < 130 }
     ensures sees { Sees result line.now place }
 {
-    let end = word_end(line, place);
+    let here = start_at(line, place);
+    let end = if asks { word_end(line, place) } else { place };
     Outlook {
-        here: start_at(line, place),
+        here,
         behind: start_at(line, end),
-        off_edges: is_off_edges(line, place),
+        off_edges: (here >= 128 || is_word_byte(here)) && is_off_edges(line, place),
     }
 }
 
@@ -173,14 +175,48 @@ fn next_in(run: &Run<'_, '_>, outlook: Outlook, from: usize) -> usize
     }
 }
 
-/// Whether no pattern of the part can begin at a place of which this is seen.
-fn is_bare(run: &Run<'_, '_>, outlook: Outlook) -> bool
-    requires here { outlook.here < 130 }
-    requires behind { outlook.behind < 130 }
-    ensures { (line : List ℕ) (place : ℕ) → Sees outlook line place → result ≡ true
-        → IsBare line place run.now }
+/// An index of a part: no pattern before it can begin where this stands.
+fn first_begun(run: &Run<'_, '_>, x: u8) -> usize
+    requires { x < 130 }
+    ensures plain { 0 < result → run.now.replaced.items ≡ [] }
+    ensures passed { (k : ℕ) (d : Flat) → k < result → k < length (list_in run.now.flats)
+        → is_in (slice_index_or (list_in run.now.flats) k d).begins x ≡ false }
 {
-    next_in(run, outlook, 0) >= list_in(&run.flats).as_slice().len()
+    if !run.replaced.is_empty() {
+        return 0;
+    }
+    list_in(&run.flats).next_begun(x, 0)
+}
+
+/// Whether more is asked of a place than what stands there, if a match of the pattern is to begin at it.
+fn is_held(flat: &Flat) -> bool {
+    flat.at_edges || flat.behind.ascii != u128::MAX
+}
+
+/// Whether that is so of the pattern at an index.
+fn is_held_at(run: &Run<'_, '_>, index: usize) -> bool {
+    match list_in(&run.flats).as_slice().get(index) {
+        Some(flat) => is_held(flat),
+        None => false,
+    }
+}
+
+/// Whether no pattern of the part can begin at the place. More than what stands there is looked at only where a pattern can
+/// begin with that.
+fn is_bare(run: &Run<'_, '_>, line: &str, place: usize) -> bool
+    requires { place ≤ length line.now }
+    ensures { result ≡ true → IsBare line.now place run.now }
+{
+    let count = list_in(&run.flats).as_slice().len();
+    let first = first_begun(run, start_at(line, place));
+    if first >= count {
+        return true;
+    }
+    if !is_held_at(run, first) {
+        return false;
+    }
+    let outlook = outlook_of(line, place, list_in(&run.flats).asks());
+    next_in(run, outlook, 0) >= count
 }
 
 /// Whether that is so of all parts.
@@ -188,9 +224,8 @@ fn are_bare(runs: &[Run<'_, '_>], line: &str, place: usize) -> bool
     requires { place ≤ length line.now }
     ensures { result ≡ true → All (IsBare line.now place) runs.now }
 {
-    let outlook = outlook_of(line, place);
     for run in runs {
-        if !is_bare(run, outlook) {
+        if !is_bare(run, line, place) {
             return false;
         }
     }
@@ -441,7 +476,8 @@ fn best_at<'s>(
         → OnOk result (regions.new.steps.made ≤ regions.old.steps.made
         + place_steps (length (flat_map (run_members reader.now.set.now) runs.now)) w) }
 {
-    let outlook = outlook_of(reader.line, place);
+    let asks = runs.iter().any(|run| list_in(&run.flats).asks());
+    let outlook = outlook_of(reader.line, place, asks);
     let mut best = Best {
         start: place + 1,
         is_match: false,

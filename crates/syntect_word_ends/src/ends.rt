@@ -145,7 +145,7 @@ pub fn behind_words(alloc: Global, program: &Program) -> Result<Places, AllocErr
 }
 
 /// Whether the byte is an ASCII character of words.
-fn is_word_byte(byte: u8) -> bool
+pub fn is_word_byte(byte: u8) -> bool
     ensures { result ≡ is_word_char byte }
 {
     (b'0' <= byte && byte <= b'9')
