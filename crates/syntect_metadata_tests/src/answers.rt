@@ -49,49 +49,57 @@ fn answered(
     assert!(rt; answers(&scoped, rows) & answers(&copy, rows), "{scope}");
 }
 
+/// Entries of two scopes, of which the greater one has two patterns.
+const TWO_SCOPES: [Entry; 2] = [
+    (
+        "1",
+        "source.a",
+        "{\"unIndentedLinePattern\":\"^x\",\"decreaseIndentPattern\":\"b\"}",
+    ),
+    (
+        "2",
+        "source",
+        "{\"decreaseIndentPattern\":\"c\",\"bracketIndentNextLinePattern\":\"d\",\"disableIndentNextLinePattern\":\"e\"}",
+    ),
+];
+
+/// What they answer.
+const OF_TWO_SCOPES: [(Question, &str, bool); 8] = [
+    (Question::Unindented, "xy", true),
+    (Question::Decrease, "b", true),
+    (Question::Decrease, "ab", false),
+    (Question::Decrease, "c", false),
+    (Question::Bracket, "d", true),
+    (Question::Bracket, "x", false),
+    (Question::NextLine, "e", true),
+    (Question::Increase, "x", false),
+];
+
 #[test]
 fn the_first_pattern_answers(rt: HostRuntime) {
-    let entries = [
-        (
-            "1",
-            "source.a",
-            "{\"unIndentedLinePattern\":\"^x\",\"decreaseIndentPattern\":\"b\"}",
-        ),
-        (
-            "2",
-            "source",
-            "{\"decreaseIndentPattern\":\"c\",\"bracketIndentNextLinePattern\":\"d\",\"disableIndentNextLinePattern\":\"e\"}",
-        ),
-    ];
-    let rows = [
-        (Question::Unindented, "xy", true),
-        (Question::Decrease, "b", true),
-        (Question::Decrease, "ab", false),
-        (Question::Decrease, "c", false),
-        (Question::Bracket, "d", true),
-        (Question::Bracket, "x", false),
-        (Question::NextLine, "e", true),
-        (Question::Increase, "x", false),
-    ];
-    answered(&rt, rt.alloc(), &entries, "source.a", &rows);
+    answered(&rt, rt.alloc(), &TWO_SCOPES, "source.a", &OF_TWO_SCOPES);
 }
+
+/// The entry of a language with braces.
+const BRACES: [Entry; 1] = [(
+    "1",
+    "source.rust",
+    "{\"increaseIndentPattern\":\"^.*\\\\{[^}\\\"']*$\",\"decreaseIndentPattern\":\"^\\\\s*\\\\}\"}",
+)];
+
+/// What it answers.
+const OF_BRACES: [(Question, &str, bool); 6] = [
+    (Question::Increase, "struct This {", true),
+    (Question::Increase, "struct This }", false),
+    (Question::Decrease, "     }", true),
+    (Question::Decrease, "struct This {", false),
+    (Question::Decrease, "struct This {}", false),
+    (Question::Increase, "struct This {}", false),
+];
 
 #[test]
 fn indent_of_braces(rt: HostRuntime) {
-    let entries = [(
-        "1",
-        "source.rust",
-        "{\"increaseIndentPattern\":\"^.*\\\\{[^}\\\"']*$\",\"decreaseIndentPattern\":\"^\\\\s*\\\\}\"}",
-    )];
-    let rows = [
-        (Question::Increase, "struct This {", true),
-        (Question::Increase, "struct This }", false),
-        (Question::Decrease, "     }", true),
-        (Question::Decrease, "struct This {", false),
-        (Question::Decrease, "struct This {}", false),
-        (Question::Increase, "struct This {}", false),
-    ];
-    answered(&rt, rt.alloc(), &entries, "source.rust", &rows);
+    answered(&rt, rt.alloc(), &BRACES, "source.rust", &OF_BRACES);
 }
 
 #[test]

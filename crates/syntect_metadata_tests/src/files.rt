@@ -80,26 +80,28 @@ fn told(loaded: &Result<RawMetadataEntry, LoadingError>) -> Says {
     }
 }
 
+/// Texts of files, and what is said of each.
+const NO_ENTRIES: [(&str, Says); 9] = [
+    ("[]", Says::NoEntry),
+    ("{\"scope\":\"a\"}", Says::NoEntry),
+    ("{\"settings\":{}}", Says::NoEntry),
+    ("{\"scope\":1,\"settings\":{}}", Says::NoEntry),
+    ("{\"scope\":\"a\",\"settings\":[]}", Says::NoEntry),
+    ("", Says::NoSettings),
+    ("<plist></plist>", Says::NoSettings),
+    (
+        "{\"scope\":\"a\",\"settings\":{\"x\":1.5}}",
+        Says::NoSettings,
+    ),
+    (
+        "{\"scope\":\"a\",\"settings\":{},\"x\":1e2}",
+        Says::NoSettings,
+    ),
+];
+
 #[test]
 fn files_that_are_no_entry(rt: HostRuntime) {
-    let rows = [
-        ("[]", Says::NoEntry),
-        ("{\"scope\":\"a\"}", Says::NoEntry),
-        ("{\"settings\":{}}", Says::NoEntry),
-        ("{\"scope\":1,\"settings\":{}}", Says::NoEntry),
-        ("{\"scope\":\"a\",\"settings\":[]}", Says::NoEntry),
-        ("", Says::NoSettings),
-        ("<plist></plist>", Says::NoSettings),
-        (
-            "{\"scope\":\"a\",\"settings\":{\"x\":1.5}}",
-            Says::NoSettings,
-        ),
-        (
-            "{\"scope\":\"a\",\"settings\":{},\"x\":1e2}",
-            Says::NoSettings,
-        ),
-    ];
-    for (text, wanted) in &rows {
+    for (text, wanted) in &NO_ENTRIES {
         let path = file(&rt, "syntect_metadata_none.tmPreferences", text).expect(&rt, "a file");
         let loaded = RawMetadataEntry::load(&rt, rt.alloc(), path.as_path());
         assert!(rt; told(&loaded) == *wanted);

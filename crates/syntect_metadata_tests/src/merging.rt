@@ -83,26 +83,30 @@ fn refused_sets_are_left_out(rt: HostRuntime) {
     give(&rt, rt.alloc(), &[], &entries, &[("b", "5"), ("z", "1")]);
 }
 
+const OLD: [Entry; 3] = [
+    ("1", "c", "{\"increaseIndentPattern\":\"old c\"}"),
+    ("1", "a", "{\"increaseIndentPattern\":\"old a\"}"),
+    ("1", "b", "{\"increaseIndentPattern\":\"old b\"}"),
+];
+
+/// Of these the last gives a set that is refused, which replaces none.
+const NEW: [Entry; 3] = [
+    ("2", "b", "{\"increaseIndentPattern\":\"new b\"}"),
+    ("2", "aa", "{\"increaseIndentPattern\":\"new aa\"}"),
+    ("2", "c", "{\"increaseIndentPattern\":1}"),
+];
+
+/// What both give.
+const OLD_AND_NEW: [(&str, &str); 4] = [
+    ("a", "old a"),
+    ("aa", "new aa"),
+    ("b", "new b"),
+    ("c", "old c"),
+];
+
 #[test]
 fn new_sets_replace_old_ones(rt: HostRuntime) {
-    let old = [
-        ("1", "c", "{\"increaseIndentPattern\":\"old c\"}"),
-        ("1", "a", "{\"increaseIndentPattern\":\"old a\"}"),
-        ("1", "b", "{\"increaseIndentPattern\":\"old b\"}"),
-    ];
-    // A new set that is refused replaces none.
-    let new = [
-        ("2", "b", "{\"increaseIndentPattern\":\"new b\"}"),
-        ("2", "aa", "{\"increaseIndentPattern\":\"new aa\"}"),
-        ("2", "c", "{\"increaseIndentPattern\":1}"),
-    ];
-    let wanted = [
-        ("a", "old a"),
-        ("aa", "new aa"),
-        ("b", "new b"),
-        ("c", "old c"),
-    ];
-    give(&rt, rt.alloc(), &old, &new, &wanted);
+    give(&rt, rt.alloc(), &OLD, &NEW, &OLD_AND_NEW);
 }
 
 /// Whether a set has this variable.
@@ -120,6 +124,19 @@ fn has_variable(
     }
 }
 
+/// A set has exactly these variables.
+fn have(
+    rt: &impl Abort,
+    alloc: Global,
+    set: &MetadataSet,
+    wanted: &[(&'static str, &'static str)],
+) {
+    assert!(rt; set.items.shell_variables.len() == wanted.len());
+    for (name, value) in wanted {
+        assert!(rt; has_variable(rt, alloc, set, name, value), "{name}");
+    }
+}
+
 /// Entries give one set, with exactly these variables.
 fn variables(
     rt: &impl Abort,
@@ -128,39 +145,41 @@ fn variables(
     wanted: &[(&'static str, &'static str)],
 ) {
     let metadata = merged(rt, alloc, &[], entries);
-    assert_eq!(rt; metadata.scoped_metadata.len(), 1);
-    let set = metadata.scoped_metadata.get(0).expect(rt, "a set");
-    assert_eq!(rt; set.items.shell_variables.len(), wanted.len());
-    for (name, value) in wanted {
-        assert!(rt; has_variable(rt, alloc, set, name, value), "{name}");
-    }
+    assert!(rt; metadata.scoped_metadata.len() == 1);
+    have(
+        rt,
+        alloc,
+        metadata.scoped_metadata.get(0).expect(rt, "a set"),
+        wanted,
+    );
 }
+
+const FILES: [Entry; 5] = [
+    (
+        "1",
+        "s",
+        "{\"shellVariables\":[{\"name\":\"TM_COMMENT_START\",\"value\":\"#\"},{\"name\":\"X\",\"value\":\"1\"}]}",
+    ),
+    (
+        "2",
+        "s",
+        "{\"shellVariables\":[{\"name\":\"X\",\"value\":\"2\"},{\"name\":\"Y\",\"value\":\"3\"}],\"other\":1}",
+    ),
+    // A list with one that is no variable adds none.
+    (
+        "3",
+        "s",
+        "{\"shellVariables\":[{\"name\":\"X\",\"value\":\"4\"},{\"name\":\"Z\"}]}",
+    ),
+    // Nor do null and lists in the place of objects.
+    ("4", "s", "{\"shellVariables\":null}"),
+    ("5", "s", "{\"shellVariables\":[[\"X\",\"5\"]]}"),
+];
 
 #[test]
 fn variables_of_files(rt: HostRuntime) {
-    let entries = [
-        (
-            "1",
-            "s",
-            "{\"shellVariables\":[{\"name\":\"TM_COMMENT_START\",\"value\":\"#\"},{\"name\":\"X\",\"value\":\"1\"}]}",
-        ),
-        (
-            "2",
-            "s",
-            "{\"shellVariables\":[{\"name\":\"X\",\"value\":\"2\"},{\"name\":\"Y\",\"value\":\"3\"}],\"other\":1}",
-        ),
-        // A list with one that is no variable adds none.
-        (
-            "3",
-            "s",
-            "{\"shellVariables\":[{\"name\":\"X\",\"value\":\"4\"},{\"name\":\"Z\"}]}",
-        ),
-        // Nor do null and lists in the place of objects.
-        ("4", "s", "{\"shellVariables\":null}"),
-        ("5", "s", "{\"shellVariables\":[[\"X\",\"5\"]]}"),
-    ];
     let wanted = [("TM_COMMENT_START", "#"), ("X", "2"), ("Y", "3")];
-    variables(&rt, rt.alloc(), &entries, &wanted);
+    variables(&rt, rt.alloc(), &FILES, &wanted);
 }
 
 #[test]
