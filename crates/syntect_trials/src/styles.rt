@@ -66,6 +66,12 @@ fn descriptions(rt: &(impl AllocGlobal + Files), path: &str, text: &str) -> Opti
     Some(out)
 }
 
+/// Says that a file or a folder can't be read.
+pub(crate) fn cannot_read(rt: &impl Eprint, path: &str) -> io::Result<ExitCode> {
+    eprintln!(rt; "syntect_bench: cannot read {path}")?;
+    Ok(ExitCode::from(1))
+}
+
 /// Prints the style of each stack in a file: a line of it names the scopes of a stack, with blanks between, and has as its
 /// answer the foreground, the background and the number of the flags. The status is 1 if something can't be read.
 pub fn show_styles(
@@ -74,8 +80,7 @@ pub fn show_styles(
     stacks: &str,
 ) -> io::Result<ExitCode> {
     let Ok(text) = fs::read_to_string(rt, stacks) else {
-        eprintln!(rt; "syntect_bench: cannot read {stacks}")?;
-        return Ok(ExitCode::from(1));
+        return cannot_read(rt, stacks);
     };
     match descriptions(rt, theme, text.as_str()) {
         Some(out) => {
@@ -134,11 +139,9 @@ pub fn time_styles(
     let alloc = rt.alloc();
     let mut repository = ScopeRepository::new(alloc);
     let theme = ThemeSet::get_theme(rt, alloc, Path::new(path), &mut repository);
-    match (theme, deep_stack(alloc, &mut repository)) {
-        (Ok(theme), Some(stack)) => time_stack(rt, &theme, stack.as_slice()),
-        _ => {
-            eprintln!(rt; "syntect_bench: cannot read {path}")?;
-            Ok(ExitCode::from(1))
-        }
+    let stack = deep_stack(alloc, &mut repository);
+    match (&theme, &stack) {
+        (Ok(theme), Some(stack)) => time_stack(rt, theme, stack.as_slice()),
+        _ => cannot_read(rt, path),
     }
 }

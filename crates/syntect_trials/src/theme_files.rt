@@ -1,11 +1,27 @@
 //! What is printed of the user's own theme files.
+use crate::styles::cannot_read;
 use std::io;
 use std::path::Path;
 use std::process::ExitCode;
 use std::rt::Files;
+use syntect_base::loading::LoadingError;
 use syntect_base::utils::files_below;
 use syntect_scope::repository::ScopeRepository;
+use syntect_theme::theme::Theme;
 use syntect_theme_files::theme_set::ThemeSet;
+
+/// Prints a theme's name and the number of its rules, or why there is none.
+fn print_theme(rt: &impl Print, path: &str, theme: &Result<Theme, LoadingError>) -> io::Result<()> {
+    let theme = match theme {
+        Ok(theme) => theme,
+        Err(e) => return println!(rt; "{path}: {e:?}"),
+    };
+    let rules = theme.scopes.len();
+    match &theme.name {
+        Some(name) => println!(rt; "{path}: {}, {rules} rules", name.as_str()),
+        None => println!(rt; "{path}: {rules} rules"),
+    }
+}
 
 /// Prints the name of a file's theme and the number of its rules, or why it has none. Answers whether it has one.
 fn show_theme(
@@ -13,20 +29,9 @@ fn show_theme(
     path: &str,
     repository: &mut ScopeRepository,
 ) -> io::Result<bool> {
-    match ThemeSet::get_theme(rt, rt.alloc(), Path::new(path), repository) {
-        Ok(theme) => {
-            let rules = theme.scopes.len();
-            match &theme.name {
-                Some(name) => println!(rt; "{path}: {}, {rules} rules", name.as_str())?,
-                None => println!(rt; "{path}: {rules} rules")?,
-            }
-            Ok(true)
-        }
-        Err(e) => {
-            println!(rt; "{path}: {e:?}")?;
-            Ok(false)
-        }
-    }
+    let theme = ThemeSet::get_theme(rt, rt.alloc(), Path::new(path), repository);
+    print_theme(rt, path, &theme)?;
+    Ok(theme.is_ok())
 }
 
 /// Prints of each file of a folder the name of its theme and the number of the rules, or why it has none. The status is 1
@@ -37,8 +42,7 @@ pub fn show_themes(
 ) -> io::Result<ExitCode> {
     let alloc = rt.alloc();
     let Ok(paths) = files_below(rt, alloc, Path::new(folder)) else {
-        eprintln!(rt; "syntect_bench: cannot read {folder}")?;
-        return Ok(ExitCode::from(1));
+        return cannot_read(rt, folder);
     };
     let mut repository = ScopeRepository::new(alloc);
     let mut failed = false;
