@@ -27,7 +27,7 @@ pub enum Asked<'t> {
 }
 
 /// Why nothing is done.
-#[derive(Debug, Drop, Error)]
+#[derive(Clone, Copy, Debug, Error)]
 pub enum Refusal {
     /// A line begins with no word of an edit.
     #[error("UnknownEdit, there are insert N TEXT, set N TEXT, remove N and page")]
@@ -44,6 +44,12 @@ pub enum Refusal {
     /// There was no memory.
     #[error("Memory, the text is as it was")]
     Memory,
+}
+
+impl From<AllocError> for Refusal {
+    fn from(_: AllocError) -> Refusal {
+        Refusal::Memory
+    }
 }
 
 /// What a line of the input asks for.
@@ -70,21 +76,49 @@ fn line_of(alloc: Global, text: &str) -> Result<String, AllocError> {
     Ok(line)
 }
 
+/// Puts a line before the one at a place, or behind the last.
+fn insert(
+    alloc: Global,
+    buffer: &mut LineBuffer<'_>,
+    place: usize,
+    text: &str,
+) -> Result<usize, Refusal> {
+    let count = buffer.len();
+    if place > count {
+        return Err(Refusal::NoSuchLine(count));
+    }
+    Ok(buffer.insert_line(alloc, place, line_of(alloc, text)?)?)
+}
+
+/// Puts a line in place of another one.
+fn set(
+    alloc: Global,
+    buffer: &mut LineBuffer<'_>,
+    place: usize,
+    text: &str,
+) -> Result<usize, Refusal> {
+    let count = buffer.len();
+    if place >= count {
+        return Err(Refusal::NoSuchLine(count));
+    }
+    Ok(buffer.set_line(alloc, place, line_of(alloc, text)?)?)
+}
+
+/// Takes a line out.
+fn remove(alloc: Global, buffer: &mut LineBuffer<'_>, place: usize) -> Result<usize, Refusal> {
+    let count = buffer.len();
+    if place >= count {
+        return Err(Refusal::NoSuchLine(count));
+    }
+    Ok(buffer.remove_line(alloc, place)?)
+}
+
 /// Does an edit, and answers how many lines were read again. What is refused leaves the text as it is.
 pub fn apply(alloc: Global, buffer: &mut LineBuffer<'_>, edit: Edit<'_>) -> Result<usize, Refusal> {
     let Edit { kind, place, text } = edit;
-    let count = buffer.len();
-    let Ok(line) = line_of(alloc, text) else {
-        return Err(Refusal::Memory);
-    };
-    let read = match kind {
-        Kind::Insert if place <= count => buffer.insert_line(alloc, place, line),
-        Kind::Set if place < count => buffer.set_line(alloc, place, line),
-        Kind::Remove if place < count => buffer.remove_line(alloc, place),
-        _ => return Err(Refusal::NoSuchLine(count)),
-    };
-    match read {
-        Ok(number) => Ok(number),
-        Err(_) => Err(Refusal::Memory),
+    match kind {
+        Kind::Insert => insert(alloc, buffer, place, text),
+        Kind::Set => set(alloc, buffer, place, text),
+        Kind::Remove => remove(alloc, buffer, place),
     }
 }

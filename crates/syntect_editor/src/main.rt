@@ -13,7 +13,7 @@ mod edit;
 mod loading;
 mod page;
 
-use crate::edit::{Asked, Refusal, apply, asked_of};
+use crate::edit::{Asked, Edit, Refusal, apply, asked_of};
 use crate::loading::{set_of, theme_of};
 use crate::page::page_of;
 use std::process::ExitCode;
@@ -37,6 +37,9 @@ fn fail(rt: &impl Eprint, status: u8, why: &str) -> io::Result<ExitCode> {
     Ok(ExitCode::from(status))
 }
 
+/// Why there is no set or no theme.
+const NOT_LOADED: &str = "syntect_editor: the grammars or the theme do not load";
+
 /// Loads the grammars and the theme, and edits a text.
 fn open(
     rt: &(impl Print + Eprint + Input + AllocGlobal + Files),
@@ -45,17 +48,24 @@ fn open(
     name: &str,
 ) -> io::Result<ExitCode> {
     let mut repository = ScopeRepository::new(rt.alloc());
-    let set = set_of(rt, rt.alloc(), folder, &mut repository);
-    let theme = theme_of(rt, rt.alloc(), theme, &mut repository);
-    let (Some(set), Some(theme)) = (set, theme) else {
-        return fail(
-            rt,
-            1,
-            "syntect_editor: the grammars or the theme do not load",
-        );
+    let Some(set) = set_of(rt, rt.alloc(), folder, &mut repository) else {
+        return fail(rt, 1, NOT_LOADED);
     };
+    match theme_of(rt, rt.alloc(), theme, &mut repository) {
+        Some(theme) => edit_in(rt, name, &set, &theme),
+        None => fail(rt, 1, NOT_LOADED),
+    }
+}
+
+/// Edits a text in the syntax of a name.
+fn edit_in(
+    rt: &(impl Print + Eprint + Input + AllocGlobal),
+    name: &str,
+    set: &SyntaxSet,
+    theme: &Theme,
+) -> io::Result<ExitCode> {
     match set.find_syntax_by_name(name) {
-        Some(syntax) => edit_all(rt, syntax, &set, &theme),
+        Some(syntax) => edit_all(rt, syntax, set, theme),
         None => fail(rt, 1, "syntect_editor: no grammar has this name"),
     }
 }
@@ -67,36 +77,69 @@ fn edit_all(
     set: &SyntaxSet,
     theme: &Theme,
 ) -> io::Result<ExitCode> {
-    let Ok(mut buffer) = LineBuffer::new(rt.alloc(), syntax, set, theme) else {
-        return fail(rt, 1, "syntect_editor: no text begins in this syntax");
-    };
+    match LineBuffer::new(rt.alloc(), syntax, set, theme) {
+        Ok(mut buffer) => take_lines(rt, &mut buffer, theme),
+        Err(_) => fail(rt, 1, "syntect_editor: no text begins in this syntax"),
+    }
+}
+
+/// Does what the lines of the input ask for.
+fn take_lines(
+    rt: &(impl Print + Input + AllocGlobal),
+    buffer: &mut LineBuffer<'_>,
+    theme: &Theme,
+) -> io::Result<ExitCode> {
     for line in rt.lines(rt.alloc()) {
-        take_line(rt, &mut buffer, theme, line)?;
+        take_line(rt, buffer, theme, line)?;
     }
     Ok(ExitCode::SUCCESS)
 }
 
-/// Does what a line of the input asks for.
+/// Does what a line of the input asks for, where it is text.
 fn take_line(
     rt: &(impl Print + AllocGlobal),
     buffer: &mut LineBuffer<'_>,
     theme: &Theme,
     line: io::Result<String>,
 ) -> io::Result<()> {
-    let line = match line {
-        Ok(line) => line,
-        Err(e) if matches!(e.kind(), io::ErrorKind::InvalidData) => {
-            return refuse(rt, &Refusal::NotText);
-        }
-        Err(e) => return Err(e),
-    };
-    match asked_of(line.as_str()) {
+    match line {
+        Ok(line) => do_asked(rt, buffer, theme, line.as_str()),
+        Err(e) => refuse_line(rt, e),
+    }
+}
+
+/// Says that a line is no text, where that is why it was not read.
+fn refuse_line(rt: &impl Print, e: io::Error) -> io::Result<()> {
+    if matches!(e.kind(), io::ErrorKind::InvalidData) {
+        refuse(rt, Refusal::NotText)
+    } else {
+        Err(e)
+    }
+}
+
+/// Does what a line asks for.
+fn do_asked(
+    rt: &(impl Print + AllocGlobal),
+    buffer: &mut LineBuffer<'_>,
+    theme: &Theme,
+    line: &str,
+) -> io::Result<()> {
+    match asked_of(line) {
         Ok(Asked::Page) => print_page(rt, buffer, theme),
-        Ok(Asked::Edit(edit)) => match apply(rt.alloc(), buffer, edit) {
-            Ok(number) => print_number(rt, edit.place, number),
-            Err(refusal) => refuse(rt, &refusal),
-        },
-        Err(refusal) => refuse(rt, &refusal),
+        Ok(Asked::Edit(edit)) => do_edit(rt, buffer, edit),
+        Err(refusal) => refuse(rt, refusal),
+    }
+}
+
+/// Does an edit, and says what came of it.
+fn do_edit(
+    rt: &(impl Print + AllocGlobal),
+    buffer: &mut LineBuffer<'_>,
+    edit: Edit<'_>,
+) -> io::Result<()> {
+    match apply(rt.alloc(), buffer, edit) {
+        Ok(number) => print_number(rt, edit.place, number),
+        Err(refusal) => refuse(rt, refusal),
     }
 }
 
@@ -110,7 +153,7 @@ fn print_number(rt: &impl Print, place: usize, number: usize) -> io::Result<()> 
 }
 
 /// Says why nothing was done.
-fn refuse(rt: &impl Print, refusal: &Refusal) -> io::Result<()> {
+fn refuse(rt: &impl Print, refusal: Refusal) -> io::Result<()> {
     println!(rt; "refused: {refusal}")
 }
 
@@ -122,6 +165,6 @@ fn print_page(
 ) -> io::Result<()> {
     match page_of(rt.alloc(), buffer, theme) {
         Ok(page) => print!(rt; "{page}"),
-        Err(_) => refuse(rt, &Refusal::Memory),
+        Err(_) => refuse(rt, Refusal::Memory),
     }
 }
