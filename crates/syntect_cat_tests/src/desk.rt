@@ -28,10 +28,26 @@ contexts:
 const THEME: &str =
     r##"{"name":"N","settings":[{"settings":{"foreground":"#010101","background":"#020202"}},{"scope":"word","settings":{"foreground":"#030303"}},{"scope":1,"settings":{}}],"gutterSettings":{"background":"#040404"}}"##;
 
+/// The files that each desk has.
+const FILES: [(&str, &str); 3] = [
+    ("grammars/T.sublime-syntax", GRAMMAR),
+    ("theme.tmTheme", THEME),
+    ("a.t", " hello"),
+];
+
 /// A folder with a folder `grammars`, a theme `theme.tmTheme` and a file `a.t`.
 #[derive(Drop)]
 pub struct Desk {
     folder: PathBuf,
+}
+
+/// A new folder of this name among the temporary files.
+fn new_folder(rt: &(impl Env + Files + AllocGlobal + Abort), name: &str) -> PathBuf {
+    let mut folder = env::temp_dir(rt).expect(rt, "a folder for files");
+    folder.push(name).expect(rt, "memory");
+    let _ = fs::remove_dir_all(rt, folder.as_path());
+    fs::create_dir(rt, folder.as_path()).expect(rt, "a folder");
+    folder
 }
 
 /// What a run came to.
@@ -45,17 +61,11 @@ pub struct Outcome {
 impl Desk {
     /// Sets up a folder of this name.
     pub fn new(rt: &(impl Env + Files + AllocGlobal + Abort), name: &str) -> Desk {
-        let mut folder = env::temp_dir(rt).expect(rt, "a folder for files");
-        folder.push(name).expect(rt, "memory");
-        let _ = fs::remove_dir_all(rt, folder.as_path());
-        fs::create_dir(rt, folder.as_path()).expect(rt, "a folder");
-        let desk = Desk { folder };
+        let desk = Desk {
+            folder: new_folder(rt, name),
+        };
         fs::create_dir(rt, desk.path(rt, "grammars")).expect(rt, "a folder");
-        for (name, text) in [
-            ("grammars/T.sublime-syntax", GRAMMAR),
-            ("theme.tmTheme", THEME),
-            ("a.t", " hello"),
-        ] {
+        for (name, text) in &FILES {
             desk.write(rt, name, text.as_bytes());
         }
         desk
@@ -76,14 +86,11 @@ impl Desk {
     pub fn words(&self, rt: &(impl AllocGlobal + Abort), asked: Asked) -> Vec<String> {
         let [folder, theme, format, file] = asked;
         let mut words = Vec::new(rt.alloc());
-        for (word, is_path) in [(folder, true), (theme, true), (format, false), (file, true)] {
-            let word = if is_path {
-                self.path(rt, word)
-            } else {
-                String::from_str(rt.alloc(), word).expect(rt, "memory")
-            };
-            words.push(word).expect(rt, "memory");
-        }
+        words.push(self.path(rt, folder)).expect(rt, "memory");
+        words.push(self.path(rt, theme)).expect(rt, "memory");
+        let format = String::from_str(rt.alloc(), format).expect(rt, "memory");
+        words.push(format).expect(rt, "memory");
+        words.push(self.path(rt, file)).expect(rt, "memory");
         words
     }
 

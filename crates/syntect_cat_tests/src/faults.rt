@@ -1,5 +1,6 @@
 //! Runs that fail.
 use crate::desk::{Asked, Desk, outcome_of};
+use crate::found::{equal, holds};
 use std::io;
 use std::io::{ErrorKind, Write};
 use std::process::Abort;
@@ -19,15 +20,23 @@ const NOT_SHOWN: &str = "syncat: cannot highlight\n";
 /// A run with these words fails with this line, and shows no text. The status is 2 where it shows how it is used, and else 1.
 fn words_fail(rt: &(impl Files + AllocGlobal + Abort), words: &[String], line: &str) {
     let outcome = outcome_of(rt, words);
-    assert_eq!(rt; outcome.err.as_slice(), line.as_bytes());
-    assert!(rt; outcome.out.is_empty());
-    assert!(rt; outcome.status == if line == USAGE { 2 } else { 1 });
+    equal(rt, outcome.err.as_slice(), line.as_bytes());
+    holds(rt, outcome.out.is_empty());
+    holds(rt, outcome.status == if line == USAGE { 2 } else { 1 });
 }
 
 /// Each run that is asked for so fails with its line, and shows no text.
 fn all_fail(rt: &(impl Files + AllocGlobal + Abort), desk: &Desk, runs: &[(Asked, &'static str)]) {
     for (asked, line) in runs {
         words_fail(rt, desk.words(rt, *asked).as_slice(), line);
+    }
+}
+
+/// A run in each format fails with this line.
+fn formats_fail(rt: &(impl Files + AllocGlobal + Abort), desk: &Desk, line: &str) {
+    for format in &["html", "term"] {
+        let asked = ["grammars", "theme.tmTheme", *format, "a.t"];
+        words_fail(rt, desk.words(rt, asked).as_slice(), line);
     }
 }
 
@@ -81,10 +90,7 @@ fn files_that_hold_something_else(rt: HostRuntime) {
     let desk = Desk::new(&rt, "syncat_something_else");
     for (name, bytes, line) in &SOMETHING_ELSE {
         desk.write(&rt, name, bytes);
-        for format in ["html", "term"] {
-            let asked = ["grammars", "theme.tmTheme", format, "a.t"];
-            words_fail(&rt, desk.words(&rt, asked).as_slice(), line);
-        }
+        formats_fail(&rt, &desk, line);
     }
     desk.close(&rt);
 }
@@ -130,25 +136,35 @@ impl Write for Full {
     }
 }
 
+/// The status of a run whose text is not taken.
+fn unwritten(rt: &(impl Files + AllocGlobal + Abort), words: &[String]) -> u8 {
+    let mut err = Vec::new(rt.alloc());
+    let status = run(rt, rt.alloc(), words, &mut Full { room: 9 }, &mut err);
+    equal(rt, err.as_slice(), "syncat: cannot write\n".as_bytes());
+    status
+}
+
+/// The status of a run without words, whose usage is not taken.
+fn untold(rt: &(impl Files + AllocGlobal + Abort)) -> u8 {
+    let mut out = Vec::new(rt.alloc());
+    let status = run(rt, rt.alloc(), &[], &mut out, &mut Full { room: 0 });
+    holds(rt, out.is_empty());
+    status
+}
+
+/// The status of a run of which neither is taken.
+fn unheard(rt: &(impl Files + AllocGlobal), words: &[String]) -> u8 {
+    let (mut out, mut err) = (Full { room: 0 }, Full { room: 3 });
+    run(rt, rt.alloc(), words, &mut out, &mut err)
+}
+
 #[test]
 fn writers_that_fail(rt: HostRuntime) {
     let desk = Desk::new(&rt, "syncat_writers");
     let words = desk.words(&rt, ["grammars", "theme.tmTheme", "html", "a.t"]);
     let words = words.as_slice();
-    let alloc = rt.alloc();
-    let mut err = Vec::new(alloc);
-    let unwritten = run(&rt, alloc, words, &mut Full { room: 9 }, &mut err);
-    assert_eq!(rt; err.as_slice(), "syncat: cannot write\n".as_bytes());
-    let mut out = Vec::new(alloc);
-    let wrong = run(&rt, alloc, &[], &mut out, &mut Full { room: 0 });
-    assert!(rt; out.is_empty());
-    let both = run(
-        &rt,
-        alloc,
-        words,
-        &mut Full { room: 0 },
-        &mut Full { room: 3 },
-    );
-    assert_eq!(rt; [unwritten, wrong, both], [1, 2, 1]);
+    equal(&rt, unwritten(&rt, words), 1);
+    equal(&rt, untold(&rt), 2);
+    equal(&rt, unheard(&rt, words), 1);
     desk.close(&rt);
 }

@@ -8,4 +8,6 @@ mod desk;
 #[cfg(test)]
 mod faults;
 #[cfg(test)]
+mod found;
+#[cfg(test)]
 mod shown;

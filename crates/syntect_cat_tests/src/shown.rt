@@ -1,13 +1,14 @@
 //! Files that are shown.
 use crate::desk::{Asked, Desk};
+use crate::found::{equal, holds};
 use std::process::Abort;
 use std::rt::Files;
 
 /// A run that is asked for so shows this text, and tells of no fault.
 fn shows(rt: &(impl Files + AllocGlobal + Abort), desk: &Desk, asked: Asked, text: &str) {
     let outcome = desk.outcome(rt, asked);
-    assert_eq!(rt; outcome.out.as_slice(), text.as_bytes());
-    assert!(rt; (outcome.status == 0) & outcome.err.is_empty());
+    equal(rt, outcome.out.as_slice(), text.as_bytes());
+    holds(rt, (outcome.status == 0) & outcome.err.is_empty());
 }
 
 const PAGE: &str =
@@ -19,6 +20,9 @@ const TEXT: &str =
 /// Two empty lines.
 const LINES: &str = "\x1b[48;2;2;2;2m\x1b[38;2;1;1;1m\n\x1b[48;2;2;2;2m\x1b[38;2;1;1;1m\n\x1b[0m\n";
 
+/// Texts of a file, and what is shown of them.
+const TEXTS: [(&str, &str); 2] = [("", "\x1b[0m\n"), ("\n\n", LINES)];
+
 /// A page of plain text.
 const PLAIN: &str =
     "<pre style=\"background-color:#020202;\">\n<span style=\"color:#010101;\"> hello</span></pre>\n";
@@ -26,14 +30,18 @@ const PLAIN: &str =
 #[test]
 fn a_page_and_text_for_a_terminal(rt: HostRuntime) {
     let desk = Desk::new(&rt, "syncat_shown");
-    for (format, text) in [("html", PAGE), ("term", TEXT)] {
-        shows(
-            &rt,
-            &desk,
-            ["grammars", "theme.tmTheme", format, "a.t"],
-            text,
-        );
-    }
+    shows(
+        &rt,
+        &desk,
+        ["grammars", "theme.tmTheme", "html", "a.t"],
+        PAGE,
+    );
+    shows(
+        &rt,
+        &desk,
+        ["grammars", "theme.tmTheme", "term", "a.t"],
+        TEXT,
+    );
     desk.close(&rt);
 }
 
@@ -41,7 +49,7 @@ fn a_page_and_text_for_a_terminal(rt: HostRuntime) {
 #[test]
 fn the_terminal_has_its_own_colours_again(rt: HostRuntime) {
     let desk = Desk::new(&rt, "syncat_own_colours");
-    for (text, shown) in [("", "\x1b[0m\n"), ("\n\n", LINES)] {
+    for (text, shown) in &TEXTS {
         desk.write(&rt, "a.t", text.as_bytes());
         shows(
             &rt,
