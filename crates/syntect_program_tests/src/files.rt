@@ -3,8 +3,8 @@ use crate::found::{equal, holds};
 use std::os::unix::fs::symlink;
 use std::path::{Path, PathBuf};
 use std::process::Abort;
-use std::rt::Files;
-use std::{env, fs, io};
+use std::rt::{Env, Files};
+use std::{env, fs};
 use syntect::LoadingError;
 use syntect::explain::why_not_loaded;
 use syntect::highlighting::ThemeSet;
@@ -31,12 +31,12 @@ const THEME: &str =
     r##"{"settings":[{"settings":{"foreground":"#010101","background":"#020202"}},{"scope":"word","settings":{"foreground":"#030303"}},{"scope":"word","settings":{"foreground":"none"}}]}"##;
 
 /// A folder of this name among the temporary files.
-pub fn folder(rt: &HostRuntime, name: &str) -> io::Result<PathBuf> {
-    let mut folder = env::temp_dir(rt)?;
-    folder.push(name)?;
+pub fn folder(rt: &(impl Env + Files + AllocGlobal + Abort), name: &str) -> PathBuf {
+    let mut folder = env::temp_dir(rt).expect(rt, "a folder");
+    folder.push(name).expect(rt, "memory");
     let _ = fs::remove_dir_all(rt, folder.as_path());
-    fs::create_dir(rt, folder.as_path())?;
-    Ok(folder)
+    fs::create_dir(rt, folder.as_path()).expect(rt, "a folder");
+    folder
 }
 
 /// A line about the grammars of a folder, without the folder's path. It is empty where they are loaded.
@@ -104,7 +104,7 @@ pub fn within(rt: &impl Abort, folder: &PathBuf, name: &str) -> PathBuf {
 
 #[test]
 fn grammars_are_named_with_line_and_column(rt: HostRuntime) {
-    let folder = folder(&rt, "syntect_told_grammars").expect(&rt, "a folder");
+    let folder = folder(&rt, "syntect_told_grammars");
     let none = told_of_grammars(&rt, folder.as_path());
     equal(&rt, none.as_str(), "");
     let file = within(&rt, &folder, "a.sublime-syntax");
@@ -126,7 +126,7 @@ fn grammars_are_named_with_line_and_column(rt: HostRuntime) {
 #[test]
 fn the_first_fault_is_told(rt: HostRuntime) {
     let alloc = rt.alloc();
-    let folder = folder(&rt, "syntect_first_fault").expect(&rt, "a folder");
+    let folder = folder(&rt, "syntect_first_fault");
     let link = within(&rt, &folder, "z");
     symlink(&rt, "nowhere", link.as_path()).expect(&rt, "a link");
     let first = within(&rt, &folder, "a.sublime-syntax");
@@ -148,7 +148,7 @@ fn the_first_fault_is_told(rt: HostRuntime) {
 
 #[test]
 fn themes_are_named_with_what_helps(rt: HostRuntime) {
-    let folder = folder(&rt, "syntect_told_themes").expect(&rt, "a folder");
+    let folder = folder(&rt, "syntect_told_themes");
     let file = within(&rt, &folder, "a.json");
     for (text, wanted) in &THEMES {
         fs::write(&rt, file.as_path(), *text).expect(&rt, "a folder");
@@ -167,7 +167,7 @@ fn themes_are_named_with_what_helps(rt: HostRuntime) {
 #[test]
 fn a_page_by_a_folder(rt: HostRuntime) {
     let alloc = rt.alloc();
-    let folder = folder(&rt, "syntect_page_by_folder").expect(&rt, "a folder");
+    let folder = folder(&rt, "syntect_page_by_folder");
     let file = within(&rt, &folder, "T.sublime-syntax");
     fs::write(&rt, file.as_path(), GRAMMAR).expect(&rt, "a folder");
     let mut repository = ScopeRepository::new(alloc);

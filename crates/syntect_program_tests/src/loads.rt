@@ -3,7 +3,7 @@
 use crate::files::within;
 use crate::found::{equal, holds};
 use crate::metadata::{File, written};
-use std::path::Path;
+use std::path::{Path, PathBuf};
 use std::process::Abort;
 use std::rt::Files;
 use syntect::easy::HighlightFile;
@@ -30,24 +30,26 @@ const FAULTY: [File; 2] = [
     ("F.tmTheme", "<?xml version=\"1.0\"?>\n<plist/>\n"),
 ];
 
+/// The set of a folder's grammars.
+fn grammars_of(rt: &(impl Files + AllocGlobal + Abort), folder: &PathBuf) -> SyntaxSet {
+    let mut repository = ScopeRepository::new(rt.alloc());
+    SyntaxSet::load_from_folder(rt, rt.alloc(), folder.as_path(), &mut repository).expect(
+        rt, "grammars",
+    )
+}
+
 /// A grammar without a name has that of its file.
 #[test]
 fn grammars_of_a_folder(rt: HostRuntime) {
-    let folder = written(&rt, "syntect_loaded_grammars", &FILES).expect(&rt, "a folder");
-    let mut repository = ScopeRepository::new(rt.alloc());
-    let set = SyntaxSet::load_from_folder(
-        &rt,
-        rt.alloc(),
-        folder.as_path(),
-        &mut repository,
-    ).expect(&rt, "grammars");
+    let folder = written(&rt, "syntect_loaded_grammars", &FILES);
+    let set = grammars_of(&rt, &folder);
     equal(&rt, set.syntaxes().len(), 1);
     holds(&rt, set.find_syntax_by_name("T").is_some());
 }
 
 #[test]
 fn themes_of_a_folder(rt: HostRuntime) {
-    let folder = written(&rt, "syntect_loaded_themes", &FILES).expect(&rt, "a folder");
+    let folder = written(&rt, "syntect_loaded_themes", &FILES);
     let mut repository = ScopeRepository::new(rt.alloc());
     let set = ThemeSet::load_from_folder(&rt, rt.alloc(), folder.as_path(), &mut repository).expect(
         &rt, "themes",
@@ -60,7 +62,7 @@ fn themes_of_a_folder(rt: HostRuntime) {
 /// A faulty file refuses its folder for what is wrong with it, and not as a fault of the walk.
 #[test]
 fn faulty_files_of_a_folder(rt: HostRuntime) {
-    let folder = written(&rt, "syntect_faulty_files", &FAULTY).expect(&rt, "a folder");
+    let folder = written(&rt, "syntect_faulty_files", &FAULTY);
     let mut repository = ScopeRepository::new(rt.alloc());
     let set = SyntaxSet::load_from_folder(&rt, rt.alloc(), folder.as_path(), &mut repository);
     let is_named = match &set {
@@ -74,39 +76,37 @@ fn faulty_files_of_a_folder(rt: HostRuntime) {
     holds(&rt, matches!(themes, Err(LoadingError::ReadSettings(_))));
 }
 
-/// What is answered to a file by a set without plain text.
-fn answers(
-    rt: &(impl Files + AllocGlobal),
-    path: Path<'_>,
-    set: &SyntaxSet,
-) -> (Option<Error>, Option<Error>) {
+/// Why a file is not opened by a set without plain text.
+fn unopened(rt: &(impl Files + AllocGlobal), path: Path<'_>, set: &SyntaxSet) -> Option<Error> {
     let theme = Theme::default(rt.alloc());
-    let file = HighlightFile::new(rt, rt.alloc(), path, set, &theme).err();
-    let page = highlighted_html_for_file(rt, rt.alloc(), path, set, &theme).err();
-    (file, page)
+    HighlightFile::new(rt, rt.alloc(), path, set, &theme).err()
+}
+
+/// Why there is no page of a file by a set without plain text.
+fn unshown(rt: &(impl Files + AllocGlobal), path: Path<'_>, set: &SyntaxSet) -> Option<Error> {
+    let theme = Theme::default(rt.alloc());
+    highlighted_html_for_file(rt, rt.alloc(), path, set, &theme).err()
+}
+
+/// Whether no syntax fits a file.
+fn fits_none(refusal: Option<Error>) -> bool {
+    matches!(refusal, Some(Error::NoSyntax))
+}
+
+/// Whether a file is not read.
+fn is_unread(refusal: Option<Error>) -> bool {
+    matches!(refusal, Some(Error::Io(_)))
 }
 
 /// A file that no syntax fits, and one that isn't there.
 #[test]
 fn files_without_a_syntax(rt: HostRuntime) {
-    let folder = written(&rt, "syntect_no_syntax", &FILES).expect(&rt, "a folder");
-    let mut repository = ScopeRepository::new(rt.alloc());
-    let set = SyntaxSet::load_from_folder(
-        &rt,
-        rt.alloc(),
-        folder.as_path(),
-        &mut repository,
-    ).expect(&rt, "grammars");
+    let folder = written(&rt, "syntect_no_syntax", &FILES);
+    let set = grammars_of(&rt, &folder);
     let notes = within(&rt, &folder, "notes.txt");
-    let found = answers(&rt, notes.as_path(), &set);
-    holds(
-        &rt,
-        matches!(found, (Some(Error::NoSyntax), Some(Error::NoSyntax))),
-    );
+    holds(&rt, fits_none(unopened(&rt, notes.as_path(), &set)));
+    holds(&rt, fits_none(unshown(&rt, notes.as_path(), &set)));
     let missing = within(&rt, &folder, "missing.txt");
-    let found = answers(&rt, missing.as_path(), &set);
-    holds(
-        &rt,
-        matches!(found, (Some(Error::Io(_)), Some(Error::Io(_)))),
-    );
+    holds(&rt, is_unread(unopened(&rt, missing.as_path(), &set)));
+    holds(&rt, is_unread(unshown(&rt, missing.as_path(), &set)));
 }

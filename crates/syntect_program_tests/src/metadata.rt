@@ -1,8 +1,9 @@
 //! Metadata from folders: which files are read, which are passed over, and which sets replace others.
-use crate::files::folder;
+use crate::files::{folder, within};
+use std::fs;
 use std::path::PathBuf;
 use std::process::Abort;
-use std::{fs, io};
+use std::rt::{Env, Files};
 use syntect::parsing::{Scope, ScopeRepository, SyntaxSet, SyntaxSetBuilder};
 
 /// A file's name and text.
@@ -46,14 +47,17 @@ const SECOND: [File; 2] = [
 ];
 
 /// Writes the files into a new folder of this name.
-pub fn written(rt: &HostRuntime, name: &str, files: &[File]) -> io::Result<PathBuf> {
-    let folder = folder(rt, name)?;
+pub fn written(
+    rt: &(impl Env + Files + AllocGlobal + Abort),
+    name: &str,
+    files: &[File],
+) -> PathBuf {
+    let folder = folder(rt, name);
     for (name, text) in files {
-        let mut path = folder.clone()?;
-        path.push(*name)?;
-        fs::write(rt, path.as_path(), *text)?;
+        let path = within(rt, &folder, name);
+        fs::write(rt, path.as_path(), *text).expect(rt, "a file");
     }
-    Ok(folder)
+    folder
 }
 
 /// What is asked of a scope's metadata: whether a line after this one is indented more, and how a comment begins.
@@ -78,32 +82,44 @@ fn all_answer(rt: &impl Abort, set: &SyntaxSet, repository: &mut ScopeRepository
     }
 }
 
+/// The set of a builder and the files of a folder.
+fn set_with(
+    rt: &(impl Files + AllocGlobal + Abort),
+    builder: SyntaxSetBuilder,
+    folder: &PathBuf,
+    repository: &mut ScopeRepository,
+) -> SyntaxSet {
+    let alloc = rt.alloc();
+    let mut builder = builder;
+    builder
+        .add_from_folder(rt, alloc, folder.as_path(), true, repository)
+        .expect(rt, "a set");
+    builder.build(alloc, repository).expect(rt, "a set")
+}
+
+/// What the first folder's set answers.
+const FIRST_ROWS: [Row; 4] = [
+    ("source.rust", "f(", true, "// "),
+    ("source.rust", "f {", false, "// "),
+    ("source.rust", "x", false, "// "),
+    ("source.c", "f(", false, "/* "),
+];
+
+/// What the set of both folders answers.
+const SECOND_ROWS: [Row; 2] = [
+    ("source.rust", "f(", false, "# "),
+    ("source.c", "f(", false, "/* "),
+];
+
 #[test]
 fn metadata_of_two_folders(rt: HostRuntime) {
     let alloc = rt.alloc();
-    let first = written(&rt, "syntect_metadata_first", &FIRST).expect(&rt, "a set");
-    let second = written(&rt, "syntect_metadata_second", &SECOND).expect(&rt, "a set");
+    let first = written(&rt, "syntect_metadata_first", &FIRST);
+    let second = written(&rt, "syntect_metadata_second", &SECOND);
     let mut repository = ScopeRepository::new(alloc);
-    let mut builder = SyntaxSetBuilder::new(alloc);
-    builder
-        .add_from_folder(&rt, alloc, first.as_path(), true, &mut repository)
-        .expect(&rt, "a set");
-    let set = builder.build(alloc, &mut repository).expect(&rt, "a set");
-    let rows = [
-        ("source.rust", "f(", true, "// "),
-        ("source.rust", "f {", false, "// "),
-        ("source.rust", "x", false, "// "),
-        ("source.c", "f(", false, "/* "),
-    ];
-    all_answer(&rt, &set, &mut repository, &rows);
-    let mut builder = set.into_builder(alloc).expect(&rt, "a set");
-    builder
-        .add_from_folder(&rt, alloc, second.as_path(), true, &mut repository)
-        .expect(&rt, "a set");
-    let set = builder.build(alloc, &mut repository).expect(&rt, "a set");
-    let rows = [
-        ("source.rust", "f(", false, "# "),
-        ("source.c", "f(", false, "/* "),
-    ];
-    all_answer(&rt, &set, &mut repository, &rows);
+    let set = set_with(&rt, SyntaxSetBuilder::new(alloc), &first, &mut repository);
+    all_answer(&rt, &set, &mut repository, &FIRST_ROWS);
+    let builder = set.into_builder(alloc).expect(&rt, "a set");
+    let set = set_with(&rt, builder, &second, &mut repository);
+    all_answer(&rt, &set, &mut repository, &SECOND_ROWS);
 }

@@ -22,15 +22,25 @@ fn set_of(alloc: Global, text: &str, repository: &mut ScopeRepository) -> Result
     Ok(builder.build(alloc, repository)?)
 }
 
-/// Reads a line by a grammar whose match pushes this.
-fn read(alloc: Global, name: &str, repository: &mut ScopeRepository) -> Result<(), Error> {
-    let grammar = pushing(alloc, name)?;
-    let set = set_of(alloc, grammar.as_str(), repository)?;
-    let theme = Theme::default(alloc);
-    let syntax = set.syntaxes().first().ok_or(Error::NoSyntax)?;
-    let mut lines = HighlightLines::new(alloc, syntax, &theme)?;
-    lines.highlight_line(alloc, "x\n", &set)?;
+/// Reads a line.
+fn read_line(alloc: Global, lines: &mut HighlightLines<'_>, set: &SyntaxSet) -> Result<(), Error> {
+    lines.highlight_line(alloc, "x\n", set)?;
     Ok(())
+}
+
+/// Reads a line by a grammar whose match pushes this.
+fn read(
+    rt: &impl Abort,
+    alloc: Global,
+    name: &str,
+    repository: &mut ScopeRepository,
+) -> Result<(), Error> {
+    let grammar = pushing(alloc, name).expect(rt, "memory");
+    let set = set_of(alloc, grammar.as_str(), repository).expect(rt, "a set");
+    let theme = Theme::default(alloc);
+    let syntax = set.syntaxes().first().expect(rt, "a syntax");
+    let mut lines = HighlightLines::new(alloc, syntax, &theme).expect(rt, "an answer");
+    read_line(alloc, &mut lines, &set)
 }
 
 fn colour(text: &str) -> Result<Color, Error> {
@@ -58,19 +68,38 @@ fn unwritten() -> Result<(), Error> {
     Err(Error::from(fmt::Error))
 }
 
+/// Whether there is an answer.
+fn passes<T: Drop>(answer: Result<T, Error>) -> bool {
+    answer.is_ok()
+}
+
+/// The refusal.
+fn refusal<T: Drop>(rt: &impl Abort, answer: Result<T, Error>) -> Error {
+    answer.err().expect(rt, "a refusal")
+}
+
 /// A refusal's message.
 fn told<T: Drop>(rt: &impl Abort, alloc: Global, answer: Result<T, Error>) -> String {
-    match answer {
-        Ok(_) => String::new(alloc),
-        Err(e) => format!(in alloc; "{e}").expect(rt, "memory"),
-    }
+    let e = refusal(rt, answer);
+    format!(in alloc; "{e}").expect(rt, "memory")
 }
 
 /// What `main` shows of a refusal.
 fn shown<T: Drop>(rt: &impl Abort, alloc: Global, answer: Result<T, Error>) -> String {
-    match answer {
-        Ok(_) => String::new(alloc),
-        Err(e) => format!(in alloc; "{e:?}").expect(rt, "memory"),
+    let e = refusal(rt, answer);
+    format!(in alloc; "{e:?}").expect(rt, "memory")
+}
+
+/// What is told of a line's refusal, with the scopes' names.
+fn explained(
+    rt: &impl Abort,
+    alloc: Global,
+    answer: Result<(), Error>,
+    repository: &ScopeRepository,
+) -> String {
+    match &answer {
+        Err(Error::ParsingError(e)) => why_not_read(alloc, repository, e).expect(rt, "memory"),
+        _ => String::new(alloc),
     }
 }
 
@@ -104,11 +133,11 @@ fn texts_that_are_none_are_taken_as_well(rt: HostRuntime) {
     let mut repository = ScopeRepository::new(alloc);
     holds(
         &rt,
-        set_of(alloc, "scope: s\ncontexts: {main: []}", &mut repository).is_ok(),
+        passes(set_of(alloc, "scope: s\ncontexts: {main: []}", &mut repository)),
     );
-    holds(&rt, scope("a.b.c.d.e.f.g.h", &mut repository).is_ok());
-    holds(&rt, pattern(alloc, "(a)").is_ok());
-    holds(&rt, colour("#f00").is_ok());
+    holds(&rt, passes(scope("a.b.c.d.e.f.g.h", &mut repository)));
+    holds(&rt, passes(pattern(alloc, "(a)")));
+    holds(&rt, passes(colour("#f00")));
 }
 
 #[test]
@@ -139,7 +168,7 @@ fn debug_texts_have_the_cause(rt: HostRuntime) {
 fn unresolved_references_are_named(rt: HostRuntime) {
     let alloc = rt.alloc();
     let mut repository = ScopeRepository::new(alloc);
-    let named = told(&rt, alloc, read(alloc, "none", &mut repository));
+    let named = told(&rt, alloc, read(&rt, alloc, "none", &mut repository));
     equal(
         &rt,
         named.as_str(),
@@ -148,18 +177,20 @@ fn unresolved_references_are_named(rt: HostRuntime) {
     let outside = told(
         &rt,
         alloc,
-        read(alloc, "Packages/C/C.sublime-syntax#part", &mut repository),
+        read(
+            &rt,
+            alloc,
+            "Packages/C/C.sublime-syntax#part",
+            &mut repository,
+        ),
     );
     equal(
         &rt,
         outside.as_str(),
         "Parsing error: Tried to use a ContextReference that has not been resolved yet: 'part' of the syntax 'C'",
     );
-    let answer = read(alloc, "scope:source.c", &mut repository);
-    let by_scope = match &answer {
-        Err(Error::ParsingError(e)) => why_not_read(alloc, &repository, e).expect(&rt, "memory"),
-        _ => String::new(alloc),
-    };
+    let answer = read(&rt, alloc, "scope:source.c", &mut repository);
+    let by_scope = explained(&rt, alloc, answer, &repository);
     equal(
         &rt,
         by_scope.as_str(),
