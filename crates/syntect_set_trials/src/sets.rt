@@ -33,6 +33,17 @@ pub fn show_name(rt: &impl Print, syntax: Option<&SyntaxReference>) {
     }
 }
 
+/// Shows all that a definition holds.
+fn show_definition(
+    rt: &(impl Print + AllocGlobal),
+    definition: SyntaxDefinition,
+    repository: &ScopeRepository,
+) {
+    let mut builder = SyntaxSetBuilder::new(rt.alloc());
+    let _ = builder.add(definition);
+    show_definitions(rt, &builder, repository);
+}
+
 fn load_from_str(rt: &(impl Print + AllocGlobal)) {
     let alloc = rt.alloc();
     for _ in 0..TIMES {
@@ -41,11 +52,7 @@ fn load_from_str(rt: &(impl Print + AllocGlobal)) {
         let loaded = SyntaxDefinition::load_from_str(alloc, GRAMMAR, true, None, &mut repository);
         end(rt);
         match loaded {
-            Ok(definition) => {
-                let mut builder = SyntaxSetBuilder::new(alloc);
-                let _ = builder.add(definition);
-                show_definitions(rt, &builder, &repository);
-            }
+            Ok(definition) => show_definition(rt, definition, &repository),
             Err(e) => answer(rt, &e),
         }
     }
