@@ -59,7 +59,8 @@ fn pages_of_one_line(rt: HostRuntime) {
     let mut repository = ScopeRepository::new(alloc);
     let theme = theme_of(&rt, alloc, &mut repository);
     let page = page_of(alloc, &mut repository, HEREDOC, &theme, "<<E\n").expect(&rt, "an answer");
-    holds(&rt, page.is_some_and(|page| page.as_str() == PAGE));
+    let page = page.expect(&rt, "a page");
+    equal(&rt, page.as_str(), PAGE);
 }
 
 #[test]
@@ -118,5 +119,5 @@ fn pages_with_classes(rt: HostRuntime) {
         "an answer",
     );
     let wanted = "<span class=\"source t\"> <span class=\"word\">hello</span></span>";
-    holds(&rt, page.as_str() == wanted);
+    equal(&rt, page.as_str(), wanted);
 }

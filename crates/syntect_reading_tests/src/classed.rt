@@ -64,18 +64,26 @@ fn built(rt: &impl Abort, alloc: Global, repository: &mut ScopeRepository) -> Sy
     builder.build(alloc, repository).expect(rt, "a set")
 }
 
+/// A page that begins in the grammar's syntax.
+fn begun<'s>(
+    rt: &impl Abort,
+    alloc: Global,
+    set: &'s SyntaxSet,
+    repository: &'s ScopeRepository,
+    style: ClassStyle,
+) -> ClassedHTMLGenerator<'s> {
+    let syntax = set.find_syntax_by_name("T").expect(rt, "a syntax");
+    ClassedHTMLGenerator::new_with_class_style(alloc, syntax, set, repository, style).expect(
+        rt,
+        "an answer",
+    )
+}
+
 /// The page of a text.
 fn page(rt: &impl Abort, alloc: Global, text: &str, style: ClassStyle) -> String {
     let mut repository = ScopeRepository::new(alloc);
     let set = built(rt, alloc, &mut repository);
-    let syntax = set.find_syntax_by_name("T").expect(rt, "a syntax");
-    let mut generator = ClassedHTMLGenerator::new_with_class_style(
-        alloc,
-        syntax,
-        &set,
-        &repository,
-        style,
-    ).expect(rt, "an answer");
+    let mut generator = begun(rt, alloc, &set, &repository, style);
     for line in LinesWithEndings::from(text) {
         generator
             .parse_html_for_line_which_includes_newline(line)
@@ -108,15 +116,7 @@ fn a_refused_line_adds_nothing(rt: HostRuntime) {
     let alloc = rt.alloc();
     let mut repository = ScopeRepository::new(alloc);
     let set = built(&rt, alloc, &mut repository);
-    let syntax = set.find_syntax_by_name("T").expect(&rt, "a syntax");
-    let style = ClassStyle::Spaced;
-    let mut generator = ClassedHTMLGenerator::new_with_class_style(
-        alloc,
-        syntax,
-        &set,
-        &repository,
-        style,
-    ).expect(&rt, "an answer");
+    let mut generator = begun(&rt, alloc, &set, &repository, ClassStyle::Spaced);
     let refused = generator.parse_html_for_line_which_includes_newline("!\n");
     holds(
         &rt,

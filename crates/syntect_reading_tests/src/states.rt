@@ -30,6 +30,20 @@ fn built(rt: &impl Abort, alloc: Global, repository: &mut ScopeRepository) -> Sy
         .expect(rt, "a set")
 }
 
+/// A state and its copy read a line alike, and are alike again behind it.
+fn copies_read_alike(rt: &impl Abort, alloc: Global, set: &SyntaxSet) {
+    let syntax = set.syntaxes().first().expect(rt, "a syntax");
+    let mut state = ParseState::new(alloc, syntax).expect(rt, "an answer");
+    let before = state.clone().expect(rt, "memory");
+    let mut copy = state.clone().expect(rt, "memory");
+    holds(rt, copy == state);
+    let first = state.parse_line(alloc, "x\n", set).expect(rt, "an answer");
+    holds(rt, state != before);
+    let again = copy.parse_line(alloc, "x\n", set).expect(rt, "an answer");
+    holds(rt, first.as_slice() == again.as_slice());
+    holds(rt, copy == state);
+}
+
 #[test]
 fn copies_are_read_as_the_first(rt: HostRuntime) {
     let alloc = rt.alloc();
@@ -37,24 +51,9 @@ fn copies_are_read_as_the_first(rt: HostRuntime) {
     let set = built(&rt, alloc, &mut repository)
         .clone()
         .expect(&rt, "memory");
-    let syntax = set.syntaxes().first().expect(&rt, "a syntax");
-    let mut state = ParseState::new(alloc, syntax).expect(&rt, "an answer");
-    let before = state.clone().expect(&rt, "memory");
-    let mut copy = state.clone().expect(&rt, "memory");
-    holds(&rt, copy == state);
-    let first = state
-        .parse_line(alloc, "x\n", &set)
-        .expect(&rt, "an answer");
-    holds(&rt, state != before);
-    let again = copy.parse_line(alloc, "x\n", &set).expect(&rt, "an answer");
-    holds(&rt, first.as_slice() == again.as_slice());
-    holds(&rt, copy == state);
-    holds(
-        &rt,
-        set.find_syntax_by_first_line("xy")
-            .expect(&rt, "an answer")
-            .is_some(),
-    );
+    copies_read_alike(&rt, alloc, &set);
+    let syntax = set.find_syntax_by_first_line("xy").expect(&rt, "an answer");
+    holds(&rt, syntax.is_some());
 }
 
 /// A state stays where the one behind a line is asked for.
@@ -139,9 +138,7 @@ fn numbers_of_contexts(rt: HostRuntime) {
 fn a_name_has_no_number(rt: HostRuntime) {
     let alloc = rt.alloc();
     let named = ContextReference::Named(Text::from_str(alloc, "none").expect(&rt, "an answer"));
-    holds(
-        &rt,
-        named.id()
-            == Err(ParsingError::UnresolvedContextReference(named.clone().expect(&rt, "memory"))),
-    );
+    let copy = named.clone().expect(&rt, "memory");
+    let wanted = ParsingError::UnresolvedContextReference(copy);
+    holds(&rt, named.id() == Err(wanted));
 }
