@@ -1,7 +1,7 @@
 //! Broken inputs, each of which has to be answered: grammars, themes, metadata, patterns and texts.
 use crate::broken::{below, broken};
 use crate::given::LINE;
-use serde_json::Value;
+use serde_json::{Map, Value};
 use std::alloc::{AllocError, Global};
 use std::path::Path;
 use std::rt::Files;
@@ -35,18 +35,32 @@ fn of_page(page: Result<String, Error>) -> Option<bool> {
     }
 }
 
+/// The set of a definition.
+fn made_of(
+    alloc: Global,
+    definition: SyntaxDefinition,
+    repository: &mut ScopeRepository,
+) -> Option<SyntaxSet> {
+    let mut builder = SyntaxSetBuilder::new(alloc);
+    builder.add(definition).ok()?;
+    builder.build(alloc, repository).ok()
+}
+
+/// Reads a line by the first syntax of a set.
+fn read_by(alloc: Global, set: &SyntaxSet) -> Option<bool> {
+    let syntax = set.syntaxes().first()?;
+    let theme = Theme::default(alloc);
+    of_page(highlighted_html_for_string(alloc, LINE, set, syntax, &theme))
+}
+
 /// Reads a line by a definition.
 fn read(
     alloc: Global,
     definition: SyntaxDefinition,
     repository: &mut ScopeRepository,
 ) -> Option<bool> {
-    let mut builder = SyntaxSetBuilder::new(alloc);
-    builder.add(definition).ok()?;
-    let set = builder.build(alloc, repository).ok()?;
-    let syntax = set.syntaxes().first()?;
-    let theme = Theme::default(alloc);
-    of_page(highlighted_html_for_string(alloc, LINE, &set, syntax, &theme))
+    let set = made_of(alloc, definition, repository)?;
+    read_by(alloc, &set)
 }
 
 /// Whether a grammar is accepted, and a line by it; none if it isn't refused for what it says.
@@ -69,11 +83,16 @@ fn of_theme(alloc: Global, bytes: &[u8]) -> Option<bool> {
     }
 }
 
-/// Whether settings make a set of metadata.
+/// Whether bytes are settings that make a set of metadata.
 fn of_settings(alloc: Global, bytes: &[u8]) -> Option<bool> {
-    let Ok(Value::Object(settings)) = settings_of(alloc, bytes) else {
-        return Some(false);
-    };
+    match settings_of(alloc, bytes) {
+        Ok(Value::Object(settings)) => of_object(alloc, settings),
+        _ => Some(false),
+    }
+}
+
+/// Whether settings make a set of metadata.
+fn of_object(alloc: Global, settings: Map<String, Value>) -> Option<bool> {
     let mut repository = ScopeRepository::new(alloc);
     let selector = String::from_str(alloc, "source").ok()?;
     match MetadataSet::from_raw(alloc, (selector, settings), &mut repository) {
@@ -201,8 +220,8 @@ fn try_bytes(
     (path, folder): (&str, &str),
     bytes: &Vec<u8>,
     (inputs, seed): (u32, &mut u64),
+    given: &Given,
 ) -> io::Result<Counts> {
-    let given = make_given(rt.alloc());
     let mut counts = Counts {
         inputs: 0,
         accepted: 0,
@@ -210,7 +229,7 @@ fn try_bytes(
     };
     for _ in 0..inputs {
         let input = input(bytes, seed)?;
-        try_input(rt, (path, folder), input.as_slice(), &given, &mut counts)?;
+        try_input(rt, (path, folder), input.as_slice(), given, &mut counts)?;
     }
     Ok(counts)
 }
@@ -228,6 +247,18 @@ fn print_counts(rt: &(impl Print + Eprint), path: &str, counts: Counts) -> io::R
     Ok(answered == inputs)
 }
 
+/// Tries so many broken inputs of a file. Answers whether each was answered.
+fn try_file(
+    rt: &(impl Print + Eprint + AllocGlobal + Files),
+    (path, kept): (&str, &str),
+    (inputs, seed): (u32, &mut u64),
+) -> io::Result<bool> {
+    let bytes = fs::read(rt, path)?;
+    let given = make_given(rt.alloc());
+    let counts = try_bytes(rt, (path, kept), &bytes, (inputs, seed), &given)?;
+    print_counts(rt, path, counts)
+}
+
 /// Tries so many broken inputs of each file of a folder, from a seed. In the second folder, if it has a name, the input stands
 /// that is being tried, under the name of its file, and each that was not answered, under its number too. Answers whether
 /// each was answered.
@@ -243,9 +274,7 @@ pub fn try_broken(
     let mut seed = u64::from(seed);
     let mut all = true;
     for path in paths.as_slice() {
-        let bytes = fs::read(rt, path.as_str())?;
-        let counts = try_bytes(rt, (path.as_str(), kept), &bytes, (inputs, &mut seed))?;
-        all &= print_counts(rt, path.as_str(), counts)?;
+        all &= try_file(rt, (path.as_str(), kept), (inputs, &mut seed))?;
     }
     Ok(all)
 }
@@ -259,21 +288,20 @@ pub fn show_input(rt: &(impl Print + AllocGlobal + Files), path: &str) -> io::Re
     Ok(accepted.is_some())
 }
 
+/// Whether a text loads as a grammar, or is refused for what it says.
+fn loads(alloc: Global, text: &str) -> bool {
+    let mut repository = ScopeRepository::new(alloc);
+    let loaded = SyntaxDefinition::load_from_str(alloc, text, true, None, &mut repository);
+    !matches!(loaded, Err(ParseSyntaxError::Memory))
+}
+
 /// Whether each front of a grammar's text, from the empty one to the whole, loads or is refused for what it says.
 pub fn fronts_answered(rt: &(impl AllocGlobal + Files), path: &str) -> io::Result<bool> {
     let text = fs::read_to_string(rt, path)?;
     let mut all = true;
     for end in 0..=text.len() {
         if let Some(front) = text.as_str().get(..end) {
-            let mut repository = ScopeRepository::new(rt.alloc());
-            let loaded = SyntaxDefinition::load_from_str(
-                rt.alloc(),
-                front,
-                true,
-                None,
-                &mut repository,
-            );
-            all &= !matches!(loaded, Err(ParseSyntaxError::Memory));
+            all &= loads(rt.alloc(), front);
         }
     }
     Ok(all)

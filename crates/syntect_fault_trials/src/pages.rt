@@ -53,33 +53,35 @@ fn lines_from_state(rt: &(impl Print + AllocGlobal), given: &Given, syntax: &Syn
     }
 }
 
-/// What is left unchanged shows in the lines after it.
-fn highlight_line(rt: &(impl Print + AllocGlobal), given: &Given, syntax: &SyntaxReference) {
-    let alloc = rt.alloc();
-    let Ok(mut lines) = HighlightLines::new(alloc, syntax, &given.theme) else {
-        return;
-    };
+/// Reads a line a few times over. What is left unchanged shows in the lines after it.
+fn read_lines(
+    rt: &(impl Print + AllocGlobal),
+    given: &Given,
+    lines: &mut HighlightLines<'_>,
+    line: &str,
+) {
     for _ in 0..TIMES {
         begin(rt);
-        let pieces = lines.highlight_line(alloc, LINE, &given.set);
+        let pieces = lines.highlight_line(rt.alloc(), line, &given.set);
         end(rt);
         answer(rt, &pieces);
     }
 }
 
-/// A line that names a context which isn't there; behind it one that doesn't, as at the text's start.
-fn refused_line(rt: &(impl Print + AllocGlobal), given: &Given, syntax: &SyntaxReference) {
-    let alloc = rt.alloc();
-    let Ok(mut lines) = HighlightLines::new(alloc, syntax, &given.theme) else {
+fn highlight_line(rt: &(impl Print + AllocGlobal), given: &Given, syntax: &SyntaxReference) {
+    let Ok(mut lines) = HighlightLines::new(rt.alloc(), syntax, &given.theme) else {
         return;
     };
-    for _ in 0..TIMES {
-        begin(rt);
-        let pieces = lines.highlight_line(alloc, "a !\n", &given.set);
-        end(rt);
-        answer(rt, &pieces);
-    }
-    let pieces = lines.highlight_line(alloc, LINE, &given.set);
+    read_lines(rt, given, &mut lines, LINE);
+}
+
+/// A line that names a context which isn't there; behind it one that doesn't, as at the text's start.
+fn refused_line(rt: &(impl Print + AllocGlobal), given: &Given, syntax: &SyntaxReference) {
+    let Ok(mut lines) = HighlightLines::new(rt.alloc(), syntax, &given.theme) else {
+        return;
+    };
+    read_lines(rt, given, &mut lines, "a !\n");
+    let pieces = lines.highlight_line(rt.alloc(), LINE, &given.set);
     answer(rt, &pieces);
 }
 
