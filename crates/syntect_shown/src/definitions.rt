@@ -7,24 +7,29 @@ use syntect_scope::scope::Scope;
 use syntect_scope::stack::ClearAmount;
 use syntect_values::text::Text;
 
-/// Adds ` #` and the context within a syntax that a reference names, if it names one.
-fn write_sub_context(sub_context: &Option<Text>, out: &mut String) -> Option<()> {
-    match sub_context {
-        Some(name) => write!(out, "#{}", name.as_str()).ok(),
-        None => Some(()),
+/// Adds a text, if it is asked for.
+fn write_mark(text: &str, is_asked: bool, out: &mut String) -> Option<()> {
+    out.push_str(if is_asked { text } else { "" }).ok()
+}
+
+/// Adds ` #` and the context within a syntax that a reference names, if it names one, and a mark if it has a way out.
+fn write_way(sub_context: &Option<Text>, with_escape: bool, out: &mut String) -> Option<()> {
+    if let Some(name) = sub_context {
+        write!(out, "#{}", name.as_str()).ok()?;
     }
+    write_mark(" with escape", with_escape, out)
 }
 
-/// Adds a mark for a reference that has a way out.
-fn write_escape(with_escape: bool, out: &mut String) -> Option<()> {
-    out.push_str(if with_escape { " with escape" } else { "" })
-        .ok()
-}
-
-/// Adds a space and the numbers of a context.
-fn write_id(id: &ContextId, out: &mut String) -> Option<()> {
+/// Adds a label and the numbers of a context.
+fn write_id(label: &str, id: &ContextId, out: &mut String) -> Option<()> {
     let (syntax, context) = (id.syntax_index, id.context_index);
-    write!(out, " {syntax} {context}").ok()
+    write!(out, "{label} {syntax} {context}").ok()
+}
+
+/// Adds a space and a scope.
+fn write_scope(scope: Scope, repository: &ScopeRepository, out: &mut String) -> Option<()> {
+    let scope = repository.to_string(scope).ok()?;
+    write!(out, " {scope}").ok()
 }
 
 /// Adds a space, the kind of a reference and what it names.
@@ -41,10 +46,9 @@ pub fn write_reference(
             sub_context,
             with_escape,
         } => {
-            let scope = repository.to_string(*scope).ok()?;
-            write!(out, " scope {scope}").ok()?;
-            write_sub_context(sub_context, out)?;
-            write_escape(*with_escape, out)
+            out.push_str(" scope").ok()?;
+            write_scope(*scope, repository, out)?;
+            write_way(sub_context, *with_escape, out)
         }
         ContextReference::File {
             name,
@@ -52,13 +56,9 @@ pub fn write_reference(
             with_escape,
         } => {
             write!(out, " file {}", name.as_str()).ok()?;
-            write_sub_context(sub_context, out)?;
-            write_escape(*with_escape, out)
+            write_way(sub_context, *with_escape, out)
         }
-        ContextReference::Direct(id) => {
-            out.push_str(" direct").ok()?;
-            write_id(id, out)
-        }
+        ContextReference::Direct(id) => write_id(" direct", id, out),
     }
 }
 
@@ -80,8 +80,7 @@ fn write_references(
 /// Adds a space and each of these scopes.
 fn write_list(scopes: &[Scope], repository: &ScopeRepository, out: &mut String) -> Option<()> {
     for scope in scopes {
-        let scope = repository.to_string(*scope).ok()?;
-        write!(out, " {scope}").ok()?;
+        write_scope(*scope, repository, out)?;
     }
     Some(())
 }
@@ -185,25 +184,25 @@ fn write_patterns(
     Some(())
 }
 
+/// Adds what a context clears, if it does.
+fn write_clearing(clear_scopes: Option<ClearAmount>, out: &mut String) -> Option<()> {
+    match clear_scopes {
+        Some(ClearAmount::TopN(count)) => writeln!(out, "  clear_scopes {count}").ok(),
+        Some(ClearAmount::All) => out.push_str("  clear_scopes all\n").ok(),
+        None => Some(()),
+    }
+}
+
 /// Adds what stands in a context beside its scopes and patterns.
 fn write_marks(context: &Context, out: &mut String) -> Option<()> {
-    if !context.meta_include_prototype {
-        out.push_str("  without prototype\n").ok()?;
-    }
-    match context.clear_scopes {
-        Some(ClearAmount::TopN(count)) => writeln!(out, "  clear_scopes {count}").ok()?,
-        Some(ClearAmount::All) => out.push_str("  clear_scopes all\n").ok()?,
-        None => {}
-    }
+    let is_without = !context.meta_include_prototype;
+    write_mark("  without prototype\n", is_without, out)?;
+    write_clearing(context.clear_scopes, out)?;
     if let Some(id) = &context.prototype {
-        out.push_str("  prototype").ok()?;
-        write_id(id, out)?;
+        write_id("  prototype", id, out)?;
         out.push('\n').ok()?;
     }
-    if context.uses_backrefs {
-        out.push_str("  uses_backrefs\n").ok()?;
-    }
-    Some(())
+    write_mark("  uses_backrefs\n", context.uses_backrefs, out)
 }
 
 /// Adds a context.
@@ -226,22 +225,27 @@ fn write_context(
     write_patterns(context.patterns.as_slice(), repository, out)
 }
 
-/// Adds what stands in a definition beside its contexts.
+/// Adds a line for each of these extensions of files.
+fn write_extensions(extensions: &[Text], out: &mut String) -> Option<()> {
+    for extension in extensions {
+        writeln!(out, "extension {}", extension.as_str()).ok()?;
+    }
+    Some(())
+}
+
+/// Adds what stands in a definition beside its variables and contexts.
 fn write_head(
     definition: &SyntaxDefinition,
     repository: &ScopeRepository,
     out: &mut String,
 ) -> Option<()> {
     writeln!(out, "name {}", definition.name.as_str()).ok()?;
-    for extension in &definition.file_extensions {
-        writeln!(out, "extension {}", extension.as_str()).ok()?;
-    }
+    write_extensions(definition.file_extensions.as_slice(), out)?;
     write_scopes("scope", &[definition.scope], repository, out)?;
     if let Some(pattern) = &definition.first_line_match {
         writeln!(out, "first_line_match {}", pattern.as_str()).ok()?;
     }
-    out.push_str(if definition.hidden { "hidden\n" } else { "" })
-        .ok()
+    write_mark("hidden\n", definition.hidden, out)
 }
 
 /// Adds the variables and the contexts of a definition.

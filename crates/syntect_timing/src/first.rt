@@ -5,11 +5,8 @@ use std::rt::{Clock, Files};
 use std::time::Instant;
 use std::{fs, io};
 use syntect::easy::HighlightLines;
-use syntect_parsing::syntax_definition::SyntaxDefinition;
-use syntect_parsing::syntax_set::{SyntaxSet, SyntaxSetBuilder};
-use syntect_scope::repository::ScopeRepository;
-use syntect_theme::theme::Theme;
-use syntect_theme_files::theme_set::ThemeSet;
+use syntect::highlighting::{Style, Theme, ThemeSet};
+use syntect::parsing::{ScopeRepository, SyntaxDefinition, SyntaxSet, SyntaxSetBuilder};
 
 /// The contexts of the first line's example, as a grammar.
 const GRAMMAR: &str =
@@ -22,8 +19,9 @@ const THEME: &str =
 /// The set of the grammar.
 fn first_line_set(alloc: Global, repository: &mut ScopeRepository) -> Option<SyntaxSet> {
     let loaded = SyntaxDefinition::load_from_str(alloc, GRAMMAR, false, None, repository);
+    let definition = loaded.ok()?;
     let mut builder = SyntaxSetBuilder::new(alloc);
-    builder.add(loaded.ok()?).ok()?;
+    builder.add(definition).ok()?;
     builder.build(alloc, repository).ok()
 }
 
@@ -37,17 +35,9 @@ fn first_line(alloc: Global) -> Option<(SyntaxSet, Theme)> {
 }
 
 /// Adds a line for each piece of a line of text: the number of the line, the piece's bytes in it, and its colour.
-fn describe(
-    alloc: Global,
-    number: usize,
-    line: &str,
-    lines: &mut HighlightLines<'_>,
-    set: &SyntaxSet,
-    out: &mut String,
-) -> Option<()> {
-    let pieces = lines.highlight_line(alloc, line, set).ok()?;
+fn write_pieces(number: usize, pieces: &[(Style, &str)], out: &mut String) -> Option<()> {
     let mut from = 0usize;
-    for (style, part) in &pieces {
+    for (style, part) in pieces {
         let to = from.checked_add(part.len())?;
         let color = style.foreground;
         let (r, g, b) = (color.r, color.g, color.b);
@@ -57,17 +47,29 @@ fn describe(
     Some(())
 }
 
-/// What is printed of a text.
-fn description(alloc: Global, text: &str) -> Option<String> {
-    let (set, theme) = first_line(alloc)?;
-    let syntax = set.syntaxes().first()?;
-    let mut lines = HighlightLines::new(alloc, syntax, &theme).ok()?;
-    let mut out = String::new(alloc);
+/// Highlights the lines of a text, and adds their pieces.
+fn write_lines(
+    alloc: Global,
+    text: &str,
+    set: &SyntaxSet,
+    theme: &Theme,
+    out: &mut String,
+) -> Option<()> {
+    let mut lines = HighlightLines::new(alloc, set.syntaxes().first()?, theme).ok()?;
     let mut number = 0usize;
     for line in text.split_inclusive('\n') {
         number = number.checked_add(1)?;
-        describe(alloc, number, line, &mut lines, &set, &mut out)?;
+        let pieces = lines.highlight_line(alloc, line, set).ok()?;
+        write_pieces(number, pieces.as_slice(), out)?;
     }
+    Some(())
+}
+
+/// What is printed of a text.
+fn description(alloc: Global, text: &str) -> Option<String> {
+    let (set, theme) = first_line(alloc)?;
+    let mut out = String::new(alloc);
+    write_lines(alloc, text, &set, &theme, &mut out)?;
     Some(out)
 }
 
@@ -112,6 +114,21 @@ fn a_second(number: u64, nanos: u64) -> u64 {
     }
 }
 
+/// How long a run over a text took, in nanoseconds, and how many lines it has; none where a line is refused.
+fn timed_run(
+    rt: &(impl AllocGlobal + Clock),
+    text: &str,
+    set: &SyntaxSet,
+    theme: &Theme,
+) -> io::Result<Option<(u64, u64)>> {
+    let start = Instant::now(rt)?;
+    let Some(lines) = run(rt.alloc(), text, set, theme) else {
+        return Ok(None);
+    };
+    let nanos = start.elapsed(rt)?.as_nanos();
+    Ok(Some((u64::try_from(nanos).unwrap_or(u64::MAX), lines)))
+}
+
 /// How long each of some runs over a text took, in nanoseconds and in order, and how many lines a run has; none where a
 /// line is refused.
 fn times(
@@ -124,12 +141,10 @@ fn times(
     let mut all = Vec::new(rt.alloc());
     let mut lines = 0;
     for _ in 0..rounds {
-        let start = Instant::now(rt)?;
-        let Some(count) = run(rt.alloc(), text, set, theme) else {
+        let Some((nanos, count)) = timed_run(rt, text, set, theme)? else {
             return Ok(None);
         };
-        let nanos = start.elapsed(rt)?.as_nanos();
-        all.push(u64::try_from(nanos).unwrap_or(u64::MAX))?;
+        all.push(nanos)?;
         lines = count;
     }
     all.sort()?;

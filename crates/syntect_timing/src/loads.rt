@@ -3,8 +3,7 @@ use std::process::ExitCode;
 use std::rt::{Clock, Files};
 use std::time::Instant;
 use std::{fs, io};
-use syntect_parsing::syntax_definition::SyntaxDefinition;
-use syntect_scope::repository::ScopeRepository;
+use syntect::parsing::{ScopeRepository, SyntaxDefinition};
 
 /// What was loaded of a folder.
 #[derive(Clone, Copy)]

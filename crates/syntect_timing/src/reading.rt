@@ -6,13 +6,10 @@ use std::rt::{Clock, Files};
 use std::time::Instant;
 use std::{fs, io};
 use syntect::easy::HighlightLines;
+use syntect::highlighting::{Theme, ThemeSet};
 use syntect::html::highlighted_html_for_string;
+use syntect::parsing::{ParseState, ScopeRepository, SyntaxReference, SyntaxSet, SyntaxSetBuilder};
 use syntect::util::LinesWithEndings;
-use syntect_parsing::parser::ParseState;
-use syntect_parsing::syntax_set::{SyntaxReference, SyntaxSet, SyntaxSetBuilder};
-use syntect_scope::repository::ScopeRepository;
-use syntect_theme::theme::Theme;
-use syntect_theme_files::theme_set::ThemeSet;
 
 /// Why there is nothing to time.
 fn fault(text: &'static str) -> io::Error {
@@ -155,6 +152,12 @@ fn time_lines(
     Ok(ExitCode::SUCCESS)
 }
 
+/// Prints how long loading has taken since a start, in microseconds.
+fn print_load(rt: &(impl Print + Clock), start: Instant) -> io::Result<()> {
+    let load = start.elapsed(rt)?.as_micros();
+    println!(rt; "load {load} us")
+}
+
 /// Loads and links the grammars of a folder, and prints how long that takes, in microseconds.
 fn timed_set(
     rt: &(impl Print + AllocGlobal + Files + Clock),
@@ -163,8 +166,7 @@ fn timed_set(
 ) -> io::Result<Option<SyntaxSet>> {
     let start = Instant::now(rt)?;
     let set = set_with_plain_text(rt, rt.alloc(), folder, repository);
-    let load = start.elapsed(rt)?.as_micros();
-    println!(rt; "load {load} us")?;
+    print_load(rt, start)?;
     Ok(set)
 }
 
