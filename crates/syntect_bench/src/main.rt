@@ -3,8 +3,11 @@
 //! contexts and the theme of example 17.
 #![tactic(auto)]
 
+mod calls;
 mod modes;
+mod readers;
 
+use crate::calls::run_calls;
 use crate::modes::{MODES, Runs, fits, number_at, word_at};
 use std::process::ExitCode;
 use std::rt::{Clock, Files};
@@ -15,7 +18,6 @@ use syntect_edit_trials::tried::{time_edits_of, try_file};
 use syntect_queries::patterns::time_patterns;
 use syntect_queries::queries::{answers, count_answers, count_patterns, time_queries};
 use syntect_queries::searches::time_searches;
-use syntect_rows::calls::run_calls;
 use syntect_rows::files::{Asked, run_scope_rows, show_asked};
 use syntect_rows::run::{run_row_files, show_row};
 use syntect_timing::first::{show, time};
@@ -28,16 +30,23 @@ use syntect_trials::theme_files::show_themes;
 
 fn main(rt: HostRuntime) -> io::Result<ExitCode> {
     let words: Vec<String> = env::args(&rt)?.skip(1).collect(rt.alloc())?;
-    let words = words.as_slice();
+    answer(&rt, words.as_slice())
+}
+
+/// Does what the words ask for, or prints what they can be.
+fn answer(
+    rt: &(impl Print + Eprint + AllocGlobal + Files + Clock + Clone + Drop),
+    words: &[String],
+) -> io::Result<ExitCode> {
     for (usage, runs) in &MODES {
         if fits(*usage, words) {
-            return run(&rt, *runs, words);
+            return run(rt, *runs, words);
         }
     }
     match words {
-        [] => run_rows(&rt),
-        [path] => show(&rt, path.as_str()),
-        _ => usage(&rt),
+        [] => run_rows(rt),
+        [path] => show(rt, path.as_str()),
+        _ => usage(rt),
     }
 }
 
@@ -51,7 +60,7 @@ fn usage(rt: &impl Eprint) -> io::Result<ExitCode> {
     Ok(ExitCode::from(2))
 }
 
-/// Does what the words ask for.
+/// Does what one of the usages says.
 fn run(
     rt: &(impl Print + Eprint + AllocGlobal + Files + Clock + Clone + Drop),
     runs: Runs,

@@ -1,17 +1,15 @@
 //! The worked examples of docs/EXAMPLES.md: files that say what is given and what is to be found, a runner of them, and
-//! the few that are made by calls.
+//! those whose contexts and patterns are made by calls.
 #![tactic(auto)]
 
-pub mod calls;
 pub mod files;
 mod finding;
 mod folders;
 mod given;
-mod made;
+pub mod made;
 mod operations;
-mod readers;
 pub mod run;
 mod runs;
-mod searching;
+pub mod searching;
 mod styled;
 mod tables;
