@@ -37,13 +37,24 @@ pub fn apply(
 const THEME: &str =
     r##"{"settings":[{"settings":{}},{"scope":"string","settings":{"foreground":"#010203"}}]}"##;
 
+/// The set of a grammar, for lines with their newlines or without.
+fn set_of(
+    alloc: Global,
+    grammar: &str,
+    newlines: bool,
+    repository: &mut ScopeRepository,
+) -> Option<SyntaxSet> {
+    let loaded = SyntaxDefinition::load_from_str(alloc, grammar, newlines, None, repository);
+    let definition = loaded.ok()?;
+    let mut builder = SyntaxSetBuilder::new(alloc);
+    builder.add(definition).ok()?;
+    builder.build(alloc, repository).ok()
+}
+
 /// The set of a grammar, for lines with their newlines or without, and the theme.
 pub fn set_and_theme(alloc: Global, grammar: &str, newlines: bool) -> Option<(SyntaxSet, Theme)> {
     let mut repository = ScopeRepository::new(alloc);
-    let loaded = SyntaxDefinition::load_from_str(alloc, grammar, newlines, None, &mut repository);
-    let mut builder = SyntaxSetBuilder::new(alloc);
-    builder.add(loaded.ok()?).ok()?;
-    let set = builder.build(alloc, &mut repository).ok()?;
+    let set = set_of(alloc, grammar, newlines, &mut repository)?;
     let mut bytes = THEME.as_bytes();
     let theme = ThemeSet::load_from_reader(alloc, &mut bytes, &mut repository).ok()?;
     Some((set, theme))

@@ -5,6 +5,8 @@ use std::alloc::Global;
 use std::path::Path;
 use std::rt::Files;
 use std::{fs, io};
+use syntect::highlighting::Theme;
+use syntect::parsing::SyntaxSet;
 use syntect_base::utils::files_below;
 use syntect_buffer::buffer::LineBuffer;
 use syntect_queries::escapes::unescaped;
@@ -26,6 +28,12 @@ fn edit_of(question: &str) -> Option<Edit<'_>> {
     }
 }
 
+/// Does the edit that a line asks for. Answers how many lines were read again.
+fn reread(alloc: Global, buffer: &mut LineBuffer<'_>, question: &str) -> Option<usize> {
+    let question = unescaped(alloc, question).ok()?;
+    apply(alloc, buffer, edit_of(question.as_str())?).ok()
+}
+
 /// Adds the answer to a question: to an edit how many lines were read again, and to `lines` those with their answers.
 fn write_answer(
     alloc: Global,
@@ -36,9 +44,7 @@ fn write_answer(
     if question == "lines" {
         return write!(out, "{}", Lines(buffer)).ok();
     }
-    let question = unescaped(alloc, question).ok()?;
-    let edit = edit_of(question.as_str())?;
-    let number = apply(alloc, buffer, edit).ok()?;
+    let number = reread(alloc, buffer, question)?;
     write!(out, "{number}").ok()
 }
 
@@ -70,16 +76,21 @@ fn grammar_of<'a>(parts: &[Part<'a>]) -> Option<(&'a str, bool)> {
     }
 }
 
-/// Whether the edits of a row come out as they are written, one after another on a buffer that begins without lines.
+/// Whether edits come out as they are written, one after another on a buffer that begins without lines.
+fn edits_hold(alloc: Global, body: &str, set: &SyntaxSet, theme: &Theme) -> Option<bool> {
+    let mut buffer = buffer_of(alloc, set, theme)?;
+    let mut out = String::new(alloc);
+    write_edits(alloc, &mut buffer, body, &mut out)?;
+    Some(out.as_str().strip_suffix('\n') == Some(body))
+}
+
+/// Whether the edits of a row come out as they are written.
 fn row_holds(alloc: Global, text: &str) -> Option<bool> {
     let parts = parts_of(alloc, text)?;
     let (grammar, newlines) = grammar_of(parts.as_slice())?;
     let body = body_of(parts.as_slice(), "edits")?;
     let (set, theme) = set_and_theme(alloc, grammar, newlines)?;
-    let mut buffer = buffer_of(alloc, &set, &theme)?;
-    let mut out = String::new(alloc);
-    write_edits(alloc, &mut buffer, body, &mut out)?;
-    Some(out.as_str().strip_suffix('\n') == Some(body))
+    edits_hold(alloc, body, &set, &theme)
 }
 
 /// Runs the row of a file, and prints whether it comes out as it is written. Answers whether it does.

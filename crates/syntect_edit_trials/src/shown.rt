@@ -42,6 +42,21 @@ fn givens_of(alloc: Global, cases: &[Case]) -> Option<Vec<(SyntaxSet, Theme)>> {
     Some(givens)
 }
 
+/// The buffer of a case, with its lines.
+fn buffer_with<'a>(
+    alloc: Global,
+    case: &Case,
+    set: &'a SyntaxSet,
+    theme: &'a Theme,
+) -> Option<LineBuffer<'a>> {
+    let mut buffer = buffer_of(alloc, set, theme)?;
+    if fill(alloc, &mut buffer, case.lines, case.times) {
+        Some(buffer)
+    } else {
+        None
+    }
+}
+
 /// The buffers of the cases, with their lines.
 fn buffers_of<'a>(
     alloc: Global,
@@ -50,11 +65,7 @@ fn buffers_of<'a>(
 ) -> Option<Vec<LineBuffer<'a>>> {
     let mut buffers = Vec::new(alloc);
     for (case, (set, theme)) in cases.iter().zip(givens.iter()) {
-        let mut buffer = buffer_of(alloc, set, theme)?;
-        if !fill(alloc, &mut buffer, case.lines, case.times) {
-            return None;
-        }
-        buffers.push(buffer).ok()?;
+        buffers.push(buffer_with(alloc, case, set, theme)?).ok()?;
     }
     Some(buffers)
 }
@@ -87,6 +98,19 @@ fn show_try(
     Ok(answer.is_ok())
 }
 
+/// Shows the edit of each case on its buffer.
+fn show_each(
+    rt: &(impl Print + AllocGlobal),
+    cases: &[Case],
+    buffers: &mut [LineBuffer<'_>],
+) -> io::Result<()> {
+    for (case, buffer) in cases.iter().zip(buffers.iter_mut()) {
+        println!(rt; "edit {}", case.name)?;
+        show_edit(rt, buffer, case.edit)?;
+    }
+    Ok(())
+}
+
 /// Does some edits, or one of a text of as many lines as a block of the buffer has, and shows each. Answers whether there was
 /// memory for what stands before them; else it shows nothing.
 pub fn show_edits(rt: &(impl Print + AllocGlobal), long: bool) -> io::Result<bool> {
@@ -97,9 +121,6 @@ pub fn show_edits(rt: &(impl Print + AllocGlobal), long: bool) -> io::Result<boo
     let Some(mut buffers) = buffers_of(rt.alloc(), cases, givens.as_slice()) else {
         return Ok(false);
     };
-    for (case, buffer) in cases.iter().zip(buffers.iter_mut()) {
-        println!(rt; "edit {}", case.name)?;
-        show_edit(rt, buffer, case.edit)?;
-    }
+    show_each(rt, cases, buffers.as_mut_slice())?;
     Ok(true)
 }

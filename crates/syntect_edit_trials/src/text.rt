@@ -69,6 +69,16 @@ fn random_line<'t>(random: &mut Random, lines: &[&'t str]) -> (&'t str, bool) {
     }
 }
 
+/// A line like these that looks random.
+fn random_text(alloc: Global, random: &mut Random, lines: &[&str]) -> Result<String, AllocError> {
+    let (line, cut) = random_line(random, lines);
+    let mut line = String::from_str(alloc, line)?;
+    if cut {
+        line.push('\n')?;
+    }
+    Ok(line)
+}
+
 /// Does an edit that looks random, with a line like these. Answers how many lines were read again.
 pub fn edit(
     alloc: Global,
@@ -76,11 +86,7 @@ pub fn edit(
     random: &mut Random,
     lines: &[&str],
 ) -> Result<usize, AllocError> {
-    let (line, cut) = random_line(random, lines);
-    let mut line = String::from_str(alloc, line)?;
-    if cut {
-        line.push('\n')?;
-    }
+    let line = random_text(alloc, random, lines)?;
     let count = text.buffer.len();
     let place = random.below(count.saturating_add(1));
     match random.below(3) {

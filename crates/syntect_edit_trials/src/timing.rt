@@ -1,5 +1,5 @@
 //! How long edits take, beside a new highlighter that is given all lines.
-use std::alloc::AllocError;
+use std::alloc::{AllocError, Global};
 use std::io;
 use std::rt::Clock;
 use std::time::Instant;
@@ -29,6 +29,21 @@ fn since(rt: &impl Clock, start: Instant) -> io::Result<u64> {
     Ok(u64::try_from(elapsed).unwrap_or(u64::MAX))
 }
 
+/// Does an edit at a line, with that text of it.
+fn done(
+    alloc: Global,
+    buffer: &mut LineBuffer<'_>,
+    place: usize,
+    edit: Edit<'_>,
+    line: String,
+) -> Result<usize, AllocError> {
+    match edit {
+        Edit::Set(_) => buffer.set_line(alloc, place, line),
+        Edit::Insert(_) => buffer.insert_line(alloc, place, line),
+        Edit::Remove => buffer.remove_line(alloc, place),
+    }
+}
+
 /// Does an edit, if there is such a line, and times it.
 fn timed(
     rt: &(impl AllocGlobal + Clock),
@@ -41,17 +56,12 @@ fn timed(
         Edit::Set(text) | Edit::Insert(text) => text,
         Edit::Remove => "",
     };
-    let line = String::from_str(alloc, text)?;
-    let count = buffer.len();
-    if place >= count {
+    if place >= buffer.len() {
         return Ok(Took { nanos: 0, read: 0 });
     }
+    let line = String::from_str(alloc, text)?;
     let start = Instant::now(rt)?;
-    let read = match edit {
-        Edit::Set(_) => buffer.set_line(alloc, place, line),
-        Edit::Insert(_) => buffer.insert_line(alloc, place, line),
-        Edit::Remove => buffer.remove_line(alloc, place),
-    };
+    let read = done(alloc, buffer, place, edit, line);
     let nanos = since(rt, start)?;
     Ok(Took { nanos, read: read? })
 }
@@ -67,6 +77,19 @@ fn print_times(rt: &impl Print, name: &str, times: &mut Vec<u64>, read: usize) -
     )
 }
 
+/// Does an edit, and adds the time that it took. Answers how many lines it read again.
+fn add_time(
+    rt: &(impl AllocGlobal + Clock),
+    buffer: &mut LineBuffer<'_>,
+    place: usize,
+    edit: Edit<'_>,
+    times: &mut Vec<u64>,
+) -> io::Result<usize> {
+    let took = timed(rt, buffer, place, edit)?;
+    times.push(took.nanos)?;
+    Ok(took.read)
+}
+
 /// Times two edits that undo each other, so many rounds, and prints how long each took and how many lines it read again
 /// in the last round.
 pub fn time_pair(
@@ -80,12 +103,8 @@ pub fn time_pair(
     let (mut times, mut back_times) = (Vec::new(rt.alloc()), Vec::new(rt.alloc()));
     let (mut read, mut back_read) = (0, 0);
     for _ in 0..rounds {
-        let took = timed(rt, buffer, place, edit)?;
-        times.push(took.nanos)?;
-        read = took.read;
-        let took = timed(rt, buffer, place, back)?;
-        back_times.push(took.nanos)?;
-        back_read = took.read;
+        read = add_time(rt, buffer, place, edit, &mut times)?;
+        back_read = add_time(rt, buffer, place, back, &mut back_times)?;
     }
     print_times(rt, name, &mut times, read)?;
     print_times(rt, back_name, &mut back_times, back_read)

@@ -45,24 +45,22 @@ pub fn text_of<'a>(
     Some(text)
 }
 
-/// Edits a text so often, and compares.
-pub fn try_edits(
+/// Edits a text of lines so often, with lines like these, and compares.
+fn edit_text(
     alloc: Global,
-    content: &str,
+    text: &mut Text<'_>,
+    lines: &[&str],
     (syntax, set, theme): (&SyntaxReference, &SyntaxSet, &Theme),
-    edits: u32,
-    seed: u64,
+    (edits, seed): (u32, u64),
 ) -> Option<Seen> {
-    let lines: Vec<&str> = LinesWithEndings::from(content).collect(alloc).ok()?;
-    let mut text = text_of(alloc, lines.as_slice(), syntax, set, theme)?;
     let mut random = Random::new(seed);
     let (mut compared, mut different, mut read) = (0u32, 0usize, 0usize);
     for done in 1..=edits {
-        let again = edit(alloc, &mut text, &mut random, lines.as_slice()).ok()?;
+        let again = edit(alloc, text, &mut random, lines).ok()?;
         read = read.saturating_add(again);
         if done % STRIDE == 0 {
             compared = compared.saturating_add(1);
-            let found = differences(alloc, &text, syntax, set, theme)?;
+            let found = differences(alloc, text, syntax, set, theme)?;
             different = different.saturating_add(found);
         }
     }
@@ -74,4 +72,18 @@ pub fn try_edits(
         read,
         lines,
     })
+}
+
+/// Edits the text of a file so often, and compares.
+pub fn try_edits(
+    alloc: Global,
+    content: &str,
+    (syntax, set, theme): (&SyntaxReference, &SyntaxSet, &Theme),
+    edits: u32,
+    seed: u64,
+) -> Option<Seen> {
+    let lines: Vec<&str> = LinesWithEndings::from(content).collect(alloc).ok()?;
+    let mut text = text_of(alloc, lines.as_slice(), syntax, set, theme)?;
+    let given = (syntax, set, theme);
+    edit_text(alloc, &mut text, lines.as_slice(), given, (edits, seed))
 }
