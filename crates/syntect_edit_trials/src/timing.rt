@@ -1,5 +1,5 @@
 //! How long edits take, beside a new highlighter that is given all lines.
-use std::alloc::{AllocError, Global};
+use std::alloc::AllocError;
 use std::io;
 use std::rt::Clock;
 use std::time::Instant;
@@ -29,21 +29,6 @@ fn since(rt: &impl Clock, start: Instant) -> io::Result<u64> {
     Ok(u64::try_from(elapsed).unwrap_or(u64::MAX))
 }
 
-/// Does an edit at a line, with that text of it.
-fn done(
-    alloc: Global,
-    buffer: &mut LineBuffer<'_>,
-    place: usize,
-    edit: Edit<'_>,
-    line: String,
-) -> Result<usize, AllocError> {
-    match edit {
-        Edit::Set(_) => buffer.set_line(alloc, place, line),
-        Edit::Insert(_) => buffer.insert_line(alloc, place, line),
-        Edit::Remove => buffer.remove_line(alloc, place),
-    }
-}
-
 /// Does an edit, if there is such a line, and times it.
 fn timed(
     rt: &(impl AllocGlobal + Clock),
@@ -56,12 +41,17 @@ fn timed(
         Edit::Set(text) | Edit::Insert(text) => text,
         Edit::Remove => "",
     };
-    if place >= buffer.len() {
+    let line = String::from_str(alloc, text)?;
+    let count = buffer.len();
+    if place >= count {
         return Ok(Took { nanos: 0, read: 0 });
     }
-    let line = String::from_str(alloc, text)?;
     let start = Instant::now(rt)?;
-    let read = done(alloc, buffer, place, edit, line);
+    let read = match edit {
+        Edit::Set(_) => buffer.set_line(alloc, place, line),
+        Edit::Insert(_) => buffer.insert_line(alloc, place, line),
+        Edit::Remove => buffer.remove_line(alloc, place),
+    };
     let nanos = since(rt, start)?;
     Ok(Took { nanos, read: read? })
 }
