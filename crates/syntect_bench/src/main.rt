@@ -3,11 +3,8 @@
 //! contexts and the theme of example 17.
 #![tactic(auto)]
 
-mod calls;
 mod modes;
-mod readers;
 
-use crate::calls::run_calls;
 use crate::modes::{MODES, Runs, fits, number_at, word_at};
 use std::process::ExitCode;
 use std::rt::{Clock, Files};
@@ -18,6 +15,7 @@ use syntect_edit_trials::tried::{time_edits_of, try_file};
 use syntect_queries::patterns::time_patterns;
 use syntect_queries::queries::{answers, count_answers, count_patterns, time_queries};
 use syntect_queries::searches::time_searches;
+use syntect_rows::calls::run_calls;
 use syntect_rows::files::{Asked, run_scope_rows, show_asked};
 use syntect_rows::run::{run_row_files, show_row};
 use syntect_timing::first::{show, time};
@@ -30,23 +28,16 @@ use syntect_trials::theme_files::show_themes;
 
 fn main(rt: HostRuntime) -> io::Result<ExitCode> {
     let words: Vec<String> = env::args(&rt)?.skip(1).collect(rt.alloc())?;
-    answer(&rt, words.as_slice())
-}
-
-/// Does what the words ask for, or prints what they can be.
-fn answer(
-    rt: &(impl Print + Eprint + AllocGlobal + Files + Clock + Clone + Drop),
-    words: &[String],
-) -> io::Result<ExitCode> {
+    let words = words.as_slice();
     for (usage, runs) in &MODES {
         if fits(*usage, words) {
-            return run(rt, *runs, words);
+            return run(&rt, *runs, words);
         }
     }
     match words {
-        [] => run_rows(rt),
-        [path] => show(rt, path.as_str()),
-        _ => usage(rt),
+        [] => run_rows(&rt),
+        [path] => show(&rt, path.as_str()),
+        _ => usage(&rt),
     }
 }
 
@@ -60,7 +51,7 @@ fn usage(rt: &impl Eprint) -> io::Result<ExitCode> {
     Ok(ExitCode::from(2))
 }
 
-/// Does what one of the usages says.
+/// Does what the words ask for.
 fn run(
     rt: &(impl Print + Eprint + AllocGlobal + Files + Clock + Clone + Drop),
     runs: Runs,

@@ -8,10 +8,11 @@ use std::path::Path;
 use std::process::ExitCode;
 use std::rt::Files;
 use std::{fs, io};
-use syntect::highlighting::Theme;
-use syntect::parsing::{ScopeRepository, SyntaxReference, SyntaxSet, SyntaxSetBuilder};
+use syntect_parsing::syntax_set::{SyntaxReference, SyntaxSet, SyntaxSetBuilder};
+use syntect_scope::repository::ScopeRepository;
 use syntect_shown::linear::write_linear;
 use syntect_shown::orderly::write_orderly;
+use syntect_theme::theme::Theme;
 
 /// The folder of the ten grammars.
 const GRAMMARS: &str = "ten/grammars";
@@ -84,12 +85,6 @@ fn write_scopes_of(
     write_scopes(given, repository, out)
 }
 
-/// The scopes in the file of a text's name.
-fn wanted_scopes(rt: &(impl AllocGlobal + Files), name: &str) -> Option<String> {
-    let path = format!(in rt.alloc(); "ten/scopes/{name}").ok()?;
-    fs::read_to_string(rt, path.as_str()).ok()
-}
-
 /// Whether the scopes of a text are those in the file of its name.
 fn has_scopes(
     rt: &(impl AllocGlobal + Files),
@@ -98,10 +93,11 @@ fn has_scopes(
     repository: &ScopeRepository,
     name: &str,
 ) -> Option<bool> {
-    let wanted = wanted_scopes(rt, name)?;
     let path = format!(in rt.alloc(); "ten/texts/{name}").ok()?;
     let mut out = String::new(rt.alloc());
     write_scopes_of(rt, set, theme, repository, path.as_str(), &mut out)?;
+    let answered = format!(in rt.alloc(); "ten/scopes/{name}").ok()?;
+    let wanted = fs::read_to_string(rt, answered.as_str()).ok()?;
     Some(out == wanted)
 }
 
@@ -156,27 +152,6 @@ fn write_syntaxes_of(
     Some(())
 }
 
-/// Adds what is asked of a set.
-fn write_asked_of(
-    files: &(impl AllocGlobal + Files),
-    set: &SyntaxSet,
-    repository: &ScopeRepository,
-    asked: Asked<'_>,
-    out: &mut String,
-) -> Option<()> {
-    let alloc = files.alloc();
-    match asked {
-        Asked::Unlinked => write_unlinked(alloc, set, repository, out),
-        Asked::Orderly => write_orderly(alloc, set, out),
-        Asked::Linear => write_linear(alloc, set, out),
-        Asked::Syntaxes(list) => write_syntaxes_of(files, set, list, out),
-        Asked::Scopes(path) => {
-            let theme = Theme::default(alloc);
-            write_scopes_of(files, set, &theme, repository, path, out)
-        }
-    }
-}
-
 /// Adds what is asked of the grammars of a folder.
 fn write_asked(
     files: &(impl AllocGlobal + Files),
@@ -184,9 +159,19 @@ fn write_asked(
     asked: Asked<'_>,
     out: &mut String,
 ) -> Option<()> {
-    let mut repository = ScopeRepository::new(files.alloc());
-    let set = set_with_plain_text(files, files.alloc(), folder, &mut repository)?;
-    write_asked_of(files, &set, &repository, asked, out)
+    let alloc = files.alloc();
+    let mut repository = ScopeRepository::new(alloc);
+    let set = set_with_plain_text(files, alloc, folder, &mut repository)?;
+    match asked {
+        Asked::Unlinked => write_unlinked(alloc, &set, &repository, out),
+        Asked::Orderly => write_orderly(alloc, &set, out),
+        Asked::Linear => write_linear(alloc, &set, out),
+        Asked::Syntaxes(list) => write_syntaxes_of(files, &set, list, out),
+        Asked::Scopes(path) => {
+            let theme = Theme::default(alloc);
+            write_scopes_of(files, &set, &theme, &repository, path, out)
+        }
+    }
 }
 
 /// Prints what is asked of the grammars of a folder. The status is 1 where they are not loaded or a file is not read.

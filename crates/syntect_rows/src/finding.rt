@@ -4,9 +4,10 @@ use std::alloc::Global;
 use std::path::Path;
 use std::rt::Files;
 use syntect::Error;
-use syntect::parsing::syntax_definition::{Context, Pattern, context_iter};
-use syntect::parsing::{ScopeRepository, SyntaxReference, SyntaxSet, SyntaxSetBuilder};
+use syntect_parsing::syntax_definition::{Pattern, context_iter};
+use syntect_parsing::syntax_set::{SyntaxReference, SyntaxSet, SyntaxSetBuilder};
 use syntect_queries::escapes::unescaped;
+use syntect_scope::repository::ScopeRepository;
 use syntect_shown::definitions::write_definitions;
 use syntect_values::text::Text;
 
@@ -41,15 +42,19 @@ fn write_of_file(files: &impl Files, given: Given<'_>, path: &str, out: &mut Str
     }
 }
 
-/// Adds the name of the syntax that is found by a kind of question with a word.
-fn write_found_by(
+/// Adds the name of the syntax that is found so: by `extension`, `token`, `name`, `scope`, `first_line`, `path` or `file`,
+/// with a space and what is asked for behind it, or by `plain_text`.
+pub fn write_found(
     files: &impl Files,
     given: Given<'_>,
-    (kind, word): (&str, &str),
+    question: &str,
     repository: &mut ScopeRepository,
     out: &mut String,
 ) -> Option<()> {
     let set = given.set;
+    let (kind, word) = question.split_once(' ').unwrap_or((question, ""));
+    let word = unescaped(given.alloc, word).ok()?;
+    let word = word.as_str();
     match kind {
         "extension" => write_name(set.find_syntax_by_extension(word), out),
         "token" => write_name(set.find_syntax_by_token(word), out),
@@ -61,20 +66,6 @@ fn write_found_by(
         "file" => write_of_file(files, given, word, out),
         _ => None,
     }
-}
-
-/// Adds the name of the syntax that is found so: by `extension`, `token`, `name`, `scope`, `first_line`, `path` or `file`,
-/// with a space and what is asked for behind it, or by `plain_text`.
-pub fn write_found(
-    files: &impl Files,
-    given: Given<'_>,
-    question: &str,
-    repository: &mut ScopeRepository,
-    out: &mut String,
-) -> Option<()> {
-    let (kind, word) = question.split_once(' ').unwrap_or((question, ""));
-    let word = unescaped(given.alloc, word).ok()?;
-    write_found_by(files, given, (kind, word.as_str()), repository, out)
 }
 
 /// Adds the names of a set's syntaxes, in their order.
@@ -113,19 +104,14 @@ pub fn write_loaded(
     write_definitions(builder.syntaxes(), repository, out)
 }
 
-/// The builder that a set is taken apart into.
-fn builder_of(given: Given<'_>) -> Option<SyntaxSetBuilder> {
-    let copy = given.set.clone().ok()?;
-    copy.into_builder(given.alloc).ok()
-}
-
 /// Adds the definitions of a set's builder, which are linked.
 pub fn write_linked(
     given: Given<'_>,
     repository: &ScopeRepository,
     out: &mut String,
 ) -> Option<()> {
-    let builder = builder_of(given)?;
+    let copy = given.set.clone().ok()?;
+    let builder = copy.into_builder(given.alloc).ok()?;
     write_definitions(builder.syntaxes(), repository, out)
 }
 
@@ -139,19 +125,15 @@ fn write_place(index: usize, pattern: Option<&Pattern>, out: &mut String) -> Opt
     }
 }
 
-/// Adds the places of the patterns of a context.
-fn write_places_in(given: Given<'_>, context: &Context, out: &mut String) -> Option<()> {
+/// Adds the places of the patterns of the first syntax's `__main`: of a copy of it in the set's builder, and by the set.
+pub fn write_places(given: Given<'_>, out: &mut String) -> Option<()> {
+    let copy = given.set.clone().ok()?;
+    let builder = copy.into_builder(given.alloc).ok()?;
+    let name = Text::from_str(given.alloc, "__main").ok()?;
+    let context = builder.syntaxes().first()?.contexts.get(&name)?;
     for item in context_iter(given.alloc, given.set, context) {
         let (holder, index) = item.ok()?;
         write_place(index, holder.patterns.get(index), out)?;
     }
     Some(())
-}
-
-/// Adds the places of the patterns of the first syntax's `__main`: of a copy of it in the set's builder, and by the set.
-pub fn write_places(given: Given<'_>, out: &mut String) -> Option<()> {
-    let name = Text::from_str(given.alloc, "__main").ok()?;
-    let builder = builder_of(given)?;
-    let context = builder.syntaxes().first()?.contexts.get(&name)?;
-    write_places_in(given, context, out)
 }

@@ -2,17 +2,9 @@
 use crate::given::Given;
 use std::path::Path;
 use std::rt::Files;
-use syntect::LoadingError;
-use syntect::parsing::{ScopeRepository, SyntaxSetBuilder};
-
-/// Adds `ok`, or a refusal's message.
-fn write_outcome(outcome: &Result<(), LoadingError>, out: &mut String) -> Option<()> {
-    match outcome {
-        Ok(()) => out.push_str("ok").ok(),
-        Err(LoadingError::Io(_)) => out.push_str("Io").ok(),
-        Err(refusal) => write!(out, "{refusal}").ok(),
-    }
-}
+use syntect_base::loading::LoadingError;
+use syntect_parsing::syntax_set::SyntaxSetBuilder;
+use syntect_scope::repository::ScopeRepository;
 
 /// Adds what adding a folder's grammars comes to, `ok` or the refusal's message, and the names of those that were added.
 pub fn write_grammar_folder(
@@ -24,8 +16,11 @@ pub fn write_grammar_folder(
 ) -> Option<()> {
     let mut builder = SyntaxSetBuilder::new(given.alloc);
     let folder = Path::new(folder);
-    let outcome = builder.add_from_folder(files, given.alloc, folder, false, repository);
-    write_outcome(&outcome, out)?;
+    match builder.add_from_folder(files, given.alloc, folder, false, repository) {
+        Ok(()) => out.push_str("ok").ok()?,
+        Err(LoadingError::Io(_)) => out.push_str("Io").ok()?,
+        Err(refusal) => write!(out, "{refusal}").ok()?,
+    }
     for definition in builder.syntaxes() {
         write!(out, "; {}", definition.name.as_str()).ok()?;
     }

@@ -2,12 +2,13 @@
 use std::alloc::Global;
 use std::path::Path;
 use std::rt::Files;
-use syntect::highlighting::{Theme, ThemeSet};
-use syntect::parsing::{
-    ScopeRepository, SyntaxDefinition, SyntaxReference, SyntaxSet, SyntaxSetBuilder,
-};
+use syntect_parsing::syntax_definition::SyntaxDefinition;
+use syntect_parsing::syntax_set::{SyntaxReference, SyntaxSet, SyntaxSetBuilder};
 use syntect_queries::escapes::unescaped;
+use syntect_scope::repository::ScopeRepository;
 use syntect_tables::row_file::{Part, body_of};
+use syntect_theme::theme::Theme;
+use syntect_theme_files::theme_set::ThemeSet;
 
 /// What lines are read with.
 #[derive(Clone, Copy)]

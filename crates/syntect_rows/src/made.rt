@@ -5,14 +5,16 @@ use crate::styled::write_pieces;
 use std::alloc::Global;
 use syntect::Error;
 use syntect::easy::HighlightLines;
-use syntect::highlighting::{Theme, ThemeSet};
-use syntect::parsing::syntax_definition::{
+use syntect_parsing::parser::{ParseState, ParsingError};
+use syntect_parsing::syntax_definition::{
     CaptureMapping, Context, ContextId, ContextReference, MatchOperation, MatchPattern, Pattern,
+    SyntaxDefinition,
 };
-use syntect::parsing::{
-    ParseState, ParsingError, ScopeRepository, ScopeStack, SyntaxDefinition, SyntaxReference,
-    SyntaxSet, SyntaxSetBuilder,
-};
+use syntect_parsing::syntax_set::{SyntaxSet, SyntaxSetBuilder};
+use syntect_scope::repository::ScopeRepository;
+use syntect_scope::stack::ScopeStack;
+use syntect_theme::theme::Theme;
+use syntect_theme_files::theme_set::ThemeSet;
 use syntect_values::seq::Seq;
 use syntect_values::table::Table;
 use syntect_values::text::Text;
@@ -73,8 +75,8 @@ fn operation(alloc: Global, does: Does) -> Option<MatchOperation> {
         Does::Nothing => Some(MatchOperation::None),
         Does::Pop => Some(MatchOperation::Pop),
         Does::Push(name) => {
-            let name = Text::from_str(alloc, name).ok()?;
             let mut references = Seq::new(alloc);
+            let name = Text::from_str(alloc, name).ok()?;
             references.push(ContextReference::Named(name)).ok()?;
             Some(MatchOperation::Push(references))
         }
@@ -83,9 +85,9 @@ fn operation(alloc: Global, does: Does) -> Option<MatchOperation> {
 
 fn pattern(alloc: Global, repository: &mut ScopeRepository, line: Line) -> Option<Pattern> {
     let (text, scope, does) = line;
-    let text = String::from_str(alloc, text).ok()?;
-    let scopes = ScopeStack::from_text(alloc, scope, repository).ok()?.scopes;
     let operation = operation(alloc, does)?;
+    let scopes = ScopeStack::from_text(alloc, scope, repository).ok()?.scopes;
+    let text = String::from_str(alloc, text).ok()?;
     let made = MatchPattern::new(alloc, false, text, scopes, None, operation, None);
     Some(Pattern::Match(made.ok()?))
 }
@@ -103,49 +105,23 @@ fn add_patterns(
     Some(())
 }
 
-/// The context of these patterns.
-fn context_of(
-    alloc: Global,
-    repository: &mut ScopeRepository,
-    content_scope: &str,
-    lines: &[Line],
-) -> Option<Context> {
-    let scopes = ScopeStack::from_text(alloc, content_scope, repository)
-        .ok()?
-        .scopes;
-    let mut context = Context::new(alloc, false);
-    context.meta_content_scope = scopes;
-    add_patterns(alloc, repository, lines, &mut context.patterns)?;
-    Some(context)
-}
-
-/// Adds a context under a name.
+/// Adds a context of that name, of these patterns.
 fn add_context(
     alloc: Global,
+    repository: &mut ScopeRepository,
     name: &str,
-    context: Context,
+    content_scope: &str,
+    lines: &[Line],
     contexts: &mut Table<Text, Context>,
 ) -> Option<()> {
+    let mut context = Context::new(alloc, false);
+    context.meta_content_scope = ScopeStack::from_text(alloc, content_scope, repository)
+        .ok()?
+        .scopes;
+    add_patterns(alloc, repository, lines, &mut context.patterns)?;
     let name = Text::from_str(alloc, name).ok()?;
     contexts.insert(name, context).ok()?;
     Some(())
-}
-
-/// The definition with these contexts.
-fn definition_with(
-    alloc: Global,
-    repository: &mut ScopeRepository,
-    contexts: Table<Text, Context>,
-) -> Option<SyntaxDefinition> {
-    Some(SyntaxDefinition {
-        name: Text::from_str(alloc, "T").ok()?,
-        file_extensions: Seq::new(alloc),
-        scope: repository.build("source.t").ok()?,
-        first_line_match: None,
-        hidden: false,
-        variables: Table::new(alloc),
-        contexts,
-    })
 }
 
 /// The set of one definition with these contexts.
@@ -154,7 +130,15 @@ fn set_with(
     repository: &mut ScopeRepository,
     contexts: Table<Text, Context>,
 ) -> Option<SyntaxSet> {
-    let definition = definition_with(alloc, repository, contexts)?;
+    let definition = SyntaxDefinition {
+        name: Text::from_str(alloc, "T").ok()?,
+        file_extensions: Seq::new(alloc),
+        scope: repository.build("source.t").ok()?,
+        first_line_match: None,
+        hidden: false,
+        variables: Table::new(alloc),
+        contexts,
+    };
     let mut builder = SyntaxSetBuilder::new(alloc);
     builder.add(definition).ok()?;
     builder.build(alloc, repository).ok()
@@ -162,11 +146,16 @@ fn set_with(
 
 /// The set whose first context has these patterns.
 fn set_from(alloc: Global, repository: &mut ScopeRepository, first: &[Line]) -> Option<SyntaxSet> {
-    let start = context_of(alloc, repository, "source.t", first)?;
-    let inner = context_of(alloc, repository, "", &INNER)?;
     let mut contexts = Table::new(alloc);
-    add_context(alloc, "__start", start, &mut contexts)?;
-    add_context(alloc, "a", inner, &mut contexts)?;
+    add_context(
+        alloc,
+        repository,
+        "__start",
+        "source.t",
+        first,
+        &mut contexts,
+    )?;
+    add_context(alloc, repository, "a", "", &INNER, &mut contexts)?;
     set_with(alloc, repository, contexts)
 }
 
@@ -194,33 +183,15 @@ fn given<'a>(alloc: Global, set: &'a SyntaxSet, theme: &'a Theme, text: &'a str)
     }
 }
 
-/// Whether the pieces of the lines are these.
-fn has_pieces(given: Given<'_>, repository: &ScopeRepository, wanted: &str) -> Option<bool> {
-    let mut pieces = String::new(given.alloc);
-    write_pieces(given, repository, &mut pieces)?;
-    Some(pieces.as_str() == wanted)
-}
-
-/// Whether the operations of the lines are these.
-fn has_operations(given: Given<'_>, repository: &ScopeRepository, wanted: &str) -> Option<bool> {
-    let mut operations = String::new(given.alloc);
-    write_operations(given, repository, &mut operations)?;
-    Some(operations.as_str() == wanted)
-}
-
 /// A line by contexts that were made by calls.
 pub fn first_line(alloc: Global) -> Option<bool> {
     let mut repository = ScopeRepository::new(alloc);
     let set = first_line_set(alloc, &mut repository)?;
     let theme = first_line_theme(alloc, &mut repository)?;
     let given = given(alloc, &set, &theme, " Aaaabxxx");
-    has_pieces(given, &repository, PIECES)
-}
-
-/// Whether both a line's pieces and its operations tell of a context that is not there.
-fn is_unresolved(given: Given<'_>, repository: &ScopeRepository) -> Option<bool> {
-    let is_refused = has_pieces(given, repository, REFUSED_PIECES)?;
-    Some(is_refused & has_operations(given, repository, REFUSED)?)
+    let mut pieces = String::new(alloc);
+    write_pieces(given, &repository, &mut pieces)?;
+    Some(pieces.as_str() == PIECES)
 }
 
 /// A line is refused for a context that is not there, and the next one is read.
@@ -228,31 +199,29 @@ pub fn unresolved_line(alloc: Global) -> Option<bool> {
     let mut repository = ScopeRepository::new(alloc);
     let set = set_from(alloc, &mut repository, &UNRESOLVED)?;
     let theme = Theme::default(alloc);
-    is_unresolved(given(alloc, &set, &theme, "xa\nya"), &repository)
-}
-
-/// Whether a state of a syntax is refused, since it has no first context.
-fn has_no_state(alloc: Global, syntax: &SyntaxReference) -> bool {
-    let state = ParseState::new(alloc, syntax);
-    matches!(&state, Err(ParsingError::MissingMainContext))
-}
-
-/// Whether a highlighter of a syntax is refused, since it has no first context.
-fn has_no_lines(alloc: Global, syntax: &SyntaxReference) -> bool {
-    let theme = Theme::default(alloc);
-    let lines = HighlightLines::new(alloc, syntax, &theme);
-    matches!(
-        &lines,
-        Err(Error::ParsingError(ParsingError::MissingMainContext))
-    )
+    let given = given(alloc, &set, &theme, "xa\nya");
+    let mut pieces = String::new(alloc);
+    write_pieces(given, &repository, &mut pieces)?;
+    let mut operations = String::new(alloc);
+    write_operations(given, &repository, &mut operations)?;
+    Some(pieces.as_str() == REFUSED_PIECES && operations.as_str() == REFUSED)
 }
 
 /// A syntax without a first context.
 pub fn no_start(alloc: Global) -> Option<bool> {
     let mut repository = ScopeRepository::new(alloc);
     let set = set_with(alloc, &mut repository, Table::new(alloc))?;
+    let theme = Theme::default(alloc);
     let syntax = set.syntaxes().first()?;
-    Some(has_no_state(alloc, syntax) & has_no_lines(alloc, syntax))
+    let state = ParseState::new(alloc, syntax);
+    let lines = HighlightLines::new(alloc, syntax, &theme);
+    Some(
+        matches!(&state, Err(ParsingError::MissingMainContext))
+            && matches!(
+                &lines,
+                Err(Error::ParsingError(ParsingError::MissingMainContext))
+            ),
+    )
 }
 
 /// A first context that a line leaves: each later line is refused.
@@ -261,7 +230,9 @@ pub fn left_start(alloc: Global) -> Option<bool> {
     let set = set_from(alloc, &mut repository, &LEAVES)?;
     let theme = Theme::default(alloc);
     let given = given(alloc, &set, &theme, "xa\na\nxa");
-    has_operations(given, &repository, LEFT)
+    let mut operations = String::new(alloc);
+    write_operations(given, &repository, &mut operations)?;
+    Some(operations.as_str() == LEFT)
 }
 
 /// A capture of a group with a scope of its own.
@@ -278,65 +249,52 @@ fn capture(
 }
 
 /// Captures that were added by hand, of a group in a lookahead and of one that is not there.
-fn captures_by_hand(alloc: Global, repository: &mut ScopeRepository) -> Option<CaptureMapping> {
+fn captures_by_hand(alloc: Global, repository: &mut ScopeRepository) -> Option<Pattern> {
     let mut captures = Seq::new(alloc);
     capture(alloc, repository, 1, &mut captures)?;
     capture(alloc, repository, 9, &mut captures)?;
-    Some(captures)
-}
-
-/// A pattern with such captures.
-fn pattern_by_hand(alloc: Global, repository: &mut ScopeRepository) -> Option<Pattern> {
     let text = String::from_str(alloc, "a(?=(b))").ok()?;
-    let captures = captures_by_hand(alloc, repository)?;
     let none = Seq::new(alloc);
     let does = MatchOperation::None;
     let made = MatchPattern::new(alloc, false, text, none, Some(captures), does, None);
     Some(Pattern::Match(made.ok()?))
 }
 
-/// The set whose first context has that pattern.
-fn set_by_hand(alloc: Global, repository: &mut ScopeRepository) -> Option<SyntaxSet> {
-    let pattern = pattern_by_hand(alloc, repository)?;
-    let mut start = context_of(alloc, repository, "source.t", &[])?;
-    start.patterns.push(pattern).ok()?;
-    let mut contexts = Table::new(alloc);
-    add_context(alloc, "__start", start, &mut contexts)?;
-    set_with(alloc, repository, contexts)
-}
-
 /// Such captures have no effect.
 pub fn captures_without_effect(alloc: Global) -> Option<bool> {
     let mut repository = ScopeRepository::new(alloc);
-    let set = set_by_hand(alloc, &mut repository)?;
+    let mut contexts = Table::new(alloc);
+    let mut start = Context::new(alloc, false);
+    start.meta_content_scope = ScopeStack::from_text(alloc, "source.t", &mut repository)
+        .ok()?
+        .scopes;
+    let pattern = captures_by_hand(alloc, &mut repository)?;
+    start.patterns.push(pattern).ok()?;
+    contexts
+        .insert(Text::from_str(alloc, "__start").ok()?, start)
+        .ok()?;
+    let set = set_with(alloc, &mut repository, contexts)?;
     let theme = Theme::default(alloc);
     let given = given(alloc, &set, &theme, "ab");
-    has_operations(given, &repository, NO_CAPTURES)
-}
-
-/// Whether a line of a syntax is refused with a set that lacks the open context, and leaves the state as it is.
-fn is_refused_by_another(alloc: Global, syntax: &SyntaxReference, open: ContextId) -> Option<bool> {
-    let mut state = ParseState::new(alloc, syntax).ok()?;
-    let before = state.clone().ok()?;
-    let empty = SyntaxSet::new(alloc);
-    let refusal = state.parse_line(alloc, "a", &empty).err();
-    Some(refusal == Some(ParsingError::MissingContext(open)) && state == before)
-}
-
-/// Whether a context of a set has no pattern at a place.
-fn has_no_pattern(set: &SyntaxSet, id: ContextId) -> Option<bool> {
-    let found = set.context_at(id)?.match_at(5);
-    Some(matches!(&found, Err(ParsingError::BadMatchIndex(5))))
+    let mut operations = String::new(alloc);
+    write_operations(given, &repository, &mut operations)?;
+    Some(operations.as_str() == NO_CAPTURES)
 }
 
 /// A line with a set that lacks the open context is refused, and a place without a pattern too.
 pub fn another_set(alloc: Global) -> Option<bool> {
     let mut repository = ScopeRepository::new(alloc);
     let set = set_from(alloc, &mut repository, &LEAVES)?;
+    let mut state = ParseState::new(alloc, set.syntaxes().first()?).ok()?;
+    let before = state.clone().ok()?;
+    let empty = SyntaxSet::new(alloc);
     let first = ContextId {
         syntax_index: 0,
         context_index: 0,
     };
-    let is_refused = is_refused_by_another(alloc, set.syntaxes().first()?, first)?;
-    Some(is_refused & has_no_pattern(&set, first)?)
+    let refusal = state.parse_line(alloc, "a", &empty).err();
+    let is_refused = refusal == Some(ParsingError::MissingContext(first));
+    let context = set.context_at(first)?;
+    let has_none = matches!(&context.match_at(5), Err(ParsingError::BadMatchIndex(5)));
+    Some(is_refused && state == before && has_none)
 }

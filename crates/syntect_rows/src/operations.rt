@@ -1,8 +1,10 @@
 //! The operations of lines, and why lines are refused.
 use crate::given::{Given, line_as_given};
 use syntect::Error;
-use syntect::parsing::{ParseState, ParsingError, ScopeRepository, ScopeStackOp};
 use syntect::util::LinesWithEndings;
+use syntect_parsing::parser::{ParseState, ParsingError};
+use syntect_scope::repository::ScopeRepository;
+use syntect_scope::stack::ScopeStackOp;
 use syntect_shown::definitions::write_reference;
 use syntect_tables::changes::write_operation;
 
@@ -51,22 +53,6 @@ fn write_each(
     Some(())
 }
 
-/// Adds why a line is refused, and whether that changed the state.
-fn write_refused(
-    refusal: &ParsingError,
-    is_changed: bool,
-    repository: &ScopeRepository,
-    out: &mut String,
-) -> Option<()> {
-    write_refusal(refusal, repository, out)?;
-    let text = if is_changed {
-        "state changed\n"
-    } else {
-        "state unchanged\n"
-    };
-    out.push_str(text).ok()
-}
-
 /// Reads a line, and adds its operations, or its refusal and whether that changed the state.
 fn write_line(
     given: Given<'_>,
@@ -78,20 +64,16 @@ fn write_line(
     let before = state.clone().ok()?;
     match state.parse_line(given.alloc, line, given.set) {
         Ok(operations) => write_each(operations.as_slice(), repository, out),
-        Err(refusal) => write_refused(&refusal, *state != before, repository, out),
+        Err(refusal) => {
+            write_refusal(&refusal, repository, out)?;
+            let text = if *state == before {
+                "state unchanged\n"
+            } else {
+                "state changed\n"
+            };
+            out.push_str(text).ok()
+        }
     }
-}
-
-/// Adds the number of a line, reads it, and adds what `write_line` adds.
-fn write_numbered(
-    given: Given<'_>,
-    (number, line): (u64, &str),
-    state: &mut ParseState,
-    repository: &ScopeRepository,
-    out: &mut String,
-) -> Option<()> {
-    writeln!(out, "L{number}").ok()?;
-    write_line(given, line, state, repository, out)
 }
 
 /// Adds the operations of a text's lines: of each line its number, and then each operation with its place.
@@ -104,8 +86,9 @@ pub fn write_operations(
     let mut number = 0u64;
     for line in LinesWithEndings::from(given.text) {
         number = number.saturating_add(1);
+        writeln!(out, "L{number}").ok()?;
         let line = line_as_given(line, given.is_bare);
-        write_numbered(given, (number, line), &mut state, repository, out)?;
+        write_line(given, line, &mut state, repository, out)?;
     }
     Some(())
 }

@@ -10,8 +10,8 @@ use std::path::Path;
 use std::rt::Files;
 use std::{fs, io};
 use syntect::html::ClassStyle;
-use syntect::parsing::ScopeRepository;
 use syntect_base::utils::files_below;
+use syntect_scope::repository::ScopeRepository;
 use syntect_tables::changes::write_changes;
 use syntect_tables::engine::write_queries;
 use syntect_tables::row_file::{Part, body_of, label_of, parts_of};
@@ -120,22 +120,6 @@ fn write_all(
     Some(())
 }
 
-/// Whether what is expected of a row is found; where an output is given, what is found is added to it in place of that.
-fn run_given(
-    files: &impl Files,
-    given: Given<'_>,
-    repository: &mut ScopeRepository,
-    out: Option<&mut String>,
-) -> Option<bool> {
-    match out {
-        None => all_found(files, given, repository),
-        Some(out) => {
-            write_all(files, given, repository, out)?;
-            Some(true)
-        }
-    }
-}
-
 /// Whether the row of a file's text comes out as it is written; where an output is given, what is found is added to it in
 /// place of that.
 fn run_row(
@@ -146,10 +130,10 @@ fn run_row(
 ) -> Option<bool> {
     let parts = parts_of(alloc, text)?;
     let parts = parts.as_slice();
-    let text = text_of(alloc, parts)?;
     let mut repository = ScopeRepository::new(alloc);
     let set = set_of(files, alloc, parts, &mut repository)?;
     let theme = theme_of(alloc, parts, &mut repository)?;
+    let text = text_of(alloc, parts)?;
     let given = Given {
         alloc,
         parts,
@@ -159,7 +143,13 @@ fn run_row(
         syntax: syntax_of(&set, parts),
         theme: &theme,
     };
-    run_given(files, given, &mut repository, out)
+    match out {
+        None => all_found(files, given, &mut repository),
+        Some(out) => {
+            write_all(files, given, &mut repository, out)?;
+            Some(true)
+        }
+    }
 }
 
 /// Runs the row of a file, and prints whether it comes out as it is written. Answers whether it does.

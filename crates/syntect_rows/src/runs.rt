@@ -2,8 +2,10 @@
 use crate::given::{Given, line_as_given};
 use crate::operations::write_refusal;
 use std::alloc::Global;
-use syntect::parsing::{ParseState, ScopeRepository, ScopeStack, ScopeStackOp};
 use syntect::util::LinesWithEndings;
+use syntect_parsing::parser::ParseState;
+use syntect_scope::repository::ScopeRepository;
+use syntect_scope::stack::{ScopeStack, ScopeStackOp};
 
 /// A stretch of a line, and the scopes of its bytes.
 #[derive(Drop)]
@@ -54,38 +56,34 @@ fn runs_of(
     Some(runs)
 }
 
-/// Adds the stretches of a line of this length, by its operations.
-fn write_runs(
-    alloc: Global,
-    length: usize,
-    operations: &[(usize, ScopeStackOp)],
-    stack: &mut ScopeStack,
-    repository: &ScopeRepository,
-    out: &mut String,
-) -> Option<()> {
-    let runs = runs_of(alloc, length, operations, stack, repository)?;
-    for run in &runs {
+/// Adds stretches of a line.
+fn add_runs(runs: &[Run], out: &mut String) -> Option<()> {
+    for run in runs {
         let (from, to, scopes) = (run.from, run.to, run.scopes.as_str().trim_end());
         writeln!(out, "{from}..{to} {scopes}").ok()?;
     }
     Some(())
 }
 
-/// Adds a line's number and its length in bytes, reads it, and adds its stretches, or its refusal.
+/// Reads a line, and adds its stretches, or its refusal.
 fn write_line(
     given: Given<'_>,
-    (number, line): (u64, &str),
+    line: &str,
     state: &mut ParseState,
     stack: &mut ScopeStack,
     repository: &ScopeRepository,
     out: &mut String,
 ) -> Option<()> {
-    let length = line.len();
-    writeln!(out, "L{number} {length}").ok()?;
     match state.parse_line(given.alloc, line, given.set) {
         Ok(operations) => {
-            let operations = operations.as_slice();
-            write_runs(given.alloc, length, operations, stack, repository, out)
+            let runs = runs_of(
+                given.alloc,
+                line.len(),
+                operations.as_slice(),
+                stack,
+                repository,
+            )?;
+            add_runs(runs.as_slice(), out)
         }
         Err(refusal) => write_refusal(&refusal, repository, out),
     }
@@ -105,8 +103,9 @@ pub fn write_scopes(
     for line in LinesWithEndings::from(given.text) {
         let line = line_as_given(line, given.is_bare);
         number = number.saturating_add(1);
-        let numbered = (number, line);
-        write_line(given, numbered, &mut state, &mut stack, repository, out)?;
+        let length = line.len();
+        writeln!(out, "L{number} {length}").ok()?;
+        write_line(given, line, &mut state, &mut stack, repository, out)?;
     }
     Some(())
 }

@@ -1,7 +1,8 @@
 //! The example about back references that give way to groups.
 use std::alloc::Global;
-use syntect::parsing::syntax_definition::{MatchOperation, MatchPattern};
-use syntect::parsing::{Regex, Region};
+use syntect_parsing::syntax_definition::{MatchOperation, MatchPattern};
+use syntect_regex::regex::Regex;
+use syntect_regex::region::Region;
 use syntect_values::seq::Seq;
 
 fn regex(alloc: Global, text: &str) -> Option<Regex> {

@@ -3,11 +3,12 @@ use crate::given::{Given, line_as_given};
 use crate::operations::write_error;
 use std::alloc::Global;
 use syntect::easy::HighlightLines;
-use syntect::highlighting::{HighlightState, Style, Theme};
 use syntect::html::{ClassStyle, ClassedHTMLGenerator, highlighted_html_for_string};
-use syntect::parsing::ScopeRepository;
 use syntect::util::LinesWithEndings;
+use syntect_scope::repository::ScopeRepository;
 use syntect_tables::styles::write_style;
+use syntect_theme::style::Style;
+use syntect_theme::theme::Theme;
 
 /// Adds each piece of a line: where it stands, and its style.
 fn write_pieces_of(pieces: &[(Style, &str)], out: &mut String) -> Option<()> {
@@ -36,18 +37,6 @@ fn write_line(
     }
 }
 
-/// Adds the number of a line, and then its pieces, or its refusal.
-fn write_numbered(
-    given: Given<'_>,
-    (number, line): (u64, &str),
-    lines: &mut HighlightLines<'_>,
-    repository: &ScopeRepository,
-    out: &mut String,
-) -> Option<()> {
-    writeln!(out, "L{number}").ok()?;
-    write_line(given, line, lines, repository, out)
-}
-
 /// Adds the styled pieces of a text's lines: of each line its number, and then each piece.
 pub fn write_pieces(
     given: Given<'_>,
@@ -58,20 +47,11 @@ pub fn write_pieces(
     let mut number = 0u64;
     for line in LinesWithEndings::from(given.text) {
         number = number.saturating_add(1);
+        writeln!(out, "L{number}").ok()?;
         let line = line_as_given(line, given.is_bare);
-        write_numbered(given, (number, line), &mut lines, repository, out)?;
+        write_line(given, line, &mut lines, repository, out)?;
     }
     Some(())
-}
-
-/// Adds the scopes that are open in a state.
-fn write_open(
-    state: &HighlightState,
-    repository: &ScopeRepository,
-    out: &mut String,
-) -> Option<()> {
-    let open = state.path().build_string(repository).ok()?;
-    writeln!(out, "open {}", open.as_str().trim_end()).ok()
 }
 
 /// A highlighter that is taken up again from its states. Adds the scopes that are open.
@@ -83,7 +63,8 @@ fn resumed<'t>(
     out: &mut String,
 ) -> Option<HighlightLines<'t>> {
     let (highlight_state, parse_state) = lines.state();
-    write_open(&highlight_state, repository, out)?;
+    let open = highlight_state.path().build_string(repository).ok()?;
+    writeln!(out, "open {}", open.as_str().trim_end()).ok()?;
     HighlightLines::from_state(alloc, theme, highlight_state, parse_state).ok()
 }
 
@@ -117,19 +98,6 @@ pub fn write_page(given: Given<'_>, repository: &ScopeRepository, out: &mut Stri
     }
 }
 
-/// Gives a line to a generator of spans with classes, and adds its refusal.
-fn read_line(
-    generator: &mut ClassedHTMLGenerator<'_>,
-    line: &str,
-    repository: &ScopeRepository,
-    out: &mut String,
-) -> Option<()> {
-    match generator.parse_html_for_line_which_includes_newline(line) {
-        Ok(()) => Some(()),
-        Err(error) => write_error(&error, repository, out),
-    }
-}
-
 /// Adds the text of a generator of spans with classes, behind its lines.
 fn write_lines_of(
     given: Given<'_>,
@@ -139,7 +107,9 @@ fn write_lines_of(
 ) -> Option<()> {
     for line in LinesWithEndings::from(given.text) {
         let line = line_as_given(line, given.is_bare);
-        read_line(&mut generator, line, repository, out)?;
+        if let Err(error) = generator.parse_html_for_line_which_includes_newline(line) {
+            write_error(&error, repository, out)?;
+        }
     }
     let text = generator.finalize().ok()?;
     writeln!(out, "{}", text.as_str()).ok()

@@ -3,8 +3,9 @@ use crate::finding::write_found;
 use crate::folders::write_grammar_folder;
 use crate::given::Given;
 use std::rt::Files;
-use syntect::parsing::{ScopeRepository, SyntaxDefinition};
+use syntect_parsing::syntax_definition::SyntaxDefinition;
 use syntect_queries::escapes::unescaped;
+use syntect_scope::repository::ScopeRepository;
 use syntect_tables::answers::write_answer;
 use syntect_tables::row_file::Part;
 

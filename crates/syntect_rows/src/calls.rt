@@ -1,11 +1,11 @@
 //! The examples that are made by calls.
-use crate::readers::{faults_behind_lines, readers, theme_readers};
-use std::alloc::Global;
-use std::io;
-use syntect_rows::made::{
+use crate::made::{
     another_set, captures_without_effect, first_line, left_start, no_start, unresolved_line,
 };
-use syntect_rows::searching::references;
+use crate::readers::{faults_behind_lines, readers, theme_readers};
+use crate::searching::references;
+use std::alloc::Global;
+use std::io;
 use syntect_tables::engine::long_loop;
 use syntect_tables::styling::flags;
 

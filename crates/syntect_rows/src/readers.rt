@@ -2,12 +2,15 @@
 use std::alloc::Global;
 use std::io;
 use std::io::{BufRead, Read};
-use syntect::highlighting::{SettingsError, Theme, ThemeSet};
+use syntect::Error;
 use syntect::html::highlighted_html_for_reader;
-use syntect::parsing::{
-    ParsingError, ScopeRepository, SyntaxDefinition, SyntaxSet, SyntaxSetBuilder,
-};
-use syntect::{Error, LoadingError};
+use syntect_base::loading::{LoadingError, SettingsError};
+use syntect_parsing::parser::ParsingError;
+use syntect_parsing::syntax_definition::SyntaxDefinition;
+use syntect_parsing::syntax_set::{SyntaxSet, SyntaxSetBuilder};
+use syntect_scope::repository::ScopeRepository;
+use syntect_theme::theme::Theme;
+use syntect_theme_files::theme_set::ThemeSet;
 
 const GRAMMAR: &str =
     "name: T\nscope: source.t\ncontexts: {main: [{match: x, push: 'scope:source.none'}]}\n";
@@ -77,19 +80,6 @@ enum Outcome {
     Unresolved,
 }
 
-/// Whether a page is what is expected.
-fn is_outcome(page: &Result<String, Error>, outcome: Outcome) -> bool {
-    match (page, outcome) {
-        (Ok(page), Outcome::Page(wanted)) => page.as_str() == wanted,
-        (Err(Error::Io(_)), Outcome::Io) => true,
-        (
-            Err(Error::ParsingError(ParsingError::UnresolvedContextReference(_))),
-            Outcome::Unresolved,
-        ) => true,
-        _ => false,
-    }
-}
-
 /// Whether a reader's bytes come to this.
 fn comes_to<R: BufRead + Drop>(
     alloc: Global,
@@ -100,52 +90,48 @@ fn comes_to<R: BufRead + Drop>(
     let syntax = set.syntaxes().first()?;
     let theme = Theme::default(alloc);
     let page = highlighted_html_for_reader(alloc, reader, set, syntax, &theme);
-    Some(is_outcome(&page, outcome))
+    Some(match (page, outcome) {
+        (Ok(page), Outcome::Page(wanted)) => page.as_str() == wanted,
+        (Err(Error::Io(_)), Outcome::Io) => true,
+        (
+            Err(Error::ParsingError(ParsingError::UnresolvedContextReference(_))),
+            Outcome::Unresolved,
+        ) => true,
+        _ => false,
+    })
 }
 
 /// The set of a grammar that pushes a context which is not there at each `x`.
 fn leading_out(alloc: Global) -> Option<SyntaxSet> {
     let mut repository = ScopeRepository::new(alloc);
     let loaded = SyntaxDefinition::load_from_str(alloc, GRAMMAR, true, None, &mut repository);
-    let definition = loaded.ok()?;
     let mut builder = SyntaxSetBuilder::new(alloc);
-    builder.add(definition).ok()?;
+    builder.add(loaded.ok()?).ok()?;
     builder.build(alloc, &mut repository).ok()
-}
-
-/// Whether readers that give all, at once or a byte at a time, that fail, and whose bytes are no text come to what is
-/// expected.
-fn readers_hold(alloc: Global, set: &SyntaxSet) -> Option<bool> {
-    let whole: &[u8] = b"a\nb";
-    let no_text: &[u8] = b"\xff\n";
-    let mut holds = comes_to(alloc, whole, set, Outcome::Page(TWO_LINES))?;
-    holds &= comes_to(alloc, dribbling(whole), set, Outcome::Page(TWO_LINES))?;
-    holds &= comes_to(alloc, failing(b"x"), set, Outcome::Io)?;
-    holds &= comes_to(alloc, no_text, set, Outcome::Io)?;
-    Some(holds)
 }
 
 /// Readers that give all, at once or a byte at a time, that fail, and whose bytes are no text.
 pub fn readers(alloc: Global) -> Option<bool> {
     let set = leading_out(alloc)?;
-    readers_hold(alloc, &set)
-}
-
-/// Whether readers with faults behind a line come to the first of these.
-fn faults_hold(alloc: Global, set: &SyntaxSet) -> Option<bool> {
-    let late: &[u8] = b"a\n\xff\n";
-    let refused: &[u8] = b"ax\n\xff\n";
-    let mut holds = comes_to(alloc, failing(b"a\n"), set, Outcome::Io)?;
-    holds &= comes_to(alloc, late, set, Outcome::Io)?;
-    holds &= comes_to(alloc, refused, set, Outcome::Unresolved)?;
-    holds &= comes_to(alloc, failing(b"x\n"), set, Outcome::Unresolved)?;
+    let whole: &[u8] = b"a\nb";
+    let no_text: &[u8] = b"\xff\n";
+    let mut holds = comes_to(alloc, whole, &set, Outcome::Page(TWO_LINES))?;
+    holds &= comes_to(alloc, dribbling(whole), &set, Outcome::Page(TWO_LINES))?;
+    holds &= comes_to(alloc, failing(b"x"), &set, Outcome::Io)?;
+    holds &= comes_to(alloc, no_text, &set, Outcome::Io)?;
     Some(holds)
 }
 
 /// Faults behind a line: of several the first in the order of lines.
 pub fn faults_behind_lines(alloc: Global) -> Option<bool> {
     let set = leading_out(alloc)?;
-    faults_hold(alloc, &set)
+    let late: &[u8] = b"a\n\xff\n";
+    let refused: &[u8] = b"ax\n\xff\n";
+    let mut holds = comes_to(alloc, failing(b"a\n"), &set, Outcome::Io)?;
+    holds &= comes_to(alloc, late, &set, Outcome::Io)?;
+    holds &= comes_to(alloc, refused, &set, Outcome::Unresolved)?;
+    holds &= comes_to(alloc, failing(b"x\n"), &set, Outcome::Unresolved)?;
+    Some(holds)
 }
 
 /// A theme that does not end.
