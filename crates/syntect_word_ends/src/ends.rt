@@ -28,6 +28,13 @@ const WORD_CHARS: [char; 63] = [
 /// The most characters of a word that are gone through, so that long words cost no more.
 const LONGEST: usize = 32;
 
+/// The most nodes of a table for which it is worked out what can stand behind words: a larger one would take memory for it that
+/// a pattern of its length doesn't repay.
+const MOST_NODES: usize = 4096;
+
+/// The ASCII characters of words, a bit for each.
+const WORD: u128 = 0x07ff_fffe_87ff_fffe_03ff_0000_0000_0000;
+
 /// Whether the class holds an ASCII character of words.
 #[tactic(auto, unfolding(crate::specs::Ends::has_word))]
 fn class_has_word(class: &Class) -> bool
@@ -130,14 +137,23 @@ fn spans_of(alloc: Global, nodes: &[Node]) -> Result<(Vec<Places>, Vec<Places>),
     Ok((reads, stays))
 }
 
-/// What can stand behind a word in which a match of the program begins, and up to where the word goes on.
+/// Whether a match of the program can begin with an ASCII character of words.
+fn begins_in_word(program: &Program) -> bool {
+    match program.firsts.get(program.root) {
+        Some(places) => places.ascii & WORD != 0,
+        None => true,
+    }
+}
+
+/// What can stand behind a word in which a match of the program begins. Anything may, as far as is told, where its matches begin
+/// in no word, and where its table is large.
 pub fn behind_words(alloc: Global, program: &Program) -> Result<Places, AllocError>
     ensures { IfOk result (λ places. StandsBehind places
         (slice_index_or (trees_of program.now) program.now.root nothing)) }
 {
     let root = program.root;
     let nodes = program.nodes.as_slice();
-    if root >= nodes.len() {
+    if root >= nodes.len() || nodes.len() > MOST_NODES || !begins_in_word(program) {
         return Ok(anywhere());
     }
     let (reads, stays) = spans_of(alloc, nodes)?;
