@@ -16,7 +16,7 @@ use Rattle.syntect_pattern_table.proofs.StartLaws.{found_at-nothing}
 use Rattle.syntect_engine.proofs.FindLaws.{found-past, found-step}
 use Rattle.syntect_pattern_reader.specs.Compiled.{Compiles, IsCompiled}
 use Rattle.syntect_regex.specs.Begins.{BeginsAtEdges, IsAtEdges, NoneBeginsBefore, NoneBeginsOutside}
-use Rattle.syntect_word_ends.specs.Ends.{IsWordUpTo, StandsBehind, ends, passes}
+use Rattle.syntect_word_ends.specs.Ends.{StandsBehind, ends, passes}
 use Rattle.syntect_word_ends.proofs.EndLaws.{none-in_word}
 
 start-bound : (s : List ℕ) (i : ℕ) → start_at s i < 130

@@ -10,7 +10,7 @@ use Rattle.syntect_pattern.specs.Sets.{Set, holds}
 use Rattle.syntect_pattern.specs.Trees.{Tree, nothing, one_of, anchor, same, seq, alt, repeat, group, atomic, ahead, behind}
 use Rattle.syntect_pattern.specs.Matches.{Groups, Member, Way, matches, turns, prefer, while_left, after_turn, only_if, past, close, stands, look, stay, ending_here, unset, found_at}
 use Rattle.syntect_pattern.proofs.Each.{Each, each_of, each-append, each-flat_map, each-map, each-take}
-use Rattle.syntect_pattern_table.specs.Starts.{can_hold, reads, start_at, stays}
+use Rattle.syntect_pattern_table.specs.Starts.{can_hold, start_at}
 use Rattle.syntect_pattern_table.proofs.StartLaws.{Start, boundary-true, char_at-ascii, matches-begin, start-is}
 use Rattle.syntect_word_ends.specs.Ends.{IsWordUpTo, ends, has_word, is_word_char, passes}
 use Rattle.syntect_word_ends.proofs.WordLaws.{or-left, or-right, word-held, word-near}

@@ -1,5 +1,5 @@
 -- What can stand behind words, node by node.
-use Rattle.std.proofs.Common.{◌≡◌, ◌<◌, ◌++◌, ◌∷◌, [], ◌∙◌, ◌+◌, ℕ, List, length, get_or, sym, ap, arith, below_more, length-append}
+use Rattle.std.proofs.Common.{◌≡◌, ◌++◌, ◌∷◌, [], ◌∙◌, ℕ, List, length, get_or, sym, ap, arith, below_more, length-append}
 use Rattle.std.proofs.Math.ListN.{get_or-append}
 use Rattle.std.proofs.Math.Seq.{get_or-append_seam}
 use Rattle.syntect_pattern.specs.Trees.{Tree, nothing}
