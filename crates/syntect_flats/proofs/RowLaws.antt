@@ -1,17 +1,18 @@
 -- Rows of bits, and what is passed over by them.
-use Rattle.std.proofs.Common.{◌≡◌, ◌==◌, ◌<◌, ◌≤◌, ◌+◌, ◌-◌, ◌*◌, ◌/◌, ◌%◌, ◌^◌, ℕ, Bool, true, false, List, length, get_or, refl, sym, ap, ◌∙◌, arith, inl, inr, bit_or}
-use Rattle.std.specs.Int.{bit_at, w64}
-use Rattle.std.specs.Prelude.{slice_set}
-use Rattle.std.proofs.lemmas.Bool.{cases_lt}
+use Rattle.std.proofs.Common.{◌≡◌, ◌==◌, ◌<◌, ◌≤◌, ◌+◌, ◌-◌, ◌*◌, ◌/◌, ◌%◌, ◌^◌, ℕ, Bool, true, false, List, length, get_or, refl, sym, ap, subst, ◌∙◌, ◌⊎◌, arith, inl, inr, bit_and, bit_or, if◌then◌else◌}
+use Rattle.std.specs.Int.{bit_at, bit_not, w64}
+use Rattle.std.specs.Prelude.{slice_set, min, max, nat_lt, not}
+use Rattle.std.proofs.lemmas.Bool.{cases_lt, le-ltb, lt-ltb, not-true}
 use Rattle.std.proofs.lemmas.Bool.Decides.{eqb_tells}
 use Rattle.std.proofs.lemmas.List.{get_or-set_same, get_or-set_other, get_or_past, get_or_default}
-use Rattle.std.proofs.lemmas.Nat.{shr-shr}
+use Rattle.std.proofs.lemmas.Nat.{div-mul-add, shr-shr}
 use Rattle.std.proofs.Math.Nat.{div-eq_of_lt}
 use Rattle.std.proofs.Math.Pow.{pow_mono}
-use Rattle.std.proofs.lemmas.Nat.Bits.{bit_at_ones, bit_at_set_same, bit_at_set_other}
+use Rattle.std.proofs.lemmas.Nat.Bits.{bit_at-lt, bit_at-zero, bit_at_and, bit_at_not, bit_at_ones, bit_at_or, bit_at_set_same, bit_at_set_other}
 use Rattle.syntect_pattern_table.specs.Starts.{is_in}
-use Rattle.syntect_flats.specs.Rows.{AreRowsOf, bit_of, has_bit}
+use Rattle.syntect_flats.specs.Rows.{AreRowsOf, IsOut, MarkCuts, TellsAlive, behind_of, behind_row, bit_of, edge_marks, has_bit, has_mark, is_cut_in}
 use Rattle.syntect_flats.specs.declared.flats.Flat.{Flat}
+use Rattle.syntect_flats.specs.declared.flats.Outlook.{Outlook}
 
 -- ---- a bit more ----
 
@@ -83,3 +84,126 @@ next_inside word next t fits e =
     let at : bit_at word (next % 64 + t) ≡ 1 = ap (λ m. m % 2) (sym (shr-shr word (next % 64) t)) ∙ e in
     let l : next % 64 + t < 64 = bit_inside word (next % 64 + t) fits at in
     omega (arith, l)
+
+-- ---- what cuts patterns off ----
+
+-- the bit that was set is marked, and no other one more
+pub mark_only : (rows : List ℕ) (place bit word : ℕ) → place < length rows → bit < 64 → word ≡ get_or rows place word
+    → (p b : ℕ) → has_mark (slice_set rows place (bit_or word (1 * 2 ^ bit % 2 ^ 64))) p b ≡ true → (has_mark rows p b ≡ true) ⊎ ((p ≡ place) × (b ≡ bit))
+mark_only rows place bit word l m same p b e = elim (eqb_tells p place) [
+  | inl t ↦ elim (eqb_tells b bit) [
+    | inl u ↦ inr (t.1, u.1)
+    | inr u ↦ inl (
+        ap (λ w. bit_at w b == 1) (ap (λ q. get_or rows q 0) t.1 ∙ get_or_default rows place 0 word l ∙ sym same)
+        ∙ ap (λ n. n == 1) (sym (bit_at_set_other w64 word bit m b u.1))
+        ∙ ap (λ w. bit_at w b == 1) (sym (get_or-set_same rows place (bit_or word (1 * 2 ^ bit % 2 ^ 64)) 0 l))
+        ∙ ap (λ q. has_mark (slice_set rows place (bit_or word (1 * 2 ^ bit % 2 ^ 64))) q b) (sym t.1) ∙ e)
+  ]
+  | inr f ↦ inl (ap (λ w. bit_at w b == 1) (sym (get_or-set_other rows place p (bit_or word (1 * 2 ^ bit % 2 ^ 64)) 0 f.1)) ∙ e)
+]
+
+-- a mark more, which says what is so
+pub marked_more : (rows new : List ℕ) (words row index : ℕ) (flat : Flat) (flats : List Flat) → length flats ≤ words * 64 → index < length flats → flat ≡ get_or flats index flat
+    → is_cut_in row flat ≡ true → ((p b : ℕ) → has_mark new p b ≡ true → (has_mark rows p b ≡ true) ⊎ ((p ≡ row * words + index / 64) × (b ≡ index % 64)))
+    → MarkCuts rows words flats → MarkCuts new words flats
+marked_more rows new words row index flat flats room inside is cut told before r k d l m = elim (told (r * words + k / 64) (k % 64) m) [
+  | inl o ↦ before r k d l o
+  | inr e ↦
+      (let same_row : r ≡ row = sym (div-mul-add r words (k / 64) (omega (arith, l, room))) ∙ ap (λ n. n / words) e.0 ∙ div-mul-add row words (index / 64) (omega (arith, inside, room)) in
+      let level : r * words ≡ row * words = ap (λ n. n * words) same_row in
+      let part : k / 64 ≡ index / 64 = omega (arith, e.0, level) in
+      let same : k ≡ index = omega (arith, part, e.1) in
+      let at : get_or flats k d ≡ flat = ap (λ n. get_or flats n d) same ∙ get_or_default flats index d flat inside ∙ sym is in
+      ap (is_cut_in r) at ∙ ap (λ n. is_cut_in n flat) same_row ∙ cut)
+]
+
+gate : (b c e : ℕ) → b < 2 → c < 2 → e < 2 → min b (1 - max c e) ≡ 0 → (b ≡ 0) ⊎ ((c ≡ 1) ⊎ (e ≡ 1))
+gate b c e l m n h = elim (cases_lt b 1) [
+  | inl p ↦ inl (omega (arith, p))
+  | inr p ↦ inr (elim (cases_lt c 1) [
+    | inl q ↦ inr (elim (cases_lt e 1) [
+      | inl r ↦ absurd (omega (arith, p, q, r, l, h))
+      | inr r ↦ omega (arith, r, n)
+    ])
+    | inr q ↦ inl (omega (arith, q, m))
+  ])
+]
+
+-- which patterns can begin where this is seen
+module _ (rows cuts : List ℕ) (words : ℕ) (o : Outlook) (word begins behind edges : ℕ) (here : o.here < 130) (bound : o.behind < 130)
+    (b : begins ≡ get_or rows (o.here * words + word) 18446744073709551615) (c : behind ≡ get_or cuts (behind_row o * words + word) 0) (e : edges ≡ edge_marks cuts words o.off_edges word)
+    (fits : bit_or behind edges < 2 ^ 64) where
+  module _ (flats : List Flat) (i : ℕ) (d : Flat) (some : 0 < words) (r : AreRowsOf rows words flats) (m : MarkCuts cuts words flats) (l : i < 64) (inside : word * 64 + i < length flats) where
+    abbrev at : ℕ
+    at = word * 64 + i
+
+    abbrev flat : Flat
+    flat = get_or flats at d
+
+    part : at / 64 ≡ word
+    part = omega (arith, l)
+
+    rest : at % 64 ≡ i
+    rest = omega (arith, l)
+
+    -- its bit in a row is this one
+    marked : (row : ℕ) → bit_at (get_or cuts (row * words + word) 0) i ≡ 1 → is_cut_in row flat ≡ true
+    marked row g = m row at d inside (ap (λ q. bit_at (get_or cuts (row * words + q) 0) (at % 64) == 1) part ∙ ap (λ q. bit_at (get_or cuts (row * words + word) 0) q == 1) rest ∙ ap (λ q. q == 1) g)
+
+    by_behind : bit_at behind i ≡ 1 → IsOut o flat
+    by_behind g = inr (inl (kind o.blank refl))
+      where
+        kind : (t : Bool) → o.blank ≡ t → is_in (behind_of o.blank flat) o.behind ≡ false
+        kind false f =
+            let row : behind_row o ≡ o.behind = ap (λ t. if t then 130 + o.behind else o.behind) f in
+            let cut : is_cut_in o.behind flat ≡ true = marked o.behind (ap (λ q. bit_at (get_or cuts (q * words + word) 0) i) (sym row) ∙ ap (λ q. bit_at q i) (sym c) ∙ g) in
+            ap (λ t. is_in (behind_of t flat) o.behind) f ∙ not-true (is_in flat.words o.behind) (ap (λ t. if t then not (is_in flat.words o.behind) else (if nat_lt o.behind 260 then not (is_in flat.blanks (o.behind - 130)) else flat.at_edges)) (sym (lt-ltb o.behind 130 bound)) ∙ cut)
+        kind true f =
+            let row : behind_row o ≡ 130 + o.behind = ap (λ t. if t then 130 + o.behind else o.behind) f in
+            let cut : is_cut_in (130 + o.behind) flat ≡ true = marked (130 + o.behind) (ap (λ q. bit_at (get_or cuts (q * words + word) 0) i) (sym row) ∙ ap (λ q. bit_at q i) (sym c) ∙ g) in
+            let n : 130 + o.behind - 130 ≡ o.behind = omega arith in
+            ap (λ t. is_in (behind_of t flat) o.behind) f ∙ not-true (is_in flat.blanks o.behind)
+            (ap (λ q. not (is_in flat.blanks q)) (sym n)
+            ∙ ap (λ t. if t then not (is_in flat.blanks (130 + o.behind - 130)) else flat.at_edges) (sym (lt-ltb (130 + o.behind) 260 (omega (arith, bound))))
+            ∙ ap (λ t. if t then not (is_in flat.words (130 + o.behind)) else (if nat_lt (130 + o.behind) 260 then not (is_in flat.blanks (130 + o.behind - 130)) else flat.at_edges)) (sym (le-ltb (130 + o.behind) 130 (omega arith)))
+            ∙ cut)
+
+    by_edges : bit_at edges i ≡ 1 → IsOut o flat
+    by_edges g = kind o.off_edges refl
+      where
+        kind : (t : Bool) → o.off_edges ≡ t → IsOut o flat
+        kind true f =
+            let is : edges ≡ get_or cuts (260 * words + word) 0 = e ∙ ap (λ t. edge_marks cuts words t word) f in
+            inr (inr (f, marked 260 (ap (λ q. bit_at q i) (sym is) ∙ g)))
+        kind false f =
+            let is : edges ≡ 0 = e ∙ ap (λ t. edge_marks cuts words t word) f in
+            let no : 0 ≡ 1 = sym (bit_at-zero i) ∙ ap (λ q. bit_at q i) (sym is) ∙ g in absurd (omega (arith, no))
+
+    by_begins : bit_at begins i ≡ 0 → IsOut o flat
+    by_begins g = inl (out rows words flats r some o.here at d here inside
+        (ap (λ q. bit_at (get_or rows (o.here * words + q) 18446744073709551615) (at % 64) == 1) part ∙ ap (λ q. bit_at (get_or rows (o.here * words + word) 18446744073709551615) q == 1) rest
+        ∙ ap (λ q. bit_at q i == 1) (sym b) ∙ ap (λ q. q == 1) g))
+
+    pub alive_tells : bit_at (bit_and begins (bit_not w64 (bit_or behind edges))) i ≡ 0 → IsOut o flat
+    alive_tells z =
+        let split : min (bit_at begins i) (1 - max (bit_at behind i) (bit_at edges i)) ≡ 0 =
+        ap (λ q. min (bit_at begins i) (1 - q)) (sym (bit_at_or behind edges i)) ∙ ap (min (bit_at begins i)) (sym (bit_at_not w64 (bit_or behind edges) i fits l)) ∙ sym (bit_at_and begins (bit_not w64 (bit_or behind edges)) i) ∙ z in
+        elim (gate (bit_at begins i) (bit_at behind i) (bit_at edges i) (bit_at-lt begins i) (bit_at-lt behind i) (bit_at-lt edges i) split) [
+          | inl p ↦ by_begins p
+          | inr p ↦ elim p [
+            | inl q ↦ by_behind q
+            | inr q ↦ by_edges q
+          ]
+        ]
+
+-- ---- runs of bits that aren't set ----
+
+-- patterns from one on whose bits in a word aren't set can't begin
+pub passed_alive : (rows cuts : List ℕ) (words : ℕ) (o : Outlook) (flats : List Flat) (next stop alive : ℕ) → 0 < words → AreRowsOf rows words flats → MarkCuts cuts words flats
+    → TellsAlive rows cuts words o (next / 64) alive → stop ≤ (next / 64 + 1) * 64 → ((i : ℕ) → next + i < stop → bit_at (alive / 2 ^ (next % 64)) i ≡ 0)
+    → (k : ℕ) (d : Flat) → next ≤ k → k < stop → k < length flats → IsOut o (get_or flats k d)
+passed_alive rows cuts words o flats next stop alive some r m told within zeros k d from before inside =
+    let at : next / 64 * 64 + k % 64 ≡ k = omega (arith, from, before, within) in
+    let bit : k % 64 ≡ next % 64 + (k - next) = omega (arith, at, from) in
+    let zero : bit_at alive (k % 64) ≡ 0 = ap (bit_at alive) bit ∙ ap (λ n. n % 2) (sym (shr-shr alive (next % 64) (k - next))) ∙ zeros (k - next) (omega (arith, from, before)) in
+    subst (λ n. IsOut o (get_or flats n d)) at (told flats (k % 64) d some r m (omega arith) (omega (arith, at, inside)) zero)

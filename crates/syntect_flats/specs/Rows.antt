@@ -1,13 +1,18 @@
 -- Which patterns of a flat list can begin at a place, as far as is seen there.
-use Rattle.std.specs.Prelude.{◌≡◌, ◌==◌, ◌<◌, ◌≤◌, ◌+◌, ◌*◌, ◌/◌, ◌%◌, ◌⊎◌, ℕ, Bool, true, false, List, length, slice_index_or}
+use Rattle.std.specs.Prelude.{nat_lt, not, ◌-◌, ◌≡◌, ◌==◌, ◌<◌, ◌≤◌, ◌+◌, ◌*◌, ◌/◌, ◌%◌, ◌⊎◌, ℕ, Bool, true, false, List, length, slice_index_or, if◌then◌else◌}
 use Rattle.std.specs.Int.{bit_at}
 use Rattle.syntect_pattern_table.specs.Starts.{is_in}
+use Rattle.syntect_pattern_table.specs.declared.starts.Places.{Places}
 use Rattle.syntect_flats.specs.declared.flats.Flat.{Flat}
 use Rattle.syntect_flats.specs.declared.flats.Outlook.{Outlook}
 
--- the pattern has no match that begins where this is seen behind the word, or where no word begins or ends
+-- what can stand behind white space, or else behind a word, in which a match of the pattern begins
+abbrev pub behind_of : Bool → Flat → Places
+behind_of blank flat = if blank then flat.blanks else flat.words
+
+-- the pattern has no match that begins where this is seen behind the run, or where no word begins or ends
 abbrev pub IsCut : Outlook → Flat → Type 0
-IsCut o flat = (is_in flat.behind o.behind ≡ false) ⊎ ((o.off_edges ≡ true) × (flat.at_edges ≡ true))
+IsCut o flat = (is_in (behind_of o.blank flat) o.behind ≡ false) ⊎ ((o.off_edges ≡ true) × (flat.at_edges ≡ true))
 
 -- no match of the pattern begins where this is seen
 abbrev pub IsOut : Outlook → Flat → Type 0
@@ -21,7 +26,37 @@ has_bit rows place bit = bit_at (slice_index_or rows place 18446744073709551615)
 abbrev pub bit_of : List ℕ → ℕ → ℕ → ℕ → Bool
 bit_of rows words x index = has_bit rows (x * words + index / 64) (index % 64)
 
+-- each of these patterns begins with some of this alone
+abbrev pub BeginIn : Places → List Flat → Type 0
+BeginIn any flats = (x k : ℕ) (d : Flat) → x < 130 → k < length flats → is_in any x ≡ false → is_in (slice_index_or flats k d).begins x ≡ false
+
 -- each pattern whose matches can begin where this stands has its bit set in that row, if there are rows
 pub record AreRowsOf (rows : List ℕ) (words : ℕ) (flats : List Flat) : Type 0 where
   pub few : 0 < words → length flats ≤ 65536
   pub set : 0 < words → (x k : ℕ) (d : Flat) → x < 130 → k < length flats → is_in (slice_index_or flats k d).begins x ≡ true → bit_of rows words x k ≡ true
+
+-- whether a mark in the row of this number says that the pattern is cut off: those of what stands behind words come first, then
+-- those of what stands behind white space, and the last one is of places where no word begins or ends
+abbrev pub is_cut_in : ℕ → Flat → Bool
+is_cut_in row flat = if nat_lt row 130 then not (is_in flat.words row) else (if nat_lt row 260 then not (is_in flat.blanks (row - 130)) else flat.at_edges)
+
+-- the bit of the word at the place is set
+abbrev pub has_mark : List ℕ → ℕ → ℕ → Bool
+has_mark rows place bit = bit_at (slice_index_or rows place 0) bit == 1
+
+-- each pattern with a mark in a row is cut off by what the row is of
+abbrev pub MarkCuts : List ℕ → ℕ → List Flat → Type 0
+MarkCuts rows words flats = (row k : ℕ) (d : Flat) → k < length flats → has_mark rows (row * words + k / 64) (k % 64) ≡ true → is_cut_in row (slice_index_or flats k d) ≡ true
+
+-- the row of what stands behind the word or the white space
+abbrev pub behind_row : Outlook → ℕ
+behind_row o = if o.blank then 130 + o.behind else o.behind
+
+-- a word of the row of places where no word begins or ends, if this is one
+abbrev pub edge_marks : List ℕ → ℕ → Bool → ℕ → ℕ
+edge_marks cuts words off_edges word = if off_edges then slice_index_or cuts (260 * words + word) 0 else 0
+
+-- no pattern of those that the word is of can begin where this is seen, but where its bit is set
+abbrev pub TellsAlive : List ℕ → List ℕ → ℕ → Outlook → ℕ → ℕ → Type 0
+TellsAlive rows cuts words o word alive = (flats : List Flat) (i : ℕ) (d : Flat) → 0 < words → AreRowsOf rows words flats → MarkCuts cuts words flats
+    → i < 64 → word * 64 + i < length flats → bit_at alive i ≡ 0 → IsOut o (slice_index_or flats (word * 64 + i) d)

@@ -8,7 +8,9 @@ pub struct Flat {
     /// What can stand at a place where a match of it begins.
     pub begins: Places,
     /// What can stand behind a word in which a match of it begins.
-    pub behind: Places,
+    pub words: Places,
+    /// What can stand behind white space in which one does.
+    pub blanks: Places,
     /// Whether it is known that its matches begin only where a word begins or ends.
     pub at_edges: bool,
     /// The context that holds it.
@@ -24,7 +26,9 @@ pub struct Flat {
 pub struct Outlook {
     /// What stands there: an ASCII character, 128 for any other one, or 129 for the end.
     pub here: u8,
-    /// What stands behind the word's characters that stand there, which may be none.
+    /// Whether white space stands there.
+    pub blank: bool,
+    /// What stands behind the white space, or else the word's characters that stand there, which may be none.
     pub behind: u8,
     /// Whether it is known that no word begins or ends there.
     pub off_edges: bool,

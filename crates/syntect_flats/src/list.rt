@@ -1,16 +1,25 @@
-//! A context's flat list, with a table that tells for each thing that can stand at a place which patterns can begin there.
-ghost use Rattle.std.specs.Prelude.{◌≡◌, ◌≤◌, ◌<◌, ◌+◌, ◌/◌, ◌%◌, ◌*◌, ℕ, length, IfOk, slice_index_or, true, false};
+//! A context's flat list, with tables that tell for each thing that can stand at a place, or behind the word or white space
+//! there, which patterns can begin at that place.
+ghost use Rattle.std.specs.Prelude.{◌≡◌, ◌≤◌, ◌<◌, ◌+◌, ◌/◌, ◌%◌, ◌*◌, ◌^◌, ◌⊎◌, List, ℕ, length, IfOk, slice_index_or, true, false};
 ghost use Rattle.std.specs.Int.{bit_at};
 ghost use Rattle.syntect_pattern_table.specs.Starts.{is_in};
-ghost use Rattle.syntect_flats.specs.Rows.{AreRowsOf, IsCut, IsOut, bit_of, has_bit};
+ghost use Rattle.syntect_flats.specs.Rows.{AreRowsOf, BeginIn, IsCut, IsOut, MarkCuts, TellsAlive, behind_of, behind_row, bit_of, edge_marks, has_bit, has_mark, is_cut_in};
 
 use crate::flats::{Flat, Outlook};
 use std::alloc::{AllocError, Global};
 use std::marker::Model;
-use syntect_pattern_table::starts::{Places, is_in};
+use syntect_pattern_table::starts::{Places, either, is_in, nowhere};
 
 /// How many things can stand at a place: each ASCII character, any other one, and the end.
 const STARTS: u8 = 130;
+
+/// How many rows say which patterns are cut off: one for each thing that can stand behind a word, one for each that can stand
+/// behind white space, and one for places where no word begins or ends.
+const CUTS: usize = 261;
+
+const BLANKS: usize = 130;
+
+const EDGES: usize = 260;
 
 /// The least and the greatest length of a list that has a table: a shorter one is gone through as fast.
 const SHORT: usize = 8;
@@ -24,21 +33,26 @@ pub struct FlatList {
     /// A row of bits for each thing that can stand at a place, each of so many words: which patterns can begin there. No words
     /// where there is no table.
     rows: Vec<u64>,
+    /// A row of bits for each thing that cuts patterns off, with as many words: which it does.
+    cuts: Vec<u64>,
     words: u16,
-    /// Whether it matters for one of the patterns what stands behind a word.
+    /// Whether it matters for one of the patterns what stands behind a word or behind white space.
     asks: bool,
+    /// What can stand at a place where a match of one of the patterns begins.
+    any: Places,
 }
 
 impl Model for FlatList {
     ghost use Rattle.std.specs.Prelude.{List};
     ghost use Rattle.syntect_flats.specs.declared.flats.Flat.{Flat as AFlat};
-    ghost use Rattle.syntect_flats.specs.Rows.{AreRowsOf};
+    ghost use Rattle.syntect_flats.specs.Rows.{AreRowsOf, BeginIn, MarkCuts};
 
     ghost Value = { List AFlat };
 
     ghost view = { λ l. l.flats.items };
 
-    ghost invariant = { λ l. AreRowsOf l.rows.items l.words l.flats.items };
+    ghost invariant = { λ l. AreRowsOf l.rows.items l.words l.flats.items
+        × BeginIn l.any l.flats.items × MarkCuts l.cuts.items l.words l.flats.items };
 }
 
 /// The word at the place, all of whose bits are set past the end.
@@ -46,6 +60,25 @@ fn word_at(rows: &[u64], place: usize) -> u64
     ensures { result ≡ slice_index_or rows.now place 18446744073709551615 }
 {
     rows.get(place).copied().unwrap_or(u64::MAX)
+}
+
+/// The word at the place, none of whose bits is set past the end.
+fn marks_at(rows: &[u64], place: usize) -> u64
+    ensures { result ≡ slice_index_or rows.now place 0 }
+{
+    rows.get(place).copied().unwrap_or(0)
+}
+
+/// Sets a bit of a word, if there is one at the place, and no other.
+fn set_mark(rows: &mut Vec<u64>, place: usize, bit: u32)
+    requires { bit < 64 }
+    ensures { (p b : ℕ) → has_mark rows.new.items p b ≡ true
+        → (has_mark rows.old.items p b ≡ true) ⊎ ((p ≡ place) × (b ≡ bit)) }
+{
+    if place < rows.len() {
+        let word = rows[place];
+        rows[place] = word | 1 << bit;
+    }
 }
 
 /// Sets a bit of a word, if there is one at the place.
@@ -95,35 +128,168 @@ fn rows_of(alloc: Global, words: u16, flats: &[Flat]) -> Result<Vec<u64>, AllocE
     Ok(rows)
 }
 
-/// The same, pattern by pattern.
-fn next_tested(flats: &[Flat], x: u8, from: usize) -> usize
-    requires { x < 130 }
-    ensures later { from ≤ result }
-    ensures passed { (k : ℕ) (d : Flat) → from ≤ k → k < result → k < length flats.now
-        → is_in (slice_index_or flats.now k d).begins x ≡ false }
+/// Whether the row is of what cuts the pattern off.
+fn is_cut_in(row: usize, flat: &Flat) -> bool
+    ensures { result ≡ is_cut_in row flat.now }
 {
-    let mut next = from;
-    while next < flats.len() && !is_in(flats[next].begins, x) {
-        next += 1;
+    if row < BLANKS {
+        !is_in(flat.words, row as u8)
+    } else if row < EDGES {
+        !is_in(flat.blanks, (row - BLANKS) as u8)
+    } else {
+        flat.at_edges
     }
-    next
+}
+
+/// Sets the bit of a pattern in a row, if that is of what cuts it off.
+fn mark_cut(rows: &mut Vec<u64>, words: u16, index: usize, row: usize, flat: &Flat)
+    requires index { index < 65536 }
+    requires row { row < 261 }
+    ensures { (flats : List Flat) → length flats ≤ words * 64 → index < length flats
+        → flat.now ≡ slice_index_or flats index flat.now
+        → MarkCuts rows.old.items words flats → MarkCuts rows.new.items words flats }
+{
+    if is_cut_in(row, flat) {
+        let place = row * words as usize + index / 64;
+        set_mark(rows, place, (index % 64) as u32);
+    }
+}
+
+/// Sets the bit of a pattern in the rows of what cuts it off.
+fn mark_cuts(rows: &mut Vec<u64>, words: u16, index: usize, flat: &Flat)
+    requires { index < 65536 }
+    ensures { (flats : List Flat) → length flats ≤ words * 64 → index < length flats
+        → flat.now ≡ slice_index_or flats index flat.now
+        → MarkCuts rows.old.items words flats → MarkCuts rows.new.items words flats }
+{
+    for row in 0..CUTS {
+        mark_cut(rows, words, index, row, flat);
+    }
+}
+
+/// Whether nothing cuts the pattern off.
+fn is_free(flat: &Flat) -> bool {
+    flat.words.ascii & flat.blanks.ascii == u128::MAX && !flat.at_edges
+}
+
+/// The table of what cuts the patterns of a list off.
+fn cuts_of(alloc: Global, words: u16, flats: &[Flat]) -> Result<Vec<u64>, AllocError>
+    requires many { length flats.now ≤ 65536 }
+    requires room { length flats.now ≤ words * 64 }
+    ensures { IfOk result (λ rows. MarkCuts rows.items words flats.now) }
+{
+    let mut rows = vec![in alloc; 0u64; CUTS * words as usize]?;
+    for (index, flat) in flats.iter().enumerate() {
+        if !is_free(flat) {
+            mark_cuts(&mut rows, words, index, flat);
+        }
+    }
+    Ok(rows)
+}
+
+/// What can stand behind white space, or else behind a word, in which a match of the pattern begins.
+#[inline]
+fn behind_of(blank: bool, flat: &Flat) -> Places
+    ensures { result ≡ behind_of blank flat.now }
+{
+    if blank { flat.blanks } else { flat.words }
+}
+
+/// Whether no match of the pattern begins where this is seen.
+#[inline]
+fn is_out(flat: &Flat, outlook: Outlook) -> bool
+    requires here { outlook.here < 130 }
+    requires behind { outlook.behind < 130 }
+    ensures { result ≡ true → IsOut outlook flat.now }
+{
+    !is_in(flat.begins, outlook.here) || is_cut(flat, outlook)
 }
 
 /// Whether the pattern has no match that begins where this is seen, whatever stands there.
+#[inline]
 fn is_cut(flat: &Flat, outlook: Outlook) -> bool
     requires { outlook.behind < 130 }
     ensures { result ≡ true → IsCut outlook flat.now }
 {
-    if is_in(flat.behind, outlook.behind) {
+    if is_in(behind_of(outlook.blank, flat), outlook.behind) {
         outlook.off_edges && flat.at_edges
     } else {
         true
     }
 }
 
-/// Whether something that stands behind a word rules one of the patterns out.
+/// An index not below this one: no pattern from this one up to it can begin where this is seen, as each tells.
+fn next_seen(flats: &[Flat], outlook: Outlook, from: usize) -> usize
+    requires here { outlook.here < 130 }
+    requires behind { outlook.behind < 130 }
+    ensures later { from ≤ result }
+    ensures passed { (k : ℕ) (d : Flat) → from ≤ k → k < result → k < length flats.now
+        → IsOut outlook (slice_index_or flats.now k d) }
+{
+    let mut next = from;
+    while next < flats.len() && is_out(&flats[next], outlook) {
+        next += 1;
+    }
+    next
+}
+
+/// Whether something that stands behind a word or behind white space rules one of the patterns out.
 fn any_asks(flats: &[Flat]) -> bool {
-    flats.iter().any(|flat| flat.behind.ascii != u128::MAX)
+    flats
+        .iter()
+        .any(|flat| flat.words.ascii & flat.blanks.ascii != u128::MAX)
+}
+
+/// What can stand at a place where a match of one of the patterns begins.
+fn any_of(flats: &[Flat]) -> Places
+    ensures { BeginIn result flats.now }
+{
+    let mut any = nowhere();
+    for flat in flats {
+        any = either(any, flat.begins);
+    }
+    any
+}
+
+/// The row of what cuts patterns off by what stands behind the word or the white space.
+#[inline]
+fn behind_row(outlook: Outlook) -> usize
+    requires { outlook.behind < 130 }
+    ensures value { result ≡ behind_row outlook }
+    ensures bound { result < 260 }
+{
+    if outlook.blank {
+        BLANKS + outlook.behind as usize
+    } else {
+        outlook.behind as usize
+    }
+}
+
+/// Which patterns of 64 in a row are cut off where no word begins or ends, if this is such a place.
+#[inline]
+fn edge_marks(cuts: &[u64], words: u16, off_edges: bool, word: usize) -> u64
+    requires { word < 2 ^ 58 }
+    ensures { result ≡ edge_marks cuts.now words off_edges word }
+{
+    if off_edges {
+        marks_at(cuts, EDGES * words as usize + word)
+    } else {
+        0
+    }
+}
+
+/// Which patterns of 64 in a row can begin where this is seen, a bit for each.
+#[inline]
+fn alive(rows: &[u64], cuts: &[u64], words: u16, outlook: Outlook, word: usize) -> u64
+    requires here { outlook.here < 130 }
+    requires behind { outlook.behind < 130 }
+    requires near { word < 2 ^ 58 }
+    ensures { TellsAlive rows.now cuts.now words outlook word result }
+{
+    let behind = marks_at(cuts, behind_row(outlook) * words as usize + word);
+    let edges = edge_marks(cuts, words, outlook.off_edges, word);
+    let begins = word_at(rows, outlook.here as usize * words as usize + word);
+    begins & !(behind | edges)
 }
 
 impl FlatList {
@@ -133,28 +299,43 @@ impl FlatList {
     {
         let count = flats.len();
         let asks = any_asks(flats.as_slice());
+        let any = any_of(flats.as_slice());
         if count < SHORT || count > LONG {
             return Ok(FlatList {
                 flats,
                 rows: Vec::new(alloc),
+                cuts: Vec::new(alloc),
                 words: 0,
                 asks,
+                any,
             });
         }
         let words = ((count + 63) / 64) as u16;
         let rows = rows_of(alloc, words, flats.as_slice())?;
+        let cuts = cuts_of(alloc, words, flats.as_slice())?;
         Ok(FlatList {
             flats,
             rows,
+            cuts,
             words,
             asks,
+            any,
         })
     }
 
-    /// Whether it matters for one of the patterns what stands behind a word. No contract says it: who looks for that in vain
-    /// is only slower, and who doesn't passes over less.
+    /// Whether it matters for one of the patterns what stands behind a word or behind white space. No contract says it: who
+    /// looks for that in vain is only slower, and who doesn't passes over less.
     pub fn asks(&self) -> bool {
         self.asks
+    }
+
+    /// What can stand at a place where a match of one of the patterns begins: where something else stands none does.
+    #[inline]
+    pub fn any(&self) -> Places
+        ensures { BeginIn result self.now }
+    {
+        let _ = &self.flats;
+        self.any
     }
 
     /// The patterns.
@@ -162,29 +343,6 @@ impl FlatList {
         ensures { result.now ≡ self.now }
     {
         self.flats.as_slice()
-    }
-
-    /// An index not below this one: no pattern from this one up to it can begin where this stands, an ASCII character, 128 for
-    /// any other one, or 129 for the end.
-    pub fn next_begun(&self, x: u8, from: usize) -> usize
-        requires { x < 130 }
-        ensures later { from ≤ result }
-        ensures passed { (k : ℕ) (d : Flat) → from ≤ k → k < result → k < length self.now
-            → is_in (slice_index_or self.now k d).begins x ≡ false }
-    {
-        if self.words == 0 {
-            return next_tested(self.flats.as_slice(), x, from);
-        }
-        let row = x as usize * self.words as usize;
-        let mut next = from;
-        while next < self.flats.len() {
-            let rest = word_at(self.rows.as_slice(), row + next / 64) >> (next % 64);
-            if rest != 0 {
-                return next + rest.trailing_zeros() as usize;
-            }
-            next = (next / 64 + 1) * 64;
-        }
-        next
     }
 
     /// An index not below this one: no pattern from this one up to it can begin where this is seen. That the pattern there can
@@ -196,9 +354,21 @@ impl FlatList {
         ensures passed { (k : ℕ) (d : Flat) → from ≤ k → k < result → k < length self.now
             → IsOut outlook (slice_index_or self.now k d) }
     {
-        let mut next = self.next_begun(outlook.here, from);
-        while next < self.flats.len() && is_cut(&self.flats[next], outlook) {
-            next = self.next_begun(outlook.here, next + 1);
+        if from == 0 && !is_in(self.any, outlook.here) {
+            return self.flats.len();
+        }
+        if self.words == 0 {
+            return next_seen(self.flats.as_slice(), outlook, from);
+        }
+        let mut next = from;
+        while next < self.flats.len() {
+            let rows = self.rows.as_slice();
+            let rest = alive(rows, self.cuts.as_slice(), self.words, outlook, next / 64)
+                >> (next % 64);
+            if rest != 0 {
+                return next + rest.trailing_zeros() as usize;
+            }
+            next = (next / 64 + 1) * 64;
         }
         next
     }

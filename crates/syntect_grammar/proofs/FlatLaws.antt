@@ -62,10 +62,10 @@ module _ (set : SyntaxSet) (flat : Flat) (id : ContextId) (k : ℕ) (m : MatchPa
       omega (arith, ap length g, length-append flats (flat ∷ []), ap length (one_more flats after g), length-append (filter_map (pattern_at set) flats) (m ∷ []), n)
 
   pub tells_more : (flats after : List Flat) → after ≡ flats ++ flat ∷ [] → flat.has_captures ≡ m.has_captures → NoneBeginsOutside flat.begins m.regex
-      → NoneBeginsBefore flat.behind m.regex → (flat.at_edges ≡ true → BeginsAtEdges m.regex) → All (Tells set) flats → All (Tells set) after
-  tells_more flats after g c b f a t =
+      → NoneBeginsBefore false flat.words m.regex → NoneBeginsBefore true flat.blanks m.regex → (flat.at_edges ≡ true → BeginsAtEdges m.regex) → All (Tells set) flats → All (Tells set) after
+  tells_more flats after g c b f k a t =
       let tells : Tells set flat =
-      subst (λ (o : Option MatchPattern). IfSome o (λ (x : MatchPattern). (flat.has_captures ≡ x.has_captures) × NoneBeginsOutside flat.begins x.regex × NoneBeginsBefore flat.behind x.regex × (flat.at_edges ≡ true → BeginsAtEdges x.regex))) (sym found_there) (c, b, f, a) in
+      subst (λ (o : Option MatchPattern). IfSome o (λ (x : MatchPattern). (flat.has_captures ≡ x.has_captures) × NoneBeginsOutside flat.begins x.regex × NoneBeginsBefore false flat.words x.regex × NoneBeginsBefore true flat.blanks x.regex × (flat.at_edges ≡ true → BeginsAtEdges x.regex))) (sym found_there) (c, b, f, k, a) in
       subst (All (Tells set)) (sym g) (All-append (Tells set) flats (flat ∷ []) t (All-cons (Tells set) flat [] tells (All-nil (Tells set))))
 
 -- ---- tables ----

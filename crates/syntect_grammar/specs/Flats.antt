@@ -1,5 +1,5 @@
 -- The patterns of a context's walk, as a set keeps them.
-use Rattle.std.specs.Prelude.{◌≡◌, ℕ, ◌<◌, ◌≤◌, true, List, [], length, Option, None, IfSome, slice_index_or}
+use Rattle.std.specs.Prelude.{◌≡◌, ℕ, ◌<◌, ◌≤◌, true, false, List, [], length, Option, None, IfSome, slice_index_or}
 use Rattle.std.specs.List.{All, filter_map}
 use Rattle.std.specs.Option.{option_and_then}
 use Rattle.syntect_regex.specs.Begins.{BeginsAtEdges, NoneBeginsBefore, NoneBeginsOutside}
@@ -19,7 +19,7 @@ pattern_at set flat = option_and_then (λ c. match_of c flat.index) (context_at 
 -- what is kept of the pattern at the place is true of it
 abbrev pub Tells : SyntaxSet → Flat → Type 0
 Tells set flat = IfSome (pattern_at set flat) (λ m. (flat.has_captures ≡ m.has_captures) × NoneBeginsOutside flat.begins m.regex
-    × NoneBeginsBefore flat.behind m.regex × (flat.at_edges ≡ true → BeginsAtEdges m.regex))
+    × NoneBeginsBefore false flat.words m.regex × NoneBeginsBefore true flat.blanks m.regex × (flat.at_edges ≡ true → BeginsAtEdges m.regex))
 
 -- Each test finds the same first pattern at these places as in the context's walk, there are no more of them than that has
 -- patterns, and what is kept of them is true.

@@ -1,6 +1,6 @@
 //! The patterns of a context, includes walked. Each context is entered once: what it gives when it is included again, the
 //! walk has given before.
-ghost use Rattle.std.specs.Prelude.{◌≡◌, ◌<◌, ◌++◌, ◌∷◌, [], length, true, None, IfOk, IfSome, OnOk};
+ghost use Rattle.std.specs.Prelude.{◌≡◌, ◌<◌, ◌++◌, ◌∷◌, [], length, true, false, None, IfOk, IfSome, OnOk};
 ghost use Rattle.std.specs.Option.{option_copied};
 ghost use Rattle.syntect_contexts.specs.Contexts.{target};
 ghost use Rattle.syntect_grammar.specs.Contexts.{context_at, set_of};
@@ -63,12 +63,14 @@ fn flat_of(context: ContextId, index: usize, m: &MatchPattern) -> Flat
     ensures index { result.index ≡ index }
     ensures captures { result.has_captures ≡ m.now.has_captures }
     ensures begins { NoneBeginsOutside result.begins m.now.regex }
-    ensures behind { NoneBeginsBefore result.behind m.now.regex }
+    ensures words { NoneBeginsBefore false result.words m.now.regex }
+    ensures blanks { NoneBeginsBefore true result.blanks m.now.regex }
     ensures edges { result.at_edges ≡ true → BeginsAtEdges m.now.regex }
 {
     Flat {
         begins: m.regex.begins(),
-        behind: m.regex.behind_words(),
+        words: m.regex.behind_words(),
+        blanks: m.regex.behind_blanks(),
         at_edges: m.regex.begins_at_edges(),
         context,
         index,

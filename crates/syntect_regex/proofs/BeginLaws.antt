@@ -17,7 +17,7 @@ use Rattle.syntect_engine.proofs.FindLaws.{found-past, found-step}
 use Rattle.syntect_pattern_reader.specs.Compiled.{Compiles, IsCompiled}
 use Rattle.syntect_regex.specs.Begins.{BeginsAtEdges, IsAtEdges, NoneBeginsBefore, NoneBeginsOutside}
 use Rattle.syntect_word_ends.specs.Ends.{StandsBehind, ends, passes}
-use Rattle.syntect_word_ends.proofs.EndLaws.{none-in_word}
+use Rattle.syntect_word_ends.proofs.EndLaws.{none-in_run}
 
 start-bound : (s : List ℕ) (i : ℕ) → start_at s i < 130
 start-bound s i = elim (cases_lt i (length s)) [
@@ -70,19 +70,20 @@ pub edges-found : (pattern : List ℕ) (p : Program) → IsCompiled pattern p �
 edges-found pattern p is h s i out =
     pattern-next s pattern is.tree i is.reads (found-next s is.tree i (none-off-edges s is.tree i (subst IsAtEdges is.program.root h) out))
 
--- ---- in words ----
+-- ---- in runs ----
 
--- what can stand behind words by the root of a program
-pub none-before : (pattern : List ℕ) (p : Program) → IsCompiled pattern p → (places : Places) → StandsBehind places (get_or (trees_of p) p.root nothing) → NoneBeginsBefore places pattern
-none-before pattern p is places behind s u i e word out =
-    let x : ℕ = start_at s e in
-    let dead : (passes is.tree x || ends is.tree x) ≡ false =
-    sym (ap (λ (t : Tree). passes t x || ends t x) is.program.root) ∙ behind x (start-bound s e) out in
-    pattern-next s pattern is.tree i is.reads (found-next s is.tree i (none-in_word s u is.tree i e word dead))
+module _ (blank : Bool) (pattern : List ℕ) (places : Places) where
+  -- what can stand behind runs by the root of a program
+  pub none-before : (p : Program) → IsCompiled pattern p → StandsBehind blank places (get_or (trees_of p) p.root nothing) → NoneBeginsBefore blank places pattern
+  none-before p is behind s u i e run out =
+      let x : ℕ = start_at s e in
+      let dead : (passes blank is.tree x || ends blank is.tree x) ≡ false =
+      sym (ap (λ (t : Tree). passes blank t x || ends blank t x) is.program.root) ∙ behind x (start-bound s e) out in
+      pattern-next s pattern is.tree i is.reads (found-next s is.tree i (none-in_run blank s u is.tree i e run dead))
 
--- so it is of a text that is no pattern
-pub none-compiled : (pattern : List ℕ) (program : Option Program) → Compiles pattern program → (places : Places)
-    → ((p : Program) → program ≡ Some p → StandsBehind places (get_or (trees_of p) p.root nothing)) → NoneBeginsBefore places pattern
-none-compiled pattern None is places h s u i e word out =
-    ap (λ (o : Option Tree). option_and_then (λ t. found s t i) o) is ∙ sym (ap (λ (o : Option Tree). option_and_then (λ t. found s t (i + 1)) o) is)
-none-compiled pattern (Some p) is places h s u i e word out = none-before pattern p is places (h p refl) s u i e word out
+  -- so it is of a text that is no pattern
+  pub none-compiled : (program : Option Program) → Compiles pattern program
+      → ((p : Program) → program ≡ Some p → StandsBehind blank places (get_or (trees_of p) p.root nothing)) → NoneBeginsBefore blank places pattern
+  none-compiled None is h s u i e run out =
+      ap (λ (o : Option Tree). option_and_then (λ t. found s t i) o) is ∙ sym (ap (λ (o : Option Tree). option_and_then (λ t. found s t (i + 1)) o) is)
+  none-compiled (Some p) is h s u i e run out = none-before p is (h p refl) s u i e run out

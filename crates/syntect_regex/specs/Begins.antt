@@ -1,11 +1,11 @@
 -- Where a match of a pattern can begin.
-use Rattle.std.specs.Prelude.{◌≡◌, ℕ, ◌+◌, false, List, [], IsUtf8}
+use Rattle.std.specs.Prelude.{◌≡◌, ℕ, ◌+◌, Bool, false, List, [], IsUtf8}
 use Rattle.syntect_pattern.specs.Trees.{Tree}
 use Rattle.syntect_pattern.specs.Matches.{Groups, is_word_edge, matches}
 use Rattle.syntect_pattern.specs.Pattern.{pattern_found}
 use Rattle.syntect_pattern_table.specs.Starts.{is_in, start_at}
 use Rattle.syntect_pattern_table.specs.declared.starts.Places.{Places}
-use Rattle.syntect_word_ends.specs.Ends.{IsWordUpTo}
+use Rattle.syntect_word_ends.specs.Ends.{IsRunUpTo}
 
 -- no match of the pattern begins at a place where something stands that is none of these
 abbrev pub NoneBeginsOutside : Places → List ℕ → Type 0
@@ -21,7 +21,7 @@ abbrev pub BeginsAtEdges : List ℕ → Type 0
 BeginsAtEdges pattern = (s : List ℕ) → (place : ℕ) → is_word_edge s place ≡ false
     → pattern_found pattern s place ≡ pattern_found pattern s (place + 1)
 
--- no match of the pattern begins in a word that has something behind it which is none of these
-abbrev pub NoneBeginsBefore : Places → List ℕ → Type 0
-NoneBeginsBefore places pattern = (s : List ℕ) → IsUtf8 s → (place e : ℕ) → IsWordUpTo s place e → is_in places (start_at s e) ≡ false
+-- no match of the pattern begins in white space, or else in a word, that has something behind it which is none of these
+abbrev pub NoneBeginsBefore : Bool → Places → List ℕ → Type 0
+NoneBeginsBefore blank places pattern = (s : List ℕ) → IsUtf8 s → (place e : ℕ) → IsRunUpTo blank s place e → is_in places (start_at s e) ≡ false
     → pattern_found pattern s place ≡ pattern_found pattern s (place + 1)

@@ -1,5 +1,5 @@
 //! Patterns.
-ghost use Rattle.std.specs.Prelude.{◌≡◌, ℕ, ◌+◌, ◌≤◌, length, ◌==◌, ◌++◌, encode_utf8_all, OnOk, take, drop, string_bytes, IfOk, OnErr, IfSome, IfNone, IsCharBoundary, is_some, is_ok, unwrap_or, option_and_then, if◌then◌else◌, None, Some, slice_index_or, true};
+ghost use Rattle.std.specs.Prelude.{◌≡◌, ℕ, ◌+◌, ◌≤◌, length, ◌==◌, ◌++◌, encode_utf8_all, OnOk, take, drop, string_bytes, IfOk, OnErr, IfSome, IfNone, IsCharBoundary, is_some, is_ok, unwrap_or, option_and_then, if◌then◌else◌, None, Some, slice_index_or, true, false};
 ghost use Rattle.std.specs.Cmp.Lexicographic.{pointwise};
 ghost use Rattle.std.proofs.Common.{rules};
 ghost use Rattle.std.specs.Cmp.Rules.{comparing};
@@ -27,7 +27,7 @@ use syntect_pattern_table::program::Program;
 use syntect_pattern_table::starts::{Places, anywhere};
 use syntect_plan::plan::Plan;
 use syntect_turns::count::TurnCount;
-use syntect_word_ends::ends::behind_words;
+use syntect_word_ends::ends::behind_runs;
 
 /// A pattern, ready to be searched. It is its text: equal texts are equal patterns.
 pub struct Regex {
@@ -35,7 +35,9 @@ pub struct Regex {
     /// None if the text is no pattern.
     program: Option<Program>,
     /// What can stand behind a word in which a match begins.
-    behind: Places,
+    words: Places,
+    /// What can stand behind white space in which one does.
+    blanks: Places,
 }
 
 /// Written out, so that crates above call it and needn't prove each part's drop again.
@@ -44,13 +46,14 @@ impl Drop for Regex {
         let Regex {
             text: _,
             program: _,
-            behind: _,
+            words: _,
+            blanks: _,
         } = self;
     }
 }
 
 impl Model for Regex {
-    ghost use Rattle.std.specs.Prelude.{List, ℕ, string_bytes};
+    ghost use Rattle.std.specs.Prelude.{List, ℕ, string_bytes, true, false};
     ghost use Rattle.syntect_pattern_reader.specs.Compiled.{Compiles};
     ghost use Rattle.syntect_regex.specs.Begins.{NoneBeginsBefore};
 
@@ -59,7 +62,8 @@ impl Model for Regex {
     ghost view = { λ a. string_bytes a.text };
 
     ghost invariant = { λ a. Compiles (string_bytes a.text) a.program
-        × NoneBeginsBefore a.behind (string_bytes a.text) };
+        × NoneBeginsBefore false a.words (string_bytes a.text)
+        × NoneBeginsBefore true a.blanks (string_bytes a.text) };
 }
 
 impl Regex {
@@ -68,11 +72,13 @@ impl Regex {
         ensures { IfOk result (λ r. r ≡ string_bytes text) }
     {
         let program = compile(alloc, text.as_str())?;
-        let behind = behind_of(alloc, &program)?;
+        let words = behind_of(alloc, false, &program)?;
+        let blanks = behind_of(alloc, true, &program)?;
         Ok(Regex {
             text,
             program,
-            behind,
+            words,
+            blanks,
         })
     }
 
@@ -137,9 +143,17 @@ impl Regex {
     /// What can stand behind a word in which a match begins: in a word that has something else behind it none begins. The
     /// word's characters are those of ASCII.
     pub fn behind_words(&self) -> Places
-        ensures { NoneBeginsBefore result self.now }
+        ensures { NoneBeginsBefore false result self.now }
     {
-        self.behind
+        self.words
+    }
+
+    /// What can stand behind white space in which a match begins: in white space that has something else behind it none
+    /// begins. It is tabs, line feeds and spaces.
+    pub fn behind_blanks(&self) -> Places
+        ensures { NoneBeginsBefore true result self.now }
+    {
+        self.blanks
     }
 
     /// Whether each search takes steps in proportion to the text: those of a pattern without back references, whose
@@ -165,14 +179,16 @@ impl Regex {
             return Ok(Regex {
                 text,
                 program: None,
-                behind: self.behind,
+                words: self.words,
+                blanks: self.blanks,
             });
         };
         let copy = program.clone(alloc)?;
         Ok(Regex {
             text,
             program: Some(copy),
-            behind: self.behind,
+            words: self.words,
+            blanks: self.blanks,
         })
     }
 
@@ -339,13 +355,14 @@ impl Regex {
     }
 }
 
-/// What can stand behind a word in which a match of the program begins; anything where there is none.
-fn behind_of(alloc: Global, program: &Option<Program>) -> Result<Places, AllocError>
+/// What can stand behind white space, or else behind a word, in which a match of the program begins; anything where there is
+/// none.
+fn behind_of(alloc: Global, blank: bool, program: &Option<Program>) -> Result<Places, AllocError>
     ensures { IfOk result (λ places. (p : Program) → program.now ≡ Some p
-        → StandsBehind places (slice_index_or (trees_of p) p.root nothing)) }
+        → StandsBehind blank places (slice_index_or (trees_of p) p.root nothing)) }
 {
     match program {
-        Some(program) => behind_words(alloc, program),
+        Some(program) => behind_runs(alloc, blank, program),
         None => Ok(anywhere()),
     }
 }

@@ -120,6 +120,50 @@ fn tells_which_patterns_are_linear(rt: HostRuntime) {
     }
 }
 
+/// A pattern, a character that stands behind white space or else behind a word in which a match of it is to begin, and whether
+/// one can begin there.
+const BEHIND: [(&str, bool, char, bool); 13] = [
+    ("\\s*(?=\\|)", true, '|', true),
+    ("\\s*(?=\\|)", true, 'a', false),
+    ("^\\s*(class)\\b", true, 'c', true),
+    ("^\\s*(class)\\b", true, 'd', false),
+    ("\\s*(\\.)", true, '(', false),
+    ("[ \\t]+|x", true, 'a', true),
+    ("\\S", true, 'a', true),
+    ("[a-z]+\\(", false, '(', true),
+    ("[a-z]+\\(", false, ')', false),
+    ("[a-z]+\\s*\\(", false, ' ', true),
+    ("[a-z]+\\b", false, ')', true),
+    ("\\w+(?=!)", false, '!', true),
+    ("\\w+(?=!)", false, '?', false),
+];
+
+#[test]
+fn tells_what_stands_behind_a_match_begun(rt: HostRuntime) {
+    for (pattern, blank, behind, wanted) in BEHIND {
+        let text = String::from_str(rt.alloc(), pattern).expect(&rt, "memory");
+        let regex = Regex::new(rt.alloc(), text).expect(&rt, "memory");
+        let places = if blank {
+            regex.behind_blanks()
+        } else {
+            regex.behind_words()
+        };
+        equal(&rt, places.ascii >> behind as u32 & 1 == 1, wanted);
+    }
+}
+
+/// A pattern, and whether it is seen to begin where a word begins or ends.
+const AT_EDGES: [(&str, bool); 3] = [("\\bword", true), ("(\\b(a|b))c", true), ("word\\b", false)];
+
+#[test]
+fn tells_which_patterns_begin_at_edges(rt: HostRuntime) {
+    for (pattern, wanted) in AT_EDGES {
+        let text = String::from_str(rt.alloc(), pattern).expect(&rt, "memory");
+        let regex = Regex::new(rt.alloc(), text).expect(&rt, "memory");
+        equal(&rt, regex.begins_at_edges(), wanted);
+    }
+}
+
 /// Sixteen loops in one another, through which a search that backs up has as many ways as there are.
 #[test]
 fn searches_loops_in_one_another(rt: HostRuntime) {

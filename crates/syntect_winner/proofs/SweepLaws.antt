@@ -1,5 +1,5 @@
 -- What a turn finds at a place in a part of the chain, and in all parts.
-use Rattle.std.proofs.Common.{◌≡◌, ℕ, zero, suc, ◌+◌, ◌-◌, ◌<◌, ◌≤◌, ◌⊎◌, Bool, true, false, List, [], ◌∷◌, ◌++◌, get_or, length, map, take, Option, Some, None, refl, sym, ap, subst, ◌∙◌, arith, inl, inr}
+use Rattle.std.proofs.Common.{◌≡◌, ℕ, zero, suc, ◌+◌, ◌-◌, ◌<◌, ◌≤◌, ◌⊎◌, ◌||◌, Bool, true, false, List, [], ◌∷◌, ◌++◌, get_or, length, map, take, Option, Some, None, refl, sym, ap, subst, ◌∙◌, arith, inl, inr}
 use Rattle.std.specs.Prelude.{is_some}
 use Rattle.std.specs.List.{All, cons_option, flat_map}
 use Rattle.std.specs.Option.{option_copied}
@@ -12,11 +12,14 @@ use Rattle.syntect_regex.specs.Begins.{BeginsAtEdges, NoneBeginsBefore, NoneBegi
 use Rattle.syntect_contexts.specs.declared.context.MatchPattern.{MatchPattern}
 use Rattle.syntect_grammar.specs.Flats.{pattern_at, Tells}
 use Rattle.syntect_grammar.specs.declared.syntax_set.SyntaxSet.{SyntaxSet}
-use Rattle.syntect_flats.specs.Rows.{IsOut}
+use Rattle.syntect_flats.specs.Rows.{IsOut, behind_of}
+use Rattle.syntect_flats.specs.Rows.{BeginIn as IsAnyOf}
+use Rattle.syntect_pattern_table.specs.declared.starts.Places.{Places}
 use Rattle.syntect_flats.specs.declared.flats.Flat.{Flat}
 use Rattle.syntect_flats.specs.declared.flats.Outlook.{Outlook}
-use Rattle.syntect_pattern_table.specs.Starts.{is_in}
-use Rattle.syntect_winner.specs.Ahead.{AddsAll, AddsAt, AddsRun, AllAhead, AreAhead, AreAheadFrom, AreAheadUpTo, IsAhead, IsBare, IsBestAt, IsRuledOut, IsRun, Sees, list_in, run_members}
+use Rattle.syntect_pattern_table.specs.Starts.{is_in, start_at}
+use Rattle.syntect_word_ends.specs.Ends.{IsRunUpTo}
+use Rattle.syntect_winner.specs.Ahead.{AddsAll, AddsAt, AddsRun, AllAhead, AreAhead, AreAheadFrom, AreAheadUpTo, IsAhead, IsBestAt, IsQuiet, IsRuledOut, IsRun, Reaches, Sees, list_in, run_members}
 use Rattle.syntect_winner.specs.Engine.{dialect}
 use Rattle.syntect_winner.specs.Found.{FindsInText}
 use Rattle.syntect_winner.specs.Parts.{flat_members, part_member, part_members}
@@ -30,12 +33,19 @@ use Rattle.syntect_winner.specs.declared.chain.Part.{Part}
 use Rattle.syntect_winner.specs.declared.reader.LineReader.{LineReader}
 use Rattle.syntect_winner.specs.declared.search.Best.{Best}
 use Rattle.syntect_winner.specs.declared.search.Candidate.{Candidate}
+use Rattle.syntect_winner.specs.declared.sweep.Reach.{Reach}
 use Rattle.syntect_winner.specs.declared.sweep.Run.{Run}
+
+-- what is known of a run is known of its later places
+pub reaches_on : (line : List ℕ) (i j : ℕ) (r : Reach) → i ≤ j → Reaches line i r → Reaches line j r
+reaches_on line i j r l h m =
+    let known : (IsRunUpTo r.blank line i r.end) × (r.behind ≡ start_at line r.end) × (r.behind < 130) = h (omega (arith, l, m)) in
+    (record { order = omega (arith, m); within = known.0.within; chars = λ k a b. known.0.chars k (omega (arith, l, a)) b }, known.1, known.2)
 
 -- what is seen of a place rules patterns out
 pub ruled_out : (o : Outlook) (line : List ℕ) (i : ℕ) (flat : Flat) → Sees o line i → IsOut o flat → IsRuledOut line i flat
 ruled_out o line i flat s (inl e) = inl (sym (ap (is_in flat.begins) s.here) ∙ e)
-ruled_out o line i flat s (inr (inl e)) = inr (inl (record { end = s.end; word = s.word; out = sym (ap (is_in flat.behind) s.behind) ∙ e }))
+ruled_out o line i flat s (inr (inl e)) = inr (inl (record { blank = o.blank; end = s.end; run = s.run; out = sym (ap (is_in (behind_of o.blank flat)) s.behind) ∙ e }))
 ruled_out o line i flat s (inr (inr p)) = inr (inr (p.1, s.edges p.0))
 
 module _ (finds : FindsInText dialect) (reader : LineReader) (i : ℕ) (run : Run) where
@@ -102,20 +112,25 @@ module _ (finds : FindsInText dialect) (reader : LineReader) (i : ℕ) (run : Ru
     own_text : (k : ℕ) (d : Flat) (m : MatchPattern) → k < length flats → pattern_at reader.set.now (get_or flats k d) ≡ Some m → run.replaced.items ≡ [] → m.regex ≡ searched_text dialect m (option_copied run.part.opening)
     own_text k d m l e n = (rw n at (r.replaced k d m l e))
 
-    none_here : (flat : Flat) (pattern : List ℕ) → NoneBeginsOutside flat.begins pattern × NoneBeginsBefore flat.behind pattern × (flat.at_edges ≡ true → BeginsAtEdges pattern) → IsRuledOut reader.line.now i flat
+    none_here : (flat : Flat) (pattern : List ℕ) → NoneBeginsOutside flat.begins pattern × NoneBeginsBefore false flat.words pattern × NoneBeginsBefore true flat.blanks pattern × (flat.at_edges ≡ true → BeginsAtEdges pattern) → IsRuledOut reader.line.now i flat
         → pattern_found pattern reader.line.now i ≡ pattern_found pattern reader.line.now (i + 1)
     none_here flat pattern h (inl out) = h.0 reader.line.now reader.text i out
-    none_here flat pattern h (inr (inl cut)) = h.1 reader.line.now reader.text i cut.end cut.word cut.out
-    none_here flat pattern h (inr (inr off)) = h.2 off.0 reader.line.now i off.1
+    none_here flat pattern h (inr (inl cut)) = by cut.blank cut.run cut.out
+      where
+        by : (blank : Bool) → IsRunUpTo blank reader.line.now i cut.end → is_in (behind_of blank flat) (start_at reader.line.now cut.end) ≡ false
+            → pattern_found pattern reader.line.now i ≡ pattern_found pattern reader.line.now (i + 1)
+        by false run out = h.1 reader.line.now reader.text i cut.end run out
+        by true run out = h.2 reader.line.now reader.text i cut.end run out
+    none_here flat pattern h (inr (inr off)) = h.3 off.0 reader.line.now i off.1
 
     pub passes : (lost : Bool) (k : ℕ) (d : Flat) → k < length flats → run.replaced.items ≡ [] → IsRuledOut reader.line.now i (get_or flats k d)
         → ((m : MatchPattern) → pattern_at reader.set.now (get_or flats k d) ≡ Some m → IsAhead reader lost i (part_member run.part m))
         → (m : MatchPattern) → pattern_at reader.set.now (get_or flats k d) ≡ Some m → IsAhead reader lost (i + 1) (part_member run.part m)
     passes lost k d l n out a m e =
         let told : Tells reader.set.now (get_or flats k d) = All-get_or (Tells reader.set.now) flats k d l r.flats.tells in
-        let begins : (((get_or flats k d).has_captures ≡ m.has_captures)) × NoneBeginsOutside (get_or flats k d).begins m.regex × NoneBeginsBefore (get_or flats k d).behind m.regex × ((get_or flats k d).at_edges ≡ true → BeginsAtEdges m.regex) = rw e at told in
+        let begins : (((get_or flats k d).has_captures ≡ m.has_captures)) × NoneBeginsOutside (get_or flats k d).begins m.regex × NoneBeginsBefore false (get_or flats k d).words m.regex × NoneBeginsBefore true (get_or flats k d).blanks m.regex × ((get_or flats k d).at_edges ≡ true → BeginsAtEdges m.regex) = rw e at told in
         let same : m.regex ≡ searched_text dialect m (option_copied run.part.opening) = own_text k d m l e n in
-        ahead_next reader (part_member run.part m) lost i (a m e) (rw same at (none_here (get_or flats k d) m.regex (begins.1, begins.2, begins.3) out))
+        ahead_next reader (part_member run.part m) lost i (a m e) (rw same at (none_here (get_or flats k d) m.regex (begins.1, begins.2, begins.3, begins.4) out))
 
     -- those between two indexes that can't begin here change nothing,
     pub skipped : (lost : Bool) (b : Best) (ms : List Live) (j k : ℕ) → j ≤ k → (j < k → run.replaced.items ≡ [])
@@ -259,11 +274,33 @@ all_first reader lost runs k r z q d m f w g = ahead_first reader (part_member (
 
 -- ---- places where nothing can begin ----
 
+none-left : (a b : Bool) → (a || b) ≡ false → a ≡ false
+none-left true b e = cc
+none-left false b e = refl
+
+none-right : (a b : Bool) → (a || b) ≡ false → b ≡ false
+none-right true b e = cc
+none-right false b e = e
+
+-- what the patterns of one part more begin with
+pub begin_more : (begins any both : Places) (runs : List Run) (j : ℕ) (run : Run) → run ≡ get_or runs j run → run.replaced.items ≡ [] → IsAnyOf any (list_in run.flats)
+    → ((x : ℕ) → is_in both x ≡ (is_in begins x || is_in any x))
+    → ((x k : ℕ) (r : Run) → x < 130 → is_in begins x ≡ false → k < j → k < length runs → IsQuiet x (get_or runs k r))
+    → (x k : ℕ) (r : Run) → x < 130 → is_in both x ≡ false → k < j + 1 → k < length runs → IsQuiet x (get_or runs k r)
+begin_more begins any both runs j run here plain any-of is before x k r l e m n = elim (cases_lt k j) [
+  | inl a ↦ before x k r l (none-left (is_in begins x) (is_in any x) (sym (is x) ∙ e)) a n
+  | inr a ↦
+      (let same : k ≡ j = omega (arith, a, m) in
+      let at : get_or runs k r ≡ run = ap (λ y. get_or runs y r) same ∙ get_or_default runs j r run (omega (arith, n, same)) ∙ sym here in
+      let quiet : IsQuiet x run = record { plain = plain; out = λ q d z. any-of x q d l z (none-right (is_in begins x) (is_in any x) (sym (is x) ∙ e)) } in
+      subst (IsQuiet x) (sym at) quiet)
+]
+
 module _ (finds : FindsInText dialect) (reader : LineReader) (runs : List Run) (all : All (IsRun reader.set.now) runs) (lost : Bool) where
-  pub passed_place : (i : ℕ) → All (IsBare reader.line.now i) runs → AllAhead reader lost i runs → AllAhead reader lost (i + 1) runs
-  passed_place i bare ahead k r l q d m z w e =
+  pub passed_place : (i : ℕ) → All (IsQuiet (start_at reader.line.now i)) runs → AllAhead reader lost i runs → AllAhead reader lost (i + 1) runs
+  passed_place i quiet ahead k r l q d m z w e =
       let run : Run = get_or runs k r in
-      begun_ahead finds reader i run (all k r l) lost (length (list_in run.flats)) (bare k r l).plain (λ j f _ n _. (bare k r l).out j f n) (ahead k r l) q d m w w e
+      begun_ahead finds reader i run (all k r l) lost (length (list_in run.flats)) (λ _. (quiet k r l).plain) (λ j f _ n _. inl ((quiet k r l).out j f n)) (ahead k r l) q d m w w e
 
 -- ---- the winner of the chain ----
 

@@ -1,17 +1,19 @@
 -- How far a turn has looked, pattern by pattern.
 use Rattle.std.specs.Prelude.{◌≡◌, ℕ, ◌+◌, ◌<◌, ◌≤◌, ◌⊎◌, Bool, true, false, List, [], ◌∷◌, ◌++◌, length, Option, Some, None, unwrap_or, slice_index_or}
-use Rattle.std.specs.List.{cons_option, flat_map}
+use Rattle.std.specs.List.{All, cons_option, flat_map}
 use Rattle.std.specs.Option.{option_copied}
 use Rattle.syntect_pattern.specs.Matches.{is_word_edge}
 use Rattle.syntect_pattern_table.specs.Starts.{is_in, start_at}
 use Rattle.syntect_contexts.specs.Substitution.{Groups}
 use Rattle.syntect_contexts.specs.declared.context.MatchPattern.{MatchPattern}
+use Rattle.syntect_pattern_table.specs.declared.starts.Places.{Places}
+use Rattle.syntect_flats.specs.Rows.{behind_of}
 use Rattle.syntect_flats.specs.declared.flats.Flat.{Flat}
 use Rattle.syntect_flats.specs.declared.flats.Outlook.{Outlook}
 use Rattle.syntect_grammar.specs.Flats.{AreFlatsOf, pattern_at}
 use Rattle.syntect_grammar.specs.declared.syntax_set.SyntaxSet.{SyntaxSet}
 use Rattle.syntect_regex.specs.Region.{BeginsAt}
-use Rattle.syntect_word_ends.specs.Ends.{IsWordUpTo}
+use Rattle.syntect_word_ends.specs.Ends.{IsRunUpTo}
 use Rattle.syntect_winner.specs.Best.{IsBest}
 use Rattle.syntect_winner.specs.Chain.{Member}
 use Rattle.syntect_winner.specs.Engine.{dialect}
@@ -23,12 +25,13 @@ use Rattle.syntect_winner.specs.declared.reader.LineReader.{LineReader}
 use Rattle.syntect_winner.specs.declared.search.Best.{Best}
 use Rattle.syntect_winner.specs.declared.sweep.Kept.{Kept}
 use Rattle.syntect_winner.specs.declared.sweep.Kept.TheVariants as kept
+use Rattle.syntect_winner.specs.declared.sweep.Reach.{Reach}
 use Rattle.syntect_winner.specs.declared.sweep.Run.{Run}
 
 -- the patterns of a flat list, wherever it is kept
 abbrev pub list_in : Kept → List Flat
 list_in (kept.Lent flats) = flats.now
-list_in (kept.Own flats) = flats
+list_in (kept.Own flats) = flats.value
 
 -- each pattern at the places of a flat list is searched in this form, or as it stands
 abbrev pub AreReplaced : SyntaxSet → Part → List Flat → List (Option (List ℕ)) → Type 0
@@ -69,27 +72,37 @@ AllAhead reader lost i runs = (k : ℕ) (r : Run) → k < length runs → AreAhe
 pub record Sees (o : Outlook) (line : List ℕ) (i : ℕ) : Type 0 where
   pub here : o.here ≡ start_at line i
   pub end : ℕ
-  pub word : IsWordUpTo line i end
+  pub run : IsRunUpTo o.blank line i end
   pub behind : o.behind ≡ start_at line end
   pub edges : o.off_edges ≡ true → is_word_edge line i ≡ false
 
--- something stands behind the word at the place that no match of the pattern has behind a word in which it begins
-pub record IsCutOff (line : List ℕ) (i : ℕ) (flat : Flat) : Type 0 where
-  pub end : ℕ
-  pub word : IsWordUpTo line i end
-  pub out : is_in flat.behind (start_at line end) ≡ false
+-- what is known of white space, or else a word that goes on at the place: up to where it does, and what stands behind it
+abbrev pub Reaches : List ℕ → ℕ → Reach → Type 0
+Reaches line i r = i < r.end → (IsRunUpTo r.blank line i r.end) × (r.behind ≡ start_at line r.end) × (r.behind < 130)
 
--- No match of the pattern begins at the place: nothing that stands there begins one, or the word there is cut off, or a word
+-- something stands behind the white space, or the word, at the place that no match of the pattern has behind one in which it
+-- begins
+pub record IsCutOff (line : List ℕ) (i : ℕ) (flat : Flat) : Type 0 where
+  pub blank : Bool
+  pub end : ℕ
+  pub run : IsRunUpTo blank line i end
+  pub out : is_in (behind_of blank flat) (start_at line end) ≡ false
+
+-- No match of the pattern begins at the place: nothing that stands there begins one, or the run there is cut off, or a word
 -- goes on there and the pattern's matches begin only where one begins or ends.
 abbrev pub IsRuledOut : List ℕ → ℕ → Flat → Type 0
 IsRuledOut line i flat =
     (is_in flat.begins (start_at line i) ≡ false)
     ⊎ (IsCutOff line i flat ⊎ ((flat.at_edges ≡ true) × (is_word_edge line i ≡ false)))
 
--- no pattern of the part can begin at the place, and each is searched as it stands
-pub record IsBare (line : List ℕ) (i : ℕ) (run : Run) : Type 0 where
-  pub plain : 0 < length (list_in run.flats) → run.replaced.items ≡ []
-  pub out : (k : ℕ) (d : Flat) → k < length (list_in run.flats) → IsRuledOut line i (slice_index_or (list_in run.flats) k d)
+-- no pattern of the part can begin with this, and each is searched as it stands
+pub record IsQuiet (x : ℕ) (run : Run) : Type 0 where
+  pub plain : run.replaced.items ≡ []
+  pub out : (k : ℕ) (d : Flat) → k < length (list_in run.flats) → is_in (slice_index_or (list_in run.flats) k d).begins x ≡ false
+
+-- the patterns of all parts begin with some of this alone
+abbrev pub BeginIn : Places → List Run → Type 0
+BeginIn begins runs = (x : ℕ) → x < 130 → is_in begins x ≡ false → All (IsQuiet x) runs
 
 -- the members of the chain that a part stands for
 abbrev pub run_members : SyntaxSet → Run → List Member

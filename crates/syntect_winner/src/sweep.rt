@@ -6,8 +6,10 @@ ghost use Rattle.std.specs.List.{All, flat_map, list_any};
 ghost use Rattle.syntect_contexts.specs.declared.context.MatchPattern.{MatchPattern as APattern};
 ghost use Rattle.syntect_grammar.specs.Flats.{AreFlatsOf, pattern_at};
 ghost use Rattle.syntect_pattern.specs.Matches.{is_word_edge};
-ghost use Rattle.syntect_pattern_table.specs.Starts.{is_in};
-ghost use Rattle.syntect_winner.specs.Ahead.{AddsAll, AddsAt, AddsMember, AddsRun, AllAhead, AreAhead, AreAheadFrom, AreReplaced, FindsHere, IsAhead, IsBare, IsBestAt, IsRuledOut, IsRun, Sees, list_in, run_members};
+ghost use Rattle.syntect_pattern_table.specs.Starts.{start_at};
+ghost use Rattle.syntect_word_ends.specs.Ends.{IsRunUpTo};
+ghost use Rattle.syntect_winner.specs.declared.sweep.Run.{Run as ARun};
+ghost use Rattle.syntect_winner.specs.Ahead.{AddsAll, AddsAt, AddsMember, AddsRun, AllAhead, AreAhead, AreAheadFrom, AreReplaced, BeginIn, FindsHere, IsAhead, IsBestAt, IsRuledOut, IsRun, Reaches, Sees, list_in, run_members};
 ghost use Rattle.syntect_contexts.specs.Substitution.{Groups};
 ghost use Rattle.syntect_winner.specs.Best.{choice_by};
 ghost use Rattle.syntect_winner.specs.Candidates.{member_of};
@@ -29,17 +31,17 @@ use syntect_flats::list::FlatList;
 use syntect_grammar::syntax_definition::MatchPattern;
 use syntect_grammar::syntax_set::SyntaxSet;
 use syntect_pattern::anchor::Anchor;
-use syntect_pattern_table::starts::start_at;
+use syntect_pattern_table::starts::{Places, anywhere, either, is_in, nowhere, start_at};
 use syntect_regex::regex::Regex;
 use syntect_ways::anchor::stands;
 use syntect_ways::text::is_boundary;
-use syntect_word_ends::ends::{is_word_byte, word_end};
+use syntect_word_ends::ends::{is_blank_byte, is_word_byte, run_end};
 
 /// A flat list: one that the set keeps, or one of this turn alone.
 #[derive(Drop)]
 pub enum Kept<'s> {
     Lent(&'s FlatList),
-    Own(FlatList),
+    Own(Box<FlatList>),
 }
 
 /// A part of the chain with the patterns that it stands for.
@@ -57,7 +59,7 @@ fn list_in<'k>(kept: &'k Kept<'_>) -> &'k FlatList
 {
     match kept {
         Kept::Lent(flats) => flats,
-        Kept::Own(flats) => flats,
+        Kept::Own(flats) => &**flats,
     }
 }
 
@@ -109,7 +111,10 @@ fn run_of<'s, 'p>(reader: &LineReader<'s, '_>, part: &Part<'p>) -> Result<Run<'s
 {
     let flats = match reader.set.flats_of(part.id) {
         Some(flats) => Kept::Lent(flats),
-        None => Kept::Own(reader.set.flats_walked(reader.alloc, part.id)?),
+        None => {
+            let walked = reader.set.flats_walked(reader.alloc, part.id)?;
+            Kept::Own(Box::new(reader.alloc, walked)?)
+        }
     };
     let replaced = replaced_in(reader, part, list_in(&flats).as_slice())?;
     Ok(Run {
@@ -141,19 +146,61 @@ fn is_off_edges(line: &str, place: usize) -> bool
     is_boundary(line, place) && !stands(line, place, Anchor::WordEdge)
 }
 
-/// What is seen of a place; with `asks` what stands behind the word there too.
-fn outlook_of(line: &str, place: usize, asks: bool) -> Outlook
-    requires { place ≤ length line.now }
+/// Up to where white space, or else a word goes on, and what stands behind it.
+#[derive(Clone, Copy)]
+pub struct Reach {
+    pub blank: bool,
+    pub end: usize,
+    pub behind: u8,
+}
+
+/// How far what stands at the place goes on, white space, or else a word: as it is known, or else is looked for now.
+fn reach_at(line: &str, place: usize, here: u8, known: Reach) -> Reach
+    requires within { place ≤ length line.now }
+    requires known { Reaches line.now place known }
+    ensures run { IsRunUpTo result.blank line.now place result.end }
+    ensures behind { result.behind ≡ start_at line.now result.end }
+    ensures bound { result.behind < 130 }
+{
+    if place < known.end {
+        return known;
+    }
+    let blank = is_blank_byte(here);
+    let end = run_end(line, place, blank);
+    Reach {
+        blank,
+        end,
+        behind: start_at(line, end),
+    }
+}
+
+/// What is seen of a place; with `asks` what stands behind the white space or the word there too. That is looked for where
+/// it isn't known from an earlier place.
+fn outlook_of(line: &str, place: usize, asks: bool, reach: &mut Reach) -> Outlook
+    requires within { place ≤ length line.now }
+    requires reach { Reaches line.now place reach.old }
+    ensures reach { Reaches line.now place reach.new }
     ensures here { result.here < 130 }
     ensures behind { result.behind < 130 }
     ensures sees { Sees result line.now place }
 {
     let here = start_at(line, place);
-    let end = if asks { word_end(line, place) } else { place };
+    let off_edges = (here >= 128 || is_word_byte(here)) && is_off_edges(line, place);
+    if !asks {
+        return Outlook {
+            here,
+            blank: false,
+            behind: here,
+            off_edges,
+        };
+    }
+    let seen = reach_at(line, place, here, *reach);
+    *reach = seen;
     Outlook {
         here,
-        behind: start_at(line, end),
-        off_edges: (here >= 128 || is_word_byte(here)) && is_off_edges(line, place),
+        blank: seen.blank,
+        behind: seen.behind,
+        off_edges,
     }
 }
 
@@ -175,75 +222,41 @@ fn next_in(run: &Run<'_, '_>, outlook: Outlook, from: usize) -> usize
     }
 }
 
-/// An index of a part: no pattern before it can begin where this stands.
-fn first_begun(run: &Run<'_, '_>, x: u8) -> usize
-    requires { x < 130 }
-    ensures plain { 0 < result → run.now.replaced.items ≡ [] }
-    ensures passed { (k : ℕ) (d : Flat) → k < result → k < length (list_in run.now.flats)
-        → is_in (slice_index_or (list_in run.now.flats) k d).begins x ≡ false }
+/// Whether each pattern of the part is searched as it stands.
+#[inline]
+fn is_plain(run: &Run<'_, '_>) -> bool
+    ensures { result ≡ true → run.now.replaced.items ≡ [] }
 {
-    if !run.replaced.is_empty() {
-        return 0;
-    }
-    list_in(&run.flats).next_begun(x, 0)
+    run.replaced.is_empty()
 }
 
-/// Whether more is asked of a place than what stands there, if a match of the pattern is to begin at it.
-fn is_held(flat: &Flat) -> bool {
-    flat.at_edges || flat.behind.ascii != u128::MAX
-}
-
-/// Whether that is so of the pattern at an index.
-fn is_held_at(run: &Run<'_, '_>, index: usize) -> bool {
-    match list_in(&run.flats).as_slice().get(index) {
-        Some(flat) => is_held(flat),
-        None => false,
-    }
-}
-
-/// Whether no pattern of the part can begin at the place. More than what stands there is looked at only where a pattern can
-/// begin with that.
-fn is_bare(run: &Run<'_, '_>, line: &str, place: usize) -> bool
-    requires { place ≤ length line.now }
-    ensures { result ≡ true → IsBare line.now place run.now }
+/// What can stand at a place where a match of a pattern of the parts begins. That is anything where patterns are replaced.
+fn begins_of(runs: &[Run<'_, '_>]) -> Places
+    ensures { BeginIn result runs.now }
 {
-    let count = list_in(&run.flats).as_slice().len();
-    let first = first_begun(run, start_at(line, place));
-    if first >= count {
-        return true;
-    }
-    if !is_held_at(run, first) {
-        return false;
-    }
-    let outlook = outlook_of(line, place, list_in(&run.flats).asks());
-    next_in(run, outlook, 0) >= count
-}
-
-/// Whether that is so of all parts.
-fn are_bare(runs: &[Run<'_, '_>], line: &str, place: usize) -> bool
-    requires { place ≤ length line.now }
-    ensures { result ≡ true → All (IsBare line.now place) runs.now }
-{
+    let mut begins = nowhere();
     for run in runs {
-        if !is_bare(run, line, place) {
-            return false;
+        if !is_plain(run) {
+            return anywhere();
         }
+        begins = either(begins, list_in(&run.flats).any());
     }
-    true
+    begins
 }
 
-/// The first place, from this one on, with something there that a pattern can begin with; the line's end at the latest. No
-/// member that was ahead has a match before it.
-fn next_place(reader: &LineReader<'_, '_>, runs: &[Run<'_, '_>], place: usize) -> usize
+/// The first place, from this one on, with one of these there; the line's end at the latest. Where patterns begin with nothing
+/// else, none that was ahead has a match before it.
+fn next_place(reader: &LineReader<'_, '_>, begins: Places, place: usize) -> usize
     requires { place ≤ length reader.now.line.now }
     ensures later { place ≤ result }
     ensures within { result ≤ length reader.now.line.now }
-    ensures ahead { (lost : Bool) → All (IsRun reader.now.set.now) runs.now
-        → AllAhead reader.now lost place runs.now → AllAhead reader.now lost result runs.now }
+    ensures ahead { (lost : Bool) (runs : List ARun) → BeginIn begins runs
+        → All (IsRun reader.now.set.now) runs
+        → AllAhead reader.now lost place runs → AllAhead reader.now lost result runs }
 {
     dialect_finds_in_text();
     let mut next = place;
-    while next < reader.line.len() && are_bare(runs, reader.line, next) {
+    while next < reader.line.len() && !is_in(begins, start_at(reader.line, next)) {
         next += 1;
     }
     next
@@ -460,11 +473,14 @@ fn best_at<'s>(
     reader: &LineReader<'s, '_>,
     runs: &[Run<'s, '_>],
     place: usize,
+    outlook: Outlook,
     lost: &mut bool,
     regions: &mut Regions,
 ) -> Result<Best<'s>, AllocError>
     requires order { reader.now.position.now.place ≤ place }
-    requires within { place ≤ length reader.now.line.now }
+    requires here { outlook.here < 130 }
+    requires behind { outlook.behind < 130 }
+    requires sees { Sees outlook reader.now.line.now place }
     requires runs { All (IsRun reader.now.set.now) runs.now }
     ensures lost { lost.old ≡ true → lost.new ≡ true }
     ensures groups { AllAhead reader.now lost.old place runs.now → IfOk result (λ b.
@@ -476,8 +492,6 @@ fn best_at<'s>(
         → OnOk result (regions.new.steps.made ≤ regions.old.steps.made
         + place_steps (length (flat_map (run_members reader.now.set.now) runs.now)) w) }
 {
-    let asks = runs.iter().any(|run| list_in(&run.flats).asks());
-    let outlook = outlook_of(reader.line, place, asks);
     let mut best = Best {
         start: place + 1,
         is_match: false,
@@ -508,11 +522,19 @@ pub fn best_of_chain<'s>(
 {
     dialect_finds_in_text();
     let runs = runs_of(reader, parts)?;
+    let begins = begins_of(runs.as_slice());
+    let asks = runs.iter().any(|run| list_in(&run.flats).asks());
+    let mut reach = Reach {
+        blank: false,
+        end: 0,
+        behind: 0,
+    };
     let mut lost = false;
     let mut place = reader.position.place;
     'places: loop {
-        let next = next_place(reader, runs.as_slice(), place);
-        let found = best_at(reader, runs.as_slice(), next, &mut lost, regions)?;
+        let next = next_place(reader, begins, place);
+        let outlook = outlook_of(reader.line, next, asks, &mut reach);
+        let found = best_at(reader, runs.as_slice(), next, outlook, &mut lost, regions)?;
         if found.is_match {
             return Ok(found);
         }

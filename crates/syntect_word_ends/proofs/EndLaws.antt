@@ -1,4 +1,4 @@
--- Matches that begin in a word.
+-- Matches that begin in a run.
 use Rattle.std.proofs.Common.{◌≡◌, ◌<◌, ◌≤◌, ◌==◌, ◌-◌, ◌+◌, ◌&&◌, ◌||◌, ◌⊎◌, inl, inr, ℕ, zero, suc, Bool, true, false, List, [], ◌∷◌, length, map, get_or, refl, sym, ◌∙◌, ap, subst, arith, Option, Some, None}
 use Rattle.std.specs.Char.{len_utf8}
 use Rattle.std.specs.Prelude.{slice_get, option_map, if◌then◌else◌, IsUtf8, IsCharBoundary}
@@ -12,19 +12,19 @@ use Rattle.syntect_pattern.specs.Matches.{Groups, Member, Way, matches, turns, p
 use Rattle.syntect_pattern.proofs.Each.{Each, each_of, each-append, each-flat_map, each-map, each-take}
 use Rattle.syntect_pattern_table.specs.Starts.{can_hold, start_at}
 use Rattle.syntect_pattern_table.proofs.StartLaws.{Start, boundary-true, char_at-ascii, matches-begin, start-is}
-use Rattle.syntect_word_ends.specs.Ends.{IsWordUpTo, ends, has_word, is_word_char, passes}
-use Rattle.syntect_word_ends.proofs.WordLaws.{or-left, or-right, word-held, word-near}
+use Rattle.syntect_word_ends.specs.Ends.{IsRunUpTo, ends, has_one, is_of, passes}
+use Rattle.syntect_word_ends.proofs.WordLaws.{or-left, or-right, run-held, run-near}
 
 and-both : (a b : Bool) → a ≡ true → b ≡ true → (a && b) ≡ true
 and-both true b e h = h
 and-both false b e h = cc
 
--- The places from i to e are those of a word, behind which x stands.
-module _ (s : List ℕ) (i e x : ℕ) (st : Start s e x) (word : IsWordUpTo s i e) where
+-- The places from i to e are those of a run, behind which x stands.
+module _ (blank : Bool) (s : List ℕ) (i e x : ℕ) (st : Start s e x) (word : IsRunUpTo blank s i e) where
   abbrev Inside : ℕ → Type 0
   Inside j = (i ≤ j) × (j ≤ e)
 
-  -- a member goes on past the word where its tree can, or ends in it where it can do that
+  -- a member goes on past the run where its tree can, or ends in it where it can do that
   abbrev Keeps : (r t : Bool) → Member → Type 0
   Keeps r t m = (r ≡ true) ⊎ (Inside m.0 × (t ≡ true))
 
@@ -45,29 +45,29 @@ module _ (s : List ℕ) (i e x : ℕ) (st : Start s e x) (word : IsWordUpTo s i 
     | inr z ↦ inr (z.0, g z.1)
   ]) h
 
-  -- one character of the word, or the one behind it
-  char-keeps : (a : Set) (j : ℕ) (g : Groups) (c : ℕ) → char_at s j ≡ Some c → is_word_char c ≡ true → i ≤ j → j < e → AllKeep (can_hold a x) (has_word a) (past (holds a) (char_at s j) j g)
+  -- one character of the run, or the one behind it
+  char-keeps : (a : Set) (j : ℕ) (g : Groups) (c : ℕ) → char_at s j ≡ Some c → is_of blank c ≡ true → i ≤ j → j < e → AllKeep (can_hold a x) (has_one blank a) (past (holds a) (char_at s j) j g)
   char-keeps a j g c at is l h =
-      subst (λ (o : Option ℕ). AllKeep (can_hold a x) (has_word a) (past (holds a) o j g)) (sym at)
-      (if-keeps (holds a c) (j + len_utf8 c) g (can_hold a x) (has_word a)
-      (λ y. let one : len_utf8 c ≡ 1 = len_utf8_ascii c (word-near c is) in
-      inr ((omega (arith, l), omega (arith, h, one)), word-held a c is y)))
+      subst (λ (o : Option ℕ). AllKeep (can_hold a x) (has_one blank a) (past (holds a) o j g)) (sym at)
+      (if-keeps (holds a c) (j + len_utf8 c) g (can_hold a x) (has_one blank a)
+      (λ y. let one : len_utf8 c ≡ 1 = len_utf8_ascii c (run-near blank c is) in
+      inr ((omega (arith, l), omega (arith, h, one)), run-held blank a c is y)))
 
-  behind-keeps : (a : Set) (j : ℕ) (g : Groups) → j ≡ e → AllKeep (can_hold a x) (has_word a) (past (holds a) (char_at s j) j g)
+  behind-keeps : (a : Set) (j : ℕ) (g : Groups) → j ≡ e → AllKeep (can_hold a x) (has_one blank a) (past (holds a) (char_at s j) j g)
   behind-keeps a j g is =
-      subst (λ (k : ℕ). AllKeep (can_hold a x) (has_word a) (past (holds a) (char_at s k) k g)) (sym is)
-      (each_of (λ (m : Member). (can_hold a x ≡ true) ⊎ ((m.0 ≡ e) × (false ≡ true))) (Keeps (can_hold a x) (has_word a)) (past (holds a) (char_at s e) e g)
+      subst (λ (k : ℕ). AllKeep (can_hold a x) (has_one blank a) (past (holds a) (char_at s k) k g)) (sym is)
+      (each_of (λ (m : Member). (can_hold a x ≡ true) ⊎ ((m.0 ≡ e) × (false ≡ true))) (Keeps (can_hold a x) (has_one blank a)) (past (holds a) (char_at s e) e g)
       (λ m k. elim k [
         | inl y ↦ inl y
         | inr z ↦ (let no : false ≡ true = z.1 in cc)
       ]) (matches-begin s (one_of a) e x g st))
 
-  one-keeps : (a : Set) (j : ℕ) (g : Groups) → Inside j → AllKeep (can_hold a x) (has_word a) (past (holds a) (char_at s j) j g)
+  one-keeps : (a : Set) (j : ℕ) (g : Groups) → Inside j → AllKeep (can_hold a x) (has_one blank a) (past (holds a) (char_at s j) j g)
   one-keeps a j g l = elim (cases_lt j e) [
     | inl h ↦
-        (let is : is_word_char (get_or s j 0) ≡ true = word.chars j l.0 h in
+        (let is : is_of blank (get_or s j 0) ≡ true = word.chars j l.0 h in
         let short : j < length s = omega (arith, h, word.within) in
-        char-keeps a j g (get_or s j 0) (char_at-ascii s j short (word-near (get_or s j 0) is)) is l.0 h)
+        char-keeps a j g (get_or s j 0) (char_at-ascii s j short (run-near blank (get_or s j 0) is)) is l.0 h)
     | inr h ↦ behind-keeps a j g (omega (arith, h, l.1))
   ]
 
@@ -121,28 +121,28 @@ module _ (s : List ℕ) (i e x : ℕ) (st : Start s e x) (word : IsWordUpTo s i 
   look-keeps true j g [] l = (inr (l, refl), tt)
   look-keeps true j g (m ∷ ms) l = tt
 
-  matches-keep : (t : Tree) (j : ℕ) (g : Groups) → Inside j → AllKeep (passes t x) (ends t x) (matches s t j g)
+  matches-keep : (t : Tree) (j : ℕ) (g : Groups) → Inside j → AllKeep (passes blank t x) (ends blank t x) (matches s t j g)
   matches-keep nothing j g l = (inr (l, refl), tt)
   matches-keep (one_of a) j g l = one-keeps a j g l
   matches-keep (anchor a) j g l = if-keeps (stands s a j) j g false true (λ y. inr (l, refl))
   matches-keep (same fold n) j g l = all-pass true true (matches s (same fold n) j g) refl
   matches-keep (seq a b) j g l =
-      after-keeps (passes a x) (ends a x) (passes (seq a b) x) (ends (seq a b) x) (matches s a j g) (λ (k, h). matches s b k h) (matches-keep a j g l)
-      (or-left (passes a x) (ends a x && passes b x))
-      (λ m p y. weaken (passes b x) (ends b x) (passes (seq a b) x) (ends (seq a b) x) (matches s b m.0 m.1)
-      (λ z. or-right (passes a x) (ends a x && passes b x) (and-both (ends a x) (passes b x) y z))
-      (λ z. and-both (ends a x) (ends b x) y z)
+      after-keeps (passes blank a x) (ends blank a x) (passes blank (seq a b) x) (ends blank (seq a b) x) (matches s a j g) (λ (k, h). matches s b k h) (matches-keep a j g l)
+      (or-left (passes blank a x) (ends blank a x && passes blank b x))
+      (λ m p y. weaken (passes blank b x) (ends blank b x) (passes blank (seq a b) x) (ends blank (seq a b) x) (matches s b m.0 m.1)
+      (λ z. or-right (passes blank a x) (ends blank a x && passes blank b x) (and-both (ends blank a x) (passes blank b x) y z))
+      (λ z. and-both (ends blank a x) (ends blank b x) y z)
       (matches-keep b m.0 m.1 p))
   matches-keep (alt a b) j g l =
-      each-append (Keeps (passes (alt a b) x) (ends (alt a b) x)) (matches s a j g) (matches s b j g)
-      (weaken (passes a x) (ends a x) (passes (alt a b) x) (ends (alt a b) x) (matches s a j g) (or-left (passes a x) (passes b x)) (or-left (ends a x) (ends b x)) (matches-keep a j g l))
-      (weaken (passes b x) (ends b x) (passes (alt a b) x) (ends (alt a b) x) (matches s b j g) (or-right (passes a x) (passes b x)) (or-right (ends a x) (ends b x)) (matches-keep b j g l))
+      each-append (Keeps (passes blank (alt a b) x) (ends blank (alt a b) x)) (matches s a j g) (matches s b j g)
+      (weaken (passes blank a x) (ends blank a x) (passes blank (alt a b) x) (ends blank (alt a b) x) (matches s a j g) (or-left (passes blank a x) (passes blank b x)) (or-left (ends blank a x) (ends blank b x)) (matches-keep a j g l))
+      (weaken (passes blank b x) (ends blank b x) (passes blank (alt a b) x) (ends blank (alt a b) x) (matches s b j g) (or-right (passes blank a x) (passes blank b x)) (or-right (ends blank a x) (ends blank b x)) (matches-keep b j g l))
   matches-keep (repeat greedy least most a) j g l =
-      loop-keeps (matches s a) (passes a x) (ends a x) (least == 0 || ends a x) (λ k h p. matches-keep a k h p)
-      (or-right (least == 0) (ends a x)) greedy (suc (length s - j)) least most j g l (or-left (least == 0) (ends a x))
-  matches-keep (group n a) j g l = each-map (Keeps (passes a x) (ends a x)) (close n j) (matches s a j g) (matches-keep a j g l)
-  matches-keep (atomic a) j g l = each-take (Keeps (passes a x) (ends a x)) 1 (matches s a j g) (matches-keep a j g l)
-  matches-keep (ahead false a) j g l = stay-keeps (passes a x) (ends a x) j (matches s a j g) l (matches-keep a j g l)
+      loop-keeps (matches s a) (passes blank a x) (ends blank a x) (least == 0 || ends blank a x) (λ k h p. matches-keep a k h p)
+      (or-right (least == 0) (ends blank a x)) greedy (suc (length s - j)) least most j g l (or-left (least == 0) (ends blank a x))
+  matches-keep (group n a) j g l = each-map (Keeps (passes blank a x) (ends blank a x)) (close n j) (matches s a j g) (matches-keep a j g l)
+  matches-keep (atomic a) j g l = each-take (Keeps (passes blank a x) (ends blank a x)) 1 (matches s a j g) (matches-keep a j g l)
+  matches-keep (ahead false a) j g l = stay-keeps (passes blank a x) (ends blank a x) j (matches s a j g) l (matches-keep a j g l)
   matches-keep (ahead true a) j g l = look-keeps true j g (matches s a j g) l
   matches-keep (behind n a) j g l = look-keeps n j g (ending_here s (matches s a) j j g) l
 
@@ -155,25 +155,25 @@ module _ (s : List ℕ) (i e x : ℕ) (st : Start s e x) (word : IsWordUpTo s i 
       ] in
       let no : true ≡ false = sym any ∙ h in cc
 
-  no-match : (t : Tree) (g : Groups) → (passes t x || ends t x) ≡ false → matches s t i g ≡ []
-  no-match t g h = none-keeps (passes t x) (ends t x) (matches s t i g) h (matches-keep t i g (omega arith, word.order))
+  no-match : (t : Tree) (g : Groups) → (passes blank t x || ends blank t x) ≡ false → matches s t i g ≡ []
+  no-match t g h = none-keeps (passes blank t x) (ends blank t x) (matches s t i g) h (matches-keep t i g (omega arith, word.order))
 
--- a word's end is a boundary of characters where its begin is
-word-boundary : (s : List ℕ) → IsUtf8 s → (i e : ℕ) → IsCharBoundary s i → IsWordUpTo s i e → IsCharBoundary s e
-word-boundary s u i e b word = elim (cases_lt i e) [
+-- a run's end is a boundary of characters where its begin is
+run-boundary : (blank : Bool) (s : List ℕ) → IsUtf8 s → (i e : ℕ) → IsCharBoundary s i → IsRunUpTo blank s i e → IsCharBoundary s e
+run-boundary blank s u i e b word = elim (cases_lt i e) [
   | inl h ↦
-      (let last : is_word_char (get_or s (e - 1) 0) ≡ true = word.chars (e - 1) (omega (arith, h)) (omega (arith, h)) in
+      (let last : is_of blank (get_or s (e - 1) 0) ≡ true = word.chars (e - 1) (omega (arith, h)) (omega (arith, h)) in
       subst (IsCharBoundary s) (let is : e - 1 + 1 ≡ e = omega (arith, h) in is)
-      (IsCharBoundary-after_ascii s (e - 1) u (omega (arith, h, word.within)) (word-near (get_or s (e - 1) 0) last)))
+      (IsCharBoundary-after_ascii s (e - 1) u (omega (arith, h, word.within)) (run-near blank (get_or s (e - 1) 0) last)))
   | inr h ↦ subst (IsCharBoundary s) (let is : i ≡ e = omega (arith, h, word.order) in is) b
 ]
 
--- no match begins in a word behind which something stands that it can't have there
-pub none-in_word : (s : List ℕ) → IsUtf8 s → (t : Tree) (i e : ℕ) → IsWordUpTo s i e → (passes t (start_at s e) || ends t (start_at s e)) ≡ false → found_at s t i ≡ None
+-- no match begins in a run behind which something stands that it can't have there
+pub none-in_run : (blank : Bool) (s : List ℕ) → IsUtf8 s → (t : Tree) (i e : ℕ) → IsRunUpTo blank s i e → (passes blank t (start_at s e) || ends blank t (start_at s e)) ≡ false → found_at s t i ≡ None
 unfolding found_at
-none-in_word s u t i e word h = go (is_boundary s i) refl
+none-in_run blank s u t i e word h = go (is_boundary s i) refl
   where
     go : (c : Bool) → is_boundary s i ≡ c → (if c then option_map (λ (m : Member). m.1) (slice_get (matches s (group 0 t) i (unset s t)) 0) else None) ≡ None
     go true b = ap (λ (ms : List Member). option_map (λ (m : Member). m.1) (slice_get (map (close 0 i) ms) 0))
-        (no-match s i e (start_at s e) (start-is s u e (word-boundary s u i e (boundary-true s i b) word)) word t (unset s t) h)
+        (no-match blank s i e (start_at s e) (start-is s u e (run-boundary blank s u i e (boundary-true s i b) word)) word t (unset s t) h)
     go false b = refl

@@ -1,5 +1,5 @@
--- What can stand behind words, node by node.
-use Rattle.std.proofs.Common.{◌≡◌, ◌++◌, ◌∷◌, [], ◌∙◌, ℕ, List, length, get_or, sym, ap, arith, below_more, length-append}
+-- What can stand behind runs, node by node.
+use Rattle.std.proofs.Common.{◌≡◌, ◌++◌, ◌∷◌, [], ◌∙◌, ℕ, Bool, List, length, get_or, sym, ap, arith, below_more, length-append}
 use Rattle.std.proofs.Math.ListN.{get_or-append}
 use Rattle.std.proofs.Math.Seq.{get_or-append_seam}
 use Rattle.syntect_pattern.specs.Trees.{Tree, nothing}
@@ -9,10 +9,10 @@ use Rattle.syntect_pattern_table.specs.declared.starts.Places.{Places}
 use Rattle.syntect_word_ends.specs.Ends.{Span, spans}
 
 -- one more node's
-pub Span-push : (x : ℕ) (rs ss : List Places) (ts : List Tree) (f : Firsts) (k : ℕ) → Span x rs ss ts → length rs ≡ k → length ss ≡ k → begins_at x f ≡ spans x (get_or ts k nothing)
-    → Span x (rs ++ f.read ∷ []) (ss ++ f.stay ∷ []) ts
-Span-push x rs ss ts f k h e e' is j d l =
-    below_more (λ n. (c : Places) → begins_at x (record { read = get_or (rs ++ f.read ∷ []) n c; stay = get_or (ss ++ f.stay ∷ []) n c }) ≡ spans x (get_or ts n nothing)) k
+pub Span-push : (blank : Bool) (x : ℕ) (rs ss : List Places) (ts : List Tree) (f : Firsts) (k : ℕ) → Span blank x rs ss ts → length rs ≡ k → length ss ≡ k → begins_at x f ≡ spans blank x (get_or ts k nothing)
+    → Span blank x (rs ++ f.read ∷ []) (ss ++ f.stay ∷ []) ts
+Span-push blank x rs ss ts f k h e e' is j d l =
+    below_more (λ n. (c : Places) → begins_at x (record { read = get_or (rs ++ f.read ∷ []) n c; stay = get_or (ss ++ f.stay ∷ []) n c }) ≡ spans blank x (get_or ts n nothing)) k
     (λ n p c. ap (λ (r : Places). begins_at x (record { read = r; stay = get_or (ss ++ f.stay ∷ []) n c })) (get_or-append rs (f.read ∷ []) c n (omega (arith, p, e)))
     ∙ ap (λ (s : Places). begins_at x (record { read = get_or rs n c; stay = s })) (get_or-append ss (f.stay ∷ []) c n (omega (arith, p, e'))) ∙ h n c (omega (arith, p, e)))
     (λ c. ap (λ n. begins_at x (record { read = get_or (rs ++ f.read ∷ []) n c; stay = get_or (ss ++ f.stay ∷ []) k c })) (sym e)

@@ -1,4 +1,4 @@
--- The ASCII characters of words.
+-- The ASCII characters of words, and white space.
 use Rattle.std.proofs.Common.{◌≡◌, ◌<◌, ◌≤◌, ◌+◌, ◌||◌, ◌∙◌, ℕ, zero, suc, Bool, true, false, List, ◌++◌, refl, sym, ap, arith, inl, inr, leb-true}
 use Rattle.std.specs.Prelude.{nat_le}
 use Rattle.std.specs.List.{list_any}
@@ -6,7 +6,7 @@ use Rattle.std.proofs.lemmas.Bool.{cases_lt, and_parts}
 use Rattle.std.proofs.lemmas.List.Folds.{list_any-append}
 use Rattle.syntect_pattern.specs.Sets.{Set, holds, is_within, numbers_from}
 use Rattle.syntect_pattern_table.proofs.AlikeLaws.{or_cases}
-use Rattle.syntect_word_ends.specs.Ends.{has_word, is_word_char, word_chars}
+use Rattle.syntect_word_ends.specs.Ends.{blanks, has_one, is_blank, is_of, is_word_char, word_chars}
 
 pub or-left : (a b : Bool) → a ≡ true → (a || b) ≡ true
 or-left true b e = refl
@@ -61,13 +61,25 @@ char-among f c e y = elim (or_cases (is_within 0x30 0x39 c) (is_within 0x41 0x5A
   ])
 ]
 
--- a set that holds a character of words has one
-pub word-held : (a : Set) (c : ℕ) → is_word_char c ≡ true → holds a c ≡ true → has_word a ≡ true
-unfolding has_word
-word-held a c e y = char-among (holds a) c e y
+blank-among : (f : ℕ → Bool) (c : ℕ) → is_blank c ≡ true → f c ≡ true → list_any f blanks ≡ true
+blank-among f c e y = elim (or_cases (is_within 0x09 0x0A c) (is_within 0x20 0x20 c) e) [
+  | inl p ↦ any-left f (numbers_from 0x09 2) (numbers_from 0x20 1) (within-among f 0x09 1 c p y)
+  | inr p ↦ any-right f (numbers_from 0x09 2) (numbers_from 0x20 1) (within-among f 0x20 0 c p y)
+]
 
--- such a character is one of ASCII
-pub word-near : (c : ℕ) → is_word_char c ≡ true → c < 128
+-- a set that holds a character of runs has one
+pub run-held : (blank : Bool) (a : Set) (c : ℕ) → is_of blank c ≡ true → holds a c ≡ true → has_one blank a ≡ true
+unfolding has_one
+run-held true a c e y = blank-among (holds a) c e y
+run-held false a c e y = char-among (holds a) c e y
+
+below : (low high c : ℕ) → high < 128 → is_within low high c ≡ true → c < 128
+below low high c h y =
+    let p = and_parts (nat_le low c) (nat_le c high) y in
+    let most : c ≤ high = leb-true c high p.1 in
+    omega (arith, most, h)
+
+word-near : (c : ℕ) → is_word_char c ≡ true → c < 128
 word-near c e = elim (or_cases (is_within 0x30 0x39 c) (is_within 0x41 0x5A c || (is_within 0x5F 0x5F c || is_within 0x61 0x7A c)) e) [
   | inl p ↦ below 0x30 0x39 c (omega arith) p
   | inr p ↦ elim (or_cases (is_within 0x41 0x5A c) (is_within 0x5F 0x5F c || is_within 0x61 0x7A c) p) [
@@ -78,9 +90,14 @@ word-near c e = elim (or_cases (is_within 0x30 0x39 c) (is_within 0x41 0x5A c ||
     ]
   ]
 ]
-  where
-    below : (low high c : ℕ) → high < 128 → is_within low high c ≡ true → c < 128
-    below low high c h y =
-        let p = and_parts (nat_le low c) (nat_le c high) y in
-        let most : c ≤ high = leb-true c high p.1 in
-        omega (arith, most, h)
+
+blank-near : (c : ℕ) → is_blank c ≡ true → c < 128
+blank-near c e = elim (or_cases (is_within 0x09 0x0A c) (is_within 0x20 0x20 c) e) [
+  | inl p ↦ below 0x09 0x0A c (omega arith) p
+  | inr p ↦ below 0x20 0x20 c (omega arith) p
+]
+
+-- such a character is one of ASCII
+pub run-near : (blank : Bool) (c : ℕ) → is_of blank c ≡ true → c < 128
+run-near true c e = blank-near c e
+run-near false c e = word-near c e

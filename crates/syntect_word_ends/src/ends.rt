@@ -1,13 +1,14 @@
-//! What can stand behind a word in which a match begins. A pattern such as `[a-z]+\(` reads a word and then wants a
-//! parenthesis, so it needn't be tried at a word that is followed by anything else.
-ghost use Rattle.std.specs.Prelude.{◌≡◌, ◌<◌, ◌≤◌, ℕ, IfOk, List, length, slice_index_or, true};
+//! What can stand behind a word, or behind white space, in which a match begins. A pattern such as `[a-z]+\(` reads a word and
+//! then wants a parenthesis, so it needn't be tried at a word that is followed by anything else; nor need `\s*\(` be tried at
+//! white space that is.
+ghost use Rattle.std.specs.Prelude.{◌≡◌, ◌<◌, ◌≤◌, ℕ, Bool, IfOk, List, length, slice_index_or, true, false};
 ghost use Rattle.std.specs.List.{list_any};
 ghost use Rattle.syntect_pattern.specs.Sets.{range};
 ghost use Rattle.syntect_pattern.specs.Trees.{Tree, nothing};
 ghost use Rattle.syntect_pattern_table.specs.Program.{trees_of};
 ghost use Rattle.syntect_pattern_table.specs.Starts.{begins_at, is_in};
 ghost use Rattle.syntect_pattern_table.specs.Table.{IsOrdered, node_tree, parts_before, set_of, trees};
-ghost use Rattle.syntect_word_ends.specs.Ends.{IsWordUpTo, Span, StandsBehind, has_word, is_word_char, spans};
+ghost use Rattle.syntect_word_ends.specs.Ends.{IsRunUpTo, Span, StandsBehind, has_one, is_blank, is_of, is_word_char, spans};
 
 use std::alloc::{AllocError, Global};
 use syntect_pattern_table::node::{Class, Node};
@@ -25,30 +26,74 @@ const WORD_CHARS: [char; 63] = [
     'u', 'v', 'w', 'x', 'y', 'z',
 ];
 
-/// The most characters of a word that are gone through, so that long words cost no more.
+/// White space.
+const BLANKS: [char; 3] = ['\t', '\n', ' '];
+
+/// The most characters of a run that are gone through, so that long ones cost no more.
 const LONGEST: usize = 32;
 
-/// The most nodes of a table for which it is worked out what can stand behind words: a larger one would take memory for it that
+/// The most nodes of a table for which it is worked out what can stand behind runs: a larger one would take memory for it that
 /// a pattern of its length doesn't repay.
 const MOST_NODES: usize = 4096;
 
 /// The ASCII characters of words, a bit for each.
 const WORD: u128 = 0x07ff_fffe_87ff_fffe_03ff_0000_0000_0000;
 
+/// White space, a bit for each character.
+const BLANK: u128 = 0x0000_0000_0000_0000_0000_0001_0000_0600;
+
 /// Whether the class holds an ASCII character of words.
-#[tactic(auto, unfolding(crate::specs::Ends::has_word))]
+#[tactic(auto, unfolding(crate::specs::Ends::has_one))]
 fn class_has_word(class: &Class) -> bool
-    ensures { result ≡ has_word (set_of class.now) }
+    ensures { result ≡ has_one false (set_of class.now) }
 {
     WORD_CHARS.iter().any(|c| class.holds(*c))
 }
 
+/// Whether the class holds white space.
+#[tactic(auto, unfolding(crate::specs::Ends::has_one))]
+fn class_has_blank(class: &Class) -> bool
+    ensures { result ≡ has_one true (set_of class.now) }
+{
+    BLANKS.iter().any(|c| class.holds(*c))
+}
+
+/// Whether the class holds white space, or else an ASCII character of words.
+fn class_has(blank: bool, class: &Class) -> bool
+    ensures { result ≡ has_one blank (set_of class.now) }
+{
+    if blank {
+        class_has_blank(class)
+    } else {
+        class_has_word(class)
+    }
+}
+
 /// Whether the character is an ASCII character of words.
-#[tactic(auto, unfolding(crate::specs::Ends::has_word))]
+#[tactic(auto, unfolding(crate::specs::Ends::has_one))]
 fn char_has_word(wanted: char) -> bool
-    ensures { result ≡ has_word (range wanted wanted) }
+    ensures { result ≡ has_one false (range wanted wanted) }
 {
     WORD_CHARS.iter().any(|c| wanted <= *c && *c <= wanted)
+}
+
+/// Whether the character is white space.
+#[tactic(auto, unfolding(crate::specs::Ends::has_one))]
+fn char_has_blank(wanted: char) -> bool
+    ensures { result ≡ has_one true (range wanted wanted) }
+{
+    BLANKS.iter().any(|c| wanted <= *c && *c <= wanted)
+}
+
+/// Whether the character is white space, or else an ASCII character of words.
+fn char_has(blank: bool, wanted: char) -> bool
+    ensures { result ≡ has_one blank (range wanted wanted) }
+{
+    if blank {
+        char_has_blank(wanted)
+    } else {
+        char_has_word(wanted)
+    }
 }
 
 /// Anywhere, where this holds.
@@ -58,12 +103,12 @@ fn anywhere_if(holds: bool) -> Places
     if holds { anywhere() } else { nowhere() }
 }
 
-/// Where the part at a place goes past a word and ends in it, by two lists.
+/// Where the part at a place goes past a run and ends in it, by two lists.
 fn part(reads: &[Places], stays: &[Places], place: usize) -> Firsts
     requires inside { place < length reads.now }
     requires both { length stays.now ≡ length reads.now }
-    ensures { (ts : List Tree) (x : ℕ) → Span x reads.now stays.now ts
-        → begins_at x result ≡ spans x (slice_index_or ts place nothing) }
+    ensures { (blank : Bool) (ts : List Tree) (x : ℕ) → Span blank x reads.now stays.now ts
+        → begins_at x result ≡ spans blank x (slice_index_or ts place nothing) }
 {
     Firsts {
         read: reads[place],
@@ -71,13 +116,13 @@ fn part(reads: &[Places], stays: &[Places], place: usize) -> Firsts
     }
 }
 
-/// What can stand behind a word for matches of the node that begin in it: of those that go on past the word, and of those that
+/// What can stand behind a run for matches of the node that begin in it: of those that go on past the run, and of those that
 /// end in it; by that of the nodes before it.
-fn spans_of_node(node: &Node, reads: &[Places], stays: &[Places]) -> Firsts
+fn spans_of_node(blank: bool, node: &Node, reads: &[Places], stays: &[Places]) -> Firsts
     requires parts { parts_before (length reads.now) node.now ≡ true }
     requires both { length stays.now ≡ length reads.now }
-    ensures { (ts : List Tree) (x : ℕ) → x < 130 → Span x reads.now stays.now ts
-        → begins_at x result ≡ spans x (node_tree ts node.now) }
+    ensures { (ts : List Tree) (x : ℕ) → x < 130 → Span blank x reads.now stays.now ts
+        → begins_at x result ≡ spans blank x (node_tree ts node.now) }
 {
     match node {
         Node::Nothing
@@ -91,11 +136,11 @@ fn spans_of_node(node: &Node, reads: &[Places], stays: &[Places]) -> Firsts
         },
         Node::Char(wanted) => Firsts {
             read: places_of_char(*wanted),
-            stay: anywhere_if(char_has_word(*wanted)),
+            stay: anywhere_if(char_has(blank, *wanted)),
         },
         Node::Class(class) => Firsts {
             read: places_of_class(class),
-            stay: anywhere_if(class_has_word(class)),
+            stay: anywhere_if(class_has(blank, class)),
         },
         Node::Same { fold: _, group: _ } => Firsts {
             read: anywhere(),
@@ -120,43 +165,47 @@ fn spans_of_node(node: &Node, reads: &[Places], stays: &[Places]) -> Firsts
 }
 
 /// The same of each node.
-fn spans_of(alloc: Global, nodes: &[Node]) -> Result<(Vec<Places>, Vec<Places>), AllocError>
+fn spans_of(
+    alloc: Global,
+    blank: bool,
+    nodes: &[Node],
+) -> Result<(Vec<Places>, Vec<Places>), AllocError>
     requires { IsOrdered nodes.now }
     ensures reads { IfOk result (λ p. length p.0.items ≡ length nodes.now) }
     ensures stays { IfOk result (λ p. length p.1.items ≡ length nodes.now) }
     ensures spans { IfOk result (λ p. (x : ℕ) → x < 130
-        → Span x p.0.items p.1.items (trees nodes.now)) }
+        → Span blank x p.0.items p.1.items (trees nodes.now)) }
 {
     let mut reads = Vec::with_capacity(alloc, nodes.len())?;
     let mut stays = Vec::with_capacity(alloc, nodes.len())?;
     for place in 0..nodes.len() {
-        let next = spans_of_node(&nodes[place], reads.as_slice(), stays.as_slice());
+        let next = spans_of_node(blank, &nodes[place], reads.as_slice(), stays.as_slice());
         reads.push(next.read)?;
         stays.push(next.stay)?;
     }
     Ok((reads, stays))
 }
 
-/// Whether a match of the program can begin with an ASCII character of words.
-fn begins_in_word(program: &Program) -> bool {
+/// Whether a match of the program can begin with white space, or else with an ASCII character of words.
+fn begins_in(blank: bool, program: &Program) -> bool {
     match program.firsts.get(program.root) {
-        Some(places) => places.ascii & WORD != 0,
+        Some(places) => places.ascii & (if blank { BLANK } else { WORD }) != 0,
         None => true,
     }
 }
 
-/// What can stand behind a word in which a match of the program begins. Anything may, as far as is told, where its matches begin
-/// in no word, and where its table is large.
-pub fn behind_words(alloc: Global, program: &Program) -> Result<Places, AllocError>
-    ensures { IfOk result (λ places. StandsBehind places
+/// What can stand behind a run in which a match of the program begins, which is white space, or else a word. Anything may, as
+/// far as is told, where its matches begin in no such run, and where its table is large.
+pub fn behind_runs(alloc: Global, blank: bool, program: &Program) -> Result<Places, AllocError>
+    ensures { IfOk result (λ places. StandsBehind blank places
         (slice_index_or (trees_of program.now) program.now.root nothing)) }
 {
     let root = program.root;
     let nodes = program.nodes.as_slice();
-    if root >= nodes.len() || nodes.len() > MOST_NODES || !begins_in_word(program) {
+    if root >= nodes.len() || nodes.len() > MOST_NODES || !begins_in(blank, program) {
         return Ok(anywhere());
     }
-    let (reads, stays) = spans_of(alloc, nodes)?;
+    let (reads, stays) = spans_of(alloc, blank, nodes)?;
     Ok(either(reads[root], stays[root]))
 }
 
@@ -169,15 +218,34 @@ pub fn is_word_byte(byte: u8) -> bool
             || ((b'_' <= byte && byte <= b'_') || (b'a' <= byte && byte <= b'z')))
 }
 
-/// Up to where the ASCII characters from a place on are those of a word. Of a long word only the front is looked at.
-pub fn word_end(text: &str, place: usize) -> usize
+/// Whether the byte is white space.
+pub fn is_blank_byte(byte: u8) -> bool
+    ensures { result ≡ is_blank byte }
+{
+    (b'\t' <= byte && byte <= b'\n') || (b' ' <= byte && byte <= b' ')
+}
+
+/// Whether the byte is white space, or else an ASCII character of words.
+fn is_byte_of(blank: bool, byte: u8) -> bool
+    ensures { result ≡ is_of blank byte }
+{
+    if blank {
+        is_blank_byte(byte)
+    } else {
+        is_word_byte(byte)
+    }
+}
+
+/// Up to where the characters from a place on are white space, or else ASCII characters of a word. Of a long run only the front
+/// is looked at.
+pub fn run_end(text: &str, place: usize, blank: bool) -> usize
     requires { place ≤ length text.now }
-    ensures { IsWordUpTo text.now place result }
+    ensures { IsRunUpTo blank text.now place result }
 {
     let bytes = text.as_bytes();
     let last = bytes.len().min(place.saturating_add(LONGEST));
     let mut end = place;
-    while end < last && is_word_byte(bytes[end]) {
+    while end < last && is_byte_of(blank, bytes[end]) {
         end += 1;
     }
     end

@@ -1,6 +1,6 @@
 use Rattle.std.proofs.Common.{ℕ, ◌+◌, ◌*◌, ◌≤◌, ◌-◌, length}
 use Rattle.std.specs.List.{flat_map}
-use Rattle.syntect_winner.specs.Ahead.{AllAhead}
+use Rattle.syntect_winner.specs.Ahead.{AllAhead, Reaches}
 use Rattle.syntect_winner.specs.Parts.{part_members}
 use Rattle.syntect_winner.specs.Steps.{AreWithin, place_steps, turn_steps}
 use Rattle.syntect_winner.proofs.sweep.best_of_chain.Given as goal
@@ -10,6 +10,7 @@ invariant-places l = record {
   near : l.reader.position.now.place ≤ l.place;
   within : l.place ≤ length l.reader.line.now;
   ahead : AllAhead l.reader l.lost l.place l.runs.items;
+  reach : Reaches l.reader.line.now l.place l.reach;
   steps : (w : ℕ) → AreWithin (length l.reader.line.now) w (flat_map (part_members l.reader.set.now) l.parts)
       → l.regions.steps.made + (length l.reader.line.now + 1 - l.place) * place_steps (length (flat_map (part_members l.reader.set.now) l.parts)) w
       ≤ l.fn.regions.steps.made + turn_steps (length (flat_map (part_members l.reader.set.now) l.parts)) w (length l.reader.line.now);

@@ -1,4 +1,6 @@
-use Rattle.std.proofs.Common.{arith}
+use Rattle.std.proofs.Common.{arith, subst, sym, ◌∙◌}
+use Rattle.std.specs.List.{All}
+use Rattle.syntect_winner.specs.Ahead.{IsQuiet}
 use Rattle.syntect_winner.proofs.SweepLaws.{passed_place}
 use Rattle.syntect_winner.proofs.sweep.next_place.Goals as goal
 
@@ -6,8 +8,8 @@ pub loop-next-preserved : goal.loop-next-preserved
 loop-next-preserved c = record {
   later = omega (arith, c.loop-next.invariant.later);
   within = omega (arith, c.loop-next-test.true);
-  ahead = λ lost all h.
-      passed_place c.dialect_finds_in_text.ensures c.args.reader.now c.args.runs.now all lost c.loop-next.next
-      (c.are_bare.ensures c.if-are_bare.true)
-      (c.loop-next.invariant.ahead lost all h);
+  ahead = λ lost runs begins all h.
+      passed_place c.dialect_finds_in_text.ensures c.args.reader.now runs all lost c.loop-next.next
+      (subst (λ x. All (IsQuiet x) runs) c.start_at.ensures.value (begins c.start_at.result c.start_at.ensures.bound (sym c.is_in.ensures ∙ c.if-not-is_in.true)))
+      (c.loop-next.invariant.ahead lost runs begins all h);
 }

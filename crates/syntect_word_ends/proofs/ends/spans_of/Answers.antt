@@ -17,16 +17,16 @@ loop-place-preserved c =
     let stays : List Places = c.loop-place.stays.items in
     let next = c.spans_of_node-next.result in
     let tree = tree-is nodes c.requires place c.index-nodes-place.result (omega arith) c.index-nodes-place.is c.index-nodes-place.result refl in
-    let spanned : (x : ℕ) → x < 130 → begins_at x next ≡ spans x (get_or ts place nothing) =
+    let spanned : (x : ℕ) → x < 130 → begins_at x next ≡ spans c.args.blank x (get_or ts place nothing) =
     λ x l.
-    let before : Span x c.as_slice.result.now c.as_slice-in-loop-place.result.now ts =
-    subst (λ (rs : List Places). Span x rs c.as_slice-in-loop-place.result.now ts) (sym c.as_slice.ensures.value)
-    (subst (λ (ss : List Places). Span x reads ss ts) (sym c.as_slice-in-loop-place.ensures.value) (c.loop-place.invariant.right x l)) in
-    c.spans_of_node-next.ensures ts x l before ∙ ap (spans x) (sym tree) in
+    let before : Span c.args.blank x c.as_slice.result.now c.as_slice-in-loop-place.result.now ts =
+    subst (λ (rs : List Places). Span c.args.blank x rs c.as_slice-in-loop-place.result.now ts) (sym c.as_slice.ensures.value)
+    (subst (λ (ss : List Places). Span c.args.blank x reads ss ts) (sym c.as_slice-in-loop-place.ensures.value) (c.loop-place.invariant.right x l)) in
+    c.spans_of_node-next.ensures ts x l before ∙ ap (spans c.args.blank x) (sym tree) in
     record {
       count = ap length c.in_ok-push.ensures.items ∙ omega (arith, length-append reads (next.read ∷ []), c.loop-place.invariant.count);
       number = ap length c.in_ok-push-2.ensures.items ∙ omega (arith, length-append stays (next.stay ∷ []), c.loop-place.invariant.number);
-      right = λ x l. subst (λ (rs : List Places). Span x rs c.push-in-loop-place.new.self.items ts) (sym c.in_ok-push.ensures.items)
-          (subst (λ (ss : List Places). Span x (reads ++ next.read ∷ []) ss ts) (sym c.in_ok-push-2.ensures.items)
-          (Span-push x reads stays ts next place (c.loop-place.invariant.right x l) c.loop-place.invariant.count c.loop-place.invariant.number (spanned x l)));
+      right = λ x l. subst (λ (rs : List Places). Span c.args.blank x rs c.push-in-loop-place.new.self.items ts) (sym c.in_ok-push.ensures.items)
+          (subst (λ (ss : List Places). Span c.args.blank x (reads ++ next.read ∷ []) ss ts) (sym c.in_ok-push-2.ensures.items)
+          (Span-push c.args.blank x reads stays ts next place (c.loop-place.invariant.right x l) c.loop-place.invariant.count c.loop-place.invariant.number (spanned x l)));
     }

@@ -7,5 +7,5 @@ abbrev pub invariant-loop-place : goal.invariant-loop-place
 invariant-loop-place l = record {
   count : length l.reads.items ≡ l.place;
   number : length l.stays.items ≡ l.place;
-  right : (x : ℕ) → x < 130 → Span x l.reads.items l.stays.items (trees l.nodes);
+  right : (x : ℕ) → x < 130 → Span l.blank x l.reads.items l.stays.items (trees l.nodes);
 }

@@ -1,0 +1,13 @@
+use Rattle.std.proofs.Common.{length, get_or, ◌-◌, ◌≤◌, ◌<◌, ℕ}
+use Rattle.syntect_flats.specs.Rows.{IsOut}
+use Rattle.syntect_flats.specs.declared.flats.Flat.{Flat}
+use Rattle.syntect_flats.proofs.list.next_seen.Given as goal
+
+abbrev pub invariant-loop-next : goal.invariant-loop-next
+invariant-loop-next l = record {
+  later : l.from ≤ l.next;
+  passed : (k : ℕ) (d : Flat) → l.from ≤ k → k < l.next → k < length l.flats → IsOut l.outlook (get_or l.flats k d);
+}
+
+abbrev pub decreases-loop-next : goal.decreases-loop-next
+decreases-loop-next l = length l.flats - l.next
