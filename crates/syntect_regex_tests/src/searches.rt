@@ -1,5 +1,6 @@
 //! Regions, copies of patterns, and searches whose steps are counted.
 use crate::found::{equal, holds};
+use syntect_pattern_table::starts::is_in;
 use syntect_regex::regex::Regex;
 use syntect_regex::region::Region;
 use syntect_turns::count::TurnCount;
@@ -122,20 +123,20 @@ fn tells_which_patterns_are_linear(rt: HostRuntime) {
 
 /// A pattern, a character that stands behind white space or else behind a word in which a match of it is to begin, and whether
 /// one can begin there.
-const BEHIND: [(&str, bool, char, bool); 13] = [
-    ("\\s*(?=\\|)", true, '|', true),
-    ("\\s*(?=\\|)", true, 'a', false),
-    ("^\\s*(class)\\b", true, 'c', true),
-    ("^\\s*(class)\\b", true, 'd', false),
-    ("\\s*(\\.)", true, '(', false),
-    ("[ \\t]+|x", true, 'a', true),
-    ("\\S", true, 'a', true),
-    ("[a-z]+\\(", false, '(', true),
-    ("[a-z]+\\(", false, ')', false),
-    ("[a-z]+\\s*\\(", false, ' ', true),
-    ("[a-z]+\\b", false, ')', true),
-    ("\\w+(?=!)", false, '!', true),
-    ("\\w+(?=!)", false, '?', false),
+const BEHIND: [(&str, bool, u8, bool); 13] = [
+    ("\\s*(?=\\|)", true, b'|', true),
+    ("\\s*(?=\\|)", true, b'a', false),
+    ("^\\s*(class)\\b", true, b'c', true),
+    ("^\\s*(class)\\b", true, b'd', false),
+    ("\\s*(\\.)", true, b'(', false),
+    ("[ \\t]+|x", true, b'a', true),
+    ("\\S", true, b'a', true),
+    ("[a-z]+\\(", false, b'(', true),
+    ("[a-z]+\\(", false, b')', false),
+    ("[a-z]+\\s*\\(", false, b' ', true),
+    ("[a-z]+\\b", false, b')', true),
+    ("\\w+(?=!)", false, b'!', true),
+    ("\\w+(?=!)", false, b'?', false),
 ];
 
 #[test]
@@ -148,7 +149,7 @@ fn tells_what_stands_behind_a_match_begun(rt: HostRuntime) {
         } else {
             regex.behind_words()
         };
-        equal(&rt, places.ascii >> behind as u32 & 1 == 1, wanted);
+        equal(&rt, is_in(places, behind), wanted);
     }
 }
 
