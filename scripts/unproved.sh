@@ -19,11 +19,15 @@ trap 'pkill -s "$leader" 2> /dev/null || true; rm -rf "$room"' EXIT
 leader=$!
 found=
 until [ -n "$found" ]; do
-    # the module is whole once a compiler stands in its folder
+    # the module is whole once it is being compiled
     for compiler in $(pgrep -x clang); do
         folder=$(readlink "/proc/$compiler/cwd" || true)
         case $folder in
-            "$room"/*) [ ! -e "$folder/module.bc" ] || { cp "$folder/module.bc" "$room/program.bc" && found=yes; } ;;
+            "$room"/*)
+                if tr '\0' ' ' < "/proc/$compiler/cmdline" | grep -q ' module\.bc '; then
+                    cp "$folder/module.bc" "$room/program.bc" && found=yes
+                fi
+                ;;
         esac
     done
     if [ -z "$found" ] && grep -q '^ended$' "$room/log"; then
