@@ -9,14 +9,19 @@ const PATTERN: &str = "(?<word>[a-c]+|x{2,3})(?=(\\s*))y*";
 
 const TEXT: &str = "-abcabc yy";
 
-fn regex_new(rt: &(impl Print + AllocGlobal)) {
+/// Made to be compiled when it is first searched, or at once.
+fn regex_new(rt: &(impl Print + AllocGlobal), ready: bool) {
     let alloc = rt.alloc();
     for _ in 0..TIMES {
         let Ok(text) = String::from_str(alloc, PATTERN) else {
             return;
         };
         begin(rt);
-        let regex = Regex::new(alloc, text);
+        let regex = if ready {
+            Regex::ready(alloc, text)
+        } else {
+            Regex::new(alloc, text)
+        };
         end(rt);
         match &regex {
             Ok(regex) => answer(rt, regex.group(2)),
@@ -89,8 +94,9 @@ fn escaped(rt: &(impl Print + AllocGlobal)) {
 }
 
 /// The calls.
-pub const NAMES: [&str; 6] = [
+pub const NAMES: [&str; 7] = [
     "Regex::new",
+    "Regex::ready",
     "Regex::try_compile",
     "Regex::search",
     "Regex::is_match",
@@ -101,7 +107,8 @@ pub const NAMES: [&str; 6] = [
 /// Makes the call of this name, if there is one.
 pub fn make(rt: &(impl Print + AllocGlobal), name: &str) {
     match name {
-        "Regex::new" => regex_new(rt),
+        "Regex::new" => regex_new(rt, false),
+        "Regex::ready" => regex_new(rt, true),
         "Regex::try_compile" => regex_try_compile(rt),
         "Regex::search" => regex_search(rt),
         "Regex::is_match" => regex_is_match(rt),

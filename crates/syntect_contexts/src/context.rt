@@ -284,6 +284,6 @@ impl MatchPattern {
     {
         let alloc = self.scope.allocator();
         let pattern = substituted(alloc, self.regex.regex_str(), region, text)?;
-        Regex::new(alloc, pattern)
+        Regex::ready(alloc, pattern)
     }
 }

@@ -13,6 +13,7 @@ use Rattle.syntect_pattern_table.specs.Starts.{is_in}
 use Rattle.syntect_flats.specs.Rows.{AreRowsOf, IsOut, MarkCuts, TellsAlive, behind_of, behind_row, bit_of, edge_marks, has_bit, has_mark, is_cut_in}
 use Rattle.syntect_flats.specs.declared.flats.Flat.{Flat}
 use Rattle.syntect_flats.specs.declared.flats.Outlook.{Outlook}
+use Rattle.syntect_pattern_table.specs.declared.starts.Places.{Places}
 
 -- ---- a bit more ----
 
@@ -207,3 +208,22 @@ passed_alive rows cuts words o flats next stop alive some r m told within zeros 
     let bit : k % 64 ≡ next % 64 + (k - next) = omega (arith, at, from) in
     let zero : bit_at alive (k % 64) ≡ 0 = ap (bit_at alive) bit ∙ ap (λ n. n % 2) (sym (shr-shr alive (next % 64) (k - next))) ∙ zeros (k - next) (omega (arith, from, before)) in
     subst (λ n. IsOut o (get_or flats n d)) at (told flats (k % 64) d some r m (omega arith) (omega (arith, at, inside)) zero)
+
+-- ---- the bits of places ----
+
+-- an ASCII character whose bit isn't set is none of these
+pub none_of : (p : Places) (x : ℕ) → x < 128 → bit_at p.ascii x ≡ 0 → is_in p x ≡ false
+unfolding is_in
+none_of p x l e = ap (λ b. if b then bit_at p.ascii x == 1 else (if x == 128 then p.wide else p.end)) (lt-ltb x 128 l) ∙ ap (λ n. n == 1) e
+
+-- bits from one on of which the rest has none
+pub none_from : (bits from : ℕ) → bits / 2 ^ from ≡ 0 → (k : ℕ) → from ≤ k → bit_at bits k ≡ 0
+none_from bits from e k l =
+    let far : k ≡ from + (k - from) = omega (arith, l) in
+    ap (bit_at bits) far ∙ ap (λ m. m % 2) (sym (shr-shr bits from (k - from))) ∙ ap (λ r. bit_at r (k - from)) e ∙ bit_at-zero (k - from)
+
+-- bits from one on up to the first that is set
+pub none_up_to : (bits from stop : ℕ) → ((i : ℕ) → i < stop → bit_at (bits / 2 ^ from) i ≡ 0) → (k : ℕ) → from ≤ k → k < from + stop → bit_at bits k ≡ 0
+none_up_to bits from stop zeros k l m =
+    let far : k ≡ from + (k - from) = omega (arith, l) in
+    ap (bit_at bits) far ∙ ap (λ n. n % 2) (sym (shr-shr bits from (k - from))) ∙ zeros (k - from) (omega (arith, l, m))

@@ -95,6 +95,53 @@ fn set_bit(rows: &mut Vec<u64>, place: usize, bit: u32)
     }
 }
 
+/// The first bit from this one on that is set, or 128.
+#[inline]
+fn next_bit(bits: u128, from: u32) -> u32
+    requires { from ≤ 128 }
+    ensures later { from ≤ result }
+    ensures passed { (k : ℕ) → from ≤ k → k < result → k < 128 → bit_at bits k ≡ 0 }
+{
+    if from == 128 {
+        return 128;
+    }
+    let rest = bits >> from;
+    if rest == 0 {
+        128
+    } else {
+        from + rest.trailing_zeros()
+    }
+}
+
+/// Sets the bit of a pattern in the row of something, if that can stand where its matches begin.
+fn mark_one(rows: &mut Vec<u64>, words: u16, index: usize, begins: Places, x: u8)
+    requires index { index < 65536 }
+    requires row { x < 130 }
+    ensures marks { is_in begins x ≡ true → bit_of rows.new.items words x index ≡ true }
+    ensures others { (p b : ℕ) → has_bit rows.old.items p b ≡ true
+        → has_bit rows.new.items p b ≡ true }
+{
+    if is_in(begins, x) {
+        let place = x as usize * words as usize + index / 64;
+        set_bit(rows, place, (index % 64) as u32);
+    }
+}
+
+/// Sets the bit of a pattern in the rows of the ASCII characters that can stand where its matches begin.
+fn mark_ascii(rows: &mut Vec<u64>, words: u16, index: usize, begins: Places)
+    requires { index < 65536 }
+    ensures marks { (x : ℕ) → x < 128 → is_in begins x ≡ true
+        → bit_of rows.new.items words x index ≡ true }
+    ensures others { (p b : ℕ) → has_bit rows.old.items p b ≡ true
+        → has_bit rows.new.items p b ≡ true }
+{
+    let mut x = next_bit(begins.ascii, 0);
+    while x < 128 {
+        mark_one(rows, words, index, begins, x as u8);
+        x = next_bit(begins.ascii, x + 1);
+    }
+}
+
 /// Sets the bit of a pattern in the rows of what can stand where its matches begin.
 fn mark(rows: &mut Vec<u64>, words: u16, index: usize, begins: Places)
     requires { index < 65536 }
@@ -103,15 +150,9 @@ fn mark(rows: &mut Vec<u64>, words: u16, index: usize, begins: Places)
     ensures others { (p b : ℕ) → has_bit rows.old.items p b ≡ true
         → has_bit rows.new.items p b ≡ true }
 {
-    for x in 0..STARTS {
-        if is_in(begins, x) {
-            set_bit(
-                rows,
-                x as usize * words as usize + index / 64,
-                (index % 64) as u32,
-            );
-        }
-    }
+    mark_ascii(rows, words, index, begins);
+    mark_one(rows, words, index, begins, 128);
+    mark_one(rows, words, index, begins, 129);
 }
 
 /// The table of a list.
@@ -155,6 +196,31 @@ fn mark_cut(rows: &mut Vec<u64>, words: u16, index: usize, row: usize, flat: &Fl
     }
 }
 
+/// Sets the bit of a pattern in those of 130 rows whose thing isn't among these, if that cuts it off.
+fn mark_others(
+    rows: &mut Vec<u64>,
+    words: u16,
+    index: usize,
+    first: usize,
+    places: Places,
+    flat: &Flat,
+)
+    requires index { index < 65536 }
+    requires first { first ≤ 130 }
+    ensures { (flats : List Flat) → length flats ≤ words * 64 → index < length flats
+        → flat.now ≡ slice_index_or flats index flat.now
+        → MarkCuts rows.old.items words flats → MarkCuts rows.new.items words flats }
+{
+    let others = !places.ascii;
+    let mut x = next_bit(others, 0);
+    while x < 128 {
+        mark_cut(rows, words, index, first + x as usize, flat);
+        x = next_bit(others, x + 1);
+    }
+    mark_cut(rows, words, index, first + 128, flat);
+    mark_cut(rows, words, index, first + 129, flat);
+}
+
 /// Sets the bit of a pattern in the rows of what cuts it off.
 fn mark_cuts(rows: &mut Vec<u64>, words: u16, index: usize, flat: &Flat)
     requires { index < 65536 }
@@ -162,9 +228,9 @@ fn mark_cuts(rows: &mut Vec<u64>, words: u16, index: usize, flat: &Flat)
         → flat.now ≡ slice_index_or flats index flat.now
         → MarkCuts rows.old.items words flats → MarkCuts rows.new.items words flats }
 {
-    for row in 0..CUTS {
-        mark_cut(rows, words, index, row, flat);
-    }
+    mark_others(rows, words, index, 0, flat.words, flat);
+    mark_others(rows, words, index, BLANKS, flat.blanks, flat);
+    mark_cut(rows, words, index, EDGES, flat);
 }
 
 /// Whether nothing cuts the pattern off.

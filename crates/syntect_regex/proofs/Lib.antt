@@ -1,3 +1,4 @@
 pub mod RegionLaws
 pub mod BeginLaws
 pub mod HereLaws
+pub mod OutlineLaws

@@ -7,3 +7,4 @@ pub mod Region
 pub mod Escape
 pub mod Begins
 pub mod Bounds
+pub mod Outline

@@ -1,8 +1,10 @@
 //! Patterns and their searches.
 #![tactic(auto)]
 
+mod compiled;
 mod edges;
 pub mod error;
+mod outline;
 pub mod regex;
 pub mod region;
 mod seek;

@@ -1,43 +1,42 @@
 //! Patterns.
-ghost use Rattle.std.specs.Prelude.{◌≡◌, ℕ, ◌+◌, ◌≤◌, length, ◌==◌, ◌++◌, encode_utf8_all, OnOk, take, drop, string_bytes, IfOk, OnErr, IfSome, IfNone, IsCharBoundary, is_some, is_ok, unwrap_or, option_and_then, if◌then◌else◌, None, Some, slice_index_or, true, false};
+ghost use Rattle.std.specs.Prelude.{◌≡◌, ℕ, ◌+◌, ◌≤◌, length, ◌==◌, ◌++◌, encode_utf8_all, OnOk, take, drop, string_bytes, IfOk, OnErr, IfSome, IfNone, IsCharBoundary, is_some, is_ok, unwrap_or, option_and_then, if◌then◌else◌, None, true, false};
+ghost use Rattle.std.specs.Option.{option_copied};
 ghost use Rattle.std.specs.Cmp.Lexicographic.{pointwise};
 ghost use Rattle.std.proofs.Common.{rules};
 ghost use Rattle.std.specs.Cmp.Rules.{comparing};
-ghost use Rattle.syntect_pattern.specs.Trees.{group_in_look, nothing};
+ghost use Rattle.syntect_pattern.specs.Trees.{group_in_look};
 ghost use Rattle.syntect_pattern.specs.Pattern.{pattern_tree, pattern_found};
 ghost use Rattle.syntect_pattern.specs.Found.{IsPatternMatch};
-ghost use Rattle.syntect_pattern_table.specs.Program.{trees_of};
-ghost use Rattle.syntect_pattern_table.specs.declared.program.Program.{Program};
-ghost use Rattle.syntect_word_ends.specs.Ends.{StandsBehind};
+ghost use Rattle.syntect_pattern_reader.specs.Compiled.{Compiles};
 ghost use Rattle.syntect_pattern.specs.declared.error.PatternError.{PatternError};
 ghost use Rattle.syntect_regex.specs.Bounds.{pattern_is_linear, search_bound};
 ghost use Rattle.syntect_regex.specs.Begins.{NoneBeginsBefore, NoneBeginsOutside, BeginsAtEdges};
 ghost use Rattle.syntect_regex.specs.Escape.{is_special, escaped_char, escaped};
 ghost use Rattle.syntect_regex.specs.Region.{TakesMatch, TakesUpTo, TriesAt, Leaves, pattern_begins};
 
-use crate::edges::is_at_edges;
+use crate::compiled::{Compiled, boxed, program_in};
 use crate::error::PatternError;
+use crate::outline::Outline;
 use crate::region::Region;
 use crate::seek::begins_at;
+use once_cell::race::OnceBox;
 use std::alloc::{AllocError, Global};
 use std::marker::Model;
 use syntect_engine::state::Search;
 use syntect_pattern_reader::compiler::compile;
 use syntect_pattern_table::program::Program;
-use syntect_pattern_table::starts::{Places, anywhere};
+use syntect_pattern_table::starts::Places;
 use syntect_plan::plan::Plan;
 use syntect_turns::count::TurnCount;
-use syntect_word_ends::ends::behind_runs;
 
-/// A pattern, ready to be searched. It is its text: equal texts are equal patterns.
+/// A pattern. It is its text: equal texts are equal patterns.
+///
+/// A text is compiled when the pattern is made, for what is asked of patterns that aren't searched, and again when it is first
+/// searched, for its program, which is kept from then on. So patterns that are never searched take little memory.
 pub struct Regex {
     text: String,
-    /// None if the text is no pattern.
-    program: Option<Program>,
-    /// What can stand behind a word in which a match begins.
-    words: Places,
-    /// What can stand behind white space in which one does.
-    blanks: Places,
+    outline: Outline,
+    compiled: OnceBox<Compiled>,
 }
 
 /// Written out, so that crates above call it and needn't prove each part's drop again.
@@ -45,25 +44,21 @@ impl Drop for Regex {
     fn drop(self) {
         let Regex {
             text: _,
-            program: _,
-            words: _,
-            blanks: _,
+            outline: _,
+            compiled: _,
         } = self;
     }
 }
 
 impl Model for Regex {
-    ghost use Rattle.std.specs.Prelude.{List, ℕ, string_bytes, true, false};
-    ghost use Rattle.syntect_pattern_reader.specs.Compiled.{Compiles};
-    ghost use Rattle.syntect_regex.specs.Begins.{NoneBeginsBefore};
+    ghost use Rattle.std.specs.Prelude.{List, ℕ, string_bytes};
+    ghost use Rattle.syntect_regex.specs.Outline.{IsOutlineOf};
 
     ghost Value = { List ℕ };
 
     ghost view = { λ a. string_bytes a.text };
 
-    ghost invariant = { λ a. Compiles (string_bytes a.text) a.program
-        × NoneBeginsBefore false a.words (string_bytes a.text)
-        × NoneBeginsBefore true a.blanks (string_bytes a.text) };
+    ghost invariant = { λ a. IsOutlineOf (string_bytes a.text) a.outline };
 }
 
 impl Regex {
@@ -72,14 +67,36 @@ impl Regex {
         ensures { IfOk result (λ r. r ≡ string_bytes text) }
     {
         let program = compile(alloc, text.as_str())?;
-        let words = behind_of(alloc, false, &program)?;
-        let blanks = behind_of(alloc, true, &program)?;
+        let outline = Outline::new(alloc, &program)?;
         Ok(Regex {
             text,
-            program,
-            words,
-            blanks,
+            outline,
+            compiled: OnceBox::new(alloc),
         })
+    }
+
+    /// The same, compiled for searches at once: a pattern that is searched soon is so compiled a single time.
+    pub fn ready(alloc: Global, text: String) -> Result<Regex, AllocError>
+        ensures { IfOk result (λ r. r ≡ string_bytes text) }
+    {
+        let program = compile(alloc, text.as_str())?;
+        let outline = Outline::new(alloc, &program)?;
+        let made = boxed(alloc, text.as_str(), program)?;
+        Ok(Regex {
+            text,
+            outline,
+            compiled: OnceBox::with_value(made),
+        })
+    }
+
+    /// The program, which the first search makes. None if the text is no pattern.
+    #[inline]
+    fn program(&self) -> Result<Option<&Program>, AllocError>
+        ensures { IfOk result (λ p. Compiles self.now (option_copied p)) }
+    {
+        let text = &self.text;
+        let program = program_in(*text.allocator(), &self.compiled, text.as_str())?;
+        Ok(program.as_ref())
     }
 
     /// Why the text is no pattern, if it is none: `NotAPattern`, or `Memory` where that was wanting.
@@ -106,27 +123,14 @@ impl Regex {
     pub fn group(&self, number: usize) -> Option<bool>
         ensures { result ≡ option_and_then (λ tree. group_in_look tree number) (pattern_tree self.now) }
     {
-        match &self.program {
-            Some(program) => program.group(number),
-            None => None,
-        }
+        self.outline.group(number)
     }
 
     /// What can stand at a place where a match begins: where something else stands none begins.
     pub fn begins(&self) -> Places
         ensures { NoneBeginsOutside result self.now }
     {
-        let Some(program) = &self.program else {
-            return Places {
-                ascii: 0,
-                wide: false,
-                end: false,
-            };
-        };
-        match program.firsts.get(program.root) {
-            Some(places) => *places,
-            None => anywhere(),
-        }
+        self.outline.begins
     }
 
     /// Whether the pattern is seen at once to begin with `\b`: then no match of it begins in the midst of a word. Without it
@@ -134,10 +138,7 @@ impl Regex {
     pub fn begins_at_edges(&self) -> bool
         ensures { result ≡ true → BeginsAtEdges self.now }
     {
-        match &self.program {
-            Some(program) => is_at_edges(program),
-            None => false,
-        }
+        self.outline.at_edges
     }
 
     /// What can stand behind a word in which a match begins: in a word that has something else behind it none begins. The
@@ -145,7 +146,7 @@ impl Regex {
     pub fn behind_words(&self) -> Places
         ensures { NoneBeginsBefore false result self.now }
     {
-        self.words
+        self.outline.words
     }
 
     /// What can stand behind white space in which a match begins: in white space that has something else behind it none
@@ -153,7 +154,7 @@ impl Regex {
     pub fn behind_blanks(&self) -> Places
         ensures { NoneBeginsBefore true result self.now }
     {
-        self.blanks
+        self.outline.blanks
     }
 
     /// Whether each search takes steps in proportion to the text: those of a pattern without back references, whose
@@ -163,32 +164,21 @@ impl Regex {
     pub fn is_linear(&self, alloc: Global) -> Result<bool, AllocError>
         ensures { IfOk result (λ linear. linear ≡ pattern_is_linear self.now) }
     {
-        let Some(program) = &self.program else {
+        let Some(program) = compile(alloc, self.text.as_str())? else {
             return Ok(true);
         };
-        let plan = Plan::new(alloc, program, &mut TurnCount::none())?;
+        let plan = Plan::new(alloc, &program, &mut TurnCount::none())?;
         Ok(plan.is_some())
     }
 
-    /// An equal pattern, with a copy of what was made of the text.
+    /// An equal pattern. It is not compiled before it is searched.
     pub fn clone(&self, alloc: Global) -> Result<Regex, AllocError>
         ensures { IfOk result (λ r. r ≡ self.now) }
     {
-        let text = String::from_str(alloc, self.text.as_str())?;
-        let Some(program) = &self.program else {
-            return Ok(Regex {
-                text,
-                program: None,
-                words: self.words,
-                blanks: self.blanks,
-            });
-        };
-        let copy = program.clone(alloc)?;
         Ok(Regex {
-            text,
-            program: Some(copy),
-            words: self.words,
-            blanks: self.blanks,
+            text: String::from_str(alloc, self.text.as_str())?,
+            outline: self.outline.clone(alloc)?,
+            compiled: OnceBox::new(alloc),
         })
     }
 
@@ -240,7 +230,7 @@ impl Regex {
             → OnOk result (count.new.made ≤ count.old.made + search_bound self.now end) }
     {
         syntect_pattern_laws::pattern_matches_are_laid_out();
-        let Some(program) = &self.program else {
+        let Some(program) = self.program()? else {
             return Ok(false);
         };
         region.find(program, text.split_at(end).0, begin, count)
@@ -280,7 +270,7 @@ impl Regex {
             → OnOk result (count.new.made
             ≤ count.old.made + search_bound self.now (length text.now)) }
     {
-        let Some(program) = &self.program else {
+        let Some(program) = self.program()? else {
             return Ok(false);
         };
         region.find_up_to(program, text, begin, last, count)
@@ -315,7 +305,7 @@ impl Regex {
             → OnOk result (count.new.made
             ≤ count.old.made + search_bound self.now (length text.now)) }
     {
-        let Some(program) = &self.program else {
+        let Some(program) = self.program()? else {
             return Ok(false);
         };
         region.find_at(program, text, place, count)
@@ -347,23 +337,11 @@ impl Regex {
     pub fn is_match(&self, alloc: Global, text: &str) -> Result<bool, AllocError>
         ensures { IfOk result (λ found. found ≡ pattern_begins self.now text.now 0) }
     {
-        let Some(program) = &self.program else {
+        let Some(program) = self.program()? else {
             return Ok(false);
         };
         let mut search = Search::new(alloc);
         begins_at(&mut search, program, text, 0, &mut TurnCount::none())
-    }
-}
-
-/// What can stand behind white space, or else behind a word, in which a match of the program begins; anything where there is
-/// none.
-fn behind_of(alloc: Global, blank: bool, program: &Option<Program>) -> Result<Places, AllocError>
-    ensures { IfOk result (λ places. (p : Program) → program.now ≡ Some p
-        → StandsBehind blank places (slice_index_or (trees_of p) p.root nothing)) }
-{
-    match program {
-        Some(program) => behind_runs(alloc, blank, program),
-        None => Ok(anywhere()),
     }
 }
 

@@ -4,7 +4,7 @@ ghost use Rattle.std.specs.List.{starts_with};
 ghost use Rattle.syntect_rewrite.specs.Replacing as replacing;
 ghost use Rattle.syntect_rewrite.specs.Views.{IsWord, IsNoWord};
 
-use crate::signs::{char_len, skip};
+use crate::signs::{char_len, first, skip};
 use std::alloc::{AllocError, Global};
 
 /// Whether the text begins with a word.
@@ -20,7 +20,10 @@ fn bracket(text: &str) -> Option<&'static str>
     ensures cases { MatchOption result (IsNoWord replacing.brackets text.now) (λ w. IsWord replacing.brackets text.now 9 w.now) }
     ensures last { MatchOption result (result ≡ result) (λ w. slice_index text.now 8 ≡ 93) }
 {
-    if begins(text, "[:alpha:]") {
+    // most characters are told by this one look
+    if first(text) != b'[' {
+        None
+    } else if begins(text, "[:alpha:]") {
         Some("\\p{L}")
     } else if begins(text, "[:alnum:]") {
         Some("\\p{L}\\p{N}")

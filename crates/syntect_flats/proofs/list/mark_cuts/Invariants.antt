@@ -1,8 +1,0 @@
-use Rattle.std.proofs.Common.{◌≡◌, ◌≤◌, ◌<◌, ◌*◌, List, length, get_or}
-use Rattle.syntect_flats.specs.Rows.{MarkCuts}
-use Rattle.syntect_flats.specs.declared.flats.Flat.{Flat}
-use Rattle.syntect_flats.proofs.list.mark_cuts.Given as goal
-
-abbrev pub invariant-loop-row : goal.invariant-loop-row
-invariant-loop-row l = (flats : List Flat) → length flats ≤ l.words * 64 → l.index < length flats → l.flat ≡ get_or flats l.index l.flat
-    → MarkCuts l.fn.rows.items l.words flats → MarkCuts l.rows.items l.words flats

@@ -1,0 +1,11 @@
+use Rattle.std.proofs.Common.{Option, subst, sym}
+use Rattle.syntect_pattern_reader.specs.Compiled.{Compiles}
+use Rattle.syntect_pattern_table.specs.declared.program.Program.{Program}
+use Rattle.syntect_regex.proofs.BeginLaws.{none-outside}
+use Rattle.syntect_regex.proofs.outline.begins_of.Goals as goal
+
+pub returns-in-Some-get : goal.returns-in-Some-get
+returns-in-Some-get c = λ pattern is.
+    none-outside pattern c.in-Some.program
+    (subst (λ (o : Option Program). Compiles pattern o) c.in-Some.is is)
+    c.in-Some-get.places.now c.in-Some-get.ensures

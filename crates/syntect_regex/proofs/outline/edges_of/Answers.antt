@@ -1,0 +1,11 @@
+use Rattle.std.proofs.Common.{Option, subst}
+use Rattle.syntect_pattern_reader.specs.Compiled.{Compiles}
+use Rattle.syntect_pattern_table.specs.declared.program.Program.{Program}
+use Rattle.syntect_regex.proofs.BeginLaws.{edges-found}
+use Rattle.syntect_regex.proofs.outline.edges_of.Goals as goal
+
+pub returns-in-Some : goal.returns-in-Some
+returns-in-Some c = λ pattern is yes.
+    edges-found pattern c.in-Some.program
+    (subst (λ (o : Option Program). Compiles pattern o) c.in-Some.is is)
+    (c.is_at_edges.ensures yes)

@@ -1,0 +1,86 @@
+//! Programs that are made when they are first wanted.
+ghost use Rattle.std.specs.Prelude.{IfOk};
+ghost use Rattle.syntect_pattern_reader.specs.Compiled.{Compiles};
+
+use once_cell::race::OnceBox;
+use std::alloc::{AllocError, Global};
+use std::marker::Model;
+use syntect_pattern_reader::compiler::compile;
+use syntect_pattern_table::program::Program;
+
+/// What is made of a text, and the text.
+#[derive(Drop)]
+pub(crate) struct Compiled {
+    text: String,
+    /// None if the text is no pattern.
+    program: Option<Program>,
+}
+
+impl Model for Compiled {
+    ghost use Rattle.std.specs.Prelude.{List, ℕ, string_bytes};
+    ghost use Rattle.syntect_pattern_reader.specs.Compiled.{Compiles};
+
+    ghost Value = { List ℕ };
+
+    ghost view = { λ a. string_bytes a.text };
+
+    ghost invariant = { λ a. Compiles (string_bytes a.text) a.program };
+}
+
+/// What is made of a text, and the text, in a box.
+pub(crate) fn boxed(
+    alloc: Global,
+    text: &str,
+    program: Option<Program>,
+) -> Result<Box<Compiled>, AllocError>
+    requires { Compiles text.now program }
+{
+    let made = Compiled {
+        text: String::from_str(alloc, text)?,
+        program,
+    };
+    Ok(Box::new(alloc, made)?)
+}
+
+/// What is made of the text, as the cell has it, or else made now and kept there. Of what stands in a cell nothing is known but
+/// its type, so it carries its text, and this one is compared with that.
+#[inline]
+pub(crate) fn program_in<'a>(
+    alloc: Global,
+    cell: &'a OnceBox<Compiled>,
+    text: &str,
+) -> Result<&'a Option<Program>, AllocError>
+    ensures { IfOk result (λ p. Compiles text.now p.now) }
+{
+    match cell.get() {
+        Some(kept) => of_text(kept, text),
+        None => made_in(alloc, cell, text),
+    }
+}
+
+/// What is kept, which is of this text.
+#[inline]
+fn of_text<'a>(kept: &'a Compiled, text: &str) -> Result<&'a Option<Program>, AllocError>
+    ensures { IfOk result (λ p. Compiles text.now p.now) }
+{
+    if kept.text.as_str() == text {
+        Ok(&kept.program)
+    } else {
+        // Never met: a cell is filled below alone, with what is made of its own pattern's text
+        Err(AllocError)
+    }
+}
+
+/// What is made of the text, kept in the cell. Where threads race the first one's stays.
+#[inline(never)]
+fn made_in<'a>(
+    alloc: Global,
+    cell: &'a OnceBox<Compiled>,
+    text: &str,
+) -> Result<&'a Option<Program>, AllocError>
+    ensures { IfOk result (λ p. Compiles text.now p.now) }
+{
+    let program = compile(alloc, text)?;
+    let made = boxed(alloc, text, program)?;
+    of_text(cell.get_or_init(move || made), text)
+}
