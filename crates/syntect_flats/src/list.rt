@@ -70,24 +70,14 @@ fn marks_at(rows: &[u64], place: usize) -> u64
 }
 
 /// Sets a bit of a word, if there is one at the place, and no other.
-fn set_mark(rows: &mut Vec<u64>, place: usize, bit: u32)
-    requires { bit < 64 }
-    ensures { (p b : ℕ) → has_mark rows.new.items p b ≡ true
-        → (has_mark rows.old.items p b ≡ true) ⊎ ((p ≡ place) × (b ≡ bit)) }
-{
-    if place < rows.len() {
-        let word = rows[place];
-        rows[place] = word | 1 << bit;
-    }
-}
-
-/// Sets a bit of a word, if there is one at the place.
 fn set_bit(rows: &mut Vec<u64>, place: usize, bit: u32)
     requires { bit < 64 }
     ensures length { length rows.new.items ≡ length rows.old.items }
     ensures same { has_bit rows.new.items place bit ≡ true }
     ensures others { (p b : ℕ) → has_bit rows.old.items p b ≡ true
         → has_bit rows.new.items p b ≡ true }
+    ensures only { (p b : ℕ) → has_mark rows.new.items p b ≡ true
+        → (has_mark rows.old.items p b ≡ true) ⊎ ((p ≡ place) × (b ≡ bit)) }
 {
     if place < rows.len() {
         let word = rows[place];
@@ -192,7 +182,7 @@ fn mark_cut(rows: &mut Vec<u64>, words: u16, index: usize, row: usize, flat: &Fl
 {
     if is_cut_in(row, flat) {
         let place = row * words as usize + index / 64;
-        set_mark(rows, place, (index % 64) as u32);
+        set_bit(rows, place, (index % 64) as u32);
     }
 }
 

@@ -8,3 +8,4 @@ pub mod ExpandLaws
 pub mod VanishLaws
 pub mod TurnLaws
 pub mod Rows
+pub mod PlainLaws

@@ -30,7 +30,7 @@ class_first n t some e = first-take n t some ∙ e
 anchored_class : (s : List ℕ) → get_or s 0 0 ≡ 91 → anchored_token (plain s) ≡ s
 anchored_class s e = rw e refl
 
-anchored_is : (t : List ℕ) → anchored_token (token t) ≡ anchored_token (plain (take (token_len t) t))
+pub anchored_is : (t : List ℕ) → anchored_token (token t) ≡ anchored_token (plain (take (token_len t) t))
 unfolding token token_len sign
 anchored_is t =
     elim (eqb_tells (get_or t 0 0) 91) [

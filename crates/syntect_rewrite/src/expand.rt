@@ -217,6 +217,9 @@ pub(crate) fn expand(
 ) -> Result<String, AllocError>
     ensures { IfOk result (λ s. string_bytes s ≡ uses.expanded variables.now text.now) }
 {
+    if !text.as_bytes().contains(&b'{') {
+        return String::from_str(alloc, text);
+    }
     let mut out = String::new(alloc);
     let mut frames: Vec<Frame<'_>> = Vec::new(alloc);
     let mut known: Table<Text, bool> = Table::new(alloc);

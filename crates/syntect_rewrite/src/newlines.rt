@@ -24,6 +24,9 @@ fn push_anchored(out: &mut String, token: &str) -> Result<(), AllocError>
 pub(crate) fn anchored(alloc: Global, text: &str) -> Result<String, AllocError>
     ensures { IfOk result (λ s. string_bytes s ≡ newlines.anchored text.now) }
 {
+    if !text.as_bytes().contains(&b'$') {
+        return String::from_str(alloc, text);
+    }
     let mut out = String::new(alloc);
     let mut rest = text;
     'tokens: while !rest.is_empty() {

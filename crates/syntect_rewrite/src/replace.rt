@@ -65,6 +65,9 @@ fn next_part(text: &str) -> (&str, &str)
 pub(crate) fn replaced(alloc: Global, text: &str) -> Result<String, AllocError>
     ensures { IfOk result (λ s. string_bytes s ≡ replacing.replaced replacing.brackets text.now) }
 {
+    if !text.as_bytes().contains(&b'[') {
+        return String::from_str(alloc, text);
+    }
     let mut out = String::new(alloc);
     let mut rest = text;
     'words: while !rest.is_empty() {

@@ -1,4 +1,4 @@
-use Rattle.std.proofs.Common.{Option, subst, sym}
+use Rattle.std.proofs.Common.{Option, subst}
 use Rattle.syntect_pattern_reader.specs.Compiled.{Compiles}
 use Rattle.syntect_pattern_table.specs.declared.program.Program.{Program}
 use Rattle.syntect_regex.proofs.BeginLaws.{none-outside}

@@ -1,8 +1,10 @@
-use Rattle.std.proofs.Common.{◌≡◌, ◌++◌, ◌<◌, List, ℕ, length, string_bytes, sym, ap, ◌∙◌, append-nil, rules, arith}
+use Rattle.std.proofs.Common.{◌≡◌, ◌==◌, ◌++◌, ◌<◌, List, ℕ, length, string_bytes, sym, ap, ◌∙◌, append-nil, rules, arith}
 use Rattle.std.proofs.lemmas.Grind.{common_steps}
 use Rattle.syntect_rewrite.specs.Newlines.{anchored}
 use Rattle.syntect_rewrite.proofs.CuttingLaws.{step}
 use Rattle.syntect_rewrite.proofs.NewlineLaws.{IsToken, anchored-turn, anchored-none}
+use Rattle.std.specs.List.{list_any}
+use Rattle.syntect_rewrite.proofs.PlainLaws.{Lacks, still, anchored_plain}
 use Rattle.syntect_rewrite.proofs.newlines.anchored.Goals as goal
 
 pub returns : goal.returns
@@ -19,3 +21,8 @@ tokens-preserved c =
       search rules,
       step anchored _ _ _ l.rest.now _ _ c.token_at.result.len (anchored-turn l.rest.now c.split_at.result.0.now c.token_at.result.len token) c.split_at.ensures.back c.in_ok-push_anchored.ensures l.invariant.1,
     )
+
+pub returns-then-not-contains : goal.returns-then-not-contains
+returns-then-not-contains c =
+    let lacks : Lacks 36 c.args.text.now = ap (list_any (λ d. d == 36)) (sym c.as_bytes.ensures.value) ∙ sym c.contains.ensures.value ∙ c.if-not-contains.true in
+    still string_bytes c.from_str.result c.args.text.now (anchored c.args.text.now) c.from_str.ensures.ok (anchored_plain c.args.text.now lacks)
