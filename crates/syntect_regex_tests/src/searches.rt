@@ -1,5 +1,6 @@
 //! Regions, copies of patterns, and searches whose steps are counted.
 use crate::found::{equal, holds};
+use std::process::Abort;
 use syntect_pattern_table::starts::is_in;
 use syntect_regex::regex::Regex;
 use syntect_regex::region::Region;
@@ -50,6 +51,33 @@ fn copies_are_searched_alike(rt: HostRuntime) {
     );
     holds(&rt, regex == copy);
     equal(&rt, regex.regex_str(), "b");
+}
+
+/// Two searches of a text, and what is asked of the groups.
+fn finds(rt: &(impl Abort + AllocGlobal), regex: &Regex) {
+    let mut region = Region::default(rt.alloc());
+    let found = regex.search_into("abbc bbb", 0, 8, &mut region);
+    equal(rt, found.expect(rt, "memory"), true);
+    equal(rt, region.pos(0), Some((1, 4)));
+    let found = regex.search_into("abbc bbb", 4, 8, &mut region);
+    equal(rt, found.expect(rt, "memory"), true);
+    equal(rt, region.pos(1), Some((5, 8)));
+    equal(rt, regex.group(1), Some(false));
+    equal(rt, regex.group(2), Some(true));
+    equal(rt, regex.group(3), None);
+}
+
+/// A pattern is compiled by its first search; then it is searched as it was compiled, and a copy is compiled anew.
+#[test]
+fn finds_alike_when_searched_again(rt: HostRuntime) {
+    let pattern = "(b+)c?|(?=(x))";
+    let text = String::from_str(rt.alloc(), pattern).expect(&rt, "memory");
+    let regex = Regex::new(rt.alloc(), text).expect(&rt, "memory");
+    finds(&rt, &regex);
+    finds(&rt, &regex);
+    finds(&rt, &regex.clone(rt.alloc()).expect(&rt, "memory"));
+    let text = String::from_str(rt.alloc(), pattern).expect(&rt, "memory");
+    finds(&rt, &Regex::ready(rt.alloc(), text).expect(&rt, "memory"));
 }
 
 #[test]
