@@ -1,14 +1,14 @@
 -- Where no match can begin.
-use Rattle.std.proofs.Common.{◌≡◌, ◌<◌, ◌≤◌, ◌||◌, ℕ, zero, suc, Bool, true, false, not, Some, List, length, get_or, sym, ◌∙◌, ap, arith, inl, inr, min, below_more, length-append, [], ◌∷◌, ◌++◌, ◌+◌, ◌-◌, None, drop, subst, eq-eqb, length-drop, Option, set}
+use Rattle.std.proofs.Common.{◌≡◌, ◌<◌, ◌≤◌, ◌||◌, ℕ, zero, suc, Bool, true, false, not, Some, List, length, get_or, sym, ◌∙◌, ap, arith, inl, inr, min, below_more, length-append, [], ◌∷◌, ◌++◌, ◌+◌, ◌-◌, None, drop, subst, eq-eqb, length-drop, Option}
 use Rattle.memchr.specs.Find.{IsFirstByte, is_byte}
-use Rattle.std.proofs.lemmas.List.{get_or-drop, get_or_default, get_or-set_other, get_or-set_same}
+use Rattle.std.proofs.lemmas.List.{get_or-drop}
 use Rattle.syntect_pattern_table.specs.Needs.{IsAbsent}
 use Rattle.std.specs.Prelude.{if◌then◌else◌, nat_lt, IsUtf8, IsCharBoundary, slice_get}
 use Rattle.std.proofs.lemmas.Bool.{lt-ltb, le-ltb, cases_lt}
 use Rattle.std.proofs.Math.ListN.{get_or-append}
 use Rattle.std.proofs.Math.Seq.{get_or-append_seam}
 use Rattle.syntect_pattern.specs.Trees.{Tree, nothing}
-use Rattle.syntect_pattern_table.specs.Starts.{start_at, AreFirsts, Begin, Begins, begins, begins_at, is_in, reads, stays}
+use Rattle.syntect_pattern_table.specs.Starts.{start_at, AreFirsts, Begin, begins, begins_at, is_in, reads, stays}
 use Rattle.syntect_pattern_table.specs.declared.starts.Firsts.{Firsts}
 use Rattle.syntect_pattern_table.specs.declared.starts.Places.{Places}
 use Rattle.syntect_pattern.specs.Matches.{Groups, matches}
@@ -85,24 +85,12 @@ Begin-push x rs ss ts f k h e e' is j d l =
     ∙ ap (λ (r : Places). begins_at x (record { read = r; stay = get_or (ss ++ f.stay ∷ []) (length ss) c })) (get_or-append_seam rs f.read [] c)
     ∙ ap (λ (s : Places). begins_at x (record { read = f.read; stay = s })) (get_or-append_seam ss f.stay [] c) ∙ is) j (omega (arith, length-append rs (f.read ∷ []), e)) d
 
--- one more place of a list is joined with that of the others
-pub joined_more : (old now others : List Places) (n : ℕ) (r a b : Places) → n < length now → n < length others → a ≡ get_or now n a → b ≡ get_or others n b
-    → ((x : ℕ) → is_in r x ≡ (is_in a x || is_in b x))
-    → ((k x : ℕ) (d : Places) → k < n → is_in (get_or now k d) x ≡ (is_in (get_or old k d) x || is_in (get_or others k d) x))
-    → ((k : ℕ) (d : Places) → n ≤ k → get_or now k d ≡ get_or old k d)
-    → (k x : ℕ) (d : Places) → k < n + 1 → is_in (get_or (set now n r) k d) x ≡ (is_in (get_or old k d) x || is_in (get_or others k d) x)
-joined_more old now others n r a b l m at by is done rest k x d h =
-    below_more (λ j. (c : Places) → is_in (get_or (set now n r) j c) x ≡ (is_in (get_or old j c) x || is_in (get_or others j c) x)) n
-    (λ j p c. ap (λ (y : Places). is_in y x) (get_or-set_other now n j r c (λ q. omega (arith, p, q))) ∙ done j x c p)
-    (λ c. ap (λ (y : Places). is_in y x) (get_or-set_same now n r c l)
-    ∙ is x
-    ∙ ap (λ (y : Places). is_in y x || is_in b x) (at ∙ get_or_default now n a c l ∙ rest n c (omega arith))
-    ∙ ap (λ (y : Places). is_in (get_or old n c) x || is_in y x) (by ∙ get_or_default others n b c m)) k h d
-
--- all places joined: where matches that read and that don't can begin
-pub joined_firsts : (rs ss ps : List Places) (ts : List Tree) → length ps ≡ length rs
-    → ((x : ℕ) → x < 130 → Begin x rs ss ts)
-    → ((k x : ℕ) (d : Places) → k < length ps → is_in (get_or ps k d) x ≡ (is_in (get_or rs k d) x || is_in (get_or ss k d) x))
-    → AreFirsts ps ts
-joined_firsts rs ss ps ts e b j k x d l m =
-    j k x d l ∙ ap (λ (y : Begins). y.read || y.stay) (b x m k d (omega (arith, l, e)))
+-- one more node's places
+pub AreFirsts-push : (ps : List Places) (ts : List Tree) (p : Places) (k : ℕ) → AreFirsts ps ts → length ps ≡ k
+    → ((x : ℕ) → x < 130 → is_in p x ≡ (reads (get_or ts k nothing) x || stays (get_or ts k nothing) x))
+    → AreFirsts (ps ++ p ∷ []) ts
+AreFirsts-push ps ts p k h e is j x d l low =
+    below_more (λ n. (c : Places) → is_in (get_or (ps ++ p ∷ []) n c) x ≡ (reads (get_or ts n nothing) x || stays (get_or ts n nothing) x)) k
+    (λ n q c. ap (λ (r : Places). is_in r x) (get_or-append ps (p ∷ []) c n (omega (arith, q, e))) ∙ h n x c (omega (arith, q, e)) low)
+    (λ c. ap (λ n. is_in (get_or (ps ++ p ∷ []) n c) x) (sym e) ∙ ap (λ (r : Places). is_in r x) (get_or-append_seam ps p [] c) ∙ is x low)
+    j (omega (arith, length-append ps (p ∷ []), e)) d

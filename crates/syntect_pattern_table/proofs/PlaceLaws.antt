@@ -84,6 +84,11 @@ all_in x = elim (cases_lt x 128) [
   | inr l ↦ rw (le-ltb x 128 l) (same (x == 128) true)
 ]
 
+-- where nothing can stand, by its parts
+pub none_there : (p : Places) → p.ascii ≡ 0 → p.wide ≡ false → p.end ≡ false → (x : ℕ) → is_in p x ≡ false
+unfolding is_in
+none_there p a w e x = rw (a, w, e) (none_in x)
+
 pub is_bit : (n x : ℕ) → (bit_and (n / 2 ^ x) 1 == 1) ≡ (bit_at n x == 1)
 is_bit n x = ap (λ m. m == 1) (shr_and_one n x)
 

@@ -45,6 +45,14 @@ pub fn nowhere() -> Places
     }
 }
 
+/// Whether nothing can stand there.
+#[tactic(auto, using(crate::proofs::PlaceLaws::none_there))]
+fn is_nowhere(places: Places) -> bool
+    ensures { result ≡ true → (x : ℕ) → spec.is_in places x ≡ false }
+{
+    places.ascii == 0 && !places.wide && !places.end
+}
+
 /// Anything can stand there.
 #[tactic(auto, using(crate::proofs::PlaceLaws::all_in))]
 pub fn anywhere() -> Places
@@ -164,6 +172,9 @@ fn places_of_anchor(anchor: Anchor) -> Places
 pub fn in_sequence(a: Firsts, b: Firsts) -> Firsts
     ensures { (x : ℕ) → begins_at x result ≡ sequence_begins (begins_at x a) (begins_at x b) }
 {
+    if is_nowhere(a.stay) {
+        return a;
+    }
     Firsts {
         read: either(a.read, both(a.stay, b.read)),
         stay: both(a.stay, b.stay),
@@ -279,27 +290,6 @@ pub fn start_at(text: &str, place: usize) -> u8
     }
 }
 
-fn place_at(places: &[Places], place: usize) -> Places
-    requires { place < length places.now }
-    ensures { (d : APlaces) → result ≡ slice_index_or places.now place d }
-{
-    places[place]
-}
-
-/// Adds to each of the places what the others have there.
-fn join(places: &mut Vec<Places>, others: &[Places])
-    requires { length others.now ≡ length places.old.items }
-    ensures count { length places.new.items ≡ length places.old.items }
-    ensures joined { (k x : ℕ) (d : APlaces) → k < length places.new.items
-        → spec.is_in (slice_index_or places.new.items k d) x
-        ≡ (spec.is_in (slice_index_or places.old.items k d) x || spec.is_in (slice_index_or others.now k d) x) }
-{
-    for place in 0..others.len() {
-        let other = place_at(others, place);
-        places[place] = either(places[place], other);
-    }
-}
-
 /// Where matches of each node can begin.
 pub fn places_of(alloc: Global, nodes: &[Node]) -> Result<Seq<Places>, AllocError>
     requires { IsOrdered nodes.now }
@@ -308,13 +298,14 @@ pub fn places_of(alloc: Global, nodes: &[Node]) -> Result<Seq<Places>, AllocErro
 {
     let mut reads = Vec::with_capacity(alloc, nodes.len())?;
     let mut stays = Vec::with_capacity(alloc, nodes.len())?;
+    let mut places = Vec::with_capacity(alloc, nodes.len())?;
     for place in 0..nodes.len() {
         let next = firsts_of(&nodes[place], reads.as_slice(), stays.as_slice());
-        reads.push(next.read)?;
-        stays.push(next.stay)?;
+        reads.push_reserved(next.read);
+        stays.push_reserved(next.stay);
+        places.push_reserved(either(next.read, next.stay));
     }
-    join(&mut reads, stays.as_slice());
-    Ok(Seq::from_vec(reads))
+    Ok(Seq::from_vec(places))
 }
 
 /// For all that can stand at a place whether it is one of these.
@@ -324,7 +315,7 @@ pub fn flags_of(alloc: Global, places: Places) -> Result<Seq<bool>, AllocError>
 {
     let mut flags = Vec::with_capacity(alloc, 130)?;
     for x in 0..130u8 {
-        flags.push(is_in(places, x))?;
+        flags.push_reserved(is_in(places, x));
     }
     Ok(Seq::from_vec(flags))
 }
