@@ -85,7 +85,7 @@ pub fn need_in(alloc: Global, nodes: &[Node], root: usize) -> Result<Option<u8>,
     let mut before = Vec::with_capacity(alloc, root + 1)?;
     for place in 0..root + 1 {
         let next = need_of(&nodes[place], before.as_slice());
-        before.push(next)?;
+        before.push_reserved(next);
     }
     Ok(before[root])
 }

@@ -13,7 +13,8 @@ loop-place-preserved c =
     let before : AllNeed c.as_slice.result.now ts = subst (λ (ns : List (Option ℕ)). AllNeed ns ts) (sym c.as_slice.ensures.value) c.loop-place.invariant.right in
     let next = subst (MayNeed c.need_of-next.result) (sym tree) (c.need_of-next.ensures ts before) in
     record {
-      count = ap length c.in_ok-push.ensures.items ∙ omega (arith, length-append c.loop-place.before.items (c.need_of-next.result ∷ []), c.loop-place.invariant.count);
-      right = subst (λ (ns : List (Option ℕ)). AllNeed ns ts) (sym c.in_ok-push.ensures.items)
+      count = ap length c.push_reserved.ensures.items ∙ omega (arith, length-append c.loop-place.before.items (c.need_of-next.result ∷ []), c.loop-place.invariant.count);
+      room = omega (arith, c.push_reserved.ensures.capacity, c.loop-place.invariant.room);
+      right = subst (λ (ns : List (Option ℕ)). AllNeed ns ts) (sym c.push_reserved.ensures.items)
           (AllNeed-push c.loop-place.before.items ts c.need_of-next.result c.loop-place.place c.loop-place.invariant.right c.loop-place.invariant.count next);
     }
