@@ -10,4 +10,3 @@ pub mod LookLaws
 pub mod MarkLaws
 pub mod JumpLaws
 pub mod LengthLaws
-pub mod CopyLaws

@@ -7,4 +7,3 @@ pub mod Needs
 pub mod Looks
 pub mod Jumps
 pub mod Lengths
-pub mod Copies

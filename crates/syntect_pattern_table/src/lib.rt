@@ -2,7 +2,6 @@
 #![tactic(auto)]
 
 mod ascii;
-mod copies;
 pub mod jumps;
 pub mod lengths;
 mod looks;

@@ -19,7 +19,7 @@ fn joined(mark: Option<bool>, within: bool) -> Option<bool>
 }
 
 /// The mark at the place, which is none past the end.
-pub fn mark_at(marks: &[Option<bool>], place: usize) -> Option<bool>
+fn mark_at(marks: &[Option<bool>], place: usize) -> Option<bool>
     ensures { result ≡ slice_index_or marks.now place None }
 {
     marks.get(place).copied().unwrap_or(None)

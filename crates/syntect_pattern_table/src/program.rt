@@ -7,10 +7,9 @@ ghost use Rattle.syntect_pattern_table.specs.Starts.{AreFirsts, AreStarts};
 ghost use Rattle.syntect_pattern_table.specs.Jumps.{AreJumps};
 ghost use Rattle.syntect_pattern_table.specs.Lengths.{AreLengths};
 
-use crate::copies::copies_of;
 use crate::jumps::{Jump, jump_of, jumps_of, long_from};
 use crate::lengths::{Lengths, any_number, lengths_in};
-use crate::looks::{looks_of, mark_at};
+use crate::looks::looks_of;
 use crate::node::Node;
 use crate::starts::{Places, flags_of, is_in, places_of, start_at};
 use memchr::memchr;
@@ -49,9 +48,9 @@ pub struct Program {
 
 impl Program {
     ghost use Rattle.std.specs.Prelude.{MatchOption};
-    ghost use Rattle.syntect_pattern.specs.Trees.{Tree, nothing, group_in_look};
+    ghost use Rattle.syntect_pattern.specs.Trees.{nothing};
     ghost use Rattle.syntect_pattern_table.specs.Table.{node_tree};
-    ghost use Rattle.syntect_pattern_table.specs.Program.{trees_of, IsProgramOf, CannotBegin};
+    ghost use Rattle.syntect_pattern_table.specs.Program.{trees_of, CannotBegin};
     ghost use Rattle.syntect_pattern_table.specs.Jumps.{LeadsPast};
     ghost use Rattle.syntect_pattern_table.specs.Lengths.{HasLengths};
     ghost use Rattle.syntect_pattern.specs.Matches.{Groups, matches};
@@ -94,46 +93,11 @@ impl Program {
         })
     }
 
-    /// A program that is that of the same trees.
-    pub fn clone(&self, alloc: Global) -> Result<Program, AllocError>
-        ensures { IfOk result (λ p. (tree : Tree) → IsProgramOf self.now tree
-            → IsProgramOf p tree) }
-    {
-        let nodes = copies_of(alloc, self.nodes.as_slice())?;
-        let starts = Seq::from_slice(alloc, self.starts.as_slice())?;
-        let firsts = Seq::from_slice(alloc, self.firsts.as_slice())?;
-        let jumps = Seq::from_slice(alloc, self.jumps.as_slice())?;
-        let looks = Seq::from_slice(alloc, self.looks.as_slice())?;
-        let lengths = Seq::from_slice(alloc, self.lengths.as_slice())?;
-        Ok(Program {
-            nodes,
-            root: self.root,
-            groups: self.groups,
-            starts,
-            firsts,
-            jumps_from: self.jumps_from,
-            jumps,
-            needed: self.needed,
-            looks,
-            lengths,
-        })
-    }
-
     /// The node at the place: its tree is made of those of its parts. There is none past the end.
     pub fn node(&self, place: usize) -> Option<&Node>
         ensures { MatchOption result (slice_index_or (trees_of self.now) place nothing ≡ nothing) (λ n. slice_index_or (trees_of self.now) place nothing ≡ node_tree (trees_of self.now) n.now) }
     {
         self.nodes.get(place)
-    }
-
-    /// Whether the group of the number stands in a lookaround, which group 0 never does. None without such a group.
-    pub fn group(&self, number: usize) -> Option<bool>
-        ensures { (tree : Tree) → IsProgramOf self.now tree → result ≡ group_in_look tree number }
-    {
-        if number == 0 {
-            return Some(false);
-        }
-        mark_at(self.looks.as_slice(), number)
     }
 
     /// How many bytes matches of the node read, if that is known.

@@ -194,21 +194,6 @@ impl Class {
         })
     }
 
-    /// An equal set.
-    pub(crate) fn clone(&self, alloc: Global) -> Result<Class, AllocError>
-        ensures { IfOk result (λ c. set_of c ≡ set_of self.now) }
-    {
-        let body = ClassBody {
-            parts: Seq::from_slice(alloc, self.body.parts.as_slice())?,
-            root: self.body.root,
-            ascii: self.body.ascii,
-            wide: self.body.wide,
-        };
-        Ok(Class {
-            body: Box::new(alloc, body)?,
-        })
-    }
-
     /// Its ASCII characters, a bit for each.
     pub fn ascii(&self) -> u128
         ensures { AreFlags result (set_of self.now) }
