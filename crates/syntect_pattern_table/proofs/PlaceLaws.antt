@@ -1,10 +1,11 @@
 -- Sets of what can stand at a place.
-use Rattle.std.proofs.Common.{◌≡◌, ◌<◌, ◌≤◌, ◌==◌, ◌*◌, ◌/◌, ◌%◌, ◌^◌, ◌-◌, ◌&&◌, ◌||◌, ℕ, zero, suc, Bool, true, false, not, refl, sym, ◌∙◌, ap, arith, inl, inr, max, min, nat_lt, eq-eqb, ne_eqb, bit_and, bit_or, List, [], ◌∷◌, ◌++◌, length, length-append, get_or, below_more}
+use Rattle.std.proofs.Common.{◌≡◌, ◌<◌, ◌≤◌, ◌==◌, ◌+◌, ◌*◌, ◌/◌, ◌%◌, ◌^◌, ◌-◌, ◌&&◌, ◌||◌, ℕ, zero, suc, Bool, true, false, not, refl, sym, ◌∙◌, ap, arith, inl, inr, max, min, nat_le, nat_lt, eq-eqb, ne_eqb, bit_and, bit_or, List, [], ◌∷◌, ◌++◌, length, length-append, get_or, below_more}
 use Rattle.std.specs.Prelude.{if◌then◌else◌}
 use Rattle.std.specs.Int.{bit_at, w128}
 use Rattle.std.proofs.lemmas.Bool.{lt-ltb, le-ltb, cases_lt}
 use Rattle.std.proofs.lemmas.Bool.Decides.{nat_tests, eqb_tells}
-use Rattle.std.proofs.lemmas.Nat.Bits.{bit_at_or, bit_at_and, bit_at-lt, bit_at-zero, bit_at_ones, bit_at_set_same, bit_at_set_other, shr_and_one}
+use Rattle.std.proofs.lemmas.Nat.Bits.{bit_at_or, bit_at_and, bit_at-lt, bit_at-zero, bit_at_ones, bit_at_ones_above, bit_at_set_same, bit_at_set_other, shr_and_one}
+use Rattle.std.proofs.lemmas.Nat.{shr-shr}
 use Rattle.syntect_pattern.specs.Sets.{Set, none, range, holds}
 use Rattle.syntect_pattern_table.specs.SetTable.{AreBits, is_wide, sets, set_in}
 use Rattle.syntect_pattern_table.specs.declared.sets.Part.{Part}
@@ -104,6 +105,34 @@ pub in_end : (p : Places) (x : ℕ) → 128 < x → p.end ≡ is_in p x
 unfolding is_in
 in_end p x l = rw (le-ltb x 128 (omega (arith, l)), ne_eqb x 128 (λ e. omega (arith, e, l))) refl
 
+-- one more flag of a number's bits
+pub bit_flags-push : (bits : ℕ) (flags : List Bool) (rest k : ℕ) → length flags ≡ k → rest ≡ bits / 2 ^ k → ((j : ℕ) → j < k → get_or flags j true ≡ (bit_at bits j == 1))
+    → (j : ℕ) → j < k + 1 → get_or (flags ++ (bit_and rest 1 == 1) ∷ []) j true ≡ (bit_at bits j == 1)
+bit_flags-push bits flags rest k e is h =
+    let flag : Bool = bit_and rest 1 == 1 in
+    below_more (λ j. get_or (flags ++ flag ∷ []) j true ≡ (bit_at bits j == 1)) k
+    (λ j l. get_or-append flags (flag ∷ []) true j (omega (arith, l, e)) ∙ h j l)
+    (ap (λ j. get_or (flags ++ flag ∷ []) j true) (sym e) ∙ get_or-append_seam flags flag [] true ∙ ap (λ n. bit_and n 1 == 1) is ∙ is_bit bits k)
+
+-- the flags of all that can stand there
+pub flags_in : (p : Places) (low more all : List Bool) → length low ≡ 128 → ((k : ℕ) → k < 128 → get_or low k true ≡ (bit_at p.ascii k == 1))
+    → more ≡ low ++ p.wide ∷ [] → all ≡ more ++ p.end ∷ [] → (x : ℕ) → x < 130 → get_or all x true ≡ is_in p x
+flags_in p low more all e h m a x l =
+    let count : length more ≡ 129 = ap length m ∙ omega (arith, length-append low (p.wide ∷ []), e) in
+    let front : (k : ℕ) → k < 129 → get_or all k true ≡ get_or (low ++ p.wide ∷ []) k true =
+    λ k q. ap (λ (fs : List Bool). get_or fs k true) a ∙ get_or-append more (p.end ∷ []) true k (omega (arith, q, count)) ∙ ap (λ (fs : List Bool). get_or fs k true) m in
+    elim (cases_lt x 128) [
+      | inl q ↦ front x (omega (arith, q)) ∙ get_or-append low (p.wide ∷ []) true x (omega (arith, q, e)) ∙ h x q ∙ in_low p x q
+      | inr q ↦ elim (cases_lt x 129) [
+        | inl r ↦
+            let is : x ≡ 128 = omega (arith, q, r) in
+            front x r ∙ ap (λ k. get_or (low ++ p.wide ∷ []) k true) (is ∙ sym e) ∙ get_or-append_seam low p.wide [] true ∙ in_wide p x is
+        | inr r ↦
+            let is : x ≡ 129 = omega (arith, r, l) in
+            ap (λ (fs : List Bool). get_or fs x true) a ∙ ap (λ k. get_or (more ++ p.end ∷ []) k true) (is ∙ sym count) ∙ get_or-append_seam more p.end [] true ∙ in_end p x (omega (arith, is))
+      ]
+    ]
+
 no_bit : (x : ℕ) → (bit_at 0 x == 1) ≡ false
 no_bit x = ap (λ n. n == 1) (bit_at-zero x)
 
@@ -159,6 +188,35 @@ not-one (suc (suc m)) h = absurd (omega arith)
 
 pub bits_not : (n x : ℕ) → n < 2 ^ 128 → x < 128 → (bit_at (bit_not w128 n) x == 1) ≡ not (bit_at n x == 1)
 bits_not n x h l = ap (λ m. m == 1) (bit_at_not w128 n x h l) ∙ not-one (bit_at n x) (bit_at-lt n x)
+
+-- the bits below an end, of all bits that there are
+pub bits_below : (end : ℕ) → 0 < end → end ≤ 128 → (x : ℕ) → (bit_at ((2 ^ 128 - 1) / 2 ^ (128 - end)) x == 1) ≡ nat_lt x end
+bits_below end some top x =
+    let k : ℕ = 128 - end in
+    let moved : bit_at ((2 ^ 128 - 1) / 2 ^ k) x ≡ bit_at (2 ^ 128 - 1) (k + x) = ap (λ n. n % 2) (shr-shr (2 ^ 128 - 1) k x) in
+    elim (cases_lt x end) [
+      | inl l ↦ ap (λ m. m == 1) (moved ∙ bit_at_ones 128 (k + x) (omega (arith, l, top))) ∙ sym (lt-ltb x end l)
+      | inr l ↦ ap (λ m. m == 1) (moved ∙ bit_at_ones_above 128 (k + x) (omega (arith, l, top))) ∙ sym (le-ltb x end l)
+    ]
+
+pub none_below : (x : ℕ) → (bit_at 0 x == 1) ≡ nat_lt x 0
+none_below x = no_bit x ∙ sym (le-ltb x 0 (omega arith))
+
+between : (first end x : ℕ) → (nat_lt x end && not (nat_lt x first)) ≡ (nat_le first x && nat_lt x end)
+between first end x = grind (arith, nat_tests)
+
+none_between : (first x : ℕ) → false ≡ (nat_le first x && false)
+none_between first x = grind (arith, nat_tests)
+
+-- the bits that are below the end and not below the first one
+pub bits_between : (first end x : ℕ) → end ≤ 128 → (low high rest whole : Bool) → low ≡ nat_lt x first → high ≡ nat_lt x end → (x < 128 → rest ≡ not low) → whole ≡ (high && rest)
+    → whole ≡ (nat_le first x && nat_lt x end)
+bits_between first end x top low high rest whole lo hi others is = elim (cases_lt x 128) [
+  | inl l ↦ is ∙ ap (λ b. high && b) (others l ∙ ap not lo) ∙ ap (λ b. b && not (nat_lt x first)) hi ∙ between first end x
+  | inr l ↦
+      let none : nat_lt x end ≡ false = le-ltb x end (omega (arith, l, top)) in
+      is ∙ ap (λ b. b && rest) (hi ∙ none) ∙ none_between first x ∙ ap (λ b. nat_le first x && b) (sym none)
+]
 
 -- one more set's bit
 pub bits_push : (x : ℕ) (bs : List ℕ) (ss : List Set) (b k : ℕ) → AreBits x bs ss → length bs ≡ k → (bit_at b x == 1) ≡ holds (get_or ss k none) x → AreBits x (bs ++ b ∷ []) ss

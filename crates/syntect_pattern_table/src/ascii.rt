@@ -139,17 +139,26 @@ fn alike_bits(low: char, high: char) -> u128
     either(range_bits(low, high), paired)
 }
 
+/// The characters before this one.
+#[tactic(auto, using(crate::proofs::PlaceLaws::bits_below, crate::proofs::PlaceLaws::none_below))]
+fn bits_below(end: u32) -> u128
+    requires { end ≤ 128 }
+    ensures { (x : ℕ) → (bit_at result x == 1) ≡ nat_lt x end }
+{
+    if end == 0 {
+        0
+    } else {
+        u128::MAX >> (128 - end)
+    }
+}
+
 /// The characters from the first on, up to the end.
 fn span_bits(first: u32, end: u32) -> u128
     requires order { first ≤ end }
     requires ascii { end ≤ 128 }
     ensures { (x : ℕ) → (bit_at result x == 1) ≡ (nat_le first x && nat_lt x end) }
 {
-    let mut ascii = 0;
-    for c in first..end {
-        ascii = put(ascii, c);
-    }
-    ascii
+    both(bits_below(end), others(bits_below(first)))
 }
 
 /// The characters from the first to the last.
@@ -211,7 +220,7 @@ pub fn ascii_bits(alloc: Global, parts: &[Part], root: usize) -> Result<u128, Al
     let mut before = Vec::with_capacity(alloc, root + 1)?;
     for place in 0..root + 1 {
         let next = bits_of(parts[place], before.as_slice());
-        before.push(next)?;
+        before.push_reserved(next);
     }
     Ok(before[root])
 }

@@ -314,8 +314,12 @@ pub fn flags_of(alloc: Global, places: Places) -> Result<Seq<bool>, AllocError>
         ≡ spec.is_in places x) }
 {
     let mut flags = Vec::with_capacity(alloc, 130)?;
-    for x in 0..130u8 {
-        flags.push_reserved(is_in(places, x));
+    let mut rest = places.ascii;
+    for _ in 0..128u8 {
+        flags.push_reserved(rest & 1 == 1);
+        rest >>= 1;
     }
+    flags.push_reserved(places.wide);
+    flags.push_reserved(places.end);
     Ok(Seq::from_vec(flags))
 }

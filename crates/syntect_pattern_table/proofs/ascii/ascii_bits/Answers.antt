@@ -11,14 +11,15 @@ returns-then-root-parts c x l = past_bits c.args.parts.now c.args.root (grind (a
 pub loop-place-preserved : goal.loop-place-preserved
 loop-place-preserved c =
     let ps = c.args.parts.now in
-    let right : (x : ℕ) → x < 128 → AreBits x c.push.new.self.items (sets ps) =
+    let right : (x : ℕ) → x < 128 → AreBits x c.push_reserved.new.self.items (sets ps) =
     λ x l.
     let before : AreBits x c.as_slice.result.now (sets ps) = subst (λ (bs : List ℕ). AreBits x bs (sets ps)) (sym c.as_slice.ensures.value) (c.loop-place.invariant.right x l) in
     let next = c.bits_of-next.ensures (sets ps) x l before ∙ holds-of ps c.requires c.loop-place.place _ refl x in
-    subst (λ (bs : List ℕ). AreBits x bs (sets ps)) (sym c.in_ok-push.ensures.items)
+    subst (λ (bs : List ℕ). AreBits x bs (sets ps)) (sym c.push_reserved.ensures.items)
     (bits_push x c.loop-place.before.items (sets ps) c.bits_of-next.result c.loop-place.place (c.loop-place.invariant.right x l) c.loop-place.invariant.count next)
     in
     record {
-      count = ap length c.in_ok-push.ensures.items ∙ omega (arith, length-append c.loop-place.before.items (c.bits_of-next.result ∷ []), c.loop-place.invariant.count);
+      count = ap length c.push_reserved.ensures.items ∙ omega (arith, length-append c.loop-place.before.items (c.bits_of-next.result ∷ []), c.loop-place.invariant.count);
+      room = omega (arith, c.push_reserved.ensures.capacity, c.loop-place.invariant.room);
       right = right;
     }

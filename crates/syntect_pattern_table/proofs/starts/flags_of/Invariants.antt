@@ -1,10 +1,11 @@
-use Rattle.std.proofs.Common.{◌≡◌, ◌≤◌, ◌<◌, ℕ, length, get_or, true, vec_capacity}
-use Rattle.syntect_pattern_table.specs.Starts.{is_in}
+use Rattle.std.proofs.Common.{◌≡◌, ◌≤◌, ◌<◌, ◌==◌, ◌/◌, ◌^◌, ℕ, length, get_or, true, vec_capacity}
+use Rattle.std.specs.Int.{bit_at}
 use Rattle.syntect_pattern_table.proofs.starts.flags_of.Given as goal
 
-abbrev pub invariant-loop-x : goal.invariant-loop-x
-invariant-loop-x l = record {
-  count : length l.flags.items ≡ l.x;
+abbrev pub invariant-loop : goal.invariant-loop
+invariant-loop l = record {
+  count : length l.flags.items ≡ l.counter;
   room : 130 ≤ vec_capacity l.flags;
-  right : (k : ℕ) → k < l.x → get_or l.flags.items k true ≡ is_in l.places k;
+  rest : l.rest ≡ l.places.ascii / 2 ^ l.counter;
+  right : (k : ℕ) → k < l.counter → get_or l.flags.items k true ≡ (bit_at l.places.ascii k == 1);
 }
