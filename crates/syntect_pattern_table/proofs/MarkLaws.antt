@@ -1,13 +1,14 @@
 -- Marks of nodes and groups, which tell whether they are met, and if so whether within lookarounds.
-use Rattle.std.proofs.Common.{◌≡◌, ◌<◌, ◌≤◌, ◌≢◌, ◌++◌, [], ◌∷◌, inl, inr, length-append, arith, ℕ, zero, suc, ◌+◌, ◌&&◌, ◌||◌, ◌==◌, nat_lt, Bool, true, false, List, length, get_or, refl, sym, ◌∙◌, ap, Option, Some, None, ne_eqb, eq-eqb, subst, set, replicate, get_or-set_same, get_or-set_other, length-set}
+use Rattle.std.proofs.Common.{◌≡◌, ◌<◌, ◌≤◌, ◌≢◌, ◌++◌, [], ◌∷◌, inl, inr, length-append, arith, ℕ, zero, suc, ◌+◌, ◌&&◌, ◌||◌, ◌==◌, nat_lt, Bool, true, false, List, length, get_or, refl, sym, ◌∙◌, ap, Option, Some, None, ne_eqb, eq-eqb, subst, set, replicate, get_or-set_same, get_or-set_other, length-set, below_more}
 use Rattle.std.specs.Prelude.{if◌then◌else◌}
 use Rattle.std.proofs.lemmas.List.{get_or_past, get_or_append_left, get_or-replicate, length-replicate}
 use Rattle.std.proofs.Math.Seq.{get_or-append_seam}
 use Rattle.std.proofs.lemmas.Bool.{cases_lt, cases_eq, ltb-true}
 use Rattle.std.proofs.lemmas.Bool.{and_parts}
 use Rattle.syntect_pattern.specs.Trees.{Tree, nothing, one_of, anchor, same, seq, alt, repeat, group, atomic, ahead, behind, has_group, in_look, group_in_look}
-use Rattle.syntect_pattern_table.specs.Table.{node_tree, parts_before}
-use Rattle.syntect_pattern_table.specs.Looks.{joined, looked_at, met_in, met_before, marked, passed_on, own_mark}
+use Rattle.syntect_pattern_table.specs.Table.{IsOrdered, node_tree, parts_before, trees}
+use Rattle.syntect_pattern_table.proofs.TableLaws.{get_or-trees}
+use Rattle.syntect_pattern_table.specs.Looks.{NoGroupBefore, is_group, joined, looked_at, met_in, met_before, marked, passed_on, own_mark}
 use Rattle.syntect_pattern_table.specs.declared.node.Node.{Node}
 
 -- -- Two marks
@@ -288,3 +289,44 @@ get-marked looks k n within h = elim (cases_eq k n) [
       ∙ sym (joined-none (get_or looks n None))
       ∙ ap (λ (b : Bool). joined (get_or looks n None) (if b then Some within else None)) (sym (ne_eqb k n e))
 ]
+
+-- -- Nodes before the first group
+
+-- the node is no group, and no group stands in its parts
+no_group : (nodes : List Node) (n k : ℕ) → ((j : ℕ) → j < k → (m : Option Bool) → met_in m (get_or (trees nodes) j nothing) n ≡ None)
+    → (node : Node) → parts_before k node ≡ true → is_group node ≡ false → (m : Option Bool) → met_in m (node_tree (trees nodes) node) n ≡ None
+no_group nodes n k h Node.Nothing p e m = refl
+no_group nodes n k h (Node.Char c) p e m = refl
+no_group nodes n k h (Node.Class c) p e m = refl
+no_group nodes n k h (Node.Anchor a) p e m = refl
+no_group nodes n k h (Node.Same fold number) p e m = refl
+no_group nodes n k h (Node.Sequence a b) p e m =
+    let inside = and_parts (nat_lt a k) (nat_lt b k) p in
+    ap (λ x. joined x (met_in m (get_or (trees nodes) b nothing) n)) (h a (ltb-true a k inside.0) m) ∙ h b (ltb-true b k inside.1) m
+no_group nodes n k h (Node.Alternation a b) p e m =
+    let inside = and_parts (nat_lt a k) (nat_lt b k) p in
+    ap (λ x. joined x (met_in m (get_or (trees nodes) b nothing) n)) (h a (ltb-true a k inside.0) m) ∙ h b (ltb-true b k inside.1) m
+no_group nodes n k h (Node.Repeat greedy least most a) p e m = h a (ltb-true a k p) m
+no_group nodes n k h (Node.Group number a) p e m = cc
+no_group nodes n k h (Node.Atomic a) p e m = h a (ltb-true a k p) m
+no_group nodes n k h (Node.Ahead negated a) p e m = h a (ltb-true a k p) (looked_at m)
+no_group nodes n k h (Node.Behind negated a) p e m = h a (ltb-true a k p) (looked_at m)
+
+module _ (nodes : List Node) (ordered : IsOrdered nodes) (n : ℕ) where
+  no_group-before : (k : ℕ) → k ≤ length nodes → NoGroupBefore nodes k → (j : ℕ) → j < k → (m : Option Bool) → met_in m (get_or (trees nodes) j nothing) n ≡ None
+  no_group-before zero inside first j l m = absurd (omega (arith, l))
+  no_group-before (suc k) inside first j l m =
+      let before = no_group-before k (omega (arith, inside)) (λ i q. first i (omega (arith, q))) in
+      below_more (λ i. (o : Option Bool) → met_in o (get_or (trees nodes) i nothing) n ≡ None) k before
+      (λ o. ap (λ (t : Tree). met_in o t n) (get_or-trees nodes ordered k)
+      ∙ no_group nodes n k before (get_or nodes k Node.Nothing) (ordered k (omega (arith, inside))) (first k (omega arith)) o)
+      j (omega (arith, l)) m
+
+  -- so no mark before it tells of a group
+  pub unmet-before : (k : ℕ) → k ≤ length nodes → NoGroupBefore nodes k → (marks : List (Option Bool)) → met_before marks (trees nodes) k n ≡ None
+  unmet-before k inside first marks = down k (no_group-before k inside first)
+    where
+      down : (i : ℕ) → ((j : ℕ) → j < i → (m : Option Bool) → met_in m (get_or (trees nodes) j nothing) n ≡ None) → met_before marks (trees nodes) i n ≡ None
+      down zero h = refl
+      down (suc i) h =
+          ap (λ x. joined x (met_before marks (trees nodes) i n)) (h i (omega arith) (get_or marks i None)) ∙ down i (λ j l. h j (omega (arith, l)))

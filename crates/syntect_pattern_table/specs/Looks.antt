@@ -1,5 +1,5 @@
 -- Which groups of a table of nodes stand in lookarounds.
-use Rattle.std.specs.Prelude.{◌≡◌, ℕ, zero, suc, Bool, true, ◌||◌, ◌==◌, List, Option, Some, None, if◌then◌else◌, slice_index_or, slice_set}
+use Rattle.std.specs.Prelude.{◌≡◌, ◌<◌, ℕ, zero, suc, Bool, true, false, ◌||◌, ◌==◌, List, Option, Some, None, if◌then◌else◌, slice_index_or, slice_set}
 use Rattle.syntect_pattern.specs.Trees.{Tree, nothing, seq, alt, repeat, group, atomic, ahead, behind, group_in_look}
 use Rattle.syntect_pattern_table.specs.Builder.{tree_in}
 use Rattle.syntect_pattern_table.specs.declared.node.Node.{Node}
@@ -57,3 +57,11 @@ passed_on marks within _ = marks
 abbrev pub own_mark : Bool → Node → ℕ → Option Bool
 own_mark within (Node.Group k a) n = if k == n then Some within else None
 own_mark within _ n = None
+
+abbrev pub is_group : Node → Bool
+is_group (Node.Group k a) = true
+is_group _ = false
+
+-- none of the nodes before the place is a group
+abbrev pub NoGroupBefore : List Node → ℕ → Type 0
+NoGroupBefore nodes place = (k : ℕ) → k < place → is_group (slice_index_or nodes k Node.Nothing) ≡ false

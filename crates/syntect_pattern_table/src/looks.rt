@@ -1,8 +1,8 @@
 //! Which groups of a tree stand in lookarounds, found in one walk from the root.
-ghost use Rattle.std.specs.Prelude.{◌≡◌, ◌<◌, ℕ, suc, IfOk, OnOk, None, Some, length, replicate, slice_index_or, true};
+ghost use Rattle.std.specs.Prelude.{◌≡◌, ◌<◌, ◌≤◌, ℕ, suc, IfOk, OnOk, None, Some, length, replicate, slice_index_or, true};
 ghost use Rattle.syntect_pattern_table.specs.Table.{IsOrdered, parts_before, trees};
 ghost use Rattle.syntect_pattern_table.specs.Looks as spec;
-ghost use Rattle.syntect_pattern_table.specs.Looks.{AreLooks, marked, met_before, own_mark, passed_on};
+ghost use Rattle.syntect_pattern_table.specs.Looks.{AreLooks, NoGroupBefore, marked, met_before, own_mark, passed_on};
 
 use crate::node::Node;
 use std::alloc::{AllocError, Global};
@@ -120,8 +120,32 @@ fn unmarked(alloc: Global, count: usize) -> Result<Vec<Option<bool>>, AllocError
     Ok(marks)
 }
 
+/// Whether the node is a group.
+fn is_group(node: &Node) -> bool
+    ensures { result ≡ spec.is_group node.now }
+{
+    match node {
+        Node::Group { number: _, body: _ } => true,
+        _ => false,
+    }
+}
+
+/// The place of the first group, or of the root where no group stands before it.
+fn first_group(nodes: &[Node], root: usize) -> usize
+    requires { root < length nodes.now }
+    ensures inside { result ≤ root }
+    ensures first { NoGroupBefore nodes.now result }
+{
+    let mut place = 0;
+    while place < root && !is_group(&nodes[place]) {
+        place += 1;
+    }
+    place
+}
+
 /// Of each group whether it stands in a lookaround, and none of what is no group. Each node stands behind its parts, so one
-/// walk from the root to the first node meets each of them after all nodes that it is a part of.
+/// walk from the root to the first group meets each of them after all nodes that it is a part of. Of many patterns the root
+/// is the only group, and no other node is met.
 pub fn looks_of(
     alloc: Global,
     nodes: &[Node],
@@ -135,8 +159,9 @@ pub fn looks_of(
     let mut marks = unmarked(alloc, root + 1)?;
     mark(&mut marks, root, false);
     let mut looks = unmarked(alloc, groups)?;
+    let first = first_group(nodes, root);
     let mut place = root + 1;
-    while place > 0 {
+    while place > first {
         place -= 1;
         pass_on(nodes, place, &mut marks, &mut looks)?;
     }

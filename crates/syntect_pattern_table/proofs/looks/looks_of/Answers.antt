@@ -3,7 +3,7 @@ use Rattle.std.proofs.lemmas.List.{length-replicate}
 use Rattle.syntect_pattern.specs.Trees.{Tree}
 use Rattle.syntect_pattern_table.specs.Table.{trees}
 use Rattle.syntect_pattern_table.specs.Looks.{joined, marked, met_before, met_in}
-use Rattle.syntect_pattern_table.proofs.MarkLaws.{joined-none, met-whole, first_marked, unmet}
+use Rattle.syntect_pattern_table.proofs.MarkLaws.{joined-none, met-whole, first_marked, unmet, unmet-before}
 use Rattle.syntect_pattern_table.proofs.looks.looks_of.Goals as goal
 
 pub loop-place-init : goal.loop-place-init
@@ -13,6 +13,7 @@ loop-place-init c =
     let unknown : c.in_ok-looks.looks.items ≡ replicate c.args.groups None = c.in_ok-looks.ensures in
     let marks : c.mark.new.marks.items ≡ marked (replicate (root + 1) None) root false = c.mark.ensures ∙ ap (λ (ms : List (Option Bool)). marked ms root false) unmarked in
     record {
+      later = omega (arith, c.first_group-first.ensures.inside);
       inside = omega arith;
       count = ap length c.mark.ensures ∙ length-set c.in_ok-marks.marks.items root (joined (get_or c.in_ok-marks.marks.items root None) (Some false)) ∙ ap length unmarked ∙ length-replicate (root + 1) unmet;
       met = λ n.
@@ -25,6 +26,7 @@ pub loop-place-preserved : goal.loop-place-preserved
 loop-place-preserved c =
     let back : suc (c.loop-place.place - 1) ≡ c.loop-place.place = omega arith in
     record {
+      later = omega arith;
       inside = omega arith;
       count = c.in_ok-pass_on.ensures.count ∙ c.loop-place.invariant.count;
       met = λ n.
@@ -35,11 +37,17 @@ loop-place-preserved c =
 
 pub returns : goal.returns
 returns c = λ n tree is.
+    let ts : List Tree = trees c.args.nodes.now in
     let looks : List (Option Bool) = c.loop-place.looks.items in
-    let first : 0 ≡ c.loop-place.place = omega arith in
+    let marks : List (Option Bool) = c.loop-place.marks.items in
+    let first : ℕ = c.first_group-first.result in
+    let last : c.loop-place.place ≡ first = omega (arith, c.loop-place.invariant.later) in
+    let none : met_before marks ts first (suc n) ≡ None =
+    unmet-before c.args.nodes.now c.requires.ordered (suc n) first (omega (arith, c.first_group-first.ensures.inside, c.requires.inside)) c.first_group-first.ensures.first marks in
     ap (λ (ls : List (Option Bool)). get_or ls (suc n) None) c.from_vec.ensures
     ∙ sym (joined-none (get_or looks (suc n) None))
-    ∙ ap (λ (k : ℕ). joined (get_or looks (suc n) None) (met_before c.loop-place.marks.items (trees c.args.nodes.now) k (suc n))) first
+    ∙ ap (joined (get_or looks (suc n) None)) (sym none)
+    ∙ ap (λ (k : ℕ). joined (get_or looks (suc n) None) (met_before marks ts k (suc n))) (sym last)
     ∙ c.loop-place.invariant.met (suc n)
     ∙ ap (λ (t : Tree). met_in (Some false) t (suc n)) is
     ∙ met-whole tree n

@@ -6,6 +6,7 @@ use Rattle.syntect_pattern_table.proofs.looks.looks_of.Given as goal
 
 abbrev pub invariant-loop-place : goal.invariant-loop-place
 invariant-loop-place l = record {
+  later : l.first ≤ l.place;
   inside : l.place ≤ l.root + 1;
   count : length l.marks.items ≡ l.root + 1;
   met : (n : ℕ) → joined (get_or l.looks.items n None) (met_before l.marks.items (trees l.nodes) l.place n) ≡ met_in (Some false) (tree_in l.nodes l.root) n;
