@@ -1,8 +1,8 @@
 //! What can stand behind a word, or behind white space, in which a match begins. A pattern such as `[a-z]+\(` reads a word and
 //! then wants a parenthesis, so it needn't be tried at a word that is followed by anything else; nor need `\s*\(` be tried at
 //! white space that is.
-ghost use Rattle.std.specs.Prelude.{◌≡◌, ◌<◌, ◌≤◌, ℕ, Bool, IfOk, List, length, slice_index_or, true, false};
-ghost use Rattle.std.specs.List.{list_any};
+ghost use Rattle.std.specs.Prelude.{◌≡◌, ◌<◌, ◌≤◌, ◌==◌, ℕ, Bool, IfOk, List, length, slice_index_or, true, false};
+ghost use Rattle.std.specs.Int.{bit_at};
 ghost use Rattle.syntect_pattern.specs.Sets.{range};
 ghost use Rattle.syntect_pattern.specs.Trees.{Tree, nothing};
 ghost use Rattle.syntect_pattern_table.specs.Program.{trees_of};
@@ -18,17 +18,6 @@ use syntect_pattern_table::starts::{
     places_of_char, places_of_class,
 };
 
-/// The ASCII characters of words.
-const WORD_CHARS: [char; 63] = [
-    '0', '1', '2', '3', '4', '5', '6', '7', '8', '9', 'A', 'B', 'C', 'D', 'E', 'F', 'G', 'H', 'I',
-    'J', 'K', 'L', 'M', 'N', 'O', 'P', 'Q', 'R', 'S', 'T', 'U', 'V', 'W', 'X', 'Y', 'Z', '_', 'a',
-    'b', 'c', 'd', 'e', 'f', 'g', 'h', 'i', 'j', 'k', 'l', 'm', 'n', 'o', 'p', 'q', 'r', 's', 't',
-    'u', 'v', 'w', 'x', 'y', 'z',
-];
-
-/// White space.
-const BLANKS: [char; 3] = ['\t', '\n', ' '];
-
 /// The most characters of a run that are gone through, so that long ones cost no more.
 const LONGEST: usize = 32;
 
@@ -42,58 +31,27 @@ const WORD: u128 = 0x07ff_fffe_87ff_fffe_03ff_0000_0000_0000;
 /// White space, a bit for each character.
 const BLANK: u128 = 0x0000_0000_0000_0000_0000_0001_0000_0600;
 
-/// Whether the class holds an ASCII character of words.
-#[tactic(auto, unfolding(crate::specs::Ends::has_one))]
-fn class_has_word(class: &Class) -> bool
-    ensures { result ≡ has_one false (set_of class.now) }
+/// White space, or else the ASCII characters of words, a bit for each.
+#[tactic(auto, using(crate::proofs::WordLaws::blank_bits, crate::proofs::WordLaws::word_bits))]
+fn run_bits(blank: bool) -> u128
+    ensures { (x : ℕ) → x < 128 → (bit_at result x == 1) ≡ is_of blank x }
 {
-    WORD_CHARS.iter().any(|c| class.holds(*c))
-}
-
-/// Whether the class holds white space.
-#[tactic(auto, unfolding(crate::specs::Ends::has_one))]
-fn class_has_blank(class: &Class) -> bool
-    ensures { result ≡ has_one true (set_of class.now) }
-{
-    BLANKS.iter().any(|c| class.holds(*c))
+    if blank { BLANK } else { WORD }
 }
 
 /// Whether the class holds white space, or else an ASCII character of words.
 fn class_has(blank: bool, class: &Class) -> bool
     ensures { result ≡ has_one blank (set_of class.now) }
 {
-    if blank {
-        class_has_blank(class)
-    } else {
-        class_has_word(class)
-    }
-}
-
-/// Whether the character is an ASCII character of words.
-#[tactic(auto, unfolding(crate::specs::Ends::has_one))]
-fn char_has_word(wanted: char) -> bool
-    ensures { result ≡ has_one false (range wanted wanted) }
-{
-    WORD_CHARS.iter().any(|c| wanted <= *c && *c <= wanted)
-}
-
-/// Whether the character is white space.
-#[tactic(auto, unfolding(crate::specs::Ends::has_one))]
-fn char_has_blank(wanted: char) -> bool
-    ensures { result ≡ has_one true (range wanted wanted) }
-{
-    BLANKS.iter().any(|c| wanted <= *c && *c <= wanted)
+    class.ascii() & run_bits(blank) != 0
 }
 
 /// Whether the character is white space, or else an ASCII character of words.
+#[tactic(auto, using(crate::proofs::WordLaws::near_one))]
 fn char_has(blank: bool, wanted: char) -> bool
     ensures { result ≡ has_one blank (range wanted wanted) }
 {
-    if blank {
-        char_has_blank(wanted)
-    } else {
-        char_has_word(wanted)
-    }
+    wanted.is_ascii() && is_byte_of(blank, wanted as u8)
 }
 
 /// Anywhere, where this holds.
@@ -180,8 +138,8 @@ fn spans_of(
     let mut stays = Vec::with_capacity(alloc, nodes.len())?;
     for place in 0..nodes.len() {
         let next = spans_of_node(blank, &nodes[place], reads.as_slice(), stays.as_slice());
-        reads.push(next.read)?;
-        stays.push(next.stay)?;
+        reads.push_reserved(next.read);
+        stays.push_reserved(next.stay);
     }
     Ok((reads, stays))
 }
@@ -189,7 +147,7 @@ fn spans_of(
 /// Whether a match of the program can begin with white space, or else with an ASCII character of words.
 fn begins_in(blank: bool, program: &Program) -> bool {
     match program.firsts.get(program.root) {
-        Some(places) => places.ascii & (if blank { BLANK } else { WORD }) != 0,
+        Some(places) => places.ascii & run_bits(blank) != 0,
         None => true,
     }
 }

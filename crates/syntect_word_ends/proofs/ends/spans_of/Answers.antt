@@ -24,9 +24,11 @@ loop-place-preserved c =
     (subst (λ (ss : List Places). Span c.args.blank x reads ss ts) (sym c.as_slice-in-loop-place.ensures.value) (c.loop-place.invariant.right x l)) in
     c.spans_of_node-next.ensures ts x l before ∙ ap (spans c.args.blank x) (sym tree) in
     record {
-      count = ap length c.in_ok-push.ensures.items ∙ omega (arith, length-append reads (next.read ∷ []), c.loop-place.invariant.count);
-      number = ap length c.in_ok-push-2.ensures.items ∙ omega (arith, length-append stays (next.stay ∷ []), c.loop-place.invariant.number);
-      right = λ x l. subst (λ (rs : List Places). Span c.args.blank x rs c.push-in-loop-place.new.self.items ts) (sym c.in_ok-push.ensures.items)
-          (subst (λ (ss : List Places). Span c.args.blank x (reads ++ next.read ∷ []) ss ts) (sym c.in_ok-push-2.ensures.items)
+      count = ap length c.push_reserved.ensures.items ∙ omega (arith, length-append reads (next.read ∷ []), c.loop-place.invariant.count);
+      number = ap length c.push_reserved-in-loop-place.ensures.items ∙ omega (arith, length-append stays (next.stay ∷ []), c.loop-place.invariant.number);
+      read_room = omega (arith, c.push_reserved.ensures.capacity, c.loop-place.invariant.read_room);
+      stay_room = omega (arith, c.push_reserved-in-loop-place.ensures.capacity, c.loop-place.invariant.stay_room);
+      right = λ x l. subst (λ (rs : List Places). Span c.args.blank x rs c.push_reserved-in-loop-place.new.self.items ts) (sym c.push_reserved.ensures.items)
+          (subst (λ (ss : List Places). Span c.args.blank x (reads ++ next.read ∷ []) ss ts) (sym c.push_reserved-in-loop-place.ensures.items)
           (Span-push c.args.blank x reads stays ts next place (c.loop-place.invariant.right x l) c.loop-place.invariant.count c.loop-place.invariant.number (spanned x l)));
     }
