@@ -1,14 +1,16 @@
 -- The characters of equal simple folding with one of a range.
-use Rattle.std.proofs.Common.{◌≡◌, ℕ, zero, suc, ◌+◌, ◌-◌, ◌≤◌, ◌<◌, Bool, true, false, ◌||◌, refl, ap, arith, ◌⊎◌, inl, inr, ⊎_elim}
+use Rattle.std.proofs.Common.{◌≡◌, ℕ, zero, suc, ◌+◌, ◌-◌, ◌≤◌, ◌<◌, Bool, true, false, ◌||◌, refl, ap, arith, ◌⊎◌, inl, inr, ⊎_elim, take, drop, length, ne_eqb}
 use Rattle.std.specs.List.{list_any, list_all}
 use Rattle.std.specs.Prelude.{◌&&◌, ◌==◌, nat_le, nat_lt, Contains, List, [], ◌∷◌}
 use Rattle.std.proofs.Common.{◌≢◌, sym, ◌∙◌, subst, eqb-true, eq-eqb, leb-true}
 use Rattle.std.proofs.lemmas.Bool.{and_parts, cases_lt, le-leb, le-ltb, lt-leb}
 use Rattle.std.proofs.lemmas.Bool.Decides.{nat_tests}
+use Rattle.std.proofs.lemmas.List.Folds.{list_any-append}
 use Rattle.std.specs.Cmp.{both_ways as same_tests}
 use Rattle.ucd_case.specs.CaseFolding.{simple_fold, fold_pairs, IsFoldPairs}
 use Rattle.ucd_case.specs.FoldOtherRows.{fold_other_rows}
 use Rattle.ucd_case.proofs.FoldPairsLemmas.{IsFoldPairs-fold_pairs}
+use Rattle.std.proofs.lemmas.List.{take-append-drop}
 use Rattle.syntect_pattern.specs.Sets.{numbers_from, same_fold, is_within, is_alike}
 use Rattle.syntect_pattern_table.specs.SetTable.{folds_beyond}
 
@@ -120,6 +122,38 @@ alike_pairs low high c ps are = go (is_within low high c) refl
 
 pub or_same : (t a b c d : Bool) → t ≡ (a || b) → a ≡ c → b ≡ d → t ≡ (c || d)
 or_same t a b c d e h k = e ∙ ap (λ x. x || b) h ∙ ap (λ x. c || x) k
+
+-- -- The pairs of ASCII characters
+
+abbrev is_far : ℕ × ℕ → Bool
+is_far p = nat_le 128 p.0
+
+far_pairs : list_all is_far (drop 56 fold_pairs) ≡ true
+unfolding fold_pairs fold_other_rows
+far_pairs = refl
+
+pub enough_pairs : 56 ≤ length fold_pairs
+unfolding fold_pairs fold_other_rows
+enough_pairs = omega arith
+
+none_far : (low high c : ℕ) → c < 128 → (ps : List (ℕ × ℕ)) → list_all is_far ps ≡ true → list_any (joins low high c) ps ≡ false
+none_far low high c l [] e = refl
+none_far low high c l (p ∷ ps) e =
+    let q = and_parts (is_far p) (list_all is_far ps) e in
+    let far : 128 ≤ p.0 = leb-true 128 p.0 q.0 in
+    ap (λ b. (b && is_within low high p.1) || list_any (joins low high c) ps) (ne_eqb p.0 c (λ is. omega (arith, is, far, l))) ∙ none_far low high c l ps q.1
+
+-- an ASCII character stands in no other pair as the first one
+pub near_enough : (low high c : ℕ) → c < 128 → list_any (joins low high c) (take 56 fold_pairs) ≡ list_any (joins low high c) fold_pairs
+near_enough low high c l =
+    sym (ap (list_any (joins low high c)) (sym (take-append-drop 56 fold_pairs))
+    ∙ list_any-append (joins low high c) (take 56 fold_pairs) (drop 56 fold_pairs)
+    ∙ ap (λ b. list_any (joins low high c) (take 56 fold_pairs) || b) (none_far low high c l (drop 56 fold_pairs) far_pairs)
+    ∙ or_none (list_any (joins low high c) (take 56 fold_pairs)))
+  where
+    or_none : (b : Bool) → (b || false) ≡ b
+    or_none true = refl
+    or_none false = refl
 
 -- -- Beyond ASCII
 

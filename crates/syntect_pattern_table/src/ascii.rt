@@ -1,8 +1,9 @@
 //! The ASCII characters of sets, a bit for each.
-ghost use Rattle.std.specs.Prelude.{◌≡◌, ◌<◌, ◌≤◌, ◌||◌, ◌&&◌, ◌==◌, nat_le, nat_lt, not, ℕ, IfOk, List, length, true};
+ghost use Rattle.std.specs.Prelude.{◌≡◌, ◌<◌, ◌≤◌, ◌||◌, ◌&&◌, ◌==◌, nat_le, nat_lt, not, ℕ, IfOk, List, length, take, true};
 ghost use Rattle.std.specs.Int.{bit_at};
 ghost use Rattle.std.specs.List.{list_any};
 ghost use Rattle.std.specs.Char.{to_ascii_lowercase};
+ghost use Rattle.ucd_case.specs.CaseFolding.{fold_pairs};
 ghost use Rattle.unicode.specs.GeneralCategory.{general_category, general_category_eq};
 ghost use Rattle.unicode.specs.GeneralCategoryGroup.{in_group};
 ghost use Rattle.syntect_pattern.specs.Sets.{Set, holds, is_within, is_alike};
@@ -128,6 +129,16 @@ fn paired_bits(pairs: &[(u32, u32)], low: u32, high: u32) -> u128
     ascii
 }
 
+/// How many pairs are of an ASCII character and another one: those that come first.
+const NEAR_PAIRS: usize = 56;
+
+/// The pairs of an ASCII character and another one that simple folding makes equal to it.
+fn near_pairs() -> &'static [(u32, u32)]
+    ensures { result.now ≡ take 56 fold_pairs }
+{
+    fold_pairs().split_at(NEAR_PAIRS).0
+}
+
 /// The characters that simple folding makes equal to one from the first to the last.
 fn alike_bits(low: char, high: char) -> u128
     ensures { (x : ℕ) → x < 128 → (bit_at result x == 1) ≡ is_alike low high x }
@@ -135,7 +146,7 @@ fn alike_bits(low: char, high: char) -> u128
     if low == high {
         return folded_bits(simple_fold(low) as u32);
     }
-    let paired = paired_bits(fold_pairs(), low as u32, high as u32);
+    let paired = paired_bits(near_pairs(), low as u32, high as u32);
     either(range_bits(low, high), paired)
 }
 
@@ -209,13 +220,16 @@ fn bits_of(part: Part, before: &[u128]) -> u128
     }
 }
 
-/// The characters of the part at the place.
+/// The characters of the part at the place. Of many classes it is the only part.
 pub fn ascii_bits(alloc: Global, parts: &[Part], root: usize) -> Result<u128, AllocError>
     requires { AreOrdered parts.now }
     ensures { IfOk result (λ bits. (x : ℕ) → x < 128 → (bit_at bits x == 1) ≡ holds (set_in parts.now root) x) }
 {
     if root >= parts.len() {
         return Ok(0);
+    }
+    if root == 0 {
+        return Ok(bits_of(parts[0], &[]));
     }
     let mut before = Vec::with_capacity(alloc, root + 1)?;
     for place in 0..root + 1 {

@@ -1,6 +1,7 @@
-use Rattle.std.proofs.Common.{◌<◌, ◌∷◌, [], ℕ, List, refl, sym, subst, ◌∙◌, ap, arith, length, length-append}
+use Rattle.std.proofs.Common.{◌≡◌, ◌<◌, ◌∷◌, [], ℕ, List, refl, sym, subst, ◌∙◌, ap, arith, length, length-append}
 use Rattle.std.proofs.lemmas.Grind.{common_steps}
-use Rattle.syntect_pattern_table.specs.SetTable.{AreBits, sets}
+use Rattle.syntect_pattern.specs.Sets.{holds}
+use Rattle.syntect_pattern_table.specs.SetTable.{AreBits, set_in, sets}
 use Rattle.syntect_pattern_table.proofs.SetLaws.{holds-of}
 use Rattle.syntect_pattern_table.proofs.PlaceLaws.{past_bits, bits_push}
 use Rattle.syntect_pattern_table.proofs.ascii.ascii_bits.Goals as goal
@@ -23,3 +24,9 @@ loop-place-preserved c =
       room = omega (arith, c.push_reserved.ensures.capacity, c.loop-place.invariant.room);
       right = right;
     }
+
+pub returns-then-root-eq0 : goal.returns-then-root-eq0
+returns-then-root-eq0 c x l =
+    let ps = c.args.parts.now in
+    let first : 0 ≡ c.args.root = omega arith in
+    c.bits_of.ensures (sets ps) x l (λ k d h. absurd (omega (arith, h))) ∙ holds-of ps c.requires 0 _ refl x ∙ ap (λ (k : ℕ). holds (set_in ps k) x) first
