@@ -37,6 +37,10 @@ const SMALL: u128 = 0x07ff_fffe_0000_0000_0000_0000_0000_0000;
 
 const DIGITS: u128 = 0x03ff_0000_0000_0000;
 
+const MATHS: u128 = 0x5000_0000_0000_0000_7000_0800_0000_0000;
+
+const CONNECTORS: u128 = 0x8000_0000_0000_0000_0000_0000;
+
 const SPACES: u128 = 0x0001_0000_3e00;
 
 /// The characters of a named set.
@@ -62,6 +66,15 @@ fn category_bits(category: GeneralCategory) -> u128
         GeneralCategory::UppercaseLetter => CAPITALS,
         GeneralCategory::LowercaseLetter => SMALL,
         GeneralCategory::DecimalNumber => DIGITS,
+        GeneralCategory::MathSymbol => MATHS,
+        GeneralCategory::ConnectorPunctuation => CONNECTORS,
+        GeneralCategory::TitlecaseLetter
+        | GeneralCategory::ModifierLetter
+        | GeneralCategory::OtherLetter
+        | GeneralCategory::NonspacingMark
+        | GeneralCategory::SpacingMark
+        | GeneralCategory::LetterNumber
+        | GeneralCategory::OtherSymbol => 0,
         other => tested_bits(Named::Category(other)),
     }
 }
@@ -73,6 +86,7 @@ fn group_bits(group: GeneralCategoryGroup) -> u128
     match group {
         GeneralCategoryGroup::Letter => LETTERS,
         GeneralCategoryGroup::Number => DIGITS,
+        GeneralCategoryGroup::Mark => 0,
         other => tested_bits(Named::Categories(other)),
     }
 }
