@@ -227,6 +227,23 @@ fn at(reads: &[Places], stays: &[Places], place: usize) -> Firsts
     }
 }
 
+/// Where the part at the one place can begin with that at the other behind it, which counts only where the first one can read
+/// nothing.
+fn sequence_at(reads: &[Places], stays: &[Places], first: usize, second: usize) -> Firsts
+    requires first { first < length reads.now }
+    requires second { second < length reads.now }
+    requires both { length stays.now ≡ length reads.now }
+    ensures { (ts : List Tree) (x : ℕ) → Begin x reads.now stays.now ts
+        → begins_at x result ≡ sequence_begins (begins x (slice_index_or ts first nothing))
+        (begins x (slice_index_or ts second nothing)) }
+{
+    let front = at(reads, stays, first);
+    if is_nowhere(front.stay) {
+        return front;
+    }
+    in_sequence(front, at(reads, stays, second))
+}
+
 /// Where the node can begin, by where those of the nodes before it do.
 fn firsts_of(node: &Node, reads: &[Places], stays: &[Places]) -> Firsts
     requires parts { parts_before (length reads.now) node.now ≡ true }
@@ -259,9 +276,7 @@ fn firsts_of(node: &Node, reads: &[Places], stays: &[Places]) -> Firsts
             read: anywhere(),
             stay: anywhere(),
         },
-        Node::Sequence(first, second) => {
-            in_sequence(at(reads, stays, *first), at(reads, stays, *second))
-        }
+        Node::Sequence(first, second) => sequence_at(reads, stays, *first, *second),
         Node::Alternation(first, second) => {
             one_of_two(at(reads, stays, *first), at(reads, stays, *second))
         }
@@ -290,6 +305,17 @@ pub fn start_at(text: &str, place: usize) -> u8
     }
 }
 
+/// The same places, made anew: a copy would carry along the bytes of theirs that hold nothing.
+fn anew(places: Places) -> Places
+    ensures { result ≡ places }
+{
+    Places {
+        ascii: places.ascii,
+        wide: places.wide,
+        end: places.end,
+    }
+}
+
 /// Where matches of each node can begin.
 pub fn places_of(alloc: Global, nodes: &[Node]) -> Result<Seq<Places>, AllocError>
     requires { IsOrdered nodes.now }
@@ -301,8 +327,8 @@ pub fn places_of(alloc: Global, nodes: &[Node]) -> Result<Seq<Places>, AllocErro
     let mut places = Vec::with_capacity(alloc, nodes.len())?;
     for place in 0..nodes.len() {
         let next = firsts_of(&nodes[place], reads.as_slice(), stays.as_slice());
-        reads.push_reserved(next.read);
-        stays.push_reserved(next.stay);
+        reads.push_reserved(anew(next.read));
+        stays.push_reserved(anew(next.stay));
         places.push_reserved(either(next.read, next.stay));
     }
     Ok(Seq::from_vec(places))
