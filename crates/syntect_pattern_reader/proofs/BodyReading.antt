@@ -1,11 +1,16 @@
 -- The reading of a group, step by step, without the number that bounds its calls.
-use Rattle.std.proofs.Common.{◌≡◌, ℕ, suc, ◌+◌, ◌<◌, length, Option, Some, None, refl, ap, ◌∙◌, arith}
-use Rattle.syntect_pattern.specs.Trees.{Tree}
-use Rattle.syntect_pattern.specs.Reading.{◌>>=◌}
-use Rattle.syntect_pattern.specs.Grammar.{Names, Place, passed, Body, empty_body, tree_of_body, Next, end, closer, next_of, over, on, step, after_step, body}
+use Rattle.std.proofs.Common.{◌≡◌, ℕ, suc, ◌+◌, ◌<◌, length, drop, Option, Some, None, refl, ap, ◌∙◌, arith}
+use Rattle.syntect_pattern.specs.Sets.{from_to}
+use Rattle.syntect_pattern.specs.Trees.{Tree, one_of}
+use Rattle.syntect_pattern.specs.Reading.{Text, ◌>>=◌}
+use Rattle.syntect_pattern.specs.Grammar.{Flags, Names, Place, passed, Body, with_item, item, plain, empty_body, tree_of_body, Next, end, closer, next_of, over, on, step, after_step, body}
 use Rattle.syntect_pattern_words.specs.BodyViews.{body_of, IsOver}
+use Rattle.syntect_pattern_words.specs.Letters.{BeginsPlainly}
+use Rattle.syntect_pattern_words.specs.QuantifierViews.{capped_all}
+use Rattle.syntect_pattern_words.proofs.TokenLaws.{quantified-once}
 use Rattle.syntect_pattern_laws.proofs.LeftLaws.{passed-le}
 use Rattle.syntect_pattern_laws.proofs.ClassLaws.{bind-same}
+use Rattle.syntect_pattern_reader.proofs.ReaderLaws.{passed-some}
 use Rattle.syntect_pattern_laws.proofs.BodyLaws.{step_of-same, after-same, step_at-le, body-le, body-enough}
 
 module _ (known : Option Names) (depth : ℕ) where
@@ -68,3 +73,18 @@ module _ (known : Option Names) (depth : ℕ) where
             (step_at-le known (body_of known (depth + 1) empty_body) (λ r. body-le known (suc (length r.text)) (depth + 1) empty_body r) depth b here).fits (on b' q)
             (ap (step known (body_of known (depth + 1) empty_body) depth b here) n ∙ s) in
             omega arith
+
+abbrev place_at : Flags → Names → Text → Place
+place_at flags names text = record { flags = flags; names = names; text = text }
+
+-- a letter that stands for itself is one item more
+pub body-letter : (known : Option Names) (depth : ℕ) (b : Body) (flags : Flags) (names : Names) (t rest : Text) (c : ℕ) → BeginsPlainly t c rest
+    → body_of known depth b (record { flags = flags; names = names; text = t })
+    ≡ body_of known depth (with_item b (one_of (from_to flags.fold c c))) (record { flags = flags; names = names; text = rest })
+body-letter known depth b flags names t rest c l =
+    let a = one_of (from_to flags.fold c c) in
+    body-goes_on known depth b (place_at flags names t) (place_at flags names t) (passed-some flags names t t (l.before flags.spaced))
+    (plain c) l.next (with_item b a) (place_at flags names rest)
+    (ap (λ u. item known b a (place_at flags names u)) (ap (drop 1) l.letters)
+    ∙ ap (λ (o : Option (Tree × Place)). o >>= λ x. Some (on (with_item b x.0) x.1))
+    (quantified-once a flags names rest rest (l.behind flags.spaced) (ap capped_all l.once)))

@@ -86,3 +86,11 @@ passed-some flags names t u e = ap (option_map (λ x. record { flags = flags; na
 pub passed-none : (flags : grammar.Flags) (names : Names) (t : Text) → pass flags.spaced between t ≡ None → passed (record { flags = flags; names = names; text = t }) ≡ None
 unfolding passed
 passed-none flags names t e = ap (option_map (λ x. record { flags = flags; names = names; text = x })) e
+
+-- a body with one item more, in a table that has grown
+pub body-pushed : (old new : List Node) (before items ls : List ℕ) (k : ℕ) (a : Tree) → Grows old new → AllBelow (length old) before → AllBelow (length old) items
+    → ls ≡ items ++ k ∷ [] → Holds new k a → made (trees_in new before) (trees_in new ls) ≡ with_item (made (trees_in old before) (trees_in old items)) a
+body-pushed old new before items ls k a g h i e t =
+    ap (λ xs. made (trees_in new before) (trees_in new xs)) e
+    ∙ ap (λ ts. made ts (trees_in new (items ++ k ∷ []))) (trees-grown old new before g h)
+    ∙ ap (made (trees_in old before)) (trees-push new items k ∙ ap (λ ts. ts ++ tree_in new k ∷ []) (trees-grown old new items g i) ∙ ap (λ x. trees_in old items ++ x ∷ []) t.is)

@@ -53,7 +53,8 @@ fn read_whole(
     ensures reads { IfOk result (λ f. whole known.now (chars text.now) ≡ whole_as f) }
     ensures alone { IfOk result (λ f. IfSome f (λ x. x.0.refers ≡ false → (other : Option grammar.Names) → whole other (chars text.now) ≡ whole_as f)) }
 {
-    let mut reader = Reader::new(alloc);
+    // A text makes about as many nodes as it has characters
+    let mut reader = Reader::new(alloc, text.len().saturating_add(16))?;
     let flags = Flags {
         fold: false,
         any: false,

@@ -1,5 +1,5 @@
 //! The reading of a pattern.
-ghost use Rattle.std.specs.Prelude.{◌≡◌, ◌<◌, ◌+◌, [], ℕ, true, Option, Some, length, chars, option_map, IfOk, OnOk, IfSome};
+ghost use Rattle.std.specs.Prelude.{◌≡◌, ◌<◌, ◌≤◌, ◌+◌, [], ℕ, true, Option, Some, length, chars, option_map, IfOk, OnOk, IfSome};
 ghost use Rattle.syntect_pattern_table.specs.Builder.{Grows, Holds, tree_in};
 ghost use Rattle.syntect_pattern_words.specs.BodyViews.{body_of};
 ghost use Rattle.syntect_pattern_words.specs.OpeningViews.{place_as, wrapped};
@@ -25,7 +25,7 @@ use syntect_pattern_words::openings::{
 };
 use syntect_pattern_words::quantifiers::pass;
 use syntect_pattern_words::text::{after, begins};
-use syntect_pattern_words::tokens::{Looping, Token, next_token, read_looping};
+use syntect_pattern_words::tokens::{Looping, Token, letter_in, next_token, read_looping};
 use syntect_values::seq::Seq;
 
 /// What is read of a group: the alternatives before this one, and the items of this one.
@@ -47,17 +47,16 @@ pub struct Reader {
 impl Reader {
     ghost use Rattle.syntect_pattern_reader.specs.ReaderViews.{body_as, IsBodyIn, went_on, tree_as, Keeps, Serves};
 
-    /// Nothing read. Takes no memory.
-    pub fn new(alloc: Global) -> Reader
-        ensures { result.names ≡ [] }
+    /// Nothing read, with room for so many nodes.
+    pub fn new(alloc: Global, room: usize) -> Result<Reader, AllocError>
+        ensures { IfOk result (λ r. r.names ≡ []) }
     {
-        Reader {
-            builder: Builder {
-                nodes: Seq::new(alloc),
-            },
+        let nodes = Seq::from_vec(Vec::with_capacity(alloc, room)?);
+        Ok(Reader {
+            builder: Builder { nodes },
             names: Seq::new(alloc),
             refers: false,
-        }
+        })
     }
 
     /// Puts the node of a loop last.
@@ -166,6 +165,36 @@ impl Reader {
     {
         let node = self.builder.push_char(place.flags.fold, c)?;
         Ok(self.item(body, node, place)?)
+    }
+
+    /// Letters that stand for themselves, as most of a pattern does, one after another.
+    fn letters<'a>(
+        &mut self,
+        body: Body,
+        place: Place<'a>,
+    ) -> Result<(Body, Place<'a>), AllocError>
+        requires { IsBodyIn self.old.builder.nodes body }
+        ensures grows { OnOk result (Grows self.old.builder.nodes self.new.builder.nodes) }
+        ensures names { OnOk result (self.new.names ≡ self.old.names) }
+        ensures refers { OnOk result (self.new.refers ≡ self.old.refers) }
+        ensures inside { IfOk result (λ x. IsBodyIn self.new.builder.nodes x.0) }
+        ensures shorter { IfOk result (λ x. length (chars x.1.text.now)
+            ≤ length (chars place.entry.text.now)) }
+        ensures reads { IfOk result (λ x. (groups : Option grammar.Names) (depth : ℕ)
+            → body_of groups depth (body_as self.old.builder.nodes body)
+                (place_as self.old.names place.entry)
+            ≡ body_of groups depth (body_as self.new.builder.nodes x.0)
+                (place_as self.new.names x.1)) }
+    {
+        let Body { before, mut items } = body;
+        let flags = place.flags;
+        let mut text = place.text;
+        'letters: while let Some((c, rest)) = letter_in(text) {
+            let node = self.builder.push_char(flags.fold, c)?;
+            items.push(node)?;
+            text = rest;
+        }
+        Ok((Body { before, items }, Place { flags, text }))
     }
 
     /// A set as an item.
@@ -536,9 +565,10 @@ impl Reader {
                 let node = self.finish(body)?;
                 return Ok(Some((node, here)));
             };
-            let Some((more, rest)) = self.step(known, depth, body, here, token)? else {
+            let Some((read, next)) = self.step(known, depth, body, here, token)? else {
                 return Ok(None);
             };
+            let (more, rest) = self.letters(read, next)?;
             body = more;
             place = rest;
         }

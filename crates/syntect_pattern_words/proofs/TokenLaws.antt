@@ -17,7 +17,7 @@ unfolding first
 next-none [] e = tt
 next-none (x ∷ t) e = let h : Some x ≡ None = e in cc
 
-next-some : (t : Text) (c : ℕ) → first t ≡ Some c → next_of t ≡ next_char t c
+pub next-some : (t : Text) (c : ℕ) → first t ≡ Some c → next_of t ≡ next_char t c
 unfolding first
 next-some [] c e = cc
 next-some (x ∷ t) c e = let h : Some x ≡ Some c = e in let same : x ≡ c = cc in ap (next_char (x ∷ t)) same

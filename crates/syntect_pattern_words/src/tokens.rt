@@ -1,17 +1,20 @@
 //! What stands next in a pattern, and loops.
-ghost use Rattle.std.specs.Prelude.{◌≡◌, ◌&&◌, MatchOption, chars, is_some};
+ghost use Rattle.std.specs.Prelude.{◌≡◌, ◌&&◌, IfSome, MatchOption, chars, false, is_some};
+ghost use Rattle.std.specs.Char.{is_ascii_alphanumeric};
+ghost use Rattle.std.specs.Option.{option_map_or};
 ghost use Rattle.syntect_pattern.specs.Trees.{Tree};
-ghost use Rattle.syntect_pattern.specs.Reading.{begins};
+ghost use Rattle.syntect_pattern.specs.Reading.{begins, first};
 ghost use Rattle.syntect_pattern.specs.Grammar.{Names};
 ghost use Rattle.syntect_pattern.specs.Grammar as grammar;
 ghost use Rattle.syntect_pattern_words.specs.OpeningViews.{place_as};
 ghost use Rattle.syntect_pattern_words.specs.BodyViews.{IsOver};
+ghost use Rattle.syntect_pattern_words.specs.Letters.{BeginsPlainly};
 ghost use Rattle.syntect_pattern_words.specs.TokenViews.{token_as, looped_tree, repeated};
 ghost use Rattle.syntect_pattern_words.specs.QuantifierViews.{quantifier_as};
 
 use crate::openings::Place;
 use crate::quantifiers::{Quantifier, is_allowed, pass, read_quantifier};
-use crate::text::{after, begins, head};
+use crate::text::{after, begins, head, split_first};
 
 /// What stands next, if the group isn't over.
 #[derive(Clone, Copy)]
@@ -136,4 +139,28 @@ pub fn read_looping(place: Place<'_>) -> Option<(Looping, Place<'_>)>
     }
     let (looping, text) = looped(quantifier, rest);
     Some((looping, Place { flags, text }))
+}
+
+/// Whether the text begins with an ASCII letter or digit.
+fn has_letter(text: &str) -> bool
+    ensures { result ≡ option_map_or is_ascii_alphanumeric (first (chars text.now)) false }
+{
+    match head(text) {
+        Some(c) => c.is_ascii_alphanumeric(),
+        None => false,
+    }
+}
+
+/// A letter or digit that another one follows, and what follows it. Most of a pattern is read so, without a look for what is
+/// passed over and for quantifiers.
+#[inline]
+pub fn letter_in(text: &str) -> Option<(char, &str)>
+    ensures { IfSome result (λ x. BeginsPlainly (chars text.now) x.0 (chars x.1.now)) }
+{
+    let (c, rest) = split_first(text)?;
+    if c.is_ascii_alphanumeric() && has_letter(rest) {
+        Some((c, rest))
+    } else {
+        None
+    }
 }

@@ -1,4 +1,4 @@
-use Rattle.std.proofs.Common.{rules, ◌+◌, ap, refl, sym, subst, ◌∙◌, Some}
+use Rattle.std.proofs.Common.{rules, arith, ◌+◌, ap, refl, sym, subst, ◌∙◌, Some}
 use Rattle.std.specs.Prelude.{IfSome, chars}
 use Rattle.syntect_pattern.specs.Sets.{from_to}
 use Rattle.syntect_pattern.specs.Trees.{Tree, one_of, anchor, line_start, line_end}
@@ -30,36 +30,42 @@ body-returns-in_default-next_token-clause-reads t c = λ groups serves.
 
 pub body-returns-in_default-2-clause-reads : goal.body-returns-in_default-2-clause-reads
 body-returns-in_default-2-clause-reads t c = λ groups serves.
-    c.steps.invariant.reads groups (λ e. serves (c.in_ok-more.ensures.refers e))
+    c.steps.invariant.reads groups (λ e. serves (c.in_ok-read.ensures.refers e))
     ∙ body-refuses groups c.args.depth (body_as c.steps.self.builder.nodes c.steps.body) (place_as c.steps.self.names c.steps.place)
     (place_as c.steps.self.names (record { flags = c.steps.place.flags; text = c.in-Some.text }))
     (passed-some (flags_as c.steps.place.flags) c.steps.self.names (chars c.steps.place.text.now) (chars c.in-Some.text.now) c.in-Some.ensures)
     (token_as c.in-Some-next_token.token) c.in-Some-next_token.ensures
-    (c.in_ok-more.ensures.reads groups serves ∙ ap (went_on c.step.new.self) c.in_default-2.is)
+    (c.in_ok-read.ensures.reads groups serves ∙ ap (went_on c.step.new.self) c.in_default-2.is)
 
 pub body-steps-smaller : goal.body-steps-smaller
 body-steps-smaller t c =
+    let l = c.in_ok-more.ensures.shorter in
+    let h =
     body-shorter c.args.known.now c.args.depth (body_as c.steps.self.builder.nodes c.steps.body) (place_as c.steps.self.names c.steps.place)
     (place_as c.steps.self.names (record { flags = c.steps.place.flags; text = c.in-Some.text }))
     (passed-some (flags_as c.steps.place.flags) c.steps.self.names (chars c.steps.place.text.now) (chars c.in-Some.text.now) c.in-Some.ensures)
     (token_as c.in-Some-next_token.token) c.in-Some-next_token.ensures
-    (body_as c.step.new.self.builder.nodes c.in-Some-2.more) (place_as c.step.new.self.names c.in-Some-2.rest)
-    (c.in_ok-more.ensures.reads c.args.known.now (λ _. refl) ∙ ap (went_on c.step.new.self) c.in-Some-2.is)
+    (body_as c.step.new.self.builder.nodes c.in-Some-2.read) (place_as c.step.new.self.names c.in-Some-2.next)
+    (c.in_ok-read.ensures.reads c.args.known.now (λ _. refl) ∙ ap (went_on c.step.new.self) c.in-Some-2.is) in
+    omega (arith, h, l)
 
 pub body-steps-preserved : goal.body-steps-preserved
 body-steps-preserved t c = record {
   utf8 = search rules;
-  grows = Grows-trans c.args.self.now.builder.nodes c.steps.self.builder.nodes c.step.new.self.builder.nodes c.steps.invariant.grows c.in_ok-more.ensures.grows;
-  inside = subst (λ f. IfSome f (λ x. IsBodyIn c.step.new.self.builder.nodes x.0)) c.in-Some-2.is c.in_ok-more.ensures.inside;
-  refers = λ e. c.in_ok-more.ensures.refers (c.steps.invariant.refers e);
+  grows =
+      Grows-trans c.args.self.now.builder.nodes c.steps.self.builder.nodes c.letters.new.self.builder.nodes c.steps.invariant.grows
+      (Grows-trans c.steps.self.builder.nodes c.step.new.self.builder.nodes c.letters.new.self.builder.nodes c.in_ok-read.ensures.grows c.in_ok-more.ensures.grows);
+  inside = c.in_ok-more.ensures.inside;
+  refers = λ e. c.in_ok-more.ensures.refers ∙ c.in_ok-read.ensures.refers (c.steps.invariant.refers e);
   reads = λ groups serves.
-      c.steps.invariant.reads groups (λ e. serves (c.in_ok-more.ensures.refers e))
+      c.steps.invariant.reads groups (λ e. serves (c.in_ok-more.ensures.refers ∙ c.in_ok-read.ensures.refers e))
       ∙ body-goes_on groups c.args.depth (body_as c.steps.self.builder.nodes c.steps.body) (place_as c.steps.self.names c.steps.place)
       (place_as c.steps.self.names (record { flags = c.steps.place.flags; text = c.in-Some.text }))
       (passed-some (flags_as c.steps.place.flags) c.steps.self.names (chars c.steps.place.text.now) (chars c.in-Some.text.now) c.in-Some.ensures)
       (token_as c.in-Some-next_token.token) c.in-Some-next_token.ensures
-      (body_as c.step.new.self.builder.nodes c.in-Some-2.more) (place_as c.step.new.self.names c.in-Some-2.rest)
-      (c.in_ok-more.ensures.reads groups serves ∙ ap (went_on c.step.new.self) c.in-Some-2.is);
+      (body_as c.step.new.self.builder.nodes c.in-Some-2.read) (place_as c.step.new.self.names c.in-Some-2.next)
+      (c.in_ok-read.ensures.reads groups (λ e. serves (c.in_ok-more.ensures.refers ∙ e)) ∙ ap (went_on c.step.new.self) c.in-Some-2.is)
+      ∙ c.in_ok-more.ensures.reads groups c.args.depth;
 }
 
 pub group-item-requires-clause-body : goal.group-item-requires-clause-body
@@ -134,7 +140,7 @@ pub body-returns-in_default-next_token-clause-refers : goal.body-returns-in_defa
 body-returns-in_default-next_token-clause-refers t c = λ e. c.in_ok-node.ensures.refers ∙ c.steps.invariant.refers e
 
 pub body-returns-in_default-2-clause-refers : goal.body-returns-in_default-2-clause-refers
-body-returns-in_default-2-clause-refers t c = λ e. c.in_ok-more.ensures.refers (c.steps.invariant.refers e)
+body-returns-in_default-2-clause-refers t c = λ e. c.in_ok-read.ensures.refers (c.steps.invariant.refers e)
 
 pub group-returns-clause-grows : goal.group-returns-clause-grows
 group-returns-clause-grows t c =
