@@ -39,7 +39,7 @@ fn read_query(alloc: Global, line: &str) -> io::Result<Option<Query>> {
     let pattern = unescaped(alloc, pattern)?;
     let is_pattern = Regex::try_compile(alloc, pattern.as_str()).is_none();
     Ok(Some(Query {
-        regex: Regex::new(alloc, pattern)?,
+        regex: Regex::ready(alloc, pattern)?,
         is_pattern,
         text: unescaped(alloc, text)?,
         begin,

@@ -8,3 +8,4 @@ pub mod Escape
 pub mod Begins
 pub mod Bounds
 pub mod Outline
+pub mod Kept

@@ -1,6 +1,7 @@
-//! Programs that are made when they are first wanted.
+//! Programs that are made when they are first wanted, or with their pattern.
 ghost use Rattle.std.specs.Prelude.{IfOk};
 ghost use Rattle.syntect_pattern_reader.specs.Compiled.{Compiles};
+ghost use Rattle.syntect_regex.specs.Kept.{IsKeptOf};
 
 use once_cell::race::OnceBox;
 use std::alloc::{AllocError, Global};
@@ -27,25 +28,35 @@ impl Model for Compiled {
     ghost invariant = { λ a. Compiles (string_bytes a.text) a.program };
 }
 
-/// What is made of a text, and the text, in a box.
-pub(crate) fn boxed(
+/// What is kept of a pattern to search it.
+#[derive(Drop)]
+pub(crate) enum Kept {
+    /// What was made of its text when the pattern was made. It is asked for without a comparison.
+    Own(Box<Option<Program>>),
+    /// What the first search makes of it.
+    Late(OnceBox<Compiled>),
+}
+
+/// What is made of the text, as it is kept, or else made now.
+#[inline]
+pub(crate) fn program_in<'a>(
     alloc: Global,
+    kept: &'a Kept,
     text: &str,
-    program: Option<Program>,
-) -> Result<Box<Compiled>, AllocError>
-    requires { Compiles text.now program }
+) -> Result<&'a Option<Program>, AllocError>
+    requires { IsKeptOf text.now kept.now }
+    ensures { IfOk result (λ p. Compiles text.now p.now) }
 {
-    let made = Compiled {
-        text: String::from_str(alloc, text)?,
-        program,
-    };
-    Ok(Box::new(alloc, made)?)
+    match kept {
+        Kept::Own(program) => Ok(&**program),
+        Kept::Late(cell) => late_program(alloc, cell, text),
+    }
 }
 
 /// What is made of the text, as the cell has it, or else made now and kept there. Of what stands in a cell nothing is known but
 /// its type, so it carries its text, and this one is compared with that.
 #[inline]
-pub(crate) fn program_in<'a>(
+fn late_program<'a>(
     alloc: Global,
     cell: &'a OnceBox<Compiled>,
     text: &str,
@@ -81,6 +92,10 @@ fn made_in<'a>(
     ensures { IfOk result (λ p. Compiles text.now p.now) }
 {
     let program = compile(alloc, text)?;
-    let made = boxed(alloc, text, program)?;
+    let compiled = Compiled {
+        text: String::from_str(alloc, text)?,
+        program,
+    };
+    let made = Box::new(alloc, compiled)?;
     of_text(cell.get_or_init(move || made), text)
 }

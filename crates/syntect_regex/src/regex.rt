@@ -14,7 +14,7 @@ ghost use Rattle.syntect_regex.specs.Begins.{NoneBeginsBefore, NoneBeginsOutside
 ghost use Rattle.syntect_regex.specs.Escape.{is_special, escaped_char, escaped};
 ghost use Rattle.syntect_regex.specs.Region.{TakesMatch, TakesUpTo, TriesAt, Leaves, pattern_begins};
 
-use crate::compiled::{Compiled, boxed, program_in};
+use crate::compiled::{Kept, program_in};
 use crate::error::PatternError;
 use crate::outline::Outline;
 use crate::region::Region;
@@ -36,7 +36,7 @@ use syntect_turns::count::TurnCount;
 pub struct Regex {
     text: String,
     outline: Outline,
-    compiled: OnceBox<Compiled>,
+    kept: Kept,
 }
 
 /// Written out, so that crates above call it and needn't prove each part's drop again.
@@ -45,20 +45,22 @@ impl Drop for Regex {
         let Regex {
             text: _,
             outline: _,
-            compiled: _,
+            kept: _,
         } = self;
     }
 }
 
 impl Model for Regex {
     ghost use Rattle.std.specs.Prelude.{List, ℕ, string_bytes};
+    ghost use Rattle.syntect_regex.specs.Kept.{IsKeptOf};
     ghost use Rattle.syntect_regex.specs.Outline.{IsOutlineOf};
 
     ghost Value = { List ℕ };
 
     ghost view = { λ a. string_bytes a.text };
 
-    ghost invariant = { λ a. IsOutlineOf (string_bytes a.text) a.outline };
+    ghost invariant = { λ a. IsOutlineOf (string_bytes a.text) a.outline
+        × IsKeptOf (string_bytes a.text) a.kept };
 }
 
 impl Regex {
@@ -71,21 +73,22 @@ impl Regex {
         Ok(Regex {
             text,
             outline,
-            compiled: OnceBox::new(alloc),
+            kept: Kept::Late(OnceBox::new(alloc)),
         })
     }
 
-    /// The same, compiled for searches at once: a pattern that is searched soon is so compiled a single time.
+    /// The same, compiled for searches at once: a pattern that is searched soon is so compiled a single time, and its searches
+    /// take a little less.
     pub fn ready(alloc: Global, text: String) -> Result<Regex, AllocError>
         ensures { IfOk result (λ r. r ≡ string_bytes text) }
     {
         let program = compile(alloc, text.as_str())?;
         let outline = Outline::new(alloc, &program)?;
-        let made = boxed(alloc, text.as_str(), program)?;
+        let made = Box::new(alloc, program)?;
         Ok(Regex {
             text,
             outline,
-            compiled: OnceBox::with_value(made),
+            kept: Kept::Own(made),
         })
     }
 
@@ -95,7 +98,7 @@ impl Regex {
         ensures { IfOk result (λ p. Compiles self.now (option_copied p)) }
     {
         let text = &self.text;
-        let program = program_in(*text.allocator(), &self.compiled, text.as_str())?;
+        let program = program_in(*text.allocator(), &self.kept, text.as_str())?;
         Ok(program.as_ref())
     }
 
@@ -178,7 +181,7 @@ impl Regex {
         Ok(Regex {
             text: String::from_str(alloc, self.text.as_str())?,
             outline: self.outline.clone(alloc)?,
-            compiled: OnceBox::new(alloc),
+            kept: Kept::Late(OnceBox::new(alloc)),
         })
     }
 

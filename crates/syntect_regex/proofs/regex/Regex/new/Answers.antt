@@ -5,4 +5,4 @@ use Rattle.syntect_regex.proofs.regex.Regex.new.Goals as goal
 pub invariant_of-result : goal.invariant_of-result
 invariant_of-result c =
     let compiled : Compiles (string_bytes c.args.text) c.in_ok-program.program = search rules in
-    c.in_ok-outline.ensures (string_bytes c.args.text) compiled
+    (c.in_ok-outline.ensures (string_bytes c.args.text) compiled, tt)
