@@ -1,8 +1,8 @@
-use Rattle.std.proofs.Common.{rules, string_bytes}
+use Rattle.std.proofs.Common.{rules, string_bytes, subst, sym}
 use Rattle.syntect_pattern_reader.specs.Compiled.{Compiles}
 use Rattle.syntect_regex.proofs.regex.Regex.ready.Goals as goal
 
 pub invariant_of-result : goal.invariant_of-result
 invariant_of-result c =
     let compiled : Compiles (string_bytes c.args.text) c.in_ok-program.program = search rules in
-    (c.in_ok-outline.ensures (string_bytes c.args.text) compiled, compiled)
+    (c.in_ok-outline.ensures (string_bytes c.args.text) compiled, subst (Compiles (string_bytes c.args.text)) (sym c.in_ok-made.ensures.ok) compiled)
