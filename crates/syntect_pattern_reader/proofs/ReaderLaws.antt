@@ -94,3 +94,9 @@ body-pushed old new before items ls k a g h i e t =
     ap (λ xs. made (trees_in new before) (trees_in new xs)) e
     ∙ ap (λ ts. made ts (trees_in new (items ++ k ∷ []))) (trees-grown old new before g h)
     ∙ ap (made (trees_in old before)) (trees-push new items k ∙ ap (λ ts. ts ++ tree_in new k ∷ []) (trees-grown old new items g i) ∙ ap (λ x. trees_in old items ++ x ∷ []) t.is)
+
+-- the trees of all alternatives, the last of which was put together just now
+pub before-is : (old new : List Node) (before items ls : List ℕ) (k : ℕ) → Grows old new → AllBelow (length old) before → ls ≡ before ++ k ∷ []
+    → Holds new k (seq_all (trees_in old items)) → trees_in new ls ≡ trees_in old before ++ seq_all (trees_in old items) ∷ []
+before-is old new before items ls k g h e t =
+    ap (trees_in new) e ∙ trees-push new before k ∙ ap (λ ts. ts ++ tree_in new k ∷ []) (trees-grown old new before g h) ∙ ap (λ x. trees_in old before ++ x ∷ []) t.is

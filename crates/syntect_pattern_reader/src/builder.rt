@@ -23,7 +23,7 @@ pub enum Join {
 }
 
 impl Builder {
-    ghost use Rattle.std.specs.Prelude.{◌≡◌, ◌<◌, IfOk, OnOk, length, true};
+    ghost use Rattle.std.specs.Prelude.{◌≡◌, ◌<◌, [], IfOk, OnOk, length, true};
     ghost use Rattle.syntect_pattern.specs.Sets.{from_to};
     ghost use Rattle.syntect_pattern_table.specs.SetTable.{set_in};
     ghost use Rattle.syntect_pattern_words.specs.MemberViews.{leaf_set};
@@ -56,13 +56,14 @@ impl Builder {
         }
     }
 
-    /// Puts all parts together, one of which is reached after the other.
-    pub fn chain(&mut self, join: Join, parts: Seq<usize>) -> Result<usize, AllocError>
-        requires { AllBelow (length self.old.nodes) parts }
+    /// Puts all parts together, one of which is reached after the other. They are taken off, and their memory stays.
+    pub fn chain(&mut self, join: Join, parts: &mut Seq<usize>) -> Result<usize, AllocError>
+        requires { AllBelow (length self.old.nodes) parts.old }
         ensures grows { OnOk result (Grows self.old.nodes self.new.nodes) }
-        ensures holds { IfOk result (λ k. Holds self.new.nodes k (chained join (trees_in self.old.nodes parts))) }
+        ensures none { OnOk result (parts.new ≡ []) }
+        ensures holds { IfOk result (λ k. Holds self.new.nodes k
+            (chained join (trees_in self.old.nodes parts.old))) }
     {
-        let mut parts = parts;
         let Some(last) = parts.pop() else {
             return self.push(Node::Nothing);
         };

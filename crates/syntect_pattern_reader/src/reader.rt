@@ -28,6 +28,9 @@ use syntect_pattern_words::text::{after, begins};
 use syntect_pattern_words::tokens::{Looping, Token, letter_in, next_token, read_looping};
 use syntect_values::seq::Seq;
 
+/// For how many items of a group there is room from the start.
+const ITEMS: usize = 16;
+
 /// What is read of a group: the alternatives before this one, and the items of this one.
 #[derive(Drop)]
 pub struct Body {
@@ -280,10 +283,12 @@ impl Reader {
         ensures inside { IfOk result (λ b. IsBodyIn self.new.builder.nodes b) }
         ensures is { IfOk result (λ b. body_as self.new.builder.nodes b ≡ grammar.next_alternative (body_as self.old.builder.nodes body)) }
     {
-        let Body { mut before, items } = body;
-        let last = self.builder.chain(Join::Sequence, items)?;
+        let Body {
+            mut before,
+            mut items,
+        } = body;
+        let last = self.builder.chain(Join::Sequence, &mut items)?;
         before.push(last)?;
-        let items = Seq::new(before.allocator());
         Ok(Body { before, items })
     }
 
@@ -295,8 +300,16 @@ impl Reader {
         ensures refers { OnOk result (self.new.refers ≡ self.old.refers) }
         ensures holds { IfOk result (λ k. Holds self.new.builder.nodes k (grammar.tree_of_body (body_as self.old.builder.nodes body))) }
     {
-        let body = self.next_alternative(body)?;
-        self.builder.chain(Join::Alternation, body.before)
+        let Body {
+            mut before,
+            mut items,
+        } = body;
+        let last = self.builder.chain(Join::Sequence, &mut items)?;
+        if before.is_empty() {
+            return Ok(last);
+        }
+        before.push(last)?;
+        self.builder.chain(Join::Alternation, &mut before)
     }
 
     /// What a back reference to the number stands for, if it names a group. While the groups aren't known it is nothing.
@@ -552,7 +565,7 @@ impl Reader {
         let alloc = self.names.allocator();
         let mut body = Body {
             before: Seq::new(alloc),
-            items: Seq::new(alloc),
+            items: Seq::from_vec(Vec::with_capacity(alloc, ITEMS)?),
         };
         let mut place = place;
         'steps: loop {

@@ -2,7 +2,7 @@ use Rattle.syntect_pattern_reader.proofs.JoinLaws.{links-first, links-more, belo
 use Rattle.syntect_pattern_reader.proofs.builder.Builder.chain.Goals as goal
 
 pub loop-part-init : goal.loop-part-init
-loop-part-init c = links-first c.args.join c.args.self.now.nodes c.args.parts c.pop.new.self c.in-Some.last c.in-Some.ensures.items c.requires
+loop-part-init c = links-first c.args.join c.args.self.now.nodes c.args.parts.now c.pop.new.self c.in-Some.last c.in-Some.ensures.items c.requires
 
 pub join-requires-clause-first : goal.join-requires-clause-first
 join-requires-clause-first c =
@@ -11,5 +11,5 @@ join-requires-clause-first c =
 
 pub loop-part-preserved : goal.loop-part-preserved
 loop-part-preserved c =
-    links-more c.args.join c.args.self.now.nodes c.args.parts c.loop-part.self.nodes c.join.new.self.nodes c.loop-part.parts c.pop-in-loop-part.new.self c.in-Some-pop.part c.loop-part.rest c.in_ok-rest.rest
+    links-more c.args.join c.args.self.now.nodes c.args.parts.now c.loop-part.self.nodes c.join.new.self.nodes c.loop-part.parts c.pop-in-loop-part.new.self c.in-Some-pop.part c.loop-part.rest c.in_ok-rest.rest
     c.in-Some-pop.ensures.items c.loop-part.invariant c.in_ok-rest.ensures.grows c.in_ok-rest.ensures.holds

@@ -8,10 +8,10 @@ returns-clause-inside c = record {
   before =
       below-new (length c.chain.new.self.nodes) c.args.body.before c.push.new.self c.in_ok-last.last c.in_ok-push.ensures.ok
       (below-grown c.args.self.now.builder.nodes c.chain.new.self.nodes c.args.body.before c.in_ok-last.ensures.grows c.requires.before) c.in_ok-last.ensures.holds.inside;
-  items = below-none (length c.chain.new.self.nodes) c.new-items.result c.new-items.ensures;
+  items = below-none (length c.chain.new.self.nodes) c.chain.new.parts c.in_ok-last.ensures.none;
 }
 
 pub returns-clause-is : goal.returns-clause-is
 returns-clause-is c =
-    alternative-is c.args.self.now.builder.nodes c.chain.new.self.nodes c.args.body.before c.args.body.items c.push.new.self c.new-items.result c.in_ok-last.last
-    c.in_ok-last.ensures.grows c.requires.before c.in_ok-push.ensures.ok c.new-items.ensures c.in_ok-last.ensures.holds
+    alternative-is c.args.self.now.builder.nodes c.chain.new.self.nodes c.args.body.before c.args.body.items c.push.new.self c.chain.new.parts c.in_ok-last.last
+    c.in_ok-last.ensures.grows c.requires.before c.in_ok-push.ensures.ok c.in_ok-last.ensures.none c.in_ok-last.ensures.holds
