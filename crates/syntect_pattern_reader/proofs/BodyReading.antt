@@ -5,7 +5,7 @@ use Rattle.syntect_pattern.specs.Trees.{Tree, one_of}
 use Rattle.syntect_pattern.specs.Reading.{Text, ◌>>=◌}
 use Rattle.syntect_pattern.specs.Grammar.{Flags, Names, Place, passed, Body, with_item, item, plain, empty_body, tree_of_body, Next, end, closer, next_of, over, on, step, after_step, body}
 use Rattle.syntect_pattern_words.specs.BodyViews.{body_of, IsOver}
-use Rattle.syntect_pattern_words.specs.Letters.{BeginsPlainly}
+use Rattle.syntect_pattern_words.specs.Plain.{BeginsPlainly}
 use Rattle.syntect_pattern_words.specs.QuantifierViews.{capped_all}
 use Rattle.syntect_pattern_words.proofs.TokenLaws.{quantified-once}
 use Rattle.syntect_pattern_laws.proofs.LeftLaws.{passed-le}
@@ -77,11 +77,11 @@ module _ (known : Option Names) (depth : ℕ) where
 abbrev place_at : Flags → Names → Text → Place
 place_at flags names text = record { flags = flags; names = names; text = text }
 
--- a letter that stands for itself is one item more
-pub body-letter : (known : Option Names) (depth : ℕ) (b : Body) (flags : Flags) (names : Names) (t rest : Text) (c : ℕ) → BeginsPlainly t c rest
+-- a character that stands for itself is one item more
+pub body-plain : (known : Option Names) (depth : ℕ) (b : Body) (flags : Flags) (names : Names) (t rest : Text) (c : ℕ) → BeginsPlainly t c rest
     → body_of known depth b (record { flags = flags; names = names; text = t })
     ≡ body_of known depth (with_item b (one_of (from_to flags.fold c c))) (record { flags = flags; names = names; text = rest })
-body-letter known depth b flags names t rest c l =
+body-plain known depth b flags names t rest c l =
     let a = one_of (from_to flags.fold c c) in
     body-goes_on known depth b (place_at flags names t) (place_at flags names t) (passed-some flags names t t (l.before flags.spaced))
     (plain c) l.next (with_item b a) (place_at flags names rest)

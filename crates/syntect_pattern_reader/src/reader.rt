@@ -25,7 +25,7 @@ use syntect_pattern_words::openings::{
 };
 use syntect_pattern_words::quantifiers::pass;
 use syntect_pattern_words::text::{after, begins};
-use syntect_pattern_words::tokens::{Looping, Token, letter_in, next_token, read_looping};
+use syntect_pattern_words::tokens::{Looping, Token, next_token, plain_in, read_looping};
 use syntect_values::seq::Seq;
 
 /// For how many items of a group there is room from the start.
@@ -170,8 +170,8 @@ impl Reader {
         Ok(self.item(body, node, place)?)
     }
 
-    /// Letters that stand for themselves, as most of a pattern does, one after another.
-    fn letters<'a>(
+    /// Characters that stand for themselves, as most of a pattern does, one after another.
+    fn plain_chars<'a>(
         &mut self,
         body: Body,
         place: Place<'a>,
@@ -192,7 +192,7 @@ impl Reader {
         let Body { before, mut items } = body;
         let flags = place.flags;
         let mut text = place.text;
-        'letters: while let Some((c, rest)) = letter_in(text) {
+        'plain: while let Some((c, rest)) = plain_in(text) {
             let node = self.builder.push_char(flags.fold, c)?;
             items.push(node)?;
             text = rest;
@@ -581,7 +581,7 @@ impl Reader {
             let Some((read, next)) = self.step(known, depth, body, here, token)? else {
                 return Ok(None);
             };
-            let (more, rest) = self.letters(read, next)?;
+            let (more, rest) = self.plain_chars(read, next)?;
             body = more;
             place = rest;
         }

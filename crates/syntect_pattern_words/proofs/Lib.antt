@@ -4,4 +4,4 @@ pub mod PartLaws
 pub mod TokenLaws
 pub mod EscapeLaws
 pub mod NameLaws
-pub mod LetterLaws
+pub mod PlainLaws

@@ -7,4 +7,4 @@ pub mod OpeningViews
 pub mod TextViews
 pub mod BodyViews
 pub mod TokenViews
-pub mod Letters
+pub mod Plain

@@ -1,20 +1,19 @@
 //! What stands next in a pattern, and loops.
-ghost use Rattle.std.specs.Prelude.{◌≡◌, ◌&&◌, IfSome, MatchOption, chars, false, is_some};
-ghost use Rattle.std.specs.Char.{is_ascii_alphanumeric};
+ghost use Rattle.std.specs.Prelude.{◌≡◌, ◌&&◌, IfSome, MatchOption, chars, is_some, true};
 ghost use Rattle.std.specs.Option.{option_map_or};
 ghost use Rattle.syntect_pattern.specs.Trees.{Tree};
-ghost use Rattle.syntect_pattern.specs.Reading.{begins, first};
+ghost use Rattle.syntect_pattern.specs.Reading.{◌∈◌, begins, first};
 ghost use Rattle.syntect_pattern.specs.Grammar.{Names};
 ghost use Rattle.syntect_pattern.specs.Grammar as grammar;
 ghost use Rattle.syntect_pattern_words.specs.OpeningViews.{place_as};
 ghost use Rattle.syntect_pattern_words.specs.BodyViews.{IsOver};
-ghost use Rattle.syntect_pattern_words.specs.Letters.{BeginsPlainly};
+ghost use Rattle.syntect_pattern_words.specs.Plain.{BeginsPlainly, is_firm, is_plain};
 ghost use Rattle.syntect_pattern_words.specs.TokenViews.{token_as, looped_tree, repeated};
 ghost use Rattle.syntect_pattern_words.specs.QuantifierViews.{quantifier_as};
 
 use crate::openings::Place;
 use crate::quantifiers::{Quantifier, is_allowed, pass, read_quantifier};
-use crate::text::{after, begins, head, split_first};
+use crate::text::{Test, after, begins, head, split_first};
 
 /// What stands next, if the group isn't over.
 #[derive(Clone, Copy)]
@@ -141,24 +140,51 @@ pub fn read_looping(place: Place<'_>) -> Option<(Looping, Place<'_>)>
     Some((looping, Place { flags, text }))
 }
 
-/// Whether the text begins with an ASCII letter or digit.
-fn has_letter(text: &str) -> bool
-    ensures { result ≡ option_map_or is_ascii_alphanumeric (first (chars text.now)) false }
+/// A letter, a digit, or a sign that means nothing in a pattern.
+fn is_plain(c: char) -> bool
+    ensures { result ≡ is_plain c }
 {
-    match head(text) {
-        Some(c) => c.is_ascii_alphanumeric(),
-        None => false,
+    Test::Name.passes(c) || is_sign(c)
+}
+
+/// A sign that means nothing in a pattern.
+fn is_sign(c: char) -> bool
+    ensures { result ≡ c ∈ "-=:;,<>!/'\"@%&~" }
+{
+    match c {
+        '-' | '=' | ':' | ';' | ',' | '<' | '>' | '!' | '/' | '\'' | '"' | '@' | '%' | '&' | '~' => true,
+        _ => false,
     }
 }
 
-/// A letter or digit that another one follows, and what follows it. Most of a pattern is read so, without a look for what is
-/// passed over and for quantifiers.
+/// A sign that neither repeats nor is passed over.
+fn is_firm_sign(c: char) -> bool
+    ensures { result ≡ c ∈ "|)[\\.^$" }
+{
+    match c {
+        '|' | ')' | '[' | '\\' | '.' | '^' | '$' => true,
+        _ => false,
+    }
+}
+
+/// Whether neither a quantifier stands next nor anything that is passed over, as the first character tells.
+fn is_firm(text: &str) -> bool
+    ensures { result ≡ option_map_or is_firm (first (chars text.now)) true }
+{
+    match head(text) {
+        Some(c) => is_plain(c) || is_firm_sign(c),
+        None => true,
+    }
+}
+
+/// A character that stands for itself, and what follows it. Most of a pattern is read so, without a look for what is passed
+/// over and for quantifiers.
 #[inline]
-pub fn letter_in(text: &str) -> Option<(char, &str)>
+pub fn plain_in(text: &str) -> Option<(char, &str)>
     ensures { IfSome result (λ x. BeginsPlainly (chars text.now) x.0 (chars x.1.now)) }
 {
     let (c, rest) = split_first(text)?;
-    if c.is_ascii_alphanumeric() && has_letter(rest) {
+    if is_plain(c) && is_firm(rest) {
         Some((c, rest))
     } else {
         None

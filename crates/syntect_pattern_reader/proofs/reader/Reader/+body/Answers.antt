@@ -53,8 +53,8 @@ pub body-steps-preserved : goal.body-steps-preserved
 body-steps-preserved t c = record {
   utf8 = search rules;
   grows =
-      Grows-trans c.args.self.now.builder.nodes c.steps.self.builder.nodes c.letters.new.self.builder.nodes c.steps.invariant.grows
-      (Grows-trans c.steps.self.builder.nodes c.step.new.self.builder.nodes c.letters.new.self.builder.nodes c.in_ok-read.ensures.grows c.in_ok-more.ensures.grows);
+      Grows-trans c.args.self.now.builder.nodes c.steps.self.builder.nodes c.plain_chars.new.self.builder.nodes c.steps.invariant.grows
+      (Grows-trans c.steps.self.builder.nodes c.step.new.self.builder.nodes c.plain_chars.new.self.builder.nodes c.in_ok-read.ensures.grows c.in_ok-more.ensures.grows);
   inside = c.in_ok-more.ensures.inside;
   refers = λ e. c.in_ok-more.ensures.refers ∙ c.in_ok-read.ensures.refers (c.steps.invariant.refers e);
   reads = λ groups serves.

@@ -8,10 +8,10 @@ use Rattle.syntect_pattern_words.specs.BodyViews.{body_of}
 use Rattle.syntect_pattern_words.specs.OpeningViews.{flags_as, place_as}
 use Rattle.syntect_pattern_reader.specs.JoinViews.{AllBelow}
 use Rattle.syntect_pattern_reader.specs.ReaderViews.{body_as}
-use Rattle.syntect_pattern_reader.proofs.reader.Reader.letters.Given as goal
+use Rattle.syntect_pattern_reader.proofs.reader.Reader.plain_chars.Given as goal
 
-abbrev pub invariant-letters : goal.invariant-letters
-invariant-letters l = record {
+abbrev pub invariant-plain : goal.invariant-plain
+invariant-plain l = record {
   utf8 : shadow (Utf8 l.text);
   grows : Grows l.fn.self.builder.nodes l.self.builder.nodes;
   names : l.self.names ≡ l.fn.self.names;
@@ -23,5 +23,5 @@ invariant-letters l = record {
       ≡ body_of groups depth (body_as l.self.builder.nodes (record { before = l.fn.body.before; items = l.items })) (record { flags = flags_as l.fn.place.flags; names = l.self.names; text = chars l.text });
 }
 
-abbrev pub decreases-letters : goal.decreases-letters
-decreases-letters l = length (chars l.text)
+abbrev pub decreases-plain : goal.decreases-plain
+decreases-plain l = length (chars l.text)
