@@ -48,6 +48,12 @@ has_mark rows place bit = bit_at (slice_index_or rows place 0) bit == 1
 abbrev pub MarkCuts : List ℕ → ℕ → List Flat → Type 0
 MarkCuts rows words flats = (row k : ℕ) (d : Flat) → k < length flats → has_mark rows (row * words + k / 64) (k % 64) ≡ true → is_cut_in row (slice_index_or flats k d) ≡ true
 
+-- The tables tell of the patterns which of them can begin where something stands, if there are rows.
+pub record IsTabled (rows cuts : List ℕ) (words : ℕ) (any : Places) (flats : List Flat) : Type 0 where
+  pub begins : AreRowsOf rows words flats
+  pub any_begins : BeginIn any flats
+  pub cut_off : MarkCuts cuts words flats
+
 -- the row of what stands behind the word or the white space
 abbrev pub behind_row : Outlook → ℕ
 behind_row o = if o.blank then 130 + o.behind else o.behind

@@ -21,6 +21,15 @@ pub struct Flat {
     pub has_captures: bool,
 }
 
+/// Where a pattern of a walk stands.
+#[derive(Clone, Copy)]
+pub struct Origin {
+    /// The context that holds it.
+    pub context: ContextId,
+    /// Its index among that context's entries.
+    pub index: usize,
+}
+
 /// What is seen of a place.
 #[derive(Clone, Copy)]
 pub struct Outlook {

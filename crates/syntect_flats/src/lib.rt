@@ -5,3 +5,4 @@
 pub mod entered;
 pub mod flats;
 pub mod list;
+mod slims;

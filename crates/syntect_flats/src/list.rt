@@ -1,11 +1,14 @@
 //! A context's flat list, with tables that tell for each thing that can stand at a place, or behind the word or white space
 //! there, which patterns can begin at that place.
-ghost use Rattle.std.specs.Prelude.{◌≡◌, ◌≤◌, ◌<◌, ◌+◌, ◌/◌, ◌%◌, ◌*◌, ◌^◌, ◌⊎◌, List, ℕ, length, IfOk, slice_index_or, true, false};
+ghost use Rattle.std.specs.Prelude.{◌≡◌, ◌≤◌, ◌<◌, ◌+◌, ◌/◌, ◌%◌, ◌*◌, ◌^◌, ◌⊎◌, List, ℕ, length, map, IfOk, slice_index_or, true, false};
 ghost use Rattle.std.specs.Int.{bit_at};
+ghost use Rattle.std.specs.List.{list_any};
 ghost use Rattle.syntect_pattern_table.specs.Starts.{is_in};
-ghost use Rattle.syntect_flats.specs.Rows.{AreRowsOf, BeginIn, IsCut, IsOut, MarkCuts, TellsAlive, behind_of, behind_row, bit_of, edge_marks, has_bit, has_mark, is_cut_in};
+ghost use Rattle.syntect_flats.specs.Rows.{BeginIn, IsOut, MarkCuts, TellsAlive, behind_row, bit_of, edge_marks, has_bit, has_mark, is_cut_in};
+ghost use Rattle.syntect_flats.specs.Slims.{origin_of, widened};
 
-use crate::flats::{Flat, Outlook};
+use crate::flats::{Flat, Origin, Outlook};
+use crate::slims::{Slim, any_captures, is_out, origin_of, slims_of};
 use std::alloc::{AllocError, Global};
 use std::marker::Model;
 use syntect_pattern_table::starts::{Places, either, is_in, nowhere};
@@ -29,7 +32,9 @@ const LONG: usize = 65536;
 /// A flat list, seen as the list of its patterns.
 #[derive(Drop)]
 pub struct FlatList {
-    flats: Vec<Flat>,
+    slims: Vec<Slim>,
+    /// What can stand where matches of the patterns begin, or behind.
+    places: Vec<Places>,
     /// A row of bits for each thing that can stand at a place, each of so many words: which patterns can begin there. No words
     /// where there is no table.
     rows: Vec<u64>,
@@ -43,16 +48,17 @@ pub struct FlatList {
 }
 
 impl Model for FlatList {
-    ghost use Rattle.std.specs.Prelude.{List};
+    ghost use Rattle.std.specs.Prelude.{List, map};
     ghost use Rattle.syntect_flats.specs.declared.flats.Flat.{Flat as AFlat};
-    ghost use Rattle.syntect_flats.specs.Rows.{AreRowsOf, BeginIn, MarkCuts};
+    ghost use Rattle.syntect_flats.specs.Rows.{IsTabled};
+    ghost use Rattle.syntect_flats.specs.Slims.{widened};
 
     ghost Value = { List AFlat };
 
-    ghost view = { λ l. l.flats.items };
+    ghost view = { λ l. map (widened l.places.items) l.slims.items };
 
-    ghost invariant = { λ l. AreRowsOf l.rows.items l.words l.flats.items
-        × BeginIn l.any l.flats.items × MarkCuts l.cuts.items l.words l.flats.items };
+    ghost invariant = { λ l. IsTabled l.rows.items l.cuts.items l.words l.any
+        (map (widened l.places.items) l.slims.items) };
 }
 
 /// The word at the place, all of whose bits are set past the end.
@@ -243,47 +249,16 @@ fn cuts_of(alloc: Global, words: u16, flats: &[Flat]) -> Result<Vec<u64>, AllocE
     Ok(rows)
 }
 
-/// What can stand behind white space, or else behind a word, in which a match of the pattern begins.
-#[inline]
-fn behind_of(blank: bool, flat: &Flat) -> Places
-    ensures { result ≡ behind_of blank flat.now }
-{
-    if blank { flat.blanks } else { flat.words }
-}
-
-/// Whether no match of the pattern begins where this is seen.
-#[inline]
-fn is_out(flat: &Flat, outlook: Outlook) -> bool
-    requires here { outlook.here < 130 }
-    requires behind { outlook.behind < 130 }
-    ensures { result ≡ true → IsOut outlook flat.now }
-{
-    !is_in(flat.begins, outlook.here) || is_cut(flat, outlook)
-}
-
-/// Whether the pattern has no match that begins where this is seen, whatever stands there.
-#[inline]
-fn is_cut(flat: &Flat, outlook: Outlook) -> bool
-    requires { outlook.behind < 130 }
-    ensures { result ≡ true → IsCut outlook flat.now }
-{
-    if is_in(behind_of(outlook.blank, flat), outlook.behind) {
-        outlook.off_edges && flat.at_edges
-    } else {
-        true
-    }
-}
-
 /// An index not below this one: no pattern from this one up to it can begin where this is seen, as each tells.
-fn next_seen(flats: &[Flat], outlook: Outlook, from: usize) -> usize
+fn next_seen(table: &[Places], slims: &[Slim], outlook: Outlook, from: usize) -> usize
     requires here { outlook.here < 130 }
     requires behind { outlook.behind < 130 }
     ensures later { from ≤ result }
-    ensures passed { (k : ℕ) (d : Flat) → from ≤ k → k < result → k < length flats.now
-        → IsOut outlook (slice_index_or flats.now k d) }
+    ensures passed { (k : ℕ) (d : Flat) → from ≤ k → k < result → k < length slims.now
+        → IsOut outlook (slice_index_or (map (widened table.now) slims.now) k d) }
 {
     let mut next = from;
-    while next < flats.len() && is_out(&flats[next], outlook) {
+    while next < slims.len() && is_out(table, &slims[next], outlook) {
         next += 1;
     }
     next
@@ -350,15 +325,17 @@ fn alive(rows: &[u64], cuts: &[u64], words: u16, outlook: Outlook, word: usize) 
 
 impl FlatList {
     /// The list of these patterns.
-    pub fn new(alloc: Global, flats: Vec<Flat>) -> Result<FlatList, AllocError>
-        ensures { IfOk result (λ l. l ≡ flats.items) }
+    pub fn new(alloc: Global, flats: &[Flat]) -> Result<FlatList, AllocError>
+        ensures { IfOk result (λ l. l ≡ flats.now) }
     {
         let count = flats.len();
-        let asks = any_asks(flats.as_slice());
-        let any = any_of(flats.as_slice());
+        let asks = any_asks(flats);
+        let any = any_of(flats);
+        let (slims, places) = slims_of(alloc, flats)?;
         if count < SHORT || count > LONG {
             return Ok(FlatList {
-                flats,
+                slims,
+                places,
                 rows: Vec::new(alloc),
                 cuts: Vec::new(alloc),
                 words: 0,
@@ -367,10 +344,11 @@ impl FlatList {
             });
         }
         let words = ((count + 63) / 64) as u16;
-        let rows = rows_of(alloc, words, flats.as_slice())?;
-        let cuts = cuts_of(alloc, words, flats.as_slice())?;
+        let rows = rows_of(alloc, words, flats)?;
+        let cuts = cuts_of(alloc, words, flats)?;
         Ok(FlatList {
-            flats,
+            slims,
+            places,
             rows,
             cuts,
             words,
@@ -390,15 +368,32 @@ impl FlatList {
     pub fn any(&self) -> Places
         ensures { BeginIn result self.now }
     {
-        let _ = &self.flats;
+        let _ = &self.slims;
         self.any
     }
 
-    /// The patterns.
-    pub fn as_slice(&self) -> &[Flat]
-        ensures { result.now ≡ self.now }
+    /// How many patterns there are.
+    #[inline]
+    pub fn len(&self) -> usize
+        ensures { result ≡ length self.now }
     {
-        self.flats.as_slice()
+        self.slims.len()
+    }
+
+    /// Where the pattern at an index stands.
+    #[inline]
+    pub fn origin_at(&self, index: usize) -> Origin
+        requires { index < length self.now }
+        ensures { (d : Flat) → result ≡ origin_of (slice_index_or self.now index d) }
+    {
+        origin_of(&self.slims[index])
+    }
+
+    /// Whether a pattern uses back references.
+    pub fn has_captures(&self) -> bool
+        ensures { result ≡ list_any (λ f. f.has_captures) self.now }
+    {
+        any_captures(self.slims.as_slice())
     }
 
     /// An index not below this one: no pattern from this one up to it can begin where this is seen. That the pattern there can
@@ -411,13 +406,14 @@ impl FlatList {
             → IsOut outlook (slice_index_or self.now k d) }
     {
         if from == 0 && !is_in(self.any, outlook.here) {
-            return self.flats.len();
+            return self.slims.len();
         }
         if self.words == 0 {
-            return next_seen(self.flats.as_slice(), outlook, from);
+            let table = self.places.as_slice();
+            return next_seen(table, self.slims.as_slice(), outlook, from);
         }
         let mut next = from;
-        while next < self.flats.len() {
+        while next < self.slims.len() {
             let rows = self.rows.as_slice();
             let rest = alive(rows, self.cuts.as_slice(), self.words, outlook, next / 64)
                 >> (next % 64);

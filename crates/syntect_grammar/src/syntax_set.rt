@@ -1,6 +1,7 @@
 //! Syntaxes that are linked together.
 ghost use Rattle.std.specs.Prelude.{◌≡◌, [], ◌∷◌, ◌++◌, length, take, IfOk, IfSome, OnOk, OnErr};
 ghost use Rattle.std.specs.Option.{option_copied};
+ghost use Rattle.syntect_flats.specs.Slims.{origin_of};
 ghost use Rattle.syntect_grammar.specs.Contexts.{context_at};
 ghost use Rattle.syntect_grammar.specs.Flats.{AreFlatsOf, pattern_at};
 ghost use Rattle.syntect_grammar.specs.Link.{definitions_in, paths_in, syntaxes_in, set_paths, linked};
@@ -15,7 +16,7 @@ use crate::syntaxes::Syntaxes;
 use crate::walk::flats_walked;
 use std::alloc::{AllocError, AllocFailed, Global};
 pub use syntect_contexts::syntax_reference::SyntaxReference;
-use syntect_flats::flats::Flat;
+use syntect_flats::flats::{Flat, Origin};
 use syntect_flats::list::FlatList;
 use syntect_metadata::metadata::Metadata;
 use syntect_metadata::raw::{LoadMetadata, RawMetadataEntry};
@@ -162,10 +163,11 @@ impl SyntaxSet {
     }
 
     /// The pattern that stands at the place, if there is one.
-    pub fn pattern_at(&self, flat: &Flat) -> Option<&MatchPattern>
-        ensures { option_copied result ≡ pattern_at self.now flat.now }
+    pub fn pattern_at(&self, origin: Origin) -> Option<&MatchPattern>
+        ensures { (flat : Flat) → origin_of flat ≡ origin
+            → option_copied result ≡ pattern_at self.now flat }
     {
-        match self.context_at(flat.context)?.patterns.get(flat.index)? {
+        match self.context_at(origin.context)?.patterns.get(origin.index)? {
             Pattern::Match(m) => Some(m),
             Pattern::Include(_) => None,
         }
@@ -173,6 +175,7 @@ impl SyntaxSet {
 }
 
 impl HoldsContexts for SyntaxSet {
+    ghost use Rattle.syntect_flats.specs.Slims.{origin_of};
     ghost use Rattle.syntect_grammar.specs.Contexts.{context_at};
 
     ghost contexts = { context_at };

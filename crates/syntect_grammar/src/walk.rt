@@ -113,7 +113,7 @@ pub(crate) fn flats_walked(
 {
     let mut walker = Walker::new(alloc, syntaxes)?;
     let _ = walker.walk(syntaxes, id, &mut None)?;
-    FlatList::new(alloc, walker.flats)
+    FlatList::new(alloc, walker.flats.as_slice())
 }
 
 impl Walker {
@@ -210,8 +210,7 @@ impl Walker {
         ensures { IfOk result (λ kept. IfSome kept (AreFlatsOf (set_of syntaxes.now) id)) }
     {
         if self.walk(syntaxes, id, steps)? {
-            let flats = Vec::from_slice(alloc, self.flats.as_slice())?;
-            Ok(Some(FlatList::new(alloc, flats)?))
+            Ok(Some(FlatList::new(alloc, self.flats.as_slice())?))
         } else {
             Ok(None)
         }

@@ -87,10 +87,10 @@ fn patterns_of_a_context(rt: HostRuntime) {
         syntax_index: 0,
         context_index: 3,
     };
-    let kept = set.flats_of(main).map(|flats| flats.as_slice().len());
+    let kept = set.flats_of(main).map(|flats| flats.len());
     let walked = set.flats_walked(alloc, main).expect(&rt, "memory");
     equal(&rt, kept, Some(1));
-    equal(&rt, walked.as_slice().len(), 1);
+    equal(&rt, walked.len(), 1);
 }
 
 /// The last context of the set, `main`.

@@ -97,7 +97,7 @@ fn flats_walked(rt: &(impl Print + AllocGlobal)) {
         let flats = set.flats_walked(rt.alloc(), main);
         end(rt);
         match &flats {
-            Ok(flats) => answer(rt, flats.as_slice().len()),
+            Ok(flats) => answer(rt, flats.len()),
             Err(e) => answer(rt, e),
         }
     }

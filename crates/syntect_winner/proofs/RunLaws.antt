@@ -3,7 +3,6 @@ use Rattle.std.proofs.Common.{◌≡◌, ℕ, zero, suc, ◌+◌, ◌<◌, List,
 use Rattle.std.proofs.Math.ListN.{get_or-append}
 use Rattle.std.proofs.Math.Seq.{get_or-append_seam}
 use Rattle.std.proofs.lemmas.Bool.{cases_lt}
-use Rattle.std.proofs.lemmas.List.{get_or_default}
 use Rattle.std.specs.Prelude.{unwrap_or}
 use Rattle.std.specs.Option.{option_copied}
 use Rattle.syntect_contexts.specs.declared.context.MatchPattern.{MatchPattern}
@@ -24,9 +23,9 @@ module _ (set : SyntaxSet) (part : Part) where
       → unwrap_or (get_or replaced k None) m.regex ≡ searched_text dialect m (option_copied part.opening)
 
   -- with what stands in place of one more
-  pub replaced_more : (flats : List Flat) (i : ℕ) (flat : Flat) (old new : List (Option (List ℕ))) (r : Option (List ℕ)) → length old ≡ i → i < length flats → flat ≡ get_or flats i flat → new ≡ old ++ r ∷ []
-      → ((m : MatchPattern) → pattern_at set flat ≡ Some m → unwrap_or r m.regex ≡ searched_text dialect m (option_copied part.opening)) → Replaced flats i old → Replaced flats (i + 1) new
-  replaced_more flats i flat old new r count l is e here before k d m t inside at = elim (cases_lt k i) [
+  pub replaced_more : (flats : List Flat) (i : ℕ) (old new : List (Option (List ℕ))) (r : Option (List ℕ)) → length old ≡ i → new ≡ old ++ r ∷ []
+      → ((d : Flat) (m : MatchPattern) → pattern_at set (get_or flats i d) ≡ Some m → unwrap_or r m.regex ≡ searched_text dialect m (option_copied part.opening)) → Replaced flats i old → Replaced flats (i + 1) new
+  replaced_more flats i old new r count e here before k d m t inside at = elim (cases_lt k i) [
     | inl b ↦
         ap (λ (o : Option (List ℕ)). unwrap_or o m.regex) (ap (λ rs. get_or rs k None) e ∙ get_or-append old (r ∷ []) None k (omega (arith, count, b)))
         ∙ before k d m b inside at
@@ -34,7 +33,7 @@ module _ (set : SyntaxSet) (part : Part) where
         (let same : k ≡ i = omega (arith, t, b) in
         ap (λ (o : Option (List ℕ)). unwrap_or o m.regex)
         (ap (λ rs. get_or rs k None) e ∙ ap (λ q. get_or (old ++ r ∷ []) q None) (same ∙ sym count) ∙ get_or-append_seam old r [] None)
-        ∙ here m (ap (pattern_at set) (is ∙ get_or_default flats i flat d l ∙ ap (λ q. get_or flats q d) (sym same)) ∙ at))
+        ∙ here d m (ap (pattern_at set) (ap (λ q. get_or flats q d) (sym same)) ∙ at))
   ]
 
 -- ---- the parts of runs ----

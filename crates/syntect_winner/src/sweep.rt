@@ -2,8 +2,9 @@
 //! the order of the chain.
 ghost use Rattle.std.specs.Prelude.{◌≡◌, ◌≤◌, ◌<◌, ◌+◌, ◌*◌, [], Bool, List, ℕ, length, map, IfOk, OnOk, Some, None, true, false, slice_index_or, unwrap_or};
 ghost use Rattle.std.specs.Option.{option_copied};
-ghost use Rattle.std.specs.List.{All, flat_map, list_any};
+ghost use Rattle.std.specs.List.{All, flat_map};
 ghost use Rattle.syntect_contexts.specs.declared.context.MatchPattern.{MatchPattern as APattern};
+ghost use Rattle.syntect_flats.specs.Slims.{origin_of};
 ghost use Rattle.syntect_grammar.specs.Flats.{AreFlatsOf, pattern_at};
 ghost use Rattle.syntect_pattern.specs.Matches.{is_word_edge};
 ghost use Rattle.syntect_pattern_table.specs.Starts.{start_at};
@@ -26,7 +27,7 @@ use crate::search::{
     Best, Candidate, Entry, OwnRegex, Regions, counts, led_by, search_entry, substituted,
 };
 use std::alloc::{AllocError, Global};
-use syntect_flats::flats::{Flat, Outlook};
+use syntect_flats::flats::{Flat, Origin, Outlook};
 use syntect_flats::list::FlatList;
 use syntect_grammar::syntax_definition::MatchPattern;
 use syntect_grammar::syntax_set::SyntaxSet;
@@ -64,11 +65,16 @@ fn list_in<'k>(kept: &'k Kept<'_>) -> &'k FlatList
 }
 
 /// What is searched in place of the pattern that stands at a place, if it uses back references.
-fn replacement(set: &SyntaxSet, part: &Part<'_>, flat: &Flat) -> Result<Option<Regex>, AllocError>
-    ensures { IfOk result (λ r. (m : APattern) → pattern_at set.now flat.now ≡ Some m
+fn replacement(
+    set: &SyntaxSet,
+    part: &Part<'_>,
+    origin: Origin,
+) -> Result<Option<Regex>, AllocError>
+    ensures { IfOk result (λ r. (flat : Flat) (m : APattern) → origin_of flat ≡ origin
+        → pattern_at set.now flat ≡ Some m
         → unwrap_or r m.regex ≡ searched_text dialect m (option_copied part.now.opening)) }
 {
-    match set.pattern_at(flat) {
+    match set.pattern_at(origin) {
         Some(pattern) => substituted(&Entry {
             pattern,
             opening: part.opening,
@@ -78,28 +84,21 @@ fn replacement(set: &SyntaxSet, part: &Part<'_>, flat: &Flat) -> Result<Option<R
     }
 }
 
-/// Whether a pattern of the list uses back references.
-fn has_captures(flats: &[Flat]) -> bool
-    ensures { result ≡ list_any (λ f. f.has_captures) flats.now }
-{
-    flats.iter().any(|flat| { flat.has_captures })
-}
-
 /// What is searched in place of each pattern of a part; nothing where each is searched as it stands.
 fn replaced_in(
     reader: &LineReader<'_, '_>,
     part: &Part<'_>,
-    flats: &[Flat],
+    flats: &FlatList,
 ) -> Result<Vec<Option<Regex>>, AllocError>
     requires { AreFlatsOf reader.now.set.now part.now.id flats.now }
     ensures { IfOk result (λ v. AreReplaced reader.now.set.now part.now flats.now v.items) }
 {
     let mut replaced = Vec::new(reader.alloc);
-    if part.opening.is_none() || !has_captures(flats) {
+    if part.opening.is_none() || !flats.has_captures() {
         return Ok(replaced);
     }
-    for flat in flats {
-        replaced.push(replacement(reader.set, part, flat)?)?;
+    for index in 0..flats.len() {
+        replaced.push(replacement(reader.set, part, flats.origin_at(index))?)?;
     }
     Ok(replaced)
 }
@@ -116,7 +115,7 @@ fn run_of<'s, 'p>(reader: &LineReader<'s, '_>, part: &Part<'p>) -> Result<Run<'s
             Kept::Own(Box::new(reader.alloc, walked)?)
         }
     };
-    let replaced = replaced_in(reader, part, list_in(&flats).as_slice())?;
+    let replaced = replaced_in(reader, part, list_in(&flats))?;
     Ok(Run {
         part: *part,
         flats,
@@ -415,8 +414,8 @@ fn with_pattern<'s>(
         (run_members reader.now.set.now run.now)
         → OnOk result (regions.new.steps.made ≤ regions.old.steps.made + 2 * w) }
 {
-    let flat = list_in(&run.flats).as_slice()[index];
-    let Some(pattern) = reader.set.pattern_at(&flat) else {
+    let origin = list_in(&run.flats).origin_at(index);
+    let Some(pattern) = reader.set.pattern_at(origin) else {
         return Ok(best);
     };
     let entry = Entry {
@@ -458,7 +457,7 @@ fn with_run<'s>(
         + place_steps (length (run_members reader.now.set.now run.now)) w) }
 {
     dialect_finds_in_text();
-    let count = list_in(&run.flats).as_slice().len();
+    let count = list_in(&run.flats).len();
     let mut best = best;
     let mut index = next_in(run, outlook, 0);
     while index < count && best.candidate.is_none() {

@@ -18,7 +18,7 @@ loop-index-init c = record {
   ahead = λ ms a h is.
       begun_ahead c.dialect_finds_in_text.ensures c.args.reader.now c.args.place c.args.run.now c.requires.run c.args.lost.now c.next_in-index.result
       c.next_in-index.ensures.plain (c.next_in-index.ensures.passed c.args.reader.now.line.now c.args.place c.requires.sees) a;
-  steps = λ w all. omega (arith, more_room (length c.as_slice-count.result.now - c.next_in-index.result) (length c.as_slice-count.result.now) (2 * w) (omega arith));
+  steps = λ w all. omega (arith, more_room (c.len-count.result - c.next_in-index.result) (c.len-count.result) (2 * w) (omega arith));
 }
 
 pub loop-index-preserved : goal.loop-index-preserved
@@ -34,7 +34,7 @@ loop-index-preserved c = record {
       c.next_in-index-in-loop-index.ensures.later c.next_in-index-in-loop-index.ensures.plain (c.next_in-index-in-loop-index.ensures.passed c.args.reader.now.line.now c.args.place c.requires.sees)
       (still_from c.dialect_finds_in_text.ensures c.args.reader.now c.args.place c.args.run.now c.args.lost.now c.with_pattern.new.lost (c.loop-index.index + 1) (λ x. c.in_ok-best.ensures.lost (c.loop-index.invariant.lost x)) a)
       (stepped c.dialect_finds_in_text.ensures c.args.reader.now c.args.place c.args.run.now c.with_pattern.new.lost c.in_ok-best.best ms c.loop-index.index
-      (rw (c.as_slice-count.ensures, c.list_in.ensures) at c.loop-index-test.true)
+      (rw (c.len-count.ensures, c.list_in.ensures) at c.loop-index-test.true)
       (c.in_ok-best.ensures.best (ms ++ matches_of c.args.reader.now (flat_members c.args.reader.now.set.now c.args.run.now.part (take c.loop-index.index (list_in c.args.run.now.flats))))
       (still_from c.dialect_finds_in_text.ensures c.args.reader.now c.args.place c.args.run.now c.args.lost.now c.loop-index.lost c.loop-index.index c.loop-index.invariant.lost a)
       (none_held c.loop-index.best.candidate c.if-is_none.ensures) (c.loop-index.invariant.best ms a h)));
@@ -60,10 +60,10 @@ returns-clause-best c = λ ms a h.
     (c.loop-index.invariant.best ms a h) (c.loop-index.invariant.ahead ms a h)
     (elim c.loop-index-test.branch [
       | then-loop-index-test+else-is_none w ↦ inr (one_held c.loop-index.best.candidate w.if-is_none.ensures)
-      | else-loop-index-test w ↦ inl (rw (c.as_slice-count.ensures, c.list_in.ensures) at w.loop-index-test.false)
+      | else-loop-index-test w ↦ inl (rw (c.len-count.ensures, c.list_in.ensures) at w.loop-index-test.false)
     ])
     (still_from c.dialect_finds_in_text.ensures c.args.reader.now c.args.place c.args.run.now c.args.lost.now c.loop-index.lost c.loop-index.index c.loop-index.invariant.lost a)
 
 pub returns-clause-steps : goal.returns-clause-steps
 returns-clause-steps c = λ w all.
-    run_spent c.args.reader.now.set.now c.args.run.now w c.args.regions.now.steps.made c.loop-index.regions.steps.made _ (length c.as_slice-count.result.now) c.requires.run (ap length (c.as_slice-count.ensures ∙ c.list_in.ensures)) (c.loop-index.invariant.steps w all)
+    run_spent c.args.reader.now.set.now c.args.run.now w c.args.regions.now.steps.made c.loop-index.regions.steps.made _ (c.len-count.result) c.requires.run (c.len-count.ensures ∙ ap length c.list_in.ensures) (c.loop-index.invariant.steps w all)

@@ -1,9 +1,10 @@
-use Rattle.std.proofs.Common.{◌∙◌, ◌<◌, ◌+◌, ◌*◌, ◌/◌, ◌%◌, ◌^◌, ℕ, inl, inr, ap, arith}
+use Rattle.std.proofs.Common.{◌∙◌, ◌<◌, ◌+◌, ◌*◌, ◌/◌, ◌%◌, ◌^◌, ℕ, inl, inr, ap, arith, map}
 use Rattle.std.specs.Int.{w64, trailing_zeros, bit_at}
 use Rattle.std.proofs.lemmas.Bool.{cases_lt}
 use Rattle.std.proofs.lemmas.Nat.{shr_le}
 use Rattle.std.proofs.lemmas.Nat.Bits.{bit_at-trailing_zeros, bit_at-zero}
 use Rattle.syntect_flats.specs.Rows.{TellsAlive}
+use Rattle.syntect_flats.specs.Slims.{widened}
 use Rattle.syntect_flats.proofs.RowLaws.{next_inside, passed_alive}
 use Rattle.syntect_flats.proofs.list.FlatList.next.Goals as goal
 
@@ -18,8 +19,8 @@ returns-then-rest-ne0-clause-passed c = rw (← c.self.view_is) (λ k d l m n.
     let inside : next + trailing_zeros w64 rest < (next / 64 + 1) * 64 = next_inside c.alive.result next (trailing_zeros w64 rest) c.alive.type_inv t.1 in
     elim (cases_lt k next) [
       | inl b ↦ c.loop-next.invariant.passed k d l b n
-      | inr b ↦ passed_alive c.self.inside.rows.items c.self.inside.cuts.items c.self.inside.words c.args.outlook c.self.inside.flats.items next (next + trailing_zeros w64 rest) c.alive.result
-          (omega (arith, c.if-self-eq0.false)) c.self.invariant.0 c.self.invariant.2 told (omega (arith, inside)) (λ i j. t.2 i (omega (arith, j))) k d b m n
+      | inr b ↦ passed_alive c.self.inside.rows.items c.self.inside.cuts.items c.self.inside.words c.args.outlook (map (widened c.self.inside.places.items) c.self.inside.slims.items) next (next + trailing_zeros w64 rest) c.alive.result
+          (omega (arith, c.if-self-eq0.false)) c.self.invariant.begins c.self.invariant.cut_off told (omega (arith, inside)) (λ i j. t.2 i (omega (arith, j))) k d b m n
     ])
 
 pub loop-next-preserved : goal.loop-next-preserved
@@ -31,7 +32,7 @@ loop-next-preserved c = record {
       rw (c.as_slice-rows.ensures.value, c.as_slice-in-loop-next.ensures.value) at c.alive.ensures in
       elim (cases_lt k next) [
         | inl b ↦ c.loop-next.invariant.passed k d l b n
-        | inr b ↦ passed_alive c.self.inside.rows.items c.self.inside.cuts.items c.self.inside.words c.args.outlook c.self.inside.flats.items next ((next / 64 + 1) * 64) c.alive.result
-            (omega (arith, c.if-self-eq0.false)) c.self.invariant.0 c.self.invariant.2 told (omega arith) (λ i j. ap (λ w. bit_at w i) c.if-rest-ne0.false ∙ bit_at-zero i) k d b m n
+        | inr b ↦ passed_alive c.self.inside.rows.items c.self.inside.cuts.items c.self.inside.words c.args.outlook (map (widened c.self.inside.places.items) c.self.inside.slims.items) next ((next / 64 + 1) * 64) c.alive.result
+            (omega (arith, c.if-self-eq0.false)) c.self.invariant.begins c.self.invariant.cut_off told (omega arith) (λ i j. ap (λ w. bit_at w i) c.if-rest-ne0.false ∙ bit_at-zero i) k d b m n
       ];
 }
