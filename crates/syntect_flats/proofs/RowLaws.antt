@@ -1,10 +1,10 @@
 -- Rows of bits, and what is passed over by them.
-use Rattle.std.proofs.Common.{◌≡◌, ◌==◌, ◌<◌, ◌≤◌, ◌+◌, ◌-◌, ◌*◌, ◌/◌, ◌%◌, ◌^◌, ℕ, Bool, true, false, List, length, get_or, refl, sym, ap, subst, ◌∙◌, ◌⊎◌, arith, inl, inr, bit_and, bit_or, if◌then◌else◌}
-use Rattle.std.specs.Int.{bit_at, bit_not, w64}
+use Rattle.std.proofs.Common.{◌≡◌, ◌==◌, ◌<◌, ◌≤◌, ◌+◌, ◌-◌, ◌*◌, ◌/◌, ◌%◌, ◌^◌, ℕ, Bool, true, false, List, length, get_or, take, refl, sym, ap, subst, ◌∙◌, ◌⊎◌, arith, inl, inr, bit_and, bit_or, if◌then◌else◌}
+use Rattle.std.specs.Int.{bit_at, bit_not, w64, w128}
 use Rattle.std.specs.Prelude.{slice_set, min, max, nat_lt, not}
 use Rattle.std.proofs.lemmas.Bool.{cases_lt, le-ltb, lt-ltb, not-true}
 use Rattle.std.proofs.lemmas.Bool.Decides.{eqb_tells}
-use Rattle.std.proofs.lemmas.List.{get_or-set_same, get_or-set_other, get_or_past, get_or_default}
+use Rattle.std.proofs.lemmas.List.{get_or-set_same, get_or-set_other, get_or-take, get_or_past, get_or_default}
 use Rattle.std.proofs.lemmas.Nat.{div-mul-add, shr-shr}
 use Rattle.std.proofs.Math.Nat.{div-eq_of_lt}
 use Rattle.std.proofs.Math.Pow.{pow_mono}
@@ -39,6 +39,27 @@ bit_other rows place bit word l m same p b e = elim (eqb_tells p place) [
       (ap (λ w. bit_at w b == 1) (get_or-set_same rows place (bit_or word (1 * 2 ^ bit % 2 ^ 64)) 18446744073709551615 l)
       ∙ stays_set word bit b m (ap (λ w. bit_at w b == 1) (same ∙ get_or_default rows place word 18446744073709551615 l ∙ ap (λ q. get_or rows q 18446744073709551615) (sym t.1)) ∙ e))
   | inr f ↦ ap (λ w. bit_at w b == 1) (get_or-set_other rows place p (bit_or word (1 * 2 ^ bit % 2 ^ 64)) 18446744073709551615 f.1) ∙ e
+]
+
+-- ---- the first of some rows ----
+
+same_word : (rows part : List ℕ) (place d : ℕ) → take (length part) rows ≡ part → place < length part → get_or part place d ≡ get_or rows place d
+same_word rows part place d e l = ap (λ p. get_or p place d) (sym e) ∙ get_or-take (length part) rows place d l
+
+pub bits_kept : (rows part : List ℕ) (place bit : ℕ) → take (length part) rows ≡ part → bit < 64 → has_bit rows place bit ≡ true → has_bit part place bit ≡ true
+bits_kept rows part place bit e b h = elim (cases_lt place (length part)) [
+  | inl l ↦ ap (λ w. bit_at w bit == 1) (same_word rows part place 18446744073709551615 e l) ∙ h
+  | inr m ↦ bit_past part place bit m b
+]
+
+pub marks_kept : (rows part : List ℕ) (words : ℕ) (flats : List Flat) → take (length part) rows ≡ part → MarkCuts rows words flats → MarkCuts part words flats
+marks_kept rows part words flats e h row k d l m = elim (cases_lt (row * words + k / 64) (length part)) [
+  | inl i ↦ h row k d l (ap (λ w. bit_at w (k % 64) == 1) (sym (same_word rows part (row * words + k / 64) 0 e i)) ∙ m)
+  | inr o ↦
+      absurd
+      (let none : false ≡ true =
+      ap (λ n. n == 1) (sym (bit_at-zero (k % 64))) ∙ ap (λ w. bit_at w (k % 64) == 1) (sym (get_or_past part (row * words + k / 64) 0 o)) ∙ m in
+      cc)
 ]
 
 -- ---- what is passed over ----
@@ -156,17 +177,22 @@ module _ (rows cuts : List ℕ) (words : ℕ) (o : Outlook) (word begins behind 
       where
         kind : (t : Bool) → o.blank ≡ t → is_in (behind_of o.blank flat) o.behind ≡ false
         kind false f =
-            let row : behind_row o ≡ o.behind = ap (λ t. if t then 130 + o.behind else o.behind) f in
-            let cut : is_cut_in o.behind flat ≡ true = marked o.behind (ap (λ q. bit_at (get_or cuts (q * words + word) 0) i) (sym row) ∙ ap (λ q. bit_at q i) (sym c) ∙ g) in
-            ap (λ t. is_in (behind_of t flat) o.behind) f ∙ not-true (is_in flat.words o.behind) (ap (λ t. if t then not (is_in flat.words o.behind) else (if nat_lt o.behind 260 then not (is_in flat.blanks (o.behind - 130)) else flat.at_edges)) (sym (lt-ltb o.behind 130 bound)) ∙ cut)
+            let row : behind_row o ≡ 1 + o.behind = ap (λ t. if t then 131 + o.behind else 1 + o.behind) f in
+            let cut : is_cut_in (1 + o.behind) flat ≡ true = marked (1 + o.behind) (ap (λ q. bit_at (get_or cuts (q * words + word) 0) i) (sym row) ∙ ap (λ q. bit_at q i) (sym c) ∙ g) in
+            let n : 1 + o.behind - 1 ≡ o.behind = omega arith in
+            ap (λ t. is_in (behind_of t flat) o.behind) f ∙ not-true (is_in flat.words o.behind)
+            (ap (λ q. not (is_in flat.words q)) (sym n)
+            ∙ ap (λ t. if t then not (is_in flat.words (1 + o.behind - 1)) else not (is_in flat.blanks (1 + o.behind - 131))) (sym (lt-ltb (1 + o.behind) 131 (omega (arith, bound))))
+            ∙ ap (λ t. if t then flat.at_edges else (if nat_lt (1 + o.behind) 131 then not (is_in flat.words (1 + o.behind - 1)) else not (is_in flat.blanks (1 + o.behind - 131)))) (sym (le-ltb (1 + o.behind) 1 (omega arith)))
+            ∙ cut)
         kind true f =
-            let row : behind_row o ≡ 130 + o.behind = ap (λ t. if t then 130 + o.behind else o.behind) f in
-            let cut : is_cut_in (130 + o.behind) flat ≡ true = marked (130 + o.behind) (ap (λ q. bit_at (get_or cuts (q * words + word) 0) i) (sym row) ∙ ap (λ q. bit_at q i) (sym c) ∙ g) in
-            let n : 130 + o.behind - 130 ≡ o.behind = omega arith in
+            let row : behind_row o ≡ 131 + o.behind = ap (λ t. if t then 131 + o.behind else 1 + o.behind) f in
+            let cut : is_cut_in (131 + o.behind) flat ≡ true = marked (131 + o.behind) (ap (λ q. bit_at (get_or cuts (q * words + word) 0) i) (sym row) ∙ ap (λ q. bit_at q i) (sym c) ∙ g) in
+            let n : 131 + o.behind - 131 ≡ o.behind = omega arith in
             ap (λ t. is_in (behind_of t flat) o.behind) f ∙ not-true (is_in flat.blanks o.behind)
             (ap (λ q. not (is_in flat.blanks q)) (sym n)
-            ∙ ap (λ t. if t then not (is_in flat.blanks (130 + o.behind - 130)) else flat.at_edges) (sym (lt-ltb (130 + o.behind) 260 (omega (arith, bound))))
-            ∙ ap (λ t. if t then not (is_in flat.words (130 + o.behind)) else (if nat_lt (130 + o.behind) 260 then not (is_in flat.blanks (130 + o.behind - 130)) else flat.at_edges)) (sym (le-ltb (130 + o.behind) 130 (omega arith)))
+            ∙ ap (λ t. if t then not (is_in flat.words (131 + o.behind - 1)) else not (is_in flat.blanks (131 + o.behind - 131))) (sym (le-ltb (131 + o.behind) 131 (omega arith)))
+            ∙ ap (λ t. if t then flat.at_edges else (if nat_lt (131 + o.behind) 131 then not (is_in flat.words (131 + o.behind - 1)) else not (is_in flat.blanks (131 + o.behind - 131)))) (sym (le-ltb (131 + o.behind) 1 (omega arith)))
             ∙ cut)
 
     by_edges : bit_at edges i ≡ 1 → IsOut o flat
@@ -174,8 +200,8 @@ module _ (rows cuts : List ℕ) (words : ℕ) (o : Outlook) (word begins behind 
       where
         kind : (t : Bool) → o.off_edges ≡ t → IsOut o flat
         kind true f =
-            let is : edges ≡ get_or cuts (260 * words + word) 0 = e ∙ ap (λ t. edge_marks cuts words t word) f in
-            inr (inr (f, marked 260 (ap (λ q. bit_at q i) (sym is) ∙ g)))
+            let is : edges ≡ get_or cuts (0 * words + word) 0 = e ∙ ap (λ t. edge_marks cuts words t word) f in
+            inr (inr (f, marked 0 (ap (λ q. bit_at q i) (sym is) ∙ g)))
         kind false f =
             let is : edges ≡ 0 = e ∙ ap (λ t. edge_marks cuts words t word) f in
             let no : 0 ≡ 1 = sym (bit_at-zero i) ∙ ap (λ q. bit_at q i) (sym is) ∙ g in absurd (omega (arith, no))
@@ -227,3 +253,49 @@ pub none_up_to : (bits from stop : ℕ) → ((i : ℕ) → i < stop → bit_at (
 none_up_to bits from stop zeros k l m =
     let far : k ≡ from + (k - from) = omega (arith, l) in
     ap (bit_at bits) far ∙ ap (λ n. n % 2) (sym (shr-shr bits from (k - from))) ∙ zeros (k - from) (omega (arith, l, m))
+
+-- the first bit that is set, from one on
+pub set_from : (bits from stop : ℕ) → bit_at (bits / 2 ^ from) stop ≡ 1 → bit_at bits (from + stop) ≡ 1
+set_from bits from stop e = ap (λ n. n % 2) (sym (shr-shr bits from stop)) ∙ e
+
+-- an ASCII character whose bit is set among the others is none of these
+pub none_of_others : (p : Places) (x : ℕ) → x < 128 → bit_at (bit_not w128 p.ascii) x ≡ 1 → is_in p x ≡ false
+none_of_others p x l e = elim (cases_lt p.ascii (2 ^ 128)) [
+  | inl fits ↦ none_of p x l (omega (arith, e, bit_at_not w128 p.ascii x fits l, bit_at-lt p.ascii x))
+  | inr m ↦
+      absurd
+      (let zero : bit_not w128 p.ascii ≡ 0 = omega (arith, m) in
+      let no : 0 ≡ 1 = sym (bit_at-zero x) ∙ ap (λ n. bit_at n x) (sym zero) ∙ e in
+      omega (arith, no))
+]
+
+pub wide_in : (p : Places) → is_in p 128 ≡ p.wide
+unfolding is_in
+wide_in p = refl
+
+pub end_in : (p : Places) → is_in p 129 ≡ p.end
+unfolding is_in
+end_in p = refl
+
+-- ---- what isn't held cuts off ----
+
+pub edge_cuts : (flat : Flat) → not flat.at_edges ≡ false → is_cut_in 0 flat ≡ true
+edge_cuts flat e = by flat.at_edges e
+  where
+    by : (b : Bool) → not b ≡ false → b ≡ true
+    by true f = refl
+    by false f = sym f
+
+pub word_cuts : (flat : Flat) (x : ℕ) → x < 130 → is_in flat.words x ≡ false → is_cut_in (1 + x) flat ≡ true
+word_cuts flat x l e =
+    let n : 1 + x - 1 ≡ x = omega arith in
+    ap (λ t. if t then flat.at_edges else (if nat_lt (1 + x) 131 then not (is_in flat.words (1 + x - 1)) else not (is_in flat.blanks (1 + x - 131)))) (le-ltb (1 + x) 1 (omega arith))
+    ∙ ap (λ t. if t then not (is_in flat.words (1 + x - 1)) else not (is_in flat.blanks (1 + x - 131))) (lt-ltb (1 + x) 131 (omega (arith, l)))
+    ∙ ap (λ q. not (is_in flat.words q)) n ∙ ap not e
+
+pub blank_cuts : (flat : Flat) (x : ℕ) → is_in flat.blanks x ≡ false → is_cut_in (131 + x) flat ≡ true
+blank_cuts flat x e =
+    let n : 131 + x - 131 ≡ x = omega arith in
+    ap (λ t. if t then flat.at_edges else (if nat_lt (131 + x) 131 then not (is_in flat.words (131 + x - 1)) else not (is_in flat.blanks (131 + x - 131)))) (le-ltb (131 + x) 1 (omega arith))
+    ∙ ap (λ t. if t then not (is_in flat.words (131 + x - 1)) else not (is_in flat.blanks (131 + x - 131))) (le-ltb (131 + x) 131 (omega arith))
+    ∙ ap (λ q. not (is_in flat.blanks q)) n ∙ ap not e

@@ -1,3 +1,4 @@
-pub mod Entered
 pub mod Rows
 pub mod Slims
+pub mod Packed
+pub mod Entered

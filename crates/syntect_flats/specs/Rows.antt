@@ -3,8 +3,10 @@ use Rattle.std.specs.Prelude.{nat_lt, not, ◌-◌, ◌≡◌, ◌==◌, ◌<◌
 use Rattle.std.specs.Int.{bit_at}
 use Rattle.syntect_pattern_table.specs.Starts.{is_in}
 use Rattle.syntect_pattern_table.specs.declared.starts.Places.{Places}
+use Rattle.syntect_flats.specs.Packed.{IsPacked, unpacked}
 use Rattle.syntect_flats.specs.declared.flats.Flat.{Flat}
 use Rattle.syntect_flats.specs.declared.flats.Outlook.{Outlook}
+use Rattle.syntect_flats.specs.declared.packed.Packed.{Packed}
 
 -- what can stand behind white space, or else behind a word, in which a match of the pattern begins
 abbrev pub behind_of : Bool → Flat → Places
@@ -35,10 +37,10 @@ pub record AreRowsOf (rows : List ℕ) (words : ℕ) (flats : List Flat) : Type 
   pub few : 0 < words → length flats ≤ 65536
   pub set : 0 < words → (x k : ℕ) (d : Flat) → x < 130 → k < length flats → is_in (slice_index_or flats k d).begins x ≡ true → bit_of rows words x k ≡ true
 
--- whether a mark in the row of this number says that the pattern is cut off: those of what stands behind words come first, then
--- those of what stands behind white space, and the last one is of places where no word begins or ends
+-- whether a mark in the row of this number says that the pattern is cut off: the first one is of places where no word begins or
+-- ends, then come those of what stands behind words, and those of what stands behind white space
 abbrev pub is_cut_in : ℕ → Flat → Bool
-is_cut_in row flat = if nat_lt row 130 then not (is_in flat.words row) else (if nat_lt row 260 then not (is_in flat.blanks (row - 130)) else flat.at_edges)
+is_cut_in row flat = if nat_lt row 1 then flat.at_edges else (if nat_lt row 131 then not (is_in flat.words (row - 1)) else not (is_in flat.blanks (row - 131)))
 
 -- the bit of the word at the place is set
 abbrev pub has_mark : List ℕ → ℕ → ℕ → Bool
@@ -49,18 +51,21 @@ abbrev pub MarkCuts : List ℕ → ℕ → List Flat → Type 0
 MarkCuts rows words flats = (row k : ℕ) (d : Flat) → k < length flats → has_mark rows (row * words + k / 64) (k % 64) ≡ true → is_cut_in row (slice_index_or flats k d) ≡ true
 
 -- The tables tell of the patterns which of them can begin where something stands, if there are rows.
-pub record IsTabled (rows cuts : List ℕ) (words : ℕ) (any : Places) (flats : List Flat) : Type 0 where
-  pub begins : AreRowsOf rows words flats
+pub record IsTabled (rows cuts : Packed) (words : ℕ) (any : Places) (flats : List Flat) : Type 0 where
+  pub begins : AreRowsOf (unpacked words rows) words flats
   pub any_begins : BeginIn any flats
-  pub cut_off : MarkCuts cuts words flats
+  pub cut_off : MarkCuts (unpacked words cuts) words flats
+  pub room : 0 < words → length flats ≤ words * 64
+  pub rows_whole : IsPacked words rows
+  pub cuts_whole : IsPacked words cuts
 
 -- the row of what stands behind the word or the white space
 abbrev pub behind_row : Outlook → ℕ
-behind_row o = if o.blank then 130 + o.behind else o.behind
+behind_row o = if o.blank then 131 + o.behind else 1 + o.behind
 
 -- a word of the row of places where no word begins or ends, if this is one
 abbrev pub edge_marks : List ℕ → ℕ → Bool → ℕ → ℕ
-edge_marks cuts words off_edges word = if off_edges then slice_index_or cuts (260 * words + word) 0 else 0
+edge_marks cuts words off_edges word = if off_edges then slice_index_or cuts (0 * words + word) 0 else 0
 
 -- no pattern of those that the word is of can begin where this is seen, but where its bit is set
 abbrev pub TellsAlive : List ℕ → List ℕ → ℕ → Outlook → ℕ → ℕ → Type 0

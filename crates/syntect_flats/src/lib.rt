@@ -5,4 +5,5 @@
 pub mod entered;
 pub mod flats;
 pub mod list;
+mod packed;
 mod slims;

@@ -4,10 +4,12 @@ ghost use Rattle.std.specs.Prelude.{◌≡◌, ◌≤◌, ◌<◌, ◌+◌, ◌/
 ghost use Rattle.std.specs.Int.{bit_at};
 ghost use Rattle.std.specs.List.{list_any};
 ghost use Rattle.syntect_pattern_table.specs.Starts.{is_in};
-ghost use Rattle.syntect_flats.specs.Rows.{BeginIn, IsOut, MarkCuts, TellsAlive, behind_row, bit_of, edge_marks, has_bit, has_mark, is_cut_in};
+ghost use Rattle.syntect_flats.specs.Rows.{AreRowsOf, BeginIn, IsOut, MarkCuts, TellsAlive, behind_row, bit_of, edge_marks, has_bit, has_mark, is_cut_in};
+ghost use Rattle.syntect_flats.specs.Packed.{IsPacked, unpacked};
 ghost use Rattle.syntect_flats.specs.Slims.{origin_of, widened};
 
 use crate::flats::{Flat, Origin, Outlook};
+use crate::packed::{Packed, no_rows, rows_packed, word_in};
 use crate::slims::{Slim, any_captures, is_out, origin_of, slims_of};
 use std::alloc::{AllocError, Global};
 use std::marker::Model;
@@ -16,13 +18,15 @@ use syntect_pattern_table::starts::{Places, either, is_in, nowhere};
 /// How many things can stand at a place: each ASCII character, any other one, and the end.
 const STARTS: u8 = 130;
 
-/// How many rows say which patterns are cut off: one for each thing that can stand behind a word, one for each that can stand
-/// behind white space, and one for places where no word begins or ends.
+/// How many rows say which patterns are cut off: one for places where no word begins or ends, one for each thing that can stand
+/// behind a word, and one for each that can stand behind white space.
 const CUTS: usize = 261;
 
-const BLANKS: usize = 130;
+const EDGES: usize = 0;
 
-const EDGES: usize = 260;
+const WORDS: usize = 1;
+
+const BLANKS: usize = 131;
 
 /// The least and the greatest length of a list that has a table: a shorter one is gone through as fast.
 const SHORT: usize = 8;
@@ -37,9 +41,9 @@ pub struct FlatList {
     places: Vec<Places>,
     /// A row of bits for each thing that can stand at a place, each of so many words: which patterns can begin there. No words
     /// where there is no table.
-    rows: Vec<u64>,
+    rows: Packed,
     /// A row of bits for each thing that cuts patterns off, with as many words: which it does.
-    cuts: Vec<u64>,
+    cuts: Packed,
     words: u16,
     /// Whether it matters for one of the patterns what stands behind a word or behind white space.
     asks: bool,
@@ -57,22 +61,8 @@ impl Model for FlatList {
 
     ghost view = { λ l. map (widened l.places.items) l.slims.items };
 
-    ghost invariant = { λ l. IsTabled l.rows.items l.cuts.items l.words l.any
+    ghost invariant = { λ l. IsTabled l.rows l.cuts l.words l.any
         (map (widened l.places.items) l.slims.items) };
-}
-
-/// The word at the place, all of whose bits are set past the end.
-fn word_at(rows: &[u64], place: usize) -> u64
-    ensures { result ≡ slice_index_or rows.now place 18446744073709551615 }
-{
-    rows.get(place).copied().unwrap_or(u64::MAX)
-}
-
-/// The word at the place, none of whose bits is set past the end.
-fn marks_at(rows: &[u64], place: usize) -> u64
-    ensures { result ≡ slice_index_or rows.now place 0 }
-{
-    rows.get(place).copied().unwrap_or(0)
 }
 
 /// Sets a bit of a word, if there is one at the place, and no other.
@@ -97,6 +87,7 @@ fn next_bit(bits: u128, from: u32) -> u32
     requires { from ≤ 128 }
     ensures later { from ≤ result }
     ensures passed { (k : ℕ) → from ≤ k → k < result → k < 128 → bit_at bits k ≡ 0 }
+    ensures found { result < 128 → bit_at bits result ≡ 1 }
 {
     if from == 128 {
         return 128;
@@ -151,7 +142,7 @@ fn mark(rows: &mut Vec<u64>, words: u16, index: usize, begins: Places)
     mark_one(rows, words, index, begins, 129);
 }
 
-/// The table of a list.
+/// The rows of a list.
 fn rows_of(alloc: Global, words: u16, flats: &[Flat]) -> Result<Vec<u64>, AllocError>
     requires { length flats.now ≤ 65536 }
     ensures { IfOk result (λ rows. (x k : ℕ) (d : Flat) → x < 130 → k < length flats.now
@@ -165,56 +156,61 @@ fn rows_of(alloc: Global, words: u16, flats: &[Flat]) -> Result<Vec<u64>, AllocE
     Ok(rows)
 }
 
-/// Whether the row is of what cuts the pattern off.
-fn is_cut_in(row: usize, flat: &Flat) -> bool
-    ensures { result ≡ is_cut_in row flat.now }
+/// The table of a list.
+fn begins_of(alloc: Global, words: u16, flats: &[Flat]) -> Result<Packed, AllocError>
+    requires some { 0 < words }
+    requires few { length flats.now ≤ 65536 }
+    ensures whole { IfOk result (IsPacked words) }
+    ensures rows { IfOk result (λ p. AreRowsOf (unpacked words p) words flats.now) }
 {
-    if row < BLANKS {
-        !is_in(flat.words, row as u8)
-    } else if row < EDGES {
-        !is_in(flat.blanks, (row - BLANKS) as u8)
-    } else {
-        flat.at_edges
-    }
+    let rows = rows_of(alloc, words, flats)?;
+    rows_packed(alloc, words, rows.as_slice())
 }
 
-/// Sets the bit of a pattern in a row, if that is of what cuts it off.
-fn mark_cut(rows: &mut Vec<u64>, words: u16, index: usize, row: usize, flat: &Flat)
+/// Sets the bit of a pattern in a row.
+#[inline]
+fn mark_row(rows: &mut Vec<u64>, words: u16, index: usize, row: usize)
     requires index { index < 65536 }
     requires row { row < 261 }
-    ensures { (flats : List Flat) → length flats ≤ words * 64 → index < length flats
-        → flat.now ≡ slice_index_or flats index flat.now
+    ensures { (flats : List Flat) (flat : Flat) → length flats ≤ words * 64 → index < length flats
+        → flat ≡ slice_index_or flats index flat → is_cut_in row flat ≡ true
         → MarkCuts rows.old.items words flats → MarkCuts rows.new.items words flats }
 {
-    if is_cut_in(row, flat) {
-        let place = row * words as usize + index / 64;
-        set_bit(rows, place, (index % 64) as u32);
+    let place = row * words as usize + index / 64;
+    set_bit(rows, place, (index % 64) as u32);
+}
+
+/// Sets the bit of a pattern in the row of what it doesn't hold.
+#[inline]
+fn mark_unless(rows: &mut Vec<u64>, words: u16, index: usize, row: usize, held: bool)
+    requires index { index < 65536 }
+    requires row { row < 261 }
+    ensures { (flats : List Flat) (flat : Flat) → length flats ≤ words * 64 → index < length flats
+        → flat ≡ slice_index_or flats index flat → (held ≡ false → is_cut_in row flat ≡ true)
+        → MarkCuts rows.old.items words flats → MarkCuts rows.new.items words flats }
+{
+    if !held {
+        mark_row(rows, words, index, row);
     }
 }
 
-/// Sets the bit of a pattern in those of 130 rows whose thing isn't among these, if that cuts it off.
-fn mark_others(
-    rows: &mut Vec<u64>,
-    words: u16,
-    index: usize,
-    first: usize,
-    places: Places,
-    flat: &Flat,
-)
+/// Sets the bit of a pattern in those of 130 rows whose thing isn't among these, each of which cuts it off.
+fn mark_others(rows: &mut Vec<u64>, words: u16, index: usize, first: usize, places: Places)
     requires index { index < 65536 }
-    requires first { first ≤ 130 }
-    ensures { (flats : List Flat) → length flats ≤ words * 64 → index < length flats
-        → flat.now ≡ slice_index_or flats index flat.now
+    requires first { first ≤ 131 }
+    ensures { (flats : List Flat) (flat : Flat) → length flats ≤ words * 64 → index < length flats
+        → flat ≡ slice_index_or flats index flat
+        → ((x : ℕ) → x < 130 → is_in places x ≡ false → is_cut_in (first + x) flat ≡ true)
         → MarkCuts rows.old.items words flats → MarkCuts rows.new.items words flats }
 {
     let others = !places.ascii;
     let mut x = next_bit(others, 0);
     while x < 128 {
-        mark_cut(rows, words, index, first + x as usize, flat);
+        mark_row(rows, words, index, first + x as usize);
         x = next_bit(others, x + 1);
     }
-    mark_cut(rows, words, index, first + 128, flat);
-    mark_cut(rows, words, index, first + 129, flat);
+    mark_unless(rows, words, index, first + 128, places.wide);
+    mark_unless(rows, words, index, first + 129, places.end);
 }
 
 /// Sets the bit of a pattern in the rows of what cuts it off.
@@ -224,9 +220,9 @@ fn mark_cuts(rows: &mut Vec<u64>, words: u16, index: usize, flat: &Flat)
         → flat.now ≡ slice_index_or flats index flat.now
         → MarkCuts rows.old.items words flats → MarkCuts rows.new.items words flats }
 {
-    mark_others(rows, words, index, 0, flat.words, flat);
-    mark_others(rows, words, index, BLANKS, flat.blanks, flat);
-    mark_cut(rows, words, index, EDGES, flat);
+    mark_unless(rows, words, index, EDGES, !flat.at_edges);
+    mark_others(rows, words, index, WORDS, flat.words);
+    mark_others(rows, words, index, BLANKS, flat.blanks);
 }
 
 /// Whether nothing cuts the pattern off.
@@ -234,19 +230,32 @@ fn is_free(flat: &Flat) -> bool {
     flat.words.ascii & flat.blanks.ascii == u128::MAX && !flat.at_edges
 }
 
-/// The table of what cuts the patterns of a list off.
-fn cuts_of(alloc: Global, words: u16, flats: &[Flat]) -> Result<Vec<u64>, AllocError>
+/// The rows of what cuts the patterns of a list off; the first one alone where what stands behind rules none out.
+fn marks_of(alloc: Global, words: u16, asks: bool, flats: &[Flat]) -> Result<Vec<u64>, AllocError>
     requires many { length flats.now ≤ 65536 }
     requires room { length flats.now ≤ words * 64 }
     ensures { IfOk result (λ rows. MarkCuts rows.items words flats.now) }
 {
-    let mut rows = vec![in alloc; 0u64; CUTS * words as usize]?;
+    let count = if asks { CUTS } else { WORDS };
+    let mut rows = vec![in alloc; 0u64; count * words as usize]?;
     for (index, flat) in flats.iter().enumerate() {
         if !is_free(flat) {
             mark_cuts(&mut rows, words, index, flat);
         }
     }
     Ok(rows)
+}
+
+/// The table of what cuts the patterns of a list off.
+fn cuts_of(alloc: Global, words: u16, asks: bool, flats: &[Flat]) -> Result<Packed, AllocError>
+    requires some { 0 < words }
+    requires few { length flats.now ≤ 65536 }
+    requires room { length flats.now ≤ words * 64 }
+    ensures whole { IfOk result (IsPacked words) }
+    ensures cuts { IfOk result (λ p. MarkCuts (unpacked words p) words flats.now) }
+{
+    let rows = marks_of(alloc, words, asks, flats)?;
+    rows_packed(alloc, words, rows.as_slice())
 }
 
 /// An index not below this one: no pattern from this one up to it can begin where this is seen, as each tells.
@@ -287,23 +296,24 @@ fn any_of(flats: &[Flat]) -> Places
 fn behind_row(outlook: Outlook) -> usize
     requires { outlook.behind < 130 }
     ensures value { result ≡ behind_row outlook }
-    ensures bound { result < 260 }
+    ensures bound { result < 261 }
 {
     if outlook.blank {
         BLANKS + outlook.behind as usize
     } else {
-        outlook.behind as usize
+        WORDS + outlook.behind as usize
     }
 }
 
 /// Which patterns of 64 in a row are cut off where no word begins or ends, if this is such a place.
 #[inline]
-fn edge_marks(cuts: &[u64], words: u16, off_edges: bool, word: usize) -> u64
-    requires { word < 2 ^ 58 }
-    ensures { result ≡ edge_marks cuts.now words off_edges word }
+fn edge_marks(cuts: &Packed, words: u16, off_edges: bool, word: usize) -> u64
+    requires within { word < words }
+    requires whole { IsPacked words cuts.now }
+    ensures { result ≡ edge_marks (unpacked words cuts.now) words off_edges word }
 {
     if off_edges {
-        marks_at(cuts, EDGES * words as usize + word)
+        word_in(cuts, words, EDGES, word, 0)
     } else {
         0
     }
@@ -311,15 +321,18 @@ fn edge_marks(cuts: &[u64], words: u16, off_edges: bool, word: usize) -> u64
 
 /// Which patterns of 64 in a row can begin where this is seen, a bit for each.
 #[inline]
-fn alive(rows: &[u64], cuts: &[u64], words: u16, outlook: Outlook, word: usize) -> u64
+fn alive(rows: &Packed, cuts: &Packed, words: u16, outlook: Outlook, word: usize) -> u64
     requires here { outlook.here < 130 }
     requires behind { outlook.behind < 130 }
-    requires near { word < 2 ^ 58 }
-    ensures { TellsAlive rows.now cuts.now words outlook word result }
+    requires within { word < words }
+    requires rows { IsPacked words rows.now }
+    requires cuts { IsPacked words cuts.now }
+    ensures { TellsAlive (unpacked words rows.now) (unpacked words cuts.now)
+        words outlook word result }
 {
-    let behind = marks_at(cuts, behind_row(outlook) * words as usize + word);
+    let behind = word_in(cuts, words, behind_row(outlook), word, 0);
     let edges = edge_marks(cuts, words, outlook.off_edges, word);
-    let begins = word_at(rows, outlook.here as usize * words as usize + word);
+    let begins = word_in(rows, words, outlook.here as usize, word, u64::MAX);
     begins & !(behind | edges)
 }
 
@@ -336,16 +349,16 @@ impl FlatList {
             return Ok(FlatList {
                 slims,
                 places,
-                rows: Vec::new(alloc),
-                cuts: Vec::new(alloc),
+                rows: no_rows(alloc),
+                cuts: no_rows(alloc),
                 words: 0,
                 asks,
                 any,
             });
         }
         let words = ((count + 63) / 64) as u16;
-        let rows = rows_of(alloc, words, flats)?;
-        let cuts = cuts_of(alloc, words, flats)?;
+        let rows = begins_of(alloc, words, flats)?;
+        let cuts = cuts_of(alloc, words, asks, flats)?;
         Ok(FlatList {
             slims,
             places,
@@ -414,9 +427,7 @@ impl FlatList {
         }
         let mut next = from;
         while next < self.slims.len() {
-            let rows = self.rows.as_slice();
-            let rest = alive(rows, self.cuts.as_slice(), self.words, outlook, next / 64)
-                >> (next % 64);
+            let rest = alive(&self.rows, &self.cuts, self.words, outlook, next / 64) >> (next % 64);
             if rest != 0 {
                 return next + rest.trailing_zeros() as usize;
             }

@@ -1,0 +1,144 @@
+//! Rows of bits, of which those that are equal are kept once. Most rows of a list are: there are few patterns that can begin
+//! with any one of most characters.
+ghost use Rattle.std.specs.Prelude.{◌≡◌, ◌<◌, ◌≤◌, ◌+◌, ◌*◌, ℕ, List, [], length, take, drop, true, IfOk, IfSome, OnOk, slice_index_or};
+ghost use Rattle.syntect_flats.specs.Packed.{IsPacked, IsRow, unpacked};
+
+use std::alloc::{AllocError, Global};
+
+/// How many of the last rows are looked at for one that is wanted. To look at all of them for each would take the square of
+/// their number.
+const RECENT: u16 = 4;
+
+/// How many rows are told apart. A table that has more of them ends there, and says nothing of what lies behind.
+const MOST: u16 = 256;
+
+/// Rows of words, each of which has a number among those that differ.
+#[derive(Drop)]
+pub struct Packed {
+    /// The number of each row.
+    pub numbers: Vec<u8>,
+    /// The rows that differ, one behind the other.
+    pub bits: Vec<u64>,
+}
+
+/// A table without rows.
+pub(crate) fn no_rows(alloc: Global) -> Packed
+    ensures { result.numbers.items ≡ [] }
+{
+    Packed {
+        numbers: Vec::new(alloc),
+        bits: Vec::new(alloc),
+    }
+}
+
+/// A word of a row; this one behind the table's end.
+#[inline]
+pub(crate) fn word_in(table: &Packed, words: u16, row: usize, word: usize, past: u64) -> u64
+    requires within { word < words }
+    requires packed { IsPacked words table.now }
+    ensures { result ≡ slice_index_or (unpacked words table.now) (row * words + word) past }
+{
+    match table.numbers.get(row) {
+        Some(number) => table.bits[*number as usize * words as usize + word],
+        None => past,
+    }
+}
+
+/// Whether these words stand there.
+#[inline]
+fn are_words(bits: &[u64], start: usize, row: &[u64]) -> bool
+    requires { start + length row.now ≤ length bits.now }
+    ensures { result ≡ true → take (length row.now) (drop start bits.now) ≡ row.now }
+{
+    let mut word = 0;
+    while word < row.len() {
+        if bits[start + word] != row[word] {
+            return false;
+        }
+        word += 1;
+    }
+    true
+}
+
+/// Whether this is the row of the number.
+#[inline]
+fn is_row(bits: &[u64], words: u16, number: u8, row: &[u64]) -> bool
+    ensures { result ≡ true → IsRow words bits.now row.now number }
+{
+    let start = number as usize * words as usize;
+    let end = start + words as usize;
+    end <= bits.len() && row.len() == words as usize && are_words(bits, start, row)
+}
+
+/// The number of a row among the last of so many, if it is there.
+fn recent(bits: &[u64], words: u16, count: u16, row: &[u64]) -> Option<u8>
+    requires { count < 257 }
+    ensures { IfSome result (IsRow words bits.now row.now) }
+{
+    let first = count.saturating_sub(RECENT);
+    let mut next = count;
+    while next > first {
+        next -= 1;
+        if is_row(bits, words, next as u8, row) {
+            return Some(next as u8);
+        }
+    }
+    None
+}
+
+/// The number of a row, which is added where it stands neither at this number nor among the last. None where no number is left.
+fn number_of(
+    bits: &mut Vec<u64>,
+    words: u16,
+    count: &mut u16,
+    near: u8,
+    row: &[u64],
+) -> Result<Option<u8>, AllocError>
+    requires few { count.old < 257 }
+    requires whole { length bits.old.items ≡ count.old * words }
+    requires row { length row.now ≡ words }
+    ensures few { count.new < 257 }
+    ensures whole { OnOk result (length bits.new.items ≡ count.new * words) }
+    ensures number { IfOk result (λ n. IfSome n (IsRow words bits.new.items row.now)) }
+    ensures stays { (n : ℕ) (r : List ℕ) → IsRow words bits.old.items r n
+        → IsRow words bits.new.items r n }
+{
+    if is_row(bits.as_slice(), words, near, row) {
+        return Ok(Some(near));
+    }
+    if let Some(found) = recent(bits.as_slice(), words, *count, row) {
+        return Ok(Some(found));
+    }
+    if *count >= MOST {
+        return Ok(None);
+    }
+    let number = *count as u8;
+    bits.extend_from_slice(row)?;
+    *count += 1;
+    Ok(Some(number))
+}
+
+/// Rows of so many words as a table keeps them: all of them, or those before one for which no number is left.
+pub(crate) fn rows_packed(alloc: Global, words: u16, rows: &[u64]) -> Result<Packed, AllocError>
+    requires { 0 < words }
+    ensures packed { IfOk result (IsPacked words) }
+    ensures same { IfOk result (λ p.
+        take (length (unpacked words p)) rows.now ≡ unpacked words p) }
+{
+    let mut numbers = Vec::with_capacity(alloc, rows.len() / words as usize)?;
+    let mut bits = Vec::new(alloc);
+    let mut count = 0;
+    let mut near = 0;
+    let mut rest = rows;
+    while rest.len() >= words as usize {
+        let (row, behind) = rest.split_at(words as usize);
+        let Some(number) = number_of(&mut bits, words, &mut count, near, row)? else {
+            break;
+        };
+        numbers.push(number)?;
+        near = number;
+        rest = behind;
+    }
+    bits.shrink_to_fit();
+    Ok(Packed { numbers, bits })
+}
