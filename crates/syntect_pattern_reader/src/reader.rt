@@ -185,9 +185,9 @@ impl Reader {
             ≤ length (chars place.entry.text.now)) }
         ensures reads { IfOk result (λ x. (groups : Option grammar.Names) (depth : ℕ)
             → body_of groups depth (body_as self.old.builder.nodes body)
-                (place_as self.old.names place.entry)
+            (place_as self.old.names place.entry)
             ≡ body_of groups depth (body_as self.new.builder.nodes x.0)
-                (place_as self.new.names x.1)) }
+            (place_as self.new.names x.1)) }
     {
         let Body { before, mut items } = body;
         let flags = place.flags;

@@ -1,10 +1,10 @@
 -- Characters that stand for themselves.
-use Rattle.std.proofs.Common.{◌≡◌, ℕ, ◌≤◌, ◌&&◌, ◌||◌, Bool, true, false, [], ◌∷◌, drop, Option, Some, None, refl, sym, ap, ◌∙◌, arith, nat_eq}
-use Rattle.std.specs.Prelude.{chars, is_some, slice_get, if◌then◌else◌}
+use Rattle.std.proofs.Common.{◌≡◌, ℕ, ◌&&◌, ◌||◌, Bool, true, false, ◌∷◌, drop, Option, Some, None, refl, sym, ap, ◌∙◌, arith, nat_eq}
+use Rattle.std.specs.Prelude.{is_some, slice_get, if◌then◌else◌}
 use Rattle.std.specs.Char.{is_whitespace}
 use Rattle.std.specs.Option.{option_map_or}
 use Rattle.std.proofs.lemmas.Bool.Decides.{nat_tests}
-use Rattle.syntect_pattern.specs.Reading.{Text, ◌∈◌, begins, first, Passing, between, note, comment, passing_at, pass}
+use Rattle.syntect_pattern.specs.Reading.{Text, ◌∈◌, begins, first, Passing, between, note, comment, pass}
 use Rattle.syntect_pattern.specs.Grammar.{quantifier, Next, bar, closer, opener, bracket, backslash, dot, caret, dollar, loops, plain, next_char, next_of}
 use Rattle.syntect_pattern_words.specs.Plain.{BeginsPlainly, is_firm, is_plain}
 use Rattle.syntect_pattern_words.specs.QuantifierViews.{goes_on}

@@ -1,6 +1,5 @@
 -- Characters that stand for themselves.
-use Rattle.std.specs.Prelude.{◌≡◌, ◌||◌, ℕ, Bool, ◌∷◌, Some, None, Option}
-use Rattle.std.specs.Option.{option_map_or}
+use Rattle.std.specs.Prelude.{◌≡◌, ◌||◌, ℕ, Bool, ◌∷◌, Some, None}
 use Rattle.syntect_pattern.specs.Reading.{Text, ◌∈◌, is_name_char, pass, between}
 use Rattle.syntect_pattern.specs.Grammar.{quantifier, next_of, plain}
 

@@ -1,5 +1,5 @@
-use Rattle.std.proofs.Common.{rules, arith, ◌+◌, ap, refl, sym, subst, ◌∙◌, Some}
-use Rattle.std.specs.Prelude.{IfSome, chars}
+use Rattle.std.proofs.Common.{rules, arith, ◌+◌, ap, refl, sym, ◌∙◌, Some}
+use Rattle.std.specs.Prelude.{chars}
 use Rattle.syntect_pattern.specs.Sets.{from_to}
 use Rattle.syntect_pattern.specs.Trees.{Tree, one_of, anchor, line_start, line_end}
 use Rattle.syntect_pattern_table.specs.Builder.{tree_in}
@@ -7,7 +7,7 @@ use Rattle.syntect_pattern.specs.Grammar.{Names, Place, empty_body, forward, ope
 use Rattle.syntect_pattern_words.specs.BodyViews.{body_of}
 use Rattle.syntect_pattern_words.specs.OpeningViews.{flags_as, place_as, wrapped, opening_as, opened_as}
 use Rattle.syntect_pattern_words.specs.TokenViews.{token_as}
-use Rattle.syntect_pattern_reader.specs.ReaderViews.{body_as, IsBodyIn, went_on, tree_as}
+use Rattle.syntect_pattern_reader.specs.ReaderViews.{body_as, went_on, tree_as}
 use Rattle.syntect_pattern_table.proofs.BuilderLaws.{Grows-trans}
 use Rattle.syntect_pattern_reader.proofs.BodyReading.{body-stuck, body-over, body-refuses, body-goes_on, body-shorter}
 use Rattle.syntect_pattern_reader.proofs.GroupLaws.{group-item}

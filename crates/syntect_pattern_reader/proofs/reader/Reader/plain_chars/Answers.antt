@@ -2,7 +2,6 @@ use Rattle.std.proofs.Common.{rules, arith, length, ap, sym, ◌∙◌}
 use Rattle.std.specs.Prelude.{chars}
 use Rattle.syntect_pattern.specs.Sets.{from_to}
 use Rattle.syntect_pattern.specs.Trees.{one_of}
-use Rattle.syntect_pattern.specs.Grammar as grammar
 use Rattle.syntect_pattern_table.proofs.BuilderLaws.{Grows-trans}
 use Rattle.syntect_pattern_words.specs.BodyViews.{body_of}
 use Rattle.syntect_pattern_words.specs.OpeningViews.{flags_as}
