@@ -37,6 +37,17 @@ pub enum Step<'a> {
     On(Bracket, &'a str),
 }
 
+/// For how many parts of a class in brackets there is room from the start.
+pub const BRACKET_ROOM: usize = 8;
+
+/// How many parts the set of an item has, and so how much room it takes.
+pub fn room_of(leaf: Leaf) -> usize {
+    match leaf {
+        Leaf::Set { negated, set: _ } => { if negated { 2 } else { 1 } }
+        _ => 1,
+    }
+}
+
 /// Whether the class is negated, and what stands behind the `^`.
 #[tactic(auto, unfolding(syntect_pattern::specs::Classes::start_of))]
 fn start_of(text: &str) -> (bool, &str)
@@ -50,11 +61,11 @@ fn start_of(text: &str) -> (bool, &str)
 }
 
 impl SetBuilder {
-    /// No parts. Takes no memory.
-    pub fn new(alloc: Global) -> SetBuilder {
-        SetBuilder {
-            parts: Seq::new(alloc),
-        }
+    /// No parts, with room for so many.
+    pub fn new(alloc: Global, room: usize) -> Result<SetBuilder, AllocError> {
+        Ok(SetBuilder {
+            parts: Seq::from_vec(Vec::with_capacity(alloc, room)?),
+        })
     }
 
     /// Puts a part last.

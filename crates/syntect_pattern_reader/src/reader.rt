@@ -14,7 +14,7 @@ ghost use Rattle.syntect_pattern.specs.Escapes as definition;
 ghost use Rattle.syntect_pattern.specs.Grammar as grammar;
 
 use crate::builder::{Builder, Join};
-use crate::classes::{DEEPEST, SetBuilder};
+use crate::classes::{BRACKET_ROOM, DEEPEST, SetBuilder, room_of};
 use std::alloc::{AllocError, Global};
 use syntect_pattern::anchor::Anchor;
 use syntect_pattern_table::node::Node;
@@ -251,7 +251,7 @@ impl Reader {
         ensures inside { IfOk result (λ f. IfSome f (λ x. IsBodyIn self.new.builder.nodes x.0)) }
         ensures reads { IfOk result (λ f. (known : Option grammar.Names) → grammar.item known (body_as self.old.builder.nodes body) (one_of (leaf_set leaf)) (place_as self.old.names place.entry) ≡ went_on self.new f) }
     {
-        let mut sets = SetBuilder::new(self.names.allocator());
+        let mut sets = SetBuilder::new(self.names.allocator(), room_of(leaf))?;
         let root = sets.push_leaf(leaf)?;
         Ok(self.class_item(body, sets, root, place)?)
     }
@@ -269,7 +269,7 @@ impl Reader {
         ensures inside { IfOk result (λ f. IfSome f (λ x. IsBodyIn self.new.builder.nodes x.0)) }
         ensures reads { IfOk result (λ f. (known : Option grammar.Names) → grammar.item known (body_as self.old.builder.nodes body) (one_of (grammar.dot_set place.entry.flags.any)) (place_as self.old.names place.entry) ≡ went_on self.new f) }
     {
-        let mut sets = SetBuilder::new(self.names.allocator());
+        let mut sets = SetBuilder::new(self.names.allocator(), 2)?;
         let root = sets.push_dot(place.flags.any)?;
         Ok(self.class_item(body, sets, root, place)?)
     }
@@ -467,7 +467,7 @@ impl Reader {
         ensures inside { IfOk result (λ f. IfSome f (λ x. IsBodyIn self.new.builder.nodes x.0)) }
         ensures reads { IfOk result (λ f. (known : Option grammar.Names) (inner : _) → grammar.step known inner depth (body_as self.old.builder.nodes body) (place_as self.old.names here.entry) grammar.bracket ≡ went_on self.new f) }
     {
-        let mut sets = SetBuilder::new(self.names.allocator());
+        let mut sets = SetBuilder::new(self.names.allocator(), BRACKET_ROOM)?;
         let Some((root, text)) = sets.class(here.flags.fold, depth, after(here.text, 1))? else {
             return Ok(None);
         };
