@@ -1,9 +1,15 @@
 -- Characters that stand for themselves.
-use Rattle.std.proofs.Common.{◌≡◌, ℕ, ◌&&◌, ◌||◌, Bool, true, false, ◌∷◌, drop, Option, Some, None, refl, sym, ap, ◌∙◌, arith, nat_eq}
-use Rattle.std.specs.Prelude.{is_some, slice_get, if◌then◌else◌}
+use Rattle.std.proofs.Common.{◌≡◌, ◌==◌, ◌<◌, ◌/◌, ◌^◌, ltb-true, ℕ, ◌&&◌, ◌||◌, Bool, true, false, ◌∷◌, drop, Option, Some, None, refl, sym, ap, ◌∙◌, arith, nat_eq}
+use Rattle.std.specs.Prelude.{bit_and, nat_lt, is_some, slice_get, if◌then◌else◌}
 use Rattle.std.specs.Char.{is_whitespace}
+use Rattle.std.specs.Bool.{beq}
+use Rattle.std.specs.Int.{bit_at}
 use Rattle.std.specs.Option.{option_map_or}
 use Rattle.std.proofs.lemmas.Bool.Decides.{nat_tests}
+use Rattle.std.proofs.lemmas.Nat.Bits.{shr_and_one}
+use Rattle.ucd_table.proofs.Computing.{tables}
+use Rattle.ucd_table.proofs.Facts.{same_from_beq}
+use Rattle.ucd_table.proofs.TrieCheck.{all_below-at}
 use Rattle.syntect_pattern.specs.Reading.{Text, ◌∈◌, begins, first, Passing, between, note, comment, pass}
 use Rattle.syntect_pattern.specs.Grammar.{quantifier, Next, bar, closer, opener, bracket, backslash, dot, caret, dollar, loops, plain, next_char, next_of}
 use Rattle.syntect_pattern_words.specs.Plain.{BeginsPlainly, is_firm, is_plain}
@@ -104,3 +110,34 @@ plain-stands t rest c e l (Some d) f h = record {
   behind = pass-firm rest d f h;
   once = quantifier-firm rest d f h;
 }
+
+-- -- The bits of characters
+
+pub is_bit : (n x : ℕ) → (bit_and (n / 2 ^ x) 1 == 1) ≡ (bit_at n x == 1)
+is_bit n x = ap (λ m. m == 1) (shr_and_one n x)
+
+below-or-not : (x : ℕ) (p : ℕ → Bool) (bits : ℕ) → ((k : ℕ) → k < 128 → (bit_at bits k == 1) ≡ p k) → (p x ≡ true → x < 128)
+    → (nat_lt x 128 && (bit_at bits x == 1)) ≡ p x
+below-or-not x p bits h l = by_test (nat_lt x 128) refl
+  where
+    beyond : (t : Bool) → p x ≡ t → nat_lt x 128 ≡ false → false ≡ p x
+    beyond true e f = let k = l e in grind (arith, nat_tests)
+    beyond false e f = sym e
+
+    by_test : (t : Bool) → nat_lt x 128 ≡ t → (nat_lt x 128 && (bit_at bits x == 1)) ≡ p x
+    by_test true e = let k : x < 128 = ltb-true x 128 e in ap (λ b. b && (bit_at bits x == 1)) e ∙ h x k
+    by_test false e = ap (λ b. b && (bit_at bits x == 1)) e ∙ beyond (p x) refl e
+
+pub plain_bits : (x : ℕ) → (nat_lt x 128 && (bit_at 0x47ff_fffe_87ff_ffff_7fff_b0e6_0000_0000 x == 1)) ≡ is_plain x
+unfolding tables
+plain_bits x =
+    below-or-not x is_plain 0x47ff_fffe_87ff_ffff_7fff_b0e6_0000_0000
+    (λ k l. same_from_beq _ _ (all_below-at (λ c. beq (bit_at 0x47ff_fffe_87ff_ffff_7fff_b0e6_0000_0000 c == 1) (is_plain c)) 128 k refl l))
+    (λ e. grind (arith, nat_tests))
+
+pub firm_bits : (x : ℕ) → (nat_lt x 128 && (bit_at 0x57ff_fffe_dfff_ffff_7fff_f2f6_0000_0000 x == 1)) ≡ is_firm x
+unfolding tables
+firm_bits x =
+    below-or-not x is_firm 0x57ff_fffe_dfff_ffff_7fff_f2f6_0000_0000
+    (λ k l. same_from_beq _ _ (all_below-at (λ c. beq (bit_at 0x57ff_fffe_dfff_ffff_7fff_f2f6_0000_0000 c == 1) (is_firm c)) 128 k refl l))
+    (λ e. grind (arith, nat_tests))

@@ -1,8 +1,9 @@
 //! What stands next in a pattern, and loops.
-ghost use Rattle.std.specs.Prelude.{◌≡◌, ◌&&◌, IfSome, MatchOption, chars, is_some, true};
+ghost use Rattle.std.specs.Prelude.{◌≡◌, ◌&&◌, ◌==◌, nat_lt, IfSome, MatchOption, chars, is_some, true};
+ghost use Rattle.std.specs.Int.{bit_at};
 ghost use Rattle.std.specs.Option.{option_map_or};
 ghost use Rattle.syntect_pattern.specs.Trees.{Tree};
-ghost use Rattle.syntect_pattern.specs.Reading.{◌∈◌, begins, first};
+ghost use Rattle.syntect_pattern.specs.Reading.{begins, first};
 ghost use Rattle.syntect_pattern.specs.Grammar.{Names};
 ghost use Rattle.syntect_pattern.specs.Grammar as grammar;
 ghost use Rattle.syntect_pattern_words.specs.OpeningViews.{place_as};
@@ -13,7 +14,7 @@ ghost use Rattle.syntect_pattern_words.specs.QuantifierViews.{quantifier_as};
 
 use crate::openings::Place;
 use crate::quantifiers::{Quantifier, is_allowed, pass, read_quantifier};
-use crate::text::{Test, after, begins, head, split_first};
+use crate::text::{after, begins, head, split_first};
 
 /// What stands next, if the group isn't over.
 #[derive(Clone, Copy)]
@@ -140,40 +141,35 @@ pub fn read_looping(place: Place<'_>) -> Option<(Looping, Place<'_>)>
     Some((looping, Place { flags, text }))
 }
 
-/// A letter, a digit, or a sign that means nothing in a pattern.
+/// The letters, digits and signs that mean nothing in a pattern, a bit for each.
+const PLAIN: u128 = 0x47ff_fffe_87ff_ffff_7fff_b0e6_0000_0000;
+
+/// With those, what no quantifier and nothing that is passed over begins with.
+const FIRM: u128 = 0x57ff_fffe_dfff_ffff_7fff_f2f6_0000_0000;
+
+/// Whether the character's bit is set. One beyond ASCII has none.
+#[tactic(auto, using(crate::proofs::PlainLaws::is_bit))]
+fn has_bit(bits: u128, c: char) -> bool
+    ensures { result ≡ (nat_lt c 128 && (bit_at bits c == 1)) }
+{
+    c.is_ascii() && (bits >> (c as u32)) & 1 == 1
+}
+
+/// Whether it is a letter, a digit, or a sign that means nothing in a pattern.
+#[tactic(auto, using(crate::proofs::PlainLaws::plain_bits))]
 fn is_plain(c: char) -> bool
     ensures { result ≡ is_plain c }
 {
-    Test::Name.passes(c) || is_sign(c)
-}
-
-/// A sign that means nothing in a pattern.
-fn is_sign(c: char) -> bool
-    ensures { result ≡ c ∈ "-=:;,<>!/'\"@%&~" }
-{
-    match c {
-        '-' | '=' | ':' | ';' | ',' | '<' | '>' | '!' | '/' | '\'' | '"' | '@' | '%' | '&' | '~' =>
-            true,
-        _ => false,
-    }
-}
-
-/// A sign that neither repeats nor is passed over.
-fn is_firm_sign(c: char) -> bool
-    ensures { result ≡ c ∈ "|)[\\.^$" }
-{
-    match c {
-        '|' | ')' | '[' | '\\' | '.' | '^' | '$' => true,
-        _ => false,
-    }
+    has_bit(PLAIN, c)
 }
 
 /// Whether neither a quantifier stands next nor anything that is passed over, as the first character tells.
+#[tactic(auto, using(crate::proofs::PlainLaws::firm_bits))]
 fn is_firm(text: &str) -> bool
     ensures { result ≡ option_map_or is_firm (first (chars text.now)) true }
 {
     match head(text) {
-        Some(c) => is_plain(c) || is_firm_sign(c),
+        Some(c) => has_bit(FIRM, c),
         None => true,
     }
 }
