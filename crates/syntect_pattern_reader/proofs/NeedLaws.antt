@@ -84,10 +84,10 @@ flat-none : (f : Member → List Member) (ms : List Member) → Each (λ m. f m 
 flat-none f [] e = refl
 flat-none f (m ∷ ms) e = ap (λ xs. xs ++ flat_map f ms) e.0 ∙ flat-none f ms e.1
 
-need-first : (b : ℕ) (x y : Tree) → Needs b x → Needs b (seq x y)
+pub need-first : (b : ℕ) (x y : Tree) → Needs b x → Needs b (seq x y)
 need-first b x y h s i g u at absent = ap (flat_map (λ (j, q). matches s y j q)) (h s i g u at absent)
 
-need-second : (b : ℕ) (x y : Tree) → Needs b y → Needs b (seq x y)
+pub need-second : (b : ℕ) (x y : Tree) → Needs b y → Needs b (seq x y)
 need-second b x y h s i g u at absent =
     flat-none (λ (j, q). matches s y j q) (matches s x i g)
     (each_of (λ m. (i ≤ m.0) × IsCharBoundary s m.0) (λ m. matches s y m.0 m.1 ≡ []) (matches s x i g)
@@ -98,15 +98,13 @@ may : (o o' : Option ℕ) (t t' : Tree) → o ≡ o' → ((b : ℕ) → Needs b 
 may o None t t' e f h = subst (λ (x : Option ℕ). MayNeed x t) (sym e) tt
 may o (Some b) t t' e f h = subst (λ (x : Option ℕ). MayNeed x t) (sym e) (f b h)
 
-pub need-seq : (o m n : Option ℕ) (x y : Tree) → (o ≡ m) ⊎ (o ≡ n) → MayNeed m x → MayNeed n y → MayNeed o (seq x y)
-need-seq o m n x y e h k = elim e [
-  | inl p ↦ may o m (seq x y) x p (λ b. need-first b x y) h
-  | inr p ↦ may o n (seq x y) y p (λ b. need-second b x y) k
-]
+-- what a tree needs, another needs that has no match without one of it
+pub need-of : (o : Option ℕ) (x y : Tree) → ((b : ℕ) → Needs b x → Needs b y) → MayNeed o x → MayNeed o y
+need-of o x y f h = may o o y x refl f h
 
--- one more node's byte
-pub AllNeed-push : (ns : List (Option ℕ)) (ts : List Tree) (o : Option ℕ) (k : ℕ) → AllNeed ns ts → length ns ≡ k → MayNeed o (get_or ts k nothing) → AllNeed (ns ++ o ∷ []) ts
-AllNeed-push ns ts o k h e is j d l =
-    below_more (λ n. (c : Option ℕ) → MayNeed (get_or (ns ++ o ∷ []) n c) (get_or ts n nothing)) (length ns)
-    (λ n p c. subst (λ (x : Option ℕ). MayNeed x (get_or ts n nothing)) (sym (get_or-append ns (o ∷ []) c n p)) (h n c p))
-    (λ c. subst (λ (x : Option ℕ). MayNeed x (get_or ts (length ns) nothing)) (sym (get_or-append_seam ns o [] c)) (subst (λ n. MayNeed o (get_or ts n nothing)) (sym e) is)) j (omega (arith, length-append ns (o ∷ []))) d
+-- of two bytes one
+pub need-either : (o m n : Option ℕ) (x : Tree) → (o ≡ m) ⊎ (o ≡ n) → MayNeed m x → MayNeed n x → MayNeed o x
+need-either o m n x e h k = elim e [
+  | inl p ↦ may o m x x p (λ b q. q) h
+  | inr p ↦ may o n x x p (λ b q. q) k
+]

@@ -1,7 +1,7 @@
 //! The making of a program's table of nodes.
 ghost use Rattle.syntect_pattern_table.specs.Table.{IsOrdered};
 
-use crate::classes::{SetBuilder, room_of};
+use crate::classes::{SetBuilder, part_of};
 use std::alloc::AllocError;
 use syntect_pattern_table::node::Node;
 use syntect_pattern_table::sets::Class;
@@ -89,7 +89,12 @@ impl Builder {
         ensures grows { OnOk result (Grows self.old.nodes self.new.nodes) }
         ensures holds { IfOk result (λ k. Holds self.new.nodes k (one_of (leaf_set leaf))) }
     {
-        let mut sets = SetBuilder::new(self.nodes.allocator(), room_of(leaf))?;
+        let alloc = self.nodes.allocator();
+        if let Some(part) = part_of(leaf) {
+            let class = Class::of_one(alloc, part)?;
+            return self.push(Node::Class(class));
+        }
+        let mut sets = SetBuilder::new(alloc, 2)?;
         let root = sets.push_leaf(leaf)?;
         self.push_class(sets, root)
     }

@@ -1,7 +1,7 @@
 //! Classes in brackets.
-ghost use Rattle.std.specs.Prelude.{◌≡◌, ◌<◌, true, length, nat_eq, chars, codes, option_map, IfOk, OnOk, IfSome};
+ghost use Rattle.std.specs.Prelude.{◌≡◌, ◌<◌, [], List, ℕ, true, length, nat_eq, chars, codes, option_map, IfOk, OnOk, IfSome};
 ghost use Rattle.std.specs.List.{starts_with};
-ghost use Rattle.syntect_pattern.specs.Sets.{Set, both, either, negate_if};
+ghost use Rattle.syntect_pattern.specs.Sets.{Set, both, either, from_to, negate_if};
 ghost use Rattle.syntect_pattern_table.specs.SetTable.{AreOrdered, set_in, sets, part_set, made_before, SetsGrow, HasSet};
 ghost use Rattle.syntect_pattern_words.specs.MemberViews.{leaf_set, leafed, started};
 ghost use Rattle.syntect_pattern.specs.Grammar.{dot_set};
@@ -38,13 +38,34 @@ pub enum Step<'a> {
 }
 
 /// For how many parts of a class in brackets there is room from the start.
-pub const BRACKET_ROOM: usize = 8;
+pub const BRACKET_ROOM: usize = 16;
 
-/// How many parts the set of an item has, and so how much room it takes.
-pub fn room_of(leaf: Leaf) -> usize {
+/// The part of the characters from the first to the last, with `fold` all of equal simple folding.
+fn span_part(fold: bool, low: char, high: char) -> Part
+    ensures alone { (k : ℕ) → made_before k result ≡ true }
+    ensures same { (before : List Set) → part_set before result ≡ from_to fold low high }
+{
+    if fold {
+        Part::Alike(low, high)
+    } else {
+        Part::Range(low, high)
+    }
+}
+
+/// The part whose set an item adds, where that takes a single one.
+pub fn part_of(leaf: Leaf) -> Option<Part>
+    ensures single { IfSome result (λ p. made_before 0 p ≡ true) }
+    ensures same { IfSome result (λ p. part_set [] p ≡ leaf_set leaf) }
+{
     match leaf {
-        Leaf::Set { negated, set: _ } => { if negated { 2 } else { 1 } }
-        _ => 1,
+        Leaf::Span { fold, low, high } => Some(span_part(fold, low, high)),
+        Leaf::Set { negated, set } => {
+            if negated {
+                None
+            } else {
+                Some(Part::Named(set))
+            }
+        }
     }
 }
 
@@ -112,13 +133,7 @@ impl SetBuilder {
         ensures has { IfOk result (λ k. HasSet self.new.parts k (leaf_set leaf)) }
     {
         match leaf {
-            Leaf::Span { fold, low, high } => {
-                if fold {
-                    self.push(Part::Alike(low, high))
-                } else {
-                    self.push(Part::Range(low, high))
-                }
-            }
+            Leaf::Span { fold, low, high } => self.push(span_part(fold, low, high)),
             Leaf::Set { negated, set } => {
                 let part = self.push(Part::Named(set))?;
                 self.negate_if(negated, part)

@@ -15,6 +15,9 @@ use syntect_pattern_table::program::Program;
 use syntect_pattern_words::openings::{Flags, Names, Place};
 use syntect_pattern_words::text::is_empty;
 
+/// How long a text is at most that there is room for two nodes a byte of it from the start.
+const SHORT: usize = 1024;
+
 /// The program of a pattern's text. None if the text is no pattern.
 pub fn compile(alloc: Global, pattern: &str) -> Result<Option<Program>, AllocError>
     ensures { IfOk result (λ found. Compiles pattern.now found) }
@@ -53,8 +56,9 @@ fn read_whole(
     ensures reads { IfOk result (λ f. whole known.now (chars text.now) ≡ whole_as f) }
     ensures alone { IfOk result (λ f. IfSome f (λ x. x.0.refers ≡ false → (other : Option grammar.Names) → whole other (chars text.now) ≡ whole_as f)) }
 {
-    // A text makes about as many nodes as it has characters
-    let mut reader = Reader::new(alloc, text.len().saturating_add(16))?;
+    // A short text makes at most two nodes a character, a long one mostly fewer
+    let room = text.len().saturating_add(text.len().min(SHORT) + 16);
+    let mut reader = Reader::new(alloc, room)?;
     let flags = Flags {
         fold: false,
         any: false,
@@ -77,9 +81,11 @@ fn program_of(alloc: Global, reader: Reader, body: usize) -> Result<Program, All
     let Reader {
         mut builder,
         names,
+        looks_back,
         ..
     } = reader;
-    let needed = need_in(alloc, builder.nodes.as_slice(), body)?;
+    let needed = need_in(builder.nodes.as_slice(), body);
     let root = builder.push(Node::Group { number: 0, body })?;
-    Program::new(alloc, builder.nodes, root, names.len() + 1, needed)
+    let groups = names.len() + 1;
+    Program::new(alloc, builder.nodes, root, groups, needed, looks_back)
 }

@@ -1,11 +1,10 @@
 //! A byte that each match needs.
-ghost use Rattle.std.specs.Prelude.{◌≡◌, ◌<◌, ◌⊎◌, ℕ, List, IfOk, IfSome, None, length, true};
-ghost use Rattle.syntect_pattern.specs.Trees.{Tree};
+ghost use Rattle.std.specs.Prelude.{◌≡◌, ◌<◌, ◌⊎◌, ℕ, List, IfSome, length, slice_index_or, true};
+ghost use Rattle.syntect_pattern.specs.Trees.{Tree, nothing};
 ghost use Rattle.syntect_pattern_table.specs.Builder.{tree_in};
-ghost use Rattle.syntect_pattern_table.specs.Needs.{AllNeed, MayNeed};
+ghost use Rattle.syntect_pattern_table.specs.Needs.{MayNeed, Needs};
 ghost use Rattle.syntect_pattern_table.specs.Table.{IsOrdered, node_tree, parts_before};
 
-use std::alloc::{AllocError, Global};
 use syntect_pattern_table::node::Node;
 
 /// The byte of an ASCII character.
@@ -34,58 +33,48 @@ fn rarer(a: Option<u8>, b: Option<u8>) -> Option<u8>
     }
 }
 
-/// What the two have in common.
-fn common(a: Option<u8>, b: Option<u8>) -> Option<u8>
-    ensures { (result ≡ None) ⊎ ((result ≡ a) × (result ≡ b)) }
-{
-    match a {
-        Some(x) => match b {
-            Some(y) => { if x == y { Some(x) } else { None } }
-            None => None,
-        },
-        None => None,
-    }
-}
-
-/// The byte, where the node has to match at least once.
-fn need_if(needed: bool, byte: Option<u8>) -> Option<u8>
-    ensures { (result ≡ None) ⊎ ((needed ≡ true) × (result ≡ byte)) }
-{
-    if needed { byte } else { None }
-}
-
-/// A byte that matches of the node need at their place or behind it, by those that the nodes before it need.
-fn need_of(node: &Node, before: &[Option<u8>]) -> Option<u8>
-    requires { parts_before (length before.now) node.now ≡ true }
-    ensures { (ts : List Tree) → AllNeed before.now ts → MayNeed result (node_tree ts node.now) }
+/// The part that each match of the node matches as well, at its place or behind it, if the node is no sequence.
+fn part_needed(node: &Node) -> Option<usize>
+    ensures before { IfSome result (λ part. (place : ℕ) → parts_before place node.now ≡ true
+        → part < place) }
+    ensures needs { IfSome result (λ part. (ts : List Tree) (byte : ℕ)
+        → Needs byte (slice_index_or ts part nothing) → Needs byte (node_tree ts node.now)) }
 {
     match node {
-        Node::Char(c) => byte_of(*c),
-        Node::Sequence(first, second) => rarer(before[*first], before[*second]),
-        Node::Alternation(first, second) => common(before[*first], before[*second]),
         Node::Repeat {
             greedy: _,
             least,
             most: _,
             body,
-        } => need_if(*least != 0, before[*body]),
-        Node::Group { number: _, body } => before[*body],
-        Node::Atomic(body) => before[*body],
-        Node::Ahead { negated, body } => need_if(!*negated, before[*body]),
+        } => { if *least == 0 { None } else { Some(*body) } }
+        Node::Group { number: _, body } => Some(*body),
+        Node::Atomic(body) => Some(*body),
+        Node::Ahead { negated, body } => { if *negated { None } else { Some(*body) } }
         _ => None,
     }
 }
 
-/// A byte that matches of the root need at their place or behind it, if one is known.
-pub fn need_in(alloc: Global, nodes: &[Node], root: usize) -> Result<Option<u8>, AllocError>
+/// A byte that matches of the node at the place need at their place or behind it, if one is known: of all that stand in a row
+/// the last one that is rare. Alternatives have seldom one in common, and aren't looked at. Parts stand in a row on the right,
+/// and nest elsewhere no deeper than groups do.
+pub fn need_in(nodes: &[Node], root: usize) -> Option<u8>
     requires ordered { IsOrdered nodes.now }
     requires inside { root < length nodes.now }
-    ensures { IfOk result (λ need. MayNeed need (tree_in nodes.now root)) }
+    ensures { MayNeed result (tree_in nodes.now root) }
 {
-    let mut before = Vec::with_capacity(alloc, root + 1)?;
-    for place in 0..root + 1 {
-        let next = need_of(&nodes[place], before.as_slice());
-        before.push_reserved(next);
+    let mut need = None;
+    let mut place = root;
+    'parts: loop {
+        place = match &nodes[place] {
+            Node::Char(c) => return rarer(need, byte_of(*c)),
+            Node::Sequence(first, second) => {
+                need = rarer(need, need_in(nodes, *first));
+                *second
+            }
+            node => match part_needed(node) {
+                Some(part) => part,
+                None => return need,
+            },
+        };
     }
-    Ok(before[root])
 }

@@ -14,7 +14,7 @@ ghost use Rattle.syntect_pattern.specs.Escapes as definition;
 ghost use Rattle.syntect_pattern.specs.Grammar as grammar;
 
 use crate::builder::{Builder, Join};
-use crate::classes::{BRACKET_ROOM, DEEPEST, SetBuilder, room_of};
+use crate::classes::{BRACKET_ROOM, DEEPEST, SetBuilder};
 use std::alloc::{AllocError, Global};
 use syntect_pattern::anchor::Anchor;
 use syntect_pattern_table::node::Node;
@@ -45,6 +45,8 @@ pub struct Reader {
     pub names: Names,
     /// Whether a back reference was met. Where none was, it makes no difference which groups are known.
     pub refers: bool,
+    /// Whether a lookbehind was met.
+    pub looks_back: bool,
 }
 
 impl Reader {
@@ -59,6 +61,7 @@ impl Reader {
             builder: Builder { nodes },
             names: Seq::new(alloc),
             refers: false,
+            looks_back: false,
         })
     }
 
@@ -106,7 +109,10 @@ impl Reader {
             Wrap::Group(number) => self.builder.push(Node::Group { number, body }),
             Wrap::Atomic => self.builder.push(Node::Atomic(body)),
             Wrap::Ahead(negated) => self.builder.push(Node::Ahead { negated, body }),
-            Wrap::Behind(negated) => self.builder.push(Node::Behind { negated, body }),
+            Wrap::Behind(negated) => {
+                self.looks_back = true;
+                self.builder.push(Node::Behind { negated, body })
+            }
         }
     }
 
@@ -251,9 +257,8 @@ impl Reader {
         ensures inside { IfOk result (λ f. IfSome f (λ x. IsBodyIn self.new.builder.nodes x.0)) }
         ensures reads { IfOk result (λ f. (known : Option grammar.Names) → grammar.item known (body_as self.old.builder.nodes body) (one_of (leaf_set leaf)) (place_as self.old.names place.entry) ≡ went_on self.new f) }
     {
-        let mut sets = SetBuilder::new(self.names.allocator(), room_of(leaf))?;
-        let root = sets.push_leaf(leaf)?;
-        Ok(self.class_item(body, sets, root, place)?)
+        let node = self.builder.push_leaf(leaf)?;
+        Ok(self.item(body, node, place)?)
     }
 
     /// A `.` as an item.

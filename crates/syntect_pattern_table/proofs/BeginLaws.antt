@@ -1,5 +1,5 @@
 -- Where no match can begin.
-use Rattle.std.proofs.Common.{◌≡◌, ◌<◌, ◌≤◌, ◌||◌, ℕ, zero, suc, Bool, true, false, not, Some, List, length, get_or, sym, ◌∙◌, ap, arith, inl, inr, min, below_more, length-append, [], ◌∷◌, ◌++◌, ◌+◌, ◌-◌, None, drop, subst, eq-eqb, length-drop, Option}
+use Rattle.std.proofs.Common.{◌≡◌, ◌<◌, ◌≤◌, ◌||◌, ℕ, zero, suc, refl, Bool, true, false, not, Some, List, length, get_or, sym, ◌∙◌, ap, arith, inl, inr, min, below_more, length-append, [], ◌∷◌, ◌++◌, ◌+◌, ◌-◌, None, drop, subst, eq-eqb, length-drop, Option}
 use Rattle.memchr.specs.Find.{IsFirstByte, is_byte}
 use Rattle.std.proofs.lemmas.List.{get_or-drop}
 use Rattle.syntect_pattern_table.specs.Needs.{IsAbsent}
@@ -7,13 +7,15 @@ use Rattle.std.specs.Prelude.{if◌then◌else◌, nat_lt, IsUtf8, IsCharBoundar
 use Rattle.std.proofs.lemmas.Bool.{lt-ltb, le-ltb, cases_lt}
 use Rattle.std.proofs.Math.ListN.{get_or-append}
 use Rattle.std.proofs.Math.Seq.{get_or-append_seam}
-use Rattle.syntect_pattern.specs.Trees.{Tree, nothing}
-use Rattle.syntect_pattern_table.specs.Starts.{start_at, AreFirsts, Begin, begins, begins_at, is_in, reads, stays}
+use Rattle.syntect_pattern.specs.Sets.{Set}
+use Rattle.syntect_pattern.specs.Trees.{Tree, nothing, one_of, seq}
+use Rattle.syntect_pattern_table.specs.Starts.{start_at, AreFirsts, AreWithin, Begin, Begins, GoesOn, begins, begins_at, can_hold, firsts_at, is_in, none_there, reads, row_at, sequence_begins, stays}
 use Rattle.syntect_pattern_table.specs.declared.starts.Firsts.{Firsts}
 use Rattle.syntect_pattern_table.specs.declared.starts.Places.{Places}
 use Rattle.syntect_pattern.specs.Matches.{Groups, matches}
 use Rattle.syntect_pattern_table.specs.Program.{CannotBegin}
 use Rattle.syntect_pattern_table.specs.declared.program.Program.{Program}
+use Rattle.syntect_pattern_table.proofs.PlaceLaws.{none_in}
 use Rattle.syntect_pattern_table.proofs.StartLaws.{dead-at, found_at-nothing}
 
 -- the flag of what stands at the place tells
@@ -73,17 +75,77 @@ dead-known s u i at ps ts known k p got x is l false e h =
     (ap (λ y. reads (get_or ts k nothing) y || stays (get_or ts k nothing) y) (sym is) ∙ sym (known k x p r.0 l) ∙ ap (λ (q : Places). is_in q x) r.1 ∙ sym e) at
 dead-known s u i at ps ts known k p got x is l true e h = cc
 
+-- a row stays what it is when more are added
+row-stays : (p : Places) (fs fs' : List Firsts) (row : ℕ) → GoesOn fs fs' → row ≤ length fs → row_at p fs' row ≡ row_at p fs row
+row-stays p fs fs' zero g l = refl
+row-stays p fs fs' (suc n) g l = g.same n (record { read = none_there; stay = none_there }) (omega (arith, l))
+
+pub GoesOn-same : (fs : List Firsts) → GoesOn fs fs
+GoesOn-same fs = record { longer = omega arith; same = λ n d l. refl }
+
+pub GoesOn-push : (fs : List Firsts) (f : Firsts) → GoesOn fs (fs ++ f ∷ [])
+GoesOn-push fs f = record { longer = omega (arith, length-append fs (f ∷ [])); same = λ n d l. get_or-append fs (f ∷ []) d n l }
+
+-- the row that was added last
+pub row-last : (p : Places) (fs : List Firsts) (f : Firsts) → row_at p (fs ++ f ∷ []) (suc (length fs)) ≡ f
+row-last p fs f = get_or-append_seam fs f [] (record { read = none_there; stay = none_there })
+
+or_none : (b : Bool) → (b || false) ≡ b
+or_none true = refl
+or_none false = refl
+
+-- a part that begins nowhere without reading something begins where it reads something
+pub row-none : (p : Places) (fs : List Firsts) (f : Firsts) (x : ℕ) → is_in f.stay x ≡ false → is_in p x ≡ (is_in f.read x || is_in f.stay x) → begins_at x (row_at p fs 0) ≡ begins_at x f
+row-none p fs f x staying e =
+    let read : is_in p x ≡ is_in f.read x = e ∙ ap (λ (b : Bool). is_in f.read x || b) staying ∙ or_none (is_in f.read x) in
+    ap (λ (b : Bool). record { read = b; stay = is_in none_there x }) read
+    ∙ ap (λ (b : Bool). record { read = is_in f.read x; stay = b }) (none_in x ∙ sym staying)
+
+-- a part that is read alone, at these places
+abbrev read_there : Places → Firsts
+read_there p = record { read = p; stay = none_there }
+
+pub one-begins : (x : ℕ) (p : Places) (a : Set) → is_in p x ≡ can_hold a x → begins_at x (read_there p) ≡ begins x (one_of a)
+one-begins x p a e =
+    ap (λ (b : Bool). record { read = b; stay = is_in none_there x }) e ∙ ap (λ (b : Bool). record { read = can_hold a x; stay = b }) (none_in x)
+
+front : (r s : Bool) (b : Begins) → s ≡ false → record { read = r; stay = s } ≡ sequence_begins (record { read = r; stay = s }) b
+front true false b e = refl
+front false false b e = refl
+front r true b e = cc
+
+-- what stands behind it doesn't matter
+pub front-begins : (x : ℕ) (p : Places) (t u : Tree) → begins_at x (read_there p) ≡ begins x t → begins_at x (read_there p) ≡ begins x (seq t u)
+front-begins x p t u h = front (is_in p x) (is_in none_there x) (begins x u) (none_in x) ∙ ap (λ (b : Begins). sequence_begins b (begins x u)) h
+
+pub alone-begins : (x : ℕ) (p : Places) (t : Tree) → begins_at x (read_there p) ≡ begins x t → is_in p x ≡ (reads t x || stays t x)
+alone-begins x p t h = sym (ap (λ (b : Bool). is_in p x || b) (none_in x) ∙ or_none (is_in p x)) ∙ ap (λ (b : Begins). b.read || b.stay) h
+
 -- one more node's beginning
-pub Begin-push : (x : ℕ) (rs ss : List Places) (ts : List Tree) (f : Firsts) (k : ℕ) → Begin x rs ss ts → length rs ≡ k → length ss ≡ k → begins_at x f ≡ begins x (get_or ts k nothing)
-    → Begin x (rs ++ f.read ∷ []) (ss ++ f.stay ∷ []) ts
-Begin-push x rs ss ts f k h e e' is j d l =
-    below_more (λ n. (c : Places) → begins_at x (record { read = get_or (rs ++ f.read ∷ []) n c; stay = get_or (ss ++ f.stay ∷ []) n c }) ≡ begins x (get_or ts n nothing)) k
-    (λ n p c. ap (λ (r : Places). begins_at x (record { read = r; stay = get_or (ss ++ f.stay ∷ []) n c })) (get_or-append rs (f.read ∷ []) c n (omega (arith, p, e)))
-    ∙ ap (λ (s : Places). begins_at x (record { read = get_or rs n c; stay = s })) (get_or-append ss (f.stay ∷ []) c n (omega (arith, p, e'))) ∙ h n c (omega (arith, p, e)))
-    (λ c. ap (λ n. begins_at x (record { read = get_or (rs ++ f.read ∷ []) n c; stay = get_or (ss ++ f.stay ∷ []) k c })) (sym e)
-    ∙ ap (λ n. begins_at x (record { read = get_or (rs ++ f.read ∷ []) (length rs) c; stay = get_or (ss ++ f.stay ∷ []) n c })) (sym e')
-    ∙ ap (λ (r : Places). begins_at x (record { read = r; stay = get_or (ss ++ f.stay ∷ []) (length ss) c })) (get_or-append_seam rs f.read [] c)
-    ∙ ap (λ (s : Places). begins_at x (record { read = f.read; stay = s })) (get_or-append_seam ss f.stay [] c) ∙ is) j (omega (arith, length-append rs (f.read ∷ []), e)) d
+module _ (x : ℕ) (ps : List Places) (rows : List ℕ) (fs fs' : List Firsts) (ts : List Tree) (p : Places) (row k : ℕ) (more : GoesOn fs fs') (e : length ps ≡ k) (f : length rows ≡ k) where
+  kept_at : (n : ℕ) → n < k → AreWithin rows fs → firsts_at (ps ++ p ∷ []) (rows ++ row ∷ []) fs' n ≡ firsts_at ps rows fs n
+  kept_at n l within =
+      ap (λ (q : Places). row_at q fs' (get_or (rows ++ row ∷ []) n 0)) (get_or-append ps (p ∷ []) none_there n (omega (arith, l, e)))
+      ∙ ap (λ (r : ℕ). row_at (get_or ps n none_there) fs' r) (get_or-append rows (row ∷ []) 0 n (omega (arith, l, f)))
+      ∙ row-stays (get_or ps n none_there) fs fs' (get_or rows n 0) more (within n (omega (arith, l, f)))
+
+  new_at : firsts_at (ps ++ p ∷ []) (rows ++ row ∷ []) fs' k ≡ row_at p fs' row
+  new_at =
+      ap (λ (q : Places). row_at q fs' (get_or (rows ++ row ∷ []) k 0)) (ap (λ (n : ℕ). get_or (ps ++ p ∷ []) n none_there) (sym e) ∙ get_or-append_seam ps p [] none_there)
+      ∙ ap (λ (r : ℕ). row_at p fs' r) (ap (λ (n : ℕ). get_or (rows ++ row ∷ []) n 0) (sym f) ∙ get_or-append_seam rows row [] 0)
+
+  pub Begin-push : Begin x ps rows fs ts → AreWithin rows fs → begins_at x (row_at p fs' row) ≡ begins x (get_or ts k nothing) → Begin x (ps ++ p ∷ []) (rows ++ row ∷ []) fs' ts
+  Begin-push h within is j l =
+      below_more (λ n. begins_at x (firsts_at (ps ++ p ∷ []) (rows ++ row ∷ []) fs' n) ≡ begins x (get_or ts n nothing)) k
+      (λ n q. ap (begins_at x) (kept_at n q within) ∙ h n (omega (arith, q, e)))
+      (ap (begins_at x) new_at ∙ is) j (omega (arith, length-append ps (p ∷ []), e, l))
+
+  pub AreWithin-push : AreWithin rows fs → row ≤ length fs' → AreWithin (rows ++ row ∷ []) fs'
+  AreWithin-push within inside j l =
+      below_more (λ n. get_or (rows ++ row ∷ []) n 0 ≤ length fs') k
+      (λ n q. subst (λ (r : ℕ). r ≤ length fs') (sym (get_or-append rows (row ∷ []) 0 n (omega (arith, q, f)))) (omega (arith, within n (omega (arith, q, f)), more.longer)))
+      (subst (λ (r : ℕ). r ≤ length fs') (sym (ap (λ (n : ℕ). get_or (rows ++ row ∷ []) n 0) (sym f) ∙ get_or-append_seam rows row [] 0)) inside)
+      j (omega (arith, length-append rows (row ∷ []), f, l))
 
 -- one more node's places
 pub AreFirsts-push : (ps : List Places) (ts : List Tree) (p : Places) (k : ℕ) → AreFirsts ps ts → length ps ≡ k

@@ -245,7 +245,7 @@ module _ (ts : List Tree) (n : ℕ) where
       ap (joined old) (sym (ap (λ (m : Option Bool). joined (met_in m (get_or ts k nothing) n) (met_before marks ts k n)) mark
       ∙ ap (λ x. joined x (met_before marks ts k n)) (met-none (get_or ts k nothing) n)))
 
-  get-none : (c k : ℕ) → get_or (replicate c unmet) k None ≡ None
+  pub get-none : (c k : ℕ) → get_or (replicate c unmet) k None ≡ None
   get-none c k = elim (cases_lt k c) [
     | inl l ↦ get_or-replicate c k unmet None l
     | inr g ↦ get_or_past (replicate c unmet) k None (omega (arith, length-replicate c unmet))
@@ -330,3 +330,32 @@ module _ (nodes : List Node) (ordered : IsOrdered nodes) (n : ℕ) where
       down zero h = refl
       down (suc i) h =
           ap (λ x. joined x (met_before marks (trees nodes) i n)) (h i (omega arith) (get_or marks i None)) ∙ down i (λ j l. h j (omega (arith, l)))
+
+-- a whole match before whose node there is none holds no group but itself
+pub no_group-whole : (nodes : List Node) → IsOrdered nodes → (n root : ℕ) → root < length nodes → NoGroupBefore nodes root
+    → (tree : Tree) → get_or (trees nodes) root nothing ≡ group 0 tree → group_in_look tree (suc n) ≡ None
+no_group-whole nodes ordered n root inside first tree is =
+    by (get_or nodes root Node.Nothing) (ordered root inside) (sym (get_or-trees nodes ordered root) ∙ is)
+  where
+    ts : List Tree
+    ts = trees nodes
+
+    by : (node : Node) → parts_before root node ≡ true → node_tree ts node ≡ group 0 tree → group_in_look tree (suc n) ≡ None
+    by Node.Nothing p e = cc
+    by (Node.Char c) p e = cc
+    by (Node.Class c) p e = cc
+    by (Node.Anchor a) p e = cc
+    by (Node.Same fold number) p e = cc
+    by (Node.Sequence a b) p e = cc
+    by (Node.Alternation a b) p e = cc
+    by (Node.Repeat greedy least most a) p e = cc
+    by (Node.Group number a) p e =
+        let body : get_or ts a nothing ≡ tree = cc in
+        let none = no_group-before nodes ordered (suc n) root (omega (arith, inside)) first a (ltb-true a root p) (Some false) in
+        sym (met-whole tree n)
+        ∙ ap (λ (b : Bool). joined (if b then Some false else None) (met_in (Some false) tree (suc n))) (ne_eqb 0 (suc n) (λ q. omega arith))
+        ∙ ap (λ (t : Tree). met_in (Some false) t (suc n)) (sym body)
+        ∙ none
+    by (Node.Atomic a) p e = cc
+    by (Node.Ahead negated a) p e = cc
+    by (Node.Behind negated a) p e = cc

@@ -4,6 +4,7 @@ use Rattle.std.specs.Int.{bit_at}
 use Rattle.syntect_pattern.specs.Sets.{Set, none, range, alike, either, both, negated, is_within, holds}
 use Rattle.syntect_pattern.specs.NamedSets.{set_of_named}
 use Rattle.syntect_pattern_table.specs.declared.sets.Part.{Part}
+use Rattle.syntect_pattern_table.specs.declared.sets.Parts.{Parts}
 
 -- the set of a part, from those of the parts before it
 abbrev pub part_set : List Set → Part → Set
@@ -26,6 +27,11 @@ sets = sets_from []
 -- the set of the part at the place
 abbrev pub set_in : List Part → ℕ → Set
 set_in parts k = slice_index_or (sets parts) k none
+
+-- the parts of a class
+abbrev pub listed : Parts → List Part
+listed (Parts.One part) = part ∷ []
+listed (Parts.Several parts) = parts
 
 -- what the part is made of stands before the place
 abbrev pub made_before : ℕ → Part → Bool

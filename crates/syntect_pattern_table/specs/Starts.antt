@@ -1,5 +1,5 @@
 -- Where a match can begin, as far as the byte there tells.
-use Rattle.std.specs.Prelude.{◌≡◌, ◌<◌, ℕ, Bool, true, false, not, ◌&&◌, ◌||◌, ◌==◌, nat_lt, List, length, if◌then◌else◌, slice_index, slice_index_or}
+use Rattle.std.specs.Prelude.{◌≡◌, ◌<◌, ◌≤◌, ℕ, zero, suc, Bool, true, false, not, ◌&&◌, ◌||◌, ◌==◌, nat_lt, List, length, if◌then◌else◌, slice_index, slice_index_or}
 use Rattle.syntect_pattern.specs.Sets.{Set, holds}
 use Rattle.syntect_pattern_table.specs.SetTable.{is_wide}
 use Rattle.syntect_pattern_table.specs.declared.starts.Firsts.{Firsts}
@@ -79,9 +79,31 @@ is_in p x = if nat_lt x 128 then bit_at p.ascii x == 1 else (if x == 128 then p.
 abbrev pub begins_at : ℕ → Firsts → Begins
 begins_at x f = record { read = is_in f.read x; stay = is_in f.stay x }
 
--- so begin these trees: where they read something, and where they read nothing
-abbrev pub Begin : ℕ → List Places → List Places → List Tree → Type 0
-Begin x rs ss ts = (k : ℕ) (d : Places) → k < length rs → begins_at x (record { read = slice_index_or rs k d; stay = slice_index_or ss k d }) ≡ begins x (slice_index_or ts k nothing)
+-- what can stand nowhere
+abbrev pub none_there : Places
+none_there = record { ascii = 0; wide = false; end = false }
+
+-- how a part begins that has this row, if it has one: else no match of it reads nothing, and these are its places
+abbrev pub row_at : Places → List Firsts → ℕ → Firsts
+row_at p fs zero = record { read = p; stay = none_there }
+row_at p fs (suc n) = slice_index_or fs n (record { read = none_there; stay = none_there })
+
+-- how the part at a place begins, by the places of all parts and their rows
+abbrev pub firsts_at : List Places → List ℕ → List Firsts → ℕ → Firsts
+firsts_at ps rows fs k = row_at (slice_index_or ps k none_there) fs (slice_index_or rows k 0)
+
+-- so begin these trees
+abbrev pub Begin : ℕ → List Places → List ℕ → List Firsts → List Tree → Type 0
+Begin x ps rows fs ts = (k : ℕ) → k < length ps → begins_at x (firsts_at ps rows fs k) ≡ begins x (slice_index_or ts k nothing)
+
+-- each of these rows is there
+abbrev pub AreWithin : List ℕ → List Firsts → Type 0
+AreWithin rows fs = (k : ℕ) → k < length rows → slice_index_or rows k 0 ≤ length fs
+
+-- the old rows are the first of the new ones
+pub record GoesOn (old new : List Firsts) : Type 0 where
+  pub longer : length old ≤ length new
+  pub same : (n : ℕ) (d : Firsts) → n < length old → slice_index_or new n d ≡ slice_index_or old n d
 
 -- for all that can stand there whether a match can begin
 abbrev pub AreStarts : List Bool → Tree → Type 0

@@ -2,14 +2,14 @@
 use Rattle.std.specs.Prelude.{◌≡◌, ℕ, ◌<◌, Bool, true, ◌&&◌, nat_lt, List, [], ◌∷◌, ◌++◌, length, slice_index_or}
 use Rattle.syntect_pattern.specs.Sets.{Set, range}
 use Rattle.syntect_pattern.specs.Trees.{Tree, nothing, one_of, anchor, same, seq, alt, repeat, group, atomic, ahead, behind}
-use Rattle.syntect_pattern_table.specs.SetTable.{set_in}
+use Rattle.syntect_pattern_table.specs.SetTable.{listed, set_in}
 use Rattle.syntect_pattern_table.specs.declared.sets.Class.{Class}
 use Rattle.syntect_pattern.specs.Anchors.{anchor_of}
 use Rattle.syntect_pattern_table.specs.declared.node.Node.{Node}
 
 -- what a class holds
 abbrev pub set_of : Class → Set
-set_of c = set_in c.body.value.parts c.body.value.root
+set_of c = set_in (listed c.body.value.parts) c.body.value.root
 
 -- the tree of a node, from those of the nodes before it
 abbrev pub node_tree : List Tree → Node → Tree

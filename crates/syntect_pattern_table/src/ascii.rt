@@ -219,7 +219,7 @@ fn both(a: u128, b: u128) -> u128
 }
 
 /// The characters of a part, by those of the parts before it.
-fn bits_of(part: Part, before: &[u128]) -> u128
+pub(crate) fn bits_of(part: Part, before: &[u128]) -> u128
     requires { made_before (length before.now) part ≡ true }
     ensures { (ss : List Set) (x : ℕ) → x < 128 → AreBits x before.now ss → (bit_at result x == 1) ≡ holds (part_set ss part) x }
 {

@@ -148,23 +148,13 @@ fn lengths_of(node: &Node, before: &[Lengths]) -> Lengths
     }
 }
 
-/// Whether the node is a lookbehind.
-fn is_behind(node: &Node) -> bool {
-    match node {
-        Node::Behind {
-            negated: _,
-            body: _,
-        } => true,
-        _ => false,
-    }
-}
-
-/// The lengths of each node. None are kept of a table without a lookbehind, since nothing else asks for them.
-pub fn lengths_in(alloc: Global, nodes: &[Node]) -> Result<Seq<Lengths>, AllocError>
+/// The lengths of each node, if they are wanted: none are kept of a table without a lookbehind, since nothing else asks for
+/// them.
+pub fn lengths_in(alloc: Global, nodes: &[Node], wanted: bool) -> Result<Seq<Lengths>, AllocError>
     requires { IsOrdered nodes.now }
     ensures { IfOk result (λ ls. AreLengths ls (trees nodes.now)) }
 {
-    if !nodes.iter().any(|node| is_behind(node)) {
+    if !wanted {
         return Ok(Seq::new(alloc));
     }
     let mut lengths = Vec::with_capacity(alloc, nodes.len())?;

@@ -145,7 +145,7 @@ fn first_group(nodes: &[Node], root: usize) -> usize
 
 /// Of each group whether it stands in a lookaround, and none of what is no group. Each node stands behind its parts, so one
 /// walk from the root to the first group meets each of them after all nodes that it is a part of. Of many patterns the root
-/// is the only group, and no other node is met.
+/// is the only group, and none is met.
 pub fn looks_of(
     alloc: Global,
     nodes: &[Node],
@@ -156,10 +156,13 @@ pub fn looks_of(
     requires inside { root < length nodes.now }
     ensures { IfOk result (λ looks. AreLooks nodes.now root looks) }
 {
-    let mut marks = unmarked(alloc, root + 1)?;
-    mark(&mut marks, root, false);
     let mut looks = unmarked(alloc, groups)?;
     let first = first_group(nodes, root);
+    if first == root {
+        return Ok(Seq::from_vec(looks));
+    }
+    let mut marks = unmarked(alloc, root + 1)?;
+    mark(&mut marks, root, false);
     let mut place = root + 1;
     while place > first {
         place -= 1;

@@ -55,13 +55,15 @@ impl Program {
     ghost use Rattle.syntect_pattern_table.specs.Lengths.{HasLengths};
     ghost use Rattle.syntect_pattern.specs.Matches.{Groups, matches};
 
-    /// The program whose whole match is the node at the root.
+    /// The program whose whole match is the node at the root. Where it looks back, it keeps how many bytes matches of its
+    /// nodes read; one that isn't said to takes its lookbehinds to read any number.
     pub fn new(
         alloc: Global,
         nodes: Seq<Node>,
         root: usize,
         groups: usize,
         needed: Option<u8>,
+        looks_back: bool,
     ) -> Result<Program, AllocError>
         requires ordered { IsOrdered nodes }
         requires inside { root < length nodes }
@@ -78,7 +80,7 @@ impl Program {
         let jumps_from = long_from(nodes.as_slice());
         let jumps = jumps_of(alloc, nodes.as_slice(), firsts.as_slice(), jumps_from)?;
         let looks = looks_of(alloc, nodes.as_slice(), root, groups)?;
-        let lengths = lengths_in(alloc, nodes.as_slice())?;
+        let lengths = lengths_in(alloc, nodes.as_slice(), looks_back)?;
         Ok(Program {
             nodes,
             root,

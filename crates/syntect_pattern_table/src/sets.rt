@@ -1,12 +1,12 @@
 //! Sets of characters, kept so that an ASCII character is looked up at once.
-ghost use Rattle.std.specs.Prelude.{◌≡◌, ◌<◌, ◌||◌, ◌&&◌, ◌==◌, nat_le, IfOk, slice_index_or};
+ghost use Rattle.std.specs.Prelude.{◌≡◌, ◌<◌, ◌||◌, ◌&&◌, ◌==◌, [], nat_le, true, IfOk, slice_index_or};
 ghost use Rattle.std.specs.Int.{bit_at};
 ghost use Rattle.std.specs.List.{list_any};
 ghost use Rattle.syntect_pattern.specs.Sets.{alike, holds, range, is_within, is_alike};
-ghost use Rattle.syntect_pattern_table.specs.SetTable.{AreFlags, AreOrdered, is_wide, set_in};
+ghost use Rattle.syntect_pattern_table.specs.SetTable.{AreFlags, AreOrdered, is_wide, listed, made_before, part_set, set_in};
 ghost use Rattle.syntect_pattern.specs.NamedSets.{set_of_named};
 
-use crate::ascii::ascii_bits;
+use crate::ascii::{ascii_bits, bits_of};
 use std::alloc::{AllocError, Global};
 use syntect_pattern::character::same_fold;
 use syntect_pattern::named::Named;
@@ -150,18 +150,25 @@ fn is_wide_at(parts: &[Part], root: usize) -> bool
     }
 }
 
+/// The parts of a class. Most classes have a single one, which takes no list.
+#[derive(Debug, Drop)]
+pub enum Parts {
+    One(Part),
+    Several(Seq<Part>),
+}
+
 /// What a class is made of.
 #[derive(Debug, Drop)]
 struct ClassBody {
-    parts: Seq<Part>,
+    parts: Parts,
     root: usize,
     /// A bit for each ASCII character.
     ascii: u128,
     /// Whether it can hold a character beyond ASCII, as far as its form tells.
     wide: bool,
-    ghost ordered: { AreOrdered parts },
-    ghost flagged: { AreFlags ascii (set_in parts root) },
-    ghost widened: { wide ≡ is_wide (set_in parts root) },
+    ghost ordered: { AreOrdered (listed parts) },
+    ghost flagged: { AreFlags ascii (set_in (listed parts) root) },
+    ghost widened: { wide ≡ is_wide (set_in (listed parts) root) },
 }
 
 /// A set of characters, made of parts, with its ASCII characters beside. It stands in a place of its own: most nodes of a
@@ -184,10 +191,27 @@ impl Class {
         let ascii = ascii_bits(alloc, parts.as_slice(), root)?;
         let wide = is_wide_at(parts.as_slice(), root);
         let body = ClassBody {
-            parts,
+            parts: Parts::Several(parts),
             root,
             ascii,
             wide,
+        };
+        Ok(Class {
+            body: Box::new(alloc, body)?,
+        })
+    }
+
+    /// The set of a part that is made of no other.
+    #[tactic(auto, unfolding(crate::specs::SetTable::sets))]
+    pub fn of_one(alloc: Global, part: Part) -> Result<Class, AllocError>
+        requires { made_before 0 part ≡ true }
+        ensures { IfOk result (λ s. set_of s ≡ part_set [] part) }
+    {
+        let body = ClassBody {
+            parts: Parts::One(part),
+            root: 0,
+            ascii: bits_of(part, &[]),
+            wide: is_wide_at(&[part], 0),
         };
         Ok(Class {
             body: Box::new(alloc, body)?,
@@ -215,7 +239,10 @@ impl Class {
         if c.is_ascii() {
             has_bit(self.body.ascii, c as u32)
         } else {
-            holds_at(self.body.parts.as_slice(), self.body.root, c)
+            match &self.body.parts {
+                Parts::One(part) => holds_at(&[*part], self.body.root, c),
+                Parts::Several(parts) => holds_at(parts.as_slice(), self.body.root, c),
+            }
         }
     }
 }

@@ -1,12 +1,12 @@
 //! Where a match can begin, as far as the byte there tells.
-ghost use Rattle.std.specs.Prelude.{◌≡◌, ◌<◌, ◌||◌, ◌&&◌, ◌==◌, nat_lt, not, ℕ, IfOk, List, length, slice_index_or, true, false};
+ghost use Rattle.std.specs.Prelude.{◌≡◌, ◌<◌, ◌≤◌, ◌||◌, ◌&&◌, ◌==◌, nat_lt, not, ℕ, IfOk, List, OnOk, length, slice_index_or, true, false};
 ghost use Rattle.syntect_pattern.specs.Sets.{holds, range};
-ghost use Rattle.syntect_pattern.specs.Trees.{Tree, nothing};
+ghost use Rattle.syntect_pattern.specs.Trees.{Tree};
 ghost use Rattle.syntect_pattern_table.specs.Table.{IsOrdered, node_tree, parts_before, set_of, trees};
 ghost use Rattle.syntect_pattern.specs.Anchors.{anchor_of};
 ghost use Rattle.syntect_pattern_table.specs.Starts as spec;
 ghost use Rattle.syntect_pattern_table.specs.declared.starts.Places.{Places as APlaces};
-ghost use Rattle.syntect_pattern_table.specs.Starts.{AreFirsts, Begin, begins, begins_at, either_begins, looked_begins, looped_begins, reads, sequence_begins, stays};
+ghost use Rattle.syntect_pattern_table.specs.Starts.{AreFirsts, Begin, GoesOn, begins, begins_at, either_begins, firsts_at, looked_begins, looped_begins, reads, row_at, sequence_begins, stays};
 
 use crate::ascii::put;
 use crate::node::{Class, Node};
@@ -214,41 +214,64 @@ pub fn ahead(a: Firsts, negated: bool) -> Firsts
     }
 }
 
-/// Where the node at a place can begin, by two lists: where those that read something do, and those that read nothing.
-fn at(reads: &[Places], stays: &[Places], place: usize) -> Firsts
-    requires inside { place < length reads.now }
-    requires both { length stays.now ≡ length reads.now }
-    ensures { (ts : List Tree) (x : ℕ) → Begin x reads.now stays.now ts
-        → begins_at x result ≡ begins x (slice_index_or ts place nothing) }
+/// What can stand nowhere.
+const NOTHING: Places = Places {
+    ascii: 0,
+    wide: false,
+    end: false,
+};
+
+/// Where the node at a place can begin, by the places of the nodes so far, their rows, and the rows' list.
+#[inline]
+fn at(places: &[Places], rows: &[usize], firsts: &[Firsts], place: usize) -> Firsts
+    requires inside { place < length places.now }
+    requires both { length rows.now ≡ length places.now }
+    ensures { result ≡ firsts_at places.now rows.now firsts.now place }
 {
-    Firsts {
-        read: reads[place],
-        stay: stays[place],
+    let row = rows[place];
+    if row == 0 {
+        return Firsts {
+            read: places[place],
+            stay: NOTHING,
+        };
+    }
+    match firsts.get(row - 1) {
+        Some(found) => *found,
+        None => Firsts {
+            read: NOTHING,
+            stay: NOTHING,
+        },
     }
 }
 
 /// Where the part at the one place can begin with that at the other behind it, which counts only where the first one can read
 /// nothing.
-fn sequence_at(reads: &[Places], stays: &[Places], first: usize, second: usize) -> Firsts
-    requires first { first < length reads.now }
-    requires second { second < length reads.now }
-    requires both { length stays.now ≡ length reads.now }
-    ensures { (ts : List Tree) (x : ℕ) → Begin x reads.now stays.now ts
-        → begins_at x result ≡ sequence_begins (begins x (slice_index_or ts first nothing))
-        (begins x (slice_index_or ts second nothing)) }
+fn sequence_at(
+    places: &[Places],
+    rows: &[usize],
+    firsts: &[Firsts],
+    first: usize,
+    second: usize,
+) -> Firsts
+    requires first { first < length places.now }
+    requires second { second < length places.now }
+    requires both { length rows.now ≡ length places.now }
+    ensures { (x : ℕ) → begins_at x result ≡ sequence_begins
+        (begins_at x (firsts_at places.now rows.now firsts.now first))
+        (begins_at x (firsts_at places.now rows.now firsts.now second)) }
 {
-    let front = at(reads, stays, first);
+    let front = at(places, rows, firsts, first);
     if is_nowhere(front.stay) {
         return front;
     }
-    in_sequence(front, at(reads, stays, second))
+    in_sequence(front, at(places, rows, firsts, second))
 }
 
 /// Where the node can begin, by where those of the nodes before it do.
-fn firsts_of(node: &Node, reads: &[Places], stays: &[Places]) -> Firsts
-    requires parts { parts_before (length reads.now) node.now ≡ true }
-    requires both { length stays.now ≡ length reads.now }
-    ensures { (ts : List Tree) (x : ℕ) → x < 130 → Begin x reads.now stays.now ts
+fn firsts_of(node: &Node, places: &[Places], rows: &[usize], firsts: &[Firsts]) -> Firsts
+    requires parts { parts_before (length places.now) node.now ≡ true }
+    requires both { length rows.now ≡ length places.now }
+    ensures { (ts : List Tree) (x : ℕ) → x < 130 → Begin x places.now rows.now firsts.now ts
         → begins_at x result ≡ begins x (node_tree ts node.now) }
 {
     match node {
@@ -276,19 +299,20 @@ fn firsts_of(node: &Node, reads: &[Places], stays: &[Places]) -> Firsts
             read: anywhere(),
             stay: anywhere(),
         },
-        Node::Sequence(first, second) => sequence_at(reads, stays, *first, *second),
-        Node::Alternation(first, second) => {
-            one_of_two(at(reads, stays, *first), at(reads, stays, *second))
-        }
+        Node::Sequence(first, second) => sequence_at(places, rows, firsts, *first, *second),
+        Node::Alternation(first, second) => one_of_two(
+            at(places, rows, firsts, *first),
+            at(places, rows, firsts, *second),
+        ),
         Node::Repeat {
             greedy: _,
             least,
             most: _,
             body,
-        } => in_loop(at(reads, stays, *body), *least),
-        Node::Group { number: _, body } => at(reads, stays, *body),
-        Node::Atomic(body) => at(reads, stays, *body),
-        Node::Ahead { negated, body } => ahead(at(reads, stays, *body), *negated),
+        } => in_loop(at(places, rows, firsts, *body), *least),
+        Node::Group { number: _, body } => at(places, rows, firsts, *body),
+        Node::Atomic(body) => at(places, rows, firsts, *body),
+        Node::Ahead { negated, body } => ahead(at(places, rows, firsts, *body), *negated),
     }
 }
 
@@ -305,30 +329,51 @@ pub fn start_at(text: &str, place: usize) -> u8
     }
 }
 
-/// The same places, made anew: a copy would carry along the bytes of theirs that hold nothing.
-fn anew(places: Places) -> Places
-    ensures { result ≡ places }
+/// The row of a node that begins so: a new one, or none, which is 0, where no match of it reads nothing.
+#[inline]
+fn row_of(firsts: &mut Vec<Firsts>, next: Firsts) -> Result<usize, AllocError>
+    ensures kept { OnOk result (GoesOn firsts.old.items firsts.new.items) }
+    ensures within { IfOk result (λ row. row ≤ length firsts.new.items) }
+    ensures row { IfOk result (λ row. (p : APlaces) (x : ℕ)
+        → spec.is_in p x ≡ (spec.is_in next.read x || spec.is_in next.stay x)
+        → begins_at x (row_at p firsts.new.items row) ≡ begins_at x next) }
 {
-    Places {
-        ascii: places.ascii,
-        wide: places.wide,
-        end: places.end,
+    if is_nowhere(next.stay) {
+        return Ok(0);
     }
+    firsts.push(next)?;
+    Ok(firsts.len())
 }
 
-/// Where matches of each node can begin.
+/// Where matches of each node can begin. Few nodes have a match that reads nothing, and have a row for where they read something
+/// and where they don't: of the others all matches begin where they read something. Most of those are characters, and sequences
+/// that begin with one.
 pub fn places_of(alloc: Global, nodes: &[Node]) -> Result<Seq<Places>, AllocError>
     requires { IsOrdered nodes.now }
     ensures count { IfOk result (λ ps. length ps ≡ length nodes.now) }
     ensures firsts { IfOk result (λ ps. AreFirsts ps (trees nodes.now)) }
 {
-    let mut reads = Vec::with_capacity(alloc, nodes.len())?;
-    let mut stays = Vec::with_capacity(alloc, nodes.len())?;
     let mut places = Vec::with_capacity(alloc, nodes.len())?;
+    let mut rows = Vec::with_capacity(alloc, nodes.len())?;
+    let mut firsts = Vec::new(alloc);
     for place in 0..nodes.len() {
-        let next = firsts_of(&nodes[place], reads.as_slice(), stays.as_slice());
-        reads.push_reserved(anew(next.read));
-        stays.push_reserved(anew(next.stay));
+        let node = &nodes[place];
+        if let Node::Char(wanted) = node {
+            rows.push_reserved(0);
+            places.push_reserved(places_of_char(*wanted));
+            continue;
+        }
+        if let Node::Sequence(first, _) = node {
+            if rows[*first] == 0 {
+                let read: Places = places[*first];
+                rows.push_reserved(0);
+                places.push_reserved(read);
+                continue;
+            }
+        }
+        let next = firsts_of(node, places.as_slice(), rows.as_slice(), firsts.as_slice());
+        let row = row_of(&mut firsts, next)?;
+        rows.push_reserved(row);
         places.push_reserved(either(next.read, next.stay));
     }
     Ok(Seq::from_vec(places))

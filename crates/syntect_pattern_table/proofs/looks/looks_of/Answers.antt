@@ -1,9 +1,9 @@
-use Rattle.std.proofs.Common.{◌≡◌, ◌+◌, ◌-◌, ℕ, suc, Bool, Some, None, false, List, Option, length, get_or, ap, sym, arith, ◌∙◌, replicate, length-set}
+use Rattle.std.proofs.Common.{◌≡◌, ◌+◌, ◌-◌, [], ℕ, suc, Bool, Some, None, false, List, Option, length, get_or, ap, subst, sym, arith, ◌∙◌, replicate, length-set}
 use Rattle.std.proofs.lemmas.List.{length-replicate}
 use Rattle.syntect_pattern.specs.Trees.{Tree}
 use Rattle.syntect_pattern_table.specs.Table.{trees}
-use Rattle.syntect_pattern_table.specs.Looks.{joined, marked, met_before, met_in}
-use Rattle.syntect_pattern_table.proofs.MarkLaws.{joined-none, met-whole, first_marked, unmet, unmet-before}
+use Rattle.syntect_pattern_table.specs.Looks.{NoGroupBefore, joined, marked, met_before, met_in}
+use Rattle.syntect_pattern_table.proofs.MarkLaws.{get-none, joined-none, met-whole, first_marked, no_group-whole, unmet, unmet-before}
 use Rattle.syntect_pattern_table.proofs.looks.looks_of.Goals as goal
 
 pub loop-place-init : goal.loop-place-init
@@ -44,10 +44,18 @@ returns c = λ n tree is.
     let last : c.loop-place.place ≡ first = omega (arith, c.loop-place.invariant.later) in
     let none : met_before marks ts first (suc n) ≡ None =
     unmet-before c.args.nodes.now c.requires.ordered (suc n) first (omega (arith, c.first_group-first.ensures.inside, c.requires.inside)) c.first_group-first.ensures.first marks in
-    ap (λ (ls : List (Option Bool)). get_or ls (suc n) None) c.from_vec.ensures
+    ap (λ (ls : List (Option Bool)). get_or ls (suc n) None) c.from_vec-2.ensures
     ∙ sym (joined-none (get_or looks (suc n) None))
     ∙ ap (joined (get_or looks (suc n) None)) (sym none)
     ∙ ap (λ (k : ℕ). joined (get_or looks (suc n) None) (met_before marks ts k (suc n))) (sym last)
     ∙ c.loop-place.invariant.met (suc n)
     ∙ ap (λ (t : Tree). met_in (Some false) t (suc n)) is
     ∙ met-whole tree n
+
+pub returns-then-first-root : goal.returns-then-first-root
+returns-then-first-root c = λ n tree is.
+    let nodes = c.args.nodes.now in
+    let first = subst (NoGroupBefore nodes) c.if-first-root.true c.first_group-first.ensures.first in
+    ap (λ (ls : List (Option Bool)). get_or ls (suc n) None) (c.from_vec.ensures ∙ c.in_ok-looks.ensures)
+    ∙ get-none [] 0 c.args.groups (suc n)
+    ∙ sym (no_group-whole nodes c.requires.ordered n c.args.root c.requires.inside first tree is)
