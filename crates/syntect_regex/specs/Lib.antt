@@ -7,5 +7,6 @@ pub mod Region
 pub mod Escape
 pub mod Begins
 pub mod Bounds
+pub mod Behind
 pub mod Outline
 pub mod Kept

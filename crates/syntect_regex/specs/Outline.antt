@@ -19,6 +19,6 @@ KnowsGroups pattern (Some looks) = (n : ℕ) → look_of looks n ≡ option_and_
 pub record IsOutlineOf (pattern : List ℕ) (o : Outline) : Type 0 where
   pub begins : NoneBeginsOutside o.begins pattern
   pub edges : o.at_edges ≡ true → BeginsAtEdges pattern
-  pub words : NoneBeginsBefore false o.words pattern
-  pub blanks : NoneBeginsBefore true o.blanks pattern
+  pub words : NoneBeginsBefore false o.behind.words pattern
+  pub blanks : NoneBeginsBefore true o.behind.blanks pattern
   pub groups : KnowsGroups pattern o.looks

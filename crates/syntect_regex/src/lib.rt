@@ -1,6 +1,7 @@
 //! Patterns and their searches.
 #![tactic(auto)]
 
+mod behind;
 mod compiled;
 mod edges;
 pub mod error;

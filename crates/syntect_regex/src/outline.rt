@@ -9,6 +9,7 @@ ghost use Rattle.syntect_regex.specs.Begins.{BeginsAtEdges, NoneBeginsOutside};
 ghost use Rattle.syntect_regex.specs.Outline.{IsOutlineOf, KnowsGroups};
 ghost use Rattle.syntect_word_ends.specs.Ends.{StandsBehind};
 
+use crate::behind::Behind;
 use crate::edges::is_at_edges;
 use std::alloc::{AllocError, Global};
 use syntect_pattern_table::program::Program;
@@ -23,10 +24,8 @@ pub(crate) struct Outline {
     pub begins: Places,
     /// Whether a match is seen at once to begin where a word does, or ends.
     pub at_edges: bool,
-    /// What can stand behind a word in which a match begins.
-    pub words: Places,
-    /// What can stand behind white space in which one does.
-    pub blanks: Places,
+    /// What can stand behind a word in which a match begins, and behind white space in which one does.
+    pub behind: Behind,
     /// Whether the groups stand in lookarounds, the whole match aside. None if the text is no pattern.
     looks: Option<Seq<Option<bool>>>,
 }
@@ -39,12 +38,12 @@ impl Outline {
     {
         let words = behind_of(alloc, false, program)?;
         let blanks = behind_of(alloc, true, program)?;
+        let behind = Behind::new(alloc, words, blanks)?;
         let looks = looks_of(alloc, program)?;
         Ok(Outline {
             begins: begins_of(program),
             at_edges: edges_of(program),
-            words,
-            blanks,
+            behind,
             looks,
         })
     }
@@ -60,8 +59,7 @@ impl Outline {
         Ok(Outline {
             begins: self.begins,
             at_edges: self.at_edges,
-            words: self.words,
-            blanks: self.blanks,
+            behind: self.behind.clone(alloc)?,
             looks,
         })
     }
@@ -134,6 +132,8 @@ fn looks_of(
         → KnowsGroups pattern looks) }
 {
     match program {
+        // Of group 0 it is known without, and many patterns have no other
+        Some(program) if program.looks.len() < 2 => Ok(Some(Seq::new(alloc))),
         Some(program) => Ok(Some(Seq::from_slice(alloc, program.looks.as_slice())?)),
         None => Ok(None),
     }

@@ -34,19 +34,22 @@ use syntect_turns::count::TurnCount;
 /// A text is compiled when the pattern is made, for what is asked of patterns that aren't searched, and again when it is first
 /// searched, for its program, which is kept from then on. So patterns that are never searched take little memory.
 pub struct Regex {
+    body: Box<RegexBody>,
+}
+
+/// What a pattern keeps, in a place of its own: an entry of a context has room for a pattern also where it holds none, and that
+/// room is to be small.
+#[derive(Drop)]
+struct RegexBody {
     text: String,
-    outline: Outline,
     kept: Kept,
+    outline: Outline,
 }
 
 /// Written out, so that crates above call it and needn't prove each part's drop again.
 impl Drop for Regex {
     fn drop(self) {
-        let Regex {
-            text: _,
-            outline: _,
-            kept: _,
-        } = self;
+        let Regex { body: _ } = self;
     }
 }
 
@@ -57,10 +60,11 @@ impl Model for Regex {
 
     ghost Value = { List ℕ };
 
-    ghost view = { λ a. string_bytes a.text };
+    ghost view = { λ a. string_bytes a.body.value.text };
 
-    ghost invariant = { λ a. IsOutlineOf (string_bytes a.text) a.outline
-        × IsKeptOf (string_bytes a.text) a.kept };
+    ghost invariant = { λ a. let body = a.body.value in
+        IsOutlineOf (string_bytes body.text) body.outline
+        × IsKeptOf (string_bytes body.text) body.kept };
 }
 
 impl Regex {
@@ -68,13 +72,18 @@ impl Regex {
     pub fn new(alloc: Global, text: String) -> Result<Regex, AllocError>
         ensures { IfOk result (λ r. r ≡ string_bytes text) }
     {
+        // Texts that grew as they were read have up to twice the room that they need, and patterns of grammars are kept long
+        let mut text = text;
+        text.shrink_to_fit();
         let program = compile(alloc, text.as_str())?;
         let outline = Outline::new(alloc, &program)?;
-        Ok(Regex {
+        let parts = RegexBody {
             text,
-            outline,
             kept: Kept::Late(OnceBox::new(alloc)),
-        })
+            outline,
+        };
+        let body = Box::new(alloc, parts)?;
+        Ok(Regex { body })
     }
 
     /// The same, compiled for searches at once: a pattern that is searched soon is so compiled a single time, and its searches
@@ -85,11 +94,13 @@ impl Regex {
         let program = compile(alloc, text.as_str())?;
         let outline = Outline::new(alloc, &program)?;
         let made = Box::new(alloc, program)?;
-        Ok(Regex {
+        let parts = RegexBody {
             text,
-            outline,
             kept: Kept::Own(made),
-        })
+            outline,
+        };
+        let body = Box::new(alloc, parts)?;
+        Ok(Regex { body })
     }
 
     /// The program, which the first search makes. None if the text is no pattern.
@@ -97,8 +108,9 @@ impl Regex {
     fn program(&self) -> Result<Option<&Program>, AllocError>
         ensures { IfOk result (λ p. Compiles self.now (option_copied p)) }
     {
-        let text = &self.text;
-        let program = program_in(*text.allocator(), &self.kept, text.as_str())?;
+        let body: &RegexBody = &self.body;
+        let text = &body.text;
+        let program = program_in(*text.allocator(), &body.kept, text.as_str())?;
         Ok(program.as_ref())
     }
 
@@ -118,7 +130,7 @@ impl Regex {
     pub fn regex_str(&self) -> &str
         ensures { result.now ≡ self.now }
     {
-        self.text.as_str()
+        self.body.text.as_str()
     }
 
     /// Whether a lookaround holds the group with this number. None holds group 0, since that is the whole match. There is no
@@ -126,14 +138,14 @@ impl Regex {
     pub fn group(&self, number: usize) -> Option<bool>
         ensures { result ≡ option_and_then (λ tree. group_in_look tree number) (pattern_tree self.now) }
     {
-        self.outline.group(number)
+        self.body.outline.group(number)
     }
 
     /// What can stand at a place where a match begins: where something else stands none begins.
     pub fn begins(&self) -> Places
         ensures { NoneBeginsOutside result self.now }
     {
-        self.outline.begins
+        self.body.outline.begins
     }
 
     /// Whether the pattern is seen at once to begin with `\b`: then no match of it begins in the midst of a word. Without it
@@ -141,7 +153,7 @@ impl Regex {
     pub fn begins_at_edges(&self) -> bool
         ensures { result ≡ true → BeginsAtEdges self.now }
     {
-        self.outline.at_edges
+        self.body.outline.at_edges
     }
 
     /// What can stand behind a word in which a match begins: in a word that has something else behind it none begins. The
@@ -149,7 +161,7 @@ impl Regex {
     pub fn behind_words(&self) -> Places
         ensures { NoneBeginsBefore false result self.now }
     {
-        self.outline.words
+        self.body.outline.behind.words()
     }
 
     /// What can stand behind white space in which a match begins: in white space that has something else behind it none
@@ -157,7 +169,7 @@ impl Regex {
     pub fn behind_blanks(&self) -> Places
         ensures { NoneBeginsBefore true result self.now }
     {
-        self.outline.blanks
+        self.body.outline.behind.blanks()
     }
 
     /// Whether each search takes steps in proportion to the text: those of a pattern without back references, whose
@@ -167,7 +179,7 @@ impl Regex {
     pub fn is_linear(&self, alloc: Global) -> Result<bool, AllocError>
         ensures { IfOk result (λ linear. linear ≡ pattern_is_linear self.now) }
     {
-        let Some(program) = compile(alloc, self.text.as_str())? else {
+        let Some(program) = compile(alloc, self.body.text.as_str())? else {
             return Ok(true);
         };
         let plan = Plan::new(alloc, &program, &mut TurnCount::none())?;
@@ -178,11 +190,13 @@ impl Regex {
     pub fn clone(&self, alloc: Global) -> Result<Regex, AllocError>
         ensures { IfOk result (λ r. r ≡ self.now) }
     {
-        Ok(Regex {
-            text: String::from_str(alloc, self.text.as_str())?,
-            outline: self.outline.clone(alloc)?,
+        let parts = RegexBody {
+            text: String::from_str(alloc, self.body.text.as_str())?,
             kept: Kept::Late(OnceBox::new(alloc)),
-        })
+            outline: self.body.outline.clone(alloc)?,
+        };
+        let body = Box::new(alloc, parts)?;
+        Ok(Regex { body })
     }
 
     /// Searches `text[..end]` from `begin` on, both being byte positions: whether the pattern matches at some place there.
@@ -403,7 +417,7 @@ impl PartialEq for Regex {
     ghost laws = { Prim.search (comparing, rules) };
 
     fn eq(&self, other: &Self) -> bool {
-        self.text == other.text
+        self.body.text == other.body.text
     }
 }
 
