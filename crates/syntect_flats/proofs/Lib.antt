@@ -1,3 +1,4 @@
 pub mod RowLaws
 pub mod SlimLaws
 pub mod PackedLaws
+pub mod ToldLaws

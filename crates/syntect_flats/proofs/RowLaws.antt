@@ -2,7 +2,7 @@
 use Rattle.std.proofs.Common.{◌≡◌, ◌==◌, ◌<◌, ◌≤◌, ◌+◌, ◌-◌, ◌*◌, ◌/◌, ◌%◌, ◌^◌, ℕ, Bool, true, false, List, length, get_or, take, refl, sym, ap, subst, ◌∙◌, ◌⊎◌, arith, inl, inr, bit_and, bit_or, if◌then◌else◌}
 use Rattle.std.specs.Int.{bit_at, bit_not, w64, w128}
 use Rattle.std.specs.Prelude.{slice_set, min, max, nat_lt, not}
-use Rattle.std.proofs.lemmas.Bool.{cases_lt, le-ltb, lt-ltb, not-true}
+use Rattle.std.proofs.lemmas.Bool.{cases_lt, le-ltb, lt-ltb, not-false, not-true}
 use Rattle.std.proofs.lemmas.Bool.Decides.{eqb_tells}
 use Rattle.std.proofs.lemmas.List.{get_or-set_same, get_or-set_other, get_or-take, get_or_past, get_or_default}
 use Rattle.std.proofs.lemmas.Nat.{div-mul-add, shr-shr}
@@ -53,8 +53,8 @@ bits_kept rows part place bit e b h = elim (cases_lt place (length part)) [
 ]
 
 pub marks_kept : (rows part : List ℕ) (words : ℕ) (flats : List Flat) → take (length part) rows ≡ part → MarkCuts rows words flats → MarkCuts part words flats
-marks_kept rows part words flats e h row k d l m = elim (cases_lt (row * words + k / 64) (length part)) [
-  | inl i ↦ h row k d l (ap (λ w. bit_at w (k % 64) == 1) (sym (same_word rows part (row * words + k / 64) 0 e i)) ∙ m)
+marks_kept rows part words flats e h row k d s l m = elim (cases_lt (row * words + k / 64) (length part)) [
+  | inl i ↦ h row k d s l (ap (λ w. bit_at w (k % 64) == 1) (sym (same_word rows part (row * words + k / 64) 0 e i)) ∙ m)
   | inr o ↦
       absurd
       (let none : false ≡ true =
@@ -128,8 +128,8 @@ mark_only rows place bit word l m same p b e = elim (eqb_tells p place) [
 pub marked_more : (rows new : List ℕ) (words row index : ℕ) (flat : Flat) (flats : List Flat) → length flats ≤ words * 64 → index < length flats → flat ≡ get_or flats index flat
     → is_cut_in row flat ≡ true → ((p b : ℕ) → has_mark new p b ≡ true → (has_mark rows p b ≡ true) ⊎ ((p ≡ row * words + index / 64) × (b ≡ index % 64)))
     → MarkCuts rows words flats → MarkCuts new words flats
-marked_more rows new words row index flat flats room inside is cut told before r k d l m = elim (told (r * words + k / 64) (k % 64) m) [
-  | inl o ↦ before r k d l o
+marked_more rows new words row index flat flats room inside is cut told before r k d s l m = elim (told (r * words + k / 64) (k % 64) m) [
+  | inl o ↦ before r k d s l o
   | inr e ↦
       (let same_row : r ≡ row = sym (div-mul-add r words (k / 64) (omega (arith, l, room))) ∙ ap (λ n. n / words) e.0 ∙ div-mul-add row words (index / 64) (omega (arith, inside, room)) in
       let level : r * words ≡ row * words = ap (λ n. n * words) same_row in
@@ -138,6 +138,37 @@ marked_more rows new words row index flat flats room inside is cut told before r
       let at : get_or flats k d ≡ flat = ap (λ n. get_or flats n d) same ∙ get_or_default flats index d flat inside ∙ sym is in
       ap (is_cut_in r) at ∙ ap (λ n. is_cut_in n flat) same_row ∙ cut)
 ]
+
+-- ---- what isn't held cuts off ----
+
+pub edge_cuts : (flat : Flat) → not flat.at_edges ≡ false → is_cut_in 0 flat ≡ true
+edge_cuts flat e = not-false flat.at_edges e
+
+word_row : (flat : Flat) (x : ℕ) → x < 130 → is_cut_in (1 + x) flat ≡ not (is_in flat.words x)
+word_row flat x l =
+    let n : 1 + x - 1 ≡ x = omega arith in
+    ap (λ t. if t then flat.at_edges else (if nat_lt (1 + x) 131 then not (is_in flat.words (1 + x - 1)) else not (is_in flat.blanks (1 + x - 131)))) (le-ltb (1 + x) 1 (omega arith))
+    ∙ ap (λ t. if t then not (is_in flat.words (1 + x - 1)) else not (is_in flat.blanks (1 + x - 131))) (lt-ltb (1 + x) 131 (omega (arith, l)))
+    ∙ ap (λ q. not (is_in flat.words q)) n
+
+blank_row : (flat : Flat) (x : ℕ) → is_cut_in (131 + x) flat ≡ not (is_in flat.blanks x)
+blank_row flat x =
+    let n : 131 + x - 131 ≡ x = omega arith in
+    ap (λ t. if t then flat.at_edges else (if nat_lt (131 + x) 131 then not (is_in flat.words (131 + x - 1)) else not (is_in flat.blanks (131 + x - 131)))) (le-ltb (131 + x) 1 (omega arith))
+    ∙ ap (λ t. if t then not (is_in flat.words (131 + x - 1)) else not (is_in flat.blanks (131 + x - 131))) (le-ltb (131 + x) 131 (omega arith))
+    ∙ ap (λ q. not (is_in flat.blanks q)) n
+
+pub word_cuts : (flat : Flat) (x : ℕ) → x < 130 → is_in flat.words x ≡ false → is_cut_in (1 + x) flat ≡ true
+word_cuts flat x l e = word_row flat x l ∙ ap not e
+
+pub blank_cuts : (flat : Flat) (x : ℕ) → is_in flat.blanks x ≡ false → is_cut_in (131 + x) flat ≡ true
+blank_cuts flat x e = blank_row flat x ∙ ap not e
+
+pub word_is_cut : (flat : Flat) (x : ℕ) → x < 130 → is_cut_in (1 + x) flat ≡ true → is_in flat.words x ≡ false
+word_is_cut flat x l e = not-true (is_in flat.words x) (sym (word_row flat x l) ∙ e)
+
+pub blank_is_cut : (flat : Flat) (x : ℕ) → is_cut_in (131 + x) flat ≡ true → is_in flat.blanks x ≡ false
+blank_is_cut flat x e = not-true (is_in flat.blanks x) (sym (blank_row flat x) ∙ e)
 
 gate : (b c e : ℕ) → b < 2 → c < 2 → e < 2 → min b (1 - max c e) ≡ 0 → (b ≡ 0) ⊎ ((c ≡ 1) ⊎ (e ≡ 1))
 gate b c e l m n h = elim (cases_lt b 1) [
@@ -153,7 +184,7 @@ gate b c e l m n h = elim (cases_lt b 1) [
 
 -- which patterns can begin where this is seen
 module _ (rows cuts : List ℕ) (words : ℕ) (o : Outlook) (word begins behind edges : ℕ) (here : o.here < 130) (bound : o.behind < 130)
-    (b : begins ≡ get_or rows (o.here * words + word) 18446744073709551615) (c : behind ≡ get_or cuts (behind_row o * words + word) 0) (e : edges ≡ edge_marks cuts words o.off_edges word)
+    (b : begins ≡ get_or rows (o.here * words + word) 18446744073709551615) (c : behind ≡ get_or cuts (behind_row o * words + word) 0) (e : edges ≡ edge_marks cuts o.off_edges word)
     (fits : bit_or behind edges < 2 ^ 64) where
   module _ (flats : List Flat) (i : ℕ) (d : Flat) (some : 0 < words) (r : AreRowsOf rows words flats) (m : MarkCuts cuts words flats) (l : i < 64) (inside : word * 64 + i < length flats) where
     abbrev at : ℕ
@@ -169,41 +200,33 @@ module _ (rows cuts : List ℕ) (words : ℕ) (o : Outlook) (word begins behind 
     rest = omega (arith, l)
 
     -- its bit in a row is this one
-    marked : (row : ℕ) → bit_at (get_or cuts (row * words + word) 0) i ≡ 1 → is_cut_in row flat ≡ true
-    marked row g = m row at d inside (ap (λ q. bit_at (get_or cuts (row * words + q) 0) (at % 64) == 1) part ∙ ap (λ q. bit_at (get_or cuts (row * words + word) 0) q == 1) rest ∙ ap (λ q. q == 1) g)
+    marked : (row : ℕ) → row < 261 → bit_at (get_or cuts (row * words + word) 0) i ≡ 1 → is_cut_in row flat ≡ true
+    marked row s g = m row at d s inside (ap (λ q. bit_at (get_or cuts (row * words + q) 0) (at % 64) == 1) part ∙ ap (λ q. bit_at (get_or cuts (row * words + word) 0) q == 1) rest ∙ ap (λ q. q == 1) g)
 
     by_behind : bit_at behind i ≡ 1 → IsOut o flat
     by_behind g = inr (inl (kind o.blank refl))
       where
+        in_row : (row : ℕ) → behind_row o ≡ row → row < 261 → is_cut_in row flat ≡ true
+        in_row row e s = marked row s (ap (λ q. bit_at (get_or cuts (q * words + word) 0) i) (sym e) ∙ ap (λ q. bit_at q i) (sym c) ∙ g)
+
         kind : (t : Bool) → o.blank ≡ t → is_in (behind_of o.blank flat) o.behind ≡ false
         kind false f =
-            let row : behind_row o ≡ 1 + o.behind = ap (λ t. if t then 131 + o.behind else 1 + o.behind) f in
-            let cut : is_cut_in (1 + o.behind) flat ≡ true = marked (1 + o.behind) (ap (λ q. bit_at (get_or cuts (q * words + word) 0) i) (sym row) ∙ ap (λ q. bit_at q i) (sym c) ∙ g) in
-            let n : 1 + o.behind - 1 ≡ o.behind = omega arith in
-            ap (λ t. is_in (behind_of t flat) o.behind) f ∙ not-true (is_in flat.words o.behind)
-            (ap (λ q. not (is_in flat.words q)) (sym n)
-            ∙ ap (λ t. if t then not (is_in flat.words (1 + o.behind - 1)) else not (is_in flat.blanks (1 + o.behind - 131))) (sym (lt-ltb (1 + o.behind) 131 (omega (arith, bound))))
-            ∙ ap (λ t. if t then flat.at_edges else (if nat_lt (1 + o.behind) 131 then not (is_in flat.words (1 + o.behind - 1)) else not (is_in flat.blanks (1 + o.behind - 131)))) (sym (le-ltb (1 + o.behind) 1 (omega arith)))
-            ∙ cut)
+            ap (λ t. is_in (behind_of t flat) o.behind) f
+            ∙ word_is_cut flat o.behind bound (in_row (1 + o.behind) (ap (λ t. if t then 131 + o.behind else 1 + o.behind) f) (omega (arith, bound)))
         kind true f =
-            let row : behind_row o ≡ 131 + o.behind = ap (λ t. if t then 131 + o.behind else 1 + o.behind) f in
-            let cut : is_cut_in (131 + o.behind) flat ≡ true = marked (131 + o.behind) (ap (λ q. bit_at (get_or cuts (q * words + word) 0) i) (sym row) ∙ ap (λ q. bit_at q i) (sym c) ∙ g) in
-            let n : 131 + o.behind - 131 ≡ o.behind = omega arith in
-            ap (λ t. is_in (behind_of t flat) o.behind) f ∙ not-true (is_in flat.blanks o.behind)
-            (ap (λ q. not (is_in flat.blanks q)) (sym n)
-            ∙ ap (λ t. if t then not (is_in flat.words (131 + o.behind - 1)) else not (is_in flat.blanks (131 + o.behind - 131))) (sym (le-ltb (131 + o.behind) 131 (omega arith)))
-            ∙ ap (λ t. if t then flat.at_edges else (if nat_lt (131 + o.behind) 131 then not (is_in flat.words (131 + o.behind - 1)) else not (is_in flat.blanks (131 + o.behind - 131)))) (sym (le-ltb (131 + o.behind) 1 (omega arith)))
-            ∙ cut)
+            ap (λ t. is_in (behind_of t flat) o.behind) f
+            ∙ blank_is_cut flat o.behind (in_row (131 + o.behind) (ap (λ t. if t then 131 + o.behind else 1 + o.behind) f) (omega (arith, bound)))
 
     by_edges : bit_at edges i ≡ 1 → IsOut o flat
     by_edges g = kind o.off_edges refl
       where
         kind : (t : Bool) → o.off_edges ≡ t → IsOut o flat
         kind true f =
-            let is : edges ≡ get_or cuts (0 * words + word) 0 = e ∙ ap (λ t. edge_marks cuts words t word) f in
-            inr (inr (f, marked 0 (ap (λ q. bit_at q i) (sym is) ∙ g)))
+            let is : edges ≡ get_or cuts word 0 = e ∙ ap (λ t. edge_marks cuts t word) f in
+            let first : 0 * words + word ≡ word = omega arith in
+            inr (inr (f, marked 0 (omega arith) (ap (λ q. bit_at (get_or cuts q 0) i) first ∙ ap (λ q. bit_at q i) (sym is) ∙ g)))
         kind false f =
-            let is : edges ≡ 0 = e ∙ ap (λ t. edge_marks cuts words t word) f in
+            let is : edges ≡ 0 = e ∙ ap (λ t. edge_marks cuts t word) f in
             let no : 0 ≡ 1 = sym (bit_at-zero i) ∙ ap (λ q. bit_at q i) (sym is) ∙ g in absurd (omega (arith, no))
 
     by_begins : bit_at begins i ≡ 0 → IsOut o flat
@@ -276,26 +299,3 @@ wide_in p = refl
 pub end_in : (p : Places) → is_in p 129 ≡ p.end
 unfolding is_in
 end_in p = refl
-
--- ---- what isn't held cuts off ----
-
-pub edge_cuts : (flat : Flat) → not flat.at_edges ≡ false → is_cut_in 0 flat ≡ true
-edge_cuts flat e = by flat.at_edges e
-  where
-    by : (b : Bool) → not b ≡ false → b ≡ true
-    by true f = refl
-    by false f = sym f
-
-pub word_cuts : (flat : Flat) (x : ℕ) → x < 130 → is_in flat.words x ≡ false → is_cut_in (1 + x) flat ≡ true
-word_cuts flat x l e =
-    let n : 1 + x - 1 ≡ x = omega arith in
-    ap (λ t. if t then flat.at_edges else (if nat_lt (1 + x) 131 then not (is_in flat.words (1 + x - 1)) else not (is_in flat.blanks (1 + x - 131)))) (le-ltb (1 + x) 1 (omega arith))
-    ∙ ap (λ t. if t then not (is_in flat.words (1 + x - 1)) else not (is_in flat.blanks (1 + x - 131))) (lt-ltb (1 + x) 131 (omega (arith, l)))
-    ∙ ap (λ q. not (is_in flat.words q)) n ∙ ap not e
-
-pub blank_cuts : (flat : Flat) (x : ℕ) → is_in flat.blanks x ≡ false → is_cut_in (131 + x) flat ≡ true
-blank_cuts flat x e =
-    let n : 131 + x - 131 ≡ x = omega arith in
-    ap (λ t. if t then flat.at_edges else (if nat_lt (131 + x) 131 then not (is_in flat.words (131 + x - 1)) else not (is_in flat.blanks (131 + x - 131)))) (le-ltb (131 + x) 1 (omega arith))
-    ∙ ap (λ t. if t then not (is_in flat.words (131 + x - 1)) else not (is_in flat.blanks (131 + x - 131))) (le-ltb (131 + x) 131 (omega arith))
-    ∙ ap (λ q. not (is_in flat.blanks q)) n ∙ ap not e

@@ -46,16 +46,20 @@ is_cut_in row flat = if nat_lt row 1 then flat.at_edges else (if nat_lt row 131 
 abbrev pub has_mark : List ℕ → ℕ → ℕ → Bool
 has_mark rows place bit = bit_at (slice_index_or rows place 0) bit == 1
 
--- each pattern with a mark in a row is cut off by what the row is of
+-- each pattern with a mark in one of the rows is cut off by what the row is of
 abbrev pub MarkCuts : List ℕ → ℕ → List Flat → Type 0
-MarkCuts rows words flats = (row k : ℕ) (d : Flat) → k < length flats → has_mark rows (row * words + k / 64) (k % 64) ≡ true → is_cut_in row (slice_index_or flats k d) ≡ true
+MarkCuts rows words flats = (row k : ℕ) (d : Flat) → row < 261 → k < length flats → has_mark rows (row * words + k / 64) (k % 64) ≡ true → is_cut_in row (slice_index_or flats k d) ≡ true
 
--- The tables tell of the patterns which of them can begin where something stands, if there are rows.
-pub record IsTabled (rows cuts : Packed) (words : ℕ) (any : Places) (flats : List Flat) : Type 0 where
+-- whatever the patterns are, if the one at the index is such, rows whose marks cut off as they should still do after a change
+abbrev pub KeepsCuts : ℕ → ℕ → (Flat → Type 0) → List ℕ → List ℕ → Type 0
+KeepsCuts words index Is old new = (flats : List Flat) (flat : Flat) → length flats ≤ words * 64 → index < length flats → flat ≡ slice_index_or flats index flat → Is flat
+    → MarkCuts old words flats → MarkCuts new words flats
+
+-- The tables tell of the patterns which of them can begin where something stands.
+pub record IsTabled (rows cuts : Packed) (words : ℕ) (flats : List Flat) : Type 0 where
   pub begins : AreRowsOf (unpacked words rows) words flats
-  pub any_begins : BeginIn any flats
   pub cut_off : MarkCuts (unpacked words cuts) words flats
-  pub room : 0 < words → length flats ≤ words * 64
+  pub room : length flats ≤ words * 64
   pub rows_whole : IsPacked words rows
   pub cuts_whole : IsPacked words cuts
 
@@ -64,8 +68,8 @@ abbrev pub behind_row : Outlook → ℕ
 behind_row o = if o.blank then 131 + o.behind else 1 + o.behind
 
 -- a word of the row of places where no word begins or ends, if this is one
-abbrev pub edge_marks : List ℕ → ℕ → Bool → ℕ → ℕ
-edge_marks cuts words off_edges word = if off_edges then slice_index_or cuts (0 * words + word) 0 else 0
+abbrev pub edge_marks : List ℕ → Bool → ℕ → ℕ
+edge_marks cuts off_edges word = if off_edges then slice_index_or cuts word 0 else 0
 
 -- no pattern of those that the word is of can begin where this is seen, but where its bit is set
 abbrev pub TellsAlive : List ℕ → List ℕ → ℕ → Outlook → ℕ → ℕ → Type 0

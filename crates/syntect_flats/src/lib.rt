@@ -4,6 +4,8 @@
 
 pub mod entered;
 pub mod flats;
+mod forms;
 pub mod list;
 mod packed;
 mod slims;
+mod spots;

@@ -4,13 +4,16 @@ ghost use Rattle.std.specs.Prelude.{◌≡◌, ◌≤◌, ◌<◌, ◌+◌, ◌/
 ghost use Rattle.std.specs.Int.{bit_at};
 ghost use Rattle.std.specs.List.{list_any};
 ghost use Rattle.syntect_pattern_table.specs.Starts.{is_in};
-ghost use Rattle.syntect_flats.specs.Rows.{AreRowsOf, BeginIn, IsOut, MarkCuts, TellsAlive, behind_row, bit_of, edge_marks, has_bit, has_mark, is_cut_in};
+ghost use Rattle.syntect_flats.specs.Rows.{AreRowsOf, BeginIn, IsOut, KeepsCuts, MarkCuts, TellsAlive, behind_row, bit_of, edge_marks, has_bit, has_mark, is_cut_in};
 ghost use Rattle.syntect_flats.specs.Packed.{IsPacked, unpacked};
 ghost use Rattle.syntect_flats.specs.Slims.{origin_of, widened};
+ghost use Rattle.syntect_flats.specs.Told.{AreCoarser, KeepsAll};
 
 use crate::flats::{Flat, Origin, Outlook};
-use crate::packed::{Packed, no_rows, rows_packed, word_in};
+use crate::forms::{Form, Table};
+use crate::packed::{Packed, rows_packed, word_in};
 use crate::slims::{Slim, any_captures, is_out, origin_of, slims_of};
+use crate::spots::{any_spot_captures, origin_of_spot, spots_of};
 use std::alloc::{AllocError, Global};
 use std::marker::Model;
 use syntect_pattern_table::starts::{Places, either, is_in, nowhere};
@@ -33,18 +36,12 @@ const SHORT: usize = 8;
 
 const LONG: usize = 65536;
 
-/// A flat list, seen as the list of its patterns.
+/// A flat list, seen as the list of its patterns. Of a pattern of a table it is seen what the table tells.
 #[derive(Drop)]
 pub struct FlatList {
-    slims: Vec<Slim>,
-    /// What can stand where matches of the patterns begin, or behind.
-    places: Vec<Places>,
-    /// A row of bits for each thing that can stand at a place, each of so many words: which patterns can begin there. No words
-    /// where there is no table.
-    rows: Packed,
-    /// A row of bits for each thing that cuts patterns off, with as many words: which it does.
-    cuts: Packed,
-    words: u16,
+    form: Form,
+    /// How many patterns there are.
+    count: usize,
     /// Whether it matters for one of the patterns what stands behind a word or behind white space.
     asks: bool,
     /// What can stand at a place where a match of one of the patterns begins.
@@ -52,17 +49,15 @@ pub struct FlatList {
 }
 
 impl Model for FlatList {
-    ghost use Rattle.std.specs.Prelude.{List, map};
+    ghost use Rattle.std.specs.Prelude.{List};
     ghost use Rattle.syntect_flats.specs.declared.flats.Flat.{Flat as AFlat};
-    ghost use Rattle.syntect_flats.specs.Rows.{IsTabled};
-    ghost use Rattle.syntect_flats.specs.Slims.{widened};
+    ghost use Rattle.syntect_flats.specs.Told.{IsKept, flats_in};
 
     ghost Value = { List AFlat };
 
-    ghost view = { λ l. map (widened l.places.items) l.slims.items };
+    ghost view = { λ l. flats_in l.any l.form };
 
-    ghost invariant = { λ l. IsTabled l.rows l.cuts l.words l.any
-        (map (widened l.places.items) l.slims.items) };
+    ghost invariant = { λ l. IsKept l.any l.form l.count };
 }
 
 /// Sets a bit of a word, if there is one at the place, and no other.
@@ -172,9 +167,8 @@ fn begins_of(alloc: Global, words: u16, flats: &[Flat]) -> Result<Packed, AllocE
 fn mark_row(rows: &mut Vec<u64>, words: u16, index: usize, row: usize)
     requires index { index < 65536 }
     requires row { row < 261 }
-    ensures { (flats : List Flat) (flat : Flat) → length flats ≤ words * 64 → index < length flats
-        → flat ≡ slice_index_or flats index flat → is_cut_in row flat ≡ true
-        → MarkCuts rows.old.items words flats → MarkCuts rows.new.items words flats }
+    ensures { KeepsCuts words index (λ flat. is_cut_in row flat ≡ true)
+        rows.old.items rows.new.items }
 {
     let place = row * words as usize + index / 64;
     set_bit(rows, place, (index % 64) as u32);
@@ -185,9 +179,8 @@ fn mark_row(rows: &mut Vec<u64>, words: u16, index: usize, row: usize)
 fn mark_unless(rows: &mut Vec<u64>, words: u16, index: usize, row: usize, held: bool)
     requires index { index < 65536 }
     requires row { row < 261 }
-    ensures { (flats : List Flat) (flat : Flat) → length flats ≤ words * 64 → index < length flats
-        → flat ≡ slice_index_or flats index flat → (held ≡ false → is_cut_in row flat ≡ true)
-        → MarkCuts rows.old.items words flats → MarkCuts rows.new.items words flats }
+    ensures { KeepsCuts words index (λ flat. held ≡ false → is_cut_in row flat ≡ true)
+        rows.old.items rows.new.items }
 {
     if !held {
         mark_row(rows, words, index, row);
@@ -198,10 +191,8 @@ fn mark_unless(rows: &mut Vec<u64>, words: u16, index: usize, row: usize, held: 
 fn mark_others(rows: &mut Vec<u64>, words: u16, index: usize, first: usize, places: Places)
     requires index { index < 65536 }
     requires first { first ≤ 131 }
-    ensures { (flats : List Flat) (flat : Flat) → length flats ≤ words * 64 → index < length flats
-        → flat ≡ slice_index_or flats index flat
-        → ((x : ℕ) → x < 130 → is_in places x ≡ false → is_cut_in (first + x) flat ≡ true)
-        → MarkCuts rows.old.items words flats → MarkCuts rows.new.items words flats }
+    ensures { KeepsCuts words index (λ flat. (x : ℕ) → x < 130 → is_in places x ≡ false
+        → is_cut_in (first + x) flat ≡ true) rows.old.items rows.new.items }
 {
     let others = !places.ascii;
     let mut x = next_bit(others, 0);
@@ -310,7 +301,7 @@ fn behind_row(outlook: Outlook) -> usize
 fn edge_marks(cuts: &Packed, words: u16, off_edges: bool, word: usize) -> u64
     requires within { word < words }
     requires whole { IsPacked words cuts.now }
-    ensures { result ≡ edge_marks (unpacked words cuts.now) words off_edges word }
+    ensures { result ≡ edge_marks (unpacked words cuts.now) off_edges word }
 {
     if off_edges {
         word_in(cuts, words, EDGES, word, 0)
@@ -336,35 +327,87 @@ fn alive(rows: &Packed, cuts: &Packed, words: u16, outlook: Outlook, word: usize
     begins & !(behind | edges)
 }
 
+/// An index not below this one: no pattern from this one up to it can begin where this is seen, as rows of so many words tell.
+#[inline]
+fn next_alive(
+    rows: &Packed,
+    cuts: &Packed,
+    words: u16,
+    count: usize,
+    outlook: Outlook,
+    from: usize,
+) -> usize
+    requires here { outlook.here < 130 }
+    requires behind { outlook.behind < 130 }
+    requires room { count ≤ words * 64 }
+    requires rows { IsPacked words rows.now }
+    requires cuts { IsPacked words cuts.now }
+    ensures later { from ≤ result }
+    ensures passed { (flats : List Flat) (k : ℕ) (d : Flat) → length flats ≡ count
+        → AreRowsOf (unpacked words rows.now) words flats
+        → MarkCuts (unpacked words cuts.now) words flats
+        → from ≤ k → k < result → k < count → IsOut outlook (slice_index_or flats k d) }
+{
+    let mut next = from;
+    while next < count {
+        let rest = alive(rows, cuts, words, outlook, next / 64) >> (next % 64);
+        if rest != 0 {
+            return next + rest.trailing_zeros() as usize;
+        }
+        next = (next / 64 + 1) * 64;
+    }
+    next
+}
+
+/// Patterns, each kept by itself.
+fn plain_form(alloc: Global, flats: &[Flat]) -> Result<Form, AllocError>
+    ensures { IfOk result (KeepsAll flats.now) }
+{
+    let (slims, places) = slims_of(alloc, flats)?;
+    Ok(Form::Plain { slims, places })
+}
+
+/// Patterns, kept by a table.
+fn tabled_form(alloc: Global, asks: bool, flats: &[Flat]) -> Result<Form, AllocError>
+    requires some { 0 < length flats.now }
+    requires few { length flats.now ≤ 65536 }
+    ensures { IfOk result (KeepsAll flats.now) }
+{
+    let words = ((flats.len() + 63) / 64) as u16;
+    let rows = begins_of(alloc, words, flats)?;
+    let cuts = cuts_of(alloc, words, asks, flats)?;
+    let spots = spots_of(alloc, flats)?;
+    let table = Table {
+        spots,
+        rows,
+        cuts,
+        words,
+    };
+    Ok(Form::Tabled(Box::new(alloc, table)?))
+}
+
+/// Patterns in the form that serves a list of their length.
+fn form_of(alloc: Global, asks: bool, flats: &[Flat]) -> Result<Form, AllocError>
+    ensures { IfOk result (KeepsAll flats.now) }
+{
+    if flats.len() < SHORT || flats.len() > LONG {
+        plain_form(alloc, flats)
+    } else {
+        tabled_form(alloc, asks, flats)
+    }
+}
+
 impl FlatList {
-    /// The list of these patterns.
+    /// The list of these patterns, of each of which it may tell less.
     pub fn new(alloc: Global, flats: &[Flat]) -> Result<FlatList, AllocError>
-        ensures { IfOk result (λ l. l ≡ flats.now) }
+        ensures { IfOk result (AreCoarser flats.now) }
     {
-        let count = flats.len();
         let asks = any_asks(flats);
         let any = any_of(flats);
-        let (slims, places) = slims_of(alloc, flats)?;
-        if count < SHORT || count > LONG {
-            return Ok(FlatList {
-                slims,
-                places,
-                rows: no_rows(alloc),
-                cuts: no_rows(alloc),
-                words: 0,
-                asks,
-                any,
-            });
-        }
-        let words = ((count + 63) / 64) as u16;
-        let rows = begins_of(alloc, words, flats)?;
-        let cuts = cuts_of(alloc, words, asks, flats)?;
+        let form = form_of(alloc, asks, flats)?;
         Ok(FlatList {
-            slims,
-            places,
-            rows,
-            cuts,
-            words,
+            form,
+            count: flats.len(),
             asks,
             any,
         })
@@ -381,7 +424,7 @@ impl FlatList {
     pub fn any(&self) -> Places
         ensures { BeginIn result self.now }
     {
-        let _ = &self.slims;
+        let _ = &self.form;
         self.any
     }
 
@@ -390,7 +433,7 @@ impl FlatList {
     pub fn len(&self) -> usize
         ensures { result ≡ length self.now }
     {
-        self.slims.len()
+        self.count
     }
 
     /// Where the pattern at an index stands.
@@ -399,14 +442,23 @@ impl FlatList {
         requires { index < length self.now }
         ensures { (d : Flat) → result ≡ origin_of (slice_index_or self.now index d) }
     {
-        origin_of(&self.slims[index])
+        match &self.form {
+            Form::Plain { slims, places: _ } => origin_of(&slims[index]),
+            Form::Tabled(table) => {
+                let table = &**table;
+                origin_of_spot(&table.spots[index])
+            }
+        }
     }
 
     /// Whether a pattern uses back references.
     pub fn has_captures(&self) -> bool
         ensures { result ≡ list_any (λ f. f.has_captures) self.now }
     {
-        any_captures(self.slims.as_slice())
+        match &self.form {
+            Form::Plain { slims, places: _ } => any_captures(slims.as_slice()),
+            Form::Tabled(table) => any_spot_captures(table.spots.as_slice()),
+        }
     }
 
     /// An index not below this one: no pattern from this one up to it can begin where this is seen. That the pattern there can
@@ -419,20 +471,23 @@ impl FlatList {
             → IsOut outlook (slice_index_or self.now k d) }
     {
         if from == 0 && !is_in(self.any, outlook.here) {
-            return self.slims.len();
+            return self.count;
         }
-        if self.words == 0 {
-            let table = self.places.as_slice();
-            return next_seen(table, self.slims.as_slice(), outlook, from);
-        }
-        let mut next = from;
-        while next < self.slims.len() {
-            let rest = alive(&self.rows, &self.cuts, self.words, outlook, next / 64) >> (next % 64);
-            if rest != 0 {
-                return next + rest.trailing_zeros() as usize;
+        match &self.form {
+            Form::Plain { slims, places } => {
+                next_seen(places.as_slice(), slims.as_slice(), outlook, from)
             }
-            next = (next / 64 + 1) * 64;
+            Form::Tabled(table) => {
+                let table = &**table;
+                next_alive(
+                    &table.rows,
+                    &table.cuts,
+                    table.words,
+                    self.count,
+                    outlook,
+                    from,
+                )
+            }
         }
-        next
     }
 }

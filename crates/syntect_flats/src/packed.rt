@@ -1,6 +1,6 @@
 //! Rows of bits, of which those that are equal are kept once. Most rows of a list are: there are few patterns that can begin
 //! with any one of most characters.
-ghost use Rattle.std.specs.Prelude.{◌≡◌, ◌<◌, ◌≤◌, ◌+◌, ◌*◌, ℕ, List, [], length, take, drop, true, IfOk, IfSome, OnOk, slice_index_or};
+ghost use Rattle.std.specs.Prelude.{◌≡◌, ◌<◌, ◌≤◌, ◌+◌, ◌*◌, ℕ, List, length, take, drop, true, IfOk, IfSome, OnOk, slice_index_or};
 ghost use Rattle.syntect_flats.specs.Packed.{IsPacked, IsRow, unpacked};
 
 use std::alloc::{AllocError, Global};
@@ -19,16 +19,6 @@ pub struct Packed {
     pub numbers: Vec<u8>,
     /// The rows that differ, one behind the other.
     pub bits: Vec<u64>,
-}
-
-/// A table without rows.
-pub(crate) fn no_rows(alloc: Global) -> Packed
-    ensures { result.numbers.items ≡ [] }
-{
-    Packed {
-        numbers: Vec::new(alloc),
-        bits: Vec::new(alloc),
-    }
 }
 
 /// A word of a row; this one behind the table's end.

@@ -1,5 +1,5 @@
-//! Patterns as a flat list keeps them: what can stand where their matches begin, or behind, stands in a table, once for those
-//! that follow one another with the same.
+//! Patterns as a short flat list keeps them: what can stand where their matches begin, or behind, stands in a table, once for
+//! those that follow one another with the same.
 ghost use Rattle.std.specs.Prelude.{◌≡◌, ◌<◌, ℕ, true, List, map, IfOk, IfSome, Some, slice_get};
 ghost use Rattle.std.specs.List.{list_any};
 ghost use Rattle.syntect_pattern_table.specs.declared.starts.Places.{Places as APlaces};
@@ -154,7 +154,7 @@ fn recent(table: &[Places], wanted: &Places) -> Option<usize>
 }
 
 /// The number, in fewer bits. What has more entries than such numbers can tell apart has no place in memory.
-fn narrowed(number: usize) -> Result<u32, AllocError>
+pub(crate) fn narrowed(number: usize) -> Result<u32, AllocError>
     ensures { IfOk result (λ n. n ≡ number) }
 {
     match u32::try_from(number) {

@@ -15,6 +15,7 @@ use Rattle.syntect_grammar.specs.Contexts.{context_at, set_of, syntaxes_in}
 use Rattle.syntect_grammar.specs.Flats.{AreFlatsOf, AreListsOf, IsTableOf, Tells, flats_at, pattern_at}
 use Rattle.syntect_grammar.specs.Patterns.{entries, included, patterns_of, room_in, walk, walk_patterns}
 use Rattle.syntect_grammar.specs.Walk.{FindsSame}
+use Rattle.syntect_flats.specs.Told.{AreCoarser, IsCoarser}
 use Rattle.syntect_flats.specs.declared.flats.Flat.{Flat}
 use Rattle.syntect_contexts.specs.declared.context.Context.{Context}
 use Rattle.syntect_contexts.specs.declared.context.ContextId.{ContextId}
@@ -172,3 +173,41 @@ if_some P Q h (Some x) k = h x k
 pub if_ok : {X E : Type 0} (P Q : X → Type 0) → ((x : X) → P x → Q x) → (r : Result X E) → IfOk r P → IfOk r Q
 if_ok P Q h (Ok x) k = h x k
 if_ok P Q h (Err e) k = tt
+
+-- ---- patterns of which less is told ----
+
+module _ (set : SyntaxSet) where
+  same_place : (old new : Flat) → IsCoarser old new → pattern_at set new ≡ pattern_at set old
+  same_place old new c = ap (λ (i : ContextId). stands_at set i new.index) c.context ∙ ap (stands_at set old.context) c.index
+
+  abbrev TellsOf : Flat → MatchPattern → Type 0
+  TellsOf flat m = (flat.has_captures ≡ m.has_captures) × NoneBeginsOutside flat.begins m.regex × NoneBeginsBefore false flat.words m.regex × NoneBeginsBefore true flat.blanks m.regex × (flat.at_edges ≡ true → BeginsAtEdges m.regex)
+
+  tells_coarser : (old new : Flat) → IsCoarser old new → Tells set old → Tells set new
+  tells_coarser old new c t =
+      subst (λ (o : Option MatchPattern). IfSome o (TellsOf new)) (sym (same_place old new c))
+      (if_some (TellsOf old) (TellsOf new) (λ m h. (
+        c.has_captures ∙ h.0,
+        λ s utf8 place e. h.1 s utf8 place (c.begins _ e),
+        λ s utf8 place end run e. h.2 s utf8 place end run (c.words _ e),
+        λ s utf8 place end run e. h.3 s utf8 place end run (c.blanks _ e),
+        λ e. h.4 (c.at_edges e),
+      )) (pattern_at set old) t)
+
+  same_patterns_at : (old new : List Flat) → AreCoarser old new → filter_map (pattern_at set) new ≡ filter_map (pattern_at set) old
+  same_patterns_at [] [] c = refl
+  same_patterns_at [] (n ∷ new) c = absurd (omega (arith, c.count))
+  same_patterns_at (o ∷ old) [] c = absurd (omega (arith, c.count))
+  same_patterns_at (o ∷ old) (n ∷ new) c =
+      let rest : AreCoarser old new = record { count = omega (arith, c.count); each = λ k d l. c.each (suc k) d (omega (arith, l)) } in
+      ap (λ (p : Option MatchPattern). cons_option p (filter_map (pattern_at set) new)) (same_place o n (c.each 0 o (omega arith)))
+      ∙ ap (cons_option (pattern_at set o)) (same_patterns_at old new rest)
+
+  pub coarser_flats : (id : ContextId) (old new : List Flat) → AreFlatsOf set id old → AreCoarser old new → AreFlatsOf set id new
+  coarser_flats id old new a c = record {
+    finds = λ test. ap (find test) (same_patterns_at old new c) ∙ a.finds test;
+    few = omega (arith, a.few, c.count);
+    tells = λ k d l.
+        let inside : k < length old = omega (arith, l, c.count) in
+        tells_coarser (get_or old k d) (get_or new k d) (c.each k d inside) (a.tells k d inside);
+  }

@@ -1,0 +1,17 @@
+use Rattle.std.proofs.Common.{subst, sym, arith}
+use Rattle.syntect_flats.proofs.ToldLaws.{IsTableOf, keeps_table}
+use Rattle.syntect_flats.proofs.list.tabled_form.Goals as goal
+
+pub returns : goal.returns
+returns c =
+    keeps_table c.args.flats.now c.in_ok-new.field-0
+    (subst (IsTableOf c.args.flats.now) (sym c.in_ok-new.ensures.ok) (record {
+      some = omega (arith, c.requires.some);
+      few = c.requires.few;
+      room = omega arith;
+      rows_whole = c.in_ok-rows.ensures.whole;
+      cuts_whole = c.in_ok-cuts.ensures.whole;
+      rows = c.in_ok-rows.ensures.rows;
+      cuts = c.in_ok-cuts.ensures.cuts;
+      spots = c.in_ok-spots.ensures;
+    }))
