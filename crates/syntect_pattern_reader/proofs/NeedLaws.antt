@@ -1,12 +1,10 @@
 -- Bytes that matches need.
-use Rattle.std.proofs.Common.{◌≡◌, ◌<◌, ◌≤◌, ◌+◌, ◌&&◌, ◌⊎◌, inl, inr, ℕ, Bool, true, false, not, List, [], ◌∷◌, ◌++◌, length, get_or, refl, sym, ◌∙◌, ap, subst, arith, Option, Some, None, below_more, length-append}
+use Rattle.std.proofs.Common.{◌≡◌, ◌<◌, ◌≤◌, ◌+◌, ◌&&◌, ◌⊎◌, inl, inr, ℕ, Bool, true, false, not, List, [], ◌∷◌, ◌++◌, length, get_or, refl, sym, ◌∙◌, ap, subst, arith, Option, Some, None}
 use Rattle.std.specs.Prelude.{IsUtf8, IsCharBoundary, IfSome}
 use Rattle.std.specs.Char.{len_utf8}
 use Rattle.std.specs.List.{flat_map}
 use Rattle.std.proofs.lemmas.Bool.{cases_lt}
 use Rattle.std.proofs.lemmas.Bool.Decides.{nat_tests}
-use Rattle.std.proofs.Math.ListN.{get_or-append}
-use Rattle.std.proofs.Math.Seq.{get_or-append_seam}
 use Rattle.syntect_pattern.specs.Text.{char_at}
 use Rattle.syntect_pattern.specs.Sets.{range, holds}
 use Rattle.syntect_pattern.specs.Trees.{Tree, nothing, one_of, anchor, same, seq, alt, repeat, group, atomic, ahead, behind}
@@ -15,7 +13,7 @@ use Rattle.syntect_pattern.specs.Nesting.{looks_fail}
 use Rattle.syntect_pattern.proofs.Each.{Each, each_of}
 use Rattle.syntect_pattern_laws.proofs.MatchLaws.{Step, IsClosed, steps-matches}
 use Rattle.syntect_pattern_laws.proofs.TextLemmas.{boundary-past}
-use Rattle.syntect_pattern_table.specs.Needs.{IsAbsent, Needs, MayNeed, AllNeed}
+use Rattle.syntect_pattern_table.specs.Needs.{IsAbsent, Needs, MayNeed}
 use Rattle.syntect_pattern_table.proofs.StartLaws.{char_at-past, char_at-ascii, char_at-wide}
 
 -- -- Matches end behind their place, on boundaries

@@ -1,6 +1,6 @@
 -- A byte without which a tree has no match.
-use Rattle.std.specs.Prelude.{◌≡◌, ◌≢◌, ℕ, ◌≤◌, ◌<◌, List, [], Option, length, slice_index, slice_index_or, IfSome, IsUtf8, IsCharBoundary}
-use Rattle.syntect_pattern.specs.Trees.{Tree, nothing}
+use Rattle.std.specs.Prelude.{◌≡◌, ◌≢◌, ℕ, ◌≤◌, ◌<◌, List, [], Option, length, slice_index, IfSome, IsUtf8, IsCharBoundary}
+use Rattle.syntect_pattern.specs.Trees.{Tree}
 use Rattle.syntect_pattern.specs.Matches.{Groups, matches}
 
 -- the byte stands nowhere from the place on
@@ -14,7 +14,3 @@ Needs b t = (s : List ℕ) (i : ℕ) (g : Groups) → IsUtf8 s → IsCharBoundar
 -- so it is, if a byte is known
 abbrev pub MayNeed : Option ℕ → Tree → Type 0
 MayNeed o t = IfSome o (λ b. Needs b t)
-
--- the same of each of these trees
-abbrev pub AllNeed : List (Option ℕ) → List Tree → Type 0
-AllNeed ns ts = (k : ℕ) (d : Option ℕ) → k < length ns → MayNeed (slice_index_or ns k d) (slice_index_or ts k nothing)

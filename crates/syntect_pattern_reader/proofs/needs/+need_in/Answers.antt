@@ -1,4 +1,4 @@
-use Rattle.std.proofs.Common.{◌≡◌, ◌<◌, ◌∙◌, ℕ, arith, refl, subst, sym}
+use Rattle.std.proofs.Common.{◌≡◌, ◌<◌, arith, refl, subst, sym}
 use Rattle.syntect_pattern.specs.Sets.{range}
 use Rattle.syntect_pattern.specs.Trees.{one_of, seq}
 use Rattle.syntect_pattern_table.specs.Builder.{tree_in}

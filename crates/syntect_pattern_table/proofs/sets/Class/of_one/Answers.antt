@@ -1,6 +1,5 @@
-use Rattle.std.proofs.Common.{◌≡◌, ◌<◌, ◌∷◌, [], ℕ, true, get_or, refl, arith}
+use Rattle.std.proofs.Common.{[], arith}
 use Rattle.syntect_pattern_table.specs.SetTable.{sets}
-use Rattle.syntect_pattern_table.specs.declared.sets.Part.{Part}
 use Rattle.syntect_pattern_table.proofs.sets.Class.of_one.Goals as goal
 
 pub invariant_of-body-clause-flagged : goal.invariant_of-body-clause-flagged
