@@ -4,7 +4,7 @@ use Rattle.std.specs.Prelude.{option_and_then}
 use Rattle.syntect_pattern.specs.Trees.{Tree, group_in_look}
 use Rattle.syntect_pattern_reader.specs.Compiled.{IsCompiled}
 use Rattle.syntect_pattern_table.specs.declared.program.Program.{Program}
-use Rattle.syntect_regex.specs.Outline.{KnowsGroups}
+use Rattle.syntect_regex.specs.Details.{KnowsGroups}
 
 -- what a program tells of its groups
 pub groups-known : (pattern : List ℕ) (p : Program) → IsCompiled pattern p → (looks : List (Option Bool)) → looks ≡ p.looks → KnowsGroups pattern (Some looks)

@@ -7,6 +7,7 @@ pub mod Region
 pub mod Escape
 pub mod Begins
 pub mod Bounds
-pub mod Behind
+pub mod Details
 pub mod Outline
+pub mod Body
 pub mod Kept

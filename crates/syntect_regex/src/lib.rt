@@ -1,8 +1,8 @@
 //! Patterns and their searches.
 #![tactic(auto)]
 
-mod behind;
 mod compiled;
+mod details;
 mod edges;
 pub mod error;
 mod outline;

@@ -1,15 +1,15 @@
 //! What is kept of a pattern that was not searched yet.
-ghost use Rattle.std.specs.Prelude.{◌≡◌, ℕ, IfOk, List, None, Some, option_and_then, slice_index_or, true};
-ghost use Rattle.syntect_pattern.specs.Trees.{group_in_look, nothing};
-ghost use Rattle.syntect_pattern.specs.Pattern.{pattern_tree};
+ghost use Rattle.std.specs.Prelude.{◌≡◌, ℕ, IfOk, List, Some, slice_index_or, true};
+ghost use Rattle.syntect_pattern.specs.Trees.{nothing};
 ghost use Rattle.syntect_pattern_reader.specs.Compiled.{Compiles};
 ghost use Rattle.syntect_pattern_table.specs.Program.{trees_of};
 ghost use Rattle.syntect_pattern_table.specs.declared.program.Program.{Program};
 ghost use Rattle.syntect_regex.specs.Begins.{BeginsAtEdges, NoneBeginsOutside};
-ghost use Rattle.syntect_regex.specs.Outline.{IsOutlineOf, KnowsGroups};
+ghost use Rattle.syntect_regex.specs.Details.{KnowsGroups};
+ghost use Rattle.syntect_regex.specs.Outline.{IsOutlineOf};
 ghost use Rattle.syntect_word_ends.specs.Ends.{StandsBehind};
 
-use crate::behind::Behind;
+use crate::details::Details;
 use crate::edges::is_at_edges;
 use std::alloc::{AllocError, Global};
 use syntect_pattern_table::program::Program;
@@ -17,17 +17,14 @@ use syntect_pattern_table::starts::{Places, anywhere, nowhere};
 use syntect_values::seq::Seq;
 use syntect_word_ends::ends::behind_runs;
 
-/// Where matches of a pattern can begin, and which of its groups stand in lookarounds. It is small beside a program.
+/// Where matches of a pattern can begin, and what else is kept of it. It is small beside a program.
 #[derive(Drop)]
 pub(crate) struct Outline {
     /// What can stand at a place where a match begins.
     pub begins: Places,
     /// Whether a match is seen at once to begin where a word does, or ends.
     pub at_edges: bool,
-    /// What can stand behind a word in which a match begins, and behind white space in which one does.
-    pub behind: Behind,
-    /// Whether the groups stand in lookarounds, the whole match aside. None if the text is no pattern.
-    looks: Option<Seq<Option<bool>>>,
+    pub details: Details,
 }
 
 impl Outline {
@@ -38,52 +35,14 @@ impl Outline {
     {
         let words = behind_of(alloc, false, program)?;
         let blanks = behind_of(alloc, true, program)?;
-        let behind = Behind::new(alloc, words, blanks)?;
         let looks = looks_of(alloc, program)?;
+        let details = Details::new(alloc, words, blanks, looks)?;
         Ok(Outline {
             begins: begins_of(program),
             at_edges: edges_of(program),
-            behind,
-            looks,
+            details,
         })
     }
-
-    /// An equal one.
-    pub(crate) fn clone(&self, alloc: Global) -> Result<Outline, AllocError>
-        ensures { IfOk result (λ o. o ≡ self.now) }
-    {
-        let looks = match &self.looks {
-            Some(looks) => Some(Seq::from_slice(alloc, looks.as_slice())?),
-            None => None,
-        };
-        Ok(Outline {
-            begins: self.begins,
-            at_edges: self.at_edges,
-            behind: self.behind.clone(alloc)?,
-            looks,
-        })
-    }
-
-    /// Whether the group of the number stands in a lookaround, which group 0 never does. None without such a group.
-    pub(crate) fn group(&self, number: usize) -> Option<bool>
-        ensures { (pattern : List ℕ) → IsOutlineOf pattern self.now
-            → result ≡ option_and_then (λ tree. group_in_look tree number) (pattern_tree pattern) }
-    {
-        let Some(looks) = &self.looks else {
-            return None;
-        };
-        if number == 0 {
-            return Some(false);
-        }
-        look_at(looks.as_slice(), number)
-    }
-}
-
-/// What is kept of the group of the number, and none past the end.
-fn look_at(looks: &[Option<bool>], number: usize) -> Option<bool>
-    ensures { result ≡ slice_index_or looks.now number None }
-{
-    looks.get(number).copied().unwrap_or(None)
 }
 
 /// What can stand at a place where a match of the program begins. Where there is none nothing can.

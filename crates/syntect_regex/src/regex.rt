@@ -9,12 +9,14 @@ ghost use Rattle.syntect_pattern.specs.Pattern.{pattern_tree, pattern_found};
 ghost use Rattle.syntect_pattern.specs.Found.{IsPatternMatch};
 ghost use Rattle.syntect_pattern_reader.specs.Compiled.{Compiles};
 ghost use Rattle.syntect_pattern.specs.declared.error.PatternError.{PatternError};
+ghost use Rattle.syntect_regex.specs.Body.{outline_in};
 ghost use Rattle.syntect_regex.specs.Bounds.{pattern_is_linear, search_bound};
 ghost use Rattle.syntect_regex.specs.Begins.{NoneBeginsBefore, NoneBeginsOutside, BeginsAtEdges};
 ghost use Rattle.syntect_regex.specs.Escape.{is_special, escaped_char, escaped};
 ghost use Rattle.syntect_regex.specs.Region.{TakesMatch, TakesUpTo, TriesAt, Leaves, pattern_begins};
 
 use crate::compiled::{Kept, program_in};
+use crate::details::Details;
 use crate::error::PatternError;
 use crate::outline::Outline;
 use crate::region::Region;
@@ -41,9 +43,50 @@ pub struct Regex {
 /// room is to be small.
 #[derive(Drop)]
 struct RegexBody {
+    /// What can stand at a place where a match begins, part by part, since that takes less room than `Places`.
+    ascii: u128,
     text: String,
     kept: Kept,
-    outline: Outline,
+    details: Details,
+    wide: bool,
+    end: bool,
+    /// Whether a match is seen at once to begin where a word does, or ends.
+    at_edges: bool,
+}
+
+impl RegexBody {
+    /// What is kept of a pattern.
+    fn new(text: String, kept: Kept, outline: Outline) -> RegexBody
+        ensures text { result.text ≡ text }
+        ensures kept { result.kept ≡ kept }
+        ensures outline { outline_in result ≡ outline }
+    {
+        let Outline {
+            begins,
+            at_edges,
+            details,
+        } = outline;
+        RegexBody {
+            ascii: begins.ascii,
+            text,
+            kept,
+            details,
+            wide: begins.wide,
+            end: begins.end,
+            at_edges,
+        }
+    }
+
+    /// What can stand at a place where a match begins.
+    fn begins(&self) -> Places
+        ensures { result ≡ (outline_in self.now).begins }
+    {
+        Places {
+            ascii: self.ascii,
+            wide: self.wide,
+            end: self.end,
+        }
+    }
 }
 
 /// Written out, so that crates above call it and needn't prove each part's drop again.
@@ -57,13 +100,14 @@ impl Model for Regex {
     ghost use Rattle.std.specs.Prelude.{List, ℕ, string_bytes};
     ghost use Rattle.syntect_regex.specs.Kept.{IsKeptOf};
     ghost use Rattle.syntect_regex.specs.Outline.{IsOutlineOf};
+    ghost use Rattle.syntect_regex.specs.Body.{outline_in};
 
     ghost Value = { List ℕ };
 
     ghost view = { λ a. string_bytes a.body.value.text };
 
     ghost invariant = { λ a. let body = a.body.value in
-        IsOutlineOf (string_bytes body.text) body.outline
+        IsOutlineOf (string_bytes body.text) (outline_in body)
         × IsKeptOf (string_bytes body.text) body.kept };
 }
 
@@ -77,11 +121,7 @@ impl Regex {
         text.shrink_to_fit();
         let program = compile(alloc, text.as_str())?;
         let outline = Outline::new(alloc, &program)?;
-        let parts = RegexBody {
-            text,
-            kept: Kept::Late(OnceBox::new(alloc)),
-            outline,
-        };
+        let parts = RegexBody::new(text, Kept::Late(OnceBox::new(alloc)), outline);
         let body = Box::new(alloc, parts)?;
         Ok(Regex { body })
     }
@@ -94,11 +134,7 @@ impl Regex {
         let program = compile(alloc, text.as_str())?;
         let outline = Outline::new(alloc, &program)?;
         let made = Box::new(alloc, program)?;
-        let parts = RegexBody {
-            text,
-            kept: Kept::Own(made),
-            outline,
-        };
+        let parts = RegexBody::new(text, Kept::Own(made), outline);
         let body = Box::new(alloc, parts)?;
         Ok(Regex { body })
     }
@@ -138,14 +174,14 @@ impl Regex {
     pub fn group(&self, number: usize) -> Option<bool>
         ensures { result ≡ option_and_then (λ tree. group_in_look tree number) (pattern_tree self.now) }
     {
-        self.body.outline.group(number)
+        self.body.details.group(number)
     }
 
     /// What can stand at a place where a match begins: where something else stands none begins.
     pub fn begins(&self) -> Places
         ensures { NoneBeginsOutside result self.now }
     {
-        self.body.outline.begins
+        self.body.begins()
     }
 
     /// Whether the pattern is seen at once to begin with `\b`: then no match of it begins in the midst of a word. Without it
@@ -153,7 +189,7 @@ impl Regex {
     pub fn begins_at_edges(&self) -> bool
         ensures { result ≡ true → BeginsAtEdges self.now }
     {
-        self.body.outline.at_edges
+        self.body.at_edges
     }
 
     /// What can stand behind a word in which a match begins: in a word that has something else behind it none begins. The
@@ -161,7 +197,7 @@ impl Regex {
     pub fn behind_words(&self) -> Places
         ensures { NoneBeginsBefore false result self.now }
     {
-        self.body.outline.behind.words()
+        self.body.details.words()
     }
 
     /// What can stand behind white space in which a match begins: in white space that has something else behind it none
@@ -169,7 +205,7 @@ impl Regex {
     pub fn behind_blanks(&self) -> Places
         ensures { NoneBeginsBefore true result self.now }
     {
-        self.body.outline.behind.blanks()
+        self.body.details.blanks()
     }
 
     /// Whether each search takes steps in proportion to the text: those of a pattern without back references, whose
@@ -191,9 +227,13 @@ impl Regex {
         ensures { IfOk result (λ r. r ≡ self.now) }
     {
         let parts = RegexBody {
+            ascii: self.body.ascii,
             text: String::from_str(alloc, self.body.text.as_str())?,
             kept: Kept::Late(OnceBox::new(alloc)),
-            outline: self.body.outline.clone(alloc)?,
+            details: self.body.details.clone(alloc)?,
+            wide: self.body.wide,
+            end: self.body.end,
+            at_edges: self.body.at_edges,
         };
         let body = Box::new(alloc, parts)?;
         Ok(Regex { body })

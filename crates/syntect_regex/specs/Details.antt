@@ -1,0 +1,32 @@
+-- What few patterns have.
+use Rattle.std.specs.Prelude.{◌≡◌, ◌-◌, ◌^◌, ℕ, zero, suc, Bool, true, false, List, [], Option, Some, None, option_and_then, slice_index_or}
+use Rattle.syntect_pattern.specs.Trees.{group_in_look}
+use Rattle.syntect_pattern.specs.Pattern.{pattern_tree}
+use Rattle.syntect_pattern_table.specs.declared.starts.Places.{Places}
+use Rattle.syntect_regex.specs.declared.details.Detail.{Detail}
+use Rattle.syntect_regex.specs.declared.details.Rare.{Rare}
+use Rattle.syntect_regex.specs.declared.details.Rare.TheVariants.{Nothing, Groups, All}
+
+-- each character, and the end of the text
+abbrev pub anything : Places
+anything = record { ascii = 2 ^ 128 - 1; wide = true; end = true }
+
+-- anything can stand behind words and white space, and there is no group
+abbrev pub plain : Detail
+plain = record { words = anything; blanks = anything; looks = Some [] }
+
+-- what is kept so
+abbrev pub detail_in : Rare → Detail
+detail_in Nothing = plain
+detail_in (Groups looks) = record { words = anything; blanks = anything; looks = looks.value }
+detail_in (All detail) = detail.value
+
+-- whether the group of the number stands in a lookaround, by what is kept of all but the whole match, which never does
+abbrev pub look_of : List (Option Bool) → ℕ → Option Bool
+look_of looks zero = Some false
+look_of looks (suc n) = slice_index_or looks (suc n) None
+
+-- it is kept of each group of the pattern, and nothing where the text is no pattern
+abbrev pub KnowsGroups : List ℕ → Option (List (Option Bool)) → Type 0
+KnowsGroups pattern None = pattern_tree pattern ≡ None
+KnowsGroups pattern (Some looks) = (n : ℕ) → look_of looks n ≡ option_and_then (λ tree. group_in_look tree n) (pattern_tree pattern)
