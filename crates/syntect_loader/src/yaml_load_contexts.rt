@@ -209,6 +209,7 @@ pub(crate) fn named_context(
             Err(e) => return Err(e),
         };
     }
+    context.patterns.shrink_to_fit();
     reading.keep(name, context)
 }
 

@@ -132,6 +132,7 @@ pub(crate) fn captures(
             Err(e) => return Err(e),
         };
     }
+    found.shrink_to_fit();
     Ok(found)
 }
 

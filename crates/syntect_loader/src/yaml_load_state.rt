@@ -40,7 +40,7 @@ fn refused(e: ParseScopeError) -> ParseSyntaxError
 }
 
 impl Reading {
-    /// The scopes that a text names.
+    /// The scopes that a text names, in no more memory than they take: grammars are kept long.
     pub(crate) fn scopes(
         &mut self,
         alloc: Global,
@@ -50,7 +50,11 @@ impl Reading {
         ensures kept { Keeps self.old.repository self.new.repository }
     {
         match ScopeStack::from_text(alloc, text, &mut self.repository) {
-            Ok(stack) => Ok(stack.scopes),
+            Ok(stack) => {
+                let mut scopes = stack.scopes;
+                scopes.shrink_to_fit();
+                Ok(scopes)
+            }
             Err(e) => Err(refused(e)),
         }
     }
