@@ -84,6 +84,10 @@ told_by any table = told_from any (unpacked table.words table.rows) (unpacked ta
 
 -- ---- how a list is kept ----
 
+-- what can stand there, by its parts
+abbrev pub places_of : ℕ → Bool → Bool → Places
+places_of ascii wide end = record { ascii = ascii; wide = wide; end = end }
+
 -- the patterns that are kept so, where all of them begin with some of this
 abbrev pub flats_in : Places → Form → List Flat
 flats_in any (Form.Plain slims places) = map (widened places.items) slims.items

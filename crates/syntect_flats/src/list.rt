@@ -1,6 +1,6 @@
 //! A context's flat list, with tables that tell for each thing that can stand at a place, or behind the word or white space
 //! there, which patterns can begin at that place.
-ghost use Rattle.std.specs.Prelude.{◌≡◌, ◌≤◌, ◌<◌, ◌+◌, ◌/◌, ◌%◌, ◌*◌, ◌^◌, ◌⊎◌, List, ℕ, length, map, IfOk, slice_index_or, true, false};
+ghost use Rattle.std.specs.Prelude.{◌≡◌, ◌≤◌, ◌<◌, ◌+◌, ◌/◌, ◌%◌, ◌*◌, ◌^◌, ◌⊎◌, List, ℕ, length, map, IfOk, IfSome, slice_index_or, true, false};
 ghost use Rattle.std.specs.Int.{bit_at};
 ghost use Rattle.std.specs.List.{list_any};
 ghost use Rattle.syntect_pattern_table.specs.Starts.{is_in};
@@ -12,7 +12,7 @@ ghost use Rattle.syntect_flats.specs.Told.{AreCoarser, KeepsAll};
 use crate::flats::{Flat, Origin, Outlook};
 use crate::forms::{Form, Table};
 use crate::packed::{Packed, rows_packed, word_in};
-use crate::slims::{Slim, any_captures, is_out, origin_of, slims_of};
+use crate::slims::{Slim, any_captures, is_out, narrowed, origin_of, slims_of};
 use crate::spots::{any_spot_captures, origin_of_spot, spots_of};
 use std::alloc::{AllocError, Global};
 use std::marker::Model;
@@ -39,25 +39,28 @@ const LONG: usize = 65536;
 /// A flat list, seen as the list of its patterns. Of a pattern of a table it is seen what the table tells.
 #[derive(Drop)]
 pub struct FlatList {
+    /// What can stand at a place where a match of one of the patterns begins, part by part, since that takes less room than
+    /// `Places`.
+    ascii: u128,
     form: Form,
     /// How many patterns there are.
-    count: usize,
+    count: u32,
+    wide: bool,
+    end: bool,
     /// Whether it matters for one of the patterns what stands behind a word or behind white space.
     asks: bool,
-    /// What can stand at a place where a match of one of the patterns begins.
-    any: Places,
 }
 
 impl Model for FlatList {
     ghost use Rattle.std.specs.Prelude.{List};
     ghost use Rattle.syntect_flats.specs.declared.flats.Flat.{Flat as AFlat};
-    ghost use Rattle.syntect_flats.specs.Told.{IsKept, flats_in};
+    ghost use Rattle.syntect_flats.specs.Told.{IsKept, flats_in, places_of};
 
     ghost Value = { List AFlat };
 
-    ghost view = { λ l. flats_in l.any l.form };
+    ghost view = { λ l. flats_in (places_of l.ascii l.wide l.end) l.form };
 
-    ghost invariant = { λ l. IsKept l.any l.form l.count };
+    ghost invariant = { λ l. IsKept (places_of l.ascii l.wide l.end) l.form l.count };
 }
 
 /// Sets a bit of a word, if there is one at the place, and no other.
@@ -221,14 +224,32 @@ fn is_free(flat: &Flat) -> bool {
     flat.words.ascii & flat.blanks.ascii == u128::MAX && !flat.at_edges
 }
 
-/// The rows of what cuts the patterns of a list off; the first one alone where what stands behind rules none out.
+/// Whether all can stand there.
+fn is_everything(places: Places) -> bool {
+    places.ascii == u128::MAX && places.wide && places.end
+}
+
+/// How many rows of what cuts the patterns of a list off are made: the first one alone where what stands behind rules none out,
+/// and those before the ones of white space where what stands behind that doesn't. A row past a table's end cuts off none.
+fn cut_rows(asks: bool, flats: &[Flat]) -> usize
+    ensures { result ≤ 261 }
+{
+    if !asks {
+        WORDS
+    } else if flats.iter().all(|flat| is_everything(flat.blanks)) {
+        BLANKS
+    } else {
+        CUTS
+    }
+}
+
+/// The rows of what cuts the patterns of a list off, as far as there is anything to mark in them.
 fn marks_of(alloc: Global, words: u16, asks: bool, flats: &[Flat]) -> Result<Vec<u64>, AllocError>
     requires many { length flats.now ≤ 65536 }
     requires room { length flats.now ≤ words * 64 }
     ensures { IfOk result (λ rows. MarkCuts rows.items words flats.now) }
 {
-    let count = if asks { CUTS } else { WORDS };
-    let mut rows = vec![in alloc; 0u64; count * words as usize]?;
+    let mut rows = vec![in alloc; 0u64; cut_rows(asks, flats) * words as usize]?;
     for (index, flat) in flats.iter().enumerate() {
         if !is_free(flat) {
             mark_cuts(&mut rows, words, index, flat);
@@ -367,34 +388,39 @@ fn plain_form(alloc: Global, flats: &[Flat]) -> Result<Form, AllocError>
     Ok(Form::Plain { slims, places })
 }
 
-/// Patterns, kept by a table.
-fn tabled_form(alloc: Global, asks: bool, flats: &[Flat]) -> Result<Form, AllocError>
+/// Patterns, kept by a table, if there is room in it for where each of them stands.
+fn tabled_form(alloc: Global, asks: bool, flats: &[Flat]) -> Result<Option<Form>, AllocError>
     requires some { 0 < length flats.now }
     requires few { length flats.now ≤ 65536 }
-    ensures { IfOk result (KeepsAll flats.now) }
+    ensures { IfOk result (λ form. IfSome form (KeepsAll flats.now)) }
 {
+    let Some(spots) = spots_of(alloc, flats)? else {
+        return Ok(None);
+    };
     let words = ((flats.len() + 63) / 64) as u16;
     let rows = begins_of(alloc, words, flats)?;
     let cuts = cuts_of(alloc, words, asks, flats)?;
-    let spots = spots_of(alloc, flats)?;
     let table = Table {
         spots,
         rows,
         cuts,
         words,
     };
-    Ok(Form::Tabled(Box::new(alloc, table)?))
+    Ok(Some(Form::Tabled(Box::new(alloc, table)?)))
 }
 
-/// Patterns in the form that serves a list of their length.
+/// Patterns in the form that serves a list of their length. Where one of them stands too far off for a table, behind 65536
+/// syntaxes or contexts or 2147483648 entries, the list is kept without one: that tells no less, but is gone through pattern by
+/// pattern.
 fn form_of(alloc: Global, asks: bool, flats: &[Flat]) -> Result<Form, AllocError>
     ensures { IfOk result (KeepsAll flats.now) }
 {
-    if flats.len() < SHORT || flats.len() > LONG {
-        plain_form(alloc, flats)
-    } else {
-        tabled_form(alloc, asks, flats)
+    if flats.len() >= SHORT && flats.len() <= LONG {
+        if let Some(form) = tabled_form(alloc, asks, flats)? {
+            return Ok(form);
+        }
     }
+    plain_form(alloc, flats)
 }
 
 impl FlatList {
@@ -406,10 +432,12 @@ impl FlatList {
         let any = any_of(flats);
         let form = form_of(alloc, asks, flats)?;
         Ok(FlatList {
+            ascii: any.ascii,
             form,
-            count: flats.len(),
+            count: narrowed(flats.len())?,
+            wide: any.wide,
+            end: any.end,
             asks,
-            any,
         })
     }
 
@@ -425,7 +453,11 @@ impl FlatList {
         ensures { BeginIn result self.now }
     {
         let _ = &self.form;
-        self.any
+        Places {
+            ascii: self.ascii,
+            wide: self.wide,
+            end: self.end,
+        }
     }
 
     /// How many patterns there are.
@@ -433,7 +465,7 @@ impl FlatList {
     pub fn len(&self) -> usize
         ensures { result ≡ length self.now }
     {
-        self.count
+        self.count as usize
     }
 
     /// Where the pattern at an index stands.
@@ -470,8 +502,8 @@ impl FlatList {
         ensures passed { (k : ℕ) (d : Flat) → from ≤ k → k < result → k < length self.now
             → IsOut outlook (slice_index_or self.now k d) }
     {
-        if from == 0 && !is_in(self.any, outlook.here) {
-            return self.count;
+        if from == 0 && !is_in(self.any(), outlook.here) {
+            return self.len();
         }
         match &self.form {
             Form::Plain { slims, places } => {
@@ -483,7 +515,7 @@ impl FlatList {
                     &table.rows,
                     &table.cuts,
                     table.words,
-                    self.count,
+                    self.len(),
                     outlook,
                     from,
                 )

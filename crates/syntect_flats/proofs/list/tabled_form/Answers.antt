@@ -13,5 +13,5 @@ returns c =
       cuts_whole = c.in_ok-cuts.ensures.whole;
       rows = c.in_ok-rows.ensures.rows;
       cuts = c.in_ok-cuts.ensures.cuts;
-      spots = c.in_ok-spots.ensures;
+      spots = rw c.in-Some.is at c.in_ok-spots.ensures;
     }))
