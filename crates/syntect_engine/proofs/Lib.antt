@@ -14,3 +14,4 @@ pub mod FindLaws
 pub mod StretchLaws
 pub mod PassLaws
 pub mod LineLaws
+pub mod NeedLaws

@@ -4,6 +4,7 @@ ghost use Rattle.syntect_engine.specs.Machine.{FindsAt};
 
 use crate::dead::is_dead;
 use crate::lines::{is_at_lines, next_start};
+use crate::needed::Met;
 use crate::state::{Next, Search};
 use std::alloc::AllocError;
 use syntect_pattern_table::program::Program;
@@ -183,19 +184,16 @@ impl Search {
         if begin > text.len() {
             return Ok(Some(false));
         }
-        let Some(first) = program.behind_needed(text, begin) else {
+        let mut met = Met::new();
+        if !met.stands_behind(program, text, begin) {
             return Ok(Some(false));
-        };
+        }
         let lines = is_at_lines(program);
         let mut place = begin;
-        let mut behind = first;
         while place <= text.len() {
             place = next_start(program, text, place, text.len(), lines);
-            if place >= behind {
-                let Some(next) = program.behind_needed(text, place) else {
-                    return Ok(Some(false));
-                };
-                behind = next;
+            if !met.stands_behind(program, text, place) {
+                return Ok(Some(false));
             }
             match self.begins_there(program, text, place, limited, count)? {
                 Some(true) => return Ok(Some(true)),
@@ -232,17 +230,14 @@ impl Search {
         };
         let lines = is_at_lines(program);
         let mut place = begin;
-        let mut behind = 0;
+        let mut met = Met::new();
         while place <= last && place <= text.len() {
             place = next_start(program, text, place, end, lines);
             if place > last {
                 return Ok(Some(false));
             }
-            if place >= behind {
-                let Some(needed) = program.behind_needed(text, place) else {
-                    return Ok(Some(false));
-                };
-                behind = needed;
+            if !met.stands_behind(program, text, place) {
+                return Ok(Some(false));
             }
             let begins = self.begins_there(program, text, place, limited, count)?;
             match begins {

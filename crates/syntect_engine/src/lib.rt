@@ -6,6 +6,7 @@ mod dead;
 mod engine;
 mod enter;
 mod lines;
+mod needed;
 mod pass;
 pub mod state;
 mod stretch;

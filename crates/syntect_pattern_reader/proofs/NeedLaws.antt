@@ -1,20 +1,28 @@
--- Bytes that matches need.
-use Rattle.std.proofs.Common.{◌≡◌, ◌<◌, ◌≤◌, ◌+◌, ◌&&◌, ◌⊎◌, inl, inr, ℕ, Bool, true, false, not, List, [], ◌∷◌, ◌++◌, length, get_or, refl, sym, ◌∙◌, ap, subst, arith, Option, Some, None}
-use Rattle.std.specs.Prelude.{IsUtf8, IsCharBoundary, IfSome}
+-- What matches need.
+use Rattle.std.proofs.Common.{◌≡◌, ◌==◌, ne_eqb, ◌<◌, ◌≤◌, ◌+◌, ◌&&◌, suc, inl, inr, ℕ, Bool, true, false, not, List, [], ◌∷◌, ◌++◌, length, get_or, refl, sym, ◌∙◌, ap, arith, Option, Some, None}
+use Rattle.std.specs.Prelude.{IsUtf8, IsCharBoundary}
 use Rattle.std.specs.Char.{len_utf8}
 use Rattle.std.specs.List.{flat_map}
+use Rattle.std.specs.Int.{bit_at}
 use Rattle.std.proofs.lemmas.Bool.{cases_lt}
 use Rattle.std.proofs.lemmas.Bool.Decides.{nat_tests}
+use Rattle.std.proofs.lemmas.Str.{len_utf8_ascii}
 use Rattle.syntect_pattern.specs.Text.{char_at}
-use Rattle.syntect_pattern.specs.Sets.{range, holds}
+use Rattle.syntect_pattern.specs.Sets.{holds, range}
 use Rattle.syntect_pattern.specs.Trees.{Tree, nothing, one_of, anchor, same, seq, alt, repeat, group, atomic, ahead, behind}
 use Rattle.syntect_pattern.specs.Matches.{Groups, Member, matches, only_if, past}
 use Rattle.syntect_pattern.specs.Nesting.{looks_fail}
 use Rattle.syntect_pattern.proofs.Each.{Each, each_of}
 use Rattle.syntect_pattern_laws.proofs.MatchLaws.{Step, IsClosed, steps-matches}
 use Rattle.syntect_pattern_laws.proofs.TextLemmas.{boundary-past}
-use Rattle.syntect_pattern_table.specs.Needs.{IsAbsent, Needs, MayNeed}
-use Rattle.syntect_pattern_table.proofs.StartLaws.{char_at-past, char_at-ascii, char_at-wide}
+use Rattle.syntect_pattern_table.specs.Needs.{Needs}
+use Rattle.syntect_pattern_table.specs.Starts.{can_hold, is_in, start_at}
+use Rattle.syntect_pattern_table.specs.declared.starts.Places.{Places}
+use Rattle.syntect_pattern_table.proofs.PlaceLaws.{in_end, in_low, in_wide}
+use Rattle.syntect_pattern_table.proofs.BeginLaws.{start-past, start-ascii, start-wide}
+use Rattle.syntect_pattern_table.proofs.StartLaws.{char_at-past, char_at-ascii, dead-at}
+use Rattle.syntect_pattern_reader.specs.NeedViews.{BeginsIn, IsAmong, IsNeeded, is_one}
+use Rattle.syntect_pattern_reader.specs.declared.needs.Sought.{Sought}
 
 -- -- Matches end behind their place, on boundaries
 
@@ -52,57 +60,135 @@ ends-matches s u t i g at =
     each_of (λ m. Ends s false i g m.0 m.1) (λ m. (i ≤ m.0) × IsCharBoundary s m.0) (matches s t i g) (λ m h. h at)
     (steps-matches s u (λ n. false) (Ends s) (ends-closed s u) false t (none-fail false t) i g)
 
--- -- What each tree needs
+-- -- What stands at a place
 
-no-char : (s : List ℕ) (u : IsUtf8 s) (i : ℕ) (at : IsCharBoundary s i) (b d : ℕ) → b < 128 → IsAbsent s b i → char_at s i ≡ Some d → d ≡ b → ⊥
-no-char s u i at b d l absent e is = elim (cases_lt i (length s)) [
-  | inl p ↦ elim (cases_lt (get_or s i 0) 128) [
-    | inl q ↦ absent i (omega arith) p (let h : Some (get_or s i 0) ≡ Some d = sym (char_at-ascii s i p q) ∙ e in let k : get_or s i 0 ≡ d = cc in k ∙ is)
-    | inr q ↦ absurd (omega (arith, char_at-wide s u i at q d e, is, l))
+start-bound : (s : List ℕ) (i : ℕ) → start_at s i < 130
+start-bound s i = elim (cases_lt i (length s)) [
+  | inl h ↦ elim (cases_lt (get_or s i 0) 128) [
+    | inl l ↦ omega (arith, start-ascii s i h l)
+    | inr g ↦ omega (arith, start-wide s i h g)
   ]
-  | inr p ↦ (let h : None ≡ Some d = sym (char_at-past s i p) ∙ e in cc)
+  | inr h ↦ omega (arith, start-past s i h)
 ]
 
-is-it : (c d : ℕ) → holds (range c c) d ≡ true → d ≡ c
-is-it c d h = grind (arith, nat_tests)
+no-and : (a b : Bool) → (a && b) ≡ false → a ≡ true → b ≡ false
+no-and true b e h = e
+no-and false b e h = cc
 
-pub need-char : (c : ℕ) (o : Option ℕ) → IfSome o (λ b. (b ≡ c) × (b < 128)) → MayNeed o (one_of (range c c))
-need-char c None h = tt
-need-char c (Some b) h = λ s i g u at absent. go s i g u at absent (char_at s i) refl
+and-no : (a b : Bool) → (a && b) ≡ false → b ≡ true → a ≡ false
+and-no a true e h = (let c : a ≡ (a && true) = and-true a in c) ∙ e
   where
-    go : (s : List ℕ) (i : ℕ) (g : Groups) → IsUtf8 s → IsCharBoundary s i → IsAbsent s b i → (o : Option ℕ) → char_at s i ≡ o → past (holds (range c c)) o i g ≡ []
-    go s i g u at absent None e = refl
-    go s i g u at absent (Some d) e = test (holds (range c c) d) refl
+    and-true : (x : Bool) → x ≡ (x && true)
+    and-true true = refl
+    and-true false = refl
+and-no a false e h = cc
+
+-- no match begins where the tree can't
+dead : (s : List ℕ) → IsUtf8 s → (p : Places) (t : Tree) → BeginsIn p t → (i : ℕ) → IsCharBoundary s i → is_in p (start_at s i) ≡ false → (g : Groups) → matches s t i g ≡ []
+dead s u p t known i at out g = dead-at s u t i (sym (known (start_at s i) (start-bound s i)) ∙ out) at g
+
+-- -- What each tree needs
+
+-- everything stands anywhere
+pub need-none : (here next : ℕ → Bool) → ((x : ℕ) → here x ≡ true) → ((x : ℕ) → next x ≡ true) → (t : Tree) → Needs here next t
+need-none here next h n t s i g u at absent =
+    absurd (let e : true ≡ false = sym (h (start_at s i)) ∙ and-no (here (start_at s i)) (next (start_at s (suc i))) (absent i (omega arith)) (n (start_at s (suc i))) in cc)
+
+-- a match needs what it begins with
+pub need-begin : (p : Places) (next : ℕ → Bool) → ((x : ℕ) → next x ≡ true) → (t : Tree) → BeginsIn p t → Needs (is_in p) next t
+need-begin p next n t known s i g u at absent =
+    dead s u p t known i at (and-no (is_in p (start_at s i)) (next (start_at s (suc i))) (absent i (omega arith)) (n (start_at s (suc i)))) g
+
+-- of a character of ASCII and what stands behind it a match needs both, side by side
+pub need-pair : (p q : Places) (x y : Tree) → is_one x ≡ true → p.wide ≡ false → BeginsIn p x → BeginsIn q y → Needs (is_in p) (is_in q) (seq x y)
+need-pair p q nothing y one narrow first second s i g u at absent = cc
+need-pair p q (anchor _) y one narrow first second s i g u at absent = cc
+need-pair p q (same _ _) y one narrow first second s i g u at absent = cc
+need-pair p q (seq _ _) y one narrow first second s i g u at absent = cc
+need-pair p q (alt _ _) y one narrow first second s i g u at absent = cc
+need-pair p q (repeat _ _ _ _) y one narrow first second s i g u at absent = cc
+need-pair p q (group _ _) y one narrow first second s i g u at absent = cc
+need-pair p q (atomic _) y one narrow first second s i g u at absent = cc
+need-pair p q (ahead _ _) y one narrow first second s i g u at absent = cc
+need-pair p q (behind _ _) y one narrow first second s i g u at absent = cc
+need-pair p q (one_of a) y one narrow first second s i g u at absent = by (is_in p (start_at s i)) refl
+  where
+    at_next : (d : ℕ) → char_at s i ≡ Some d → len_utf8 d ≡ 1 → is_in p (start_at s i) ≡ true → matches s y (i + len_utf8 d) g ≡ []
+    at_next d c one e =
+        let next : suc i ≡ i + len_utf8 d = omega (arith, one) in
+        let out : is_in q (start_at s (suc i)) ≡ false = no-and (is_in p (start_at s i)) (is_in q (start_at s (suc i))) (absent i (omega arith)) e in
+        dead s u q y second (i + len_utf8 d) (boundary-past s i d u at c) (ap (λ k. is_in q (start_at s k)) (sym next) ∙ out) g
+
+    behind : (d : ℕ) → char_at s i ≡ Some d → is_in p (start_at s i) ≡ true → matches s y (i + len_utf8 d) g ≡ []
+    behind d c e = elim (cases_lt i (length s)) [
+      | inl h ↦ elim (cases_lt (get_or s i 0) 128) [
+        | inl l ↦
+            let same : Some (get_or s i 0) ≡ Some d = sym (char_at-ascii s i h l) ∙ c in
+            let it : get_or s i 0 ≡ d = cc in
+            at_next d c (len_utf8_ascii d (omega (arith, it, l))) e
+        | inr l ↦ absurd (let k : true ≡ false = sym e ∙ sym (in_wide p (start_at s i) (start-wide s i h l)) ∙ narrow in cc)
+      ]
+      | inr h ↦ absurd (let k : None ≡ Some d = sym (char_at-past s i h) ∙ c in cc)
+    ]
+
+    by : (b : Bool) → is_in p (start_at s i) ≡ b → matches s (seq (one_of a) y) i g ≡ []
+    by false e = ap (flat_map (λ (j, q). matches s y j q)) (dead s u p (one_of a) first i at e g)
+    by true e = at_char (char_at s i) refl
       where
-        test : (t : Bool) → holds (range c c) d ≡ t → only_if t (i + len_utf8 d) g ≡ []
-        test false k = refl
-        test true k = absurd (no-char s u i at b d h.1 absent e (is-it c d k ∙ sym h.0))
+        at_char : (o : Option ℕ) → char_at s i ≡ o → flat_map (λ (j, q). matches s y j q) (past (holds a) o i g) ≡ []
+        at_char None c = refl
+        at_char (Some d) c = reads_it (holds a d)
+          where
+            reads_it : (b : Bool) → flat_map (λ (j, q). matches s y j q) (only_if b (i + len_utf8 d) g) ≡ []
+            reads_it false = refl
+            reads_it true = ap (λ xs. xs ++ []) (behind d c e)
 
 flat-none : (f : Member → List Member) (ms : List Member) → Each (λ m. f m ≡ []) ms → flat_map f ms ≡ []
 flat-none f [] e = refl
 flat-none f (m ∷ ms) e = ap (λ xs. xs ++ flat_map f ms) e.0 ∙ flat-none f ms e.1
 
-pub need-first : (b : ℕ) (x y : Tree) → Needs b x → Needs b (seq x y)
-need-first b x y h s i g u at absent = ap (flat_map (λ (j, q). matches s y j q)) (h s i g u at absent)
+-- what is needed by the first of two parts
+pub need-first : (here next : ℕ → Bool) (x y : Tree) → Needs here next x → Needs here next (seq x y)
+need-first here next x y h s i g u at absent = ap (flat_map (λ (j, q). matches s y j q)) (h s i g u at absent)
 
-pub need-second : (b : ℕ) (x y : Tree) → Needs b y → Needs b (seq x y)
-need-second b x y h s i g u at absent =
+-- and by the second
+pub need-second : (here next : ℕ → Bool) (x y : Tree) → Needs here next y → Needs here next (seq x y)
+need-second here next x y h s i g u at absent =
     flat-none (λ (j, q). matches s y j q) (matches s x i g)
     (each_of (λ m. (i ≤ m.0) × IsCharBoundary s m.0) (λ m. matches s y m.0 m.1 ≡ []) (matches s x i g)
-    (λ m e. h s m.0 m.1 u e.1 (λ k l p. absent k (omega (arith, e.0, l)) p))
+    (λ m e. h s m.0 m.1 u e.1 (λ k l. absent k (omega (arith, e.0, l))))
     (ends-matches s u x i g at))
 
-may : (o o' : Option ℕ) (t t' : Tree) → o ≡ o' → ((b : ℕ) → Needs b t' → Needs b t) → MayNeed o' t' → MayNeed o t
-may o None t t' e f h = subst (λ (x : Option ℕ). MayNeed x t) (sym e) tt
-may o (Some b) t t' e f h = subst (λ (x : Option ℕ). MayNeed x t) (sym e) (f b h)
+-- of two branches both
+pub need-either : (here next : ℕ → Bool) (x y : Tree) → Needs here next x → Needs here next y → Needs here next (alt x y)
+need-either here next x y h k s i g u at absent = ap (λ ms. ms ++ matches s y i g) (h s i g u at absent) ∙ k s i g u at absent
 
--- what a tree needs, another needs that has no match without one of it
-pub need-of : (o : Option ℕ) (x y : Tree) → ((b : ℕ) → Needs b x → Needs b y) → MayNeed o x → MayNeed o y
-need-of o x y f h = may o o y x refl f h
+not-and : (a b c d : Bool) → (a ≡ true → c ≡ true) → (b ≡ true → d ≡ true) → (c && d) ≡ false → (a && b) ≡ false
+not-and false b c d h k e = refl
+not-and true false c d h k e = refl
+not-and true true c d h k e = ap (λ (x : Bool). x && true) (sym (h refl)) ∙ ap (λ (x : Bool). c && x) (sym (k refl)) ∙ e
 
--- of two bytes one
-pub need-either : (o m n : Option ℕ) (x : Tree) → (o ≡ m) ⊎ (o ≡ n) → MayNeed m x → MayNeed n x → MayNeed o x
-need-either o m n x e h k = elim e [
-  | inl p ↦ may o m x x p (λ b q. q) h
-  | inr p ↦ may o n x x p (λ b q. q) k
+-- what is needed is needed among others
+pub need-among : (x : Sought) (here next : ℕ → Bool) (t : Tree) → IsAmong x here next → IsNeeded x t → Needs here next t
+need-among x here next t among need s i g u at absent =
+    need s i g u at (λ k l. not-and (is_in x.here (start_at s k)) (is_in x.next (start_at s (suc k))) (here (start_at s k)) (next (start_at s (suc k)))
+    (among.0 (start_at s k)) (among.1 (start_at s (suc k))) (absent k l))
+
+-- what is needed is needed where the same stands
+pub need-same : (here here' next : ℕ → Bool) (t : Tree) → ((x : ℕ) → x < 130 → here x ≡ here' x) → Needs here next t → Needs here' next t
+need-same here here' next t is need s i g u at absent =
+    need s i g u at (λ k l. ap (λ (b : Bool). b && next (start_at s (suc k))) (is (start_at s k) (start-bound s k)) ∙ absent k l)
+
+one_there : (b x : ℕ) → b < 128 → x < 130 → can_hold (range b b) x ≡ (x == b)
+one_there b x h l = grind (arith, nat_tests)
+
+-- of these there is only the one
+pub single : (p q : Places) (b : ℕ) → b < 128 → p.wide ≡ false → p.end ≡ false → p.ascii ≡ q.ascii → ((x : ℕ) → x < 130 → is_in q x ≡ can_hold (range b b) x)
+    → (x : ℕ) → x < 130 → is_in p x ≡ (x == b)
+single p q b h narrow inside equal known x l = elim (cases_lt x 128) [
+  | inl a ↦ sym (in_low p x a) ∙ ap (λ (n : ℕ). bit_at n x == 1) equal ∙ in_low q x a ∙ known x l ∙ one_there b x h l
+  | inr w ↦ elim (cases_lt 128 x) [
+    | inl e ↦ sym (in_end p x e) ∙ inside ∙ sym (ne_eqb x b (λ y. omega (arith, y, h, e)))
+    | inr e ↦ sym (in_wide p x (omega (arith, w, e))) ∙ narrow ∙ sym (ne_eqb x b (λ y. omega (arith, y, h, w)))
+  ]
 ]

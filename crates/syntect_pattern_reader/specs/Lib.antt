@@ -2,3 +2,4 @@ pub mod Compiled
 pub mod ClassViews
 pub mod JoinViews
 pub mod ReaderViews
+pub mod NeedViews

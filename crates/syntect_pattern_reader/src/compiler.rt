@@ -7,11 +7,12 @@ ghost use Rattle.syntect_pattern.specs.Grammar.{tree_of, whole};
 ghost use Rattle.syntect_pattern.specs.Grammar as grammar;
 ghost use Rattle.syntect_pattern_reader.specs.Compiled.{Compiles, whole_as, tree_read};
 
-use crate::needs::need_in;
+use crate::needs::needs_of;
 use crate::reader::Reader;
 use std::alloc::{AllocError, Global};
 use syntect_pattern_table::node::Node;
 use syntect_pattern_table::program::Program;
+use syntect_pattern_table::starts::places_of;
 use syntect_pattern_words::openings::{Flags, Names, Place};
 use syntect_pattern_words::text::is_empty;
 
@@ -84,8 +85,11 @@ fn program_of(alloc: Global, reader: Reader, body: usize) -> Result<Program, All
         looks_back,
         ..
     } = reader;
-    let needed = need_in(builder.nodes.as_slice(), body);
     let root = builder.push(Node::Group { number: 0, body })?;
     let groups = names.len() + 1;
-    Program::new(alloc, builder.nodes, root, groups, needed, looks_back)
+    let mut nodes = builder.nodes;
+    nodes.shrink_to_fit();
+    let firsts = places_of(alloc, nodes.as_slice())?;
+    let needs = needs_of(nodes.as_slice(), firsts.as_slice(), body);
+    Program::new(alloc, nodes, root, groups, firsts, needs, looks_back)
 }

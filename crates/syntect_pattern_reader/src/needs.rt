@@ -1,44 +1,132 @@
-//! A byte that each match needs.
-ghost use Rattle.std.specs.Prelude.{◌≡◌, ◌<◌, ◌⊎◌, ℕ, List, IfSome, length, slice_index_or, true};
-ghost use Rattle.syntect_pattern.specs.Trees.{Tree, nothing};
+//! What each match needs.
+ghost use Rattle.std.specs.Prelude.{◌≡◌, ◌<◌, ◌==◌, ℕ, IfSome, List, length, slice_index_or, true};
+ghost use Rattle.syntect_pattern.specs.Trees.{Tree, alt, nothing, seq};
 ghost use Rattle.syntect_pattern_table.specs.Builder.{tree_in};
-ghost use Rattle.syntect_pattern_table.specs.Needs.{MayNeed, Needs};
-ghost use Rattle.syntect_pattern_table.specs.Table.{IsOrdered, node_tree, parts_before};
+ghost use Rattle.syntect_pattern_table.specs.Needs.{AreNeeded, MayNeed};
+ghost use Rattle.syntect_pattern_table.specs.Starts.{AreFirsts, is_in};
+ghost use Rattle.syntect_pattern_table.specs.Table.{node_tree, parts_before};
+ghost use Rattle.syntect_pattern_reader.specs.NeedViews.{BeginsIn, BothAreNeeded, IsAmong, IsNeeded, IsTable, Leads, is_one};
 
+use syntect_pattern_table::needs::{Need, TwoNeeds};
 use syntect_pattern_table::node::Node;
+use syntect_pattern_table::starts::{Places, anywhere, either, places_of_char};
 
-/// The byte of an ASCII character.
-fn byte_of(c: char) -> Option<u8>
-    ensures { IfSome result (λ b. (b ≡ c) × (b < 128)) }
-{
-    if c.is_ascii() { Some(c as u8) } else { None }
+/// The characters that make up four fifths of usual texts: most small letters, spaces and newlines.
+const FREQUENT: u128 = 0x003d_f37a_0000_0000_0000_0001_0000_0400;
+
+/// Those that make up most of the rest: other small letters, some capital ones, brackets, and signs between words.
+const USUAL: u128 = 0x2bc0_0884_801d_522a_7c00_f304_0000_0200;
+
+/// How much a need weighs at most that is worth to be looked for.
+const LIMIT: u32 = 12000;
+
+/// How much a need weighs that is met so seldom that no other is looked for.
+const SELDOM: u32 = 90;
+
+/// One of these, with one of those right behind it, and a weight that grows with how often that is met in usual texts.
+#[derive(Clone, Copy)]
+struct Sought {
+    here: Places,
+    next: Places,
+    weight: u32,
 }
 
-/// Whether it is a byte that seldom stands in a text: no letter, digit or space.
-fn is_rare(byte: Option<u8>) -> bool {
-    match byte {
-        Some(byte) => !byte.is_ascii_alphanumeric() && byte != b' ',
-        None => false,
-    }
+/// How often one of these stands at a place of a usual text.
+fn weight_of(places: Places) -> u32 {
+    let frequent = (places.ascii & FREQUENT).count_ones();
+    let usual = (places.ascii & USUAL).count_ones();
+    let all = places.ascii.count_ones() + u32::from(places.wide);
+    frequent * 16 + usual * 4 + all
 }
 
-/// One of the two, the second where it is as good as the first.
-fn rarer(a: Option<u8>, b: Option<u8>) -> Option<u8>
-    ensures { (result ≡ a) ⊎ (result ≡ b) }
+/// What is sought, with its weight.
+fn weighed(here: Places, next: Places) -> Sought
+    ensures here { result.here ≡ here }
+    ensures next { result.next ≡ next }
 {
-    if b.is_none() || (is_rare(a) && !is_rare(b)) {
-        a
+    let weight = if here.end {
+        u32::MAX
     } else {
-        b
+        weight_of(here).saturating_mul(weight_of(next))
+    };
+    Sought { here, next, weight }
+}
+
+/// What stands everywhere.
+fn unknown() -> Sought
+    ensures { (t : Tree) → IsNeeded result t }
+{
+    weighed(anywhere(), anywhere())
+}
+
+/// One of the two.
+fn one_of_two(a: Sought, b: Sought) -> Sought
+    ensures left { IsAmong a (is_in result.here) (is_in result.next) }
+    ensures right { IsAmong b (is_in result.here) (is_in result.next) }
+{
+    weighed(either(a.here, b.here), either(a.next, b.next))
+}
+
+/// Where matches of the node at the place begin.
+fn places_at(firsts: &[Places], place: usize) -> Places
+    requires { place < length firsts.now }
+    ensures { (ts : List Tree) → AreFirsts firsts.now ts
+        → BeginsIn result (slice_index_or ts place nothing) }
+{
+    firsts[place]
+}
+
+/// What matches of the node at the place begin with.
+fn begin_of(firsts: &[Places], place: usize) -> Sought
+    requires { place < length firsts.now }
+    ensures { (ts : List Tree) → AreFirsts firsts.now ts
+        → IsNeeded result (slice_index_or ts place nothing) }
+{
+    weighed(places_at(firsts, place), anywhere())
+}
+
+/// Whether the node is a single character.
+fn is_single(node: &Node) -> bool
+    ensures { result ≡ true → (ts : List Tree) → is_one (node_tree ts node.now) ≡ true }
+{
+    matches!(node, Node::Char(_) | Node::Class(_))
+}
+
+/// The first of two parts in a row with what the other begins with, if the first is a character of ASCII.
+fn pair_of(nodes: &[Node], firsts: &[Places], first: usize, second: usize) -> Option<Sought>
+    requires table { IsTable nodes.now firsts.now }
+    requires first { first < length nodes.now }
+    requires second { second < length nodes.now }
+    ensures { IfSome result (λ x. IsNeeded x
+        (seq (tree_in nodes.now first) (tree_in nodes.now second))) }
+{
+    let here = places_at(firsts, first);
+    if here.wide || !is_single(&nodes[first]) {
+        return None;
     }
+    Some(weighed(here, places_at(firsts, second)))
+}
+
+/// What matches of the node at the place begin with, and what stands behind that where it is known.
+fn leading(nodes: &[Node], firsts: &[Places], place: usize) -> Sought
+    requires table { IsTable nodes.now firsts.now }
+    requires inside { place < length nodes.now }
+    ensures { IsNeeded result (tree_in nodes.now place) }
+{
+    if let Node::Sequence(first, second) = &nodes[place] {
+        if let Some(pair) = pair_of(nodes, firsts, *first, *second) {
+            return pair;
+        }
+    }
+    begin_of(firsts, place)
 }
 
 /// The part that each match of the node matches as well, at its place or behind it, if the node is no sequence.
 fn part_needed(node: &Node) -> Option<usize>
     ensures before { IfSome result (λ part. (place : ℕ) → parts_before place node.now ≡ true
         → part < place) }
-    ensures needs { IfSome result (λ part. (ts : List Tree) (byte : ℕ)
-        → Needs byte (slice_index_or ts part nothing) → Needs byte (node_tree ts node.now)) }
+    ensures leads { IfSome result (λ part. (ts : List Tree)
+        → Leads (slice_index_or ts part nothing) (node_tree ts node.now)) }
 {
     match node {
         Node::Repeat {
@@ -54,27 +142,179 @@ fn part_needed(node: &Node) -> Option<usize>
     }
 }
 
-/// A byte that matches of the node at the place need at their place or behind it, if one is known: of all that stand in a row
-/// the last one that is rare. Alternatives have seldom one in common, and aren't looked at. Parts stand in a row on the right,
-/// and nest elsewhere no deeper than groups do.
-pub fn need_in(nodes: &[Node], root: usize) -> Option<u8>
-    requires ordered { IsOrdered nodes.now }
-    requires inside { root < length nodes.now }
-    ensures { MayNeed result (tree_in nodes.now root) }
+/// What a branch needs: with `begins` what it begins with.
+#[cycle(needs)]
+fn need_of_branch(nodes: &[Node], firsts: &[Places], place: usize, begins: bool) -> Sought
+    requires table { IsTable nodes.now firsts.now }
+    requires inside { place < length nodes.now }
+    ensures { IsNeeded result (tree_in nodes.now place) }
 {
-    let mut need = None;
-    let mut place = root;
-    'parts: loop {
-        place = match &nodes[place] {
-            Node::Char(c) => return rarer(need, byte_of(*c)),
-            Node::Sequence(first, second) => {
-                need = rarer(need, need_in(nodes, *first));
-                *second
-            }
-            node => match part_needed(node) {
-                Some(part) => part,
-                None => return need,
-            },
+    if begins {
+        return leading(nodes, firsts, place);
+    }
+    let mut found = Found::new();
+    found.add_needs(nodes, firsts, place);
+    found.rarest
+}
+
+/// What one of several branches needs, the first one or one of the rest.
+#[cycle(needs)]
+fn need_of_branches(
+    nodes: &[Node],
+    firsts: &[Places],
+    first: usize,
+    rest: usize,
+    begins: bool,
+) -> Sought
+    requires table { IsTable nodes.now firsts.now }
+    requires first { first < length nodes.now }
+    requires rest { rest < length nodes.now }
+    ensures { IsNeeded result (alt (tree_in nodes.now first) (tree_in nodes.now rest)) }
+{
+    let mut all = need_of_branch(nodes, firsts, first, begins);
+    let mut place = rest;
+    'branches: loop {
+        if all.weight > LIMIT {
+            return unknown();
+        }
+        let Node::Alternation(first, second) = &nodes[place] else {
+            return one_of_two(all, need_of_branch(nodes, firsts, place, begins));
         };
+        all = one_of_two(all, need_of_branch(nodes, firsts, *first, begins));
+        place = *second;
+    }
+}
+
+/// The two needs of a pattern that weigh least, of those that were found so far.
+#[derive(Drop)]
+struct Found {
+    rarest: Sought,
+    other: Sought,
+}
+
+impl Found {
+    /// Nothing was found yet.
+    fn new() -> Found
+        ensures { (t : Tree) → BothAreNeeded result t }
+    {
+        Found {
+            rarest: unknown(),
+            other: unknown(),
+        }
+    }
+
+    /// Takes another need into account.
+    fn add(&mut self, need: Sought)
+        ensures { (t : Tree) → IsNeeded need t → BothAreNeeded self.old t
+            → BothAreNeeded self.new t }
+    {
+        if need.weight < self.rarest.weight {
+            self.other = self.rarest;
+            self.rarest = need;
+        } else if need.weight < self.other.weight {
+            self.other = need;
+        }
+    }
+
+    /// Adds what matches of a sequence need for the first of its two parts.
+    #[cycle(needs)]
+    fn add_first(&mut self, nodes: &[Node], firsts: &[Places], first: usize, second: usize)
+        requires table { IsTable nodes.now firsts.now }
+        requires first { first < length nodes.now }
+        requires second { second < length nodes.now }
+        ensures { (t : Tree) → Leads (seq (tree_in nodes.now first) (tree_in nodes.now second)) t
+            → BothAreNeeded self.old t → BothAreNeeded self.new t }
+    {
+        match pair_of(nodes, firsts, first, second) {
+            Some(pair) => self.add(pair),
+            None => self.add_needs(nodes, firsts, first),
+        }
+    }
+
+    /// Adds what matches of the node at the place need at their place or behind it. Parts stand in a row on the right, and nest
+    /// elsewhere no deeper than groups do.
+    #[cycle(needs)]
+    fn add_needs(&mut self, nodes: &[Node], firsts: &[Places], root: usize)
+        requires table { IsTable nodes.now firsts.now }
+        requires inside { root < length nodes.now }
+        ensures { (t : Tree) → Leads (tree_in nodes.now root) t → BothAreNeeded self.old t
+            → BothAreNeeded self.new t }
+    {
+        let mut place = root;
+        'parts: loop {
+            if self.rarest.weight <= SELDOM {
+                return;
+            }
+            place = match &nodes[place] {
+                Node::Sequence(first, second) => {
+                    self.add_first(nodes, firsts, *first, *second);
+                    *second
+                }
+                Node::Alternation(first, rest) => {
+                    self.add(need_of_branches(nodes, firsts, *first, *rest, true));
+                    if self.rarest.weight > SELDOM {
+                        self.add(need_of_branches(nodes, firsts, *first, *rest, false));
+                    }
+                    return;
+                }
+                node => match part_needed(node) {
+                    Some(part) => part,
+                    None => {
+                        self.add(begin_of(firsts, place));
+                        return;
+                    }
+                },
+            };
+        }
+    }
+}
+
+/// The ASCII character that is the only one of these, if there is just one.
+fn single_of(places: Places) -> Option<u8>
+    ensures { IfSome result (λ b. (b < 128) × ((x : ℕ) → x < 130 → is_in places x ≡ (x == b))) }
+{
+    let first = places.ascii.trailing_zeros();
+    if places.wide || places.end || first >= 128 {
+        return None;
+    }
+    let byte = first as u8;
+    if places.ascii == places_of_char(byte as char).ascii {
+        Some(byte)
+    } else {
+        None
+    }
+}
+
+/// The need, if it is worth to be looked for.
+fn need_of(found: Sought) -> Need
+    ensures { (t : Tree) → IsNeeded found t → MayNeed result t }
+{
+    if found.here.end || found.weight > LIMIT {
+        return Need::Unknown;
+    }
+    match single_of(found.here) {
+        Some(byte) => Need::Byte {
+            byte,
+            next: found.next,
+        },
+        None => Need::One {
+            here: found.here,
+            next: found.next,
+        },
+    }
+}
+
+/// What matches of the node at the place need at their place or behind it: two of the needs that are known, those that are met
+/// least often.
+pub fn needs_of(nodes: &[Node], firsts: &[Places], root: usize) -> TwoNeeds
+    requires table { IsTable nodes.now firsts.now }
+    requires inside { root < length nodes.now }
+    ensures { AreNeeded result (tree_in nodes.now root) }
+{
+    let mut found = Found::new();
+    found.add_needs(nodes, firsts, root);
+    TwoNeeds {
+        rarest: need_of(found.rarest),
+        other: need_of(found.other),
     }
 }

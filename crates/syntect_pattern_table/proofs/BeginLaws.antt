@@ -1,8 +1,5 @@
 -- Where no match can begin.
-use Rattle.std.proofs.Common.{◌≡◌, ◌<◌, ◌≤◌, ◌||◌, ℕ, zero, suc, refl, Bool, true, false, not, Some, List, length, get_or, sym, ◌∙◌, ap, arith, inl, inr, min, below_more, length-append, [], ◌∷◌, ◌++◌, ◌+◌, ◌-◌, None, drop, subst, eq-eqb, length-drop, Option}
-use Rattle.memchr.specs.Find.{IsFirstByte, is_byte}
-use Rattle.std.proofs.lemmas.List.{get_or-drop}
-use Rattle.syntect_pattern_table.specs.Needs.{IsAbsent}
+use Rattle.std.proofs.Common.{◌≡◌, ◌<◌, ◌≤◌, ◌||◌, ℕ, zero, suc, refl, Bool, true, false, not, Some, List, length, get_or, sym, ◌∙◌, ap, arith, inl, inr, min, below_more, length-append, [], ◌∷◌, ◌++◌, subst}
 use Rattle.std.specs.Prelude.{if◌then◌else◌, nat_lt, IsUtf8, IsCharBoundary, slice_get}
 use Rattle.std.proofs.lemmas.Bool.{lt-ltb, le-ltb, cases_lt}
 use Rattle.std.proofs.Math.ListN.{get_or-append}
@@ -49,14 +46,6 @@ start-min s i m h is = elim (cases_lt (get_or s i 0) 128) [
 -- the flag of a byte tells
 pub cannot_begin-at : (s : List ℕ) → IsUtf8 s → (p : Program) (i m : ℕ) → i < length s → m ≡ min (get_or s i 0) 128 → get_or p.starts m true ≡ false → CannotBegin s p i
 cannot_begin-at s u p i m h is f = cannot_begin s u p i m (sym (start-min s i m h is)) (omega (arith, is)) f
-
--- a byte that isn't found behind a place is absent from there on
-pub absent-behind : (s rest : List ℕ) (b place : ℕ) → rest ≡ drop place s → (r : Option ℕ) → r ≡ None → IsFirstByte (is_byte b) rest r → (i : ℕ) → place ≤ i → IsAbsent s b i
-absent-behind s rest b place is r none first i l k m n e =
-    let nowhere : IsFirstByte (is_byte b) rest None = subst (λ (o : Option ℕ). IsFirstByte (is_byte b) rest o) none first in
-    let here : get_or rest (k - place) 0 ≡ b =
-    ap (λ (t : List ℕ). get_or t (k - place) 0) is ∙ get_or-drop place s (k - place) 0 ∙ ap (λ j. get_or s j 0) (let j : place + (k - place) ≡ k = omega arith in j) ∙ e in
-    nowhere (k - place) (omega arith) (omega (arith, ap length is, length-drop place s)) (eq-eqb (get_or rest (k - place) 0) b here)
 
 -- -- The places of each node
 

@@ -283,10 +283,10 @@ module _ (s : List ℕ) where
         go true h = ap (λ (ms : List Member). option_map (λ (m : Member). m.1) (slice_get (map (close 0 i) ms) 0)) (dead-at (boundary-true s i h) (unset s t))
         go false h = refl
 
-  -- no match begins where a byte that it needs is absent
-  pub found_at-absent : (u : IsUtf8 s) (t : Tree) (b i : ℕ) → Needs b t → IsAbsent s b i → found_at s t i ≡ None
+  -- no match begins where what it needs is absent
+  pub found_at-absent : (u : IsUtf8 s) (t : Tree) (here next : ℕ → Bool) (i : ℕ) → Needs here next t → IsAbsent here next s i → found_at s t i ≡ None
   unfolding found_at
-  found_at-absent u t b i needs absent = go (is_boundary s i) refl
+  found_at-absent u t here next i needs absent = go (is_boundary s i) refl
     where
       go : (c : Bool) → is_boundary s i ≡ c → (if c then option_map (λ (m : Member). m.1) (slice_get (matches s (group 0 t) i (unset s t)) 0) else None) ≡ None
       go true h = ap (λ (ms : List Member). option_map (λ (m : Member). m.1) (slice_get (map (close 0 i) ms) 0)) (needs s i (unset s t) u (boundary-true s i h) absent)

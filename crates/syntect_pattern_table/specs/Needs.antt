@@ -1,16 +1,30 @@
--- A byte without which a tree has no match.
-use Rattle.std.specs.Prelude.{◌≡◌, ◌≢◌, ℕ, ◌≤◌, ◌<◌, List, [], Option, length, slice_index, IfSome, IsUtf8, IsCharBoundary}
+-- What a tree has no match without.
+use Rattle.std.specs.Prelude.{◌≡◌, ℕ, suc, Bool, false, ◌≤◌, ◌<◌, ◌==◌, ◌&&◌, List, [], IsUtf8, IsCharBoundary}
 use Rattle.syntect_pattern.specs.Trees.{Tree}
 use Rattle.syntect_pattern.specs.Matches.{Groups, matches}
+use Rattle.syntect_pattern_table.specs.Starts.{is_in, start_at}
+use Rattle.syntect_pattern_table.specs.declared.needs.Need.{Need}
+use Rattle.syntect_pattern_table.specs.declared.needs.TwoNeeds.{TwoNeeds}
 
--- the byte stands nowhere from the place on
-abbrev pub IsAbsent : List ℕ → ℕ → ℕ → Type 0
-IsAbsent s b i = (k : ℕ) → i ≤ k → k < length s → slice_index s k ≢ b
+-- at the place stands one of the first, and right behind it one of the second
+abbrev pub stands : (ℕ → Bool) → (ℕ → Bool) → List ℕ → ℕ → Bool
+stands here next s k = here (start_at s k) && next (start_at s (suc k))
 
--- a match of the tree needs the byte at its place or behind it, be it only to look ahead
-abbrev pub Needs : ℕ → Tree → Type 0
-Needs b t = (s : List ℕ) (i : ℕ) (g : Groups) → IsUtf8 s → IsCharBoundary s i → IsAbsent s b i → matches s t i g ≡ []
+-- so it is nowhere from the place on
+abbrev pub IsAbsent : (ℕ → Bool) → (ℕ → Bool) → List ℕ → ℕ → Type 0
+IsAbsent here next s i = (k : ℕ) → i ≤ k → stands here next s k ≡ false
 
--- so it is, if a byte is known
-abbrev pub MayNeed : Option ℕ → Tree → Type 0
-MayNeed o t = IfSome o (λ b. Needs b t)
+-- a match of the tree needs both at its place or behind it, be it only to look ahead
+abbrev pub Needs : (ℕ → Bool) → (ℕ → Bool) → Tree → Type 0
+Needs here next t =
+    (s : List ℕ) (i : ℕ) (g : Groups) → IsUtf8 s → IsCharBoundary s i → IsAbsent here next s i → matches s t i g ≡ []
+
+-- what is known of that: nothing, an ASCII character, or one of several characters
+abbrev pub MayNeed : Need → Tree → Type 0
+MayNeed Need.Unknown t = Unit {0}
+MayNeed (Need.Byte byte next) t = (byte < 128) × Needs (λ x. x == byte) (is_in next) t
+MayNeed (Need.One here next) t = (here.end ≡ false) × Needs (is_in here) (is_in next) t
+
+-- the same of two
+abbrev pub AreNeeded : TwoNeeds → Tree → Type 0
+AreNeeded needs t = MayNeed needs.rarest t × MayNeed needs.other t

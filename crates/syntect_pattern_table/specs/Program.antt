@@ -4,7 +4,7 @@ use Rattle.syntect_pattern.specs.Trees.{Tree, nothing, group, group_count}
 use Rattle.syntect_pattern.specs.Matches.{found_at}
 use Rattle.syntect_pattern_table.specs.Table.{trees}
 use Rattle.syntect_pattern_table.specs.Starts.{AreStarts}
-use Rattle.syntect_pattern_table.specs.Needs.{MayNeed}
+use Rattle.syntect_pattern_table.specs.Needs.{AreNeeded}
 use Rattle.syntect_pattern_table.specs.declared.program.Program.{Program}
 
 -- the tree of each of its nodes
@@ -12,12 +12,12 @@ abbrev pub trees_of : Program → List Tree
 trees_of p = trees p.nodes
 
 -- the program is that of the tree: its root is the whole match, and it knows how many groups there are, what matches begin
--- with and perhaps a byte that they need
+-- with and perhaps what they need
 pub record IsProgramOf (p : Program) (tree : Tree) : Type 0 where
   pub root : slice_index_or (trees_of p) p.root nothing ≡ group 0 tree
   pub groups : p.groups ≡ suc (group_count tree)
   pub starts : AreStarts p.starts tree
-  pub needed : MayNeed p.needed tree
+  pub needs : AreNeeded p.needs tree
 
 -- no match begins at the place
 abbrev pub CannotBegin : List ℕ → Program → ℕ → Type 0

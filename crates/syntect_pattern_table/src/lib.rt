@@ -5,6 +5,7 @@ mod ascii;
 pub mod jumps;
 pub mod lengths;
 mod looks;
+pub mod needs;
 pub mod node;
 pub mod program;
 pub mod sets;

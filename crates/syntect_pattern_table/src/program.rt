@@ -1,5 +1,5 @@
 //! A pattern that is ready to be searched.
-ghost use Rattle.std.specs.Prelude.{◌≡◌, ◌≤◌, ◌<◌, ◌-◌, ℕ, [], List, IfOk, IfNone, IfSome, IsCharBoundary, length, min, slice_index, slice_index_or, true, false};
+ghost use Rattle.std.specs.Prelude.{◌≡◌, ◌≤◌, ◌<◌, ◌-◌, ℕ, [], List, IfOk, IfSome, IsCharBoundary, length, min, slice_index, slice_index_or, true, false};
 ghost use Rattle.syntect_pattern_table.specs.Table.{IsOrdered, trees};
 ghost use Rattle.syntect_pattern_table.specs.Builder.{tree_in};
 ghost use Rattle.syntect_pattern_table.specs.Looks.{AreLooks};
@@ -10,9 +10,9 @@ ghost use Rattle.syntect_pattern_table.specs.Lengths.{AreLengths};
 use crate::jumps::{Jump, jump_of, jumps_of, long_from};
 use crate::lengths::{Lengths, any_number, lengths_in};
 use crate::looks::looks_of;
+use crate::needs::TwoNeeds;
 use crate::node::Node;
-use crate::starts::{Places, flags_of, is_in, places_of, start_at};
-use memchr::memchr;
+use crate::starts::{Places, flags_of, is_in, start_at};
 use std::alloc::{AllocError, Global};
 use syntect_values::seq::Seq;
 
@@ -33,8 +33,8 @@ pub struct Program {
     pub jumps_from: usize,
     /// Jumps past branches, of the nodes from that one on. There are none where no list of branches is long.
     pub jumps: Seq<Jump>,
-    /// A byte that stands at the place of each match or behind it, if one is known.
-    pub needed: Option<u8>,
+    /// What each match needs.
+    pub needs: TwoNeeds,
     /// Whether the groups stand in lookarounds, the whole match aside. None of what is no group.
     pub looks: Seq<Option<bool>>,
     /// How many bytes matches of each node read. There are none where nothing looks back.
@@ -55,27 +55,28 @@ impl Program {
     ghost use Rattle.syntect_pattern_table.specs.Lengths.{HasLengths};
     ghost use Rattle.syntect_pattern.specs.Matches.{Groups, matches};
 
-    /// The program whose whole match is the node at the root. Where it looks back, it keeps how many bytes matches of its
-    /// nodes read; one that isn't said to takes its lookbehinds to read any number.
+    /// The program whose whole match is the node at the root, with where matches of the nodes begin, and what those of the
+    /// whole need. Where it looks back, it keeps how many bytes matches of its nodes read; one that isn't said to takes its
+    /// lookbehinds to read any number.
     pub fn new(
         alloc: Global,
         nodes: Seq<Node>,
         root: usize,
         groups: usize,
-        needed: Option<u8>,
+        firsts: Seq<Places>,
+        needs: TwoNeeds,
         looks_back: bool,
     ) -> Result<Program, AllocError>
         requires ordered { IsOrdered nodes }
         requires inside { root < length nodes }
+        requires count { length firsts ≡ length nodes }
+        requires begun { AreFirsts firsts (trees nodes) }
         ensures nodes { IfOk result (λ p. p.nodes ≡ nodes) }
         ensures root { IfOk result (λ p. p.root ≡ root) }
         ensures groups { IfOk result (λ p. p.groups ≡ groups) }
         ensures starts { IfOk result (λ p. AreStarts p.starts (tree_in nodes root)) }
-        ensures needed { IfOk result (λ p. p.needed ≡ needed) }
+        ensures needs { IfOk result (λ p. p.needs ≡ needs) }
     {
-        let mut nodes = nodes;
-        nodes.shrink_to_fit();
-        let firsts = places_of(alloc, nodes.as_slice())?;
         let starts = flags_of(alloc, firsts.as_slice()[root])?;
         let jumps_from = long_from(nodes.as_slice());
         let jumps = jumps_of(alloc, nodes.as_slice(), firsts.as_slice(), jumps_from)?;
@@ -89,7 +90,7 @@ impl Program {
             firsts,
             jumps_from,
             jumps,
-            needed,
+            needs,
             looks,
             lengths,
         })
@@ -157,22 +158,6 @@ impl Program {
             ends += 1;
         }
         ends
-    }
-
-    /// The place behind the next byte that matches need, from the place on, or the greatest number if none is known. None
-    /// where that byte is absent, so that no match begins at the place or behind it.
-    pub fn behind_needed(&self, text: &str, place: usize) -> Option<usize>
-        requires { place ≤ length text.now }
-        ensures { IfNone result ((k : ℕ) → place ≤ k → CannotBegin text.now self.now k) }
-    {
-        let Some(byte) = self.needed else {
-            return Some(usize::MAX);
-        };
-        let rest = text.as_bytes().split_at(place).1;
-        match memchr(byte, rest) {
-            Some(next) => Some(place + next + 1),
-            None => None,
-        }
     }
 
     /// The first place from this one on where a match can begin, as far as the bytes up to `end` tell, or `end`.

@@ -30,21 +30,21 @@ loop-place-preserved c = record {
 pub returns-clause-finds : goal.returns-clause-finds
 returns-clause-finds c = λ tree is. sym (found-past c.args.text.now tree c.loop-place.place (omega arith)) ∙ c.loop-place.invariant.same tree is
 
-pub returns-in_default-behind_needed-clause-finds : goal.returns-in_default-behind_needed-clause-finds
-returns-in_default-behind_needed-clause-finds c = λ tree is.
+pub returns-then-not-stands_behind-2-clause-finds : goal.returns-then-not-stands_behind-2-clause-finds
+returns-then-not-stands_behind-2-clause-finds c = λ tree is.
     let s = c.args.text.now in
     let next = c.next_start-place.result in
     let inside = c.next_start-place.ensures.inside in
     sym (found-past s tree (suc (length s)) (omega arith))
-    ∙ sym (found-jump s tree next (suc (length s)) (omega (arith, inside)) (omega arith) (λ k p q. c.in_default-behind_needed.ensures k p tree is))
+    ∙ sym (found-jump s tree next (suc (length s)) (omega (arith, inside)) (omega arith) (λ k p q. c.stands_behind-in-loop-place.ensures c.if-not-stands_behind-2.true k p tree is))
     ∙ sym (found-jump s tree c.loop-place.place next c.next_start-place.ensures.later (omega (arith, inside)) (λ k p q. c.next_start-place.ensures.skipped k p q tree is))
     ∙ c.loop-place.invariant.same tree is
 
-pub returns-in_default-clause-finds : goal.returns-in_default-clause-finds
-returns-in_default-clause-finds c = λ tree is.
+pub returns-then-not-stands_behind-clause-finds : goal.returns-then-not-stands_behind-clause-finds
+returns-then-not-stands_behind-clause-finds c = λ tree is.
     let s = c.args.text.now in
     sym (found-past s tree (suc (length s)) (omega arith))
-    ∙ sym (found-jump s tree c.args.begin (suc (length s)) (omega arith) (omega arith) (λ k p q. c.in_default.ensures k p tree is))
+    ∙ sym (found-jump s tree c.args.begin (suc (length s)) (omega arith) (omega arith) (λ k p q. c.stands_behind.ensures c.if-not-stands_behind.true k p tree is))
 
 pub returns-then-begin-text-clause-finds : goal.returns-then-begin-text-clause-finds
 returns-then-begin-text-clause-finds c = λ tree is. sym (found-past c.args.text.now tree c.args.begin (omega arith))

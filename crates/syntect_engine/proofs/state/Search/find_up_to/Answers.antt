@@ -24,8 +24,8 @@ returns-then-place-last-clause-finds c = λ tree is.
     ∙ found-jump s tree c.loop-place.place next c.next_start-place.ensures.later (omega (arith, within)) (λ k p q. c.next_start-place.ensures.skipped k p q tree is)
     ∙ ap (found s tree) at
 
-pub returns-in_default-clause-finds : goal.returns-in_default-clause-finds
-returns-in_default-clause-finds c = λ tree is.
+pub returns-then-not-stands_behind-clause-finds : goal.returns-then-not-stands_behind-clause-finds
+returns-then-not-stands_behind-clause-finds c = λ tree is.
     let s = c.args.text.now in
     let next = c.next_start-place.result in
     let inside = c.next_start-place.ensures.inside in
@@ -36,8 +36,8 @@ returns-in_default-clause-finds c = λ tree is.
     let near : next ≤ c.args.last = c.if-place-last.false in
     sym (c.loop-place.invariant.same tree is)
     ∙ found-jump s tree c.loop-place.place next c.next_start-place.ensures.later (omega (arith, within)) (λ k p q. c.next_start-place.ensures.skipped k p q tree is)
-    ∙ found-never s tree next (λ k p. c.in_default.ensures k p tree is)
-    ∙ sym (found-never s tree (suc c.args.last) (λ k p. c.in_default.ensures k (omega (arith, near, p)) tree is))
+    ∙ found-never s tree next (λ k p. c.stands_behind.ensures c.if-not-stands_behind.true k p tree is)
+    ∙ sym (found-never s tree (suc c.args.last) (λ k p. c.stands_behind.ensures c.if-not-stands_behind.true k (omega (arith, near, p)) tree is))
 
 pub returns-in-Some-true-clause-finds : goal.returns-in-Some-true-clause-finds
 returns-in-Some-true-clause-finds c = λ tree is.

@@ -8,10 +8,10 @@ use Rattle.syntect_pattern_table.proofs.program.Program.new.Goals as goal
 
 pub invariant_of-result-clause-jumping : goal.invariant_of-result-clause-jumping
 invariant_of-result-clause-jumping c =
-    ∣ subst (λ (nodes : List Node). AreJumps c.long_from-jumps_from.result c.in_ok-jumps.jumps (trees nodes)) c.as_slice-4.ensures c.in_ok-jumps.ensures ∣₁
+    ∣ subst (λ (nodes : List Node). AreJumps c.long_from-jumps_from.result c.in_ok-jumps.jumps (trees nodes)) c.as_slice-3.ensures c.in_ok-jumps.ensures ∣₁
 
 pub invariant_of-result-clause-looked : goal.invariant_of-result-clause-looked
-invariant_of-result-clause-looked c = subst (λ (nodes : List Node). AreLooks nodes c.args.root c.in_ok-looks.looks) c.as_slice-6.ensures c.in_ok-looks.ensures
+invariant_of-result-clause-looked c = subst (λ (nodes : List Node). AreLooks nodes c.args.root c.in_ok-looks.looks) c.as_slice-5.ensures c.in_ok-looks.ensures
 
 pub invariant_of-result-clause-measured : goal.invariant_of-result-clause-measured
-invariant_of-result-clause-measured c = subst (λ (nodes : List Node). AreLengths c.in_ok-lengths.lengths (trees nodes)) c.as_slice-7.ensures c.in_ok-lengths.ensures
+invariant_of-result-clause-measured c = subst (λ (nodes : List Node). AreLengths c.in_ok-lengths.lengths (trees nodes)) c.as_slice-6.ensures c.in_ok-lengths.ensures

@@ -1,0 +1,98 @@
+//! Looking for what each match needs.
+ghost use Rattle.std.specs.Prelude.{◌≡◌, ℕ, ◌≤◌, ◌<◌, ◌==◌, IfNone, None, length, false};
+ghost use Rattle.syntect_pattern.specs.Matches.{found_at};
+ghost use Rattle.syntect_pattern.specs.Trees.{Tree};
+ghost use Rattle.syntect_pattern_table.specs.Needs.{IsAbsent, MayNeed};
+ghost use Rattle.syntect_pattern_table.specs.Program.{CannotBegin};
+ghost use Rattle.syntect_pattern_table.specs.Starts as starts;
+
+use memchr::memchr;
+use syntect_pattern_table::needs::Need;
+use syntect_pattern_table::program::Program;
+use syntect_pattern_table::starts::{Places, is_in, start_at};
+
+/// Up to where it isn't looked again for each of the needs: behind the places where they were met.
+#[derive(Drop)]
+pub struct Met {
+    rarest: usize,
+    other: usize,
+}
+
+impl Met {
+    /// Nothing was looked for yet.
+    pub fn new() -> Met {
+        Met {
+            rarest: 0,
+            other: 0,
+        }
+    }
+
+    /// Whether what matches need stands at the place or behind it, as far as is known: where it doesn't, no match begins from
+    /// here on. What was met behind the place isn't looked for again, so that a text is gone through once for each need.
+    #[inline]
+    pub fn stands_behind(&mut self, program: &Program, text: &str, place: usize) -> bool
+        requires { place ≤ length text.now }
+        ensures { result ≡ false → (k : ℕ) → place ≤ k → CannotBegin text.now program.now k }
+    {
+        if place >= self.rarest {
+            match behind_need(&program.needs.rarest, text, place) {
+                Some(behind) => self.rarest = behind,
+                None => return false,
+            }
+        }
+        if place >= self.other {
+            match behind_need(&program.needs.other, text, place) {
+                Some(behind) => self.other = behind,
+                None => return false,
+            }
+        }
+        true
+    }
+}
+
+/// The place behind the next one, from this one on, where what is needed stands, or the greatest number if nothing is known of
+/// that. None where it stands nowhere, so that no match begins at the place or behind it.
+#[inline]
+fn behind_need(need: &Need, text: &str, place: usize) -> Option<usize>
+    requires { place ≤ length text.now }
+    ensures { IfNone result ((tree : Tree) (k : ℕ) → MayNeed need.now tree → place ≤ k
+        → found_at text.now tree k ≡ None) }
+{
+    match need {
+        Need::Unknown => Some(usize::MAX),
+        Need::Byte { byte, next } => behind_byte(*byte, next, text, place),
+        Need::One { here, next } => behind_one(here, next, text, place),
+    }
+}
+
+/// The same of an ASCII character.
+fn behind_byte(byte: u8, next: &Places, text: &str, place: usize) -> Option<usize>
+    requires { place ≤ length text.now }
+    ensures { IfNone result (byte < 128
+        → IsAbsent (λ x. x == byte) (starts.is_in next.now) text.now place) }
+{
+    let mut from = place;
+    loop {
+        let rest = text.as_bytes().split_at(from).1;
+        let Some(found) = memchr(byte, rest) else {
+            return None;
+        };
+        from += found + 1;
+        if is_in(*next, start_at(text, from)) {
+            return Some(from);
+        }
+    }
+}
+
+/// The same of one of several characters.
+fn behind_one(here: &Places, next: &Places, text: &str, place: usize) -> Option<usize>
+    ensures { IfNone result (here.now.end ≡ false
+        → IsAbsent (starts.is_in here.now) (starts.is_in next.now) text.now place) }
+{
+    for from in place..text.len() {
+        if is_in(*here, start_at(text, from)) && is_in(*next, start_at(text, from + 1)) {
+            return Some(from + 1);
+        }
+    }
+    None
+}
