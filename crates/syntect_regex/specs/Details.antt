@@ -1,4 +1,4 @@
--- What few patterns have.
+-- What not every pattern has.
 use Rattle.std.specs.Prelude.{◌≡◌, ◌-◌, ◌^◌, ℕ, zero, suc, Bool, true, false, List, [], Option, Some, None, option_and_then, slice_index_or}
 use Rattle.syntect_pattern.specs.Trees.{group_in_look}
 use Rattle.syntect_pattern.specs.Pattern.{pattern_tree}
@@ -11,14 +11,18 @@ use Rattle.syntect_regex.specs.declared.details.Rare.TheVariants.{Nothing, Group
 abbrev pub anything : Places
 anything = record { ascii = 2 ^ 128 - 1; wide = true; end = true }
 
--- anything can stand behind words and white space, and there is no group
+-- anything can stand behind words and white space: there is no more than groups, which stand in lookarounds or not
+abbrev pub groups_alone : Option (List (Option Bool)) → Detail
+groups_alone looks = record { words = anything; blanks = anything; looks = looks }
+
+-- the same of a pattern without groups
 abbrev pub plain : Detail
-plain = record { words = anything; blanks = anything; looks = Some [] }
+plain = groups_alone (Some [])
 
 -- what is kept so
 abbrev pub detail_in : Rare → Detail
 detail_in Nothing = plain
-detail_in (Groups looks) = record { words = anything; blanks = anything; looks = looks.value }
+detail_in (Groups looks) = groups_alone looks.value
 detail_in (All detail) = detail.value
 
 -- whether the group of the number stands in a lookaround, by what is kept of all but the whole match, which never does

@@ -1,8 +1,8 @@
-//! What few patterns have: what can stand behind words and white space in which matches begin, and groups.
+//! What not every pattern has: what can stand behind words and white space in which matches begin, and groups.
 ghost use Rattle.std.specs.Prelude.{◌≡◌, ℕ, IfOk, List, [], Some, None, option_and_then, slice_index_or, true};
 ghost use Rattle.syntect_pattern.specs.Trees.{group_in_look};
 ghost use Rattle.syntect_pattern.specs.Pattern.{pattern_tree};
-ghost use Rattle.syntect_regex.specs.Details.{KnowsGroups, anything};
+ghost use Rattle.syntect_regex.specs.Details.{KnowsGroups, anything, groups_alone};
 
 use std::alloc::{AllocError, Global};
 use std::marker::Model;
@@ -26,7 +26,7 @@ struct Detail {
     looks: Option<Seq<Option<bool>>>,
 }
 
-/// What few patterns have.
+/// What not every pattern has.
 #[derive(Drop)]
 enum Rare {
     /// No group, and anything can stand behind words and white space: most patterns are so.
@@ -37,7 +37,7 @@ enum Rare {
     All(Box<Detail>),
 }
 
-/// The same, seen as a `Detail`. What is rare stands in a place of its own, so that a pattern is small.
+/// The same, seen as a `Detail`. What a pattern has of it stands in a place of its own, so that a pattern is small.
 #[derive(Drop)]
 pub(crate) struct Details {
     rare: Rare,
@@ -76,7 +76,7 @@ impl Details {
 
     /// Those of a pattern where anything can stand behind words and white space.
     fn of_groups(alloc: Global, looks: Option<Seq<Option<bool>>>) -> Result<Details, AllocError>
-        ensures { IfOk result (λ d. d ≡ record { words = anything; blanks = anything; looks = looks }) }
+        ensures { IfOk result (λ d. d ≡ groups_alone looks) }
     {
         let rare = if are_none(&looks) {
             Rare::Nothing

@@ -290,7 +290,8 @@ impl Regex {
         let Some(program) = self.program()? else {
             return Ok(false);
         };
-        region.find(program, text.split_at(end).0, begin, count)
+        let size = self.body.text.len();
+        region.find(program, size, text.split_at(end).0, begin, count)
     }
 
     /// Searches the text for a match that begins at a place from `begin` to `last`, both being byte positions. The least
@@ -330,7 +331,8 @@ impl Regex {
         let Some(program) = self.program()? else {
             return Ok(false);
         };
-        region.find_up_to(program, text, begin, last, count)
+        let size = self.body.text.len();
+        region.find_up_to(program, size, text, begin, last, count)
     }
 
     /// Whether a match begins at the place, a byte position. Where one does, the region has the groups of the first one; else,
@@ -365,7 +367,8 @@ impl Regex {
         let Some(program) = self.program()? else {
             return Ok(false);
         };
-        region.find_at(program, text, place, count)
+        let size = self.body.text.len();
+        region.find_at(program, size, text, place, count)
     }
 
     /// Searches as `search_into` does, where a region is perhaps lent. Without one the memory of the search is let go.
@@ -398,7 +401,8 @@ impl Regex {
             return Ok(false);
         };
         let mut search = Search::new(alloc);
-        begins_at(&mut search, program, text, 0, &mut TurnCount::none())
+        let size = self.body.text.len();
+        begins_at(&mut search, program, size, text, 0, &mut TurnCount::none())
     }
 }
 

@@ -75,20 +75,21 @@ impl Region {
     }
 
     /// Searches the text from `begin` on: whether the program matches at some place there, of which the least counts. Where
-    /// it does, the region has the groups of that match.
+    /// it does, the region has the groups of that match. The pattern's text has so many bytes as `size` says.
     pub(crate) fn find(
         &mut self,
         program: &Program,
+        size: usize,
         text: &str,
         begin: usize,
         count: &mut TurnCount,
     ) -> Result<bool, AllocError>
         ensures found { IfOk result (λ b. Takes text.now program.now begin self.old b self.new) }
         ensures err { OnErr result (self.new ≡ self.old) }
-        ensures steps { OnOk result (IsWithinBound program.now (length text.now)
+        ensures steps { OnOk result (IsWithinBound program.now size (length text.now)
             count.old.made count.new.made) }
     {
-        let found = find(&mut self.search, program, text, begin, count)?;
+        let found = find(&mut self.search, program, size, text, begin, count)?;
         if found {
             mem::swap(&mut self.positions, &mut self.search.groups);
         }
@@ -99,6 +100,7 @@ impl Region {
     pub(crate) fn find_up_to(
         &mut self,
         program: &Program,
+        size: usize,
         text: &str,
         begin: usize,
         last: usize,
@@ -107,10 +109,10 @@ impl Region {
         requires { begin ≤ last }
         ensures found { IfOk result (λ b. TakesNear text.now program.now begin last self.old b self.new) }
         ensures err { OnErr result (self.new ≡ self.old) }
-        ensures steps { OnOk result (IsWithinBound program.now (length text.now)
+        ensures steps { OnOk result (IsWithinBound program.now size (length text.now)
             count.old.made count.new.made) }
     {
-        let is_found = find_up_to(&mut self.search, program, text, begin, last, count)?;
+        let is_found = find_up_to(&mut self.search, program, size, text, begin, last, count)?;
         if is_found {
             mem::swap(&mut self.positions, &mut self.search.groups);
         }
@@ -121,16 +123,17 @@ impl Region {
     pub(crate) fn find_at(
         &mut self,
         program: &Program,
+        size: usize,
         text: &str,
         place: usize,
         count: &mut TurnCount,
     ) -> Result<bool, AllocError>
         ensures found { IfOk result (λ b. TakesHere text.now program.now place self.old b self.new) }
         ensures err { OnErr result (self.new ≡ self.old) }
-        ensures steps { OnOk result (IsWithinBound program.now (length text.now)
+        ensures steps { OnOk result (IsWithinBound program.now size (length text.now)
             count.old.made count.new.made) }
     {
-        let is_here = begins_at(&mut self.search, program, text, place, count)?;
+        let is_here = begins_at(&mut self.search, program, size, text, place, count)?;
         if is_here {
             mem::swap(&mut self.positions, &mut self.search.groups);
         }
