@@ -2,6 +2,7 @@
 use Rattle.std.specs.Prelude.{◌≡◌, ℕ, ◌<◌, ◌≤◌, true, false, List, [], length, Option, None, IfSome, slice_index_or}
 use Rattle.std.specs.List.{All, filter_map}
 use Rattle.std.specs.Option.{option_and_then}
+use Rattle.syntect_pattern_table.specs.Starts.{is_in}
 use Rattle.syntect_regex.specs.Begins.{BeginsAtEdges, NoneBeginsBefore, NoneBeginsOutside}
 use Rattle.syntect_contexts.specs.Contexts.{match_of}
 use Rattle.syntect_grammar.specs.Contexts.{context_at}
@@ -16,10 +17,19 @@ use Rattle.syntect_grammar.specs.declared.syntax_set.SyntaxSet.{SyntaxSet}
 abbrev pub pattern_at : SyntaxSet → Flat → Option MatchPattern
 pattern_at set flat = option_and_then (λ c. match_of c flat.index) (context_at set flat.context)
 
--- what is kept of the pattern at the place is true of it
+-- nothing is told of where the pattern can begin
+pub record IsOpen (flat : Flat) : Type 0 where
+  pub begins : (x : ℕ) → is_in flat.begins x ≡ true
+  pub words : (x : ℕ) → is_in flat.words x ≡ true
+  pub blanks : (x : ℕ) → is_in flat.blanks x ≡ true
+  pub edges : flat.at_edges ≡ false
+
+-- What is kept of the pattern at the place is true of it; and of one with back references into an opening match, in place of
+-- which something else is searched, nothing is told.
 abbrev pub Tells : SyntaxSet → Flat → Type 0
 Tells set flat = IfSome (pattern_at set flat) (λ m. (flat.has_captures ≡ m.has_captures) × NoneBeginsOutside flat.begins m.regex
-    × NoneBeginsBefore false flat.words m.regex × NoneBeginsBefore true flat.blanks m.regex × (flat.at_edges ≡ true → BeginsAtEdges m.regex))
+    × NoneBeginsBefore false flat.words m.regex × NoneBeginsBefore true flat.blanks m.regex × (flat.at_edges ≡ true → BeginsAtEdges m.regex)
+    × (flat.has_captures ≡ true → IsOpen flat))
 
 -- Each test finds the same first pattern at these places as in the context's walk, there are no more of them than that has
 -- patterns, and what is kept of them is true.

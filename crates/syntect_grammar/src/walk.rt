@@ -4,7 +4,7 @@ ghost use Rattle.std.specs.Prelude.{◌≡◌, ◌<◌, ◌++◌, ◌∷◌, [],
 ghost use Rattle.std.specs.Option.{option_copied};
 ghost use Rattle.syntect_contexts.specs.Contexts.{target};
 ghost use Rattle.syntect_grammar.specs.Contexts.{context_at, set_of};
-ghost use Rattle.syntect_grammar.specs.Flats.{AreFlatsOf, AreListsOf, IsTableOf};
+ghost use Rattle.syntect_grammar.specs.Flats.{AreFlatsOf, AreListsOf, IsOpen, IsTableOf};
 ghost use Rattle.syntect_grammar.specs.Patterns.{entries};
 ghost use Rattle.syntect_grammar.specs.Walk.{at_first, entering};
 ghost use Rattle.syntect_regex.specs.Begins.{BeginsAtEdges, NoneBeginsBefore, NoneBeginsOutside};
@@ -15,6 +15,7 @@ use syntect_contexts::syntax_reference::SyntaxReference;
 use syntect_flats::entered::Entered;
 use syntect_flats::flats::Flat;
 use syntect_flats::list::FlatList;
+use syntect_pattern_table::starts::anywhere;
 use syntect_values::seq::Seq;
 
 /// The flat lists of contexts, by the place of their syntax and their own in that: none of one whose walk was given up.
@@ -57,6 +58,24 @@ fn entries(syntaxes: &[SyntaxReference], id: ContextId) -> &[Pattern]
     }
 }
 
+/// What is kept of a pattern with back references into an opening match: what is searched in its place may begin anywhere.
+fn open_flat(context: ContextId, index: usize) -> Flat
+    ensures context { result.context ≡ context }
+    ensures index { result.index ≡ index }
+    ensures captures { result.has_captures ≡ true }
+    ensures untold { IsOpen result }
+{
+    Flat {
+        begins: anywhere(),
+        words: anywhere(),
+        blanks: anywhere(),
+        at_edges: false,
+        context,
+        index,
+        has_captures: true,
+    }
+}
+
 /// What is kept of a pattern that stands at this place.
 fn flat_of(context: ContextId, index: usize, m: &MatchPattern) -> Flat
     ensures context { result.context ≡ context }
@@ -66,7 +85,11 @@ fn flat_of(context: ContextId, index: usize, m: &MatchPattern) -> Flat
     ensures words { NoneBeginsBefore false result.words m.now.regex }
     ensures blanks { NoneBeginsBefore true result.blanks m.now.regex }
     ensures edges { result.at_edges ≡ true → BeginsAtEdges m.now.regex }
+    ensures untold { result.has_captures ≡ true → IsOpen result }
 {
+    if m.has_captures {
+        return open_flat(context, index);
+    }
     Flat {
         begins: m.regex.begins(),
         words: m.regex.behind_words(),
@@ -74,7 +97,7 @@ fn flat_of(context: ContextId, index: usize, m: &MatchPattern) -> Flat
         at_edges: m.regex.begins_at_edges(),
         context,
         index,
-        has_captures: m.has_captures,
+        has_captures: false,
     }
 }
 

@@ -1,6 +1,6 @@
 -- What a turn finds at a place in a part of the chain, and in all parts.
 use Rattle.std.proofs.Common.{◌≡◌, ℕ, zero, suc, ◌+◌, ◌-◌, ◌<◌, ◌≤◌, ◌⊎◌, ◌||◌, Bool, true, false, List, [], ◌∷◌, ◌++◌, get_or, length, map, take, Option, Some, None, refl, sym, ap, subst, ◌∙◌, arith, inl, inr}
-use Rattle.std.specs.Prelude.{is_some}
+use Rattle.std.specs.Prelude.{if◌then◌else◌, is_some}
 use Rattle.std.specs.List.{All, cons_option, flat_map}
 use Rattle.std.specs.Option.{option_copied}
 use Rattle.std.proofs.lemmas.Bool.{cases_lt}
@@ -9,8 +9,9 @@ use Rattle.std.proofs.Math.Seq.{take-length}
 use Rattle.std.proofs.lemmas.List.Elements.{All-get_or}
 use Rattle.syntect_pattern.specs.Pattern.{pattern_found}
 use Rattle.syntect_regex.specs.Begins.{BeginsAtEdges, NoneBeginsBefore, NoneBeginsOutside}
+use Rattle.syntect_contexts.specs.Substitution.{Opening}
 use Rattle.syntect_contexts.specs.declared.context.MatchPattern.{MatchPattern}
-use Rattle.syntect_grammar.specs.Flats.{pattern_at, Tells}
+use Rattle.syntect_grammar.specs.Flats.{IsOpen, Tells, pattern_at}
 use Rattle.syntect_grammar.specs.declared.syntax_set.SyntaxSet.{SyntaxSet}
 use Rattle.syntect_flats.specs.Rows.{IsOut, behind_of}
 use Rattle.syntect_flats.specs.Rows.{BeginIn as IsAnyOf}
@@ -108,9 +109,33 @@ module _ (finds : FindsInText dialect) (reader : LineReader) (i : ℕ) (run : Ru
   -- ---- patterns that can't begin with what stands here ----
 
   module _ (r : IsRun reader.set.now run) where
-    -- the text that is searched is the pattern's own, where none is replaced
-    own_text : (k : ℕ) (d : Flat) (m : MatchPattern) → k < length flats → pattern_at reader.set.now (get_or flats k d) ≡ Some m → run.replaced.items ≡ [] → m.regex ≡ searched_text dialect m (option_copied run.part.opening)
-    own_text k d m l e n = (rw n at (r.replaced k d m l e))
+    -- the text that is searched is the pattern's own, where that has no back references
+    own_text : (m : MatchPattern) → m.has_captures ≡ false → m.regex ≡ searched_text dialect m (option_copied run.part.opening)
+    own_text m e = by (option_copied run.part.opening)
+      where
+        by : (o : Option Opening) → m.regex ≡ searched_text dialect m o
+        by None = refl
+        by (Some o) = ap (λ (b : Bool). if b then dialect.substituted m.regex o.region o.line else m.regex) (sym e)
+
+    never : (b : Bool) → b ≡ true → b ≡ false → ⊥
+    never b e f = let k : true ≡ false = sym e ∙ f in cc
+
+    -- a pattern that is ruled out has no back references
+    no_captures : (flat : Flat) → (flat.has_captures ≡ true → IsOpen flat) → IsRuledOut reader.line.now i flat → flat.has_captures ≡ false
+    no_captures flat told out = by flat.has_captures refl
+      where
+        ruled : IsOpen flat → IsRuledOut reader.line.now i flat → ⊥
+        ruled o (inl e) = never (is_in flat.begins (start_at reader.line.now i)) (o.begins (start_at reader.line.now i)) e
+        ruled o (inr (inl cut)) = at_end cut.blank cut.out
+          where
+            at_end : (blank : Bool) → is_in (behind_of blank flat) (start_at reader.line.now cut.end) ≡ false → ⊥
+            at_end false e = never (is_in flat.words (start_at reader.line.now cut.end)) (o.words (start_at reader.line.now cut.end)) e
+            at_end true e = never (is_in flat.blanks (start_at reader.line.now cut.end)) (o.blanks (start_at reader.line.now cut.end)) e
+        ruled o (inr (inr off)) = never flat.at_edges off.0 o.edges
+
+        by : (b : Bool) → flat.has_captures ≡ b → flat.has_captures ≡ false
+        by false e = e
+        by true e = absurd (ruled (told e) out)
 
     none_here : (flat : Flat) (pattern : List ℕ) → NoneBeginsOutside flat.begins pattern × NoneBeginsBefore false flat.words pattern × NoneBeginsBefore true flat.blanks pattern × (flat.at_edges ≡ true → BeginsAtEdges pattern) → IsRuledOut reader.line.now i flat
         → pattern_found pattern reader.line.now i ≡ pattern_found pattern reader.line.now (i + 1)
@@ -123,41 +148,42 @@ module _ (finds : FindsInText dialect) (reader : LineReader) (i : ℕ) (run : Ru
         by true run out = h.2 reader.line.now reader.text i cut.end run out
     none_here flat pattern h (inr (inr off)) = h.3 off.0 reader.line.now i off.1
 
-    pub passes : (lost : Bool) (k : ℕ) (d : Flat) → k < length flats → run.replaced.items ≡ [] → IsRuledOut reader.line.now i (get_or flats k d)
+    pub passes : (lost : Bool) (k : ℕ) (d : Flat) → k < length flats → IsRuledOut reader.line.now i (get_or flats k d)
         → ((m : MatchPattern) → pattern_at reader.set.now (get_or flats k d) ≡ Some m → IsAhead reader lost i (part_member run.part m))
         → (m : MatchPattern) → pattern_at reader.set.now (get_or flats k d) ≡ Some m → IsAhead reader lost (i + 1) (part_member run.part m)
-    passes lost k d l n out a m e =
+    passes lost k d l out a m e =
         let told : Tells reader.set.now (get_or flats k d) = All-get_or (Tells reader.set.now) flats k d l r.flats.tells in
-        let begins : (((get_or flats k d).has_captures ≡ m.has_captures)) × NoneBeginsOutside (get_or flats k d).begins m.regex × NoneBeginsBefore false (get_or flats k d).words m.regex × NoneBeginsBefore true (get_or flats k d).blanks m.regex × ((get_or flats k d).at_edges ≡ true → BeginsAtEdges m.regex) = rw e at told in
-        let same : m.regex ≡ searched_text dialect m (option_copied run.part.opening) = own_text k d m l e n in
+        let begins : (((get_or flats k d).has_captures ≡ m.has_captures)) × NoneBeginsOutside (get_or flats k d).begins m.regex × NoneBeginsBefore false (get_or flats k d).words m.regex × NoneBeginsBefore true (get_or flats k d).blanks m.regex × ((get_or flats k d).at_edges ≡ true → BeginsAtEdges m.regex)
+        × ((get_or flats k d).has_captures ≡ true → IsOpen (get_or flats k d)) = rw e at told in
+        let same : m.regex ≡ searched_text dialect m (option_copied run.part.opening) = own_text m (sym begins.0 ∙ no_captures (get_or flats k d) begins.5 out) in
         ahead_next reader (part_member run.part m) lost i (a m e) (rw same at (none_here (get_or flats k d) m.regex (begins.1, begins.2, begins.3, begins.4) out))
 
     -- those between two indexes that can't begin here change nothing,
-    pub skipped : (lost : Bool) (b : Best) (ms : List Live) (j k : ℕ) → j ≤ k → (j < k → run.replaced.items ≡ [])
+    pub skipped : (lost : Bool) (b : Best) (ms : List Live) (j k : ℕ) → j ≤ k
         → ((q : ℕ) (d : Flat) → j ≤ q → q < k → q < length flats → IsRuledOut reader.line.now i (get_or flats q d)) → AreAheadFrom reader lost i run j
         → IsBestAt reader i (ms ++ found_in (take j flats)) b → IsBestAt reader i (ms ++ found_in (take k flats)) b
-    skipped lost b ms j k l plain out ahead h =
-        up_to b ms flats j k l h (λ q d a c z. passed b (get_or flats q d) lost (passes lost q d z (plain (omega (arith, a, c))) (out q d a c z) (λ m e. ahead q d m a z e)))
+    skipped lost b ms j k l out ahead h =
+        up_to b ms flats j k l h (λ q d a c z. passed b (get_or flats q d) lost (passes lost q d z (out q d a c z) (λ m e. ahead q d m a z e)))
 
     -- and are ahead of this place too
-    pub skipped_ahead : (lost : Bool) (j k : ℕ) → (j < k → run.replaced.items ≡ [])
+    pub skipped_ahead : (lost : Bool) (j k : ℕ)
         → ((q : ℕ) (d : Flat) → j ≤ q → q < k → q < length flats → IsRuledOut reader.line.now i (get_or flats q d)) → AreAheadFrom reader lost i run j
         → AreAheadUpTo reader lost (i + 1) run j → AreAheadUpTo reader lost (i + 1) run k
-    skipped_ahead lost j k plain out ahead before q d m l z e = elim (cases_lt q j) [
+    skipped_ahead lost j k out ahead before q d m l z e = elim (cases_lt q j) [
       | inl a ↦ before q d m a z e
-      | inr a ↦ passes lost q d z (plain (omega (arith, a, l))) (out q d a l z) (λ n f. ahead q d n a z f) m e
+      | inr a ↦ passes lost q d z (out q d a l z) (λ n f. ahead q d n a z f) m e
     ]
 
     -- the same of those before an index
-    pub begun : (lost : Bool) (b : Best) (ms : List Live) (k : ℕ) → (0 < k → run.replaced.items ≡ [])
+    pub begun : (lost : Bool) (b : Best) (ms : List Live) (k : ℕ)
         → ((q : ℕ) (d : Flat) → 0 ≤ q → q < k → q < length flats → IsRuledOut reader.line.now i (get_or flats q d)) → AreAhead reader lost i run
         → IsBestAt reader i ms b → IsBestAt reader i (ms ++ found_in (take k flats)) b
-    begun lost b ms k plain out ahead h = skipped lost b ms 0 k (omega arith) plain out ahead (subst (λ xs. IsBestAt reader i xs b) (sym (append-nil ms)) h)
+    begun lost b ms k out ahead h = skipped lost b ms 0 k (omega arith) out ahead (subst (λ xs. IsBestAt reader i xs b) (sym (append-nil ms)) h)
 
-    pub begun_ahead : (lost : Bool) (k : ℕ) → (0 < k → run.replaced.items ≡ [])
+    pub begun_ahead : (lost : Bool) (k : ℕ)
         → ((q : ℕ) (d : Flat) → 0 ≤ q → q < k → q < length flats → IsRuledOut reader.line.now i (get_or flats q d)) → AreAhead reader lost i run
         → AreAheadUpTo reader lost (i + 1) run k
-    begun_ahead lost k plain out ahead = skipped_ahead lost 0 k plain out ahead (λ q d m l. absurd (omega (arith, l)))
+    begun_ahead lost k out ahead = skipped_ahead lost 0 k out ahead (λ q d m l. absurd (omega (arith, l)))
 
   -- ---- the pattern at an index ----
 
@@ -283,16 +309,16 @@ none-right true b e = cc
 none-right false b e = e
 
 -- what the patterns of one part more begin with
-pub begin_more : (begins any both : Places) (runs : List Run) (j : ℕ) (run : Run) → run ≡ get_or runs j run → run.replaced.items ≡ [] → IsAnyOf any (list_in run.flats)
+pub begin_more : (begins any both : Places) (runs : List Run) (j : ℕ) (run : Run) → run ≡ get_or runs j run → IsAnyOf any (list_in run.flats)
     → ((x : ℕ) → is_in both x ≡ (is_in begins x || is_in any x))
     → ((x k : ℕ) (r : Run) → x < 130 → is_in begins x ≡ false → k < j → k < length runs → IsQuiet x (get_or runs k r))
     → (x k : ℕ) (r : Run) → x < 130 → is_in both x ≡ false → k < j + 1 → k < length runs → IsQuiet x (get_or runs k r)
-begin_more begins any both runs j run here plain any-of is before x k r l e m n = elim (cases_lt k j) [
+begin_more begins any both runs j run here any-of is before x k r l e m n = elim (cases_lt k j) [
   | inl a ↦ before x k r l (none-left (is_in begins x) (is_in any x) (sym (is x) ∙ e)) a n
   | inr a ↦
       (let same : k ≡ j = omega (arith, a, m) in
       let at : get_or runs k r ≡ run = ap (λ y. get_or runs y r) same ∙ get_or_default runs j r run (omega (arith, n, same)) ∙ sym here in
-      let quiet : IsQuiet x run = record { plain = plain; out = λ q d z. any-of x q d l z (none-right (is_in begins x) (is_in any x) (sym (is x) ∙ e)) } in
+      let quiet : IsQuiet x run = λ q d z. any-of x q d l z (none-right (is_in begins x) (is_in any x) (sym (is x) ∙ e)) in
       subst (IsQuiet x) (sym at) quiet)
 ]
 
@@ -300,7 +326,7 @@ module _ (finds : FindsInText dialect) (reader : LineReader) (runs : List Run) (
   pub passed_place : (i : ℕ) → All (IsQuiet (start_at reader.line.now i)) runs → AllAhead reader lost i runs → AllAhead reader lost (i + 1) runs
   passed_place i quiet ahead k r l q d m z w e =
       let run : Run = get_or runs k r in
-      begun_ahead finds reader i run (all k r l) lost (length (list_in run.flats)) (λ _. (quiet k r l).plain) (λ j f _ n _. inl ((quiet k r l).out j f n)) (ahead k r l) q d m w w e
+      begun_ahead finds reader i run (all k r l) lost (length (list_in run.flats)) (λ j f _ n _. inl (quiet k r l j f n)) (ahead k r l) q d m w w e
 
 -- ---- the winner of the chain ----
 

@@ -95,10 +95,9 @@ IsRuledOut line i flat =
     (is_in flat.begins (start_at line i) ≡ false)
     ⊎ (IsCutOff line i flat ⊎ ((flat.at_edges ≡ true) × (is_word_edge line i ≡ false)))
 
--- no pattern of the part can begin with this, and each is searched as it stands
-pub record IsQuiet (x : ℕ) (run : Run) : Type 0 where
-  pub plain : run.replaced.items ≡ []
-  pub out : (k : ℕ) (d : Flat) → k < length (list_in run.flats) → is_in (slice_index_or (list_in run.flats) k d).begins x ≡ false
+-- no pattern of the part can begin with this, as its list tells
+abbrev pub IsQuiet : ℕ → Run → Type 0
+IsQuiet x run = (k : ℕ) (d : Flat) → k < length (list_in run.flats) → is_in (slice_index_or (list_in run.flats) k d).begins x ≡ false
 
 -- the patterns of all parts begin with some of this alone
 abbrev pub BeginIn : Places → List Run → Type 0

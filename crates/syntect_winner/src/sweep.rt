@@ -32,7 +32,7 @@ use syntect_flats::list::FlatList;
 use syntect_grammar::syntax_definition::MatchPattern;
 use syntect_grammar::syntax_set::SyntaxSet;
 use syntect_pattern::anchor::Anchor;
-use syntect_pattern_table::starts::{Places, anywhere, either, is_in, nowhere, start_at};
+use syntect_pattern_table::starts::{Places, either, is_in, nowhere, start_at};
 use syntect_regex::regex::Regex;
 use syntect_ways::anchor::stands;
 use syntect_ways::text::is_boundary;
@@ -203,41 +203,25 @@ fn outlook_of(line: &str, place: usize, asks: bool, reach: &mut Reach) -> Outloo
     }
 }
 
-/// An index of a part, not below this one: no pattern from this one up to it can begin at a place of which this is seen. Where
-/// patterns are replaced none is passed over, since what they begin with is known of them as they stand.
+/// An index of a part, not below this one: no pattern from this one up to it can begin at a place of which this is seen. Of
+/// patterns that may be replaced a list tells nothing, so that none of them is passed over.
 fn next_in(run: &Run<'_, '_>, outlook: Outlook, from: usize) -> usize
     requires here { outlook.here < 130 }
     requires behind { outlook.behind < 130 }
     ensures later { from ≤ result }
-    ensures plain { from < result → run.now.replaced.items ≡ [] }
     ensures passed { (line : List ℕ) (place : ℕ) → Sees outlook line place
         → (k : ℕ) (d : Flat) → from ≤ k → k < result → k < length (list_in run.now.flats)
         → IsRuledOut line place (slice_index_or (list_in run.now.flats) k d) }
 {
-    if run.replaced.is_empty() {
-        list_in(&run.flats).next(outlook, from)
-    } else {
-        from
-    }
+    list_in(&run.flats).next(outlook, from)
 }
 
-/// Whether each pattern of the part is searched as it stands.
-#[inline]
-fn is_plain(run: &Run<'_, '_>) -> bool
-    ensures { result ≡ true → run.now.replaced.items ≡ [] }
-{
-    run.replaced.is_empty()
-}
-
-/// What can stand at a place where a match of a pattern of the parts begins. That is anything where patterns are replaced.
+/// What can stand at a place where a match of a pattern of the parts begins.
 fn begins_of(runs: &[Run<'_, '_>]) -> Places
     ensures { BeginIn result runs.now }
 {
     let mut begins = nowhere();
     for run in runs {
-        if !is_plain(run) {
-            return anywhere();
-        }
         begins = either(begins, list_in(&run.flats).any());
     }
     begins

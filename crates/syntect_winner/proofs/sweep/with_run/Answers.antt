@@ -14,10 +14,10 @@ loop-index-init c = record {
   grows = λ h. h;
   best = λ ms a h.
       begun c.dialect_finds_in_text.ensures c.args.reader.now c.args.place c.args.run.now c.requires.run c.args.lost.now c.args.best ms c.next_in-index.result
-      c.next_in-index.ensures.plain (c.next_in-index.ensures.passed c.args.reader.now.line.now c.args.place c.requires.sees) a h;
+      (c.next_in-index.ensures.passed c.args.reader.now.line.now c.args.place c.requires.sees) a h;
   ahead = λ ms a h is.
       begun_ahead c.dialect_finds_in_text.ensures c.args.reader.now c.args.place c.args.run.now c.requires.run c.args.lost.now c.next_in-index.result
-      c.next_in-index.ensures.plain (c.next_in-index.ensures.passed c.args.reader.now.line.now c.args.place c.requires.sees) a;
+      (c.next_in-index.ensures.passed c.args.reader.now.line.now c.args.place c.requires.sees) a;
   steps = λ w all. omega (arith, more_room (c.len-count.result - c.next_in-index.result) (c.len-count.result) (2 * w) (omega arith));
 }
 
@@ -31,7 +31,7 @@ loop-index-preserved c = record {
   grows = λ h. c.loop-index.invariant.grows (c.in_ok-best.ensures.grows h);
   best = λ ms a h.
       skipped c.dialect_finds_in_text.ensures c.args.reader.now c.args.place c.args.run.now c.requires.run c.with_pattern.new.lost c.in_ok-best.best ms (c.loop-index.index + 1) c.next_in-index-in-loop-index.result
-      c.next_in-index-in-loop-index.ensures.later c.next_in-index-in-loop-index.ensures.plain (c.next_in-index-in-loop-index.ensures.passed c.args.reader.now.line.now c.args.place c.requires.sees)
+      c.next_in-index-in-loop-index.ensures.later (c.next_in-index-in-loop-index.ensures.passed c.args.reader.now.line.now c.args.place c.requires.sees)
       (still_from c.dialect_finds_in_text.ensures c.args.reader.now c.args.place c.args.run.now c.args.lost.now c.with_pattern.new.lost (c.loop-index.index + 1) (λ x. c.in_ok-best.ensures.lost (c.loop-index.invariant.lost x)) a)
       (stepped c.dialect_finds_in_text.ensures c.args.reader.now c.args.place c.args.run.now c.with_pattern.new.lost c.in_ok-best.best ms c.loop-index.index
       (rw (c.len-count.ensures, c.list_in.ensures) at c.loop-index-test.true)
@@ -40,7 +40,7 @@ loop-index-preserved c = record {
       (none_held c.loop-index.best.candidate c.if-is_none.ensures) (c.loop-index.invariant.best ms a h)));
   ahead = λ ms a h is.
       skipped_ahead c.dialect_finds_in_text.ensures c.args.reader.now c.args.place c.args.run.now c.requires.run c.with_pattern.new.lost (c.loop-index.index + 1) c.next_in-index-in-loop-index.result
-      c.next_in-index-in-loop-index.ensures.plain (c.next_in-index-in-loop-index.ensures.passed c.args.reader.now.line.now c.args.place c.requires.sees)
+      (c.next_in-index-in-loop-index.ensures.passed c.args.reader.now.line.now c.args.place c.requires.sees)
       (still_from c.dialect_finds_in_text.ensures c.args.reader.now c.args.place c.args.run.now c.args.lost.now c.with_pattern.new.lost (c.loop-index.index + 1) (λ x. c.in_ok-best.ensures.lost (c.loop-index.invariant.lost x)) a)
       (stepped_ahead c.dialect_finds_in_text.ensures c.args.reader.now c.args.place c.args.run.now c.with_pattern.new.lost c.in_ok-best.best _ c.loop-index.index
       (c.in_ok-best.ensures.best (ms ++ matches_of c.args.reader.now (flat_members c.args.reader.now.set.now c.args.run.now.part (take c.loop-index.index (list_in c.args.run.now.flats))))
