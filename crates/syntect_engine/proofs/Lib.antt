@@ -13,5 +13,6 @@ pub mod RunLaws
 pub mod FindLaws
 pub mod StretchLaws
 pub mod PassLaws
+pub mod LetterLaws
 pub mod LineLaws
 pub mod NeedLaws

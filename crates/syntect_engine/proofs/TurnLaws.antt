@@ -207,6 +207,7 @@ goes_no_loop s ts t n x k is other hf =
     go (Node.Class c) not_loop = refl
     go (Node.Anchor a) not_loop = refl
     go (Node.Same fold m) not_loop = refl
+    go (Node.Text l a) not_loop = refl
     go (Node.Sequence a b) not_loop = refl
     go (Node.Alternation a b) not_loop = refl
     go (Node.Repeat greedy least most a) not_loop = absurd (not_loop greedy least most a refl)

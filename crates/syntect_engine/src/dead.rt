@@ -7,7 +7,7 @@ ghost use Rattle.syntect_pattern_table.specs.Program.{trees_of};
 use syntect_pattern_table::node::Node;
 use syntect_pattern_table::program::Program;
 use syntect_ways::anchor::stands;
-use syntect_ways::past::{past_char, past_class};
+use syntect_ways::past::{past_char, past_class, past_letters};
 
 /// How many parts are looked into.
 const LOOKS: u32 = 8;
@@ -26,6 +26,7 @@ pub fn is_dead(program: &Program, text: &str, place: usize, node: usize) -> bool
             Node::Char(wanted) => return past_char(text, place, *wanted).is_none(),
             Node::Class(class) => return past_class(text, place, class).is_none(),
             Node::Anchor(anchor) => return !stands(text, place, *anchor),
+            Node::Text { letters, rest: _ } => return past_letters(text, place, letters).is_none(),
             Node::Sequence(first, _) => *first,
             Node::Group { number: _, body } => *body,
             Node::Atomic(body) => *body,

@@ -12,7 +12,7 @@ use std::alloc::AllocError;
 use syntect_pattern_table::node::Node;
 use syntect_pattern_table::program::Program;
 use syntect_ways::anchor::stands;
-use syntect_ways::past::{past_char, past_class};
+use syntect_ways::past::{past_char, past_class, past_letters};
 use syntect_ways::text::past_text;
 
 /// The last place where a match of the node can begin that ends at the place, and at how many places, from that one backwards,
@@ -142,6 +142,10 @@ impl Search {
             Node::Same { fold, group } => {
                 let place = self.past_group(text, *fold, *group);
                 Ok(self.go_on(place, list))
+            }
+            Node::Text { letters, rest } => {
+                let place = past_letters(text, self.place, letters);
+                Ok(self.go_to(place, *rest, list))
             }
             Node::Sequence(first, second) => {
                 self.enter_sequence(program, text, node, *first, *second, list)

@@ -3,7 +3,7 @@ ghost use Rattle.std.specs.Prelude.{◌≡◌, ℕ, ◌≤◌, ◌<◌, ◌==◌
 ghost use Rattle.syntect_pattern.specs.Matches.{found_at};
 ghost use Rattle.syntect_pattern.specs.Trees.{Tree};
 ghost use Rattle.syntect_pattern_table.specs.Needs.{IsAbsent, MayNeed};
-ghost use Rattle.syntect_pattern_table.specs.Program.{CannotBegin};
+ghost use Rattle.syntect_pattern_table.specs.Program.{CannotBeginFrom};
 ghost use Rattle.syntect_pattern_table.specs.Starts as starts;
 
 use memchr::memchr;
@@ -32,7 +32,7 @@ impl Met {
     #[inline]
     pub fn stands_behind(&mut self, program: &Program, text: &str, place: usize) -> bool
         requires { place ≤ length text.now }
-        ensures { result ≡ false → (k : ℕ) → place ≤ k → CannotBegin text.now program.now k }
+        ensures { result ≡ false → CannotBeginFrom text.now program.now place }
     {
         if place >= self.rarest {
             match behind_need(&program.needs.rarest, text, place) {

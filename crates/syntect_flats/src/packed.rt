@@ -7,7 +7,7 @@ use std::alloc::{AllocError, Global};
 
 /// How many of the last rows are looked at for one that is wanted. To look at all of them for each would take the square of
 /// their number.
-const RECENT: u16 = 4;
+const RECENT: u16 = 64;
 
 /// How many rows are told apart. A table that has more of them ends there, and says nothing of what lies behind.
 const MOST: u16 = 256;

@@ -1,5 +1,6 @@
 //! Where the whole match ends from a cell at a place, by the rows of the places behind it.
-ghost use Rattle.std.specs.Prelude.{◌≡◌, ◌<◌, ℕ, suc, length, true, not, if◌then◌else◌};
+ghost use Rattle.std.specs.Prelude.{◌≡◌, ◌<◌, ℕ, suc, length, true, false, not, if◌then◌else◌};
+ghost use Rattle.syntect_pattern_table.specs.Table.{is_text};
 ghost use Rattle.syntect_plan.specs.Onward.{end_if, has_turn, prefer_end};
 ghost use Rattle.syntect_linear.specs.Ground.{IsIn, IsReady, Knows, ends_at, height_of};
 ghost use Rattle.syntect_linear.specs.Steps.{Takes};
@@ -115,6 +116,7 @@ fn reach_node(
 ) -> Option<usize>
     requires ready { IsReady ground.now place }
     requires node { IsNodeAt ground.now cell node.now }
+    requires spelt { is_text node.now ≡ false }
     requires known { Knows ground.now place now.old.items }
     requires long { length now.old.items ≡ length ground.now.plan.now.cells }
     ensures value { result ≡ ends_at ground.now cell place }
@@ -139,6 +141,10 @@ fn reach_node(
             reach_if(ground, now, count, place, at.empty, holds)
         }
         Node::Same { fold: _, group: _ } => None,
+        Node::Text {
+            letters: _,
+            rest: _,
+        } => None,
         Node::Sequence(_, _) => reach(ground, now, count, place, parts.first),
         Node::Alternation(_, _) => {
             if let Some(end) = reach(ground, now, count, place, parts.first) {

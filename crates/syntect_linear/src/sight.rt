@@ -3,7 +3,7 @@ ghost use Rattle.std.specs.Prelude.{◌≡◌, ◌||◌, ℕ, IfOk, IsCharBounda
 ghost use Rattle.syntect_pattern.specs.Trees.{Tree, nothing};
 ghost use Rattle.syntect_pattern.specs.Text as places;
 ghost use Rattle.syntect_pattern_table.specs.Program.{trees_of};
-ghost use Rattle.syntect_pattern_table.specs.Table.{node_tree};
+ghost use Rattle.syntect_pattern_table.specs.Table.{AreSpelt, node_tree};
 ghost use Rattle.syntect_plan.specs.Facts.{AreFacts};
 ghost use Rattle.syntect_plan.specs.Onward.{plain};
 ghost use Rattle.syntect_plan.specs.PlanOf.{IsPlanOf};
@@ -110,6 +110,7 @@ fn past(
     before: &[bool],
 ) -> Result<Vec<bool>, AllocError>
     requires utf8 { IsUtf8 text.now }
+    requires spelt { AreSpelt program.now.nodes }
     requires plain { plain (slice_index_or (trees_of program.now) node nothing) ≡ true }
     requires bounds { AreBounds text.now before.now }
     ensures { IfOk result (λ row. IsImage text.now (slice_index_or (trees_of program.now) node

@@ -1,5 +1,6 @@
 //! The match that the rows lead along, without a step back.
 ghost use Rattle.std.specs.Prelude.{◌≡◌, suc, ◌&&◌, ◌==◌, not, is_some, slice_set, Some, true, false, if◌then◌else◌};
+ghost use Rattle.syntect_pattern_table.specs.Table.{is_text};
 ghost use Rattle.syntect_linear.specs.Ground.{IsIn, ends_at};
 ghost use Rattle.syntect_plan.specs.Onward.{end_if, has_turn};
 ghost use Rattle.syntect_plan.specs.Cells as spec;
@@ -84,6 +85,7 @@ fn walk_node(
 ) -> usize
     requires filled { IsFilled ground.now place }
     requires node { IsNodeAt ground.now cell node.now }
+    requires spelt { is_text node.now ≡ false }
     requires found { is_some (ends_at ground.now cell place) ≡ true }
     ensures walks { Walks ground.now cell place groups.old.items result groups.new.items }
     ensures steps { Costs ground.now cell place count.old.made result (suc count.new.made) }
@@ -128,6 +130,10 @@ fn walk_node(
         Node::Nothing => place,
         Node::Anchor(_) => place,
         Node::Same { fold: _, group: _ } => place,
+        Node::Text {
+            letters: _,
+            rest: _,
+        } => place,
         Node::Behind {
             negated: _,
             body: _,

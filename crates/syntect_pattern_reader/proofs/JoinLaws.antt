@@ -1,32 +1,37 @@
 -- Parts of trees are put together from the last on.
-use Rattle.std.proofs.Common.{◌≡◌, ℕ, ◌<◌, List, [], ◌∷◌, ◌++◌, length, refl, sym, subst, ap, ◌∙◌}
-use Rattle.syntect_pattern.specs.Trees.{Tree, nothing, seq, alt, seq_all, alt_all}
+use Rattle.std.proofs.Common.{◌≡◌, ℕ, ◌<◌, List, [], ◌∷◌, ◌++◌, None, length, refl, sym, subst, ap, ◌∙◌}
+use Rattle.syntect_pattern.specs.Trees.{Tree, alt, alt_all, seq, seq_all}
 use Rattle.syntect_pattern_table.specs.Builder.{tree_in, Grows, Holds}
 use Rattle.syntect_pattern_table.proofs.BuilderLaws.{Grows-trans}
-use Rattle.syntect_pattern_reader.specs.JoinViews.{AllBelow, trees_in, joined, chained}
+use Rattle.syntect_pattern_reader.specs.JoinViews.{AllBelow, AreItemsIn, IsEnd, IsItemIn, behind_letters, end_tree, item_tree, item_trees, trees_in}
 use Rattle.syntect_pattern_table.specs.declared.node.Node.{Node}
-use Rattle.syntect_pattern_reader.specs.declared.builder.Join.{Join}
+use Rattle.syntect_pattern_reader.specs.declared.builder.Item.{Item}
+use Rattle.syntect_pattern_reader.specs.declared.builder.End.{End}
 
 -- parts before a tree
-abbrev pub linked : Join → List Tree → Tree → Tree
+abbrev pub linked : (Tree → Tree → Tree) → List Tree → Tree → Tree
 linked j [] t = t
-linked j (a ∷ us) t = joined j a (linked j us t)
+linked j (a ∷ us) t = j a (linked j us t)
 
-linked-last : (j : Join) (us : List Tree) (a t : Tree) → linked j (us ++ a ∷ []) t ≡ linked j us (joined j a t)
+linked-last : (j : Tree → Tree → Tree) (us : List Tree) (a t : Tree) → linked j (us ++ a ∷ []) t ≡ linked j us (j a t)
 linked-last j [] a t = refl
-linked-last j (b ∷ us) a t = ap (joined j b) (linked-last j us a t)
+linked-last j (b ∷ us) a t = ap (j b) (linked-last j us a t)
 
-chained-last : (j : Join) (us : List Tree) (a : Tree) → chained j (us ++ a ∷ []) ≡ linked j us a
-chained-last Join.Sequence [] a = refl
-chained-last Join.Sequence (b ∷ []) a = refl
-chained-last Join.Sequence (b ∷ c ∷ us) a = ap (seq b) (chained-last Join.Sequence (c ∷ us) a)
-chained-last Join.Alternation [] a = refl
-chained-last Join.Alternation (b ∷ []) a = refl
-chained-last Join.Alternation (b ∷ c ∷ us) a = ap (alt b) (chained-last Join.Alternation (c ∷ us) a)
+branches-last : (us : List Tree) (a : Tree) → alt_all (us ++ a ∷ []) ≡ linked alt us a
+branches-last [] a = refl
+branches-last (b ∷ []) a = refl
+branches-last (b ∷ c ∷ us) a = ap (alt b) (branches-last (c ∷ us) a)
 
-map-last : (nodes : List Node) (ks : List ℕ) (k : ℕ) → trees_in nodes (ks ++ k ∷ []) ≡ trees_in nodes ks ++ tree_in nodes k ∷ []
-map-last nodes [] k = refl
-map-last nodes (x ∷ ks) k = ap (λ ts. tree_in nodes x ∷ ts) (map-last nodes ks k)
+row-last : (us : List Tree) (a : Tree) → seq_all (us ++ a ∷ []) ≡ linked seq us a
+row-last [] a = refl
+row-last (b ∷ []) a = refl
+row-last (b ∷ c ∷ us) a = ap (seq b) (row-last (c ∷ us) a)
+
+-- -- Branches
+
+pub trees-push : (nodes : List Node) (ks : List ℕ) (k : ℕ) → trees_in nodes (ks ++ k ∷ []) ≡ trees_in nodes ks ++ tree_in nodes k ∷ []
+trees-push nodes [] k = refl
+trees-push nodes (x ∷ ks) k = ap (λ ts. tree_in nodes x ∷ ts) (trees-push nodes ks k)
 
 pub below-front : (n : ℕ) (ks : List ℕ) (k : ℕ) → AllBelow n (ks ++ k ∷ []) → AllBelow n ks
 below-front n [] k h = tt
@@ -48,54 +53,135 @@ pub trees-grown : (a b : List Node) (ks : List ℕ) → Grows a b → AllBelow (
 trees-grown a b [] g h = refl
 trees-grown a b (x ∷ ks) g h = ap (λ t. t ∷ trees_in b ks) (g.kept x h.0) ∙ ap (λ ts. tree_in a x ∷ ts) (trees-grown a b ks g h.1)
 
-pub trees-push : (nodes : List Node) (ks : List ℕ) (k : ℕ) → trees_in nodes (ks ++ k ∷ []) ≡ trees_in nodes ks ++ tree_in nodes k ∷ []
-trees-push = map-last
-
--- how far the parts are put together: those before the rest are left
-pub record Links (j : Join) (old : List Node) (all : List ℕ) (new : List Node) (left : List ℕ) (rest : ℕ) : Type 0 where
+-- how far the branches are put together: those before the rest are left
+pub record Links (old : List Node) (all : List ℕ) (new : List Node) (left : List ℕ) (rest : ℕ) : Type 0 where
   pub below : AllBelow (length old) left
   pub inside : rest < length new
   pub grows : Grows old new
-  pub is : chained j (trees_in old all) ≡ linked j (trees_in old left) (tree_in new rest)
+  pub is : alt_all (trees_in old all) ≡ linked alt (trees_in old left) (tree_in new rest)
 
-pub links-first : (j : Join) (old : List Node) (all ks : List ℕ) (k : ℕ) → all ≡ ks ++ k ∷ [] → AllBelow (length old) all → Links j old all old ks k
-links-first j old all ks k e h =
+pub links-first : (old : List Node) (all ks : List ℕ) (k : ℕ) → all ≡ ks ++ k ∷ [] → AllBelow (length old) all → Links old all old ks k
+links-first old all ks k e h =
     let b : AllBelow (length old) (ks ++ k ∷ []) = subst (AllBelow (length old)) e h in
     record {
       below = below-front (length old) ks k b;
       inside = below-last (length old) ks k b;
       grows = record { longer = λ i l. l; kept = λ i l. refl };
-      is = ap (λ xs. chained j (trees_in old xs)) e ∙ ap (chained j) (map-last old ks k) ∙ chained-last j (trees_in old ks) (tree_in old k);
+      is = ap (λ xs. alt_all (trees_in old xs)) e ∙ ap alt_all (trees-push old ks k) ∙ branches-last (trees_in old ks) (tree_in old k);
     }
 
-pub links-more : (j : Join) (old : List Node) (all : List ℕ) (mid new : List Node) (left ks : List ℕ) (k rest last : ℕ) → left ≡ ks ++ k ∷ []
-    → Links j old all mid left rest → Grows mid new → Holds new last (joined j (tree_in mid k) (tree_in mid rest)) → Links j old all new ks last
-links-more j old all mid new left ks k rest last e l g h =
+pub links-more : (old : List Node) (all : List ℕ) (mid new : List Node) (left ks : List ℕ) (k rest last : ℕ) → left ≡ ks ++ k ∷ []
+    → Links old all mid left rest → Grows mid new → Holds new last (alt (tree_in mid k) (tree_in mid rest)) → Links old all new ks last
+links-more old all mid new left ks k rest last e l g h =
     let b : AllBelow (length old) (ks ++ k ∷ []) = subst (AllBelow (length old)) e l.below in
-    let m : AllBelow (length mid) (ks ++ k ∷ []) = below-grown old mid (ks ++ k ∷ []) l.grows b in
     record {
       below = below-front (length old) ks k b;
       inside = h.inside;
       grows = Grows-trans old mid new l.grows g;
       is =
           l.is
-          ∙ ap (λ xs. linked j (trees_in old xs) (tree_in mid rest)) e
-          ∙ ap (λ ts. linked j ts (tree_in mid rest)) (map-last old ks k)
-          ∙ linked-last j (trees_in old ks) (tree_in old k) (tree_in mid rest)
-          ∙ ap (λ t. linked j (trees_in old ks) (joined j t (tree_in mid rest))) (sym (l.grows.kept k (below-last (length old) ks k b)))
-          ∙ ap (linked j (trees_in old ks)) (sym h.is);
+          ∙ ap (λ xs. linked alt (trees_in old xs) (tree_in mid rest)) e
+          ∙ ap (λ ts. linked alt ts (tree_in mid rest)) (trees-push old ks k)
+          ∙ linked-last alt (trees_in old ks) (tree_in old k) (tree_in mid rest)
+          ∙ ap (λ t. linked alt (trees_in old ks) (alt t (tree_in mid rest))) (sym (l.grows.kept k (below-last (length old) ks k b)))
+          ∙ ap (linked alt (trees_in old ks)) (sym h.is);
     }
 
-pub links-all : (j : Join) (old : List Node) (all : List ℕ) (new : List Node) (left : List ℕ) (rest : ℕ) → left ≡ [] → Links j old all new left rest
-    → Holds new rest (chained j (trees_in old all))
-links-all j old all new left rest e l = record {
+pub links-all : (old : List Node) (all : List ℕ) (new : List Node) (left : List ℕ) (rest : ℕ) → left ≡ [] → Links old all new left rest
+    → Holds new rest (alt_all (trees_in old all))
+links-all old all new left rest e l = record {
   inside = l.inside;
-  is = sym (l.is ∙ ap (λ xs. linked j (trees_in old xs) (tree_in new rest)) e);
+  is = sym (l.is ∙ ap (λ xs. linked alt (trees_in old xs) (tree_in new rest)) e);
 }
-
-pub nothing-left : (j : Join) (old : List Node) (all : List ℕ) → all ≡ [] → chained j (trees_in old all) ≡ nothing
-nothing-left Join.Sequence old all e = ap (λ xs. seq_all (trees_in old xs)) e
-nothing-left Join.Alternation old all e = ap (λ xs. alt_all (trees_in old xs)) e
 
 pub below-left : (old : List Node) (left ks : List ℕ) (k : ℕ) → left ≡ ks ++ k ∷ [] → AllBelow (length old) left → k < length old
 below-left old left ks k e h = below-last (length old) ks k (subst (AllBelow (length old)) e h)
+
+-- -- Items
+
+pub items-front : (n : ℕ) (xs : List Item) (x : Item) → AreItemsIn n (xs ++ x ∷ []) → AreItemsIn n xs
+items-front n [] x h = tt
+items-front n (y ∷ xs) x h = (h.0, items-front n xs x h.1)
+
+pub items-last : (n : ℕ) (xs : List Item) (x : Item) → AreItemsIn n (xs ++ x ∷ []) → IsItemIn n x
+items-last n [] x h = h.0
+items-last n (y ∷ xs) x h = items-last n xs x h.1
+
+pub items-push : (n : ℕ) (xs : List Item) (x : Item) → AreItemsIn n xs → IsItemIn n x → AreItemsIn n (xs ++ x ∷ [])
+items-push n [] x h l = (l, tt)
+items-push n (y ∷ xs) x h l = (h.0, items-push n xs x h.1 l)
+
+pub item-in_grown : (a b : List Node) (x : Item) → Grows a b → IsItemIn (length a) x → IsItemIn (length b) x
+item-in_grown a b (Item.Node k) g h = g.longer k h
+item-in_grown a b (Item.Letter fold letter) g h = tt
+
+pub items-grown : (a b : List Node) (xs : List Item) → Grows a b → AreItemsIn (length a) xs → AreItemsIn (length b) xs
+items-grown a b [] g h = tt
+items-grown a b (x ∷ xs) g h = (item-in_grown a b x g h.0, items-grown a b xs g h.1)
+
+pub item-kept : (a b : List Node) (x : Item) → Grows a b → IsItemIn (length a) x → item_tree b x ≡ item_tree a x
+item-kept a b (Item.Node k) g h = g.kept k h
+item-kept a b (Item.Letter fold letter) g h = refl
+
+pub items-kept : (a b : List Node) (xs : List Item) → Grows a b → AreItemsIn (length a) xs → item_trees b xs ≡ item_trees a xs
+items-kept a b [] g h = refl
+items-kept a b (x ∷ xs) g h = ap (λ t. t ∷ item_trees b xs) (item-kept a b x g h.0) ∙ ap (λ ts. item_tree a x ∷ ts) (items-kept a b xs g h.1)
+
+pub item_trees-push : (nodes : List Node) (xs : List Item) (x : Item) → item_trees nodes (xs ++ x ∷ []) ≡ item_trees nodes xs ++ item_tree nodes x ∷ []
+item_trees-push nodes [] x = refl
+item_trees-push nodes (y ∷ xs) x = ap (λ ts. item_tree nodes y ∷ ts) (item_trees-push nodes xs x)
+
+-- how far the items are put together: those before the end are left
+pub record Chains (old : List Node) (all : List Item) (new : List Node) (left : List Item) (end : End) : Type 0 where
+  pub below : AreItemsIn (length old) left
+  pub inside : end.rest < length new
+  pub grows : Grows old new
+  pub is : seq_all (item_trees old all) ≡ linked seq (item_trees old left) (end_tree new end)
+
+pub chains-first : (old : List Node) (all : List Item) (new : List Node) (xs : List Item) (x : Item) (k : ℕ) → all ≡ xs ++ x ∷ [] → AreItemsIn (length old) all
+    → Grows old new → Holds new k (item_tree old x) → Chains old all new xs (record { letters = None; rest = k })
+chains-first old all new xs x k e h g holds =
+    let b : AreItemsIn (length old) (xs ++ x ∷ []) = subst (AreItemsIn (length old)) e h in
+    record {
+      below = items-front (length old) xs x b;
+      inside = holds.inside;
+      grows = g;
+      is =
+          ap (λ ys. seq_all (item_trees old ys)) e
+          ∙ ap seq_all (item_trees-push old xs x)
+          ∙ row-last (item_trees old xs) (item_tree old x)
+          ∙ ap (linked seq (item_trees old xs)) (sym holds.is);
+    }
+
+pub chains-item : (old : List Node) (all : List Item) (mid : List Node) (left xs : List Item) (x : Item) (end : End) → left ≡ xs ++ x ∷ []
+    → Chains old all mid left end → IsItemIn (length mid) x
+chains-item old all mid left xs x end e l =
+    item-in_grown old mid x l.grows (items-last (length old) xs x (subst (AreItemsIn (length old)) e l.below))
+
+pub chains-more : (old : List Node) (all : List Item) (mid new : List Node) (left xs : List Item) (x : Item) (end more : End) → left ≡ xs ++ x ∷ []
+    → Chains old all mid left end → Grows mid new → IsEnd new more (seq (item_tree mid x) (end_tree mid end)) → Chains old all new xs more
+chains-more old all mid new left xs x end more e l g h =
+    let b : AreItemsIn (length old) (xs ++ x ∷ []) = subst (AreItemsIn (length old)) e l.below in
+    record {
+      below = items-front (length old) xs x b;
+      inside = h.inside;
+      grows = Grows-trans old mid new l.grows g;
+      is =
+          l.is
+          ∙ ap (λ ys. linked seq (item_trees old ys) (end_tree mid end)) e
+          ∙ ap (λ ts. linked seq ts (end_tree mid end)) (item_trees-push old xs x)
+          ∙ linked-last seq (item_trees old xs) (item_tree old x) (end_tree mid end)
+          ∙ ap (λ t. linked seq (item_trees old xs) (seq t (end_tree mid end))) (sym (item-kept old mid x l.grows (items-last (length old) xs x b)))
+          ∙ ap (linked seq (item_trees old xs)) (sym h.is);
+    }
+
+pub chains-all : (old : List Node) (all : List Item) (mid new : List Node) (left : List Item) (end : End) (k : ℕ) → left ≡ [] → Chains old all mid left end
+    → Holds new k (end_tree mid end) → Holds new k (seq_all (item_trees old all))
+chains-all old all mid new left end k e l h = record {
+  inside = h.inside;
+  is = h.is ∙ sym (l.is ∙ ap (λ ys. linked seq (item_trees old ys) (end_tree mid end)) e);
+}
+
+-- an end in a table that has grown
+pub end-kept : (a b : List Node) (end : End) → Grows a b → end.rest < length a → end_tree b end ≡ end_tree a end
+end-kept a b end g h = ap (behind_letters end.letters) (g.kept end.rest h)

@@ -1,5 +1,5 @@
 -- What matches need.
-use Rattle.std.proofs.Common.{◌≡◌, ◌==◌, ne_eqb, ◌<◌, ◌≤◌, ◌+◌, ◌&&◌, suc, inl, inr, ℕ, Bool, true, false, not, List, [], ◌∷◌, ◌++◌, length, get_or, refl, sym, ◌∙◌, ap, arith, Option, Some, None}
+use Rattle.std.proofs.Common.{◌≡◌, subst, ◌==◌, ne_eqb, ◌<◌, ◌≤◌, ◌+◌, ◌&&◌, ◌||◌, suc, inl, inr, ℕ, Bool, true, false, not, List, [], ◌∷◌, ◌++◌, length, get_or, refl, sym, ◌∙◌, ap, arith, Option, Some, None}
 use Rattle.std.specs.Prelude.{IsUtf8, IsCharBoundary}
 use Rattle.std.specs.Char.{len_utf8}
 use Rattle.std.specs.List.{flat_map}
@@ -8,7 +8,8 @@ use Rattle.std.proofs.lemmas.Bool.{cases_lt}
 use Rattle.std.proofs.lemmas.Bool.Decides.{nat_tests}
 use Rattle.std.proofs.lemmas.Str.{len_utf8_ascii}
 use Rattle.syntect_pattern.specs.Text.{char_at}
-use Rattle.syntect_pattern.specs.Sets.{holds, range}
+use Rattle.syntect_pattern.specs.Sets.{Set, from_to, holds, range}
+use Rattle.syntect_letters.specs.Letters.{letters_tree}
 use Rattle.syntect_pattern.specs.Trees.{Tree, nothing, one_of, anchor, same, seq, alt, repeat, group, atomic, ahead, behind}
 use Rattle.syntect_pattern.specs.Matches.{Groups, Member, matches, only_if, past}
 use Rattle.syntect_pattern.specs.Nesting.{looks_fail}
@@ -19,9 +20,9 @@ use Rattle.syntect_pattern_table.specs.Needs.{Needs}
 use Rattle.syntect_pattern_table.specs.Starts.{can_hold, is_in, start_at}
 use Rattle.syntect_pattern_table.specs.declared.starts.Places.{Places}
 use Rattle.syntect_pattern_table.proofs.PlaceLaws.{in_end, in_low, in_wide}
-use Rattle.syntect_pattern_table.proofs.BeginLaws.{start-past, start-ascii, start-wide}
+use Rattle.syntect_pattern_table.proofs.BeginLaws.{start-bound, start-wide}
 use Rattle.syntect_pattern_table.proofs.StartLaws.{char_at-past, char_at-ascii, dead-at}
-use Rattle.syntect_pattern_reader.specs.NeedViews.{BeginsIn, IsAmong, IsNeeded, is_one}
+use Rattle.syntect_pattern_reader.specs.NeedViews.{BeginsIn, IsAmong, IsNeeded, Leads, is_one}
 use Rattle.syntect_pattern_reader.specs.declared.needs.Sought.{Sought}
 
 -- -- Matches end behind their place, on boundaries
@@ -61,15 +62,6 @@ ends-matches s u t i g at =
     (steps-matches s u (λ n. false) (Ends s) (ends-closed s u) false t (none-fail false t) i g)
 
 -- -- What stands at a place
-
-start-bound : (s : List ℕ) (i : ℕ) → start_at s i < 130
-start-bound s i = elim (cases_lt i (length s)) [
-  | inl h ↦ elim (cases_lt (get_or s i 0) 128) [
-    | inl l ↦ omega (arith, start-ascii s i h l)
-    | inr g ↦ omega (arith, start-wide s i h g)
-  ]
-  | inr h ↦ omega (arith, start-past s i h)
-]
 
 no-and : (a b : Bool) → (a && b) ≡ false → a ≡ true → b ≡ false
 no-and true b e h = e
@@ -192,3 +184,40 @@ single p q b h narrow inside equal known x l = elim (cases_lt x 128) [
     | inr e ↦ sym (in_wide p x (omega (arith, w, e))) ∙ narrow ∙ sym (ne_eqb x b (λ y. omega (arith, y, h, w)))
   ]
 ]
+
+-- -- Letters
+
+none-more : (b : Bool) → (b || false) ≡ b
+none-more true = refl
+none-more false = refl
+
+pub none_left : (cs : List ℕ) → length cs ≡ 0 → cs ≡ []
+none_left [] e = refl
+none_left (c ∷ cs) e = absurd (omega (arith, e))
+
+-- a character begins a match of it
+pub letter-begins : (p : Places) (a : Set) → ((x : ℕ) → x < 130 → is_in p x ≡ can_hold a x) → BeginsIn p (one_of a)
+letter-begins p a h x l = h x l ∙ sym (none-more (can_hold a x))
+
+-- and one of it with anything behind it
+pub letters-begin : (p : Places) (a : Set) (t : Tree) → ((x : ℕ) → x < 130 → is_in p x ≡ can_hold a x) → BeginsIn p (seq (one_of a) t)
+letters-begin p a t h x l = h x l ∙ sym (none-more (can_hold a x)) ∙ sym (none-more (can_hold a x || false))
+
+-- what stands behind letters is needed with them
+pub need-behind : (here next : ℕ → Bool) (fold : Bool) (cs : List ℕ) (t : Tree) → Needs here next t → Needs here next (letters_tree fold cs t)
+need-behind here next fold [] t n = n
+need-behind here next fold (c ∷ cs) t n = need-second here next (one_of (from_to fold c c)) (letters_tree fold cs t) (need-behind here next fold cs t n)
+
+-- of two letters in a row the first is needed with the second
+pub need-letters : (x : Sought) (q : Places) (fold : Bool) (first second : ℕ) (others more : List ℕ) (u : Tree) → others ≡ second ∷ more
+    → ((t : Tree) → BeginsIn q t → IsNeeded x (seq (one_of (from_to fold first first)) t))
+    → ((k : ℕ) → k < 130 → is_in q k ≡ can_hold (from_to fold second second) k) → IsNeeded x (letters_tree fold (first ∷ others) u)
+need-letters x q fold first second others more u e pair known =
+    subst (λ (cs : List ℕ). IsNeeded x (letters_tree fold (first ∷ cs) u)) (sym e)
+    (pair (letters_tree fold (second ∷ more) u) (letters-begin q (from_to fold second second) (letters_tree fold more u) known))
+
+-- letters behind the first one are needed with it
+pub leads-letters : (fold : Bool) (first second : ℕ) (others more : List ℕ) (u t : Tree) → others ≡ second ∷ more → Leads (letters_tree fold (first ∷ others) u) t
+    → Leads (letters_tree fold (second ∷ more) u) t
+leads-letters fold first second others more u t e leads here next n =
+    leads here next (need-second here next (one_of (from_to fold first first)) (letters_tree fold others u) (subst (λ (cs : List ℕ). Needs here next (letters_tree fold cs u)) (sym e) n))

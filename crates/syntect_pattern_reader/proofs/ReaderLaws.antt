@@ -6,35 +6,39 @@ use Rattle.syntect_pattern.specs.Reading.{Text, ◌>>=◌, between, pass}
 use Rattle.syntect_pattern.specs.Grammar.{Names, on, with_item, quantified, passed}
 use Rattle.syntect_pattern.specs.Grammar as grammar
 use Rattle.syntect_pattern_table.specs.Builder.{tree_in, Grows, Holds}
-use Rattle.syntect_pattern_reader.specs.JoinViews.{AllBelow, trees_in}
+use Rattle.syntect_pattern_reader.specs.JoinViews.{AllBelow, AreItemsIn, IsItemIn, item_tree, item_trees, trees_in}
+use Rattle.syntect_pattern_reader.specs.declared.builder.Item.{Item}
 use Rattle.syntect_pattern_reader.specs.ReaderViews.{body_as, IsBodyIn}
 use Rattle.syntect_pattern_table.specs.declared.node.Node.{Node}
 use Rattle.syntect_pattern_reader.specs.declared.reader.Body.{Body}
-use Rattle.syntect_pattern_reader.proofs.JoinLaws.{below-grown, below-push, trees-grown, trees-push}
+use Rattle.syntect_pattern_reader.proofs.JoinLaws.{below-grown, below-push, item_trees-push, items-grown, items-kept, items-push, trees-grown, trees-push}
 
 abbrev made : List Tree → List Tree → grammar.Body
 made before items = record { before = before; items = items }
 
 pub body-in-grown : (a b : List Node) (o : Body) → Grows a b → IsBodyIn a o → IsBodyIn b o
-body-in-grown a b o g h = record { before = below-grown a b o.before g h.before; items = below-grown a b o.items g h.items }
+body-in-grown a b o g h = record { before = below-grown a b o.before g h.before; items = items-grown a b o.items g h.items }
 
 pub body-grown : (a b : List Node) (o : Body) → Grows a b → IsBodyIn a o → body_as b o ≡ body_as a o
 body-grown a b o g h =
-    ap (λ ts. made ts (trees_in b o.items)) (trees-grown a b o.before g h.before)
-    ∙ ap (made (trees_in a o.before)) (trees-grown a b o.items g h.items)
+    ap (λ ts. made ts (item_trees b o.items)) (trees-grown a b o.before g h.before)
+    ∙ ap (made (trees_in a o.before)) (items-kept a b o.items g h.items)
 
 pub below-new : (n : ℕ) (ks ls : List ℕ) (k : ℕ) → ls ≡ ks ++ k ∷ [] → AllBelow n ks → k < n → AllBelow n ls
 below-new n ks ls k e h l = subst (AllBelow n) (sym e) (below-push n ks k h l)
 
-pub below-none : (n : ℕ) (ls : List ℕ) → ls ≡ [] → AllBelow n ls
-below-none n ls e = subst (AllBelow n) (sym e) tt
+pub items-new : (n : ℕ) (xs ys : List Item) (x : Item) → ys ≡ xs ++ x ∷ [] → AreItemsIn n xs → IsItemIn n x → AreItemsIn n ys
+items-new n xs ys x e h l = subst (AreItemsIn n) (sym e) (items-push n xs x h l)
+
+pub items-none : (n : ℕ) (ys : List Item) → ys ≡ [] → AreItemsIn n ys
+items-none n ys e = subst (AreItemsIn n) (sym e) tt
 
 -- the next alternative begins
-pub alternative-is : (old new : List Node) (before items ls none : List ℕ) (k : ℕ) → Grows old new → AllBelow (length old) before → ls ≡ before ++ k ∷ [] → none ≡ []
-    → Holds new k (seq_all (trees_in old items)) → made (trees_in new ls) (trees_in new none) ≡ grammar.next_alternative (made (trees_in old before) (trees_in old items))
+pub alternative-is : (old new : List Node) (before : List ℕ) (items : List Item) (ls : List ℕ) (none : List Item) (k : ℕ) → Grows old new → AllBelow (length old) before → ls ≡ before ++ k ∷ [] → none ≡ []
+    → Holds new k (seq_all (item_trees old items)) → made (trees_in new ls) (item_trees new none) ≡ grammar.next_alternative (made (trees_in old before) (item_trees old items))
 alternative-is old new before items ls none k g h e n t =
-    ap (λ xs. made (trees_in new xs) (trees_in new none)) e
-    ∙ ap (λ xs. made (trees_in new (before ++ k ∷ [])) (trees_in new xs)) n
+    ap (λ xs. made (trees_in new xs) (item_trees new none)) e
+    ∙ ap (λ xs. made (trees_in new (before ++ k ∷ [])) (item_trees new xs)) n
     ∙ ap (λ ts. made ts []) (trees-push new before k ∙ ap (λ ts. ts ++ tree_in new k ∷ []) (trees-grown old new before g h) ∙ ap (λ x. trees_in old before ++ x ∷ []) t.is)
 
 -- an item is read with its quantifier
@@ -88,15 +92,15 @@ unfolding passed
 passed-none flags names t e = ap (option_map (λ x. record { flags = flags; names = names; text = x })) e
 
 -- a body with one item more, in a table that has grown
-pub body-pushed : (old new : List Node) (before items ls : List ℕ) (k : ℕ) (a : Tree) → Grows old new → AllBelow (length old) before → AllBelow (length old) items
-    → ls ≡ items ++ k ∷ [] → Holds new k a → made (trees_in new before) (trees_in new ls) ≡ with_item (made (trees_in old before) (trees_in old items)) a
-body-pushed old new before items ls k a g h i e t =
-    ap (λ xs. made (trees_in new before) (trees_in new xs)) e
-    ∙ ap (λ ts. made ts (trees_in new (items ++ k ∷ []))) (trees-grown old new before g h)
-    ∙ ap (made (trees_in old before)) (trees-push new items k ∙ ap (λ ts. ts ++ tree_in new k ∷ []) (trees-grown old new items g i) ∙ ap (λ x. trees_in old items ++ x ∷ []) t.is)
+pub body-pushed : (old new : List Node) (before : List ℕ) (items ys : List Item) (x : Item) (a : Tree) → Grows old new → AllBelow (length old) before → AreItemsIn (length old) items
+    → ys ≡ items ++ x ∷ [] → item_tree new x ≡ a → made (trees_in new before) (item_trees new ys) ≡ with_item (made (trees_in old before) (item_trees old items)) a
+body-pushed old new before items ys x a g h i e t =
+    ap (λ xs. made (trees_in new before) (item_trees new xs)) e
+    ∙ ap (λ ts. made ts (item_trees new (items ++ x ∷ []))) (trees-grown old new before g h)
+    ∙ ap (made (trees_in old before)) (item_trees-push new items x ∙ ap (λ ts. ts ++ item_tree new x ∷ []) (items-kept old new items g i) ∙ ap (λ y. item_trees old items ++ y ∷ []) t)
 
 -- the trees of all alternatives, the last of which was put together just now
-pub before-is : (old new : List Node) (before items ls : List ℕ) (k : ℕ) → Grows old new → AllBelow (length old) before → ls ≡ before ++ k ∷ []
-    → Holds new k (seq_all (trees_in old items)) → trees_in new ls ≡ trees_in old before ++ seq_all (trees_in old items) ∷ []
+pub before-is : (old new : List Node) (before : List ℕ) (items : List Item) (ls : List ℕ) (k : ℕ) → Grows old new → AllBelow (length old) before → ls ≡ before ++ k ∷ []
+    → Holds new k (seq_all (item_trees old items)) → trees_in new ls ≡ trees_in old before ++ seq_all (item_trees old items) ∷ []
 before-is old new before items ls k g h e t =
     ap (trees_in new) e ∙ trees-push new before k ∙ ap (λ ts. ts ++ tree_in new k ∷ []) (trees-grown old new before g h) ∙ ap (λ x. trees_in old before ++ x ∷ []) t.is

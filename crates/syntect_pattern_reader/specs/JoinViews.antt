@@ -1,9 +1,13 @@
 -- Parts of trees that are put together.
-use Rattle.std.specs.Prelude.{◌<◌, ℕ, List, [], ◌∷◌, map}
-use Rattle.syntect_pattern.specs.Trees.{Tree, seq, alt, seq_all, alt_all}
+use Rattle.std.specs.Prelude.{◌≡◌, ◌<◌, ℕ, List, [], ◌∷◌, Option, Some, None, length, map}
+use Rattle.syntect_pattern.specs.Sets.{from_to}
+use Rattle.syntect_pattern.specs.Trees.{Tree, one_of}
+use Rattle.syntect_letters.specs.Letters.{letters_of, letters_tree}
+use Rattle.syntect_letters.specs.declared.letters.Letters.{Letters}
 use Rattle.syntect_pattern_table.specs.Builder.{tree_in}
 use Rattle.syntect_pattern_table.specs.declared.node.Node.{Node}
-use Rattle.syntect_pattern_reader.specs.declared.builder.Join.{Join}
+use Rattle.syntect_pattern_reader.specs.declared.builder.Item.{Item}
+use Rattle.syntect_pattern_reader.specs.declared.builder.End.{End}
 
 -- all of the places are in a table of this length
 abbrev pub AllBelow : ℕ → List ℕ → Type 0
@@ -13,10 +17,34 @@ AllBelow n (k ∷ ks) = (k < n) × AllBelow n ks
 abbrev pub trees_in : List Node → List ℕ → List Tree
 trees_in nodes ks = map (tree_in nodes) ks
 
-abbrev pub joined : Join → Tree → Tree → Tree
-joined Join.Sequence a b = seq a b
-joined Join.Alternation a b = alt a b
+-- the item's node, if it has one, is in such a table
+abbrev pub IsItemIn : ℕ → Item → Type 0
+IsItemIn n (Item.Node k) = k < n
+IsItemIn n (Item.Letter fold letter) = Unit {0}
 
-abbrev pub chained : Join → List Tree → Tree
-chained Join.Sequence = seq_all
-chained Join.Alternation = alt_all
+-- the same of all items
+abbrev pub AreItemsIn : ℕ → List Item → Type 0
+AreItemsIn n [] = Unit {0}
+AreItemsIn n (x ∷ xs) = IsItemIn n x × AreItemsIn n xs
+
+-- the tree of an item
+abbrev pub item_tree : List Node → Item → Tree
+item_tree nodes (Item.Node k) = tree_in nodes k
+item_tree nodes (Item.Letter fold letter) = one_of (from_to fold letter letter)
+
+abbrev pub item_trees : List Node → List Item → List Tree
+item_trees nodes xs = map (item_tree nodes) xs
+
+-- the letters, if there are some, and then the tree
+abbrev pub behind_letters : Option Letters → Tree → Tree
+behind_letters None t = t
+behind_letters (Some l) t = letters_tree l.fold (letters_of l) t
+
+-- the tree of an end
+abbrev pub end_tree : List Node → End → Tree
+end_tree nodes end = behind_letters end.letters (tree_in nodes end.rest)
+
+-- the end is in the table and has this tree
+pub record IsEnd (nodes : List Node) (end : End) (tree : Tree) : Type 0 where
+  pub inside : end.rest < length nodes
+  pub is : end_tree nodes end ≡ tree

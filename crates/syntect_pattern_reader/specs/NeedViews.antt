@@ -1,5 +1,5 @@
 -- What is known of what a tree's matches need.
-use Rattle.std.specs.Prelude.{◌≡◌, ◌<◌, ℕ, Bool, true, false, ◌||◌, List, length}
+use Rattle.std.specs.Prelude.{◌≡◌, ◌<◌, ◌==◌, ℕ, Bool, true, false, ◌||◌, List, length}
 use Rattle.syntect_pattern.specs.Trees.{Tree, one_of}
 use Rattle.syntect_pattern_table.specs.Needs.{Needs}
 use Rattle.syntect_pattern_table.specs.Starts.{AreFirsts, is_in, reads, stays}
@@ -18,6 +18,10 @@ pub record IsTable (nodes : List Node) (firsts : List Places) : Type 0 where
 -- where matches of the tree can begin
 abbrev pub BeginsIn : Places → Tree → Type 0
 BeginsIn places t = (x : ℕ) → x < 130 → is_in places x ≡ (reads t x || stays t x)
+
+-- these are the one ASCII character
+abbrev pub AreJust : Places → ℕ → Type 0
+AreJust places byte = (byte < 128) × ((x : ℕ) → x < 130 → is_in places x ≡ (x == byte))
 
 -- the tree is a single character
 abbrev pub is_one : Tree → Bool

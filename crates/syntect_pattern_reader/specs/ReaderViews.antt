@@ -4,7 +4,7 @@ use Rattle.syntect_pattern.specs.Trees.{Tree}
 use Rattle.syntect_pattern.specs.Grammar.{Names, on}
 use Rattle.syntect_pattern.specs.Grammar as grammar
 use Rattle.syntect_pattern_table.specs.Builder.{tree_in}
-use Rattle.syntect_pattern_reader.specs.JoinViews.{AllBelow, trees_in}
+use Rattle.syntect_pattern_reader.specs.JoinViews.{AllBelow, AreItemsIn, item_trees, trees_in}
 use Rattle.syntect_pattern_words.specs.OpeningViews.{place_as}
 use Rattle.syntect_pattern_table.specs.declared.node.Node.{Node}
 use Rattle.syntect_pattern_words.specs.declared.openings.Place.{Place}
@@ -12,12 +12,12 @@ use Rattle.syntect_pattern_reader.specs.declared.reader.Body.{Body}
 use Rattle.syntect_pattern_reader.specs.declared.reader.Reader.{Reader}
 
 abbrev pub body_as : List Node → Body → grammar.Body
-body_as nodes b = record { before = trees_in nodes b.before; items = trees_in nodes b.items }
+body_as nodes b = record { before = trees_in nodes b.before; items = item_trees nodes b.items }
 
 -- its parts are there
 pub record IsBodyIn (nodes : List Node) (b : Body) : Type 0 where
   pub before : AllBelow (length nodes) b.before
-  pub items : AllBelow (length nodes) b.items
+  pub items : AreItemsIn (length nodes) b.items
 
 -- a group goes on
 abbrev pub went_on : Reader → Option (Body × Place) → Option grammar.Step

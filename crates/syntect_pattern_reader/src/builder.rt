@@ -1,9 +1,14 @@
 //! The making of a program's table of nodes.
+ghost use Rattle.std.specs.Prelude.{◌≡◌, IfSome};
+ghost use Rattle.syntect_pattern.specs.Sets.{from_to};
+ghost use Rattle.syntect_pattern.specs.Trees.{Tree, one_of, seq};
+ghost use Rattle.syntect_letters.specs.Letters.{letters_of, letters_tree};
 ghost use Rattle.syntect_pattern_table.specs.Table.{IsOrdered};
+ghost use Rattle.syntect_pattern_reader.specs.JoinViews.{behind_letters};
 
 use crate::classes::{SetBuilder, part_of};
 use std::alloc::AllocError;
-use syntect_pattern_table::node::Node;
+use syntect_pattern_table::node::{Letters, Node};
 use syntect_pattern_table::sets::Class;
 use syntect_pattern_words::members::Leaf;
 use syntect_values::seq::Seq;
@@ -15,22 +20,42 @@ pub struct Builder {
     pub ghost ordered: { IsOrdered nodes },
 }
 
-/// How parts are put together.
+/// What stands in a sequence.
 #[derive(Clone, Copy)]
-pub enum Join {
-    Sequence,
-    Alternation,
+pub enum Item {
+    /// The node at the place.
+    Node(usize),
+    /// A letter, which has no node yet.
+    Letter { fold: bool, letter: u8 },
+}
+
+/// The end of a sequence: letters, if there are some, and the node at the place behind them.
+#[derive(Clone, Copy)]
+struct End {
+    letters: Option<Letters>,
+    rest: usize,
+}
+
+/// The letters with one more in front, if there are some to which it fits.
+fn with_letter(letters: Option<Letters>, fold: bool, letter: u8) -> Option<Letters>
+    ensures { IfSome result (λ more. (t : Tree) → letters_tree more.fold (letters_of more) t
+        ≡ seq (one_of (from_to fold letter letter)) (behind_letters letters t)) }
+{
+    let letters = letters?;
+    if letters.fold != fold {
+        return None;
+    }
+    letters.with_first(letter)
 }
 
 impl Builder {
-    ghost use Rattle.std.specs.Prelude.{◌≡◌, ◌<◌, [], IfOk, OnOk, length, true};
-    ghost use Rattle.syntect_pattern.specs.Sets.{from_to};
+    ghost use Rattle.std.specs.Prelude.{◌<◌, [], IfOk, OnOk, length, true};
     ghost use Rattle.syntect_pattern_table.specs.SetTable.{set_in};
     ghost use Rattle.syntect_pattern_words.specs.MemberViews.{leaf_set};
-    ghost use Rattle.syntect_pattern.specs.Trees.{one_of};
+    ghost use Rattle.syntect_pattern.specs.Trees.{alt_all, seq_all};
     ghost use Rattle.syntect_pattern_table.specs.Table.{node_tree, parts_before, trees};
-    ghost use Rattle.syntect_pattern_table.specs.Builder.{Grows, Holds, tree_in};
-    ghost use Rattle.syntect_pattern_reader.specs.JoinViews.{AllBelow, trees_in, joined, chained};
+    ghost use Rattle.syntect_pattern_table.specs.Builder.{Grows, Holds};
+    ghost use Rattle.syntect_pattern_reader.specs.JoinViews.{AllBelow, AreItemsIn, IsEnd, IsItemIn, end_tree, item_tree, item_trees, trees_in};
 
     /// Puts a node last.
     pub fn push(&mut self, node: Node) -> Result<usize, AllocError>
@@ -43,35 +68,104 @@ impl Builder {
         Ok(place)
     }
 
-    /// Puts two parts together.
-    fn join(&mut self, join: Join, first: usize, second: usize) -> Result<usize, AllocError>
-        requires first { first < length self.old.nodes }
-        requires second { second < length self.old.nodes }
-        ensures grows { OnOk result (Grows self.old.nodes self.new.nodes) }
-        ensures holds { IfOk result (λ k. Holds self.new.nodes k (joined join (tree_in self.old.nodes first) (tree_in self.old.nodes second))) }
-    {
-        match join {
-            Join::Sequence => self.push(Node::Sequence(first, second)),
-            Join::Alternation => self.push(Node::Alternation(first, second)),
-        }
-    }
-
-    /// Puts all parts together, one of which is reached after the other. They are taken off, and their memory stays.
-    pub fn chain(&mut self, join: Join, parts: &mut Seq<usize>) -> Result<usize, AllocError>
+    /// Puts all branches together, one of which is tried after the other. They are taken off, and their memory stays.
+    pub fn branches(&mut self, parts: &mut Seq<usize>) -> Result<usize, AllocError>
         requires { AllBelow (length self.old.nodes) parts.old }
         ensures grows { OnOk result (Grows self.old.nodes self.new.nodes) }
         ensures none { OnOk result (parts.new ≡ []) }
         ensures holds { IfOk result (λ k. Holds self.new.nodes k
-            (chained join (trees_in self.old.nodes parts.old))) }
+            (alt_all (trees_in self.old.nodes parts.old))) }
     {
         let Some(last) = parts.pop() else {
             return self.push(Node::Nothing);
         };
         let mut rest = last;
         while let Some(part) = parts.pop() {
-            rest = self.join(join, part, rest)?;
+            rest = self.push(Node::Alternation(part, rest))?;
         }
         Ok(rest)
+    }
+
+    /// The node of an item.
+    fn push_item(&mut self, item: Item) -> Result<usize, AllocError>
+        requires { IsItemIn (length self.old.nodes) item }
+        ensures grows { OnOk result (Grows self.old.nodes self.new.nodes) }
+        ensures holds { IfOk result (λ k. Holds self.new.nodes k (item_tree self.old.nodes item)) }
+    {
+        match item {
+            Item::Node(place) => Ok(place),
+            Item::Letter { fold, letter } => self.push_char(fold, letter as char),
+        }
+    }
+
+    /// The node of an end.
+    fn push_end(&mut self, end: End) -> Result<usize, AllocError>
+        requires { end.rest < length self.old.nodes }
+        ensures grows { OnOk result (Grows self.old.nodes self.new.nodes) }
+        ensures holds { IfOk result (λ k. Holds self.new.nodes k (end_tree self.old.nodes end)) }
+    {
+        match end.letters {
+            Some(letters) => self.push(Node::Text {
+                letters,
+                rest: end.rest,
+            }),
+            None => Ok(end.rest),
+        }
+    }
+
+    /// The item before the end.
+    fn before(&mut self, item: Item, end: End) -> Result<End, AllocError>
+        requires item { IsItemIn (length self.old.nodes) item }
+        requires end { end.rest < length self.old.nodes }
+        ensures grows { OnOk result (Grows self.old.nodes self.new.nodes) }
+        ensures holds { IfOk result (λ more. IsEnd self.new.nodes more
+            (seq (item_tree self.old.nodes item) (end_tree self.old.nodes end))) }
+    {
+        match item {
+            Item::Node(place) => {
+                let rest = self.push_end(end)?;
+                let rest = self.push(Node::Sequence(place, rest))?;
+                Ok(End {
+                    letters: None,
+                    rest,
+                })
+            }
+            Item::Letter { fold, letter } => {
+                let letters = with_letter(end.letters, fold, letter);
+                if letters.is_some() {
+                    return Ok(End {
+                        letters,
+                        rest: end.rest,
+                    });
+                }
+                let rest = self.push_end(end)?;
+                Ok(End {
+                    letters: Some(Letters::one(fold, letter)),
+                    rest,
+                })
+            }
+        }
+    }
+
+    /// Puts all items together, one of which stands behind the other. They are taken off, and their memory stays.
+    pub fn sequence(&mut self, items: &mut Seq<Item>) -> Result<usize, AllocError>
+        requires { AreItemsIn (length self.old.nodes) items.old }
+        ensures grows { OnOk result (Grows self.old.nodes self.new.nodes) }
+        ensures none { OnOk result (items.new ≡ []) }
+        ensures holds { IfOk result (λ k. Holds self.new.nodes k
+            (seq_all (item_trees self.old.nodes items.old))) }
+    {
+        let Some(last) = items.pop() else {
+            return self.push(Node::Nothing);
+        };
+        let mut end = End {
+            letters: None,
+            rest: self.push_item(last)?,
+        };
+        while let Some(item) = items.pop() {
+            end = self.before(item, end)?;
+        }
+        self.push_end(end)
     }
 
     /// Puts a class last.
@@ -113,5 +207,20 @@ impl Builder {
         } else {
             self.push(Node::Char(c))
         }
+    }
+
+    /// A character as an item. Beyond ASCII it has a node of its own.
+    pub fn char_item(&mut self, fold: bool, c: char) -> Result<Item, AllocError>
+        ensures grows { OnOk result (Grows self.old.nodes self.new.nodes) }
+        ensures inside { IfOk result (λ item. IsItemIn (length self.new.nodes) item) }
+        ensures is { IfOk result (λ item. item_tree self.new.nodes item ≡ one_of (from_to fold c c)) }
+    {
+        if c.is_ascii() {
+            return Ok(Item::Letter {
+                fold,
+                letter: c as u8,
+            });
+        }
+        Ok(Item::Node(self.push_char(fold, c)?))
     }
 }

@@ -16,7 +16,7 @@ use syntect_pattern_table::starts::places_of;
 use syntect_pattern_words::openings::{Flags, Names, Place};
 use syntect_pattern_words::text::is_empty;
 
-/// How long a text is at most that there is room for two nodes a byte of it from the start.
+/// For how many bytes of a text there is room for a node each from the start. Most texts make fewer.
 const SHORT: usize = 1024;
 
 /// The program of a pattern's text. None if the text is no pattern.
@@ -57,8 +57,7 @@ fn read_whole(
     ensures reads { IfOk result (λ f. whole known.now (chars text.now) ≡ whole_as f) }
     ensures alone { IfOk result (λ f. IfSome f (λ x. x.0.refers ≡ false → (other : Option grammar.Names) → whole other (chars text.now) ≡ whole_as f)) }
 {
-    // A short text makes at most two nodes a character, a long one mostly fewer
-    let room = text.len().saturating_add(text.len().min(SHORT) + 16);
+    let room = text.len().min(SHORT) + 16;
     let mut reader = Reader::new(alloc, room)?;
     let flags = Flags {
         fold: false,
@@ -90,6 +89,6 @@ fn program_of(alloc: Global, reader: Reader, body: usize) -> Result<Program, All
     let mut nodes = builder.nodes;
     nodes.shrink_to_fit();
     let firsts = places_of(alloc, nodes.as_slice())?;
-    let needs = needs_of(nodes.as_slice(), firsts.as_slice(), body);
+    let needs = needs_of(nodes.as_slice(), &firsts, body);
     Program::new(alloc, nodes, root, groups, firsts, needs, looks_back)
 }

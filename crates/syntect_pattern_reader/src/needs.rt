@@ -1,15 +1,18 @@
 //! What each match needs.
-ghost use Rattle.std.specs.Prelude.{◌≡◌, ◌<◌, ◌==◌, ℕ, IfSome, List, length, slice_index_or, true};
-ghost use Rattle.syntect_pattern.specs.Trees.{Tree, alt, nothing, seq};
+ghost use Rattle.std.specs.Prelude.{◌≡◌, ◌<◌, ◌∷◌, ℕ, IfSome, List, length, slice_index_or, true};
+ghost use Rattle.syntect_pattern.specs.Trees.{Tree, alt, nothing, one_of, seq};
+ghost use Rattle.syntect_pattern.specs.Sets.{Set};
+ghost use Rattle.syntect_letters.specs.Letters.{letters_tree};
 ghost use Rattle.syntect_pattern_table.specs.Builder.{tree_in};
 ghost use Rattle.syntect_pattern_table.specs.Needs.{AreNeeded, MayNeed};
 ghost use Rattle.syntect_pattern_table.specs.Starts.{AreFirsts, is_in};
 ghost use Rattle.syntect_pattern_table.specs.Table.{node_tree, parts_before};
-ghost use Rattle.syntect_pattern_reader.specs.NeedViews.{BeginsIn, BothAreNeeded, IsAmong, IsNeeded, IsTable, Leads, is_one};
+ghost use Rattle.syntect_pattern_reader.specs.NeedViews.{AreJust, BeginsIn, BothAreNeeded, IsAmong, IsNeeded, IsTable, Leads, is_one};
 
 use syntect_pattern_table::needs::{Need, TwoNeeds};
 use syntect_pattern_table::node::Node;
-use syntect_pattern_table::starts::{Places, anywhere, either, places_of_char};
+use syntect_pattern_table::place_list::PlaceList;
+use syntect_pattern_table::starts::{Places, anywhere, either, places_of_char, places_of_letter};
 
 /// The characters that make up four fifths of usual texts: most small letters, spaces and newlines.
 const FREQUENT: u128 = 0x003d_f37a_0000_0000_0000_0001_0000_0400;
@@ -68,16 +71,16 @@ fn one_of_two(a: Sought, b: Sought) -> Sought
 }
 
 /// Where matches of the node at the place begin.
-fn places_at(firsts: &[Places], place: usize) -> Places
+fn places_at(firsts: &PlaceList, place: usize) -> Places
     requires { place < length firsts.now }
     ensures { (ts : List Tree) → AreFirsts firsts.now ts
         → BeginsIn result (slice_index_or ts place nothing) }
 {
-    firsts[place]
+    firsts.get(place).unwrap_or(anywhere())
 }
 
 /// What matches of the node at the place begin with.
-fn begin_of(firsts: &[Places], place: usize) -> Sought
+fn begin_of(firsts: &PlaceList, place: usize) -> Sought
     requires { place < length firsts.now }
     ensures { (ts : List Tree) → AreFirsts firsts.now ts
         → IsNeeded result (slice_index_or ts place nothing) }
@@ -93,7 +96,7 @@ fn is_single(node: &Node) -> bool
 }
 
 /// The first of two parts in a row with what the other begins with, if the first is a character of ASCII.
-fn pair_of(nodes: &[Node], firsts: &[Places], first: usize, second: usize) -> Option<Sought>
+fn pair_of(nodes: &[Node], firsts: &PlaceList, first: usize, second: usize) -> Option<Sought>
     requires table { IsTable nodes.now firsts.now }
     requires first { first < length nodes.now }
     requires second { second < length nodes.now }
@@ -107,18 +110,46 @@ fn pair_of(nodes: &[Node], firsts: &[Places], first: usize, second: usize) -> Op
     Some(weighed(here, places_at(firsts, second)))
 }
 
+/// What stands at a character with one of these behind it, of which nothing is told where the character may be beyond ASCII.
+fn pair_at(here: Places, next: Places) -> Sought
+    ensures { (a : Set) (u : Tree) → BeginsIn here (one_of a) → BeginsIn next u
+        → IsNeeded result (seq (one_of a) u) }
+{
+    if here.wide {
+        return weighed(here, anywhere());
+    }
+    weighed(here, next)
+}
+
+/// What a letter needs before other letters and what begins with these.
+fn pair_of_letters(fold: bool, first: u8, others: &[u8], behind: Places) -> Sought
+    ensures { (u : Tree) → BeginsIn behind u
+        → IsNeeded result (letters_tree fold (first ∷ others.now) u) }
+{
+    let here = places_of_letter(fold, first);
+    match others.split_first() {
+        Some((second, _)) => pair_at(here, places_of_letter(fold, *second)),
+        None => pair_at(here, behind),
+    }
+}
+
 /// What matches of the node at the place begin with, and what stands behind that where it is known.
-fn leading(nodes: &[Node], firsts: &[Places], place: usize) -> Sought
+fn leading(nodes: &[Node], firsts: &PlaceList, place: usize) -> Sought
     requires table { IsTable nodes.now firsts.now }
     requires inside { place < length nodes.now }
     ensures { IsNeeded result (tree_in nodes.now place) }
 {
-    if let Node::Sequence(first, second) = &nodes[place] {
-        if let Some(pair) = pair_of(nodes, firsts, *first, *second) {
-            return pair;
+    match &nodes[place] {
+        Node::Sequence(first, second) => match pair_of(nodes, firsts, *first, *second) {
+            Some(pair) => pair,
+            None => begin_of(firsts, place),
+        },
+        Node::Text { letters, rest } => {
+            let behind = places_at(firsts, *rest);
+            pair_of_letters(letters.fold, letters.first, letters.others(), behind)
         }
+        _ => begin_of(firsts, place),
     }
-    begin_of(firsts, place)
 }
 
 /// The part that each match of the node matches as well, at its place or behind it, if the node is no sequence.
@@ -144,7 +175,7 @@ fn part_needed(node: &Node) -> Option<usize>
 
 /// What a branch needs: with `begins` what it begins with.
 #[cycle(needs)]
-fn need_of_branch(nodes: &[Node], firsts: &[Places], place: usize, begins: bool) -> Sought
+fn need_of_branch(nodes: &[Node], firsts: &PlaceList, place: usize, begins: bool) -> Sought
     requires table { IsTable nodes.now firsts.now }
     requires inside { place < length nodes.now }
     ensures { IsNeeded result (tree_in nodes.now place) }
@@ -161,7 +192,7 @@ fn need_of_branch(nodes: &[Node], firsts: &[Places], place: usize, begins: bool)
 #[cycle(needs)]
 fn need_of_branches(
     nodes: &[Node],
-    firsts: &[Places],
+    firsts: &PlaceList,
     first: usize,
     rest: usize,
     begins: bool,
@@ -218,7 +249,7 @@ impl Found {
 
     /// Adds what matches of a sequence need for the first of its two parts.
     #[cycle(needs)]
-    fn add_first(&mut self, nodes: &[Node], firsts: &[Places], first: usize, second: usize)
+    fn add_first(&mut self, nodes: &[Node], firsts: &PlaceList, first: usize, second: usize)
         requires table { IsTable nodes.now firsts.now }
         requires first { first < length nodes.now }
         requires second { second < length nodes.now }
@@ -231,10 +262,24 @@ impl Found {
         }
     }
 
+    /// Adds what letters need that stand before what begins with these.
+    fn add_letters(&mut self, fold: bool, first: u8, others: &[u8], behind: Places)
+        ensures { (t u : Tree) → Leads (letters_tree fold (first ∷ others.now) u) t
+            → BeginsIn behind u → BothAreNeeded self.old t → BothAreNeeded self.new t }
+    {
+        self.add(pair_of_letters(fold, first, others, behind));
+        if self.rarest.weight <= SELDOM {
+            return;
+        }
+        if let Some((second, more)) = others.split_first() {
+            self.add_letters(fold, *second, more, behind);
+        }
+    }
+
     /// Adds what matches of the node at the place need at their place or behind it. Parts stand in a row on the right, and nest
     /// elsewhere no deeper than groups do.
     #[cycle(needs)]
-    fn add_needs(&mut self, nodes: &[Node], firsts: &[Places], root: usize)
+    fn add_needs(&mut self, nodes: &[Node], firsts: &PlaceList, root: usize)
         requires table { IsTable nodes.now firsts.now }
         requires inside { root < length nodes.now }
         ensures { (t : Tree) → Leads (tree_in nodes.now root) t → BothAreNeeded self.old t
@@ -249,6 +294,11 @@ impl Found {
                 Node::Sequence(first, second) => {
                     self.add_first(nodes, firsts, *first, *second);
                     *second
+                }
+                Node::Text { letters, rest } => {
+                    let behind = places_at(firsts, *rest);
+                    self.add_letters(letters.fold, letters.first, letters.others(), behind);
+                    *rest
                 }
                 Node::Alternation(first, rest) => {
                     self.add(need_of_branches(nodes, firsts, *first, *rest, true));
@@ -271,7 +321,7 @@ impl Found {
 
 /// The ASCII character that is the only one of these, if there is just one.
 fn single_of(places: Places) -> Option<u8>
-    ensures { IfSome result (λ b. (b < 128) × ((x : ℕ) → x < 130 → is_in places x ≡ (x == b))) }
+    ensures { IfSome result (AreJust places) }
 {
     let first = places.ascii.trailing_zeros();
     if places.wide || places.end || first >= 128 {
@@ -306,7 +356,7 @@ fn need_of(found: Sought) -> Need
 
 /// What matches of the node at the place need at their place or behind it: two of the needs that are known, those that are met
 /// least often.
-pub fn needs_of(nodes: &[Node], firsts: &[Places], root: usize) -> TwoNeeds
+pub fn needs_of(nodes: &[Node], firsts: &PlaceList, root: usize) -> TwoNeeds
     requires table { IsTable nodes.now firsts.now }
     requires inside { root < length nodes.now }
     ensures { AreNeeded result (tree_in nodes.now root) }

@@ -13,7 +13,7 @@ ghost use Rattle.syntect_pattern.specs.Anchors.{anchor_of};
 ghost use Rattle.syntect_pattern.specs.Escapes as definition;
 ghost use Rattle.syntect_pattern.specs.Grammar as grammar;
 
-use crate::builder::{Builder, Join};
+use crate::builder::{Builder, Item};
 use crate::classes::{BRACKET_ROOM, DEEPEST, SetBuilder};
 use std::alloc::{AllocError, Global};
 use syntect_pattern::anchor::Anchor;
@@ -35,7 +35,7 @@ const ITEMS: usize = 16;
 #[derive(Drop)]
 pub struct Body {
     before: Seq<usize>,
-    items: Seq<usize>,
+    items: Seq<Item>,
 }
 
 /// A pattern that is being read.
@@ -50,6 +50,7 @@ pub struct Reader {
 }
 
 impl Reader {
+    ghost use Rattle.syntect_pattern_reader.specs.JoinViews.{IsItemIn, item_tree};
     ghost use Rattle.syntect_pattern_reader.specs.ReaderViews.{body_as, IsBodyIn, went_on, tree_as, Keeps, Serves};
 
     /// Nothing read, with room for so many nodes.
@@ -120,19 +121,19 @@ impl Reader {
     fn firm<'a>(
         &mut self,
         body: Body,
-        node: usize,
+        item: Item,
         place: Place<'a>,
     ) -> Result<Option<(Body, Place<'a>)>, AllocError>
         requires body { IsBodyIn self.old.builder.nodes body }
-        requires node { node < length self.old.builder.nodes }
+        requires item { IsItemIn (length self.old.builder.nodes) item }
         ensures grows { OnOk result (Grows self.old.builder.nodes self.new.builder.nodes) }
         ensures names { OnOk result (self.new.names ≡ self.old.names) }
         ensures refers { OnOk result (self.new.refers ≡ self.old.refers) }
         ensures inside { IfOk result (λ f. IfSome f (λ x. IsBodyIn self.new.builder.nodes x.0)) }
-        ensures reads { IfOk result (λ f. (known : Option grammar.Names) → grammar.firm known (body_as self.old.builder.nodes body) (tree_in self.old.builder.nodes node) (place_as self.old.names place.entry) ≡ went_on self.new f) }
+        ensures reads { IfOk result (λ f. (known : Option grammar.Names) → grammar.firm known (body_as self.old.builder.nodes body) (item_tree self.old.builder.nodes item) (place_as self.old.names place.entry) ≡ went_on self.new f) }
     {
         let Body { before, mut items } = body;
-        items.push(node)?;
+        items.push(item)?;
         Ok(Some((Body { before, items }, place)))
     }
 
@@ -155,7 +156,25 @@ impl Reader {
             return Ok(None);
         };
         let node = self.push_looping(looping, node)?;
-        Ok(self.firm(body, node, rest)?)
+        Ok(self.firm(body, Item::Node(node), rest)?)
+    }
+
+    /// A character with its quantifier.
+    fn looped_char(&mut self, looping: Looping, fold: bool, c: char) -> Result<Item, AllocError>
+        ensures grows { OnOk result (Grows self.old.builder.nodes self.new.builder.nodes) }
+        ensures names { OnOk result (self.new.names ≡ self.old.names) }
+        ensures refers { OnOk result (self.new.refers ≡ self.old.refers) }
+        ensures inside { IfOk result (λ item. IsItemIn (length self.new.builder.nodes) item) }
+        ensures is { IfOk result (λ item. item_tree self.new.builder.nodes item
+            ≡ looped_tree looping (one_of (from_to fold c c))) }
+    {
+        match looping {
+            Looping::Once => self.builder.char_item(fold, c),
+            looping => {
+                let node = self.builder.push_char(fold, c)?;
+                Ok(Item::Node(self.push_looping(looping, node)?))
+            }
+        }
     }
 
     /// A character as an item.
@@ -172,8 +191,11 @@ impl Reader {
         ensures inside { IfOk result (λ f. IfSome f (λ x. IsBodyIn self.new.builder.nodes x.0)) }
         ensures reads { IfOk result (λ f. (known : Option grammar.Names) → grammar.item known (body_as self.old.builder.nodes body) (one_of (from_to place.entry.flags.fold c c)) (place_as self.old.names place.entry) ≡ went_on self.new f) }
     {
-        let node = self.builder.push_char(place.flags.fold, c)?;
-        Ok(self.item(body, node, place)?)
+        let Some((looping, rest)) = read_looping(place) else {
+            return Ok(None);
+        };
+        let item = self.looped_char(looping, place.flags.fold, c)?;
+        Ok(self.firm(body, item, rest)?)
     }
 
     /// Characters that stand for themselves, as most of a pattern does, one after another.
@@ -199,8 +221,8 @@ impl Reader {
         let flags = place.flags;
         let mut text = place.text;
         'plain: while let Some((c, rest)) = plain_in(text) {
-            let node = self.builder.push_char(flags.fold, c)?;
-            items.push(node)?;
+            let item = self.builder.char_item(flags.fold, c)?;
+            items.push(item)?;
             text = rest;
         }
         Ok((Body { before, items }, Place { flags, text }))
@@ -240,7 +262,7 @@ impl Reader {
         ensures reads { IfOk result (λ f. (known : Option grammar.Names) → grammar.firm known (body_as self.old.builder.nodes body) (anchor (anchor_of which)) (place_as self.old.names place.entry) ≡ went_on self.new f) }
     {
         let node = self.builder.push(Node::Anchor(which))?;
-        Ok(self.firm(body, node, place)?)
+        Ok(self.firm(body, Item::Node(node), place)?)
     }
 
     /// A set that has a name as an item.
@@ -292,7 +314,7 @@ impl Reader {
             mut before,
             mut items,
         } = body;
-        let last = self.builder.chain(Join::Sequence, &mut items)?;
+        let last = self.builder.sequence(&mut items)?;
         before.push(last)?;
         Ok(Body { before, items })
     }
@@ -309,12 +331,12 @@ impl Reader {
             mut before,
             mut items,
         } = body;
-        let last = self.builder.chain(Join::Sequence, &mut items)?;
+        let last = self.builder.sequence(&mut items)?;
         if before.is_empty() {
             return Ok(last);
         }
         before.push(last)?;
-        self.builder.chain(Join::Alternation, &mut before)
+        self.builder.branches(&mut before)
     }
 
     /// What a back reference to the number stands for, if it names a group. While the groups aren't known it is nothing.

@@ -37,6 +37,16 @@ start-wide s i h l =
     ap (λ b. if b then (if nat_lt (get_or s i 0) 128 then get_or s i 0 else 128) else 129) (lt-ltb i (length s) h)
     ∙ ap (λ b. if b then get_or s i 0 else 128) (le-ltb (get_or s i 0) 128 l)
 
+-- there are 130 things that can
+pub start-bound : (s : List ℕ) (i : ℕ) → start_at s i < 130
+start-bound s i = elim (cases_lt i (length s)) [
+  | inl h ↦ elim (cases_lt (get_or s i 0) 128) [
+    | inl l ↦ omega (arith, start-ascii s i h l)
+    | inr g ↦ omega (arith, start-wide s i h g)
+  ]
+  | inr h ↦ omega (arith, start-past s i h)
+]
+
 pub start-min : (s : List ℕ) (i m : ℕ) → i < length s → m ≡ min (get_or s i 0) 128 → m ≡ start_at s i
 start-min s i m h is = elim (cases_lt (get_or s i 0) 128) [
   | inl l ↦ sym (start-ascii s i h l ∙ (let b : get_or s i 0 ≡ m = omega (arith, is) in b))

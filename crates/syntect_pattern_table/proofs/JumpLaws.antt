@@ -1,6 +1,7 @@
 -- Jumps past branches.
-use Rattle.std.proofs.Common.{◌≡◌, ◌<◌, ◌+◌, ◌||◌, ℕ, zero, suc, Bool, true, false, List, [], ◌∷◌, ◌++◌, length, length-append, get_or, refl, sym, ◌∙◌, ap, subst, arith, below_more}
-use Rattle.std.specs.Prelude.{IsUtf8, IsCharBoundary}
+use Rattle.std.proofs.Common.{◌≡◌, ◌<◌, ◌+◌, ◌||◌, ℕ, zero, suc, Bool, true, false, List, [], ◌∷◌, ◌++◌, length, length-append, get_or, Option, refl, sym, ◌∙◌, ap, subst, arith, below_more}
+use Rattle.std.specs.Prelude.{IsUtf8, IsCharBoundary, slice_get}
+use Rattle.std.specs.Option.{unwrap_or}
 use Rattle.std.specs.List.{list_any}
 use Rattle.std.proofs.Math.ListN.{get_or-append}
 use Rattle.std.proofs.Math.Seq.{get_or-append_seam}
@@ -8,10 +9,11 @@ use Rattle.std.proofs.lemmas.List.Folds.{list_any-append}
 use Rattle.syntect_pattern.specs.Trees.{Tree, nothing, alt}
 use Rattle.syntect_pattern_table.specs.Table.{IsOrdered, trees}
 use Rattle.syntect_pattern_table.specs.Starts.{AreFirsts, start_at, is_in, reads, stays}
-use Rattle.syntect_pattern_table.specs.Jumps.{branches, tree_behind, AreJumps, HasBranches, IsJump, LeadsPast}
+use Rattle.syntect_pattern_table.specs.Jumps.{AreJumps, HasBranches, IsJump, LeadsPast, branches, jump_to, places_of, tree_behind}
 use Rattle.syntect_pattern_table.specs.declared.jumps.Jump.{Jump}
 use Rattle.syntect_pattern_table.specs.declared.node.Node.{Node}
 use Rattle.syntect_pattern_table.specs.declared.starts.Places.{Places}
+use Rattle.syntect_pattern_table.proofs.PlaceListLaws.{places_or}
 use Rattle.syntect_pattern_table.proofs.StartLaws.{dead-at}
 use Rattle.syntect_pattern_table.proofs.LookLaws.{tree-is, first-before, second-before}
 
@@ -41,7 +43,7 @@ or_false false = refl
 module _ (ts : List Tree) (k : ℕ) where
   -- past the first branch
   pub jump-one : (a b : ℕ) (p : Places) → get_or ts k nothing ≡ alt (get_or ts a nothing) (get_or ts b nothing) → b < k
-      → ((x : ℕ) → x < 130 → is_in p x ≡ can_begin x (get_or ts a nothing)) → IsJump ts k (record { to = b; count = 1; places = p })
+      → ((x : ℕ) → x < 130 → is_in p x ≡ can_begin x (get_or ts a nothing)) → IsJump ts k (jump_to b 1 p)
   jump-one a b p is l h = record {
     back = omega arith;
     there = ap (λ (t : Tree). length (branches 1 t)) is;
@@ -50,7 +52,7 @@ module _ (ts : List Tree) (k : ℕ) where
   }
 
   -- past no branch
-  pub jump-none : (p : Places) → ((x : ℕ) → is_in p x ≡ false) → IsJump ts k (record { to = k; count = 0; places = p })
+  pub jump-none : (p : Places) → ((x : ℕ) → is_in p x ≡ false) → IsJump ts k (jump_to k 0 p)
   jump-none p h = record {
     back = omega arith;
     there = refl;
@@ -60,7 +62,7 @@ module _ (ts : List Tree) (k : ℕ) where
 
   -- one jump after the other
   pub jump-then : (j next : Jump) (n : ℕ) (p : Places) → IsJump ts k j → IsJump ts j.to next → n ≡ j.count + next.count
-      → ((x : ℕ) → is_in p x ≡ (is_in j.places x || is_in next.places x)) → IsJump ts k (record { to = next.to; count = n; places = p })
+      → ((x : ℕ) → is_in p x ≡ (is_in (places_of j) x || is_in (places_of next) x)) → IsJump ts k (jump_to next.to n p)
   jump-then j next n p g h e either =
       let t : Tree = get_or ts k nothing in
       let more : branches n t ≡ branches j.count t ++ branches next.count (get_or ts j.to nothing) =
@@ -70,16 +72,18 @@ module _ (ts : List Tree) (k : ℕ) where
         there = ap length more ∙ omega (arith, length-append (branches j.count t) (branches next.count (get_or ts j.to nothing)), g.there, h.there, e);
         leads = h.leads ∙ ap (tree_behind next.count) g.leads ∙ sym (behind-more j.count next.count t g.there) ∙ ap (λ (m : ℕ). tree_behind m t) (sym e);
         begins = λ x m.
-            either x ∙ ap (λ (b : Bool). b || is_in next.places x) (g.begins x m) ∙ ap (λ (b : Bool). list_any (can_begin x) (branches j.count t) || b) (h.begins x m)
+            either x ∙ ap (λ (b : Bool). b || is_in (places_of next) x) (g.begins x m) ∙ ap (λ (b : Bool). list_any (can_begin x) (branches j.count t) || b) (h.begins x m)
             ∙ sym (list_any-append (can_begin x) (branches j.count t) (branches next.count (get_or ts j.to nothing))) ∙ ap (list_any (can_begin x)) (sym more);
       }
 
 -- past the first branch of the node
 pub jump-first : (nodes : List Node) → IsOrdered nodes → (k : ℕ) (n : Node) → k < length nodes → n ≡ get_or nodes k n → (a b : ℕ) → n ≡ Node.Alternation a b
-    → (ps : List Places) → length ps ≡ length nodes → AreFirsts ps (trees nodes) → (d : Places) → IsJump (trees nodes) k (record { to = b; count = 1; places = get_or ps a d })
-jump-first nodes h k n l is a b e ps count firsts d =
-    jump-one (trees nodes) k a b (get_or ps a d) (tree-is nodes h k n l is (Node.Alternation a b) e) (second-before nodes h k n l is (Node.Alternation a b) e a b refl)
-    (λ x m. firsts a x d (let p : a < k = first-before nodes h k n l is (Node.Alternation a b) e a b refl in omega (arith, p, l, count)) m)
+    → (ps : List Places) → length ps ≡ length nodes → AreFirsts ps (trees nodes) → (o : Option Places) (q d : Places) → o ≡ slice_get ps a → q ≡ unwrap_or o d
+    → IsJump (trees nodes) k (jump_to b 1 q)
+jump-first nodes h k n l is a b e ps count firsts o q d found taken =
+    subst (λ (p : Places). IsJump (trees nodes) k (jump_to b 1 p)) (sym (places_or ps a o q d found taken))
+    (jump-one (trees nodes) k a b (get_or ps a d) (tree-is nodes h k n l is (Node.Alternation a b) e) (second-before nodes h k n l is (Node.Alternation a b) e a b refl)
+    (λ x m. firsts a x d (let p : a < k = first-before nodes h k n l is (Node.Alternation a b) e a b refl in omega (arith, p, l, count)) m))
 
 pub AreJumps-push : (from : ℕ) (js : List Jump) (ts : List Tree) (j : Jump) (k : ℕ) → AreJumps from js ts → from + length js ≡ k → IsJump ts k j → AreJumps from (js ++ j ∷ []) ts
 AreJumps-push from js ts j k h e is n d l =
@@ -102,7 +106,7 @@ none_begins x (b ∷ bs) h (suc n) d l = none_begins x bs (right (can_begin x b)
 
 -- where no match of its branches can begin, a jump leads past branches without a match
 pub jump-leads : (s : List ℕ) → IsUtf8 s → (i : ℕ) → IsCharBoundary s i → (ts : List Tree) (k : ℕ) (j : Jump) → IsJump ts k j → 0 < j.count
-    → (x : ℕ) → x ≡ start_at s i → x < 130 → is_in j.places x ≡ false → LeadsPast s i (get_or ts k nothing) (get_or ts j.to nothing)
+    → (x : ℕ) → x ≡ start_at s i → x < 130 → is_in (places_of j) x ≡ false → LeadsPast s i (get_or ts k nothing) (get_or ts j.to nothing)
 jump-leads s u i at ts k j h some x is l e = record {
   count = j.count;
   some = some;

@@ -6,7 +6,7 @@ pub mod BuilderLaws
 pub mod StartLaws
 pub mod BeginLaws
 pub mod PlaceLaws
+pub mod PlaceListLaws
 pub mod LookLaws
-pub mod MarkLaws
 pub mod JumpLaws
 pub mod LengthLaws

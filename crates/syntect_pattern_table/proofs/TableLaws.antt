@@ -1,13 +1,14 @@
 -- Tables of nodes.
-use Rattle.std.proofs.Common.{◌≡◌, ℕ, zero, suc, ◌+◌, ◌<◌, true, List, [], ◌∷◌, ◌++◌, length, get_or, refl, sym, ◌∙◌, ap, arith, length-append, zero-add, add-zero, Option, Some, None, Bor}
-use Rattle.std.specs.Prelude.{slice_get, MatchOption}
+use Rattle.std.proofs.Common.{◌≡◌, ℕ, zero, suc, ◌+◌, ◌<◌, true, false, List, [], ◌∷◌, ◌++◌, length, get_or, refl, sym, ◌∙◌, ap, arith, length-append, zero-add, add-zero, Option, Some, None, Bor}
+use Rattle.std.specs.Prelude.{IfSome, MatchOption, slice_get}
 use Rattle.std.specs.Option.{option_copied}
 use Rattle.std.proofs.Math.ListN.{get_or-append}
 use Rattle.std.proofs.Math.Seq.{get_or-append_seam}
 use Rattle.std.proofs.lemmas.List.{get_or_past}
 use Rattle.std.proofs.lemmas.Bool.Decides.{nat_tests}
 use Rattle.syntect_pattern.specs.Trees.{Tree, nothing, seq, alt, repeat, group, atomic, ahead, behind}
-use Rattle.syntect_pattern_table.specs.Table.{node_tree, trees_from, trees, parts_before, IsOrdered}
+use Rattle.syntect_pattern_table.specs.Table.{AreSpelt, IsOrdered, is_text, node_tree, parts_before, trees, trees_from}
+use Rattle.syntect_letters.specs.Letters.{letters_of, letters_tree}
 use Rattle.syntect_pattern_table.specs.declared.node.Node.{Node}
 
 -- -- Tables
@@ -25,6 +26,7 @@ node_tree-before ts us k (Node.Char c) h b = refl
 node_tree-before ts us k (Node.Class c) h b = refl
 node_tree-before ts us k (Node.Anchor a) h b = refl
 node_tree-before ts us k (Node.Same fold n) h b = refl
+node_tree-before ts us k (Node.Text l x) h b = ap (letters_tree l.fold (letters_of l)) (h x (grind (arith, nat_tests)))
 node_tree-before ts us k (Node.Sequence x y) h b = ap (λ t. seq t (get_or ts y nothing)) (h x (grind (arith, nat_tests))) ∙ ap (seq (get_or us x nothing)) (h y (grind (arith, nat_tests)))
 node_tree-before ts us k (Node.Alternation x y) h b = ap (λ t. alt t (get_or ts y nothing)) (h x (grind (arith, nat_tests))) ∙ ap (alt (get_or us x nothing)) (h y (grind (arith, nat_tests)))
 node_tree-before ts us k (Node.Repeat greedy least most x) h b = ap (repeat greedy least most) (h x (grind (arith, nat_tests)))
@@ -85,3 +87,9 @@ pub node-lookup : (nodes : List Node) → IsOrdered nodes → (k : ℕ) (found :
     → MatchOption found (get_or (trees nodes) k nothing ≡ nothing) (λ n. get_or (trees nodes) k nothing ≡ node_tree (trees nodes) n.now)
 node-lookup nodes h k None e = get_or-trees nodes h k ∙ ap (node_tree (trees nodes)) (none_get nodes k e)
 node-lookup nodes h k (Some n) e = get_or-trees nodes h k ∙ ap (node_tree (trees nodes)) (some_get nodes k n.now e)
+
+-- in a table of none that holds letters in a row it is none either
+pub node-spelt : (nodes : List Node) (k : ℕ) (found : Option (Bor Node)) → option_copied found ≡ slice_get nodes k
+    → AreSpelt nodes → IfSome found (λ n. is_text n.now ≡ false)
+node-spelt nodes k None e spelt = tt
+node-spelt nodes k (Some n) e spelt = ap is_text (sym (some_get nodes k n.now e)) ∙ spelt k

@@ -3,7 +3,7 @@ pub mod Table
 pub mod Program
 pub mod Builder
 pub mod Starts
+pub mod PlaceLists
 pub mod Needs
-pub mod Looks
 pub mod Jumps
 pub mod Lengths

@@ -1,5 +1,5 @@
 -- The tree of a program.
-use Rattle.std.specs.Prelude.{◌≡◌, ℕ, suc, List, None, slice_index_or}
+use Rattle.std.specs.Prelude.{◌≡◌, ◌≤◌, ℕ, suc, List, None, slice_index_or}
 use Rattle.syntect_pattern.specs.Trees.{Tree, nothing, group, group_count}
 use Rattle.syntect_pattern.specs.Matches.{found_at}
 use Rattle.syntect_pattern_table.specs.Table.{trees}
@@ -22,3 +22,7 @@ pub record IsProgramOf (p : Program) (tree : Tree) : Type 0 where
 -- no match begins at the place
 abbrev pub CannotBegin : List ℕ → Program → ℕ → Type 0
 CannotBegin s p place = (tree : Tree) → IsProgramOf p tree → found_at s tree place ≡ None
+
+-- none begins from there on
+abbrev pub CannotBeginFrom : List ℕ → Program → ℕ → Type 0
+CannotBeginFrom s p place = (k : ℕ) → place ≤ k → CannotBegin s p k

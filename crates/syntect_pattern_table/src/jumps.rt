@@ -3,9 +3,10 @@ ghost use Rattle.std.specs.Prelude.{◌≡◌, ◌<◌, ◌≤◌, IfOk, IfSome,
 ghost use Rattle.syntect_pattern.specs.Trees.{Tree};
 ghost use Rattle.syntect_pattern_table.specs.Table.{IsOrdered, trees};
 ghost use Rattle.syntect_pattern_table.specs.Starts.{AreFirsts};
-ghost use Rattle.syntect_pattern_table.specs.Jumps.{AreJumps, IsJump};
+ghost use Rattle.syntect_pattern_table.specs.Jumps.{AreJumps, IsJump, jump_to, places_of};
 
 use crate::node::Node;
+use crate::place_list::PlaceList;
 use crate::starts::{Places, either, nowhere};
 use std::alloc::{AllocError, Global};
 use syntect_values::seq::Seq;
@@ -13,14 +14,46 @@ use syntect_values::seq::Seq;
 /// How many alternations in a row, each the second part of the next, make a list for which jumps are kept.
 const LONG: usize = 8;
 
+/// How many branches each of two jumps passes at most that are put together.
+const FAR: u32 = 1 << 30;
+
 /// From a node to one behind some of its branches.
 #[derive(Clone, Copy)]
 pub struct Jump {
+    /// Where matches of those branches can begin, part by part, since that takes less room than `Places`.
+    ascii: u128,
     pub to: usize,
     /// So many branches are passed.
-    pub count: usize,
-    /// Where matches of those branches can begin.
-    pub places: Places,
+    pub count: u32,
+    wide: bool,
+    end: bool,
+}
+
+impl Jump {
+    /// To the node past so many branches, whose matches can begin there.
+    fn new(to: usize, count: u32, places: Places) -> Jump
+        ensures { result ≡ jump_to to count places }
+    {
+        Jump {
+            ascii: places.ascii,
+            to,
+            count,
+            wide: places.wide,
+            end: places.end,
+        }
+    }
+
+    /// Where matches of the branches that it passes can begin.
+    #[inline]
+    pub fn places(&self) -> Places
+        ensures { result ≡ places_of self.now }
+    {
+        Places {
+            ascii: self.ascii,
+            wide: self.wide,
+            end: self.end,
+        }
+    }
 }
 
 /// Whether the node is an alternation whose second part is the node right before it.
@@ -74,7 +107,7 @@ pub fn jump_of(jumps: &[Jump], from: usize, node: usize) -> Option<Jump>
 
 /// The jump of the node at the place: past the first branch of an alternation, and where two jumps of one length follow, past
 /// theirs. So a list of n branches is gone through in about log n jumps. Other nodes lead to themselves.
-fn jump_from(nodes: &[Node], place: usize, firsts: &[Places], before: &[Jump], from: usize) -> Jump
+fn jump_from(nodes: &[Node], place: usize, firsts: &PlaceList, before: &[Jump], from: usize) -> Jump
     requires ordered { IsOrdered nodes.now }
     requires inside { place < length nodes.now }
     requires count { length firsts.now ≡ length nodes.now }
@@ -83,36 +116,25 @@ fn jump_from(nodes: &[Node], place: usize, firsts: &[Places], before: &[Jump], f
     ensures { IsJump (trees nodes.now) place result }
 {
     let Node::Alternation(first, second) = &nodes[place] else {
-        return Jump {
-            to: place,
-            count: 0,
-            places: nowhere(),
-        };
+        return Jump::new(place, 0, nowhere());
     };
-    let places = firsts[*first];
+    let places = firsts.get(*first).unwrap_or(nowhere());
     if let Some(near) = jump_of(before, from, *second) {
         if let Some(far) = jump_of(before, from, near.to) {
-            if near.count == far.count {
-                return Jump {
-                    to: far.to,
-                    count: near.count + far.count + 1,
-                    places: either(places, either(near.places, far.places)),
-                };
+            if near.count == far.count && near.count < FAR {
+                let behind = either(near.places(), far.places());
+                return Jump::new(far.to, near.count + far.count + 1, either(places, behind));
             }
         }
     }
-    Jump {
-        to: *second,
-        count: 1,
-        places,
-    }
+    Jump::new(*second, 1, places)
 }
 
 /// The jumps of the nodes from this one on.
 pub fn jumps_of(
     alloc: Global,
     nodes: &[Node],
-    firsts: &[Places],
+    firsts: &PlaceList,
     from: usize,
 ) -> Result<Seq<Jump>, AllocError>
     requires ordered { IsOrdered nodes.now }

@@ -1,11 +1,14 @@
 //! How many bytes matches of nodes read.
 ghost use Rattle.std.specs.Prelude.{◌≡◌, ◌+◌, ◌*◌, ℕ, Bool, IfOk, List, Some, length, max, true};
-ghost use Rattle.syntect_pattern.specs.Sets.{range};
+ghost use Rattle.syntect_pattern.specs.Sets.{Set, from_to, range};
+ghost use Rattle.syntect_letters.specs.Letters.{letters_tree};
 ghost use Rattle.syntect_pattern.specs.Trees.{Tree, one_of, seq, alt, repeat};
-ghost use Rattle.syntect_pattern_table.specs.Table.{IsOrdered, node_tree, parts_before, set_of, trees};
+ghost use Rattle.syntect_pattern_table.specs.SetTable.{is_wide};
+ghost use Rattle.syntect_pattern_table.specs.Table.{IsOrdered, node_tree, parts_before, trees};
 ghost use Rattle.syntect_pattern_table.specs.Lengths.{AreLengths, HasLengths, IsMadeOf};
 
-use crate::node::{Class, Node};
+use crate::node::Node;
+use crate::sets::is_alike_wide;
 use std::alloc::{AllocError, Global};
 use syntect_values::seq::Seq;
 
@@ -73,11 +76,11 @@ fn lengths_of_char(wanted: char) -> Lengths
     exactly(wanted.len_utf8() as u32)
 }
 
-/// Of a character of the class.
-fn lengths_of_class(class: &Class) -> Lengths
-    ensures { HasLengths (one_of (set_of class.now)) result }
+/// Of a character that may be beyond ASCII, or else of one of ASCII.
+fn lengths_of_one(wide: bool) -> Lengths
+    ensures { (a : Set) → wide ≡ is_wide a → HasLengths (one_of a) result }
 {
-    let most = if class.is_wide() { 4 } else { 1 };
+    let most = if wide { 4 } else { 1 };
     Lengths {
         least: 1,
         most: Some(most),
@@ -91,6 +94,32 @@ fn in_sequence(a: Lengths, b: Lengths) -> Lengths
     Lengths {
         least: a.least.saturating_add(b.least),
         most: sum(a.most, b.most),
+    }
+}
+
+/// Of a letter.
+fn lengths_of_letter(fold: bool, letter: u8) -> Lengths
+    ensures { HasLengths (one_of (from_to fold letter letter)) result }
+{
+    let wanted = letter as char;
+    if fold {
+        lengths_of_one(is_alike_wide(wanted, wanted))
+    } else {
+        lengths_of_char(wanted)
+    }
+}
+
+/// Of letters before what reads so many.
+fn before_rest(fold: bool, letters: &[u8], rest: Lengths) -> Lengths
+    ensures { (t : Tree) → HasLengths t rest
+        → HasLengths (letters_tree fold letters.now t) result }
+{
+    match letters.split_first() {
+        Some((first, others)) => in_sequence(
+            lengths_of_letter(fold, *first),
+            before_rest(fold, others, rest),
+        ),
+        None => rest,
     }
 }
 
@@ -122,26 +151,21 @@ fn lengths_of(node: &Node, before: &[Lengths]) -> Lengths
         → HasLengths (node_tree ts node.now) result }
 {
     match node {
-        Node::Nothing => exactly(0),
-        Node::Anchor(_) => exactly(0),
-        Node::Ahead {
-            negated: _,
-            body: _,
-        } => exactly(0),
-        Node::Behind {
-            negated: _,
-            body: _,
-        } => exactly(0),
+        Node::Nothing | Node::Anchor(_) | Node::Ahead { .. } | Node::Behind { .. } => exactly(0),
         Node::Char(wanted) => lengths_of_char(*wanted),
-        Node::Class(class) => lengths_of_class(class),
+        Node::Class(class) => lengths_of_one(class.is_wide()),
         Node::Same { fold: _, group: _ } => any_number(),
+        Node::Text { letters, rest } => in_sequence(
+            lengths_of_letter(letters.fold, letters.first),
+            before_rest(letters.fold, letters.others(), before[*rest]),
+        ),
         Node::Sequence(first, second) => in_sequence(before[*first], before[*second]),
         Node::Alternation(first, second) => one_of_two(before[*first], before[*second]),
         Node::Repeat {
-            greedy: _,
             least,
             most,
             body,
+            ..
         } => in_loop(before[*body], *least, *most),
         Node::Group { number: _, body } => before[*body],
         Node::Atomic(body) => before[*body],

@@ -4,9 +4,9 @@
 mod ascii;
 pub mod jumps;
 pub mod lengths;
-mod looks;
 pub mod needs;
 pub mod node;
+pub mod place_list;
 pub mod program;
 pub mod sets;
 pub mod starts;

@@ -1,5 +1,6 @@
 //! The tree of a pattern as a table of nodes, each of which stands behind its parts.
 pub use crate::sets::Class;
+pub use syntect_letters::letters::Letters;
 pub use syntect_pattern::anchor::Anchor;
 
 /// A node of a tree. A part is given by its place in the table.
@@ -17,6 +18,11 @@ pub enum Node {
     Same {
         fold: bool,
         group: usize,
+    },
+    /// The letters, one after the other, and then the part.
+    Text {
+        letters: Letters,
+        rest: usize,
     },
     /// One part after the other.
     Sequence(usize, usize),

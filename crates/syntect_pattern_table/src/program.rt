@@ -2,17 +2,16 @@
 ghost use Rattle.std.specs.Prelude.{◌≡◌, ◌≤◌, ◌<◌, ◌-◌, ℕ, [], List, IfOk, IfSome, IsCharBoundary, length, min, slice_index, slice_index_or, true, false};
 ghost use Rattle.syntect_pattern_table.specs.Table.{IsOrdered, trees};
 ghost use Rattle.syntect_pattern_table.specs.Builder.{tree_in};
-ghost use Rattle.syntect_pattern_table.specs.Looks.{AreLooks};
 ghost use Rattle.syntect_pattern_table.specs.Starts.{AreFirsts, AreStarts};
 ghost use Rattle.syntect_pattern_table.specs.Jumps.{AreJumps};
 ghost use Rattle.syntect_pattern_table.specs.Lengths.{AreLengths};
 
 use crate::jumps::{Jump, jump_of, jumps_of, long_from};
 use crate::lengths::{Lengths, any_number, lengths_in};
-use crate::looks::looks_of;
 use crate::needs::TwoNeeds;
 use crate::node::Node;
-use crate::starts::{Places, flags_of, is_in, start_at};
+use crate::place_list::PlaceList;
+use crate::starts::{flags_of, is_in, nowhere, start_at};
 use std::alloc::{AllocError, Global};
 use syntect_values::seq::Seq;
 
@@ -28,28 +27,25 @@ pub struct Program {
     /// end.
     pub starts: Seq<bool>,
     /// Where matches of each node can begin.
-    pub firsts: Seq<Places>,
+    pub firsts: PlaceList,
     /// The node whose jump is the first one.
     pub jumps_from: usize,
     /// Jumps past branches, of the nodes from that one on. There are none where no list of branches is long.
     pub jumps: Seq<Jump>,
     /// What each match needs.
     pub needs: TwoNeeds,
-    /// Whether the groups stand in lookarounds, the whole match aside. None of what is no group.
-    pub looks: Seq<Option<bool>>,
     /// How many bytes matches of each node read. There are none where nothing looks back.
     pub lengths: Seq<Lengths>,
     pub ghost ordered: { IsOrdered nodes },
     pub ghost begun: { AreFirsts firsts (trees nodes) },
     pub ghost jumping: { ∥ AreJumps jumps_from jumps (trees nodes) ∥₁ },
-    pub ghost looked: { AreLooks nodes root looks },
     pub ghost measured: { AreLengths lengths (trees nodes) },
 }
 
 impl Program {
     ghost use Rattle.std.specs.Prelude.{MatchOption};
     ghost use Rattle.syntect_pattern.specs.Trees.{nothing};
-    ghost use Rattle.syntect_pattern_table.specs.Table.{node_tree};
+    ghost use Rattle.syntect_pattern_table.specs.Table.{AreSpelt, is_text, node_tree};
     ghost use Rattle.syntect_pattern_table.specs.Program.{trees_of, CannotBegin};
     ghost use Rattle.syntect_pattern_table.specs.Jumps.{LeadsPast};
     ghost use Rattle.syntect_pattern_table.specs.Lengths.{HasLengths};
@@ -63,7 +59,7 @@ impl Program {
         nodes: Seq<Node>,
         root: usize,
         groups: usize,
-        firsts: Seq<Places>,
+        firsts: PlaceList,
         needs: TwoNeeds,
         looks_back: bool,
     ) -> Result<Program, AllocError>
@@ -77,10 +73,9 @@ impl Program {
         ensures starts { IfOk result (λ p. AreStarts p.starts (tree_in nodes root)) }
         ensures needs { IfOk result (λ p. p.needs ≡ needs) }
     {
-        let starts = flags_of(alloc, firsts.as_slice()[root])?;
+        let starts = flags_of(alloc, firsts.get(root).unwrap_or(nowhere()))?;
         let jumps_from = long_from(nodes.as_slice());
-        let jumps = jumps_of(alloc, nodes.as_slice(), firsts.as_slice(), jumps_from)?;
-        let looks = looks_of(alloc, nodes.as_slice(), root, groups)?;
+        let jumps = jumps_of(alloc, nodes.as_slice(), &firsts, jumps_from)?;
         let lengths = lengths_in(alloc, nodes.as_slice(), looks_back)?;
         Ok(Program {
             nodes,
@@ -91,14 +86,14 @@ impl Program {
             jumps_from,
             jumps,
             needs,
-            looks,
             lengths,
         })
     }
 
     /// The node at the place: its tree is made of those of its parts. There is none past the end.
     pub fn node(&self, place: usize) -> Option<&Node>
-        ensures { MatchOption result (slice_index_or (trees_of self.now) place nothing ≡ nothing) (λ n. slice_index_or (trees_of self.now) place nothing ≡ node_tree (trees_of self.now) n.now) }
+        ensures spelt { AreSpelt self.now.nodes → IfSome result (λ n. is_text n.now ≡ false) }
+        ensures is { MatchOption result (slice_index_or (trees_of self.now) place nothing ≡ nothing) (λ n. slice_index_or (trees_of self.now) place nothing ≡ node_tree (trees_of self.now) n.now) }
     {
         self.nodes.get(place)
     }
@@ -121,7 +116,7 @@ impl Program {
             → matches text.now (slice_index_or (trees_of self.now) node nothing) place g ≡ [] }
     {
         match self.firsts.get(node) {
-            Some(places) => !is_in(*places, start_at(text, place)),
+            Some(places) => !is_in(places, start_at(text, place)),
             None => false,
         }
     }
@@ -138,7 +133,7 @@ impl Program {
         let Some(jump) = jump_of(self.jumps.as_slice(), self.jumps_from, node) else {
             return None;
         };
-        if jump.count == 0 || is_in(jump.places, start_at(text, place)) {
+        if jump.count == 0 || is_in(jump.places(), start_at(text, place)) {
             return None;
         }
         Some(jump.to)

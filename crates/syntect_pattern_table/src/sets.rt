@@ -110,7 +110,7 @@ fn is_named_wide(named: Named) -> bool
 
 /// Whether simple folding makes a character beyond ASCII equal to one from the first to the last. Two such characters fold to
 /// ASCII letters, to `k` and to `s`.
-fn is_alike_wide(low: char, high: char) -> bool
+pub(crate) fn is_alike_wide(low: char, high: char) -> bool
     ensures { result ≡ is_wide (alike low high) }
 {
     is_beyond(high)
@@ -212,6 +212,25 @@ impl Class {
             root: 0,
             ascii: bits_of(part, &[]),
             wide: is_wide_at(&[part], 0),
+        };
+        Ok(Class {
+            body: Box::new(alloc, body)?,
+        })
+    }
+
+    /// The same class.
+    pub fn copy(&self, alloc: Global) -> Result<Class, AllocError>
+        ensures { IfOk result (λ s. set_of s ≡ set_of self.now) }
+    {
+        let parts = match &self.body.parts {
+            Parts::One(part) => Parts::One(*part),
+            Parts::Several(parts) => Parts::Several(Seq::from_slice(alloc, parts.as_slice())?),
+        };
+        let body = ClassBody {
+            parts,
+            root: self.body.root,
+            ascii: self.body.ascii,
+            wide: self.body.wide,
         };
         Ok(Class {
             body: Box::new(alloc, body)?,

@@ -1,6 +1,6 @@
 //! Where a match can begin, as far as the byte there tells.
 ghost use Rattle.std.specs.Prelude.{◌≡◌, ◌<◌, ◌≤◌, ◌||◌, ◌&&◌, ◌==◌, nat_lt, not, ℕ, IfOk, List, OnOk, length, slice_index_or, true, false};
-ghost use Rattle.syntect_pattern.specs.Sets.{holds, range};
+ghost use Rattle.syntect_pattern.specs.Sets.{alike, from_to, holds, range};
 ghost use Rattle.syntect_pattern.specs.Trees.{Tree};
 ghost use Rattle.syntect_pattern_table.specs.Table.{IsOrdered, node_tree, parts_before, set_of, trees};
 ghost use Rattle.syntect_pattern.specs.Anchors.{anchor_of};
@@ -8,9 +8,10 @@ ghost use Rattle.syntect_pattern_table.specs.Starts as spec;
 ghost use Rattle.syntect_pattern_table.specs.declared.starts.Places.{Places as APlaces};
 ghost use Rattle.syntect_pattern_table.specs.Starts.{AreFirsts, Begin, GoesOn, begins, begins_at, either_begins, firsts_at, looked_begins, looped_begins, reads, row_at, sequence_begins, stays};
 
-use crate::ascii::put;
+use crate::ascii::{bits_of, put};
 use crate::node::{Class, Node};
-use crate::sets::has_bit;
+use crate::place_list::PlaceList;
+use crate::sets::{Part, has_bit, is_alike_wide};
 use std::alloc::{AllocError, Global};
 use syntect_pattern::anchor::Anchor;
 use syntect_values::seq::Seq;
@@ -121,6 +122,30 @@ pub fn places_of_char(wanted: char) -> Places
     }
 }
 
+/// Where a character can stand that simple folding makes equal to this one.
+fn places_of_alike(wanted: char) -> Places
+    ensures { (x : ℕ) → x < 130 → spec.is_in result x ≡ spec.can_hold (alike wanted wanted) x }
+{
+    Places {
+        ascii: bits_of(Part::Alike(wanted, wanted), &[]),
+        wide: is_alike_wide(wanted, wanted),
+        end: false,
+    }
+}
+
+/// Where the letter can stand.
+pub fn places_of_letter(fold: bool, letter: u8) -> Places
+    ensures { (x : ℕ) → x < 130
+        → spec.is_in result x ≡ spec.can_hold (from_to fold letter letter) x }
+{
+    let wanted = letter as char;
+    if fold {
+        places_of_alike(wanted)
+    } else {
+        places_of_char(wanted)
+    }
+}
+
 /// Where a character of the class can stand.
 pub fn places_of_class(class: &Class) -> Places
     ensures { (x : ℕ) → x < 130 → spec.is_in result x ≡ spec.can_hold (set_of class.now) x }
@@ -214,32 +239,30 @@ pub fn ahead(a: Firsts, negated: bool) -> Firsts
     }
 }
 
-/// What can stand nowhere.
-const NOTHING: Places = Places {
-    ascii: 0,
-    wide: false,
-    end: false,
-};
-
 /// Where the node at a place can begin, by the places of the nodes so far, their rows, and the rows' list.
 #[inline]
-fn at(places: &[Places], rows: &[usize], firsts: &[Firsts], place: usize) -> Firsts
+fn at(places: &PlaceList, rows: &[usize], firsts: &[Firsts], place: usize) -> Firsts
     requires inside { place < length places.now }
     requires both { length rows.now ≡ length places.now }
     ensures { result ≡ firsts_at places.now rows.now firsts.now place }
 {
+    let nothing = Places {
+        ascii: 0,
+        wide: false,
+        end: false,
+    };
     let row = rows[place];
     if row == 0 {
         return Firsts {
-            read: places[place],
-            stay: NOTHING,
+            read: places.get(place).unwrap_or(nothing),
+            stay: nothing,
         };
     }
     match firsts.get(row - 1) {
         Some(found) => *found,
         None => Firsts {
-            read: NOTHING,
-            stay: NOTHING,
+            read: nothing,
+            stay: nothing,
         },
     }
 }
@@ -247,7 +270,7 @@ fn at(places: &[Places], rows: &[usize], firsts: &[Firsts], place: usize) -> Fir
 /// Where the part at the one place can begin with that at the other behind it, which counts only where the first one can read
 /// nothing.
 fn sequence_at(
-    places: &[Places],
+    places: &PlaceList,
     rows: &[usize],
     firsts: &[Firsts],
     first: usize,
@@ -268,7 +291,7 @@ fn sequence_at(
 }
 
 /// Where the node can begin, by where those of the nodes before it do.
-fn firsts_of(node: &Node, places: &[Places], rows: &[usize], firsts: &[Firsts]) -> Firsts
+fn firsts_of(node: &Node, places: &PlaceList, rows: &[usize], firsts: &[Firsts]) -> Firsts
     requires parts { parts_before (length places.now) node.now ≡ true }
     requires both { length rows.now ≡ length places.now }
     ensures { (ts : List Tree) (x : ℕ) → x < 130 → Begin x places.now rows.now firsts.now ts
@@ -298,6 +321,10 @@ fn firsts_of(node: &Node, places: &[Places], rows: &[usize], firsts: &[Firsts]) 
         Node::Same { fold: _, group: _ } => Firsts {
             read: anywhere(),
             stay: anywhere(),
+        },
+        Node::Text { letters, rest: _ } => Firsts {
+            read: places_of_letter(letters.fold, letters.first),
+            stay: nowhere(),
         },
         Node::Sequence(first, second) => sequence_at(places, rows, firsts, *first, *second),
         Node::Alternation(first, second) => one_of_two(
@@ -348,35 +375,36 @@ fn row_of(firsts: &mut Vec<Firsts>, next: Firsts) -> Result<usize, AllocError>
 /// Where matches of each node can begin. Few nodes have a match that reads nothing, and have a row for where they read something
 /// and where they don't: of the others all matches begin where they read something. Most of those are characters, and sequences
 /// that begin with one.
-pub fn places_of(alloc: Global, nodes: &[Node]) -> Result<Seq<Places>, AllocError>
+pub fn places_of(alloc: Global, nodes: &[Node]) -> Result<PlaceList, AllocError>
     requires { IsOrdered nodes.now }
     ensures count { IfOk result (λ ps. length ps ≡ length nodes.now) }
     ensures firsts { IfOk result (λ ps. AreFirsts ps (trees nodes.now)) }
 {
-    let mut places = Vec::with_capacity(alloc, nodes.len())?;
+    let mut places = PlaceList::with_capacity(alloc, nodes.len())?;
     let mut rows = Vec::with_capacity(alloc, nodes.len())?;
     let mut firsts = Vec::new(alloc);
     for place in 0..nodes.len() {
         let node = &nodes[place];
         if let Node::Char(wanted) = node {
             rows.push_reserved(0);
-            places.push_reserved(places_of_char(*wanted));
+            places.push(places_of_char(*wanted))?;
             continue;
         }
         if let Node::Sequence(first, _) = node {
             if rows[*first] == 0 {
-                let read: Places = places[*first];
+                let read = places.get(*first).unwrap_or(nowhere());
                 rows.push_reserved(0);
-                places.push_reserved(read);
+                places.push(read)?;
                 continue;
             }
         }
-        let next = firsts_of(node, places.as_slice(), rows.as_slice(), firsts.as_slice());
+        let next = firsts_of(node, &places, rows.as_slice(), firsts.as_slice());
         let row = row_of(&mut firsts, next)?;
         rows.push_reserved(row);
-        places.push_reserved(either(next.read, next.stay));
+        places.push(either(next.read, next.stay))?;
     }
-    Ok(Seq::from_vec(places))
+    places.shrink_to_fit();
+    Ok(places)
 }
 
 /// For all that can stand at a place whether it is one of these.

@@ -1,7 +1,9 @@
 -- What is known of the nodes of a table.
-use Rattle.std.proofs.Common.{◌≡◌, ℕ, zero, suc, ◌+◌, ◌<◌, List, [], ◌∷◌, ◌++◌, length, take, get_or, refl, sym, ap, ◌∙◌, arith, zero-add}
+use Rattle.std.proofs.Common.{◌≡◌, ℕ, zero, suc, ◌+◌, ◌<◌, Bool, true, List, [], ◌∷◌, ◌++◌, length, take, get_or, refl, sym, ap, ◌∙◌, arith, zero-add}
 use Rattle.std.proofs.lemmas.List.{take_more, length-take-le}
-use Rattle.syntect_pattern.specs.Trees.{Tree, nothing}
+use Rattle.syntect_pattern.specs.Sets.{Set}
+use Rattle.syntect_pattern.specs.Trees.{Tree, nothing, one_of, seq}
+use Rattle.syntect_letters.specs.Letters.{letters_tree}
 use Rattle.syntect_pattern_table.specs.Table.{node_tree, trees, trees_from}
 use Rattle.syntect_pattern_table.specs.declared.node.Node.{Node}
 use Rattle.syntect_pattern_table.proofs.TableLaws.{trees-append, length-trees_from}
@@ -41,3 +43,12 @@ facts-none fs e n = rw e (none n)
     none : (n : ℕ) → facts_at [] n ≡ facts_of (get_or (trees_from [] []) n nothing)
     none zero = refl
     none (suc n) = refl
+
+-- a character and what is known of a part behind it
+abbrev pub read_first : Facts → Facts
+read_first f = record { reads = true; plain = f.plain; free = f.free; bare = f.bare; calm = f.calm }
+
+-- of letters before a part the same is known as of a single character before it
+pub letters-facts : (fold : Bool) (c : ℕ) (cs : List ℕ) (a : Set) (t : Tree) → facts_of (letters_tree fold (c ∷ cs) t) ≡ facts_of (seq (one_of a) t)
+letters-facts fold c [] a t = refl
+letters-facts fold c (d ∷ cs) a t = ap read_first (letters-facts fold d cs a t)

@@ -8,3 +8,4 @@ pub mod CellLaws
 pub mod BuildLaws
 pub mod MakesLaws
 pub mod LinearLaws
+pub mod SpeltLaws

@@ -5,3 +5,4 @@ pub mod Plan
 pub mod PlanOf
 pub mod Build
 pub mod Linear
+pub mod Spelt

@@ -33,6 +33,15 @@ const STAYS: Facts = Facts {
     calm: true,
 };
 
+/// A character.
+const READS: Facts = Facts {
+    reads: true,
+    plain: true,
+    free: true,
+    bare: true,
+    calm: true,
+};
+
 /// What is known of the node with the number.
 #[inline]
 pub fn facts_at(facts: &[Facts], node: usize) -> Facts
@@ -76,13 +85,7 @@ fn node_facts(node: &Node, before: &[Facts]) -> Facts
 {
     match node {
         Node::Nothing | Node::Anchor(_) => STAYS,
-        Node::Char(_) | Node::Class(_) => Facts {
-            reads: true,
-            plain: true,
-            free: true,
-            bare: true,
-            calm: true,
-        },
+        Node::Char(_) | Node::Class(_) => READS,
         Node::Same { fold: _, group: _ } => Facts {
             reads: false,
             plain: false,
@@ -90,6 +93,7 @@ fn node_facts(node: &Node, before: &[Facts]) -> Facts
             bare: true,
             calm: true,
         },
+        Node::Text { letters: _, rest } => in_sequence(READS, facts_at(before, *rest)),
         Node::Sequence(first, second) => {
             in_sequence(facts_at(before, *first), facts_at(before, *second))
         }

@@ -5,3 +5,4 @@ pub mod cells;
 pub mod facts;
 pub mod order;
 pub mod plan;
+pub mod spelt;

@@ -4,7 +4,7 @@
 //! since a turn that reads nothing leaves the loop. Such a cell stands beside one of the same item before what goes on behind
 //! it alone, and their parts share their cells as far as each match of a part reads something. So a part takes one cell, and
 //! one more for each loop around it that it lets through without reading; only turns that are counted take cells for each.
-ghost use Rattle.std.specs.Prelude.{◌≡◌, ℕ, ◌<◌, ◌≤◌, ◌+◌, ◌-◌, [], ◌∷◌, ◌++◌, Bool, IfOk, IfNone, IfSome, OnOk, is_some, List, length, option_map, slice_index_or, is_none, ◌&&◌, ◌==◌, Some, true};
+ghost use Rattle.std.specs.Prelude.{◌≡◌, ℕ, ◌<◌, ◌≤◌, ◌+◌, ◌-◌, [], ◌∷◌, ◌++◌, Bool, IfOk, IfNone, IfSome, OnOk, is_some, List, length, option_map, slice_index_or, is_none, ◌&&◌, ◌==◌, Some, true, false};
 ghost use Rattle.syntect_plan.specs.Build as build;
 ghost use Rattle.syntect_pattern.specs.Trees.{Tree, alt, group, nothing, repeat, seq};
 
@@ -40,7 +40,7 @@ pub struct Plan {
 
 impl Plan {
     ghost use Rattle.syntect_pattern_table.specs.Program.{trees_of};
-    ghost use Rattle.syntect_pattern_table.specs.Table.{node_tree};
+    ghost use Rattle.syntect_pattern_table.specs.Table.{AreSpelt, is_text, node_tree};
     ghost use Rattle.syntect_plan.specs.Cells as spec;
     ghost use Rattle.syntect_plan.specs.Facts.{AreFacts};
     ghost use Rattle.syntect_plan.specs.Linear.{is_linear};
@@ -206,6 +206,7 @@ impl Plan {
 
     /// The parts of a node, before the same at its place and behind it.
     fn own_node(&mut self, node: &Node, number: usize, next: usize) -> Result<Parts, AllocError>
+        requires spelt { is_text node.now ≡ false }
         ensures step { IfOk result (λ p. (ts : List Tree) → AreFacts self.old.facts ts
             → MakesOwn ts self.old number next (node_tree ts node.now) p self.new) }
         ensures facts { self.new.facts ≡ self.old.facts }
@@ -239,6 +240,7 @@ impl Plan {
         number: usize,
         cell: Cell,
     ) -> Result<Parts, AllocError>
+        requires spelt { AreSpelt program.now.nodes }
         requires facts { AreFacts self.old.facts (trees_of program.now) }
         requires built { AreBuilt (trees_of program.now) self.old.cells }
         requires inside { number < length self.old.cells }
@@ -335,6 +337,7 @@ impl Plan {
 
     /// The same of a node. What is matched on its own does not depend on what goes on, so its part is there already.
     fn beside_node(&mut self, node: &Node, empty: usize, parts: Parts) -> Result<Parts, AllocError>
+        requires spelt { is_text node.now ≡ false }
         ensures step { IfOk result (λ p. (ts : List Tree) (g : ℕ) → AreFacts self.old.facts ts
             → MakesBeside ts self.old empty g (node_tree ts node.now) parts p self.new) }
         ensures others { self.new ≡ record self.old { cells = self.new.cells } }
@@ -363,6 +366,7 @@ impl Plan {
         empty: usize,
         parts: Parts,
     ) -> Result<Parts, AllocError>
+        requires spelt { AreSpelt program.now.nodes }
         ensures step { IfOk result (λ p. (g : ℕ) → AreFacts self.old.facts (trees_of program.now)
             → MakesBeside (trees_of program.now) self.old empty g
             (spec.item_tree (trees_of program.now) item) parts p self.new) }
@@ -385,6 +389,7 @@ impl Plan {
 
     /// The parts of the first cell that has none yet.
     fn expand(&mut self, program: &Program, number: usize) -> Result<Parts, AllocError>
+        requires spelt { AreSpelt program.now.nodes }
         requires facts { AreFacts self.old.facts (trees_of program.now) }
         requires built { AreBuilt (trees_of program.now) self.old.cells }
         requires planned { IsPlanned (trees_of program.now) self.old.cells self.old.parts
@@ -437,7 +442,7 @@ impl Plan {
         Ok(plan)
     }
 
-    /// The plan of a program, in a step for each cell. There is none for a pattern that has a back reference, a lookbehind for
+    /// The plan of a program none of whose nodes holds letters in a row, in a step for each cell. There is none for a pattern that has a back reference, a lookbehind for
     /// more than characters, anchors, sequences and branches, or a lookahead in a loop that sets groups, nor where too many
     /// cells are needed.
     pub fn new(
@@ -445,6 +450,7 @@ impl Plan {
         program: &Program,
         count: &mut TurnCount,
     ) -> Result<Option<Plan>, AllocError>
+        requires spelt { AreSpelt program.now.nodes }
         ensures plan { IfOk result (λ found. IfSome found (λ plan. IsPlanOf program.now plan)) }
         ensures count { IfOk result (λ found. IfSome found (λ plan. length plan.cells
             ≡ plan_cells (slice_index_or (trees_of program.now) program.now.root nothing))) }

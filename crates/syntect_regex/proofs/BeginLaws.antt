@@ -11,22 +11,13 @@ use Rattle.syntect_pattern_table.specs.Program.{trees_of}
 use Rattle.syntect_pattern_table.specs.Starts.{is_in, reads, start_at, stays}
 use Rattle.syntect_pattern_table.specs.declared.program.Program.{Program}
 use Rattle.syntect_pattern_table.specs.declared.starts.Places.{Places}
-use Rattle.syntect_pattern_table.proofs.BeginLaws.{start-past, start-ascii, start-wide}
+use Rattle.syntect_pattern_table.proofs.BeginLaws.{start-bound}
 use Rattle.syntect_pattern_table.proofs.StartLaws.{found_at-nothing}
 use Rattle.syntect_engine.proofs.FindLaws.{found-past, found-step}
 use Rattle.syntect_pattern_reader.specs.Compiled.{Compiles, IsCompiled}
 use Rattle.syntect_regex.specs.Begins.{BeginsAtEdges, IsAtEdges, NoneBeginsBefore, NoneBeginsOutside}
 use Rattle.syntect_word_ends.specs.Ends.{StandsBehind, ends, passes}
 use Rattle.syntect_word_ends.proofs.EndLaws.{none-in_run}
-
-start-bound : (s : List ℕ) (i : ℕ) → start_at s i < 130
-start-bound s i = elim (cases_lt i (length s)) [
-  | inl h ↦ elim (cases_lt (get_or s i 0) 128) [
-    | inl l ↦ omega (arith, start-ascii s i h l)
-    | inr g ↦ omega (arith, start-wide s i h g)
-  ]
-  | inr h ↦ omega (arith, start-past s i h)
-]
 
 -- a place where no match begins is passed over, also one past the end
 pub found-next : (s : List ℕ) (tree : Tree) (i : ℕ) → found_at s tree i ≡ None → found s tree i ≡ found s tree (i + 1)

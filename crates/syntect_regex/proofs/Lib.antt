@@ -1,4 +1,5 @@
 pub mod RegionLaws
 pub mod BeginLaws
 pub mod HereLaws
+pub mod MarkLaws
 pub mod OutlineLaws

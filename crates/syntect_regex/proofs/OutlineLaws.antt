@@ -5,11 +5,11 @@ use Rattle.syntect_pattern.specs.Trees.{Tree, group_in_look}
 use Rattle.syntect_pattern_reader.specs.Compiled.{IsCompiled}
 use Rattle.syntect_pattern_table.specs.declared.program.Program.{Program}
 use Rattle.syntect_regex.specs.Details.{KnowsGroups}
+use Rattle.syntect_regex.specs.Looks.{AreLooks}
 
 -- what a program tells of its groups
-pub groups-known : (pattern : List ℕ) (p : Program) → IsCompiled pattern p → (looks : List (Option Bool)) → looks ≡ p.looks → KnowsGroups pattern (Some looks)
-groups-known pattern p is looks e zero = sym (ap (λ (o : Option Tree). option_and_then (λ t. group_in_look t 0) o) is.reads)
-groups-known pattern p is looks e (suc n) =
-    ap (λ (marks : List (Option Bool)). get_or marks (suc n) None) e
-    ∙ p.looked n is.tree is.program.root
+pub groups-known : (pattern : List ℕ) (p : Program) → IsCompiled pattern p → (looks : List (Option Bool)) → AreLooks p.nodes p.root looks → KnowsGroups pattern (Some looks)
+groups-known pattern p is looks known zero = sym (ap (λ (o : Option Tree). option_and_then (λ t. group_in_look t 0) o) is.reads)
+groups-known pattern p is looks known (suc n) =
+    known n is.tree is.program.root
     ∙ sym (ap (λ (o : Option Tree). option_and_then (λ t. group_in_look t (suc n)) o) is.reads)

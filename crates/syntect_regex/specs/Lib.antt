@@ -8,6 +8,7 @@ pub mod Escape
 pub mod Begins
 pub mod Bounds
 pub mod Details
+pub mod Looks
 pub mod Outline
 pub mod Body
 pub mod Kept

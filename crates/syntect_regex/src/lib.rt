@@ -5,6 +5,7 @@ mod compiled;
 mod details;
 mod edges;
 pub mod error;
+mod looks;
 mod outline;
 pub mod regex;
 pub mod region;

@@ -11,6 +11,7 @@ ghost use Rattle.syntect_word_ends.specs.Ends.{StandsBehind};
 
 use crate::details::Details;
 use crate::edges::is_at_edges;
+use crate::looks::looks_in;
 use std::alloc::{AllocError, Global};
 use syntect_pattern_table::program::Program;
 use syntect_pattern_table::starts::{Places, anywhere, nowhere};
@@ -35,7 +36,7 @@ impl Outline {
     {
         let words = behind_of(alloc, false, program)?;
         let blanks = behind_of(alloc, true, program)?;
-        let looks = looks_of(alloc, program)?;
+        let looks = groups_of(alloc, program)?;
         let details = Details::new(alloc, words, blanks, looks)?;
         Ok(Outline {
             begins: begins_of(program),
@@ -54,7 +55,7 @@ fn begins_of(program: &Option<Program>) -> Places
         return nowhere();
     };
     match program.firsts.get(program.root) {
-        Some(places) => *places,
+        Some(places) => places,
         None => anywhere(),
     }
 }
@@ -83,7 +84,7 @@ fn behind_of(alloc: Global, blank: bool, program: &Option<Program>) -> Result<Pl
 }
 
 /// Whether the groups of the program stand in lookarounds.
-fn looks_of(
+fn groups_of(
     alloc: Global,
     program: &Option<Program>,
 ) -> Result<Option<Seq<Option<bool>>>, AllocError>
@@ -91,9 +92,7 @@ fn looks_of(
         → KnowsGroups pattern looks) }
 {
     match program {
-        // Of group 0 it is known without, and many patterns have no other
-        Some(program) if program.looks.len() < 2 => Ok(Some(Seq::new(alloc))),
-        Some(program) => Ok(Some(Seq::from_slice(alloc, program.looks.as_slice())?)),
+        Some(program) => Ok(Some(looks_in(alloc, program)?)),
         None => Ok(None),
     }
 }

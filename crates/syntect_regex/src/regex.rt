@@ -29,6 +29,7 @@ use syntect_pattern_reader::compiler::compile;
 use syntect_pattern_table::program::Program;
 use syntect_pattern_table::starts::Places;
 use syntect_plan::plan::Plan;
+use syntect_plan::spelt::spelt;
 use syntect_turns::count::TurnCount;
 
 /// A pattern. It is its text: equal texts are equal patterns.
@@ -218,6 +219,7 @@ impl Regex {
         let Some(program) = compile(alloc, self.body.text.as_str())? else {
             return Ok(true);
         };
+        let program = spelt(alloc, &program)?;
         let plan = Plan::new(alloc, &program, &mut TurnCount::none())?;
         Ok(plan.is_some())
     }

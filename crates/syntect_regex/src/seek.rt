@@ -10,6 +10,7 @@ use syntect_engine::state::Search;
 use syntect_linear::find as planned;
 use syntect_pattern_table::program::Program;
 use syntect_plan::plan::Plan;
+use syntect_plan::spelt::spelt;
 use syntect_turns::count::TurnCount;
 
 /// How many steps a search may take for each byte of the text, beside one for each byte of the pattern, and how many more in
@@ -70,16 +71,9 @@ fn find_planned(
         count.old.made count.new.made) }
 {
     let alloc = *search.frames.allocator();
-    if let Some(plan) = Plan::new(alloc, program, count)? {
-        return planned::find(
-            alloc,
-            program,
-            &plan,
-            text,
-            begin,
-            &mut search.groups,
-            count,
-        );
+    let spelt = spelt(alloc, program)?;
+    if let Some(plan) = Plan::new(alloc, &spelt, count)? {
+        return planned::find(alloc, &spelt, &plan, text, begin, &mut search.groups, count);
     }
     match search.find(program, text, begin, false, count)? {
         Some(found) => Ok(found),
@@ -128,10 +122,11 @@ fn find_up_to_planned(
         count.old.made count.new.made) }
 {
     let alloc = *search.frames.allocator();
-    if let Some(plan) = Plan::new(alloc, program, count)? {
+    let spelt = spelt(alloc, program)?;
+    if let Some(plan) = Plan::new(alloc, &spelt, count)? {
         return planned::find_up_to(
             alloc,
-            program,
+            &spelt,
             &plan,
             text,
             begin,
@@ -183,16 +178,9 @@ fn begins_planned(
         count.old.made count.new.made) }
 {
     let alloc = *search.frames.allocator();
-    if let Some(plan) = Plan::new(alloc, program, count)? {
-        return planned::begins_at(
-            alloc,
-            program,
-            &plan,
-            text,
-            place,
-            &mut search.groups,
-            count,
-        );
+    let spelt = spelt(alloc, program)?;
+    if let Some(plan) = Plan::new(alloc, &spelt, count)? {
+        return planned::begins_at(alloc, &spelt, &plan, text, place, &mut search.groups, count);
     }
     match search.begins_at(program, text, place, false, count)? {
         Some(found) => Ok(found),

@@ -1,17 +1,19 @@
 -- The ASCII characters of words, and white space.
 use Rattle.std.proofs.Common.{◌≡◌, ◌<◌, ◌≤◌, ◌==◌, ◌+◌, ◌^◌, ◌&&◌, ◌||◌, ◌∙◌, ℕ, zero, suc, Bool, true, false, not, List, [], ◌∷◌, ◌++◌, refl, sym, ap, arith, inl, inr, leb-true, below_more, bit_and, true≢false}
-use Rattle.std.specs.Prelude.{nat_le}
+use Rattle.std.specs.Prelude.{if◌then◌else◌, nat_le}
 use Rattle.std.specs.Bool.{beq}
 use Rattle.std.specs.Int.{bit_at, trailing_zeros, w128}
 use Rattle.std.specs.List.{list_all, list_any}
 use Rattle.std.proofs.lemmas.Bool.Decides.{eqb_tells, nat_tests}
 use Rattle.std.proofs.lemmas.Nat.Bits.{bit_at-trailing_zeros, bit_at-zero}
-use Rattle.std.proofs.lemmas.Bool.{cases_lt, and_parts}
+use Rattle.std.proofs.lemmas.Bool.{cases_lt, and_parts, lt-ltb}
 use Rattle.std.proofs.lemmas.List.Folds.{list_any-append}
 use Rattle.syntect_pattern.specs.Sets.{Set, holds, is_within, numbers_from, range}
-use Rattle.syntect_pattern_table.specs.SetTable.{AreFlags}
+use Rattle.syntect_pattern_table.specs.SetTable.{AreFlags, is_wide}
+use Rattle.syntect_pattern_table.specs.Starts.{can_hold, is_in}
+use Rattle.syntect_pattern_table.specs.declared.starts.Places.{Places}
 use Rattle.syntect_pattern_table.proofs.AlikeLaws.{or_cases}
-use Rattle.syntect_pattern_table.proofs.PlaceLaws.{bits_and}
+use Rattle.syntect_pattern_table.proofs.PlaceLaws.{bits_and, in_low}
 use Rattle.syntect_word_ends.specs.Ends.{blanks, has_one, is_blank, is_of, is_word_char, word_chars}
 
 pub or-left : (a b : Bool) → a ≡ true → (a || b) ≡ true
@@ -203,3 +205,9 @@ bits_tell blank a n m h k fits = elim (eqb_tells (bit_and n m) 0) [
         bits_and n m c.0 ∙ ap (λ b. b && (bit_at m c.0 == 1)) (h c.0 near ∙ c.1.0) ∙ (k c.0 near ∙ c.1.1) in
         let clear : (bit_at (bit_and n m) c.0 == 1) ≡ false = ap (λ i. bit_at i c.0 == 1) z ∙ ap (λ i. i == 1) (bit_at-zero c.0) in
         absurd (true≢false (sym both ∙ clear))
+
+-- the bits of where a character of a set can stand are those of the set
+pub flags-in : (places : Places) (a : Set) → ((x : ℕ) → x < 130 → is_in places x ≡ can_hold a x) → AreFlags places.ascii a
+flags-in places a h x l =
+    in_low places x l ∙ h x (omega (arith, l))
+    ∙ ap (λ (b : Bool). if b then holds a x else (x == 128 && is_wide a)) (lt-ltb x 128 l)

@@ -3,8 +3,9 @@
 //! white space that is.
 ghost use Rattle.std.specs.Prelude.{◌≡◌, ◌<◌, ◌≤◌, ◌==◌, ℕ, Bool, IfOk, List, length, slice_index_or, true, false};
 ghost use Rattle.std.specs.Int.{bit_at};
-ghost use Rattle.syntect_pattern.specs.Sets.{range};
-ghost use Rattle.syntect_pattern.specs.Trees.{Tree, nothing};
+ghost use Rattle.syntect_pattern.specs.Sets.{from_to, range};
+ghost use Rattle.syntect_letters.specs.Letters.{letters_tree};
+ghost use Rattle.syntect_pattern.specs.Trees.{Tree, nothing, one_of};
 ghost use Rattle.syntect_pattern_table.specs.Program.{trees_of};
 ghost use Rattle.syntect_pattern_table.specs.Starts.{begins_at, is_in};
 ghost use Rattle.syntect_pattern_table.specs.Table.{IsOrdered, node_tree, parts_before, set_of, trees};
@@ -15,7 +16,7 @@ use syntect_pattern_table::node::{Class, Node};
 use syntect_pattern_table::program::Program;
 use syntect_pattern_table::starts::{
     Firsts, Places, ahead, anywhere, either, in_loop, in_sequence, nowhere, one_of_two,
-    places_of_char, places_of_class,
+    places_of_char, places_of_class, places_of_letter,
 };
 
 /// The most characters of a run that are gone through, so that long ones cost no more.
@@ -61,6 +62,32 @@ fn anywhere_if(holds: bool) -> Places
     if holds { anywhere() } else { nowhere() }
 }
 
+/// What can stand behind a run for a letter.
+fn spans_of_letter(blank: bool, fold: bool, letter: u8) -> Firsts
+    ensures { (x : ℕ) → x < 130
+        → begins_at x result ≡ spans blank x (one_of (from_to fold letter letter)) }
+{
+    let read = places_of_letter(fold, letter);
+    Firsts {
+        read,
+        stay: anywhere_if(read.ascii & run_bits(blank) != 0),
+    }
+}
+
+/// The same of letters before what has it so.
+fn before_rest(blank: bool, fold: bool, letters: &[u8], rest: Firsts) -> Firsts
+    ensures { (t : Tree) (x : ℕ) → x < 130 → begins_at x rest ≡ spans blank x t
+        → begins_at x result ≡ spans blank x (letters_tree fold letters.now t) }
+{
+    match letters.split_first() {
+        Some((first, others)) => in_sequence(
+            spans_of_letter(blank, fold, *first),
+            before_rest(blank, fold, others, rest),
+        ),
+        None => rest,
+    }
+}
+
 /// Where the part at a place goes past a run and ends in it, by two lists.
 fn part(reads: &[Places], stays: &[Places], place: usize) -> Firsts
     requires inside { place < length reads.now }
@@ -104,6 +131,15 @@ fn spans_of_node(blank: bool, node: &Node, reads: &[Places], stays: &[Places]) -
             read: anywhere(),
             stay: anywhere(),
         },
+        Node::Text { letters, rest } => in_sequence(
+            spans_of_letter(blank, letters.fold, letters.first),
+            before_rest(
+                blank,
+                letters.fold,
+                letters.others(),
+                part(reads, stays, *rest),
+            ),
+        ),
         Node::Sequence(first, second) => {
             in_sequence(part(reads, stays, *first), part(reads, stays, *second))
         }

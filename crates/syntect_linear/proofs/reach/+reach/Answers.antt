@@ -332,7 +332,7 @@ reach_item-reach-requires t c =
     let at : IsTreeAt x c.args.cell nothing = record {
       inside = c.requires.cell;
       real = ap is_end (sym item ∙ c.in-Node.is);
-      tree = ap (item_tree ts) (sym item ∙ c.in-Node.is) ∙ c.in-None.ensures;
+      tree = ap (item_tree ts) (sym item ∙ c.in-Node.is) ∙ c.in-None.ensures.is;
     } in
     let g = nothing-goes x c.args.place c.args.cell c.requires.ready at c.cell_at-at.result.empty empty in
     (omega (arith, c.decreases, g.1.lower), (c.requires.ready, (g.1.there, (c.requires.known, c.requires.long))))
@@ -346,7 +346,7 @@ reach_item-returns-in-None-clause-value t c =
     let at : IsTreeAt x c.args.cell nothing = record {
       inside = c.requires.cell;
       real = ap is_end (sym item ∙ c.in-Node.is);
-      tree = ap (item_tree ts) (sym item ∙ c.in-Node.is) ∙ c.in-None.ensures;
+      tree = ap (item_tree ts) (sym item ∙ c.in-Node.is) ∙ c.in-None.ensures.is;
     } in
     let g = nothing-goes x c.args.place c.args.cell c.requires.ready at c.cell_at-at.result.empty empty in
     c.reach.ensures.value ∙ sym g.0
@@ -508,7 +508,7 @@ reach_item-returns-in-None-clause-steps t c =
     let at : IsTreeAt x c.args.cell nothing = record {
       inside = c.requires.cell;
       real = ap is_end (sym item ∙ c.in-Node.is);
-      tree = ap (item_tree ts) (sym item ∙ c.in-Node.is) ∙ c.in-None.ensures;
+      tree = ap (item_tree ts) (sym item ∙ c.in-Node.is) ∙ c.in-None.ensures.is;
     } in
     let g = nothing-goes x c.args.place c.args.cell c.requires.ready at c.cell_at-at.result.empty empty in
     takes-one x (suc (height_of x c.cell_at-at.result.empty)) (height_of x c.args.cell) c.args.now.now.items c.reach.new.now.items c.args.count.now.made c.reach.new.count.made 1 2 c.reach.ensures.steps (omega (arith, g.1.lower)) (omega arith)

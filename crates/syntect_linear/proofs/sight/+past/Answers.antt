@@ -17,16 +17,19 @@ past-requires-in-Some-Sequence t c =
     let ts = trees_of c.args.program.now in
     let a : Tree = get_or ts c.in-Some-Sequence.first nothing in
     let b : Tree = get_or ts c.in-Some-Sequence.second nothing in
-    let tree : get_or ts c.args.node nothing ≡ seq a b = c.in-Some-Sequence.ensures ∙ ap (node_tree ts) c.in-Some-Sequence.field-0-is in
+    let tree : get_or ts c.args.node nothing ≡ seq a b = c.in-Some-Sequence.ensures.is ∙ ap (node_tree ts) c.in-Some-Sequence.field-0-is in
     let size : tree_size (get_or ts c.args.node nothing) ≡ tree_size (seq a b) = ap tree_size tree in
-    let both : plain (seq a b) ≡ true = ap plain (sym tree) ∙ c.requires.1.1.1.0 in (
+    let both : plain (seq a b) ≡ true = ap plain (sym tree) ∙ c.requires.1.1.1.1.0 in (
       omega (arith, c.requires.1.0, size),
       (
         c.requires.1.1.0,
         (
-          and_right (plain a) (plain b) both,
-          λ q e. image-bounds s c.requires.1.1.0 a c.args.before.now c.in_ok-middle-in-Some-Sequence.middle.items c.requires.1.1.1.1 c.in_ok-middle-in-Some-Sequence.ensures q
-              (ap (λ (l : List Bool). flag_of l q) (sym c.as_slice.ensures.value) ∙ e),
+          c.requires.1.1.1.0,
+          (
+            and_right (plain a) (plain b) both,
+            λ q e. image-bounds s c.requires.1.1.0 a c.args.before.now c.in_ok-middle-in-Some-Sequence.middle.items c.requires.1.1.1.1.1 c.in_ok-middle-in-Some-Sequence.ensures q
+                (ap (λ (l : List Bool). flag_of l q) (sym c.as_slice.ensures.value) ∙ e),
+          ),
         ),
       ),
     )
@@ -37,14 +40,14 @@ returns-in_ok-middle-in-Some-Sequence t c =
     let ts = trees_of c.args.program.now in
     let a : Tree = get_or ts c.in-Some-Sequence.first nothing in
     let b : Tree = get_or ts c.in-Some-Sequence.second nothing in
-    let tree : get_or ts c.args.node nothing ≡ seq a b = c.in-Some-Sequence.ensures ∙ ap (node_tree ts) c.in-Some-Sequence.field-0-is in
-    let both : plain (seq a b) ≡ true = ap plain (sym tree) ∙ c.requires.1.1.1.0 in
+    let tree : get_or ts c.args.node nothing ≡ seq a b = c.in-Some-Sequence.ensures.is ∙ ap (node_tree ts) c.in-Some-Sequence.field-0-is in
+    let both : plain (seq a b) ≡ true = ap plain (sym tree) ∙ c.requires.1.1.1.1.0 in
     let mid = c.in_ok-middle-in-Some-Sequence.middle.items in
     if_ok_map c.past-in-Some-Sequence.result
     (λ row. IsImage s b c.as_slice.result.now row.items)
     (λ row. IsImage s (get_or ts c.args.node nothing) c.args.before.now row.items)
     (λ row h. image-of s _ (seq a b) c.args.before.now row.items tree
-    (image-seq s c.requires.1.1.0 a b c.args.before.now mid row.items both c.requires.1.1.1.1 c.in_ok-middle-in-Some-Sequence.ensures
+    (image-seq s c.requires.1.1.0 a b c.args.before.now mid row.items both c.requires.1.1.1.1.1 c.in_ok-middle-in-Some-Sequence.ensures
     (subst (λ (m : List Bool). IsImage s b m row.items) c.as_slice.ensures.value h)))
     c.past-in-Some-Sequence.ensures
 
@@ -54,7 +57,7 @@ returns-in_ok-other-in-Some-Alternation t c =
     let ts = trees_of c.args.program.now in
     let a : Tree = get_or ts c.in-Some-Alternation.first nothing in
     let b : Tree = get_or ts c.in-Some-Alternation.second nothing in
-    let tree : get_or ts c.args.node nothing ≡ alt a b = c.in-Some-Alternation.ensures ∙ ap (node_tree ts) c.in-Some-Alternation.field-0-is in
+    let tree : get_or ts c.args.node nothing ≡ alt a b = c.in-Some-Alternation.ensures.is ∙ ap (node_tree ts) c.in-Some-Alternation.field-0-is in
     let one = c.in_ok-one-in-Some-Alternation.one.items in
     let other = c.in_ok-other-in-Some-Alternation.other.items in
     if_ok_map c.either.result
@@ -74,5 +77,5 @@ returns-in-None t c =
     if_ok_map c.past_single-in-None.result
     (λ row. (us : List Tree) → is_single (node_tree us Node.Nothing) ≡ true → IsImage s (node_tree us Node.Nothing) c.args.before.now row.items)
     (λ row. IsImage s (get_or ts c.args.node nothing) c.args.before.now row.items)
-    (λ row h. image-of s _ nothing c.args.before.now row.items c.in-None.ensures (h ts refl))
+    (λ row h. image-of s _ nothing c.args.before.now row.items c.in-None.ensures.is (h ts refl))
     c.past_single-in-None.ensures

@@ -236,7 +236,7 @@ walk-returns-in-None-clause-walks t c =
     (record {
       inside = c.requires.cell;
       real = c.requires.real;
-      tree = ap (item_tree ts) (sym item ∙ c.in-Node.is) ∙ c.in-None.ensures;
+      tree = ap (item_tree ts) (sym item ∙ c.in-Node.is) ∙ c.in-None.ensures.is;
     }) c.requires.found
 
 pub walk_turns-returns-clause-walks : goal.walk_turns-returns-clause-walks

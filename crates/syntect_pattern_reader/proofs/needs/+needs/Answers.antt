@@ -1,4 +1,6 @@
-use Rattle.std.proofs.Common.{◌≡◌, ◌<◌, arith, refl, subst, sym}
+use Rattle.std.proofs.Common.{◌≡◌, ◌<◌, ◌∷◌, ℕ, List, arith, refl, subst, sym}
+use Rattle.std.proofs.lemmas.Bool.{ltb-true}
+use Rattle.syntect_letters.specs.Letters.{letters_of, letters_tree}
 use Rattle.syntect_pattern.specs.Trees.{Tree, alt, seq}
 use Rattle.syntect_pattern_table.specs.Builder.{tree_in}
 use Rattle.syntect_pattern_table.specs.Needs.{Needs}
@@ -7,7 +9,7 @@ use Rattle.syntect_pattern_table.specs.Table.{node_tree, trees}
 use Rattle.syntect_pattern_table.specs.declared.node.Node.{Node}
 use Rattle.syntect_pattern_table.proofs.LookLaws.{parts-are, second-before, tree-is}
 use Rattle.syntect_pattern_reader.specs.NeedViews.{Leads}
-use Rattle.syntect_pattern_reader.proofs.NeedLaws.{need-among, need-either, need-first, need-second}
+use Rattle.syntect_pattern_reader.proofs.NeedLaws.{need-among, need-behind, need-either, need-first, need-second}
 use Rattle.syntect_pattern_reader.proofs.needs.+needs.Goals as goal
 
 pub Found::add_first-returns-in-Some : goal.Found::add_first-returns-in-Some
@@ -72,6 +74,29 @@ Found::add_needs-parts-preserved-in-Sequence t c =
       leads = λ here next n. on here next (need-second here next x y n);
       kept = λ tree leads both.
           c.add_first.ensures tree (λ here next n. leads here next (on here next n)) (c.parts.invariant.kept tree leads both);
+    }
+
+pub Found::add_needs-parts-preserved-in-Text : goal.Found::add_needs-parts-preserved-in-Text
+Found::add_needs-parts-preserved-in-Text t c =
+    let nodes = c.args.nodes.now in
+    let l = c.in-Text.letters in
+    let u = tree_in nodes c.in-Text.rest in
+    let it : tree_in nodes c.parts.place ≡ letters_tree l.fold (letters_of l) u =
+    tree-is nodes c.requires.table.ordered c.parts.place c.index-nodes-place.result c.parts.invariant.inside c.index-nodes-place.is
+    (Node.Text l c.in-Text.rest) c.in-Text.is in
+    let before : c.in-Text.rest < c.parts.place =
+    ltb-true c.in-Text.rest c.parts.place
+    (parts-are nodes c.requires.table.ordered c.parts.place c.index-nodes-place.result c.parts.invariant.inside c.index-nodes-place.is
+    (Node.Text l c.in-Text.rest) c.in-Text.is) in
+    let on : Leads (letters_tree l.fold (letters_of l) u) (tree_in nodes c.args.root) = λ here next n. c.parts.invariant.leads here next (subst (Needs here next) (sym it) n) in
+    record {
+      below = omega (arith, before, c.parts.invariant.below);
+      inside = omega (arith, before, c.parts.invariant.inside);
+      leads = λ here next n. on here next (need-behind here next l.fold (letters_of l) u n);
+      kept = λ tree leads both.
+          c.add_letters.ensures tree u
+          (λ here next n. leads here next (on here next (subst (λ (cs : List ℕ). Needs here next (letters_tree l.fold (l.first ∷ cs) u)) c.others.ensures n)))
+          (c.places_at-behind.ensures (trees nodes) c.requires.table.begun) (c.parts.invariant.kept tree leads both);
     }
 
 pub Found::add_needs-parts-preserved : goal.Found::add_needs-parts-preserved

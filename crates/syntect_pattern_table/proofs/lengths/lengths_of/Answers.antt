@@ -1,7 +1,8 @@
-use Rattle.std.proofs.Common.{◌≡◌, ℕ, None, true, length, get_or, nat_lt, sym, subst, ◌∙◌, ap}
+use Rattle.std.proofs.Common.{◌≡◌, ℕ, List, None, true, length, get_or, nat_lt, sym, subst, ◌∙◌, ap}
 use Rattle.std.proofs.lemmas.Bool.{and_parts, ltb-true}
 use Rattle.syntect_pattern.specs.Trees.{nothing}
 use Rattle.syntect_pattern_table.specs.Table.{node_tree, parts_before}
+use Rattle.syntect_letters.specs.Letters.{letters_tree}
 use Rattle.syntect_pattern_table.specs.Lengths.{HasLengths}
 use Rattle.syntect_pattern_table.specs.declared.lengths.Lengths.{Lengths}
 use Rattle.syntect_pattern_table.specs.declared.node.Node.{Node}
@@ -17,8 +18,8 @@ returns-in-Sequence c = λ ts are.
     let b : ℕ = c.in-Sequence.second in
     let n : ℕ = length c.args.before.now in
     let p = and_parts (nat_lt a n) (nat_lt b n) (ap (parts_before n) (sym c.in-Sequence.is) ∙ c.requires) in
-    subst (λ (m : Node). HasLengths (node_tree ts m) c.in_sequence.result) (sym c.in-Sequence.is)
-    (c.in_sequence.ensures (get_or ts a nothing) (get_or ts b nothing) (are a _ (ltb-true a n p.0)) (are b _ (ltb-true b n p.1)))
+    subst (λ (m : Node). HasLengths (node_tree ts m) c.in_sequence-in-Sequence.result) (sym c.in-Sequence.is)
+    (c.in_sequence-in-Sequence.ensures (get_or ts a nothing) (get_or ts b nothing) (are a _ (ltb-true a n p.0)) (are b _ (ltb-true b n p.1)))
 
 pub returns-in-Alternation : goal.returns-in-Alternation
 returns-in-Alternation c = λ ts are.
@@ -54,3 +55,14 @@ returns-in-Atomic c = λ ts are.
     let unknown : Lengths = record { least = 0; most = None } in
     subst (λ (m : Node). HasLengths (node_tree ts m) (get_or c.args.before.now a unknown)) (sym c.in-Atomic.is)
     (lengths-atomic (get_or ts a nothing) (get_or c.args.before.now a unknown) (are a unknown (ltb-true a n p)))
+
+pub returns-in-Text : goal.returns-in-Text
+returns-in-Text c = λ ts are.
+    let a : ℕ = c.in-Text.rest in
+    let n : ℕ = length c.args.before.now in
+    let p : nat_lt a n ≡ true = ap (parts_before n) (sym c.in-Text.is) ∙ c.requires in
+    let l = c.in-Text.letters in
+    subst (λ (m : Node). HasLengths (node_tree ts m) c.in_sequence.result) (sym c.in-Text.is)
+    (c.in_sequence.ensures _ _ c.lengths_of_letter.ensures
+    (subst (λ (cs : List ℕ). HasLengths (letters_tree l.fold cs (get_or ts a nothing)) c.before_rest.result) c.others.ensures
+    (c.before_rest.ensures (get_or ts a nothing) (are a _ (ltb-true a n p)))))

@@ -8,4 +8,4 @@ pub returns-in-Some-get : goal.returns-in-Some-get
 returns-in-Some-get c = λ pattern is.
     none-outside pattern c.in-Some.program
     (subst (λ (o : Option Program). Compiles pattern o) c.in-Some.is is)
-    c.in-Some-get.places.now c.in-Some-get.ensures
+    c.in-Some-get.places c.in-Some-get.ensures

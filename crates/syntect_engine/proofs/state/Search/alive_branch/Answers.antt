@@ -8,7 +8,7 @@ use Rattle.syntect_engine.proofs.state.Search.alive_branch.Goals as goal
 pub loop-first-smaller : goal.loop-first-smaller
 loop-first-smaller c =
     (goes_second c.args.text.now (trees_of c.args.program.now) c.loop-first.branch c.args.list c.args.self.now c.in-Some-Alternation.first c.in-Some-Alternation.second
-    (c.in-Some-Alternation.ensures ∙ ap (node_tree (trees_of c.args.program.now)) c.in-Some-Alternation.field-0-is) c.loop-first.invariant.fits
+    (c.in-Some-Alternation.ensures.is ∙ ap (node_tree (trees_of c.args.program.now)) c.in-Some-Alternation.field-0-is) c.loop-first.invariant.fits
     (c.is_dead.ensures c.if-not-is_dead.false)).fewer
 
 pub loop-first-preserved : goal.loop-first-preserved
@@ -16,7 +16,7 @@ loop-first-preserved c =
     alike-more c.args.text.now (trees_of c.args.program.now) (Next.Enter c.args.node c.args.list) (Next.Enter c.loop-first.branch c.args.list) (Next.Enter c.in-Some-Alternation.second c.args.list) c.args.self.now
     c.loop-first.invariant
     (goes_second c.args.text.now (trees_of c.args.program.now) c.loop-first.branch c.args.list c.args.self.now c.in-Some-Alternation.first c.in-Some-Alternation.second
-    (c.in-Some-Alternation.ensures ∙ ap (node_tree (trees_of c.args.program.now)) c.in-Some-Alternation.field-0-is) c.loop-first.invariant.fits
+    (c.in-Some-Alternation.ensures.is ∙ ap (node_tree (trees_of c.args.program.now)) c.in-Some-Alternation.field-0-is) c.loop-first.invariant.fits
     (c.is_dead.ensures c.if-not-is_dead.false))
 
 pub loop-first-smaller-in-Some : goal.loop-first-smaller-in-Some

@@ -10,25 +10,25 @@ pub returns-in-Some-Char : goal.returns-in-Some-Char
 returns-in-Some-Char c =
     goes_seq_past c.args.text.now (trees_of c.args.program.now) c.args.node c.args.list c.args.self.now c.go_to.new.self c.args.first c.args.second
     (range c.in-Some-Char.wanted c.in-Some-Char.wanted) c.go_to.result c.past_char-place.result
-    c.requires.is (c.in-Some-Char.ensures ∙ ap (node_tree (trees_of c.args.program.now)) c.in-Some-Char.field-0-is)
+    c.requires.is (c.in-Some-Char.ensures.is ∙ ap (node_tree (trees_of c.args.program.now)) c.in-Some-Char.field-0-is)
     c.requires.fits c.past_char-place.ensures.value c.past_char-place.ensures.boundary c.go_to.ensures.some c.go_to.ensures.none
 
 pub returns-in-Some-Class : goal.returns-in-Some-Class
 returns-in-Some-Class c =
     goes_seq_past c.args.text.now (trees_of c.args.program.now) c.args.node c.args.list c.args.self.now c.go_to-in-Some-Class.new.self c.args.first c.args.second
     (set_of c.in-Some-Class.class) c.go_to-in-Some-Class.result c.past_class-place.result
-    c.requires.is (c.in-Some-Class.ensures ∙ ap (node_tree (trees_of c.args.program.now)) c.in-Some-Class.field-0-is)
+    c.requires.is (c.in-Some-Class.ensures.is ∙ ap (node_tree (trees_of c.args.program.now)) c.in-Some-Class.field-0-is)
     c.requires.fits c.past_class-place.ensures.value c.past_class-place.ensures.boundary c.go_to-in-Some-Class.ensures.some c.go_to-in-Some-Class.ensures.none
 
 pub returns-then-stands : goal.returns-then-stands
 returns-then-stands c =
     (goes_seq_anchor c.args.text.now (trees_of c.args.program.now) c.args.node c.args.list c.args.self.now c.args.first c.args.second (anchor_of c.in-Some-Anchor.anchor) c.stands.result
-    c.requires.is (c.in-Some-Anchor.ensures ∙ ap (node_tree (trees_of c.args.program.now)) c.in-Some-Anchor.field-0-is) c.requires.fits c.stands.ensures).0 c.if-stands.true
+    c.requires.is (c.in-Some-Anchor.ensures.is ∙ ap (node_tree (trees_of c.args.program.now)) c.in-Some-Anchor.field-0-is) c.requires.fits c.stands.ensures).0 c.if-stands.true
 
 pub returns-else-stands : goal.returns-else-stands
 returns-else-stands c =
     (goes_seq_anchor c.args.text.now (trees_of c.args.program.now) c.args.node c.args.list c.args.self.now c.args.first c.args.second (anchor_of c.in-Some-Anchor.anchor) c.stands.result
-    c.requires.is (c.in-Some-Anchor.ensures ∙ ap (node_tree (trees_of c.args.program.now)) c.in-Some-Anchor.field-0-is) c.requires.fits c.stands.ensures).1 c.if-stands.false
+    c.requires.is (c.in-Some-Anchor.ensures.is ∙ ap (node_tree (trees_of c.args.program.now)) c.in-Some-Anchor.field-0-is) c.requires.fits c.stands.ensures).1 c.if-stands.false
 
 pub returns-in_ok-list-in_default : goal.returns-in_ok-list-in_default
 returns-in_ok-list-in_default c =

@@ -1,18 +1,27 @@
+use Rattle.std.proofs.Common.{ap, ◌∙◌}
 use Rattle.syntect_pattern.specs.Sets.{from_to}
-use Rattle.syntect_pattern.specs.Trees.{one_of}
-use Rattle.syntect_pattern_table.specs.Builder.{tree_in}
+use Rattle.syntect_pattern.specs.Trees.{Tree, one_of}
 use Rattle.syntect_pattern_words.specs.OpeningViews.{place_as}
+use Rattle.syntect_pattern_words.specs.TokenViews.{looped_tree, repeated}
+use Rattle.syntect_pattern_reader.specs.JoinViews.{item_tree}
 use Rattle.syntect_pattern_reader.specs.ReaderViews.{body_as, went_on}
-use Rattle.syntect_pattern_reader.proofs.ReaderLaws.{body-in-grown, body-grown, item-grown}
+use Rattle.syntect_pattern_reader.proofs.ReaderLaws.{body-in-grown, body-grown, item-is}
 use Rattle.syntect_pattern_reader.proofs.reader.Reader.char_item.Goals as goal
 
-pub item-requires-clause-body : goal.item-requires-clause-body
-item-requires-clause-body c = body-in-grown c.args.self.now.builder.nodes c.push_char.new.self.nodes c.args.body c.in_ok-node.ensures.grows c.requires.body
+pub firm-requires-clause-body : goal.firm-requires-clause-body
+firm-requires-clause-body c = body-in-grown c.args.self.now.builder.nodes c.looped_char.new.self.builder.nodes c.args.body c.in_ok-item.ensures.grows c.requires.body
 
 pub returns-clause-reads : goal.returns-clause-reads
 returns-clause-reads c = λ known.
-    item-grown known (body_as c.args.self.now.builder.nodes c.args.body) (body_as c.push_char.new.self.nodes c.args.body)
-    (one_of (from_to c.args.place.flags.fold c.args.c c.args.c)) (tree_in c.push_char.new.self.nodes c.in_ok-node.node) (place_as c.args.self.now.names c.args.place) (went_on c.item.new.self c.in_ok-item.field-0)
-    c.in_ok-node.ensures.holds.is
-    (body-grown c.args.self.now.builder.nodes c.push_char.new.self.nodes c.args.body c.in_ok-node.ensures.grows c.requires.body)
-    (c.in_ok-item.ensures.reads known)
+    let old = c.args.self.now in
+    let new = c.looped_char.new.self in
+    let char : Tree = one_of (from_to c.args.place.flags.fold c.args.c c.args.c) in
+    item-is known (body_as old.builder.nodes c.args.body) (body_as new.builder.nodes c.args.body) char (looped_tree c.in-Some.looping char)
+    (item_tree new.builder.nodes c.in_ok-item.item)
+    (place_as old.names c.args.place) old.names new.names (λ names. place_as names c.in-Some.rest)
+    (went_on c.firm.new.self c.in_ok-firm.field-0)
+    (c.read_looping.ensures old.names char ∙ ap (repeated old.names char) c.in-Some.is)
+    c.in_ok-item.ensures.is
+    (body-grown old.builder.nodes new.builder.nodes c.args.body c.in_ok-item.ensures.grows c.requires.body)
+    c.in_ok-item.ensures.names
+    (c.in_ok-firm.ensures.reads known)

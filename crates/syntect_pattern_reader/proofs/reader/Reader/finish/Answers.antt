@@ -6,14 +6,14 @@ use Rattle.syntect_pattern_reader.proofs.JoinLaws.{below-grown}
 use Rattle.syntect_pattern_reader.proofs.ReaderLaws.{below-new, before-is}
 use Rattle.syntect_pattern_reader.proofs.reader.Reader.finish.Goals as goal
 
-pub chain-requires-2 : goal.chain-requires-2
-chain-requires-2 c =
-    below-new (length c.chain.new.self.nodes) c.args.body.before c.push.new.self c.in_ok-last.last c.in_ok-push.ensures.ok
-    (below-grown c.args.self.now.builder.nodes c.chain.new.self.nodes c.args.body.before c.in_ok-last.ensures.grows c.requires.before) c.in_ok-last.ensures.holds.inside
+pub branches-requires : goal.branches-requires
+branches-requires c =
+    below-new (length c.sequence.new.self.nodes) c.args.body.before c.push.new.self c.in_ok-last.last c.in_ok-push.ensures.ok
+    (below-grown c.args.self.now.builder.nodes c.sequence.new.self.nodes c.args.body.before c.in_ok-last.ensures.grows c.requires.before) c.in_ok-last.ensures.holds.inside
 
 pub returns-clause-holds : goal.returns-clause-holds
 returns-clause-holds c =
-    subst (λ ts. IfOk c.chain-2.result (λ k. Holds c.chain-2.new.self.nodes k (alt_all ts)))
-    (before-is c.args.self.now.builder.nodes c.chain.new.self.nodes c.args.body.before c.args.body.items c.push.new.self c.in_ok-last.last
+    subst (λ ts. IfOk c.branches.result (λ k. Holds c.branches.new.self.nodes k (alt_all ts)))
+    (before-is c.args.self.now.builder.nodes c.sequence.new.self.nodes c.args.body.before c.args.body.items c.push.new.self c.in_ok-last.last
     c.in_ok-last.ensures.grows c.requires.before c.in_ok-push.ensures.ok c.in_ok-last.ensures.holds)
-    c.chain-2.ensures.holds
+    c.branches.ensures.holds

@@ -6,7 +6,7 @@ use Rattle.syntect_pattern_table.specs.Builder.{Grows}
 use Rattle.syntect_pattern.specs.Grammar.{Names}
 use Rattle.syntect_pattern_words.specs.BodyViews.{body_of}
 use Rattle.syntect_pattern_words.specs.OpeningViews.{flags_as, place_as}
-use Rattle.syntect_pattern_reader.specs.JoinViews.{AllBelow}
+use Rattle.syntect_pattern_reader.specs.JoinViews.{AllBelow, AreItemsIn}
 use Rattle.syntect_pattern_reader.specs.ReaderViews.{body_as}
 use Rattle.syntect_pattern_reader.proofs.reader.Reader.plain_chars.Given as goal
 
@@ -17,7 +17,7 @@ invariant-plain l = record {
   names : l.self.names ≡ l.fn.self.names;
   refers : l.self.refers ≡ l.fn.self.refers;
   before : AllBelow (length l.self.builder.nodes) l.fn.body.before;
-  items : AllBelow (length l.self.builder.nodes) l.items;
+  items : AreItemsIn (length l.self.builder.nodes) l.items;
   shorter : length (chars l.text) ≤ length (chars l.fn.place.text.now);
   reads : (groups : Option Names) (depth : ℕ) → body_of groups depth (body_as l.fn.self.builder.nodes l.fn.body) (place_as l.fn.self.names l.fn.place)
       ≡ body_of groups depth (body_as l.self.builder.nodes (record { before = l.fn.body.before; items = l.items })) (record { flags = flags_as l.fn.place.flags; names = l.self.names; text = chars l.text });

@@ -12,5 +12,5 @@ returns-in-Some-clause-step c =
     if_ok_map c.beside_node.result _ _
     (λ p h g facts.
     let P : Tree → Type 0 = λ t. MakesBeside ts c.args.self.now c.args.empty g t c.args.parts p c.beside_node.new.self in
-    subst P (sym (ap (item_tree ts) c.in-Node.is ∙ c.in-Some.ensures)) (h ts g facts))
+    subst P (sym (ap (item_tree ts) c.in-Node.is ∙ c.in-Some.ensures.is)) (h ts g facts))
     c.beside_node.ensures.step

@@ -1,0 +1,57 @@
+//! A few letters in a row, which take no memory of their own.
+ghost use Rattle.std.specs.Prelude.{◌≡◌, ◌∷◌, [], drop, IfSome};
+ghost use Rattle.syntect_letters.specs.Letters.{letters_of};
+
+/// How many letters there are at most beside the first one.
+const MOST: usize = 12;
+
+/// One letter or more in a row, each a character up to U+00FF, with `fold` any that simple folding makes equal to it.
+#[derive(Clone, Copy, Debug)]
+pub struct Letters {
+    pub fold: bool,
+    pub first: u8,
+    /// From where on the others stand in their array.
+    pub from: u8,
+    pub others: [u8; 12],
+}
+
+impl Letters {
+    /// A single letter.
+    pub fn one(fold: bool, letter: u8) -> Letters
+        ensures fold { result.fold ≡ fold }
+        ensures letters { letters_of result ≡ letter ∷ [] }
+    {
+        Letters {
+            fold,
+            first: letter,
+            from: 12,
+            others: [0; 12],
+        }
+    }
+
+    /// The same with one more in front, if there is room for it.
+    pub fn with_first(self, letter: u8) -> Option<Letters>
+        ensures fold { IfSome result (λ more. more.fold ≡ self.fold) }
+        ensures letters { IfSome result (λ more. letters_of more ≡ letter ∷ letters_of self) }
+    {
+        let from = self.from as usize;
+        if from == 0 || from > MOST {
+            return None;
+        }
+        let mut others = self.others;
+        others[from - 1] = self.first;
+        Some(Letters {
+            fold: self.fold,
+            first: letter,
+            from: self.from - 1,
+            others,
+        })
+    }
+
+    /// Those behind the first one.
+    pub fn others(&self) -> &[u8]
+        ensures { result.now ≡ drop self.now.from self.now.others }
+    {
+        self.others.split_at((self.from as usize).min(MOST)).1
+    }
+}

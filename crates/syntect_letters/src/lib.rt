@@ -1,0 +1,4 @@
+//! Letters in a row, as most patterns have them.
+#![tactic(auto)]
+
+pub mod letters;

@@ -1,0 +1,15 @@
+use Rattle.std.proofs.Common.{◌≡◌, drop, get_or, refl, sym, ap, ◌∙◌}
+use Rattle.syntect_pattern.specs.Sets.{none}
+use Rattle.syntect_pattern.specs.Trees.{Tree, nothing, one_of}
+use Rattle.syntect_pattern_table.specs.Table.{node_tree}
+use Rattle.syntect_plan.specs.Facts.{facts_of}
+use Rattle.syntect_plan.proofs.FactLaws.{letters-facts}
+use Rattle.syntect_plan.proofs.facts.node_facts.Goals as goal
+
+pub returns-in-Text : goal.returns-in-Text
+returns-in-Text c = λ ts facts.
+    let l = c.in-Text.letters in
+    let t : Tree = get_or ts c.in-Text.rest nothing in
+    let rest : c.facts_at.result ≡ facts_of t = c.facts_at.ensures ∙ facts c.in-Text.rest in
+    c.in_sequence.ensures (one_of none) t refl rest
+    ∙ sym (ap (λ n. facts_of (node_tree ts n)) c.in-Text.is ∙ letters-facts l.fold l.first (drop l.from l.others) none t)

@@ -1,0 +1,194 @@
+//! Programs whose letters stand each in a node of its own, as plans are made of them.
+ghost use Rattle.std.specs.Prelude.{◌≡◌, IfOk, slice_index_or, false};
+ghost use Rattle.syntect_pattern.specs.Trees.{Tree, nothing};
+ghost use Rattle.syntect_pattern_table.specs.Program.{IsProgramOf, trees_of};
+ghost use Rattle.syntect_pattern_table.specs.Table.{AreSpelt, IsOrdered, is_text};
+ghost use Rattle.syntect_plan.specs.Spelt.{IsCopy};
+ghost use Rattle.syntect_plan.specs.Spelt as spec;
+
+use std::alloc::{AllocError, Global};
+use syntect_pattern_table::node::{Class, Node};
+use syntect_pattern_table::program::Program;
+use syntect_pattern_table::sets::Part;
+use syntect_pattern_table::starts::places_of;
+use syntect_values::seq::Seq;
+
+/// The nodes so far, none of which holds letters in a row.
+#[derive(Drop)]
+struct Spelling {
+    nodes: Seq<Node>,
+    ghost ordered: { IsOrdered nodes },
+    ghost spelt: { AreSpelt nodes },
+}
+
+/// The place that the node has among the new ones.
+fn place_at(places: &[usize], node: usize) -> usize
+    ensures { result ≡ spec.place_at places.now node }
+{
+    places.get(node).copied().unwrap_or(0)
+}
+
+/// The node with its parts at their new places.
+fn copy_of(alloc: Global, node: &Node, places: &[usize]) -> Result<Node, AllocError>
+    ensures { IfOk result (λ copy. IsCopy places.now node.now copy) }
+{
+    Ok(match node {
+        Node::Nothing
+        | Node::Text {
+            letters: _,
+            rest: _,
+        } => Node::Nothing,
+        Node::Char(wanted) => Node::Char(*wanted),
+        Node::Class(class) => Node::Class(class.copy(alloc)?),
+        Node::Anchor(anchor) => Node::Anchor(*anchor),
+        Node::Same { fold, group } => Node::Same {
+            fold: *fold,
+            group: *group,
+        },
+        Node::Sequence(first, second) => {
+            Node::Sequence(place_at(places, *first), place_at(places, *second))
+        }
+        Node::Alternation(first, second) => {
+            Node::Alternation(place_at(places, *first), place_at(places, *second))
+        }
+        Node::Repeat {
+            greedy,
+            least,
+            most,
+            body,
+        } => Node::Repeat {
+            greedy: *greedy,
+            least: *least,
+            most: *most,
+            body: place_at(places, *body),
+        },
+        Node::Group { number, body } => Node::Group {
+            number: *number,
+            body: place_at(places, *body),
+        },
+        Node::Atomic(body) => Node::Atomic(place_at(places, *body)),
+        Node::Ahead { negated, body } => Node::Ahead {
+            negated: *negated,
+            body: place_at(places, *body),
+        },
+        Node::Behind { negated, body } => Node::Behind {
+            negated: *negated,
+            body: place_at(places, *body),
+        },
+    })
+}
+
+impl Spelling {
+    ghost use Rattle.std.specs.Prelude.{◌<◌, List, OnOk, length, true};
+    ghost use Rattle.syntect_pattern.specs.Sets.{from_to};
+    ghost use Rattle.syntect_pattern.specs.Trees.{one_of};
+    ghost use Rattle.syntect_letters.specs.Letters.{letters_tree};
+    ghost use Rattle.syntect_pattern_table.specs.Builder.{Grows, Holds, tree_in};
+    ghost use Rattle.syntect_pattern_table.specs.Table.{node_tree, parts_before, trees};
+    ghost use Rattle.syntect_plan.specs.Spelt.{AllBelow, ArePlaces};
+
+    /// Puts a node last.
+    fn push(&mut self, node: Node) -> Result<usize, AllocError>
+        requires before { parts_before (length self.old.nodes) node ≡ true }
+        requires spelt { is_text node ≡ false }
+        ensures grows { OnOk result (Grows self.old.nodes self.new.nodes) }
+        ensures holds { IfOk result (λ k. Holds self.new.nodes k
+            (node_tree (trees self.old.nodes) node)) }
+    {
+        let place = self.nodes.len();
+        self.nodes.push(node)?;
+        Ok(place)
+    }
+
+    /// Puts a letter last.
+    fn push_letter(&mut self, fold: bool, letter: u8) -> Result<usize, AllocError>
+        ensures grows { OnOk result (Grows self.old.nodes self.new.nodes) }
+        ensures holds { IfOk result (λ k. Holds self.new.nodes k
+            (one_of (from_to fold letter letter))) }
+    {
+        let wanted = letter as char;
+        if !fold {
+            return self.push(Node::Char(wanted));
+        }
+        let alloc = self.nodes.allocator();
+        let class = Class::of_one(alloc, Part::Alike(wanted, wanted))?;
+        self.push(Node::Class(class))
+    }
+
+    /// Puts letters before the node.
+    fn push_letters(&mut self, fold: bool, letters: &[u8], rest: usize) -> Result<usize, AllocError>
+        requires { rest < length self.old.nodes }
+        ensures grows { OnOk result (Grows self.old.nodes self.new.nodes) }
+        ensures holds { IfOk result (λ k. Holds self.new.nodes k
+            (letters_tree fold letters.now (tree_in self.old.nodes rest))) }
+    {
+        let Some((first, others)) = letters.split_first() else {
+            return Ok(rest);
+        };
+        let rest = self.push_letters(fold, others, rest)?;
+        let first = self.push_letter(fold, *first)?;
+        self.push(Node::Sequence(first, rest))
+    }
+
+    /// Puts the same as the node last, whose parts have these new places.
+    fn push_node(&mut self, node: &Node, places: &[usize]) -> Result<usize, AllocError>
+        requires below { AllBelow (length self.old.nodes) places.now }
+        requires before { parts_before (length places.now) node.now ≡ true }
+        ensures grows { OnOk result (Grows self.old.nodes self.new.nodes) }
+        ensures holds { IfOk result (λ k. (ts : List Tree)
+            → ArePlaces ts self.old.nodes places.now
+            → Holds self.new.nodes k (node_tree ts node.now)) }
+    {
+        if let Node::Text { letters, rest } = node {
+            let rest = place_at(places, *rest);
+            let rest = self.push_letters(letters.fold, letters.others(), rest)?;
+            let first = self.push_letter(letters.fold, letters.first)?;
+            return self.push(Node::Sequence(first, rest));
+        }
+        let alloc = self.nodes.allocator();
+        let copy = copy_of(alloc, node, places)?;
+        self.push(copy)
+    }
+
+    /// The new place of the node with the number, which is nothing past the end.
+    fn push_root(&mut self, places: &[usize], root: usize) -> Result<usize, AllocError>
+        ensures grows { OnOk result (Grows self.old.nodes self.new.nodes) }
+        ensures holds { IfOk result (λ k. (ts : List Tree) → length ts ≡ length places.now
+            → ArePlaces ts self.old.nodes places.now
+            → Holds self.new.nodes k (slice_index_or ts root nothing)) }
+    {
+        match places.get(root) {
+            Some(place) => Ok(*place),
+            None => self.push(Node::Nothing),
+        }
+    }
+}
+
+/// The same program with each letter in a node of its own.
+pub fn spelt(alloc: Global, program: &Program) -> Result<Program, AllocError>
+    ensures spelt { IfOk result (λ p. AreSpelt p.nodes) }
+    ensures root { IfOk result (λ p. slice_index_or (trees_of p) p.root nothing
+        ≡ slice_index_or (trees_of program.now) program.now.root nothing) }
+    ensures program { IfOk result (λ p. (tree : Tree) → IsProgramOf program.now tree
+        → IsProgramOf p tree) }
+{
+    let mut spelling = Spelling {
+        nodes: Seq::new(alloc),
+    };
+    let mut places = Vec::new(alloc);
+    for node in program.nodes.as_slice() {
+        let place = spelling.push_node(node, places.as_slice())?;
+        places.push(place)?;
+    }
+    let root = spelling.push_root(places.as_slice(), program.root)?;
+    let firsts = places_of(alloc, spelling.nodes.as_slice())?;
+    Program::new(
+        alloc,
+        spelling.nodes,
+        root,
+        program.groups,
+        firsts,
+        program.needs,
+        false,
+    )
+}
