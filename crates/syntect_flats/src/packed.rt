@@ -5,9 +5,9 @@ ghost use Rattle.syntect_flats.specs.Packed.{IsPacked, IsRow, unpacked};
 
 use std::alloc::{AllocError, Global};
 
-/// How many of the last rows are looked at for one that is wanted. To look at all of them for each would take the square of
-/// their number.
-const RECENT: u16 = 64;
+/// How many slots there are for numbers of rows, by a sum over their words. Two rows of one slot are no error: an equal row that
+/// came before the other is then kept once more.
+const SLOTS: usize = 1024;
 
 /// How many rows are told apart. A table that has more of them ends there, and says nothing of what lies behind.
 const MOST: u16 = 256;
@@ -60,23 +60,18 @@ fn is_row(bits: &[u64], words: u16, number: u8, row: &[u64]) -> bool
     end <= bits.len() && row.len() == words as usize && are_words(bits, start, row)
 }
 
-/// The number of a row among the last of so many, if it is there.
-fn recent(bits: &[u64], words: u16, count: u16, row: &[u64]) -> Option<u8>
-    requires { count < 257 }
-    ensures { IfSome result (IsRow words bits.now row.now) }
+/// The slot of a row.
+fn slot_of(row: &[u64]) -> usize
+    ensures { result < 1024 }
 {
-    let first = count.saturating_sub(RECENT);
-    let mut next = count;
-    while next > first {
-        next -= 1;
-        if is_row(bits, words, next as u8, row) {
-            return Some(next as u8);
-        }
+    let mut sum = 0u64;
+    for word in row {
+        sum = (sum.rotate_left(5) ^ *word).wrapping_mul(0x9E37_79B9_7F4A_7C15);
     }
-    None
+    (sum >> 32) as usize % SLOTS
 }
 
-/// The number of a row, which is added where it stands neither at this number nor among the last. None where no number is left.
+/// The number of a row, which is added where it doesn't have this number. None where no number is left.
 fn number_of(
     bits: &mut Vec<u64>,
     words: u16,
@@ -95,9 +90,6 @@ fn number_of(
 {
     if is_row(bits.as_slice(), words, near, row) {
         return Ok(Some(near));
-    }
-    if let Some(found) = recent(bits.as_slice(), words, *count, row) {
-        return Ok(Some(found));
     }
     if *count >= MOST {
         return Ok(None);
@@ -118,15 +110,16 @@ pub(crate) fn rows_packed(alloc: Global, words: u16, rows: &[u64]) -> Result<Pac
     let mut numbers = Vec::with_capacity(alloc, rows.len() / words as usize)?;
     let mut bits = Vec::new(alloc);
     let mut count = 0;
-    let mut near = 0;
+    let mut slots = [0u8; SLOTS];
     let mut rest = rows;
     while rest.len() >= words as usize {
         let (row, behind) = rest.split_at(words as usize);
-        let Some(number) = number_of(&mut bits, words, &mut count, near, row)? else {
+        let slot = slot_of(row);
+        let Some(number) = number_of(&mut bits, words, &mut count, slots[slot], row)? else {
             break;
         };
         numbers.push(number)?;
-        near = number;
+        slots[slot] = number;
         rest = behind;
     }
     bits.shrink_to_fit();

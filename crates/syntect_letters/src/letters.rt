@@ -1,5 +1,5 @@
 //! A few letters in a row, which take no memory of their own.
-ghost use Rattle.std.specs.Prelude.{◌≡◌, ◌∷◌, [], drop, IfSome};
+ghost use Rattle.std.specs.Prelude.{◌≡◌, ◌∷◌, [], drop, length, IfNone, IfSome};
 ghost use Rattle.syntect_letters.specs.Letters.{letters_of};
 
 /// How many letters there are at most beside the first one.
@@ -12,7 +12,7 @@ pub struct Letters {
     pub first: u8,
     /// From where on the others stand in their array.
     pub from: u8,
-    pub others: [u8; 12],
+    pub others: [u8; MOST],
 }
 
 impl Letters {
@@ -24,8 +24,8 @@ impl Letters {
         Letters {
             fold,
             first: letter,
-            from: 12,
-            others: [0; 12],
+            from: MOST as u8,
+            others: [0; MOST],
         }
     }
 
@@ -33,9 +33,10 @@ impl Letters {
     pub fn with_first(self, letter: u8) -> Option<Letters>
         ensures fold { IfSome result (λ more. more.fold ≡ self.fold) }
         ensures letters { IfSome result (λ more. letters_of more ≡ letter ∷ letters_of self) }
+        ensures none { IfNone result (length (letters_of self) ≡ 13) }
     {
-        let from = self.from as usize;
-        if from == 0 || from > MOST {
+        let from = (self.from as usize).min(MOST);
+        if from == 0 {
             return None;
         }
         let mut others = self.others;
@@ -43,7 +44,7 @@ impl Letters {
         Some(Letters {
             fold: self.fold,
             first: letter,
-            from: self.from - 1,
+            from: (from - 1) as u8,
             others,
         })
     }

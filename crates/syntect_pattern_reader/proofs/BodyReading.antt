@@ -10,36 +10,34 @@ use Rattle.syntect_pattern_words.specs.QuantifierViews.{capped_all}
 use Rattle.syntect_pattern_words.proofs.TokenLaws.{quantified-once}
 use Rattle.syntect_pattern_laws.proofs.LeftLaws.{passed-le}
 use Rattle.syntect_pattern_laws.proofs.ClassLaws.{bind-same}
+use Rattle.syntect_pattern_reader.specs.ReaderViews.{inner_of}
 use Rattle.syntect_pattern_reader.proofs.ReaderLaws.{passed-some}
 use Rattle.syntect_pattern_laws.proofs.BodyLaws.{step_of-same, after-same, step_at-le, body-le, body-enough}
 
 module _ (known : Option Names) (depth : ℕ) where
-  inside : Place → Option (Tree × Place)
-  inside = body_of known (depth + 1) empty_body
-
-  steps : (b : Body) (p : Place) → body_of known depth b p ≡ (passed p >>= λ here. step known (body_of known (depth + 1) empty_body) depth b here (next_of here.text) >>= after_step known (body_of known depth) b)
+  steps : (b : Body) (p : Place) → body_of known depth b p ≡ (passed p >>= λ here. step known (inner_of known depth) depth b here (next_of here.text) >>= after_step known (body_of known depth) b)
   unfolding body
   steps b p =
       let n = length p.text in
       bind-same (passed p) _ _ (λ here q.
       let l = (passed-le p).fits here q in
       ap (λ o. o >>= after_step known (body known n depth) b)
-      (step_of-same known (body known n (depth + 1) empty_body) (body_of known (depth + 1) empty_body) depth b here.flags here.names here.text
+      (step_of-same known (body known n (depth + 1) empty_body) (inner_of known depth) depth b here.flags here.names here.text
       (λ r u. body-enough known n (suc (length r.text)) (depth + 1) empty_body r (omega arith) (omega arith)))
-      ∙ bind-same (step known (body_of known (depth + 1) empty_body) depth b here (next_of here.text)) _ _ (λ s u.
+      ∙ bind-same (step known (inner_of known depth) depth b here (next_of here.text)) _ _ (λ s u.
       after-same known (body known n depth) (body_of known depth) (length here.text) b s
       (λ b' r v. body-enough known n (suc (length r.text)) depth b' r (omega arith) (omega arith))
-      ((step_at-le known (body_of known (depth + 1) empty_body) (λ r. body-le known (suc (length r.text)) (depth + 1) empty_body r) depth b here).fits s u)))
+      ((step_at-le known (inner_of known depth) (λ r. body-le known (suc (length r.text)) (depth + 1) empty_body r) depth b here).fits s u)))
 
   module _ (b : Body) (p : Place) where
     pub body-stuck : passed p ≡ None → body_of known depth b p ≡ None
-    body-stuck e = steps b p ∙ ap (λ (o : Option Place). o >>= λ here. step known (body_of known (depth + 1) empty_body) depth b here (next_of here.text) >>= after_step known (body_of known depth) b) e
+    body-stuck e = steps b p ∙ ap (λ (o : Option Place). o >>= λ here. step known (inner_of known depth) depth b here (next_of here.text) >>= after_step known (body_of known depth) b) e
 
     module _ (here : Place) (e : passed p ≡ Some here) where
-      at-here : body_of known depth b p ≡ (step known (body_of known (depth + 1) empty_body) depth b here (next_of here.text) >>= after_step known (body_of known depth) b)
-      at-here = steps b p ∙ ap (λ (o : Option Place). o >>= λ here. step known (body_of known (depth + 1) empty_body) depth b here (next_of here.text) >>= after_step known (body_of known depth) b) e
+      at-here : body_of known depth b p ≡ (step known (inner_of known depth) depth b here (next_of here.text) >>= after_step known (body_of known depth) b)
+      at-here = steps b p ∙ ap (λ (o : Option Place). o >>= λ here. step known (inner_of known depth) depth b here (next_of here.text) >>= after_step known (body_of known depth) b) e
 
-      over-of : (nx : Next) → IsOver nx → step known (body_of known (depth + 1) empty_body) depth b here nx ≡ Some (over here)
+      over-of : (nx : Next) → IsOver nx → step known (inner_of known depth) depth b here nx ≡ Some (over here)
       over-of end o = refl
       over-of closer o = refl
       over-of Next.bar o = absurd o
@@ -56,22 +54,22 @@ module _ (known : Option Names) (depth : ℕ) where
       body-over o = at-here ∙ ap (λ s. s >>= after_step known (body_of known depth) b) (over-of (next_of here.text) o)
 
       module _ (nx : Next) (n : next_of here.text ≡ nx) where
-        pub body-refuses : step known (body_of known (depth + 1) empty_body) depth b here nx ≡ None → body_of known depth b p ≡ None
+        pub body-refuses : step known (inner_of known depth) depth b here nx ≡ None → body_of known depth b p ≡ None
         body-refuses s =
-            at-here ∙ ap (λ x. step known (body_of known (depth + 1) empty_body) depth b here x >>= after_step known (body_of known depth) b) n
+            at-here ∙ ap (λ x. step known (inner_of known depth) depth b here x >>= after_step known (body_of known depth) b) n
             ∙ ap (λ s. s >>= after_step known (body_of known depth) b) s
 
-        pub body-goes_on : (b' : Body) (q : Place) → step known (body_of known (depth + 1) empty_body) depth b here nx ≡ Some (on b' q) → body_of known depth b p ≡ body_of known depth b' q
+        pub body-goes_on : (b' : Body) (q : Place) → step known (inner_of known depth) depth b here nx ≡ Some (on b' q) → body_of known depth b p ≡ body_of known depth b' q
         body-goes_on b' q s =
-            at-here ∙ ap (λ x. step known (body_of known (depth + 1) empty_body) depth b here x >>= after_step known (body_of known depth) b) n
+            at-here ∙ ap (λ x. step known (inner_of known depth) depth b here x >>= after_step known (body_of known depth) b) n
             ∙ ap (λ s. s >>= after_step known (body_of known depth) b) s
 
-        pub body-shorter : (b' : Body) (q : Place) → step known (body_of known (depth + 1) empty_body) depth b here nx ≡ Some (on b' q) → length q.text < length p.text
+        pub body-shorter : (b' : Body) (q : Place) → step known (inner_of known depth) depth b here nx ≡ Some (on b' q) → length q.text < length p.text
         body-shorter b' q s =
             let l = (passed-le p).fits here e in
             let k =
-            (step_at-le known (body_of known (depth + 1) empty_body) (λ r. body-le known (suc (length r.text)) (depth + 1) empty_body r) depth b here).fits (on b' q)
-            (ap (step known (body_of known (depth + 1) empty_body) depth b here) n ∙ s) in
+            (step_at-le known (inner_of known depth) (λ r. body-le known (suc (length r.text)) (depth + 1) empty_body r) depth b here).fits (on b' q)
+            (ap (step known (inner_of known depth) depth b here) n ∙ s) in
             omega arith
 
 abbrev place_at : Flags → Names → Text → Place

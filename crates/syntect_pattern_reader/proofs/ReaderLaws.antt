@@ -42,13 +42,12 @@ alternative-is old new before items ls none k g h e n t =
     ∙ ap (λ ts. made ts []) (trees-push new before k ∙ ap (λ ts. ts ++ tree_in new k ∷ []) (trees-grown old new before g h) ∙ ap (λ x. trees_in old before ++ x ∷ []) t.is)
 
 -- an item is read with its quantifier
-pub item-is : (known : Option Names) (b c : grammar.Body) (a t u : Tree) (p : grammar.Place) (names more : Names) (rest : Names → grammar.Place) (s : Option grammar.Step)
-    → quantified a p ≡ Some (t, rest names) → u ≡ t → c ≡ b → more ≡ names → grammar.firm known c u (rest more) ≡ s → grammar.item known b a p ≡ s
-item-is known b c a t u p names more rest s q e f n r =
+pub item-is : (known : Option Names) (b c : grammar.Body) (a t u : Tree) (p rest : grammar.Place) (s : Option grammar.Step)
+    → quantified a p ≡ Some (t, rest) → u ≡ t → c ≡ b → grammar.firm known c u rest ≡ s → grammar.item known b a p ≡ s
+item-is known b c a t u p rest s q e f r =
     ap (λ (o : Option (Tree × grammar.Place)). o >>= λ x. Some (on (with_item b x.0) x.1)) q
-    ∙ ap (λ (x : Tree). grammar.firm known b x (rest names)) (sym e)
-    ∙ ap (λ (x : grammar.Body). grammar.firm known x u (rest names)) (sym f)
-    ∙ ap (λ (x : Names). grammar.firm known c u (rest x)) (sym n)
+    ∙ ap (λ (x : Tree). grammar.firm known b x rest) (sym e)
+    ∙ ap (λ (x : grammar.Body). grammar.firm known x u rest) (sym f)
     ∙ r
 
 -- an item in a table that has grown

@@ -1,12 +1,12 @@
 -- The reading of a whole text.
-use Rattle.std.proofs.Common.{◌≡◌, ℕ, [], length, Bool, true, false, Option, Some, None, refl, sym, ap, ◌∙◌}
+use Rattle.std.proofs.Common.{◌≡◌, ℕ, [], Bool, true, false, Option, Some, None, refl, sym, ap, ◌∙◌}
 use Rattle.std.specs.Prelude.{not, IfSome}
-use Rattle.syntect_pattern.specs.Trees.{Tree, group_count}
+use Rattle.syntect_pattern.specs.Trees.{Tree}
 use Rattle.syntect_pattern_table.specs.Builder.{tree_in}
 use Rattle.syntect_pattern.specs.Reading.{Text, ◌>>=◌, ◌>>◌, is_empty}
 use Rattle.syntect_pattern.specs.Grammar.{Names, Place, empty_body, whole, tree_of}
 use Rattle.syntect_pattern_words.specs.BodyViews.{body_of}
-use Rattle.syntect_pattern_reader.specs.Compiled.{whole_as, tree_read}
+use Rattle.syntect_pattern_reader.specs.Compiled.{CountsGroups, whole_as, tree_read}
 use Rattle.syntect_pattern_reader.specs.declared.reader.Reader.{Reader}
 use Rattle.syntect_pattern_laws.proofs.NumberLaws.{counts_groups}
 
@@ -54,7 +54,7 @@ module _ (t : Text) where
     tree-read (Some x) e = tree-is ∙ ap (second t) first ∙ ap (λ (o : Option (Tree × Names)). o >>= λ y. Some y.0) e
 
 -- whatever groups are known, all are counted
-pub groups-counted : (known : Option Names) (t : Text) (f : Option (Reader × ℕ)) → whole known t ≡ whole_as f → IfSome f (λ x. group_count (tree_in x.0.builder.nodes x.1) ≡ length x.0.names)
+pub groups-counted : (known : Option Names) (t : Text) (f : Option (Reader × ℕ)) → whole known t ≡ whole_as f → IfSome f CountsGroups
 groups-counted known t None e = tt
 groups-counted known t (Some x) e = counts_groups known t (tree_in x.0.builder.nodes x.1) x.0.names e
 

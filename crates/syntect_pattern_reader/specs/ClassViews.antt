@@ -3,7 +3,7 @@ use Rattle.std.specs.Prelude.{◌<◌, ℕ, suc, Bool, List, Option, length, opt
 use Rattle.std.specs.Borrow.{Bor}
 use Rattle.syntect_pattern.specs.Sets.{Set}
 use Rattle.syntect_pattern.specs.Reading.{Text}
-use Rattle.syntect_pattern.specs.Classes.{over, on, class_rest}
+use Rattle.syntect_pattern.specs.Classes.{over, on, class, class_rest, next_in, step}
 use Rattle.syntect_pattern.specs.Classes as definition
 use Rattle.syntect_pattern_table.specs.SetTable.{set_in}
 use Rattle.syntect_pattern_table.specs.declared.sets.Part.{Part}
@@ -12,7 +12,10 @@ use Rattle.syntect_pattern_reader.specs.declared.classes.Step.{Step}
 
 -- the class that is being read
 abbrev pub bracket_as : List Part → Bracket → definition.Class
-bracket_as parts o = record { sides = option_map (λ k. set_in parts k) o.sides; side = set_in parts o.side }
+bracket_as parts o = record {
+  sides = option_map (λ k. set_in parts k) o.sides;
+  side = set_in parts o.side;
+}
 
 -- its parts are there
 pub record IsBracketIn (parts : List Part) (o : Bracket) : Type 0 where
@@ -24,6 +27,7 @@ abbrev pub IsStepIn : List Part → Step → Type 0
 IsStepIn parts (Step.Over rest) = Unit {0}
 IsStepIn parts (Step.On o rest) = IsBracketIn parts o
 
+-- what a step made of the class
 abbrev pub step_as : List Part → Step → definition.Step
 step_as parts (Step.Over rest) = over (chars rest.now)
 step_as parts (Step.On o rest) = on (bracket_as parts o) (chars rest.now)
@@ -35,6 +39,10 @@ set_as parts found = option_map (λ f. (set_in parts f.0, chars f.1.now)) found
 -- the rest of a class
 abbrev pub rest_of : Bool → ℕ → definition.Class → Text → Option (Set × Text)
 rest_of fold depth c t = class_rest fold (suc (length t)) depth c t
+
+-- one step of reading a class that stands so deep
+abbrev pub step_of : Bool → ℕ → definition.Class → Text → Option definition.Step
+step_of fold depth c t = step fold (class fold depth) c t (next_in t)
 
 -- a class that is begun, and what follows
 abbrev pub begun : List Part → Option (Bracket × Bor (List ℕ)) → Option definition.Step

@@ -1,6 +1,6 @@
 -- A program that stands for a text.
-use Rattle.std.specs.Prelude.{◌≡◌, ℕ, List, Option, Some, None, option_map}
-use Rattle.syntect_pattern.specs.Trees.{Tree}
+use Rattle.std.specs.Prelude.{◌≡◌, ℕ, List, Option, Some, None, length, option_map}
+use Rattle.syntect_pattern.specs.Trees.{Tree, group_count}
 use Rattle.syntect_pattern.specs.Pattern.{pattern_tree}
 use Rattle.syntect_pattern_table.specs.Program.{IsProgramOf}
 use Rattle.syntect_pattern.specs.Grammar.{Names}
@@ -26,3 +26,7 @@ whole_as found = option_map (λ f. (tree_in f.0.builder.nodes f.1, f.0.names)) f
 -- the tree alone
 abbrev pub tree_read : Option (Reader × ℕ) → Option Tree
 tree_read found = option_map (λ f. tree_in f.0.builder.nodes f.1) found
+
+-- the reader has met as many groups as the tree has
+abbrev pub CountsGroups : Reader × ℕ → Type 0
+CountsGroups x = group_count (tree_in x.0.builder.nodes x.1) ≡ length x.0.names

@@ -14,6 +14,7 @@ abbrev pub AllBelow : ℕ → List ℕ → Type 0
 AllBelow n [] = Unit {0}
 AllBelow n (k ∷ ks) = (k < n) × AllBelow n ks
 
+-- the trees of the nodes at the places
 abbrev pub trees_in : List Node → List ℕ → List Tree
 trees_in nodes ks = map (tree_in nodes) ks
 
@@ -22,7 +23,7 @@ abbrev pub IsItemIn : ℕ → Item → Type 0
 IsItemIn n (Item.Node k) = k < n
 IsItemIn n (Item.Letter fold letter) = Unit {0}
 
--- the same of all items
+-- the nodes of all items are
 abbrev pub AreItemsIn : ℕ → List Item → Type 0
 AreItemsIn n [] = Unit {0}
 AreItemsIn n (x ∷ xs) = IsItemIn n x × AreItemsIn n xs
@@ -32,8 +33,13 @@ abbrev pub item_tree : List Node → Item → Tree
 item_tree nodes (Item.Node k) = tree_in nodes k
 item_tree nodes (Item.Letter fold letter) = one_of (from_to fold letter letter)
 
+-- the same of all items
 abbrev pub item_trees : List Node → List Item → List Tree
 item_trees nodes xs = map (item_tree nodes) xs
+
+-- the item has this tree
+abbrev pub IsItemOf : List Node → Tree → Item → Type 0
+IsItemOf nodes tree item = item_tree nodes item ≡ tree
 
 -- the letters, if there are some, and then the tree
 abbrev pub behind_letters : Option Letters → Tree → Tree

@@ -43,4 +43,5 @@ Leads x t = (here next : ℕ → Bool) → Needs here next x → Needs here next
 -- what is sought is among these
 abbrev pub IsAmong : Sought → (ℕ → Bool) → (ℕ → Bool) → Type 0
 IsAmong x here next =
-    ((k : ℕ) → is_in x.here k ≡ true → here k ≡ true) × ((k : ℕ) → is_in x.next k ≡ true → next k ≡ true)
+    ((k : ℕ) → is_in x.here k ≡ true → here k ≡ true)
+    × ((k : ℕ) → is_in x.next k ≡ true → next k ≡ true)

@@ -6,11 +6,12 @@ ghost use Rattle.syntect_letters.specs.Letters.{letters_of, letters_tree};
 ghost use Rattle.syntect_pattern_table.specs.Table.{IsOrdered};
 ghost use Rattle.syntect_pattern_reader.specs.JoinViews.{behind_letters};
 
-use crate::classes::{SetBuilder, part_of};
+use crate::classes::{SET_ROOM, SetBuilder, part_of};
 use std::alloc::AllocError;
 use syntect_pattern_table::node::{Letters, Node};
 use syntect_pattern_table::sets::Class;
 use syntect_pattern_words::members::Leaf;
+use syntect_pattern_words::tokens::Looping;
 use syntect_values::seq::Seq;
 
 /// The nodes so far, each behind its parts.
@@ -52,16 +53,18 @@ impl Builder {
     ghost use Rattle.std.specs.Prelude.{◌<◌, [], IfOk, OnOk, length, true};
     ghost use Rattle.syntect_pattern_table.specs.SetTable.{set_in};
     ghost use Rattle.syntect_pattern_words.specs.MemberViews.{leaf_set};
+    ghost use Rattle.syntect_pattern_words.specs.TokenViews.{looped_tree};
     ghost use Rattle.syntect_pattern.specs.Trees.{alt_all, seq_all};
     ghost use Rattle.syntect_pattern_table.specs.Table.{node_tree, parts_before, trees};
-    ghost use Rattle.syntect_pattern_table.specs.Builder.{Grows, Holds};
-    ghost use Rattle.syntect_pattern_reader.specs.JoinViews.{AllBelow, AreItemsIn, IsEnd, IsItemIn, end_tree, item_tree, item_trees, trees_in};
+    ghost use Rattle.syntect_pattern_table.specs.Builder.{Grows, Holds, tree_in};
+    ghost use Rattle.syntect_pattern_reader.specs.JoinViews.{AllBelow, AreItemsIn, IsEnd, IsItemIn, IsItemOf, end_tree, item_tree, item_trees, trees_in};
 
     /// Puts a node last.
     pub fn push(&mut self, node: Node) -> Result<usize, AllocError>
         requires { parts_before (length self.old.nodes) node ≡ true }
         ensures grows { OnOk result (Grows self.old.nodes self.new.nodes) }
-        ensures holds { IfOk result (λ k. Holds self.new.nodes k (node_tree (trees self.old.nodes) node)) }
+        ensures holds { IfOk result (λ k. Holds self.new.nodes k
+            (node_tree (trees self.old.nodes) node)) }
     {
         let place = self.nodes.len();
         self.nodes.push(node)?;
@@ -171,7 +174,8 @@ impl Builder {
     /// Puts a class last.
     pub fn push_class(&mut self, sets: SetBuilder, root: usize) -> Result<usize, AllocError>
         ensures grows { OnOk result (Grows self.old.nodes self.new.nodes) }
-        ensures holds { IfOk result (λ k. Holds self.new.nodes k (one_of (set_in sets.parts root))) }
+        ensures holds { IfOk result (λ k. Holds self.new.nodes k
+            (one_of (set_in sets.parts root))) }
     {
         let alloc = self.nodes.allocator();
         let class = Class::new(alloc, sets.parts, root)?;
@@ -188,7 +192,7 @@ impl Builder {
             let class = Class::of_one(alloc, part)?;
             return self.push(Node::Class(class));
         }
-        let mut sets = SetBuilder::new(alloc, 2)?;
+        let mut sets = SetBuilder::new(alloc, SET_ROOM)?;
         let root = sets.push_leaf(leaf)?;
         self.push_class(sets, root)
     }
@@ -212,8 +216,8 @@ impl Builder {
     /// A character as an item. Beyond ASCII it has a node of its own.
     pub fn char_item(&mut self, fold: bool, c: char) -> Result<Item, AllocError>
         ensures grows { OnOk result (Grows self.old.nodes self.new.nodes) }
-        ensures inside { IfOk result (λ item. IsItemIn (length self.new.nodes) item) }
-        ensures is { IfOk result (λ item. item_tree self.new.nodes item ≡ one_of (from_to fold c c)) }
+        ensures inside { IfOk result (IsItemIn (length self.new.nodes)) }
+        ensures is { IfOk result (IsItemOf self.new.nodes (one_of (from_to fold c c))) }
     {
         if c.is_ascii() {
             return Ok(Item::Letter {
@@ -222,5 +226,51 @@ impl Builder {
             });
         }
         Ok(Item::Node(self.push_char(fold, c)?))
+    }
+
+    /// Puts the node of a loop last.
+    pub fn push_looping(&mut self, looping: Looping, node: usize) -> Result<usize, AllocError>
+        requires { node < length self.old.nodes }
+        ensures grows { OnOk result (Grows self.old.nodes self.new.nodes) }
+        ensures holds { IfOk result (λ k. Holds self.new.nodes k
+            (looped_tree looping (tree_in self.old.nodes node))) }
+    {
+        match looping {
+            Looping::Once => Ok(node),
+            Looping::Loop {
+                greedy,
+                possessive,
+                least,
+                most,
+            } => {
+                let repeat = self.push(Node::Repeat {
+                    greedy,
+                    least,
+                    most,
+                    body: node,
+                })?;
+                if possessive {
+                    self.push(Node::Atomic(repeat))
+                } else {
+                    Ok(repeat)
+                }
+            }
+        }
+    }
+
+    /// A character with its quantifier.
+    pub fn looped_char(&mut self, looping: Looping, fold: bool, c: char) -> Result<Item, AllocError>
+        ensures grows { OnOk result (Grows self.old.nodes self.new.nodes) }
+        ensures inside { IfOk result (IsItemIn (length self.new.nodes)) }
+        ensures is { IfOk result (IsItemOf self.new.nodes
+            (looped_tree looping (one_of (from_to fold c c)))) }
+    {
+        match looping {
+            Looping::Once => self.char_item(fold, c),
+            looping => {
+                let node = self.push_char(fold, c)?;
+                Ok(Item::Node(self.push_looping(looping, node)?))
+            }
+        }
     }
 }

@@ -40,6 +40,9 @@ pub enum Step<'a> {
 /// For how many parts of a class in brackets there is room from the start.
 pub const BRACKET_ROOM: usize = 16;
 
+/// For how many parts of a set without brackets there is room: one, and what negates it.
+pub const SET_ROOM: usize = 2;
+
 /// The part of the characters from the first to the last, with `fold` all of equal simple folding.
 fn span_part(fold: bool, low: char, high: char) -> Part
     ensures alone { (k : ℕ) → made_before k result ≡ true }
@@ -93,7 +96,8 @@ impl SetBuilder {
     fn push(&mut self, part: Part) -> Result<usize, AllocError>
         requires { made_before (length self.old.parts) part ≡ true }
         ensures grows { OnOk result (SetsGrow self.old.parts self.new.parts) }
-        ensures has { IfOk result (λ k. HasSet self.new.parts k (part_set (sets self.old.parts) part)) }
+        ensures has { IfOk result (λ k. HasSet self.new.parts k
+            (part_set (sets self.old.parts) part)) }
     {
         let place = self.parts.len();
         self.parts.push(part)?;
@@ -104,7 +108,8 @@ impl SetBuilder {
     fn negate_if(&mut self, negated: bool, set: usize) -> Result<usize, AllocError>
         requires { set < length self.old.parts }
         ensures grows { OnOk result (SetsGrow self.old.parts self.new.parts) }
-        ensures has { IfOk result (λ k. HasSet self.new.parts k (negate_if negated (set_in self.old.parts set))) }
+        ensures has { IfOk result (λ k. HasSet self.new.parts k
+            (negate_if negated (set_in self.old.parts set))) }
     {
         if negated {
             self.push(Part::Negated(set))
@@ -143,7 +148,7 @@ impl SetBuilder {
 }
 
 impl SetBuilder {
-    ghost use Rattle.syntect_pattern_reader.specs.ClassViews.{bracket_as, IsBracketIn, step_as, IsStepIn, begun, set_as, rest_of};
+    ghost use Rattle.syntect_pattern_reader.specs.ClassViews.{bracket_as, IsBracketIn, step_as, IsStepIn, begun, set_as, rest_of, step_of};
 
     /// A class with nothing in it.
     fn begin(&mut self) -> Result<Bracket, AllocError>
@@ -161,7 +166,8 @@ impl SetBuilder {
         requires set { set < length self.old.parts }
         ensures grows { OnOk result (SetsGrow self.old.parts self.new.parts) }
         ensures inside { IfOk result (λ o. IsBracketIn self.new.parts o) }
-        ensures is { IfOk result (λ o. bracket_as self.new.parts o ≡ definition.with_set (bracket_as self.old.parts bracket) (set_in self.old.parts set)) }
+        ensures is { IfOk result (λ o. bracket_as self.new.parts o
+            ≡ definition.with_set (bracket_as self.old.parts bracket) (set_in self.old.parts set)) }
     {
         let Bracket { sides, side } = bracket;
         let side = self.push(Part::Either(side, set))?;
@@ -172,7 +178,8 @@ impl SetBuilder {
     fn all_of(&mut self, bracket: Bracket) -> Result<usize, AllocError>
         requires { IsBracketIn self.old.parts bracket }
         ensures grows { OnOk result (SetsGrow self.old.parts self.new.parts) }
-        ensures has { IfOk result (λ k. HasSet self.new.parts k (definition.all_of (bracket_as self.old.parts bracket))) }
+        ensures has { IfOk result (λ k. HasSet self.new.parts k
+            (definition.all_of (bracket_as self.old.parts bracket))) }
     {
         match bracket.sides {
             Some(sides) => self.push(Part::Both(sides, bracket.side)),
@@ -185,7 +192,8 @@ impl SetBuilder {
         requires { IsBracketIn self.old.parts bracket }
         ensures grows { OnOk result (SetsGrow self.old.parts self.new.parts) }
         ensures inside { IfOk result (λ o. IsBracketIn self.new.parts o) }
-        ensures is { IfOk result (λ o. bracket_as self.new.parts o ≡ definition.next_side (bracket_as self.old.parts bracket)) }
+        ensures is { IfOk result (λ o. bracket_as self.new.parts o
+            ≡ definition.next_side (bracket_as self.old.parts bracket)) }
     {
         let sides = self.all_of(bracket)?;
         let side = self.push(Part::Nothing)?;
@@ -204,7 +212,9 @@ impl SetBuilder {
         requires { IsBracketIn self.old.parts bracket }
         ensures grows { OnOk result (SetsGrow self.old.parts self.new.parts) }
         ensures inside { IfOk result (λ s. IfSome s (IsStepIn self.new.parts)) }
-        ensures reads { IfOk result (λ s. (fold : _) → definition.adds fold (bracket_as self.old.parts bracket) (leafed found.entry) ≡ option_map (step_as self.new.parts) s) }
+        ensures reads { IfOk result (λ s. (fold : _)
+            → definition.adds fold (bracket_as self.old.parts bracket) (leafed found.entry)
+            ≡ option_map (step_as self.new.parts) s) }
     {
         let Some((leaf, rest)) = found else {
             return Ok(None);
@@ -222,7 +232,9 @@ impl SetBuilder {
     ) -> Result<Option<(Bracket, &'a str)>, AllocError>
         ensures grows { OnOk result (SetsGrow self.old.parts self.new.parts) }
         ensures inside { IfOk result (λ f. IfSome f (λ x. IsBracketIn self.new.parts x.0)) }
-        ensures reads { IfOk result (λ f. definition.first_item fold (starts_with nat_eq (chars text.now) (codes "]")) (chars text.now) ≡ begun self.new.parts f) }
+        ensures reads { IfOk result (λ f. definition.first_item fold
+            (starts_with nat_eq (chars text.now) (codes "]")) (chars text.now)
+            ≡ begun self.new.parts f) }
     {
         let bracket = self.begin()?;
         if !begins(text, &[']']) {
@@ -248,7 +260,9 @@ impl SetBuilder {
         requires held { IsBracketIn self.old.parts bracket }
         ensures grows { OnOk result (SetsGrow self.old.parts self.new.parts) }
         ensures inside { IfOk result (λ s. IfSome s (IsStepIn self.new.parts)) }
-        ensures reads { IfOk result (λ s. definition.step fold (definition.class fold depth) (bracket_as self.old.parts bracket) (chars text.now) (definition.next_in (chars text.now)) ≡ option_map (step_as self.new.parts) s) }
+        ensures reads { IfOk result (λ s.
+            step_of fold depth (bracket_as self.old.parts bracket) (chars text.now)
+            ≡ option_map (step_as self.new.parts) s) }
     {
         match next_in(text) {
             Next::Closing => Ok(Some(Step::Over(after(text, 1)))),
@@ -280,7 +294,9 @@ impl SetBuilder {
         requires held { IsBracketIn self.old.parts bracket }
         ensures grows { OnOk result (SetsGrow self.old.parts self.new.parts) }
         ensures inside { IfOk result (λ f. IfSome f (λ x. x.0 < length self.new.parts)) }
-        ensures reads { IfOk result (λ f. rest_of fold depth (bracket_as self.old.parts bracket) (chars text.now) ≡ set_as self.new.parts f) }
+        ensures reads { IfOk result (λ f.
+            rest_of fold depth (bracket_as self.old.parts bracket) (chars text.now)
+            ≡ set_as self.new.parts f) }
     {
         let mut bracket = bracket;
         let mut text = text;
@@ -309,7 +325,8 @@ impl SetBuilder {
     ) -> Result<Option<(usize, &'a str)>, AllocError>
         ensures grows { OnOk result (SetsGrow self.old.parts self.new.parts) }
         ensures inside { IfOk result (λ f. IfSome f (λ x. x.0 < length self.new.parts)) }
-        ensures reads { IfOk result (λ f. definition.class fold depth (chars text.now) ≡ set_as self.new.parts f) }
+        ensures reads { IfOk result (λ f. definition.class fold depth (chars text.now)
+            ≡ set_as self.new.parts f) }
     {
         if depth >= DEEPEST {
             return Ok(None);

@@ -1,11 +1,10 @@
 //! From the text of a pattern to its program.
 ghost use Rattle.std.specs.Prelude.{◌≡◌, ◌<◌, ℕ, suc, false, Option, IfOk, IfSome, length, chars, option_map};
-ghost use Rattle.syntect_pattern.specs.Trees.{group_count};
 ghost use Rattle.syntect_pattern_table.specs.Builder.{tree_in};
 ghost use Rattle.syntect_pattern_table.specs.Program.{IsProgramOf};
 ghost use Rattle.syntect_pattern.specs.Grammar.{tree_of, whole};
 ghost use Rattle.syntect_pattern.specs.Grammar as grammar;
-ghost use Rattle.syntect_pattern_reader.specs.Compiled.{Compiles, whole_as, tree_read};
+ghost use Rattle.syntect_pattern_reader.specs.Compiled.{Compiles, CountsGroups, whole_as, tree_read};
 
 use crate::needs::needs_of;
 use crate::reader::Reader;
@@ -34,7 +33,7 @@ pub fn compile(alloc: Global, pattern: &str) -> Result<Option<Program>, AllocErr
 fn read_text(alloc: Global, text: &str) -> Result<Option<(Reader, usize)>, AllocError>
     ensures inside { IfOk result (λ f. IfSome f (λ x. x.1 < length x.0.builder.nodes)) }
     ensures reads { IfOk result (λ f. tree_of (chars text.now) ≡ tree_read f) }
-    ensures groups { IfOk result (λ f. IfSome f (λ x. group_count (tree_in x.0.builder.nodes x.1) ≡ length x.0.names)) }
+    ensures groups { IfOk result (λ f. IfSome f CountsGroups) }
 {
     let Some((first, body)) = read_whole(alloc, &None, text)? else {
         return Ok(None);
@@ -55,7 +54,8 @@ fn read_whole(
 ) -> Result<Option<(Reader, usize)>, AllocError>
     ensures inside { IfOk result (λ f. IfSome f (λ x. x.1 < length x.0.builder.nodes)) }
     ensures reads { IfOk result (λ f. whole known.now (chars text.now) ≡ whole_as f) }
-    ensures alone { IfOk result (λ f. IfSome f (λ x. x.0.refers ≡ false → (other : Option grammar.Names) → whole other (chars text.now) ≡ whole_as f)) }
+    ensures alone { IfOk result (λ f. IfSome f (λ x. x.0.refers ≡ false
+        → (other : Option grammar.Names) → whole other (chars text.now) ≡ whole_as f)) }
 {
     let room = text.len().min(SHORT) + 16;
     let mut reader = Reader::new(alloc, room)?;
@@ -76,7 +76,8 @@ fn read_whole(
 /// The program of a pattern that is read.
 fn program_of(alloc: Global, reader: Reader, body: usize) -> Result<Program, AllocError>
     requires { body < length reader.builder.nodes }
-    ensures { IfOk result (λ p. group_count (tree_in reader.builder.nodes body) ≡ length reader.names → IsProgramOf p (tree_in reader.builder.nodes body)) }
+    ensures { IfOk result (λ p. CountsGroups (reader, body)
+        → IsProgramOf p (tree_in reader.builder.nodes body)) }
 {
     let Reader {
         mut builder,

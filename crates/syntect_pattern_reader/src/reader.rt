@@ -3,7 +3,7 @@ ghost use Rattle.std.specs.Prelude.{◌≡◌, ◌<◌, ◌≤◌, ◌+◌, [], 
 ghost use Rattle.syntect_pattern_table.specs.Builder.{Grows, Holds, tree_in};
 ghost use Rattle.syntect_pattern_words.specs.BodyViews.{body_of};
 ghost use Rattle.syntect_pattern_words.specs.OpeningViews.{place_as, wrapped};
-ghost use Rattle.syntect_pattern_words.specs.TokenViews.{token_as, looped_tree};
+ghost use Rattle.syntect_pattern_words.specs.TokenViews.{token_as};
 ghost use Rattle.syntect_pattern_words.specs.EscapeViews.{escape_of};
 ghost use Rattle.syntect_pattern_words.specs.MemberViews.{leaf_set};
 ghost use Rattle.syntect_pattern.specs.Trees.{one_of, anchor};
@@ -14,7 +14,7 @@ ghost use Rattle.syntect_pattern.specs.Escapes as definition;
 ghost use Rattle.syntect_pattern.specs.Grammar as grammar;
 
 use crate::builder::{Builder, Item};
-use crate::classes::{BRACKET_ROOM, DEEPEST, SetBuilder};
+use crate::classes::{BRACKET_ROOM, DEEPEST, SET_ROOM, SetBuilder};
 use std::alloc::{AllocError, Global};
 use syntect_pattern::anchor::Anchor;
 use syntect_pattern_table::node::Node;
@@ -25,7 +25,7 @@ use syntect_pattern_words::openings::{
 };
 use syntect_pattern_words::quantifiers::pass;
 use syntect_pattern_words::text::{after, begins};
-use syntect_pattern_words::tokens::{Looping, Token, next_token, plain_in, read_looping};
+use syntect_pattern_words::tokens::{Token, next_token, plain_in, read_looping};
 use syntect_values::seq::Seq;
 
 /// For how many items of a group there is room from the start.
@@ -51,7 +51,7 @@ pub struct Reader {
 
 impl Reader {
     ghost use Rattle.syntect_pattern_reader.specs.JoinViews.{IsItemIn, item_tree};
-    ghost use Rattle.syntect_pattern_reader.specs.ReaderViews.{body_as, IsBodyIn, went_on, tree_as, Keeps, Serves};
+    ghost use Rattle.syntect_pattern_reader.specs.ReaderViews.{body_as, IsBodyIn, tree_as, Keeps, WithGroups, ReadsItem, ReadsFirm, ReadsEscape, ReadsStep, inner_of};
 
     /// Nothing read, with room for so many nodes.
     pub fn new(alloc: Global, room: usize) -> Result<Reader, AllocError>
@@ -66,44 +66,14 @@ impl Reader {
         })
     }
 
-    /// Puts the node of a loop last.
-    fn push_looping(&mut self, looping: Looping, node: usize) -> Result<usize, AllocError>
-        requires { node < length self.old.builder.nodes }
-        ensures grows { OnOk result (Grows self.old.builder.nodes self.new.builder.nodes) }
-        ensures names { OnOk result (self.new.names ≡ self.old.names) }
-        ensures refers { OnOk result (self.new.refers ≡ self.old.refers) }
-        ensures holds { IfOk result (λ k. Holds self.new.builder.nodes k (looped_tree looping (tree_in self.old.builder.nodes node))) }
-    {
-        match looping {
-            Looping::Once => Ok(node),
-            Looping::Loop {
-                greedy,
-                possessive,
-                least,
-                most,
-            } => {
-                let repeat = self.builder.push(Node::Repeat {
-                    greedy,
-                    least,
-                    most,
-                    body: node,
-                })?;
-                if possessive {
-                    self.builder.push(Node::Atomic(repeat))
-                } else {
-                    Ok(repeat)
-                }
-            }
-        }
-    }
-
     /// Puts the node of a group last.
     fn push_group(&mut self, wrap: Wrap, body: usize) -> Result<usize, AllocError>
         requires { body < length self.old.builder.nodes }
         ensures grows { OnOk result (Grows self.old.builder.nodes self.new.builder.nodes) }
         ensures names { OnOk result (self.new.names ≡ self.old.names) }
         ensures refers { OnOk result (self.new.refers ≡ self.old.refers) }
-        ensures holds { IfOk result (λ k. Holds self.new.builder.nodes k (wrapped wrap (tree_in self.old.builder.nodes body))) }
+        ensures holds { IfOk result (λ k. Holds self.new.builder.nodes k
+            (wrapped wrap (tree_in self.old.builder.nodes body))) }
     {
         match wrap {
             Wrap::Plain => Ok(body),
@@ -130,7 +100,8 @@ impl Reader {
         ensures names { OnOk result (self.new.names ≡ self.old.names) }
         ensures refers { OnOk result (self.new.refers ≡ self.old.refers) }
         ensures inside { IfOk result (λ f. IfSome f (λ x. IsBodyIn self.new.builder.nodes x.0)) }
-        ensures reads { IfOk result (λ f. (known : Option grammar.Names) → grammar.firm known (body_as self.old.builder.nodes body) (item_tree self.old.builder.nodes item) (place_as self.old.names place.entry) ≡ went_on self.new f) }
+        ensures reads { IfOk result (ReadsFirm self.old self.new body place.entry
+            (item_tree self.old.builder.nodes item)) }
     {
         let Body { before, mut items } = body;
         items.push(item)?;
@@ -150,31 +121,14 @@ impl Reader {
         ensures names { OnOk result (self.new.names ≡ self.old.names) }
         ensures refers { OnOk result (self.new.refers ≡ self.old.refers) }
         ensures inside { IfOk result (λ f. IfSome f (λ x. IsBodyIn self.new.builder.nodes x.0)) }
-        ensures reads { IfOk result (λ f. (known : Option grammar.Names) → grammar.item known (body_as self.old.builder.nodes body) (tree_in self.old.builder.nodes node) (place_as self.old.names place.entry) ≡ went_on self.new f) }
+        ensures reads { IfOk result (ReadsItem self.old self.new body place.entry
+            (tree_in self.old.builder.nodes node)) }
     {
         let Some((looping, rest)) = read_looping(place) else {
             return Ok(None);
         };
-        let node = self.push_looping(looping, node)?;
+        let node = self.builder.push_looping(looping, node)?;
         Ok(self.firm(body, Item::Node(node), rest)?)
-    }
-
-    /// A character with its quantifier.
-    fn looped_char(&mut self, looping: Looping, fold: bool, c: char) -> Result<Item, AllocError>
-        ensures grows { OnOk result (Grows self.old.builder.nodes self.new.builder.nodes) }
-        ensures names { OnOk result (self.new.names ≡ self.old.names) }
-        ensures refers { OnOk result (self.new.refers ≡ self.old.refers) }
-        ensures inside { IfOk result (λ item. IsItemIn (length self.new.builder.nodes) item) }
-        ensures is { IfOk result (λ item. item_tree self.new.builder.nodes item
-            ≡ looped_tree looping (one_of (from_to fold c c))) }
-    {
-        match looping {
-            Looping::Once => self.builder.char_item(fold, c),
-            looping => {
-                let node = self.builder.push_char(fold, c)?;
-                Ok(Item::Node(self.push_looping(looping, node)?))
-            }
-        }
     }
 
     /// A character as an item.
@@ -189,12 +143,13 @@ impl Reader {
         ensures names { OnOk result (self.new.names ≡ self.old.names) }
         ensures refers { OnOk result (self.new.refers ≡ self.old.refers) }
         ensures inside { IfOk result (λ f. IfSome f (λ x. IsBodyIn self.new.builder.nodes x.0)) }
-        ensures reads { IfOk result (λ f. (known : Option grammar.Names) → grammar.item known (body_as self.old.builder.nodes body) (one_of (from_to place.entry.flags.fold c c)) (place_as self.old.names place.entry) ≡ went_on self.new f) }
+        ensures reads { IfOk result (ReadsItem self.old self.new body place.entry
+            (one_of (from_to place.entry.flags.fold c c))) }
     {
         let Some((looping, rest)) = read_looping(place) else {
             return Ok(None);
         };
-        let item = self.looped_char(looping, place.flags.fold, c)?;
+        let item = self.builder.looped_char(looping, place.flags.fold, c)?;
         Ok(self.firm(body, item, rest)?)
     }
 
@@ -241,7 +196,8 @@ impl Reader {
         ensures names { OnOk result (self.new.names ≡ self.old.names) }
         ensures refers { OnOk result (self.new.refers ≡ self.old.refers) }
         ensures inside { IfOk result (λ f. IfSome f (λ x. IsBodyIn self.new.builder.nodes x.0)) }
-        ensures reads { IfOk result (λ f. (known : Option grammar.Names) → grammar.item known (body_as self.old.builder.nodes body) (one_of (set_in sets.parts root)) (place_as self.old.names place.entry) ≡ went_on self.new f) }
+        ensures reads { IfOk result (ReadsItem self.old self.new body place.entry
+            (one_of (set_in sets.parts root))) }
     {
         let node = self.builder.push_class(sets, root)?;
         Ok(self.item(body, node, place)?)
@@ -259,7 +215,8 @@ impl Reader {
         ensures names { OnOk result (self.new.names ≡ self.old.names) }
         ensures refers { OnOk result (self.new.refers ≡ self.old.refers) }
         ensures inside { IfOk result (λ f. IfSome f (λ x. IsBodyIn self.new.builder.nodes x.0)) }
-        ensures reads { IfOk result (λ f. (known : Option grammar.Names) → grammar.firm known (body_as self.old.builder.nodes body) (anchor (anchor_of which)) (place_as self.old.names place.entry) ≡ went_on self.new f) }
+        ensures reads { IfOk result (ReadsFirm self.old self.new body place.entry
+            (anchor (anchor_of which))) }
     {
         let node = self.builder.push(Node::Anchor(which))?;
         Ok(self.firm(body, Item::Node(node), place)?)
@@ -277,7 +234,8 @@ impl Reader {
         ensures names { OnOk result (self.new.names ≡ self.old.names) }
         ensures refers { OnOk result (self.new.refers ≡ self.old.refers) }
         ensures inside { IfOk result (λ f. IfSome f (λ x. IsBodyIn self.new.builder.nodes x.0)) }
-        ensures reads { IfOk result (λ f. (known : Option grammar.Names) → grammar.item known (body_as self.old.builder.nodes body) (one_of (leaf_set leaf)) (place_as self.old.names place.entry) ≡ went_on self.new f) }
+        ensures reads { IfOk result (ReadsItem self.old self.new body place.entry
+            (one_of (leaf_set leaf))) }
     {
         let node = self.builder.push_leaf(leaf)?;
         Ok(self.item(body, node, place)?)
@@ -294,9 +252,10 @@ impl Reader {
         ensures names { OnOk result (self.new.names ≡ self.old.names) }
         ensures refers { OnOk result (self.new.refers ≡ self.old.refers) }
         ensures inside { IfOk result (λ f. IfSome f (λ x. IsBodyIn self.new.builder.nodes x.0)) }
-        ensures reads { IfOk result (λ f. (known : Option grammar.Names) → grammar.item known (body_as self.old.builder.nodes body) (one_of (grammar.dot_set place.entry.flags.any)) (place_as self.old.names place.entry) ≡ went_on self.new f) }
+        ensures reads { IfOk result (ReadsItem self.old self.new body place.entry
+            (one_of (grammar.dot_set place.entry.flags.any))) }
     {
-        let mut sets = SetBuilder::new(self.names.allocator(), 2)?;
+        let mut sets = SetBuilder::new(self.names.allocator(), SET_ROOM)?;
         let root = sets.push_dot(place.flags.any)?;
         Ok(self.class_item(body, sets, root, place)?)
     }
@@ -308,7 +267,8 @@ impl Reader {
         ensures names { OnOk result (self.new.names ≡ self.old.names) }
         ensures refers { OnOk result (self.new.refers ≡ self.old.refers) }
         ensures inside { IfOk result (λ b. IsBodyIn self.new.builder.nodes b) }
-        ensures is { IfOk result (λ b. body_as self.new.builder.nodes b ≡ grammar.next_alternative (body_as self.old.builder.nodes body)) }
+        ensures is { IfOk result (λ b. body_as self.new.builder.nodes b
+            ≡ grammar.next_alternative (body_as self.old.builder.nodes body)) }
     {
         let Body {
             mut before,
@@ -325,7 +285,8 @@ impl Reader {
         ensures grows { OnOk result (Grows self.old.builder.nodes self.new.builder.nodes) }
         ensures names { OnOk result (self.new.names ≡ self.old.names) }
         ensures refers { OnOk result (self.new.refers ≡ self.old.refers) }
-        ensures holds { IfOk result (λ k. Holds self.new.builder.nodes k (grammar.tree_of_body (body_as self.old.builder.nodes body))) }
+        ensures holds { IfOk result (λ k. Holds self.new.builder.nodes k
+            (grammar.tree_of_body (body_as self.old.builder.nodes body))) }
     {
         let Body {
             mut before,
@@ -350,7 +311,8 @@ impl Reader {
         ensures names { OnOk result (self.new.names ≡ self.old.names) }
         ensures refers { OnOk result (self.new.refers ≡ true) }
         ensures inside { IfOk result (λ f. IfSome f (λ k. k < length self.new.builder.nodes)) }
-        ensures reads { IfOk result (λ f. grammar.by_number known.now fold number ≡ option_map (tree_in self.new.builder.nodes) f) }
+        ensures reads { IfOk result (λ f. grammar.by_number known.now fold number
+            ≡ option_map (tree_in self.new.builder.nodes) f) }
     {
         self.refers = true;
         let Some(names) = known else {
@@ -378,7 +340,8 @@ impl Reader {
         ensures names { OnOk result (self.new.names ≡ self.old.names) }
         ensures refers { OnOk result (self.new.refers ≡ true) }
         ensures inside { IfOk result (λ f. IfSome f (λ k. k < length self.new.builder.nodes)) }
-        ensures reads { IfOk result (λ f. grammar.by_name known.now fold (chars name.now) ≡ option_map (tree_in self.new.builder.nodes) f) }
+        ensures reads { IfOk result (λ f. grammar.by_name known.now fold (chars name.now)
+            ≡ option_map (tree_in self.new.builder.nodes) f) }
     {
         self.refers = true;
         let Some(names) = known else {
@@ -403,7 +366,8 @@ impl Reader {
         ensures names { OnOk result (self.new.names ≡ self.old.names) }
         ensures refers { OnOk result (self.new.refers ≡ true) }
         ensures inside { IfOk result (λ f. IfSome f (λ x. IsBodyIn self.new.builder.nodes x.0)) }
-        ensures reads { IfOk result (λ f. grammar.escaped known.now (body_as self.old.builder.nodes body) (place_as self.old.names place.entry) (definition.number number) ≡ went_on self.new f) }
+        ensures reads { IfOk result (ReadsEscape self.old self.new body place.entry known.now
+            (definition.number number)) }
     {
         let Some(node) = self.by_number(known, place.flags.fold, number)? else {
             return Ok(None);
@@ -424,7 +388,8 @@ impl Reader {
         ensures names { OnOk result (self.new.names ≡ self.old.names) }
         ensures refers { OnOk result (self.new.refers ≡ true) }
         ensures inside { IfOk result (λ f. IfSome f (λ x. IsBodyIn self.new.builder.nodes x.0)) }
-        ensures reads { IfOk result (λ f. grammar.escaped known.now (body_as self.old.builder.nodes body) (place_as self.old.names place.entry) (definition.name (chars name.now)) ≡ went_on self.new f) }
+        ensures reads { IfOk result (ReadsEscape self.old self.new body place.entry known.now
+            (definition.name (chars name.now))) }
     {
         let Some(node) = self.by_name(known, place.flags.fold, name)? else {
             return Ok(None);
@@ -445,7 +410,8 @@ impl Reader {
         ensures refers { OnOk result (Keeps self.old.refers self.new.refers) }
         ensures inside { IfOk result (λ f. IfSome f (λ x. IsBodyIn self.new.builder.nodes x.0)) }
         ensures names { OnOk result (self.new.names ≡ self.old.names) }
-        ensures reads { IfOk result (λ f. (groups : Option grammar.Names) → Serves self.new.refers known.now groups → grammar.escaped groups (body_as self.old.builder.nodes body) (place_as self.old.names place.entry) (escape_of escape.entry) ≡ went_on self.new f) }
+        ensures reads { IfOk result (λ f. WithGroups self.new known.now (λ groups.
+            ReadsEscape self.old self.new body place.entry groups (escape_of escape.entry) f)) }
     {
         match escape {
             Escape::Char(c) => Ok(self.char_item(body, c, place)?),
@@ -469,7 +435,9 @@ impl Reader {
         ensures grows { OnOk result (Grows self.old.builder.nodes self.new.builder.nodes) }
         ensures refers { OnOk result (Keeps self.old.refers self.new.refers) }
         ensures inside { IfOk result (λ f. IfSome f (λ x. IsBodyIn self.new.builder.nodes x.0)) }
-        ensures reads { IfOk result (λ f. (groups : Option grammar.Names) → Serves self.new.refers known.now groups → (inner : _) (depth : ℕ) → grammar.step groups inner depth (body_as self.old.builder.nodes body) (place_as self.old.names here.entry) grammar.backslash ≡ went_on self.new f) }
+        ensures reads { IfOk result (λ f. WithGroups self.new known.now (λ groups.
+            (inner : _) (depth : ℕ)
+            → ReadsStep self.old self.new body here.entry groups inner depth grammar.backslash f)) }
     {
         let Some((escape, text)) = read_escape(after(here.text, 1)) else {
             return Ok(None);
@@ -492,7 +460,8 @@ impl Reader {
         ensures grows { OnOk result (Grows self.old.builder.nodes self.new.builder.nodes) }
         ensures refers { OnOk result (self.new.refers ≡ self.old.refers) }
         ensures inside { IfOk result (λ f. IfSome f (λ x. IsBodyIn self.new.builder.nodes x.0)) }
-        ensures reads { IfOk result (λ f. (known : Option grammar.Names) (inner : _) → grammar.step known inner depth (body_as self.old.builder.nodes body) (place_as self.old.names here.entry) grammar.bracket ≡ went_on self.new f) }
+        ensures reads { IfOk result (λ f. (known : Option grammar.Names) (inner : _)
+            → ReadsStep self.old self.new body here.entry known inner depth grammar.bracket f) }
     {
         let mut sets = SetBuilder::new(self.names.allocator(), BRACKET_ROOM)?;
         let Some((root, text)) = sets.class(here.flags.fold, depth, after(here.text, 1))? else {
@@ -518,7 +487,9 @@ impl Reader {
         ensures grows { OnOk result (Grows self.old.builder.nodes self.new.builder.nodes) }
         ensures refers { OnOk result (Keeps self.old.refers self.new.refers) }
         ensures inside { IfOk result (λ f. IfSome f (λ x. IsBodyIn self.new.builder.nodes x.0)) }
-        ensures reads { IfOk result (λ f. (groups : Option grammar.Names) → Serves self.new.refers known.now groups → grammar.step groups (body_of groups (depth + 1) grammar.empty_body) depth (body_as self.old.builder.nodes body) (place_as self.old.names here.entry) grammar.opener ≡ went_on self.new f) }
+        ensures reads { IfOk result (λ f. WithGroups self.new known.now (λ groups.
+            ReadsStep self.old self.new body here.entry groups (inner_of groups depth) depth
+            grammar.opener f)) }
     {
         let Some((opening, place)) = read_opening(&mut self.names, forward(here, 1))? else {
             return Ok(None);
@@ -558,7 +529,9 @@ impl Reader {
         ensures grows { OnOk result (Grows self.old.builder.nodes self.new.builder.nodes) }
         ensures refers { OnOk result (Keeps self.old.refers self.new.refers) }
         ensures inside { IfOk result (λ f. IfSome f (λ x. IsBodyIn self.new.builder.nodes x.0)) }
-        ensures reads { IfOk result (λ f. (groups : Option grammar.Names) → Serves self.new.refers known.now groups → grammar.step groups (body_of groups (depth + 1) grammar.empty_body) depth (body_as self.old.builder.nodes body) (place_as self.old.names here.entry) (token_as token) ≡ went_on self.new f) }
+        ensures reads { IfOk result (λ f. WithGroups self.new known.now (λ groups.
+            ReadsStep self.old self.new body here.entry groups (inner_of groups depth) depth
+            (token_as token) f)) }
     {
         match token {
             Token::Bar => {
@@ -587,7 +560,9 @@ impl Reader {
         ensures grows { OnOk result (Grows self.old.builder.nodes self.new.builder.nodes) }
         ensures refers { OnOk result (Keeps self.old.refers self.new.refers) }
         ensures inside { IfOk result (λ f. IfSome f (λ x. x.0 < length self.new.builder.nodes)) }
-        ensures reads { IfOk result (λ f. (groups : Option grammar.Names) → Serves self.new.refers known.now groups → body_of groups depth grammar.empty_body (place_as self.old.names place.entry) ≡ tree_as self.new f) }
+        ensures reads { IfOk result (λ f. WithGroups self.new known.now (λ groups.
+            body_of groups depth grammar.empty_body (place_as self.old.names place.entry)
+            ≡ tree_as self.new f)) }
     {
         let alloc = self.names.allocator();
         let mut body = Body {

@@ -41,6 +41,12 @@ known_more known (m ∷ ns) n h l = (h.0, known_more known ns n h.1 l)
 pub known_pushed : (old new : List Places) (ns : List ℕ) (n : ℕ) (p : Places) → Stays old new → AreKnown old ns → slice_get new n ≡ Some p → AreKnown new (ns ++ n ∷ [])
 known_pushed old new ns n p s h e = known_more new ns n (known_stay old new ns s h) (slice_get_within new n p e)
 
+-- the list stays as it is where more is known
+pub by_number_stays : (old new : List Places) (ns : List ℕ) → Stays old new → AreKnown old ns → places_by_number new ns ≡ places_by_number old ns
+by_number_stays old new [] s h = refl
+by_number_stays old new (m ∷ ns) s h =
+    rw (get_or_from_slice_get new m (get_or old m none_there) none_there (same_number old new m s h.0), by_number_stays old new ns s h.1) refl
+
 -- the list with one more
 pub by_number_pushed : (old new : List Places) (ns : List ℕ) (n : ℕ) (p : Places) → Stays old new → AreKnown old ns → slice_get new n ≡ Some p
     → places_by_number new (ns ++ n ∷ []) ≡ places_by_number old ns ++ p ∷ []

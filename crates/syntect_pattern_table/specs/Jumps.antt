@@ -34,11 +34,13 @@ pub record IsJump (ts : List Tree) (k : ℕ) (j : Jump) : Type 0 where
   pub back : j.to + j.count ≤ k
   pub there : HasBranches j.count (slice_index_or ts k nothing)
   pub leads : slice_index_or ts j.to nothing ≡ tree_behind j.count (slice_index_or ts k nothing)
-  pub begins : (x : ℕ) → x < 130 → is_in (places_of j) x ≡ list_any (λ t. reads t x || stays t x) (branches j.count (slice_index_or ts k nothing))
+  pub begins : (x : ℕ) → x < 130 → is_in (places_of j) x
+      ≡ list_any (λ t. reads t x || stays t x) (branches j.count (slice_index_or ts k nothing))
 
 -- so are the jumps of the nodes from this one on
 abbrev pub AreJumps : ℕ → List Jump → List Tree → Type 0
-AreJumps from js ts = (k : ℕ) (d : Jump) → k < length js → IsJump ts (from + k) (slice_index_or js k d)
+AreJumps from js ts = (k : ℕ) (d : Jump) → k < length js
+    → IsJump ts (from + k) (slice_index_or js k d)
 
 -- the rest stands behind branches of the tree that have no match at the place
 pub record LeadsPast (s : List ℕ) (i : ℕ) (t rest : Tree) : Type 0 where

@@ -17,7 +17,8 @@ IsAbsent here next s i = (k : ℕ) → i ≤ k → stands here next s k ≡ fals
 -- a match of the tree needs both at its place or behind it, be it only to look ahead
 abbrev pub Needs : (ℕ → Bool) → (ℕ → Bool) → Tree → Type 0
 Needs here next t =
-    (s : List ℕ) (i : ℕ) (g : Groups) → IsUtf8 s → IsCharBoundary s i → IsAbsent here next s i → matches s t i g ≡ []
+    (s : List ℕ) (i : ℕ) (g : Groups) → IsUtf8 s → IsCharBoundary s i → IsAbsent here next s i
+    → matches s t i g ≡ []
 
 -- what is known of that: nothing, an ASCII character, or one of several characters
 abbrev pub MayNeed : Need → Tree → Type 0

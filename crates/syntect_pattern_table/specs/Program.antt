@@ -1,15 +1,22 @@
 -- The tree of a program.
-use Rattle.std.specs.Prelude.{◌≡◌, ◌≤◌, ℕ, suc, List, None, slice_index_or}
+use Rattle.std.specs.Prelude.{◌≡◌, ◌≤◌, ℕ, suc, List, Option, None, MatchOption, slice_index_or}
 use Rattle.syntect_pattern.specs.Trees.{Tree, nothing, group, group_count}
 use Rattle.syntect_pattern.specs.Matches.{found_at}
-use Rattle.syntect_pattern_table.specs.Table.{trees}
+use Rattle.std.specs.Borrow.{Bor}
+use Rattle.syntect_pattern_table.specs.Table.{node_tree, trees}
 use Rattle.syntect_pattern_table.specs.Starts.{AreStarts}
 use Rattle.syntect_pattern_table.specs.Needs.{AreNeeded}
+use Rattle.syntect_pattern_table.specs.declared.node.Node.{Node}
 use Rattle.syntect_pattern_table.specs.declared.program.Program.{Program}
 
 -- the tree of each of its nodes
 abbrev pub trees_of : Program → List Tree
 trees_of p = trees p.nodes
+
+-- what is found at the place: a node whose tree is made of those of its parts, or none past the end
+abbrev pub IsNodeOf : List Tree → ℕ → Option (Bor Node) → Type 0
+IsNodeOf ts place found = MatchOption found (slice_index_or ts place nothing ≡ nothing)
+    (λ n. slice_index_or ts place nothing ≡ node_tree ts n.now)
 
 -- the program is that of the tree: its root is the whole match, and it knows how many groups there are, what matches begin
 -- with and perhaps what they need

@@ -45,7 +45,8 @@ made_before k (Part.Both a b) = nat_lt a k && nat_lt b k
 
 -- each part stands behind those that it is made of
 abbrev pub AreOrdered : List Part → Type 0
-AreOrdered parts = (k : ℕ) → k < length parts → made_before k (slice_index_or parts k Part.Nothing) ≡ true
+AreOrdered parts = (k : ℕ) → k < length parts
+    → made_before k (slice_index_or parts k Part.Nothing) ≡ true
 
 -- more parts, behind those that were there
 pub record SetsGrow (old new : List Part) : Type 0 where
@@ -63,7 +64,8 @@ AreFlags bits a = (x : ℕ) → x < 128 → (bit_at bits x == 1) ≡ holds a x
 
 -- the range holds `K`, `S`, `k` or `s`: simple folding makes these alone of ASCII equal to a character beyond it
 abbrev pub folds_beyond : ℕ → ℕ → Bool
-folds_beyond low high = is_within low high 0x4B || (is_within low high 0x53 || (is_within low high 0x6B || is_within low high 0x73))
+folds_beyond low high = is_within low high 0x4B
+    || (is_within low high 0x53 || (is_within low high 0x6B || is_within low high 0x73))
 
 -- whether the set can hold a character beyond ASCII, as far as its form tells
 abbrev pub is_wide : Set → Bool
@@ -76,4 +78,5 @@ is_wide a = true
 
 -- of each set the bit of this character
 abbrev pub AreBits : ℕ → List ℕ → List Set → Type 0
-AreBits x bits ss = (k : ℕ) (d : ℕ) → k < length bits → (bit_at (slice_index_or bits k d) x == 1) ≡ holds (slice_index_or ss k none) x
+AreBits x bits ss = (k : ℕ) (d : ℕ) → k < length bits
+    → (bit_at (slice_index_or bits k d) x == 1) ≡ holds (slice_index_or ss k none) x

@@ -9,7 +9,8 @@ use Rattle.syntect_pattern.specs.Trees.{Anchor, line_end, text_end, last_line_en
 
 -- what stands at a place: an ASCII character, 128 for any other one, and 129 for the text's end
 unfoldable pub start_at : List ℕ → ℕ → ℕ
-start_at s i = if nat_lt i (length s) then (if nat_lt (slice_index s i) 128 then slice_index s i else 128) else 129
+start_at s i =
+    if nat_lt i (length s) then (if nat_lt (slice_index s i) 128 then slice_index s i else 128) else 129
 
 -- a character of the set can stand there
 abbrev pub can_hold : Set → ℕ → Bool
@@ -94,7 +95,8 @@ firsts_at ps rows fs k = row_at (slice_index_or ps k none_there) fs (slice_index
 
 -- so begin these trees
 abbrev pub Begin : ℕ → List Places → List ℕ → List Firsts → List Tree → Type 0
-Begin x ps rows fs ts = (k : ℕ) → k < length ps → begins_at x (firsts_at ps rows fs k) ≡ begins x (slice_index_or ts k nothing)
+Begin x ps rows fs ts = (k : ℕ) → k < length ps
+    → begins_at x (firsts_at ps rows fs k) ≡ begins x (slice_index_or ts k nothing)
 
 -- each of these rows is there
 abbrev pub AreWithin : List ℕ → List Firsts → Type 0
@@ -107,8 +109,11 @@ pub record GoesOn (old new : List Firsts) : Type 0 where
 
 -- for all that can stand there whether a match can begin
 abbrev pub AreStarts : List Bool → Tree → Type 0
-AreStarts flags tree = (x : ℕ) → x < 130 → slice_index_or flags x true ≡ (reads tree x || stays tree x)
+AreStarts flags tree = (x : ℕ) → x < 130
+    → slice_index_or flags x true ≡ (reads tree x || stays tree x)
 
 -- where matches of each of these trees can begin
 abbrev pub AreFirsts : List Places → List Tree → Type 0
-AreFirsts ps ts = (k x : ℕ) (d : Places) → k < length ps → x < 130 → is_in (slice_index_or ps k d) x ≡ (reads (slice_index_or ts k nothing) x || stays (slice_index_or ts k nothing) x)
+AreFirsts ps ts = (k x : ℕ) (d : Places) → k < length ps → x < 130
+    → is_in (slice_index_or ps k d) x
+    ≡ (reads (slice_index_or ts k nothing) x || stays (slice_index_or ts k nothing) x)

@@ -54,7 +54,8 @@ parts_before k (Node.Behind negated a) = nat_lt a k
 
 -- each node stands behind its parts
 abbrev pub IsOrdered : List Node → Type 0
-IsOrdered nodes = (k : ℕ) → k < length nodes → parts_before k (slice_index_or nodes k Node.Nothing) ≡ true
+IsOrdered nodes = (k : ℕ) → k < length nodes
+    → parts_before k (slice_index_or nodes k Node.Nothing) ≡ true
 
 -- the node holds letters in a row
 abbrev pub is_text : Node → Bool

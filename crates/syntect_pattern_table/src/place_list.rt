@@ -1,5 +1,5 @@
 //! Where matches of the nodes of a table can begin. Few of those places differ.
-ghost use Rattle.std.specs.Prelude.{◌≡◌, ◌++◌, ◌∷◌, [], ℕ, IfOk, IfSome, OnOk, Some, length, slice_get, true};
+ghost use Rattle.std.specs.Prelude.{◌≡◌, ◌++◌, ◌∷◌, [], ℕ, IfOk, IfSome, OnErr, OnOk, Some, length, slice_get, true};
 ghost use Rattle.syntect_pattern_table.specs.declared.starts.Places.{Places as APlaces};
 
 use crate::starts::Places;
@@ -8,7 +8,7 @@ use std::marker::Model;
 
 /// How many of the last that differ are looked at for those that are added. To look at all of them for each node would take the
 /// square of the table's length.
-const RECENT: usize = 8;
+const RECENT: usize = 64;
 
 /// Where matches of nodes can begin, seen as the list of a node's each. What is equal to one of the last that differ is kept
 /// once.
@@ -84,7 +84,8 @@ impl PlaceList {
 
     /// Puts the places of one more node last.
     pub fn push(&mut self, places: Places) -> Result<(), AllocError>
-        ensures { OnOk result (self.new ≡ self.old ++ places ∷ []) }
+        ensures ok { OnOk result (self.new ≡ self.old ++ places ∷ []) }
+        ensures err { OnErr result (self.new ≡ self.old) }
     {
         let number = number_of(&mut self.known, places)?;
         self.numbers.push(number)?;

@@ -43,10 +43,9 @@ pub struct Program {
 }
 
 impl Program {
-    ghost use Rattle.std.specs.Prelude.{MatchOption};
     ghost use Rattle.syntect_pattern.specs.Trees.{nothing};
-    ghost use Rattle.syntect_pattern_table.specs.Table.{AreSpelt, is_text, node_tree};
-    ghost use Rattle.syntect_pattern_table.specs.Program.{trees_of, CannotBegin};
+    ghost use Rattle.syntect_pattern_table.specs.Table.{AreSpelt, is_text};
+    ghost use Rattle.syntect_pattern_table.specs.Program.{CannotBegin, IsNodeOf, trees_of};
     ghost use Rattle.syntect_pattern_table.specs.Jumps.{LeadsPast};
     ghost use Rattle.syntect_pattern_table.specs.Lengths.{HasLengths};
     ghost use Rattle.syntect_pattern.specs.Matches.{Groups, matches};
@@ -93,7 +92,7 @@ impl Program {
     /// The node at the place: its tree is made of those of its parts. There is none past the end.
     pub fn node(&self, place: usize) -> Option<&Node>
         ensures spelt { AreSpelt self.now.nodes → IfSome result (λ n. is_text n.now ≡ false) }
-        ensures is { MatchOption result (slice_index_or (trees_of self.now) place nothing ≡ nothing) (λ n. slice_index_or (trees_of self.now) place nothing ≡ node_tree (trees_of self.now) n.now) }
+        ensures is { IsNodeOf (trees_of self.now) place result }
     {
         self.nodes.get(place)
     }
@@ -173,7 +172,8 @@ fn next_flagged(flags: &[bool], text: &[u8], place: usize, end: usize) -> usize
     requires within { end ≤ length text.now }
     ensures later { place ≤ result }
     ensures inside { result ≤ end }
-    ensures skipped { (k : ℕ) → place ≤ k → k < result → slice_index_or flags.now (min (slice_index text.now k) 128) true ≡ false }
+    ensures skipped { (k : ℕ) → place ≤ k → k < result
+        → slice_index_or flags.now (min (slice_index text.now k) 128) true ≡ false }
 {
     let mut next = place;
     while next < end && !flag_at(flags, text[next].min(128)) {

@@ -1,8 +1,8 @@
 -- How a plan is made: the cells of a cell's parts, behind those that are there.
-use Rattle.std.specs.Prelude.{◌≡◌, ◌&&◌, ◌==◌, ℕ, suc, ◌+◌, ◌-◌, ◌<◌, if◌then◌else◌, sum_by, is_none, option_map, Bool, false, List, length, Option, None, slice_index_or}
+use Rattle.std.specs.Prelude.{◌≡◌, ◌&&◌, ◌==◌, ℕ, suc, ◌+◌, ◌<◌, if◌then◌else◌, sum_by, is_none, Bool, false, List, length, Option, None, slice_index_or}
 use Rattle.syntect_pattern.specs.Trees.{Tree, nothing, repeat}
-use Rattle.syntect_plan.specs.Cells.{cell_at, item_tree, is_end}
-use Rattle.syntect_plan.specs.Plan.{AreCells, Grows, IsPart, LooksFor, IsStep, others, others_of, cells_of}
+use Rattle.syntect_plan.specs.Cells.{cell_at, cell_tree, item_tree, is_end}
+use Rattle.syntect_plan.specs.Plan.{AreCells, Grows, IsPart, LooksFor, IsStep, loop_behind, others, others_of, cells_of}
 use Rattle.syntect_plan.specs.declared.cells.Source.{Source}
 use Rattle.syntect_plan.specs.declared.cells.Source.TheVariants.{Own, Shared, Beside}
 use Rattle.syntect_plan.specs.declared.cells.Cell.{Cell}
@@ -17,7 +17,7 @@ tree_at ts n = slice_index_or ts n nothing
 pub record IsSame (ts : List Tree) (cells : List Cell) (k : ℕ) (t : Tree) (g : ℕ) : Type 0 where
   pub inside : k < length cells
   pub real : is_end (cell_at cells k).item ≡ false
-  pub tree : item_tree ts (cell_at cells k).item ≡ t
+  pub tree : cell_tree ts cells k ≡ t
   pub empty : (cell_at cells k).empty ≡ g
   pub next : (cell_at cells k).next ≡ g
 
@@ -44,7 +44,8 @@ IsSource ts cells k c (Beside p) = IsBeside ts cells k c p
 -- the cells stand in order, and each can have its parts
 pub record AreBuilt (ts : List Tree) (cells : List Cell) : Type 0 where
   pub cells_are : AreCells ts cells
-  pub sources : (k : ℕ) → k < length cells → IsSource ts cells k (cell_at cells k) (cell_at cells k).source
+  pub sources : (k : ℕ) → k < length cells
+      → IsSource ts cells k (cell_at cells k) (cell_at cells k).source
 
 -- more cells, all of them built
 pub record Extends (ts : List Tree) (old new : List Cell) : Type 0 where
@@ -66,23 +67,28 @@ abbrev pub all_cells : List Tree → List Cell → ℕ
 all_cells ts cells = sum_by (cell_cells ts) cells
 
 -- the cell is there for the tree, before f at its place and g behind it, and takes so many
-pub record Adds (ts : List Tree) (old : List Cell) (t : Tree) (f g w k : ℕ) (new : List Cell) : Type 0 where
+pub record Adds (ts : List Tree) (old : List Cell) (t : Tree) (f g w k : ℕ) (new : List Cell)
+    : Type 0 where
   pub extends : Extends ts old new
   pub part : IsPart ts new k t f g
   pub cost : all_cells ts new ≡ all_cells ts old + w
 
--- the loop behind a turn has a cell, which may be the loop's own; with a turn and the loop itself it takes what the loop takes
-pub record AddsMore (ts : List Tree) (old : List Cell) (g : ℕ) (greedy : Bool) (least : ℕ) (most : Option ℕ) (a : Tree) (more : ℕ) (new : List Cell) : Type 0 where
+-- the loop behind a turn has a cell, which may be the loop's own; with a turn and the loop itself it takes what the loop
+-- takes
+pub record AddsMore (ts : List Tree) (old : List Cell) (g : ℕ) (greedy : Bool) (least : ℕ)
+    (most : Option ℕ) (a : Tree) (more : ℕ) (new : List Cell) : Type 0 where
   pub extends : Extends ts old new
-  pub part : IsPart ts new more (repeat greedy (least - 1) (option_map (λ k. k - 1) most) a) g g
-  pub cost : suc (all_cells ts new + (cells_of a + others_of a)) ≡ all_cells ts old + cells_of (repeat greedy least most a)
+  pub part : IsPart ts new more (loop_behind greedy least most a) g g
+  pub cost : suc (all_cells ts new + (cells_of a + others_of a))
+      ≡ all_cells ts old + cells_of (repeat greedy least most a)
 
 -- where the loop behind a turn has its parts from
 abbrev pub turn_source : ℕ → ℕ → Option ℕ → Source
 turn_source number least most = if (least == 1) && is_none most then Shared number else Own
 
 -- the cells of the tree's parts are there, before f at its place and g behind it; the tree takes so many with its own
-pub record Makes (ts : List Tree) (old : List Cell) (olds : List ℕ) (f g : ℕ) (t : Tree) (w : ℕ) (p : Parts) (new : List Cell) (news : List ℕ) : Type 0 where
+pub record Makes (ts : List Tree) (old : List Cell) (olds : List ℕ) (f g : ℕ) (t : Tree) (w : ℕ)
+    (p : Parts) (new : List Cell) (news : List ℕ) : Type 0 where
   pub extends : Extends ts old new
   pub looks : (n : ℕ) (a : Tree) → LooksFor ts olds n a → LooksFor ts news n a
   pub step : IsStep ts new news f g p t
@@ -95,9 +101,12 @@ MakesOwn ts old number g t p new = AreBuilt ts old.cells → IsSame ts old.cells
 
 -- the parts of the tree, beside those where what goes on behind it goes on at its place too
 abbrev pub MakesBeside : List Tree → Plan → ℕ → ℕ → Tree → Parts → Parts → Plan → Type 0
-MakesBeside ts old f g t parts p new = AreBuilt ts old.cells → f < length old.cells → IsStep ts old.cells old.behinds g g parts t
+MakesBeside ts old f g t parts p new = AreBuilt ts old.cells → f < length old.cells
+    → IsStep ts old.cells old.behinds g g parts t
     → Makes ts old.cells old.behinds f g t (others t) p new.cells new.behinds
 
 -- the parts of the cell with the number
 abbrev pub Expands : List Tree → List Cell → List ℕ → ℕ → Parts → List Cell → List ℕ → Type 0
-Expands ts old olds k p new news = Makes ts old olds (cell_at old k).empty (cell_at old k).next (item_tree ts (cell_at old k).item) (cell_cells ts (cell_at old k)) p new news
+Expands ts old olds k p new news =
+    Makes ts old olds (cell_at old k).empty (cell_at old k).next (cell_tree ts old k)
+    (cell_cells ts (cell_at old k)) p new news

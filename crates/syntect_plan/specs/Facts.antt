@@ -6,7 +6,13 @@ use Rattle.syntect_plan.specs.declared.facts.Facts.{Facts}
 
 -- what is known of a tree
 abbrev pub facts_of : Tree → Facts
-facts_of t = record { reads = reads t; plain = plain t; free = is_free t; bare = is_bare t; calm = is_calm t }
+facts_of t = record {
+  reads = reads t;
+  plain = plain t;
+  free = is_free t;
+  bare = is_bare t;
+  calm = is_calm t;
+}
 
 -- what is known of the node with the number
 abbrev pub facts_at : List Facts → ℕ → Facts

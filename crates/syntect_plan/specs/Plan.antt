@@ -2,7 +2,7 @@
 use Rattle.std.specs.Prelude.{◌≡◌, ◌⊎◌, ℕ, zero, suc, ◌+◌, ◌-◌, ◌*◌, ◌<◌, ◌≤◌, if◌then◌else◌, Bool, true, false, List, length, Option, Some, None, option_map, slice_index_or}
 use Rattle.syntect_pattern.specs.Trees.{Tree, nothing, seq, alt, repeat, group, atomic, ahead, behind}
 use Rattle.syntect_plan.specs.Onward.{reads, is_free}
-use Rattle.syntect_plan.specs.Cells.{last_cell, cell_at, parts_at, item_tree, is_end}
+use Rattle.syntect_plan.specs.Cells.{last_cell, cell_at, parts_at, cell_tree, item_tree, is_end}
 use Rattle.syntect_plan.specs.declared.cells.Item.{Item}
 use Rattle.syntect_plan.specs.declared.cells.Cell.{Cell}
 use Rattle.syntect_plan.specs.declared.cells.Parts.{Parts}
@@ -13,8 +13,8 @@ loop_cells w least (Some most) = suc (most * suc w)
 loop_cells w zero None = suc w
 loop_cells w (suc least) None = suc (suc least * suc w)
 
--- how many cells a tree takes, which may read nothing, for what else goes on at its place than behind it, beside those that it
--- takes where the same goes on; a part that reads takes none
+-- how many cells a tree takes, which may read nothing, for what else goes on at its place than behind it, beside those that
+-- it takes where the same goes on; a part that reads takes none
 abbrev pub others : Tree → ℕ
 others (seq a b) = suc ((if reads a then 0 else others a) + (if reads b then 0 else others b))
 others (alt a b) = suc ((if reads a then 0 else others a) + (if reads b then 0 else others b))
@@ -41,8 +41,8 @@ cells_of _ = 1
 abbrev pub plan_cells : Tree → ℕ
 plan_cells t = suc (cells_of t)
 
--- The pattern has no plan of at most so many cells: it has a back reference, or a lookbehind looks for what isn't plain, or a
--- lookahead in a loop sets groups, or it takes more cells.
+-- The pattern has no plan of at most so many cells: it has a back reference, or a lookbehind looks for what isn't plain, or
+-- a lookahead in a loop sets groups, or it takes more cells.
 abbrev pub IsHard : ℕ → Tree → Type 0
 IsHard most t = (is_free t ≡ false) ⊎ (most < plan_cells t)
 
@@ -57,7 +57,7 @@ pub record AreCells (ts : List Tree) (cells : List Cell) : Type 0 where
   pub last : cell_at cells 0 ≡ last_cell
   pub empty : (k : ℕ) → 0 < k → k < length cells → (cell_at cells k).empty < k
   pub next : (k : ℕ) → 0 < k → k < length cells → (cell_at cells k).next < k
-  pub free : (k : ℕ) → is_free (item_tree ts (cell_at cells k).item) ≡ true
+  pub free : (k : ℕ) → is_free (cell_tree ts cells k) ≡ true
 
 -- more cells, behind those that were there
 pub record Grows (old new : List Cell) : Type 0 where
@@ -65,7 +65,8 @@ pub record Grows (old new : List Cell) : Type 0 where
   pub kept : (k : ℕ) → k < length old → cell_at new k ≡ cell_at old k
 
 -- the cell has the item and these that go on; an item that reads has the second one alone
-pub record IsCell (ts : List Tree) (cells : List Cell) (k : ℕ) (item : Item) (f g : ℕ) : Type 0 where
+pub record IsCell (ts : List Tree) (cells : List Cell) (k : ℕ) (item : Item) (f g : ℕ)
+    : Type 0 where
   pub inside : k < length cells
   pub item_is : (cell_at cells k).item ≡ item
   pub next_is : (cell_at cells k).next ≡ g
@@ -79,19 +80,26 @@ pub record IsPart (ts : List Tree) (cells : List Cell) (k : ℕ) (t : Tree) (f g
   pub tree : item_tree ts item ≡ t
 
 -- one part after the other
-pub record IsSequence (ts : List Tree) (cells : List Cell) (f g first : ℕ) (a b : Tree) : Type 0 where
+pub record IsSequence (ts : List Tree) (cells : List Cell) (f g first : ℕ) (a b : Tree)
+    : Type 0 where
   pub at : ℕ
   pub behind_it : ℕ
   pub first_is : IsPart ts cells first a at behind_it
   pub second_is : IsPart ts cells behind_it b g g
   pub again_is : reads a ≡ false → IsPart ts cells at b f g
 
+-- the loop behind a turn
+abbrev pub loop_behind : Bool → ℕ → Option ℕ → Tree → Tree
+loop_behind greedy least most a = repeat greedy (least - 1) (option_map (λ k. k - 1) most) a
+
 -- a turn of a loop: what reads nothing leaves it, and behind it the loop goes on
-pub record IsTurn (ts : List Tree) (cells : List Cell) (f g first : ℕ) (greedy : Bool) (least : ℕ) (most : Option ℕ) (a : Tree) : Type 0 where
+pub record IsTurn (ts : List Tree) (cells : List Cell) (f g first : ℕ) (greedy : Bool)
+    (least : ℕ) (most : Option ℕ) (a : Tree) : Type 0 where
   pub more : ℕ
   pub first_is : IsPart ts cells first a f more
-  pub more_is : IsPart ts cells more (repeat greedy (least - 1) (option_map (λ k. k - 1) most) a) g g
+  pub more_is : IsPart ts cells more (loop_behind greedy least most a) g g
 
+-- what holds of a turn, where there may be one
 abbrev pub TurnIs : Option ℕ → Type 0 → Type 0
 TurnIs (Some zero) P = Unit {0}
 TurnIs _ P = P
@@ -106,7 +114,8 @@ module _ (ts : List Tree) (cells : List Cell) (behinds : List ℕ) where
   abbrev pub IsStep : ℕ → ℕ → Parts → Tree → Type 0
   IsStep f g p (seq a b) = IsSequence ts cells f g p.first a b
   IsStep f g p (alt a b) = IsPart ts cells p.first a f g × IsPart ts cells p.second b f g
-  IsStep f g p (repeat greedy least most a) = TurnIs most (IsTurn ts cells f g p.first greedy least most a)
+  IsStep f g p (repeat greedy least most a) =
+      TurnIs most (IsTurn ts cells f g p.first greedy least most a)
   IsStep f g p (group n a) = IsPart ts cells p.first a f g
   IsStep f g p (atomic a) = IsPart ts cells p.first a 0 0
   IsStep f g p (ahead negated a) = IsPart ts cells p.first a 0 0
@@ -115,10 +124,11 @@ module _ (ts : List Tree) (cells : List Cell) (behinds : List ℕ) where
 
   -- the same of the cell with the number
   abbrev pub IsStepOf : ℕ → Parts → Type 0
-  IsStepOf k p = IsStep (cell_at cells k).empty (cell_at cells k).next p (item_tree ts (cell_at cells k).item)
+  IsStepOf k p = IsStep (cell_at cells k).empty (cell_at cells k).next p (cell_tree ts cells k)
 
 -- the cells of a pattern, of which cell 1 is that of the whole
-pub record IsPlanned (ts : List Tree) (cells : List Cell) (parts : List Parts) (behinds : List ℕ) (root : ℕ) : Type 0 where
+pub record IsPlanned (ts : List Tree) (cells : List Cell) (parts : List Parts) (behinds : List ℕ)
+    (root : ℕ) : Type 0 where
   pub cells_are : AreCells ts cells
   pub steps : (k : ℕ) → k < length parts → IsStepOf ts cells behinds k (parts_at parts k)
   pub root_is : IsPart ts cells 1 (slice_index_or ts root nothing) 0 0

@@ -16,7 +16,8 @@ AllBelow n places = (k : ℕ) → k < length places → place_at places k < n
 
 -- as many of the trees as there are places stand each at its place
 abbrev pub ArePlaces : List Tree → List Node → List ℕ → Type 0
-ArePlaces ts nodes places = (k : ℕ) → k < length places → Holds nodes (place_at places k) (slice_index_or ts k nothing)
+ArePlaces ts nodes places = (k : ℕ) → k < length places
+    → Holds nodes (place_at places k) (slice_index_or ts k nothing)
 
 -- the node is a class of the same set
 pub record IsClass (c : Class) (new : Node) : Type 0 where
@@ -32,9 +33,12 @@ IsCopy places (Node.Class c) new = IsClass c new
 IsCopy places (Node.Anchor a) new = new ≡ Node.Anchor a
 IsCopy places (Node.Same fold n) new = new ≡ Node.Same fold n
 IsCopy places (Node.Text l a) new = is_text new ≡ false
-IsCopy places (Node.Sequence a b) new = new ≡ Node.Sequence (place_at places a) (place_at places b)
-IsCopy places (Node.Alternation a b) new = new ≡ Node.Alternation (place_at places a) (place_at places b)
-IsCopy places (Node.Repeat greedy least most a) new = new ≡ Node.Repeat greedy least most (place_at places a)
+IsCopy places (Node.Sequence a b) new =
+    new ≡ Node.Sequence (place_at places a) (place_at places b)
+IsCopy places (Node.Alternation a b) new =
+    new ≡ Node.Alternation (place_at places a) (place_at places b)
+IsCopy places (Node.Repeat greedy least most a) new =
+    new ≡ Node.Repeat greedy least most (place_at places a)
 IsCopy places (Node.Group n a) new = new ≡ Node.Group n (place_at places a)
 IsCopy places (Node.Atomic a) new = new ≡ Node.Atomic (place_at places a)
 IsCopy places (Node.Ahead negated a) new = new ≡ Node.Ahead negated (place_at places a)

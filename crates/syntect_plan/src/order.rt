@@ -1,8 +1,8 @@
 //! The order in which the cells of a plan are gone through at a place.
 //!
-//! What a cell has to know at a place it learns from lower ones: the cells of its parts, and the one that goes on at the place.
-//! With the lowest first, each is known when it is asked for, so that calls lie in one another but one deep, however deep the
-//! pattern is. What is found does not depend on the order, so no contract speaks of it.
+//! What a cell has to know at a place it learns from lower ones: the cells of its parts, and the one that goes on at the
+//! place. With the lowest first, each is known when it is asked for, so that calls lie in one another but one deep, however
+//! deep the pattern is. What is found does not depend on the order, so no contract speaks of it.
 use crate::cells::{Cell, Item};
 use crate::facts::{Facts, facts_at};
 use crate::plan::Plan;

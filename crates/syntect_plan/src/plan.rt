@@ -1,9 +1,10 @@
 //! The plan of a search: the cells of a pattern.
 //!
-//! What may read nothing can stand before one thing that goes on at its place and another behind it: the body of a loop does,
-//! since a turn that reads nothing leaves the loop. Such a cell stands beside one of the same item before what goes on behind
-//! it alone, and their parts share their cells as far as each match of a part reads something. So a part takes one cell, and
-//! one more for each loop around it that it lets through without reading; only turns that are counted take cells for each.
+//! What may read nothing can stand before one thing that goes on at its place and another behind it: the body of a loop
+//! does, since a turn that reads nothing leaves the loop. Such a cell stands beside one of the same item before what goes on
+//! behind it alone, and their parts share their cells as far as each match of a part reads something. So a part takes one
+//! cell, and one more for each loop around it that it lets through without reading; only turns that are counted take cells
+//! for each.
 ghost use Rattle.std.specs.Prelude.{◌≡◌, ℕ, ◌<◌, ◌≤◌, ◌+◌, ◌-◌, [], ◌∷◌, ◌++◌, Bool, IfOk, IfNone, IfSome, OnOk, is_some, List, length, option_map, slice_index_or, is_none, ◌&&◌, ◌==◌, Some, true, false};
 ghost use Rattle.syntect_plan.specs.Build as build;
 ghost use Rattle.syntect_pattern.specs.Trees.{Tree, alt, group, nothing, repeat, seq};
@@ -442,9 +443,9 @@ impl Plan {
         Ok(plan)
     }
 
-    /// The plan of a program none of whose nodes holds letters in a row, in a step for each cell. There is none for a pattern that has a back reference, a lookbehind for
-    /// more than characters, anchors, sequences and branches, or a lookahead in a loop that sets groups, nor where too many
-    /// cells are needed.
+    /// The plan of a program none of whose nodes holds letters in a row, in a step for each cell. There is none for a
+    /// pattern that has a back reference, a lookbehind for more than characters, anchors, sequences and branches, or a
+    /// lookahead in a loop that sets groups, nor where too many cells are needed.
     pub fn new(
         alloc: Global,
         program: &Program,

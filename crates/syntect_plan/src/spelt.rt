@@ -32,48 +32,38 @@ fn place_at(places: &[usize], node: usize) -> usize
 fn copy_of(alloc: Global, node: &Node, places: &[usize]) -> Result<Node, AllocError>
     ensures { IfOk result (λ copy. IsCopy places.now node.now copy) }
 {
-    Ok(match node {
-        Node::Nothing
-        | Node::Text {
-            letters: _,
-            rest: _,
-        } => Node::Nothing,
-        Node::Char(wanted) => Node::Char(*wanted),
-        Node::Class(class) => Node::Class(class.copy(alloc)?),
-        Node::Anchor(anchor) => Node::Anchor(*anchor),
-        Node::Same { fold, group } => Node::Same {
-            fold: *fold,
-            group: *group,
-        },
-        Node::Sequence(first, second) => {
-            Node::Sequence(place_at(places, *first), place_at(places, *second))
-        }
-        Node::Alternation(first, second) => {
-            Node::Alternation(place_at(places, *first), place_at(places, *second))
-        }
+    let at = |node: usize| place_at(places, node);
+    Ok(match *node {
+        Node::Nothing | Node::Text { .. } => Node::Nothing,
+        Node::Char(wanted) => Node::Char(wanted),
+        Node::Class(ref class) => Node::Class(class.copy(alloc)?),
+        Node::Anchor(anchor) => Node::Anchor(anchor),
+        Node::Same { fold, group } => Node::Same { fold, group },
+        Node::Sequence(first, second) => Node::Sequence(at(first), at(second)),
+        Node::Alternation(first, second) => Node::Alternation(at(first), at(second)),
         Node::Repeat {
             greedy,
             least,
             most,
             body,
         } => Node::Repeat {
-            greedy: *greedy,
-            least: *least,
-            most: *most,
-            body: place_at(places, *body),
+            greedy,
+            least,
+            most,
+            body: at(body),
         },
         Node::Group { number, body } => Node::Group {
-            number: *number,
-            body: place_at(places, *body),
+            number,
+            body: at(body),
         },
-        Node::Atomic(body) => Node::Atomic(place_at(places, *body)),
+        Node::Atomic(body) => Node::Atomic(at(body)),
         Node::Ahead { negated, body } => Node::Ahead {
-            negated: *negated,
-            body: place_at(places, *body),
+            negated,
+            body: at(body),
         },
         Node::Behind { negated, body } => Node::Behind {
-            negated: *negated,
-            body: place_at(places, *body),
+            negated,
+            body: at(body),
         },
     })
 }

@@ -9,12 +9,14 @@ use Rattle.syntect_word_ends.specs.Ends.{IsRunUpTo}
 
 -- no match of the pattern begins at a place where something stands that is none of these
 abbrev pub NoneBeginsOutside : Places → List ℕ → Type 0
-NoneBeginsOutside places pattern = (s : List ℕ) → IsUtf8 s → (place : ℕ) → is_in places (start_at s place) ≡ false
+NoneBeginsOutside places pattern = (s : List ℕ) → IsUtf8 s → (place : ℕ)
+    → is_in places (start_at s place) ≡ false
     → pattern_found pattern s place ≡ pattern_found pattern s (place + 1)
 
 -- the tree has no match but where a word begins or ends
 abbrev pub IsAtEdges : Tree → Type 0
-IsAtEdges tree = (s : List ℕ) (place : ℕ) (g : Groups) → is_word_edge s place ≡ false → matches s tree place g ≡ []
+IsAtEdges tree = (s : List ℕ) (place : ℕ) (g : Groups) → is_word_edge s place ≡ false
+    → matches s tree place g ≡ []
 
 -- no match of the pattern begins but where a word begins or ends
 abbrev pub BeginsAtEdges : List ℕ → Type 0
@@ -23,5 +25,6 @@ BeginsAtEdges pattern = (s : List ℕ) → (place : ℕ) → is_word_edge s plac
 
 -- no match of the pattern begins in white space, or else in a word, that has something behind it which is none of these
 abbrev pub NoneBeginsBefore : Bool → Places → List ℕ → Type 0
-NoneBeginsBefore blank places pattern = (s : List ℕ) → IsUtf8 s → (place e : ℕ) → IsRunUpTo blank s place e → is_in places (start_at s e) ≡ false
+NoneBeginsBefore blank places pattern = (s : List ℕ) → IsUtf8 s → (place e : ℕ)
+    → IsRunUpTo blank s place e → is_in places (start_at s e) ≡ false
     → pattern_found pattern s place ≡ pattern_found pattern s (place + 1)

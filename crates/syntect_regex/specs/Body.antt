@@ -4,4 +4,8 @@ use Rattle.syntect_regex.specs.declared.regex.RegexBody.{RegexBody}
 
 -- what it keeps for one that was not searched yet
 abbrev pub outline_in : RegexBody → Outline
-outline_in body = record { begins = record { ascii = body.ascii; wide = body.wide; end = body.end }; at_edges = body.at_edges; details = body.details }
+outline_in body = record {
+  begins = record { ascii = body.ascii; wide = body.wide; end = body.end };
+  at_edges = body.at_edges;
+  details = body.details;
+}

@@ -39,8 +39,10 @@ root_tree p = slice_index_or (trees_of p) p.root nothing
 
 -- the steps of a search are within the bound, by a pattern of so many bytes in a text so long, where the program is linear
 abbrev pub IsWithinBound : Program → ℕ → ℕ → ℕ → ℕ → Type 0
-IsWithinBound p size long before after = is_linear (root_tree p) ≡ true → after ≤ before + tree_bound (root_tree p) size long
+IsWithinBound p size long before after = is_linear (root_tree p) ≡ true
+    → after ≤ before + tree_bound (root_tree p) size long
 
 -- the same of the steps by its plan alone
 abbrev pub IsWithinPlan : Program → ℕ → ℕ → ℕ → Type 0
-IsWithinPlan p long before after = is_linear (root_tree p) ≡ true → after ≤ before + planned_steps (root_tree p) long
+IsWithinPlan p long before after = is_linear (root_tree p) ≡ true
+    → after ≤ before + planned_steps (root_tree p) long

@@ -1,11 +1,12 @@
 -- What not every pattern has.
-use Rattle.std.specs.Prelude.{◌≡◌, ◌-◌, ◌^◌, ℕ, zero, suc, Bool, true, false, List, [], Option, Some, None, option_and_then, slice_index_or}
+use Rattle.std.specs.Prelude.{◌≡◌, ◌-◌, ◌^◌, ℕ, zero, suc, Bool, true, false, List, Option, Some, None, option_and_then, slice_index_or}
 use Rattle.syntect_pattern.specs.Trees.{group_in_look}
 use Rattle.syntect_pattern.specs.Pattern.{pattern_tree}
 use Rattle.syntect_pattern_table.specs.declared.starts.Places.{Places}
+use Rattle.syntect_regex.specs.Groups.{free_groups}
 use Rattle.syntect_regex.specs.declared.details.Detail.{Detail}
 use Rattle.syntect_regex.specs.declared.details.Rare.{Rare}
-use Rattle.syntect_regex.specs.declared.details.Rare.TheVariants.{Nothing, Groups, All}
+use Rattle.syntect_regex.specs.declared.details.Rare.TheVariants.{Free, Groups, All}
 
 -- each character, and the end of the text
 abbrev pub anything : Places
@@ -15,13 +16,9 @@ anything = record { ascii = 2 ^ 128 - 1; wide = true; end = true }
 abbrev pub groups_alone : Option (List (Option Bool)) → Detail
 groups_alone looks = record { words = anything; blanks = anything; looks = looks }
 
--- the same of a pattern without groups
-abbrev pub plain : Detail
-plain = groups_alone (Some [])
-
 -- what is kept so
 abbrev pub detail_in : Rare → Detail
-detail_in Nothing = plain
+detail_in (Free count) = groups_alone (Some (free_groups count))
 detail_in (Groups looks) = groups_alone looks.value
 detail_in (All detail) = detail.value
 
@@ -33,4 +30,5 @@ look_of looks (suc n) = slice_index_or looks (suc n) None
 -- it is kept of each group of the pattern, and nothing where the text is no pattern
 abbrev pub KnowsGroups : List ℕ → Option (List (Option Bool)) → Type 0
 KnowsGroups pattern None = pattern_tree pattern ≡ None
-KnowsGroups pattern (Some looks) = (n : ℕ) → look_of looks n ≡ option_and_then (λ tree. group_in_look tree n) (pattern_tree pattern)
+KnowsGroups pattern (Some looks) = (n : ℕ)
+    → look_of looks n ≡ option_and_then (λ tree. group_in_look tree n) (pattern_tree pattern)

@@ -12,3 +12,4 @@ pub mod Looks
 pub mod Outline
 pub mod Body
 pub mod Kept
+pub mod Groups

@@ -6,7 +6,8 @@ use Rattle.syntect_pattern_table.specs.declared.node.Node.{Node}
 
 -- it is kept of each group but the whole match whether it is there, and whether it stands in a lookaround
 abbrev pub AreLooks : List Node → ℕ → List (Option Bool) → Type 0
-AreLooks nodes root looks = (n : ℕ) (tree : Tree) → tree_in nodes root ≡ group 0 tree → slice_index_or looks (suc n) None ≡ group_in_look tree (suc n)
+AreLooks nodes root looks = (n : ℕ) (tree : Tree) → tree_in nodes root ≡ group 0 tree
+    → slice_index_or looks (suc n) None ≡ group_in_look tree (suc n)
 
 -- -- A walk from the root to the parts
 -- A mark tells of a node or a group whether it was met, and if so whether it was within a lookaround.
@@ -36,7 +37,8 @@ met_in m _ n = None
 -- the same by the marks of the trees before the place
 abbrev pub met_before : List (Option Bool) → List Tree → ℕ → ℕ → Option Bool
 met_before marks ts zero n = None
-met_before marks ts (suc k) n = joined (met_in (slice_index_or marks k None) (slice_index_or ts k nothing) n) (met_before marks ts k n)
+met_before marks ts (suc k) n =
+    joined (met_in (slice_index_or marks k None) (slice_index_or ts k nothing) n) (met_before marks ts k n)
 
 -- the marks with one more at the place
 abbrev pub marked : List (Option Bool) → ℕ → Bool → List (Option Bool)
@@ -65,4 +67,5 @@ is_group _ = false
 
 -- none of the nodes before the place is a group
 abbrev pub NoGroupBefore : List Node → ℕ → Type 0
-NoGroupBefore nodes place = (k : ℕ) → k < place → is_group (slice_index_or nodes k Node.Nothing) ≡ false
+NoGroupBefore nodes place = (k : ℕ) → k < place
+    → is_group (slice_index_or nodes k Node.Nothing) ≡ false

@@ -31,7 +31,8 @@ TakesMatch match old answer new = (answer ≡ is_some match) × (new ≡ unwrap_
 
 -- the same of the program's first match from a place on
 abbrev pub Takes : List ℕ → Program → ℕ → Groups → Bool → Groups → Type 0
-Takes s p from old answer new = (tree : Tree) → IsProgramOf p tree → TakesMatch (found s tree from) old answer new
+Takes s p from old answer new = (tree : Tree) → IsProgramOf p tree
+    → TakesMatch (found s tree from) old answer new
 
 -- The answer says whether a match begins at a place from this one to the last: then the new groups are the match's, and
 -- else the old ones stay, and what is found from the place on is found from behind the last.
@@ -41,11 +42,13 @@ TakesUpTo match from last old false new = (new ≡ old) × (match from ≡ match
 
 -- the same of the program's matches
 abbrev pub TakesNear : List ℕ → Program → ℕ → ℕ → Groups → Bool → Groups → Type 0
-TakesNear s p from last old answer new = (tree : Tree) → IsProgramOf p tree → TakesUpTo (found s tree) from last old answer new
+TakesNear s p from last old answer new = (tree : Tree) → IsProgramOf p tree
+    → TakesUpTo (found s tree) from last old answer new
 
 -- a match with these groups begins at the place
 abbrev pub BeginsAt : Groups → ℕ → Type 0
-BeginsAt groups place = (start end : ℕ) → slice_index_or groups 0 None ≡ Some (start, end) → start ≡ place
+BeginsAt groups place = (start end : ℕ) → slice_index_or groups 0 None ≡ Some (start, end)
+    → start ≡ place
 
 -- The answer says whether a match begins at the place: then the new groups are the match's, and else the old ones stay, and
 -- what is found from the place on is found from behind it.
@@ -59,7 +62,8 @@ TriesAt pattern text place old answer new = TakesAt (pattern_found pattern text)
 
 -- the same of the program's matches
 abbrev pub TakesHere : List ℕ → Program → ℕ → Groups → Bool → Groups → Type 0
-TakesHere s p place old answer new = (tree : Tree) → IsProgramOf p tree → TakesAt (found s tree) place old answer new
+TakesHere s p place old answer new = (tree : Tree) → IsProgramOf p tree
+    → TakesAt (found s tree) place old answer new
 
 -- the value that was handed in and the one that was left, if one was lent
 abbrev pub Leaves : {R : Type 0} → (R → R → Type 0) → Option (MutBor R) → Unit {0} ⊎ ((MutBor R × Unit {0}) ⊎ ⊥) → Type 0

@@ -1,8 +1,9 @@
 //! What not every pattern has: what can stand behind words and white space in which matches begin, and groups.
-ghost use Rattle.std.specs.Prelude.{◌≡◌, ℕ, IfOk, List, [], Some, None, option_and_then, slice_index_or, true};
+ghost use Rattle.std.specs.Prelude.{◌≡◌, ℕ, IfOk, IfSome, List, Some, None, false, length, option_and_then, replicate, slice_index_or, true};
 ghost use Rattle.syntect_pattern.specs.Trees.{group_in_look};
 ghost use Rattle.syntect_pattern.specs.Pattern.{pattern_tree};
-ghost use Rattle.syntect_regex.specs.Details.{KnowsGroups, anything, groups_alone};
+ghost use Rattle.syntect_regex.specs.Details.{KnowsGroups, anything, groups_alone, look_of};
+ghost use Rattle.syntect_regex.specs.Groups.{free_groups};
 
 use std::alloc::{AllocError, Global};
 use std::marker::Model;
@@ -16,22 +17,46 @@ const ANYTHING: Places = Places {
     end: true,
 };
 
+/// What is known of groups.
+#[derive(Drop)]
+enum Known {
+    /// So many groups, none of which stands in a lookaround.
+    Free(u32),
+    /// Of each group whether it does, or None if the text is no pattern.
+    Listed(Box<Option<Seq<Option<bool>>>>),
+}
+
+/// Whether the groups of a pattern stand in lookarounds, the whole match aside. Where none does their number says it.
+#[derive(Drop)]
+struct Looks {
+    known: Known,
+}
+
+impl Model for Looks {
+    ghost use Rattle.std.specs.Prelude.{Bool, List, Option};
+    ghost use Rattle.syntect_regex.specs.Groups.{groups_in};
+
+    ghost Value = { Option (List (Option Bool)) };
+
+    ghost view = { λ a. groups_in a.known };
+}
+
 /// What is kept of a pattern beside where its matches begin.
 #[derive(Drop)]
 struct Detail {
     /// What can stand behind a word in which a match begins, and behind white space in which one does.
     words: Places,
     blanks: Places,
-    /// Whether the groups stand in lookarounds, the whole match aside. None if the text is no pattern.
-    looks: Option<Seq<Option<bool>>>,
+    looks: Looks,
 }
 
 /// What not every pattern has.
 #[derive(Drop)]
 enum Rare {
-    /// No group, and anything can stand behind words and white space: most patterns are so.
-    Nothing,
-    /// Groups alone.
+    /// Anything can stand behind words and white space, and of so many groups none stands in a lookaround: most patterns are
+    /// so.
+    Free(u32),
+    /// Groups alone, of each of which it is kept whether it stands in one.
     Groups(Box<Option<Seq<Option<bool>>>>),
     /// Something that can't stand behind words or white space.
     All(Box<Detail>),
@@ -68,7 +93,7 @@ impl Details {
         let detail = Detail {
             words,
             blanks,
-            looks,
+            looks: Looks::new(alloc, looks)?,
         };
         let rare = Rare::All(Box::new(alloc, detail)?);
         Ok(Details { rare })
@@ -78,10 +103,9 @@ impl Details {
     fn of_groups(alloc: Global, looks: Option<Seq<Option<bool>>>) -> Result<Details, AllocError>
         ensures { IfOk result (λ d. d ≡ groups_alone looks) }
     {
-        let rare = if are_none(&looks) {
-            Rare::Nothing
-        } else {
-            Rare::Groups(Box::new(alloc, looks)?)
+        let rare = match free_count(&looks) {
+            Some(count) => Rare::Free(count),
+            None => Rare::Groups(Box::new(alloc, looks)?),
         };
         Ok(Details { rare })
     }
@@ -91,7 +115,7 @@ impl Details {
         ensures { IfOk result (λ d. d ≡ self.now) }
     {
         let rare = match &self.rare {
-            Rare::Nothing => Rare::Nothing,
+            Rare::Free(count) => Rare::Free(*count),
             Rare::Groups(looks) => Rare::Groups(Box::new(alloc, copied_looks(alloc, &**looks)?)?),
             Rare::All(detail) => Rare::All(Box::new(alloc, copied(alloc, &**detail)?)?),
         };
@@ -124,12 +148,87 @@ impl Details {
             → result ≡ option_and_then (λ tree. group_in_look tree number) (pattern_tree pattern) }
     {
         match &self.rare {
-            Rare::All(detail) => group_among(&detail.looks, number),
+            Rare::All(detail) => detail.looks.group(number),
             Rare::Groups(looks) => group_among(&**looks, number),
-            Rare::Nothing if number == 0 => Some(false),
-            Rare::Nothing => None,
+            Rare::Free(count) => free_group(*count, number),
         }
     }
+}
+
+impl Looks {
+    /// What is known of groups, kept short.
+    fn new(alloc: Global, looks: Option<Seq<Option<bool>>>) -> Result<Looks, AllocError>
+        ensures { IfOk result (λ l. l ≡ looks) }
+    {
+        let known = match free_count(&looks) {
+            Some(count) => Known::Free(count),
+            None => Known::Listed(Box::new(alloc, looks)?),
+        };
+        Ok(Looks { known })
+    }
+
+    /// The same once more.
+    fn clone(&self, alloc: Global) -> Result<Looks, AllocError>
+        ensures { IfOk result (λ l. l ≡ self.now) }
+    {
+        let known = match &self.known {
+            Known::Free(count) => Known::Free(*count),
+            Known::Listed(looks) => Known::Listed(Box::new(alloc, copied_looks(alloc, &**looks)?)?),
+        };
+        Ok(Looks { known })
+    }
+
+    /// Whether the group of the number stands in a lookaround. None without such a group.
+    fn group(&self, number: usize) -> Option<bool>
+        ensures { (pattern : List ℕ) → KnowsGroups pattern self.now
+            → result ≡ option_and_then (λ tree. group_in_look tree number) (pattern_tree pattern) }
+    {
+        match &self.known {
+            Known::Free(count) => free_group(*count, number),
+            Known::Listed(looks) => group_among(&**looks, number),
+        }
+    }
+}
+
+/// What is known of the group of the number where so many stand in no lookaround.
+fn free_group(count: u32, number: usize) -> Option<bool>
+    ensures { result ≡ look_of (free_groups count) number }
+{
+    if number <= count as usize {
+        Some(false)
+    } else {
+        None
+    }
+}
+
+/// Whether all groups are there, and none stands in a lookaround.
+fn are_free(looks: &[Option<bool>]) -> bool
+    ensures { result ≡ true → looks.now ≡ replicate (length looks.now) (Some false) }
+{
+    let mut count = 0;
+    while count < looks.len() {
+        if looks[count] != Some(false) {
+            return false;
+        }
+        count += 1;
+    }
+    true
+}
+
+/// How many groups it is of, if none of them stands in a lookaround.
+fn free_count(looks: &Option<Seq<Option<bool>>>) -> Option<u32>
+    ensures { IfSome result (λ count. looks.now ≡ Some (free_groups count)) }
+{
+    let Some(looks) = looks else {
+        return None;
+    };
+    if looks.is_empty() {
+        return Some(0);
+    }
+    if looks.len() < 2 || !are_free(looks.as_slice()) {
+        return None;
+    }
+    u32::try_from(looks.len() - 1).ok()
 }
 
 /// What is kept of the group of the number, by what is kept of all.
@@ -173,7 +272,7 @@ fn copied(alloc: Global, detail: &Detail) -> Result<Detail, AllocError>
     Ok(Detail {
         words: detail.words,
         blanks: detail.blanks,
-        looks: copied_looks(alloc, &detail.looks)?,
+        looks: detail.looks.clone(alloc)?,
     })
 }
 
@@ -182,14 +281,4 @@ fn is_anything(places: &Places) -> bool
     ensures { result ≡ true → places.now ≡ anything }
 {
     places.ascii == u128::MAX && places.wide && places.end
-}
-
-/// Whether it is of a pattern, and of none of its groups.
-fn are_none(looks: &Option<Seq<Option<bool>>>) -> bool
-    ensures { result ≡ true → looks.now ≡ Some [] }
-{
-    match looks {
-        Some(looks) => looks.is_empty(),
-        None => false,
-    }
 }

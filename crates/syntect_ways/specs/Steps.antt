@@ -23,4 +23,5 @@ on_from (Some j) k = k j
 -- the place after the letters, if they stand there one after the other
 abbrev pub after_letters : List ℕ → Bool → List ℕ → ℕ → Option ℕ
 after_letters s fold [] i = Some i
-after_letters s fold (c ∷ cs) i = on_from (after_char (holds (from_to fold c c)) (char_at s i) i) (after_letters s fold cs)
+after_letters s fold (c ∷ cs) i =
+    on_from (after_char (holds (from_to fold c c)) (char_at s i) i) (after_letters s fold cs)

@@ -1,8 +1,7 @@
-use Rattle.std.proofs.Common.{length, ◌≡◌, ap, subst, ◌∙◌}
+use Rattle.std.proofs.Common.{ap, subst, ◌∙◌}
 use Rattle.std.specs.Prelude.{IfSome}
-use Rattle.syntect_pattern.specs.Trees.{group_count}
 use Rattle.syntect_pattern_table.specs.Builder.{tree_in}
-use Rattle.syntect_pattern_reader.specs.Compiled.{tree_read}
+use Rattle.syntect_pattern_reader.specs.Compiled.{CountsGroups, tree_read}
 use Rattle.syntect_pattern_reader.proofs.compiler.compile.Goals as goal
 
 pub returns-in_default : goal.returns-in_default
@@ -12,5 +11,5 @@ pub returns : goal.returns
 returns c = record {
   tree = tree_in c.in-Some.reader.builder.nodes c.in-Some.body;
   reads = c.in_ok-reader.ensures.reads ∙ ap tree_read c.in-Some.is;
-  program = c.in_ok-program.ensures (subst (λ f. IfSome f (λ x. group_count (tree_in x.0.builder.nodes x.1) ≡ length x.0.names)) c.in-Some.is c.in_ok-reader.ensures.groups);
+  program = c.in_ok-program.ensures (subst (λ f. IfSome f CountsGroups) c.in-Some.is c.in_ok-reader.ensures.groups);
 }

@@ -39,7 +39,7 @@ loop-place-preserved c =
     c.firsts_of-next.ensures ts x l before ∙ ap (begins x) (sym tree) in
     let first : (x : ℕ) → x < 130 → is_in p x ≡ (reads (get_or ts place nothing) x || stays (get_or ts place nothing) x) =
     λ x l. c.either.ensures x ∙ ap (λ (y : Begins). y.read || y.stay) (begun x l) in
-    let placed = c.in_ok-push-3.ensures in
+    let placed = c.in_ok-push-3.ensures.ok in
     let rowed = c.push_reserved-in-loop-place.ensures.items in
     record {
       count = ap length placed ∙ omega (arith, length-append ps (p ∷ []), c.loop-place.invariant.count);
@@ -68,7 +68,7 @@ loop-place-preserved-in-Char c =
     let tree = tree-is nodes c.requires place c.index-nodes-place.result (omega arith) c.index-nodes-place.is (Node.Char c.in-Char.wanted) c.in-Char.is in
     let begun : (x : ℕ) → x < 130 → begins_at x (row_at p fs 0) ≡ begins x (get_or ts place nothing) =
     λ x l. one-begins x p (range c.in-Char.wanted c.in-Char.wanted) (c.places_of_char.ensures x l) ∙ ap (begins x) (sym tree) in
-    let placed = c.in_ok-push.ensures in
+    let placed = c.in_ok-push.ensures.ok in
     let rowed = c.push_reserved.ensures.items in
     record {
       count = ap length placed ∙ omega (arith, length-append ps (p ∷ []), c.loop-place.invariant.count);
@@ -107,7 +107,7 @@ loop-place-preserved-then-index-eq0 c =
     (sym (ap (λ (q : Places). begins_at x (row_at q fs 0)) placed_there) ∙ sym (ap (λ (r : ℕ). begins_at x (row_at (get_or ps first none_there) fs r)) none)
     ∙ c.loop-place.invariant.right x l first (omega (arith, inside, c.loop-place.invariant.count)))
     ∙ ap (begins x) (sym tree) in
-    let placed = c.in_ok-push-2.ensures in
+    let placed = c.in_ok-push-2.ensures.ok in
     let rowed = c.push_reserved-then-index-eq0.ensures.items in
     record {
       count = ap length placed ∙ omega (arith, length-append ps (p ∷ []), c.loop-place.invariant.count);

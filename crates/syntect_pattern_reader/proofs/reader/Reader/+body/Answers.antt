@@ -1,13 +1,12 @@
-use Rattle.std.proofs.Common.{rules, arith, ◌+◌, ap, refl, sym, ◌∙◌, Some}
+use Rattle.std.proofs.Common.{rules, arith, ap, refl, sym, ◌∙◌, Some}
 use Rattle.std.specs.Prelude.{chars}
 use Rattle.syntect_pattern.specs.Sets.{from_to}
 use Rattle.syntect_pattern.specs.Trees.{Tree, one_of, anchor, line_start, line_end}
 use Rattle.syntect_pattern_table.specs.Builder.{tree_in}
-use Rattle.syntect_pattern.specs.Grammar.{Names, Place, empty_body, forward, opening, step, item, firm, dot_set}
-use Rattle.syntect_pattern_words.specs.BodyViews.{body_of}
+use Rattle.syntect_pattern.specs.Grammar.{Names, Place, forward, opening, step, item, firm, dot_set}
 use Rattle.syntect_pattern_words.specs.OpeningViews.{flags_as, place_as, wrapped, opening_as, opened_as}
 use Rattle.syntect_pattern_words.specs.TokenViews.{token_as}
-use Rattle.syntect_pattern_reader.specs.ReaderViews.{body_as, went_on, tree_as}
+use Rattle.syntect_pattern_reader.specs.ReaderViews.{body_as, inner_of, went_on, tree_as}
 use Rattle.syntect_pattern_table.proofs.BuilderLaws.{Grows-trans}
 use Rattle.syntect_pattern_reader.proofs.BodyReading.{body-stuck, body-over, body-refuses, body-goes_on, body-shorter}
 use Rattle.syntect_pattern_reader.proofs.GroupLaws.{group-item}
@@ -77,7 +76,7 @@ pub group-returns-clause-reads : goal.group-returns-clause-reads
 group-returns-clause-reads t c = λ groups serves.
     let opened = ap opening (sym (c.forward.ensures.place c.args.self.now.names)) ∙ c.in_ok-opening.ensures ∙ ap (opened_as c.read_opening.new.names) c.in-Some.is
     ∙ ap (λ o. Some (opening_as o, place_as c.read_opening.new.names c.in-Some.place)) c.in-Opens.is in
-    group-item groups (body_of groups (c.args.depth + 1) empty_body) c.args.depth (body_as c.args.self.now.builder.nodes c.args.body) (place_as c.args.self.now.names c.args.here)
+    group-item groups (inner_of groups c.args.depth) c.args.depth (body_as c.args.self.now.builder.nodes c.args.body) (place_as c.args.self.now.names c.args.here)
     (wrapped c.in-Opens.wrap) (place_as c.read_opening.new.names c.in-Some.place) opened c.if-depth-ge-DEEPEST.false
     (tree_in c.body.new.self.builder.nodes c.in-Some-2.inner) (place_as c.body.new.self.names c.in-Some-2.last)
     (c.in_ok-inner.ensures.reads groups (λ e. serves (c.in_ok-item.ensures.refers ∙ c.in_ok-node.ensures.refers ∙ e)) ∙ ap (tree_as c.body.new.self) c.in-Some-2.is) (sym c.begins.ensures.value ∙ c.if-not-begins.false)
@@ -94,43 +93,43 @@ group-returns-clause-reads t c = λ groups serves.
 
 pub step-returns-in_ok-bracket-in-Bracket-clause-reads : goal.step-returns-in_ok-bracket-in-Bracket-clause-reads
 step-returns-in_ok-bracket-in-Bracket-clause-reads t c = λ groups serves.
-    ap (λ k. step groups (body_of groups (c.args.depth + 1) empty_body) c.args.depth (body_as c.args.self.now.builder.nodes c.args.body) (place_as c.args.self.now.names c.args.here) (token_as k)) c.in-Bracket.is
-    ∙ c.in_ok-bracket-in-Bracket.ensures.reads groups (body_of groups (c.args.depth + 1) empty_body)
+    ap (λ k. step groups (inner_of groups c.args.depth) c.args.depth (body_as c.args.self.now.builder.nodes c.args.body) (place_as c.args.self.now.names c.args.here) (token_as k)) c.in-Bracket.is
+    ∙ c.in_ok-bracket-in-Bracket.ensures.reads groups (inner_of groups c.args.depth)
 
 pub step-returns-in_ok-backslash-in-Backslash-clause-reads : goal.step-returns-in_ok-backslash-in-Backslash-clause-reads
 step-returns-in_ok-backslash-in-Backslash-clause-reads t c = λ groups serves.
-    ap (λ k. step groups (body_of groups (c.args.depth + 1) empty_body) c.args.depth (body_as c.args.self.now.builder.nodes c.args.body) (place_as c.args.self.now.names c.args.here) (token_as k)) c.in-Backslash.is
-    ∙ c.in_ok-backslash-in-Backslash.ensures.reads groups serves (body_of groups (c.args.depth + 1) empty_body) c.args.depth
+    ap (λ k. step groups (inner_of groups c.args.depth) c.args.depth (body_as c.args.self.now.builder.nodes c.args.body) (place_as c.args.self.now.names c.args.here) (token_as k)) c.in-Backslash.is
+    ∙ c.in_ok-backslash-in-Backslash.ensures.reads groups serves (inner_of groups c.args.depth) c.args.depth
 
 pub step-returns-in_ok-dot_item-in-Dot-clause-reads : goal.step-returns-in_ok-dot_item-in-Dot-clause-reads
 step-returns-in_ok-dot_item-in-Dot-clause-reads t c = λ groups serves.
-    ap (λ k. step groups (body_of groups (c.args.depth + 1) empty_body) c.args.depth (body_as c.args.self.now.builder.nodes c.args.body) (place_as c.args.self.now.names c.args.here) (token_as k)) c.in-Dot.is
+    ap (λ k. step groups (inner_of groups c.args.depth) c.args.depth (body_as c.args.self.now.builder.nodes c.args.body) (place_as c.args.self.now.names c.args.here) (token_as k)) c.in-Dot.is
     ∙ ap (λ f. item groups (body_as c.args.self.now.builder.nodes c.args.body) (one_of (dot_set f.any)) (forward 1 (place_as c.args.self.now.names c.args.here))) (sym c.forward-in-Dot.ensures.flags)
     ∙ ap (λ (q : Place). item groups (body_as c.args.self.now.builder.nodes c.args.body) (one_of (dot_set c.forward-in-Dot.result.flags.any)) q) (sym (c.forward-in-Dot.ensures.place c.args.self.now.names))
     ∙ c.in_ok-dot_item-in-Dot.ensures.reads groups
 
 pub step-returns-in_ok-anchor_item-in-Caret-clause-reads : goal.step-returns-in_ok-anchor_item-in-Caret-clause-reads
 step-returns-in_ok-anchor_item-in-Caret-clause-reads t c = λ groups serves.
-    ap (λ k. step groups (body_of groups (c.args.depth + 1) empty_body) c.args.depth (body_as c.args.self.now.builder.nodes c.args.body) (place_as c.args.self.now.names c.args.here) (token_as k)) c.in-Caret.is
+    ap (λ k. step groups (inner_of groups c.args.depth) c.args.depth (body_as c.args.self.now.builder.nodes c.args.body) (place_as c.args.self.now.names c.args.here) (token_as k)) c.in-Caret.is
     ∙ ap (λ (q : Place). firm groups (body_as c.args.self.now.builder.nodes c.args.body) (anchor line_start) q) (sym (c.forward-in-Caret.ensures.place c.args.self.now.names))
     ∙ c.in_ok-anchor_item-in-Caret.ensures.reads groups
 
 pub step-returns-in_ok-anchor_item-in-Dollar-clause-reads : goal.step-returns-in_ok-anchor_item-in-Dollar-clause-reads
 step-returns-in_ok-anchor_item-in-Dollar-clause-reads t c = λ groups serves.
-    ap (λ k. step groups (body_of groups (c.args.depth + 1) empty_body) c.args.depth (body_as c.args.self.now.builder.nodes c.args.body) (place_as c.args.self.now.names c.args.here) (token_as k)) c.in-Dollar.is
+    ap (λ k. step groups (inner_of groups c.args.depth) c.args.depth (body_as c.args.self.now.builder.nodes c.args.body) (place_as c.args.self.now.names c.args.here) (token_as k)) c.in-Dollar.is
     ∙ ap (λ (q : Place). firm groups (body_as c.args.self.now.builder.nodes c.args.body) (anchor line_end) q) (sym (c.forward-in-Dollar.ensures.place c.args.self.now.names))
     ∙ c.in_ok-anchor_item-in-Dollar.ensures.reads groups
 
 pub step-returns-in_ok-char_item-in-Plain-clause-reads : goal.step-returns-in_ok-char_item-in-Plain-clause-reads
 step-returns-in_ok-char_item-in-Plain-clause-reads t c = λ groups serves.
-    ap (λ k. step groups (body_of groups (c.args.depth + 1) empty_body) c.args.depth (body_as c.args.self.now.builder.nodes c.args.body) (place_as c.args.self.now.names c.args.here) (token_as k)) c.in-Plain.is
+    ap (λ k. step groups (inner_of groups c.args.depth) c.args.depth (body_as c.args.self.now.builder.nodes c.args.body) (place_as c.args.self.now.names c.args.here) (token_as k)) c.in-Plain.is
     ∙ ap (λ f. item groups (body_as c.args.self.now.builder.nodes c.args.body) (one_of (from_to f.fold c.in-Plain.c c.in-Plain.c)) (forward 1 (place_as c.args.self.now.names c.args.here))) (sym c.forward-in-Plain.ensures.flags)
     ∙ ap (λ (q : Place). item groups (body_as c.args.self.now.builder.nodes c.args.body) (one_of (from_to c.forward-in-Plain.result.flags.fold c.in-Plain.c c.in-Plain.c)) q) (sym (c.forward-in-Plain.ensures.place c.args.self.now.names))
     ∙ c.in_ok-char_item-in-Plain.ensures.reads groups
 
 pub step-returns-in_ok-group-in-Opener-clause-reads : goal.step-returns-in_ok-group-in-Opener-clause-reads
 step-returns-in_ok-group-in-Opener-clause-reads t c = λ groups serves.
-    ap (λ k. step groups (body_of groups (c.args.depth + 1) empty_body) c.args.depth (body_as c.args.self.now.builder.nodes c.args.body) (place_as c.args.self.now.names c.args.here) (token_as k)) c.in-Opener.is
+    ap (λ k. step groups (inner_of groups c.args.depth) c.args.depth (body_as c.args.self.now.builder.nodes c.args.body) (place_as c.args.self.now.names c.args.here) (token_as k)) c.in-Opener.is
     ∙ c.in_ok-group-in-Opener.ensures.reads groups serves
 
 pub body-returns-in_default-clause-refers : goal.body-returns-in_default-clause-refers

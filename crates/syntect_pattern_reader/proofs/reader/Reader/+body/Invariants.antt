@@ -1,12 +1,12 @@
 use Rattle.std.specs.Prelude.{chars}
-use Rattle.std.proofs.Common.{◌≡◌, ◌-◌, ◌+◌, ◌*◌, length, Option}
+use Rattle.std.proofs.Common.{◌≡◌, ◌-◌, ◌+◌, ◌*◌, length}
 use denote.Text.{Utf8}
 use denote.Shadow.{shadow}
 use Rattle.syntect_pattern_table.specs.Builder.{Grows}
-use Rattle.syntect_pattern.specs.Grammar.{Names, empty_body}
+use Rattle.syntect_pattern.specs.Grammar.{empty_body}
 use Rattle.syntect_pattern_words.specs.BodyViews.{body_of}
 use Rattle.syntect_pattern_words.specs.OpeningViews.{place_as}
-use Rattle.syntect_pattern_reader.specs.ReaderViews.{body_as, IsBodyIn, Keeps, Serves}
+use Rattle.syntect_pattern_reader.specs.ReaderViews.{body_as, IsBodyIn, Keeps, WithGroups}
 use Rattle.syntect_pattern_reader.proofs.reader.Reader.+body.Given as goal
 
 abbrev pub decreases-group : goal.decreases-group
@@ -24,7 +24,8 @@ invariant-body-steps l = record {
   grows : Grows l.fn.self.builder.nodes l.self.builder.nodes;
   inside : IsBodyIn l.self.builder.nodes l.body;
   refers : Keeps l.fn.self.refers l.self.refers;
-  reads : (groups : Option Names) → Serves l.self.refers l.known groups → body_of groups l.depth empty_body (place_as l.fn.self.names l.fn.place) ≡ body_of groups l.depth (body_as l.self.builder.nodes l.body) (place_as l.self.names l.place);
+  reads : WithGroups l.self l.known (λ groups. body_of groups l.depth empty_body (place_as l.fn.self.names l.fn.place)
+      ≡ body_of groups l.depth (body_as l.self.builder.nodes l.body) (place_as l.self.names l.place));
 }
 
 abbrev pub decreases-body-steps : goal.decreases-body-steps

@@ -9,19 +9,18 @@ use Rattle.syntect_pattern_reader.proofs.ReaderLaws.{body-in-grown, body-grown, 
 use Rattle.syntect_pattern_reader.proofs.reader.Reader.char_item.Goals as goal
 
 pub firm-requires-clause-body : goal.firm-requires-clause-body
-firm-requires-clause-body c = body-in-grown c.args.self.now.builder.nodes c.looped_char.new.self.builder.nodes c.args.body c.in_ok-item.ensures.grows c.requires.body
+firm-requires-clause-body c = body-in-grown c.args.self.now.builder.nodes c.looped_char.new.self.nodes c.args.body c.in_ok-item.ensures.grows c.requires.body
 
 pub returns-clause-reads : goal.returns-clause-reads
 returns-clause-reads c = λ known.
     let old = c.args.self.now in
-    let new = c.looped_char.new.self in
+    let new = c.looped_char.new.self.nodes in
     let char : Tree = one_of (from_to c.args.place.flags.fold c.args.c c.args.c) in
-    item-is known (body_as old.builder.nodes c.args.body) (body_as new.builder.nodes c.args.body) char (looped_tree c.in-Some.looping char)
-    (item_tree new.builder.nodes c.in_ok-item.item)
-    (place_as old.names c.args.place) old.names new.names (λ names. place_as names c.in-Some.rest)
+    item-is known (body_as old.builder.nodes c.args.body) (body_as new c.args.body) char (looped_tree c.in-Some.looping char)
+    (item_tree new c.in_ok-item.item)
+    (place_as old.names c.args.place) (place_as old.names c.in-Some.rest)
     (went_on c.firm.new.self c.in_ok-firm.field-0)
     (c.read_looping.ensures old.names char ∙ ap (repeated old.names char) c.in-Some.is)
     c.in_ok-item.ensures.is
-    (body-grown old.builder.nodes new.builder.nodes c.args.body c.in_ok-item.ensures.grows c.requires.body)
-    c.in_ok-item.ensures.names
+    (body-grown old.builder.nodes new c.args.body c.in_ok-item.ensures.grows c.requires.body)
     (c.in_ok-firm.ensures.reads known)

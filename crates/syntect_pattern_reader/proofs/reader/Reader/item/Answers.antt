@@ -7,16 +7,15 @@ use Rattle.syntect_pattern_reader.proofs.ReaderLaws.{body-in-grown, body-grown, 
 use Rattle.syntect_pattern_reader.proofs.reader.Reader.item.Goals as goal
 
 pub firm-requires-clause-body : goal.firm-requires-clause-body
-firm-requires-clause-body c = body-in-grown c.args.self.now.builder.nodes c.push_looping.new.self.builder.nodes c.args.body c.in_ok-node.ensures.grows c.requires.body
+firm-requires-clause-body c = body-in-grown c.args.self.now.builder.nodes c.push_looping.new.self.nodes c.args.body c.in_ok-node.ensures.grows c.requires.body
 
 pub returns-clause-reads : goal.returns-clause-reads
 returns-clause-reads c = λ known.
-    item-is known (body_as c.args.self.now.builder.nodes c.args.body) (body_as c.push_looping.new.self.builder.nodes c.args.body)
-    (tree_in c.args.self.now.builder.nodes c.args.node) (looped_tree c.in-Some.looping (tree_in c.args.self.now.builder.nodes c.args.node)) (tree_in c.push_looping.new.self.builder.nodes c.in_ok-node.node)
-    (place_as c.args.self.now.names c.args.place) c.args.self.now.names c.push_looping.new.self.names (λ names. place_as names c.in-Some.rest)
+    item-is known (body_as c.args.self.now.builder.nodes c.args.body) (body_as c.push_looping.new.self.nodes c.args.body)
+    (tree_in c.args.self.now.builder.nodes c.args.node) (looped_tree c.in-Some.looping (tree_in c.args.self.now.builder.nodes c.args.node)) (tree_in c.push_looping.new.self.nodes c.in_ok-node.node)
+    (place_as c.args.self.now.names c.args.place) (place_as c.args.self.now.names c.in-Some.rest)
     (went_on c.firm.new.self c.in_ok-firm.field-0)
     (c.read_looping.ensures c.args.self.now.names (tree_in c.args.self.now.builder.nodes c.args.node) ∙ ap (repeated c.args.self.now.names (tree_in c.args.self.now.builder.nodes c.args.node)) c.in-Some.is)
     c.in_ok-node.ensures.holds.is
-    (body-grown c.args.self.now.builder.nodes c.push_looping.new.self.builder.nodes c.args.body c.in_ok-node.ensures.grows c.requires.body)
-    c.in_ok-node.ensures.names
+    (body-grown c.args.self.now.builder.nodes c.push_looping.new.self.nodes c.args.body c.in_ok-node.ensures.grows c.requires.body)
     (c.in_ok-firm.ensures.reads known)
