@@ -5,8 +5,8 @@ ghost use Rattle.syntect_flats.specs.Packed.{IsPacked, IsRow, unpacked};
 
 use std::alloc::{AllocError, Global};
 
-/// How many slots there are for numbers of rows, by a sum over their words. Two rows of one slot are no error: an equal row that
-/// came before the other is then kept once more.
+/// How many slots there are for numbers of rows, one of which a sum over a row's words gives. Where two rows share a slot the
+/// earlier one is no longer found there, and is kept once more if it comes again.
 const SLOTS: usize = 1024;
 
 /// How many rows are told apart. A table that has more of them ends there, and says nothing of what lies behind.
@@ -60,7 +60,8 @@ fn is_row(bits: &[u64], words: u16, number: u8, row: &[u64]) -> bool
     end <= bits.len() && row.len() == words as usize && are_words(bits, start, row)
 }
 
-/// The slot of a row.
+/// The slot of a row. Turning and multiplying by an odd number without pattern mix the bits of all words, so that rows that differ
+/// in few bits seldom share one.
 fn slot_of(row: &[u64]) -> usize
     ensures { result < 1024 }
 {
@@ -71,12 +72,13 @@ fn slot_of(row: &[u64]) -> usize
     (sum >> 32) as usize % SLOTS
 }
 
-/// The number of a row, which is added where it doesn't have this number. None where no number is left.
+/// The number of a row: the expected one, if it is that of an equal row, else that of the row itself, which is added. None where
+/// no number is left.
 fn number_of(
     bits: &mut Vec<u64>,
     words: u16,
     count: &mut u16,
-    near: u8,
+    expected: u8,
     row: &[u64],
 ) -> Result<Option<u8>, AllocError>
     requires few { count.old < 257 }
@@ -88,8 +90,8 @@ fn number_of(
     ensures stays { (n : ℕ) (r : List ℕ) → IsRow words bits.old.items r n
         → IsRow words bits.new.items r n }
 {
-    if is_row(bits.as_slice(), words, near, row) {
-        return Ok(Some(near));
+    if is_row(bits.as_slice(), words, expected, row) {
+        return Ok(Some(expected));
     }
     if *count >= MOST {
         return Ok(None);
@@ -110,6 +112,7 @@ pub(crate) fn rows_packed(alloc: Global, words: u16, rows: &[u64]) -> Result<Pac
     let mut numbers = Vec::with_capacity(alloc, rows.len() / words as usize)?;
     let mut bits = Vec::new(alloc);
     let mut count = 0;
+    // A slot that wasn't used says 0 too, which does no harm: whether the rows are equal is looked at
     let mut slots = [0u8; SLOTS];
     let mut rest = rows;
     while rest.len() >= words as usize {

@@ -3,15 +3,17 @@ ghost use Rattle.std.specs.Prelude.{◌≡◌, ◌∷◌, [], drop, length, IfNo
 ghost use Rattle.syntect_letters.specs.Letters.{letters_of};
 
 /// How many letters there are at most beside the first one.
-const MOST: usize = 12;
+pub const MOST: usize = 12;
 
 /// One letter or more in a row, each a character up to U+00FF, with `fold` any that simple folding makes equal to it.
 #[derive(Clone, Copy, Debug)]
 pub struct Letters {
     pub fold: bool,
+    /// The first letter.
     pub first: u8,
     /// From where on the others stand in their array.
     pub from: u8,
+    /// The others, at the array's end, one behind the other.
     pub others: [u8; MOST],
 }
 

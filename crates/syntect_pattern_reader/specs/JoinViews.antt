@@ -23,7 +23,7 @@ abbrev pub IsItemIn : ℕ → Item → Type 0
 IsItemIn n (Item.Node k) = k < n
 IsItemIn n (Item.Letter fold letter) = Unit {0}
 
--- the nodes of all items are
+-- the same of all items
 abbrev pub AreItemsIn : ℕ → List Item → Type 0
 AreItemsIn n [] = Unit {0}
 AreItemsIn n (x ∷ xs) = IsItemIn n x × AreItemsIn n xs

@@ -38,7 +38,7 @@ Keeps before after = before ≡ true → after ≡ true
 abbrev pub Serves : Bool → Option Names → Option Names → Type 0
 Serves refers known these = refers ≡ true → known ≡ these
 
--- it holds with any groups that those that were known may be taken for
+-- it holds whichever groups the known ones may be taken for
 abbrev pub WithGroups : Reader → Option Names → (Option Names → Type 0) → Type 0
 WithGroups r known Holds = (groups : Option Names) → Serves r.refers known groups → Holds groups
 
@@ -62,7 +62,7 @@ module _ (old new : Reader) (body : Body) (place : Place) where
   abbrev pub ReadsItem : Tree → Option (Body × Place) → Type 0
   ReadsItem tree found = (known : Option Names) → GoesOn (λ b p. grammar.item known b tree p) found
 
-  -- the grammar reads this tree as an item that none may follow, whatever groups are known
+  -- the grammar reads this tree as an item that no quantifier may follow, whatever groups are known
   abbrev pub ReadsFirm : Tree → Option (Body × Place) → Type 0
   ReadsFirm tree found = (known : Option Names) → GoesOn (λ b p. grammar.firm known b tree p) found
 

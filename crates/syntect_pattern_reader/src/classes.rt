@@ -1,14 +1,14 @@
 //! Classes in brackets.
 ghost use Rattle.std.specs.Prelude.{◌≡◌, ◌<◌, [], List, ℕ, true, length, nat_eq, chars, codes, option_map, IfOk, OnOk, IfSome};
 ghost use Rattle.std.specs.List.{starts_with};
-ghost use Rattle.syntect_pattern.specs.Sets.{Set, both, either, from_to, negate_if};
+ghost use Rattle.syntect_pattern.specs.Sets.{Set, from_to, negate_if};
 ghost use Rattle.syntect_pattern_table.specs.SetTable.{AreOrdered, set_in, sets, part_set, made_before, SetsGrow, HasSet};
 ghost use Rattle.syntect_pattern_words.specs.MemberViews.{leaf_set, leafed, started};
 ghost use Rattle.syntect_pattern.specs.Grammar.{dot_set};
 ghost use Rattle.syntect_pattern.specs.Classes as definition;
 
 use std::alloc::{AllocError, Global};
-use syntect_pattern_table::sets::{Class, Part};
+use syntect_pattern_table::sets::Part;
 use syntect_pattern_words::members::{Leaf, Next, next_in, plain_item, posix_item};
 use syntect_pattern_words::text::{after, begins};
 use syntect_values::seq::Seq;

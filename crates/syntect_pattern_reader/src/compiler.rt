@@ -1,5 +1,5 @@
 //! From the text of a pattern to its program.
-ghost use Rattle.std.specs.Prelude.{◌≡◌, ◌<◌, ℕ, suc, false, Option, IfOk, IfSome, length, chars, option_map};
+ghost use Rattle.std.specs.Prelude.{◌≡◌, ◌<◌, false, Option, IfOk, IfSome, length, chars};
 ghost use Rattle.syntect_pattern_table.specs.Builder.{tree_in};
 ghost use Rattle.syntect_pattern_table.specs.Program.{IsProgramOf};
 ghost use Rattle.syntect_pattern.specs.Grammar.{tree_of, whole};

@@ -1,5 +1,5 @@
 //! The reading of a pattern.
-ghost use Rattle.std.specs.Prelude.{◌≡◌, ◌<◌, ◌≤◌, ◌+◌, [], ℕ, true, Option, Some, length, chars, option_map, IfOk, OnOk, IfSome};
+ghost use Rattle.std.specs.Prelude.{◌≡◌, ◌<◌, ◌≤◌, [], ℕ, true, Option, length, chars, option_map, IfOk, OnOk, IfSome};
 ghost use Rattle.syntect_pattern_table.specs.Builder.{Grows, Holds, tree_in};
 ghost use Rattle.syntect_pattern_words.specs.BodyViews.{body_of};
 ghost use Rattle.syntect_pattern_words.specs.OpeningViews.{place_as, wrapped};

@@ -13,7 +13,7 @@ use Rattle.syntect_pattern_table.specs.declared.program.Program.{Program}
 abbrev pub trees_of : Program → List Tree
 trees_of p = trees p.nodes
 
--- what is found at the place: a node whose tree is made of those of its parts, or none past the end
+-- what is found at the place: a node whose tree is made of those of its parts, or none, where the tree is the empty one
 abbrev pub IsNodeOf : List Tree → ℕ → Option (Bor Node) → Type 0
 IsNodeOf ts place found = MatchOption found (slice_index_or ts place nothing ≡ nothing)
     (λ n. slice_index_or ts place nothing ≡ node_tree ts n.now)

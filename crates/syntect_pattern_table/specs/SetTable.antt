@@ -13,7 +13,8 @@ part_set before (Part.Range low high) = range low high
 part_set before (Part.Alike low high) = alike low high
 part_set before (Part.Named n) = set_of_named n
 part_set before (Part.Negated a) = negated (slice_index_or before a none)
-part_set before (Part.Either a b) = either (slice_index_or before a none) (slice_index_or before b none)
+part_set before (Part.Either a b) =
+    either (slice_index_or before a none) (slice_index_or before b none)
 part_set before (Part.Both a b) = both (slice_index_or before a none) (slice_index_or before b none)
 
 abbrev pub sets_from : List Set → List Part → List Set

@@ -10,7 +10,8 @@ use Rattle.syntect_pattern.specs.Trees.{Anchor, line_end, text_end, last_line_en
 -- what stands at a place: an ASCII character, 128 for any other one, and 129 for the text's end
 unfoldable pub start_at : List ℕ → ℕ → ℕ
 start_at s i =
-    if nat_lt i (length s) then (if nat_lt (slice_index s i) 128 then slice_index s i else 128) else 129
+    if nat_lt i (length s) then (if nat_lt (slice_index s i) 128 then slice_index s i else 128)
+    else 129
 
 -- a character of the set can stand there
 abbrev pub can_hold : Set → ℕ → Bool

@@ -73,8 +73,7 @@ pub record Adds (ts : List Tree) (old : List Cell) (t : Tree) (f g w k : ℕ) (n
   pub part : IsPart ts new k t f g
   pub cost : all_cells ts new ≡ all_cells ts old + w
 
--- the loop behind a turn has a cell, which may be the loop's own; with a turn and the loop itself it takes what the loop
--- takes
+-- the loop behind a turn has a cell, which may be the loop's own; with a turn and the loop it takes what the loop takes
 pub record AddsMore (ts : List Tree) (old : List Cell) (g : ℕ) (greedy : Bool) (least : ℕ)
     (most : Option ℕ) (a : Tree) (more : ℕ) (new : List Cell) : Type 0 where
   pub extends : Extends ts old new

@@ -1,7 +1,7 @@
--- What is known of a pattern's groups.
+-- Which groups of a pattern stand in lookarounds, as it keeps that.
 use Rattle.std.specs.Prelude.{ℕ, zero, suc, Bool, false, List, [], replicate, Option, Some}
-use Rattle.syntect_regex.specs.declared.details.Known.{Known}
-use Rattle.syntect_regex.specs.declared.details.Known.TheVariants.{Free, Listed}
+use Rattle.syntect_regex.specs.declared.details.GroupLooks.{GroupLooks}
+use Rattle.syntect_regex.specs.declared.details.GroupLooks.TheVariants.{Free, Each}
 
 -- of so many groups, and of the whole match in front of them, that none stands in a lookaround; nothing is kept of the whole
 -- match alone
@@ -9,7 +9,7 @@ abbrev pub free_groups : ℕ → List (Option Bool)
 free_groups zero = []
 free_groups (suc n) = replicate (suc (suc n)) (Some false)
 
--- what is known of groups
-abbrev pub groups_in : Known → Option (List (Option Bool))
+-- of each group whether it stands in a lookaround, or none where the text is no pattern
+abbrev pub groups_in : GroupLooks → Option (List (Option Bool))
 groups_in (Free count) = Some (free_groups count)
-groups_in (Listed looks) = looks.value
+groups_in (Each looks) = looks.value

@@ -38,7 +38,8 @@ met_in m _ n = None
 abbrev pub met_before : List (Option Bool) → List Tree → ℕ → ℕ → Option Bool
 met_before marks ts zero n = None
 met_before marks ts (suc k) n =
-    joined (met_in (slice_index_or marks k None) (slice_index_or ts k nothing) n) (met_before marks ts k n)
+    joined (met_in (slice_index_or marks k None) (slice_index_or ts k nothing) n)
+    (met_before marks ts k n)
 
 -- the marks with one more at the place
 abbrev pub marked : List (Option Bool) → ℕ → Bool → List (Option Bool)

@@ -17,19 +17,19 @@ const ANYTHING: Places = Places {
     end: true,
 };
 
-/// What is known of groups.
+/// Whether the groups of a pattern stand in lookarounds.
 #[derive(Drop)]
-enum Known {
+enum GroupLooks {
     /// So many groups, none of which stands in a lookaround.
     Free(u32),
     /// Of each group whether it does, or None if the text is no pattern.
-    Listed(Box<Option<Seq<Option<bool>>>>),
+    Each(Box<Option<Seq<Option<bool>>>>),
 }
 
-/// Whether the groups of a pattern stand in lookarounds, the whole match aside. Where none does their number says it.
+/// The same, the whole match aside, seen as one list, or none where the text is no pattern.
 #[derive(Drop)]
 struct Looks {
-    known: Known,
+    groups: GroupLooks,
 }
 
 impl Model for Looks {
@@ -38,7 +38,7 @@ impl Model for Looks {
 
     ghost Value = { Option (List (Option Bool)) };
 
-    ghost view = { λ a. groups_in a.known };
+    ghost view = { λ a. groups_in a.groups };
 }
 
 /// What is kept of a pattern beside where its matches begin.
@@ -53,10 +53,10 @@ struct Detail {
 /// What not every pattern has.
 #[derive(Drop)]
 enum Rare {
-    /// Anything can stand behind words and white space, and of so many groups none stands in a lookaround: most patterns are
-    /// so.
+    /// Anything can stand behind words and white space, and none of so many groups stands in a lookaround, as in most patterns.
     Free(u32),
-    /// Groups alone, of each of which it is kept whether it stands in one.
+    /// Groups alone: of each whether it stands in a lookaround, or None if the text is no pattern. (`Looks` in its place would
+    /// make each pattern larger.)
     Groups(Box<Option<Seq<Option<bool>>>>),
     /// Something that can't stand behind words or white space.
     All(Box<Detail>),
@@ -156,26 +156,29 @@ impl Details {
 }
 
 impl Looks {
-    /// What is known of groups, kept short.
+    /// The groups of a pattern, by their number alone where none stands in a lookaround.
     fn new(alloc: Global, looks: Option<Seq<Option<bool>>>) -> Result<Looks, AllocError>
         ensures { IfOk result (λ l. l ≡ looks) }
     {
-        let known = match free_count(&looks) {
-            Some(count) => Known::Free(count),
-            None => Known::Listed(Box::new(alloc, looks)?),
+        let groups = match free_count(&looks) {
+            Some(count) => GroupLooks::Free(count),
+            None => GroupLooks::Each(Box::new(alloc, looks)?),
         };
-        Ok(Looks { known })
+        Ok(Looks { groups })
     }
 
     /// The same once more.
     fn clone(&self, alloc: Global) -> Result<Looks, AllocError>
         ensures { IfOk result (λ l. l ≡ self.now) }
     {
-        let known = match &self.known {
-            Known::Free(count) => Known::Free(*count),
-            Known::Listed(looks) => Known::Listed(Box::new(alloc, copied_looks(alloc, &**looks)?)?),
+        let groups = match &self.groups {
+            GroupLooks::Free(count) => GroupLooks::Free(*count),
+            GroupLooks::Each(looks) => GroupLooks::Each(Box::new(
+                alloc,
+                copied_looks(alloc, &**looks)?,
+            )?),
         };
-        Ok(Looks { known })
+        Ok(Looks { groups })
     }
 
     /// Whether the group of the number stands in a lookaround. None without such a group.
@@ -183,14 +186,14 @@ impl Looks {
         ensures { (pattern : List ℕ) → KnowsGroups pattern self.now
             → result ≡ option_and_then (λ tree. group_in_look tree number) (pattern_tree pattern) }
     {
-        match &self.known {
-            Known::Free(count) => free_group(*count, number),
-            Known::Listed(looks) => group_among(&**looks, number),
+        match &self.groups {
+            GroupLooks::Free(count) => free_group(*count, number),
+            GroupLooks::Each(looks) => group_among(&**looks, number),
         }
     }
 }
 
-/// What is known of the group of the number where so many stand in no lookaround.
+/// Whether the group of the number stands in a lookaround, where none of so many does. None without such a group.
 fn free_group(count: u32, number: usize) -> Option<bool>
     ensures { result ≡ look_of (free_groups count) number }
 {
