@@ -1,25 +1,27 @@
 -- What a table tells of patterns.
-use Rattle.std.proofs.Common.{◌≡◌, ◌==◌, ◌&&◌, ◌<◌, ◌≤◌, ◌+◌, ◌-◌, ◌*◌, ◌/◌, ◌%◌, ℕ, zero, suc, Bool, true, false, List, [], ◌∷◌, length, get_or, map, refl, sym, ap, subst, ◌∙◌, ◌⊎◌, arith, inl, inr, if◌then◌else◌}
+use Rattle.std.proofs.Common.{◌≡◌, ◌==◌, ◌&&◌, ◌<◌, ◌≤◌, ◌+◌, ◌*◌, ◌/◌, ◌%◌, ℕ, zero, suc, Bool, true, false, List, [], ◌∷◌, length, get_or, map, refl, sym, ap, subst, ◌∙◌, ◌⊎◌, arith, inl, inr, if◌then◌else◌}
 use Rattle.std.specs.Int.{bit_at}
 use Rattle.std.specs.Prelude.{◌||◌, not}
 use Rattle.std.specs.Global.{Box, Vec}
 use Rattle.std.specs.List.{list_any}
-use Rattle.std.proofs.lemmas.Bool.{cases_lt, le-ltb, lt-ltb, ne_eqb, not-false}
+use Rattle.std.proofs.lemmas.Bool.{cases_lt, le-ltb, lt-ltb, ne_eqb, not-false, not-true}
 use Rattle.std.proofs.lemmas.Bool.Decides.{eqb_tells}
 use Rattle.std.proofs.lemmas.List.{get_or-map, length-map}
 use Rattle.std.proofs.lemmas.Nat.Bits.{bit_at-suc, bit_at_lowest}
 use Rattle.syntect_pattern_table.specs.Starts.{is_in}
 use Rattle.syntect_pattern_table.specs.declared.starts.Places.{Places}
 use Rattle.syntect_flats.specs.Packed.{IsPacked, unpacked}
-use Rattle.syntect_flats.specs.Rows.{AreRowsOf, BeginIn, IsTabled, MarkCuts, bit_of, is_cut_in}
+use Rattle.syntect_flats.specs.Rows.{AreRowsOf, BeginIn, IsTabled, bit_of}
+use Rattle.syntect_flats.specs.Sides.{first_row, places_on}
 use Rattle.syntect_flats.specs.Slims.{origin_of, widened}
-use Rattle.syntect_flats.specs.Told.{AreCoarser, HoldsMore, IsCoarser, KeepsAll, bits_where, entry_of, has_captures_in, is_marked, places_where, flats_in, spot_of, spot_origin, told_at, told_by, told_from}
+use Rattle.syntect_flats.specs.Told.{AreCoarser, HoldsMore, IsCoarser, KeepsAll, bits_where, entry_of, has_captures_in, is_told, places_where, flats_in, spot_of, spot_origin, told_at, told_by, told_from}
 use Rattle.syntect_flats.specs.declared.flats.Flat.{Flat}
 use Rattle.syntect_flats.specs.declared.forms.Form.{Form}
 use Rattle.syntect_flats.specs.declared.forms.Table.{Table}
+use Rattle.syntect_flats.specs.declared.sides.Side.{Side}
 use Rattle.syntect_flats.specs.declared.slims.Slim.{Slim}
 use Rattle.syntect_flats.specs.declared.spots.Spot.{Spot}
-use Rattle.syntect_flats.proofs.RowLaws.{blank_cuts, blank_is_cut, word_cuts, word_is_cut}
+use Rattle.syntect_flats.proofs.RowLaws.{is_true, side_out}
 
 -- ---- bits that are set where something holds ----
 
@@ -98,31 +100,27 @@ odd_entry index false =
     let even : (index * 2 + 0) % 2 ≡ 0 = omega arith in
     ap (λ n. n == 1) even
 
-is_false : (b : Bool) → (b ≡ true → true ≡ false) → b ≡ false
-is_false true h = h refl
-is_false false h = refl
-
-module _ (any : Places) (rows cuts : List ℕ) (words : ℕ) where
+module _ (any : Places) (rows : List ℕ) (words : ℕ) where
   abbrev told : ℕ → List Spot → List Flat
-  told index spots = told_from any rows cuts words index spots
+  told index spots = told_from any rows words index spots
 
   pub length_told : (index : ℕ) (spots : List Spot) → length (told index spots) ≡ length spots
   length_told index [] = refl
   length_told index (spot ∷ spots) = ap suc (length_told (suc index) spots)
 
-  told_get : (index k : ℕ) (spots : List Spot) (s : Spot) (d : Flat) → k < length spots → get_or (told index spots) k d ≡ told_at any rows cuts words (index + k) (get_or spots k s)
+  told_get : (index k : ℕ) (spots : List Spot) (s : Spot) (d : Flat) → k < length spots → get_or (told index spots) k d ≡ told_at any rows words (index + k) (get_or spots k s)
   told_get index k [] s d l = absurd (omega (arith, l))
   told_get index zero (spot ∷ spots) s d l =
       let same : index ≡ index + 0 = omega arith in
-      ap (λ n. told_at any rows cuts words n spot) same
+      ap (λ n. told_at any rows words n spot) same
   told_get index (suc k) (spot ∷ spots) s d l =
       let same : suc index + k ≡ index + suc k = omega arith in
-      told_get (suc index) k spots s d (omega (arith, l)) ∙ ap (λ n. told_at any rows cuts words n (get_or spots k s)) same
+      told_get (suc index) k spots s d (omega (arith, l)) ∙ ap (λ n. told_at any rows words n (get_or spots k s)) same
 
-  told_first : (k : ℕ) (spots : List Spot) (s : Spot) (d : Flat) → k < length (told 0 spots) → get_or (told 0 spots) k d ≡ told_at any rows cuts words k (get_or spots k s)
+  told_first : (k : ℕ) (spots : List Spot) (s : Spot) (d : Flat) → k < length (told 0 spots) → get_or (told 0 spots) k d ≡ told_at any rows words k (get_or spots k s)
   told_first k spots s d l =
       let same : 0 + k ≡ k = omega arith in
-      told_get 0 k spots s d (omega (arith, l, length_told 0 spots)) ∙ ap (λ n. told_at any rows cuts words n (get_or spots k s)) same
+      told_get 0 k spots s d (omega (arith, l, length_told 0 spots)) ∙ ap (λ n. told_at any rows words n (get_or spots k s)) same
 
   pub captures_told : (index : ℕ) (spots : List Spot) → list_any (λ f. f.has_captures) (told index spots) ≡ list_any (λ s. has_captures_in s.entry) spots
   captures_told index [] = refl
@@ -137,78 +135,54 @@ module _ (any : Places) (rows cuts : List ℕ) (words : ℕ) where
 
   module _ (k : ℕ) (spot : Spot) where
     abbrev flat : Flat
-    flat = told_at any rows cuts words k spot
+    flat = told_at any rows words k spot
 
-    begins_so : (x : ℕ) → x < 130 → is_in flat.begins x ≡ (is_in any x && bit_of rows words x k)
-    begins_so x l = in_where (λ y. is_in any y && bit_of rows words y k) x l
+    begins_so : (x : ℕ) → x < 130 → is_in flat.begins x ≡ (is_in any x && is_told Side.Here rows words k x)
+    begins_so x l = in_where (λ y. is_in any y && is_told Side.Here rows words k y) x l
 
-    word_so : (x : ℕ) → x < 130 → is_in flat.words x ≡ not (is_marked cuts words (1 + x) k)
-    word_so x l = in_where (λ y. not (is_marked cuts words (1 + y) k)) x l
-
-    blank_so : (x : ℕ) → x < 130 → is_in flat.blanks x ≡ not (is_marked cuts words (131 + x) k)
-    blank_so x l = in_where (λ y. not (is_marked cuts words (131 + y) k)) x l
-
-    -- where a row has a mark of it, it is cut off
-    cut_so : (row : ℕ) → row < 261 → is_marked cuts words row k ≡ true → is_cut_in row flat ≡ true
-    cut_so row l e = elim (cases_lt row 1) [
-      | inl b ↦
-          (let first : 0 ≡ row = omega (arith, b) in
-          subst (λ n. is_cut_in n flat ≡ true) first (ap (λ n. is_marked cuts words n k) first ∙ e))
-      | inr b ↦ elim (cases_lt row 131) [
-        | inl w ↦
-            (let at : 1 + (row - 1) ≡ row = omega (arith, b) in
-            let l : row - 1 < 130 = omega (arith, w, b) in
-            subst (λ n. is_cut_in n flat ≡ true) at (word_cuts flat (row - 1) l (word_so (row - 1) l ∙ ap not (ap (λ n. is_marked cuts words n k) at ∙ e))))
-        | inr w ↦
-            (let at : 131 + (row - 131) ≡ row = omega (arith, w) in
-            let i : row - 131 < 130 = omega (arith, w, l) in
-            subst (λ n. is_cut_in n flat ≡ true) at (blank_cuts flat (row - 131) (blank_so (row - 131) i ∙ ap not (ap (λ n. is_marked cuts words n k) at ∙ e))))
-      ]
-    ]
+    -- what it says of a side has its bit in the row
+    side_so : (side : Side) (x : ℕ) → x < 130 → is_in (places_on side flat) x ≡ true → bit_of rows words (first_row side + x) k ≡ true
+    side_so Side.Here x l e = both (is_in any x) (is_told Side.Here rows words k x) (sym (begins_so x l) ∙ e)
+    side_so Side.Word x l e = sym (in_where (is_told Side.Word rows words k) x l) ∙ e
+    side_so Side.Blank x l e = sym (in_where (is_told Side.Blank rows words k) x l) ∙ e
 
   module _ (spots : List Spot) where
     pub told_begin_in : BeginIn any (told 0 spots)
     told_begin_in x k d l m e =
-        ap (λ f. is_in f.begins x) (told_first k spots (spot_of d) d m) ∙ begins_so k (get_or spots k (spot_of d)) x l ∙ none_of_both (is_in any x) (bit_of rows words x k) e
+        ap (λ f. is_in f.begins x) (told_first k spots (spot_of d) d m) ∙ begins_so k (get_or spots k (spot_of d)) x l ∙ none_of_both (is_in any x) (is_told Side.Here rows words k x) e
 
-    pub told_rows : length spots ≤ 65536 → AreRowsOf rows words (told 0 spots)
-    told_rows few = record {
-      few = λ some. omega (arith, few, length_told 0 spots);
-      set = λ some x k d l m e.
-          both (is_in any x) (bit_of rows words x k) (sym (begins_so k (get_or spots k (spot_of d)) x l) ∙ ap (λ f. is_in f.begins x) (sym (told_first k spots (spot_of d) d m)) ∙ e);
+    pub told_rows : AreRowsOf rows words (told 0 spots)
+    told_rows = record {
+      sides = λ side x k d l m e.
+          side_so k (get_or spots k (spot_of d)) side x l (ap (λ f. is_in (places_on side f) x) (sym (told_first k spots (spot_of d) d m)) ∙ e);
+      edges = λ k d m e. not-false (bit_of rows words 130 k) (ap (λ f. f.at_edges) (sym (told_first k spots (spot_of d) d m)) ∙ e);
     }
-
-    pub told_cuts : MarkCuts cuts words (told 0 spots)
-    told_cuts row k d s l m = ap (is_cut_in row) (told_first k spots (spot_of d) d l) ∙ cut_so k (get_or spots k (spot_of d)) row s m
 
   -- ---- less exact than what they were made of ----
 
-  module _ (flats : List Flat) (some : 0 < words) (r : AreRowsOf rows words flats) (m : MarkCuts cuts words flats) (b : BeginIn any flats) where
+  module _ (flats : List Flat) (r : AreRowsOf rows words flats) (b : BeginIn any flats) where
     module _ (k : ℕ) (d : Flat) (inside : k < length flats) where
       abbrev old : Flat
       old = get_or flats k d
 
-      begin_less : (x : ℕ) → x < 130 → (is_in any x && bit_of rows words x k) ≡ false → is_in old.begins x ≡ false
+      begin_less : (x : ℕ) → x < 130 → (is_in any x && is_told Side.Here rows words k x) ≡ false → is_in old.begins x ≡ false
       begin_less x l e = elim (kinds (is_in any x)) [
-        | inl t ↦ is_false (is_in old.begins x) (λ f. sym (r.set some x k d l inside f) ∙ sym (ap (λ q. q && bit_of rows words x k) t) ∙ e)
+        | inl t ↦ side_out Side.Here rows words flats (r.sides Side.Here) x k d l inside (sym (ap (λ q. q && is_told Side.Here rows words k x) t) ∙ e)
         | inr f ↦ b x k d l inside f
       ]
 
-      word_less : (x : ℕ) → x < 130 → not (is_marked cuts words (1 + x) k) ≡ false → is_in old.words x ≡ false
-      word_less x l e = word_is_cut old x l (m (1 + x) k d (omega (arith, l)) inside (not-false (is_marked cuts words (1 + x) k) e))
+      edges_less : not (bit_of rows words 130 k) ≡ true → old.at_edges ≡ true
+      edges_less e = is_true (old.at_edges) (λ f. sym (r.edges k d inside f) ∙ not-true (bit_of rows words 130 k) e)
 
-      blank_less : (x : ℕ) → x < 130 → not (is_marked cuts words (131 + x) k) ≡ false → is_in old.blanks x ≡ false
-      blank_less x l e = blank_is_cut old x (m (131 + x) k d (omega (arith, l)) inside (not-false (is_marked cuts words (131 + x) k) e))
-
-      coarser_at : IsCoarser old (told_at any rows cuts words k (spot_of old))
+      coarser_at : IsCoarser old (told_at any rows words k (spot_of old))
       coarser_at = record {
         context = refl;
         index = half_entry old.index old.has_captures;
         has_captures = odd_entry old.index old.has_captures;
         begins = holds_more old.begins _ (λ x l e. begin_less x l (sym (begins_so k (spot_of old) x l) ∙ e));
-        words = holds_more old.words _ (λ x l e. word_less x l (sym (word_so k (spot_of old) x l) ∙ e));
-        blanks = holds_more old.blanks _ (λ x l e. blank_less x l (sym (blank_so k (spot_of old) x l) ∙ e));
-        at_edges = λ e. m 0 k d (omega arith) inside e;
+        words = holds_more old.words _ (λ x l e. side_out Side.Word rows words flats (r.sides Side.Word) x k d l inside (sym (in_where (is_told Side.Word rows words k) x l) ∙ e));
+        blanks = holds_more old.blanks _ (λ x l e. side_out Side.Blank rows words flats (r.sides Side.Blank) x k d l inside (sym (in_where (is_told Side.Blank rows words k) x l) ∙ e));
+        at_edges = edges_less;
       }
 
     pub told_coarser : (spots : List Spot) → spots ≡ map spot_of flats → AreCoarser flats (told 0 spots)
@@ -217,7 +191,7 @@ module _ (any : Places) (rows cuts : List ℕ) (words : ℕ) where
         record {
           count = length_told 0 spots ∙ same;
           each = λ k d l.
-              subst (λ f. IsCoarser (get_or flats k d) f) (sym (told_first k spots (spot_of d) d (omega (arith, l, same, length_told 0 spots)) ∙ ap (λ ss. told_at any rows cuts words k (get_or ss k (spot_of d))) is ∙ ap (told_at any rows cuts words k) (get_or-map spot_of flats k d (spot_of d) l)))
+              subst (λ f. IsCoarser (get_or flats k d) f) (sym (told_first k spots (spot_of d) d (omega (arith, l, same, length_told 0 spots)) ∙ ap (λ ss. told_at any rows words k (get_or ss k (spot_of d))) is ∙ ap (told_at any rows words k) (get_or-map spot_of flats k d (spot_of d) l)))
               (coarser_at k d l);
         }
 
@@ -242,36 +216,27 @@ keeps_plain flats slims places e any b = (
 
 -- a table was made of these patterns
 pub record IsTableOf (flats : List Flat) (table : Table) : Type 0 where
-  pub some : 0 < table.words
-  pub few : length flats ≤ 65536
   pub room : length flats ≤ table.words * 64
-  pub rows_whole : IsPacked table.words table.rows
-  pub cuts_whole : IsPacked table.words table.cuts
+  pub whole : IsPacked table.words table.rows
   pub rows : AreRowsOf (unpacked table.words table.rows) table.words flats
-  pub cuts : MarkCuts (unpacked table.words table.cuts) table.words flats
   pub spots : table.spots.items ≡ map spot_of flats
 
 module _ (flats : List Flat) (table : Table) (of : IsTableOf flats table) (any : Places) (b : BeginIn any flats) where
   coarser_shown : AreCoarser flats (told_by any table)
-  coarser_shown = told_coarser any (unpacked table.words table.rows) (unpacked table.words table.cuts) table.words flats of.some of.rows of.cuts b table.spots.items of.spots
+  coarser_shown = told_coarser any (unpacked table.words table.rows) table.words flats of.rows b table.spots.items of.spots
 
-  shown_spots : length table.spots.items ≡ length flats
-  shown_spots = ap length of.spots ∙ length-map flats spot_of
-
-  tabled_shown : IsTabled table.rows table.cuts table.words (told_by any table)
+  tabled_shown : IsTabled table.rows table.words (told_by any table)
   tabled_shown = record {
-    begins = told_rows any (unpacked table.words table.rows) (unpacked table.words table.cuts) table.words table.spots.items (omega (arith, of.few, shown_spots));
-    cut_off = told_cuts any (unpacked table.words table.rows) (unpacked table.words table.cuts) table.words table.spots.items;
+    rows = told_rows any (unpacked table.words table.rows) table.words table.spots.items;
     room = omega (arith, of.room, coarser_shown.count);
-    rows_whole = of.rows_whole;
-    cuts_whole = of.cuts_whole;
+    whole = of.whole;
   }
 
 pub keeps_table : (flats : List Flat) (table : Box Table) → IsTableOf flats table.value → KeepsAll flats (Form.Tabled table)
 keeps_table flats table of any b = (
   record {
     counted = sym (coarser_shown flats table.value of any b).count;
-    any_begins = told_begin_in any (unpacked table.value.words table.value.rows) (unpacked table.value.words table.value.cuts) table.value.words table.value.spots.items;
+    any_begins = told_begin_in any (unpacked table.value.words table.value.rows) table.value.words table.value.spots.items;
     tabled = tabled_shown flats table.value of any b;
   },
   coarser_shown flats table.value of any b,
@@ -285,11 +250,11 @@ module _ (any : Places) (boxed : Box Table) (flats : List Flat) (view : flats_in
 
   pub table_captures : list_any (λ s. has_captures_in s.entry) table.spots.items ≡ list_any (λ f. f.has_captures) flats
   table_captures =
-      sym (captures_told any (unpacked table.words table.rows) (unpacked table.words table.cuts) table.words 0 table.spots.items) ∙ ap (list_any (λ f. f.has_captures)) told_so
+      sym (captures_told any (unpacked table.words table.rows) table.words 0 table.spots.items) ∙ ap (list_any (λ f. f.has_captures)) told_so
 
   pub table_length : length table.spots.items ≡ length flats
-  table_length = sym (length_told any (unpacked table.words table.rows) (unpacked table.words table.cuts) table.words 0 table.spots.items) ∙ ap length told_so
+  table_length = sym (length_told any (unpacked table.words table.rows) table.words 0 table.spots.items) ∙ ap length told_so
 
   pub table_origin : (index : ℕ) (spot : Spot) (d : Flat) → index < length flats → spot ≡ get_or table.spots.items index spot → spot_origin spot ≡ origin_of (get_or flats index d)
   table_origin index spot d inside is =
-      spot_stands any (unpacked table.words table.rows) (unpacked table.words table.cuts) table.words table.spots.items flats index spot d told_so inside is
+      spot_stands any (unpacked table.words table.rows) table.words table.spots.items flats index spot d told_so inside is

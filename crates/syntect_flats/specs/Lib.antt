@@ -1,4 +1,5 @@
 pub mod Rows
+pub mod Sides
 pub mod Slims
 pub mod Told
 pub mod Packed

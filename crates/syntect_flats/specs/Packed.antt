@@ -9,7 +9,8 @@ row_at words bits number = take words (drop (number * words) bits)
 
 -- this is the row of the number, and whole
 abbrev pub IsRow : ℕ → List ℕ → List ℕ → ℕ → Type 0
-IsRow words bits row number = (number * words + words ≤ length bits) × (row_at words bits number ≡ row)
+IsRow words bits row number =
+    (number * words + words ≤ length bits) × (row_at words bits number ≡ row)
 
 -- all rows, one behind the other
 abbrev pub unpacked : ℕ → Packed → List ℕ
@@ -17,4 +18,5 @@ unpacked words table = flat_map (row_at words table.bits.items) table.numbers.it
 
 -- each row is whole
 abbrev pub IsPacked : ℕ → Packed → Type 0
-IsPacked words table = All (λ number. number * words + words ≤ length table.bits.items) table.numbers.items
+IsPacked words table =
+    All (λ number. number * words + words ≤ length table.bits.items) table.numbers.items

@@ -7,5 +7,7 @@ pub mod flats;
 mod forms;
 pub mod list;
 mod packed;
+mod rows;
+mod sides;
 mod slims;
 mod spots;

@@ -1,5 +1,5 @@
-//! Rows of bits, of which those that are equal are kept once. Most rows of a list are: there are few patterns that can begin
-//! with any one of most characters.
+//! Rows of bits, of which those that are equal are kept once. Most rows of a list are: most characters differ for few of its
+//! patterns, be it as what one begins with or as what stands behind.
 ghost use Rattle.std.specs.Prelude.{◌≡◌, ◌<◌, ◌≤◌, ◌+◌, ◌*◌, ℕ, List, length, take, drop, true, IfOk, IfSome, OnOk, slice_index_or};
 ghost use Rattle.syntect_flats.specs.Packed.{IsPacked, IsRow, unpacked};
 
@@ -21,16 +21,17 @@ pub struct Packed {
     pub bits: Vec<u64>,
 }
 
-/// A word of a row; this one behind the table's end.
+/// A word of a row; behind the table's end one whose bits are all set.
 #[inline]
-pub(crate) fn word_in(table: &Packed, words: u16, row: usize, word: usize, past: u64) -> u64
+pub(crate) fn word_in(table: &Packed, words: u16, row: usize, word: usize) -> u64
     requires within { word < words }
     requires packed { IsPacked words table.now }
-    ensures { result ≡ slice_index_or (unpacked words table.now) (row * words + word) past }
+    ensures { result
+        ≡ slice_index_or (unpacked words table.now) (row * words + word) 18446744073709551615 }
 {
     match table.numbers.get(row) {
         Some(number) => table.bits[*number as usize * words as usize + word],
-        None => past,
+        None => u64::MAX,
     }
 }
 
@@ -102,6 +103,35 @@ fn number_of(
     Ok(Some(number))
 }
 
+/// The number of a row: that of the row before it, if they are equal, else that of an equal one whose number stands in its slot,
+/// or of the row itself, which is added. None where no number is left.
+#[inline]
+fn next_number(
+    bits: &mut Vec<u64>,
+    words: u16,
+    count: &mut u16,
+    slots: &mut [u8; SLOTS],
+    before: u8,
+    row: &[u64],
+) -> Result<Option<u8>, AllocError>
+    requires few { count.old < 257 }
+    requires whole { length bits.old.items ≡ count.old * words }
+    requires row { length row.now ≡ words }
+    ensures few { count.new < 257 }
+    ensures whole { OnOk result (length bits.new.items ≡ count.new * words) }
+    ensures number { IfOk result (λ n. IfSome n (IsRow words bits.new.items row.now)) }
+    ensures stays { (n : ℕ) (r : List ℕ) → IsRow words bits.old.items r n
+        → IsRow words bits.new.items r n }
+{
+    if is_row(bits.as_slice(), words, before, row) {
+        return Ok(Some(before));
+    }
+    let slot = slot_of(row);
+    let number = number_of(bits, words, count, slots[slot], row)?;
+    slots[slot] = number.unwrap_or(0);
+    Ok(number)
+}
+
 /// Rows of so many words as a table keeps them: all of them, or those before one for which no number is left.
 pub(crate) fn rows_packed(alloc: Global, words: u16, rows: &[u64]) -> Result<Packed, AllocError>
     requires { 0 < words }
@@ -115,14 +145,15 @@ pub(crate) fn rows_packed(alloc: Global, words: u16, rows: &[u64]) -> Result<Pac
     // A slot that wasn't used says 0 too, which does no harm: whether the rows are equal is looked at
     let mut slots = [0u8; SLOTS];
     let mut rest = rows;
+    let mut last = 0;
     while rest.len() >= words as usize {
         let (row, behind) = rest.split_at(words as usize);
-        let slot = slot_of(row);
-        let Some(number) = number_of(&mut bits, words, &mut count, slots[slot], row)? else {
+        let next = next_number(&mut bits, words, &mut count, &mut slots, last, row)?;
+        let Some(number) = next else {
             break;
         };
         numbers.push(number)?;
-        slots[slot] = number;
+        last = number;
         rest = behind;
     }
     bits.shrink_to_fit();

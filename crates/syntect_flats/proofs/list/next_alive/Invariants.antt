@@ -1,13 +1,13 @@
 use Rattle.std.proofs.Common.{◌≡◌, length, get_or, List, ◌-◌, ◌≤◌, ◌<◌, ℕ}
 use Rattle.syntect_flats.specs.Packed.{unpacked}
-use Rattle.syntect_flats.specs.Rows.{AreRowsOf, IsOut, MarkCuts}
+use Rattle.syntect_flats.specs.Rows.{AreRowsOf, IsOut}
 use Rattle.syntect_flats.specs.declared.flats.Flat.{Flat}
 use Rattle.syntect_flats.proofs.list.next_alive.Given as goal
 
 abbrev pub invariant-loop-next : goal.invariant-loop-next
 invariant-loop-next l = record {
   later : l.from ≤ l.next;
-  passed : (flats : List Flat) (k : ℕ) (d : Flat) → length flats ≡ l.count → AreRowsOf (unpacked l.words l.rows) l.words flats → MarkCuts (unpacked l.words l.cuts) l.words flats
+  passed : (flats : List Flat) (k : ℕ) (d : Flat) → length flats ≡ l.count → AreRowsOf (unpacked l.words l.rows) l.words flats
       → l.from ≤ k → k < l.next → k < l.count → IsOut l.outlook (get_or flats k d);
 }
 

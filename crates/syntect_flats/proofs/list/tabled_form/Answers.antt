@@ -6,12 +6,8 @@ pub returns : goal.returns
 returns c =
     keeps_table c.args.flats.now c.in_ok-new.field-0
     (subst (IsTableOf c.args.flats.now) (sym c.in_ok-new.ensures.ok) (record {
-      some = omega (arith, c.requires.some);
-      few = c.requires.few;
       room = omega arith;
-      rows_whole = c.in_ok-rows.ensures.whole;
-      cuts_whole = c.in_ok-cuts.ensures.whole;
+      whole = c.in_ok-rows.ensures.whole;
       rows = c.in_ok-rows.ensures.rows;
-      cuts = c.in_ok-cuts.ensures.cuts;
       spots = rw c.in-Some.is at c.in_ok-spots.ensures;
     }))
