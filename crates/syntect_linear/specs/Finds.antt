@@ -24,8 +24,10 @@ FindsGroups s p from groups = (tree : Tree) → IsProgramOf p tree → groups �
 -- these are the groups of that match, which begins at the last place or before; or none does, and what is found from the
 -- place on is found from behind the last
 abbrev pub FindsUpTo : List ℕ → Program → ℕ → ℕ → Option Groups → Type 0
-FindsUpTo s p from last None = (tree : Tree) → IsProgramOf p tree → found s tree from ≡ found s tree (suc last)
-FindsUpTo s p from last (Some groups) = (tree : Tree) → IsProgramOf p tree → found s tree from ≡ Some groups
+FindsUpTo s p from last None =
+    (tree : Tree) → IsProgramOf p tree → found s tree from ≡ found s tree (suc last)
+FindsUpTo s p from last (Some groups) =
+    (tree : Tree) → IsProgramOf p tree → found s tree from ≡ Some groups
 
 -- the rows are there of all places from this one on
 pub record Covers (x : Ground) (begin : ℕ) : Type 0 where

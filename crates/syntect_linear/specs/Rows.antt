@@ -21,16 +21,19 @@ ends_here s t i = is_some (reaches Some (ending_here s (matches s t) i i []))
 module _ (s : List ℕ) (ts : List Tree) where
   -- the rows, from that of the text's end on, have where the whole match ends
   abbrev pub AreRows : List Cell → List (List (Option ℕ)) → Type 0
-  AreRows cells rows = (q k : ℕ) → length s - q < length rows → IsCharBoundary s q → k < length cells
+  AreRows cells rows =
+      (q k : ℕ) → length s - q < length rows → IsCharBoundary s q → k < length cells
       → row_end rows (length s - q) k ≡ ends s ts cells k q
 
   -- what is known of a place is so
   abbrev pub AreKnown : List Cell → ℕ → List (Option (Option ℕ)) → Type 0
-  AreKnown cells place now = (k : ℕ) (o : Option ℕ) → slice_index_or now k None ≡ Some o → o ≡ ends s ts cells k place
+  AreKnown cells place now =
+      (k : ℕ) (o : Option ℕ) → slice_index_or now k None ≡ Some o → o ≡ ends s ts cells k place
 
   -- each row has the places where what a lookbehind looks for ends
   abbrev pub AreSights : List ℕ → List (List Bool) → Type 0
-  AreSights behinds sights = (b p : ℕ) → b < length behinds → plain (slice_index_or ts (slice_index_or behinds b 0) nothing) ≡ true → IsCharBoundary s p
+  AreSights behinds sights = (b p : ℕ) → b < length behinds
+      → plain (slice_index_or ts (slice_index_or behinds b 0) nothing) ≡ true → IsCharBoundary s p
       → row_flag sights b p ≡ ends_here s (slice_index_or ts (slice_index_or behinds b 0) nothing) p
 
 -- the one place alone
@@ -47,8 +50,10 @@ flag_of row place = slice_index_or row place false
 
 -- the row has the places where matches end that begin in the other row
 pub record IsImage (s : List ℕ) (t : Tree) (before row : List Bool) : Type 0 where
-  pub sound : (j : ℕ) → flag_of row j ≡ true → (q : ℕ) × (flag_of before q ≡ true) × (leads_to s t q j ≡ true)
-  pub complete : (q j : ℕ) → flag_of before q ≡ true → leads_to s t q j ≡ true → flag_of row j ≡ true
+  pub sound : (j : ℕ) → flag_of row j ≡ true
+      → (q : ℕ) × (flag_of before q ≡ true) × (leads_to s t q j ≡ true)
+  pub complete : (q j : ℕ) → flag_of before q ≡ true → leads_to s t q j ≡ true
+      → flag_of row j ≡ true
 
 -- characters begin at all places of the row, or the text ends there
 abbrev pub AreBounds : List ℕ → List Bool → Type 0

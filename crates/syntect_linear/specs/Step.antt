@@ -19,6 +19,7 @@ abbrev pub IsNodeAt : Ground → ℕ → Node → Type 0
 IsNodeAt x k node = IsTreeAt x k (node_tree (trees_of x.program.now) node)
 
 -- the cell has a loop
-pub record IsLoopAt (x : Ground) (k : ℕ) (greedy : Bool) (least : ℕ) (most : Option ℕ) : Type 0 where
+pub record IsLoopAt (x : Ground) (k : ℕ) (greedy : Bool) (least : ℕ)
+    (most : Option ℕ) : Type 0 where
   pub body : Tree
   pub at : IsTreeAt x k (repeat greedy least most body)

@@ -15,7 +15,8 @@ unknown (Some o ∷ now) = unknown now
 
 -- Steps at a place: what is known of cells that are as high as this or higher stays, and the steps are paid for by what became
 -- known, but for a few.
-pub record Takes (x : Ground) (high : ℕ) (old : List (Option (Option ℕ))) (before : ℕ) (new : List (Option (Option ℕ))) (after few : ℕ) : Type 0 where
+pub record Takes (x : Ground) (high : ℕ) (old : List (Option (Option ℕ))) (before : ℕ)
+    (new : List (Option (Option ℕ))) (after few : ℕ) : Type 0 where
   pub long : length new ≡ length old
   pub kept : (j : ℕ) → high ≤ height_of x j → slice_index_or new j None ≡ slice_index_or old j None
   pub paid : after + 4 * unknown new ≤ before + 4 * unknown old + few
@@ -54,11 +55,13 @@ look_cost _ = 0
 
 -- the steps of a walk through a tree
 abbrev pub Within : ℕ → Tree → ℕ → ℕ → ℕ → ℕ → Type 0
-Within long t place end before after = after ≤ before + (stay_cost t + read_cost t * (end - place) + look_cost t * suc long)
+Within long t place end before after =
+    after ≤ before + (stay_cost t + read_cost t * (end - place) + look_cost t * suc long)
 
 -- the same of a cell's tree
 pub record Costs (x : Ground) (k place before end after : ℕ) : Type 0 where
-  pub steps : Within (length x.text.now) (item_tree (trees_of x.program.now) (cell_at x.plan.now.cells k).item) place end before after
+  pub steps : Within (length x.text.now)
+      (item_tree (trees_of x.program.now) (cell_at x.plan.now.cells k).item) place end before after
 
 -- how many steps a search takes for each byte of the text, in a plan of so many cells for the tree
 abbrev pub step_weight : ℕ → Tree → ℕ

@@ -14,5 +14,7 @@ pub record IsFilled (x : Ground) (place : ℕ) : Type 0 where
 
 -- this is the end, and these are the groups, of the match of the cell's item from the place on that is chosen by what goes on
 pub record Walks (x : Ground) (k place : ℕ) (g : Groups) (end : ℕ) (h : Groups) : Type 0 where
-  pub is : chosen (moved place (ends_at x (cell_at x.plan.now.cells k).empty) (ends_at x (cell_at x.plan.now.cells k).next))
-      (matches x.text.now (item_tree (trees_of x.program.now) (cell_at x.plan.now.cells k).item) place g) ≡ Some (end, h)
+  pub is : chosen (moved place (ends_at x (cell_at x.plan.now.cells k).empty)
+      (ends_at x (cell_at x.plan.now.cells k).next))
+      (matches x.text.now (item_tree (trees_of x.program.now)
+      (cell_at x.plan.now.cells k).item) place g) ≡ Some (end, h)

@@ -44,8 +44,10 @@ fn begins_here(
     ensures finds { IfOk result (λ found. FindsAt ground.now.text.now ground.now.program.now place
         (groups_of found groups.new.items)) }
     ensures steps { IfOk result (λ found. count.new.made ≤ count.old.made + (if found
-        then (walk_cost (slice_index_or (trees_of ground.now.program.now) ground.now.program.now.root nothing)
-        + look_cost (slice_index_or (trees_of ground.now.program.now) ground.now.program.now.root nothing))
+        then (walk_cost
+        (slice_index_or (trees_of ground.now.program.now) ground.now.program.now.root nothing)
+        + look_cost
+        (slice_index_or (trees_of ground.now.program.now) ground.now.program.now.root nothing))
         * (length ground.now.text.now + 1) else 0)) }
 {
     if !is_boundary(ground.text, place) {
@@ -75,7 +77,8 @@ pub fn begins_at(
     ensures finds { IfOk result (λ found. FindsAt text.now program.now place (groups_of found
         groups.new.items)) }
     ensures steps { OnOk result (count.new.made ≤ count.old.made
-        + step_weight (length plan.now.cells) (slice_index_or (trees_of program.now) program.now.root nothing)
+        + step_weight (length plan.now.cells)
+        (slice_index_or (trees_of program.now) program.now.root nothing)
         * (length text.now + 1)) }
 {
     if place > text.len() {
@@ -110,7 +113,8 @@ pub fn find_up_to(
     ensures finds { IfOk result (λ found. FindsUpTo text.now program.now begin last (groups_of found
         groups.new.items)) }
     ensures steps { OnOk result (count.new.made ≤ count.old.made
-        + step_weight (length plan.now.cells) (slice_index_or (trees_of program.now) program.now.root nothing)
+        + step_weight (length plan.now.cells)
+        (slice_index_or (trees_of program.now) program.now.root nothing)
         * (length text.now + 1)) }
 {
     if begin > text.len() {
@@ -150,7 +154,8 @@ pub fn find(
     ensures finds { IfOk result (λ found. FindsGroups text.now program.now begin (groups_of found
         groups.new.items)) }
     ensures steps { OnOk result (count.new.made ≤ count.old.made
-        + step_weight (length plan.now.cells) (slice_index_or (trees_of program.now) program.now.root nothing)
+        + step_weight (length plan.now.cells)
+        (slice_index_or (trees_of program.now) program.now.root nothing)
         * (length text.now + 1)) }
 {
     if begin > text.len() {

@@ -140,11 +140,7 @@ fn reach_node(
             let holds = stands(ground.text, place, *anchor);
             reach_if(ground, now, count, place, at.empty, holds)
         }
-        Node::Same { fold: _, group: _ } => None,
-        Node::Text {
-            letters: _,
-            rest: _,
-        } => None,
+        Node::Same { .. } | Node::Text { .. } => None,
         Node::Sequence(_, _) => reach(ground, now, count, place, parts.first),
         Node::Alternation(_, _) => {
             if let Some(end) = reach(ground, now, count, place, parts.first) {
@@ -158,7 +154,7 @@ fn reach_node(
             most,
             body: _,
         } => reach_loop(ground, now, count, place, cell, *greedy, *least, *most),
-        Node::Group { number: _, body: _ } => reach(ground, now, count, place, parts.first),
+        Node::Group { .. } => reach(ground, now, count, place, parts.first),
         Node::Atomic(_) => {
             let end = reach(ground, now, count, place, parts.first)?;
             if end == place {

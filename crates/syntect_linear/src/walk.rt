@@ -111,7 +111,7 @@ fn walk_node(
             most,
             body: _,
         } => walk_turns(ground, place, cell, groups, count, *greedy, *least, *most),
-        Node::Group { number, body: _ } => {
+        Node::Group { number, .. } => {
             let end = walk(ground, place, parts.first, groups, count);
             close(groups, *number, place, end);
             end
@@ -129,15 +129,9 @@ fn walk_node(
         }
         Node::Nothing => place,
         Node::Anchor(_) => place,
-        Node::Same { fold: _, group: _ } => place,
-        Node::Text {
-            letters: _,
-            rest: _,
-        } => place,
-        Node::Behind {
-            negated: _,
-            body: _,
-        } => place,
+        Node::Same { .. } => place,
+        Node::Text { .. } => place,
+        Node::Behind { .. } => place,
     }
 }
 
@@ -162,8 +156,10 @@ fn takes_turn(
     requires filled { IsFilled ground.now place }
     requires turns { IsLoopAt ground.now cell greedy least most }
     ensures { result ≡ (if greedy
-        then is_some (end_if (has_turn most) (ends_at ground.now (spec.parts_at ground.now.plan.now.parts cell).first place))
-        else not (is_some (end_if (least == 0) (ends_at ground.now (spec.cell_at ground.now.plan.now.cells cell).empty place)))) }
+        then is_some (end_if (has_turn most)
+        (ends_at ground.now (spec.parts_at ground.now.plan.now.parts cell).first place))
+        else not (is_some (end_if (least == 0)
+        (ends_at ground.now (spec.cell_at ground.now.plan.now.cells cell).empty place)))) }
 {
     if greedy {
         let first = parts_at(ground.plan.parts.as_slice(), cell).first;

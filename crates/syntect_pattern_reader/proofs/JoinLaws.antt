@@ -1,5 +1,6 @@
 -- Parts of trees are put together from the last on.
-use Rattle.std.proofs.Common.{◌≡◌, ℕ, ◌<◌, List, [], ◌∷◌, ◌++◌, None, length, refl, sym, subst, ap, ◌∙◌}
+use Rattle.std.proofs.Common.{◌≡◌, ℕ, ◌<◌, List, [], ◌∷◌, ◌++◌, Some, None, length, get_or, refl, sym, ap, ◌∙◌}
+use Rattle.std.proofs.lemmas.List.Elements.{All-head, All-pop, All-tail}
 use Rattle.syntect_pattern.specs.Trees.{Tree, alt, alt_all, seq, seq_all}
 use Rattle.syntect_pattern_table.specs.Builder.{tree_in, Grows, Holds}
 use Rattle.syntect_pattern_table.proofs.BuilderLaws.{Grows-trans}
@@ -33,25 +34,18 @@ pub trees-push : (nodes : List Node) (ks : List ℕ) (k : ℕ) → trees_in node
 trees-push nodes [] k = refl
 trees-push nodes (x ∷ ks) k = ap (λ ts. tree_in nodes x ∷ ts) (trees-push nodes ks k)
 
-pub below-front : (n : ℕ) (ks : List ℕ) (k : ℕ) → AllBelow n (ks ++ k ∷ []) → AllBelow n ks
-below-front n [] k h = tt
-below-front n (x ∷ ks) k h = (h.0, below-front n ks k h.1)
-
-pub below-last : (n : ℕ) (ks : List ℕ) (k : ℕ) → AllBelow n (ks ++ k ∷ []) → k < n
-below-last n [] k h = h.0
-below-last n (x ∷ ks) k h = below-last n ks k h.1
-
-pub below-push : (n : ℕ) (ks : List ℕ) (k : ℕ) → AllBelow n ks → k < n → AllBelow n (ks ++ k ∷ [])
-below-push n [] k h l = (l, tt)
-below-push n (x ∷ ks) k h l = (h.0, below-push n ks k h.1 l)
+-- without the last one, and the last one
+pub below-split : (n : ℕ) (all ks : List ℕ) (k : ℕ) → all ≡ ks ++ k ∷ [] → AllBelow n all → AllBelow n ks × (k < n)
+below-split n all ks k = All-pop (λ j. j < n) all ks (Some k)
 
 pub below-grown : (a b : List Node) (ks : List ℕ) → Grows a b → AllBelow (length a) ks → AllBelow (length b) ks
-below-grown a b [] g h = tt
-below-grown a b (x ∷ ks) g h = (g.longer x h.0, below-grown a b ks g h.1)
+below-grown a b ks g h i d l = g.longer (get_or ks i d) (h i d l)
 
 pub trees-grown : (a b : List Node) (ks : List ℕ) → Grows a b → AllBelow (length a) ks → trees_in b ks ≡ trees_in a ks
 trees-grown a b [] g h = refl
-trees-grown a b (x ∷ ks) g h = ap (λ t. t ∷ trees_in b ks) (g.kept x h.0) ∙ ap (λ ts. tree_in a x ∷ ts) (trees-grown a b ks g h.1)
+trees-grown a b (x ∷ ks) g h =
+    let in_a : ℕ → Type 0 = λ k. k < length a in
+    ap (λ t. t ∷ trees_in b ks) (g.kept x (All-head in_a x ks h)) ∙ ap (λ ts. tree_in a x ∷ ts) (trees-grown a b ks g (All-tail in_a x ks h))
 
 -- how far the branches are put together: those before the rest are left
 pub record Links (old : List Node) (all : List ℕ) (new : List Node) (left : List ℕ) (rest : ℕ) : Type 0 where
@@ -62,10 +56,10 @@ pub record Links (old : List Node) (all : List ℕ) (new : List Node) (left : Li
 
 pub links-first : (old : List Node) (all ks : List ℕ) (k : ℕ) → all ≡ ks ++ k ∷ [] → AllBelow (length old) all → Links old all old ks k
 links-first old all ks k e h =
-    let b : AllBelow (length old) (ks ++ k ∷ []) = subst (AllBelow (length old)) e h in
+    let b = below-split (length old) all ks k e h in
     record {
-      below = below-front (length old) ks k b;
-      inside = below-last (length old) ks k b;
+      below = b.0;
+      inside = b.1;
       grows = record { longer = λ i l. l; kept = λ i l. refl };
       is = ap (λ xs. alt_all (trees_in old xs)) e ∙ ap alt_all (trees-push old ks k) ∙ branches-last (trees_in old ks) (tree_in old k);
     }
@@ -73,9 +67,9 @@ links-first old all ks k e h =
 pub links-more : (old : List Node) (all : List ℕ) (mid new : List Node) (left ks : List ℕ) (k rest last : ℕ) → left ≡ ks ++ k ∷ []
     → Links old all mid left rest → Grows mid new → Holds new last (alt (tree_in mid k) (tree_in mid rest)) → Links old all new ks last
 links-more old all mid new left ks k rest last e l g h =
-    let b : AllBelow (length old) (ks ++ k ∷ []) = subst (AllBelow (length old)) e l.below in
+    let b = below-split (length old) left ks k e l.below in
     record {
-      below = below-front (length old) ks k b;
+      below = b.0;
       inside = h.inside;
       grows = Grows-trans old mid new l.grows g;
       is =
@@ -83,7 +77,7 @@ links-more old all mid new left ks k rest last e l g h =
           ∙ ap (λ xs. linked alt (trees_in old xs) (tree_in mid rest)) e
           ∙ ap (λ ts. linked alt ts (tree_in mid rest)) (trees-push old ks k)
           ∙ linked-last alt (trees_in old ks) (tree_in old k) (tree_in mid rest)
-          ∙ ap (λ t. linked alt (trees_in old ks) (alt t (tree_in mid rest))) (sym (l.grows.kept k (below-last (length old) ks k b)))
+          ∙ ap (λ t. linked alt (trees_in old ks) (alt t (tree_in mid rest))) (sym (l.grows.kept k b.1))
           ∙ ap (linked alt (trees_in old ks)) (sym h.is);
     }
 
@@ -94,30 +88,18 @@ links-all old all new left rest e l = record {
   is = sym (l.is ∙ ap (λ xs. linked alt (trees_in old xs) (tree_in new rest)) e);
 }
 
-pub below-left : (old : List Node) (left ks : List ℕ) (k : ℕ) → left ≡ ks ++ k ∷ [] → AllBelow (length old) left → k < length old
-below-left old left ks k e h = below-last (length old) ks k (subst (AllBelow (length old)) e h)
-
 -- -- Items
 
-pub items-front : (n : ℕ) (xs : List Item) (x : Item) → AreItemsIn n (xs ++ x ∷ []) → AreItemsIn n xs
-items-front n [] x h = tt
-items-front n (y ∷ xs) x h = (h.0, items-front n xs x h.1)
-
-pub items-last : (n : ℕ) (xs : List Item) (x : Item) → AreItemsIn n (xs ++ x ∷ []) → IsItemIn n x
-items-last n [] x h = h.0
-items-last n (y ∷ xs) x h = items-last n xs x h.1
-
-pub items-push : (n : ℕ) (xs : List Item) (x : Item) → AreItemsIn n xs → IsItemIn n x → AreItemsIn n (xs ++ x ∷ [])
-items-push n [] x h l = (l, tt)
-items-push n (y ∷ xs) x h l = (h.0, items-push n xs x h.1 l)
+-- without the last one, and the last one
+pub items-split : (n : ℕ) (all xs : List Item) (x : Item) → all ≡ xs ++ x ∷ [] → AreItemsIn n all → AreItemsIn n xs × IsItemIn n x
+items-split n all xs x = All-pop (IsItemIn n) all xs (Some x)
 
 pub item-in_grown : (a b : List Node) (x : Item) → Grows a b → IsItemIn (length a) x → IsItemIn (length b) x
 item-in_grown a b (Item.Node k) g h = g.longer k h
 item-in_grown a b (Item.Letter fold letter) g h = tt
 
 pub items-grown : (a b : List Node) (xs : List Item) → Grows a b → AreItemsIn (length a) xs → AreItemsIn (length b) xs
-items-grown a b [] g h = tt
-items-grown a b (x ∷ xs) g h = (item-in_grown a b x g h.0, items-grown a b xs g h.1)
+items-grown a b xs g h i d l = item-in_grown a b (get_or xs i d) g (h i d l)
 
 pub item-kept : (a b : List Node) (x : Item) → Grows a b → IsItemIn (length a) x → item_tree b x ≡ item_tree a x
 item-kept a b (Item.Node k) g h = g.kept k h
@@ -125,7 +107,9 @@ item-kept a b (Item.Letter fold letter) g h = refl
 
 pub items-kept : (a b : List Node) (xs : List Item) → Grows a b → AreItemsIn (length a) xs → item_trees b xs ≡ item_trees a xs
 items-kept a b [] g h = refl
-items-kept a b (x ∷ xs) g h = ap (λ t. t ∷ item_trees b xs) (item-kept a b x g h.0) ∙ ap (λ ts. item_tree a x ∷ ts) (items-kept a b xs g h.1)
+items-kept a b (x ∷ xs) g h =
+    let in_a : Item → Type 0 = IsItemIn (length a) in
+    ap (λ t. t ∷ item_trees b xs) (item-kept a b x g (All-head in_a x xs h)) ∙ ap (λ ts. item_tree a x ∷ ts) (items-kept a b xs g (All-tail in_a x xs h))
 
 pub item_trees-push : (nodes : List Node) (xs : List Item) (x : Item) → item_trees nodes (xs ++ x ∷ []) ≡ item_trees nodes xs ++ item_tree nodes x ∷ []
 item_trees-push nodes [] x = refl
@@ -141,9 +125,8 @@ pub record Chains (old : List Node) (all : List Item) (new : List Node) (left : 
 pub chains-first : (old : List Node) (all : List Item) (new : List Node) (xs : List Item) (x : Item) (k : ℕ) → all ≡ xs ++ x ∷ [] → AreItemsIn (length old) all
     → Grows old new → Holds new k (item_tree old x) → Chains old all new xs (record { letters = None; rest = k })
 chains-first old all new xs x k e h g holds =
-    let b : AreItemsIn (length old) (xs ++ x ∷ []) = subst (AreItemsIn (length old)) e h in
     record {
-      below = items-front (length old) xs x b;
+      below = (items-split (length old) all xs x e h).0;
       inside = holds.inside;
       grows = g;
       is =
@@ -156,14 +139,14 @@ chains-first old all new xs x k e h g holds =
 pub chains-item : (old : List Node) (all : List Item) (mid : List Node) (left xs : List Item) (x : Item) (end : End) → left ≡ xs ++ x ∷ []
     → Chains old all mid left end → IsItemIn (length mid) x
 chains-item old all mid left xs x end e l =
-    item-in_grown old mid x l.grows (items-last (length old) xs x (subst (AreItemsIn (length old)) e l.below))
+    item-in_grown old mid x l.grows (items-split (length old) left xs x e l.below).1
 
 pub chains-more : (old : List Node) (all : List Item) (mid new : List Node) (left xs : List Item) (x : Item) (end more : End) → left ≡ xs ++ x ∷ []
     → Chains old all mid left end → Grows mid new → IsEnd new more (seq (item_tree mid x) (end_tree mid end)) → Chains old all new xs more
 chains-more old all mid new left xs x end more e l g h =
-    let b : AreItemsIn (length old) (xs ++ x ∷ []) = subst (AreItemsIn (length old)) e l.below in
+    let b = items-split (length old) left xs x e l.below in
     record {
-      below = items-front (length old) xs x b;
+      below = b.0;
       inside = h.inside;
       grows = Grows-trans old mid new l.grows g;
       is =
@@ -171,7 +154,7 @@ chains-more old all mid new left xs x end more e l g h =
           ∙ ap (λ ys. linked seq (item_trees old ys) (end_tree mid end)) e
           ∙ ap (λ ts. linked seq ts (end_tree mid end)) (item_trees-push old xs x)
           ∙ linked-last seq (item_trees old xs) (item_tree old x) (end_tree mid end)
-          ∙ ap (λ t. linked seq (item_trees old xs) (seq t (end_tree mid end))) (sym (item-kept old mid x l.grows (items-last (length old) xs x b)))
+          ∙ ap (λ t. linked seq (item_trees old xs) (seq t (end_tree mid end))) (sym (item-kept old mid x l.grows b.1))
           ∙ ap (linked seq (item_trees old xs)) (sym h.is);
     }
 

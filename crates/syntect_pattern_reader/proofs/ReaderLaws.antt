@@ -1,5 +1,6 @@
 -- What is read of a group, in a table that grows.
 use Rattle.std.proofs.Common.{◌≡◌, ℕ, ◌<◌, List, [], ◌∷◌, ◌++◌, length, Option, Some, None, sym, subst, ap, ◌∙◌}
+use Rattle.std.proofs.lemmas.List.Elements.{All-nil, All-push}
 use Rattle.syntect_pattern.specs.Trees.{Tree, seq_all}
 use Rattle.std.specs.Prelude.{option_map}
 use Rattle.syntect_pattern.specs.Reading.{Text, ◌>>=◌, between, pass}
@@ -11,7 +12,7 @@ use Rattle.syntect_pattern_reader.specs.declared.builder.Item.{Item}
 use Rattle.syntect_pattern_reader.specs.ReaderViews.{body_as, IsBodyIn}
 use Rattle.syntect_pattern_table.specs.declared.node.Node.{Node}
 use Rattle.syntect_pattern_reader.specs.declared.reader.Body.{Body}
-use Rattle.syntect_pattern_reader.proofs.JoinLaws.{below-grown, below-push, item_trees-push, items-grown, items-kept, items-push, trees-grown, trees-push}
+use Rattle.syntect_pattern_reader.proofs.JoinLaws.{below-grown, item_trees-push, items-grown, items-kept, trees-grown, trees-push}
 
 abbrev made : List Tree → List Tree → grammar.Body
 made before items = record { before = before; items = items }
@@ -25,13 +26,13 @@ body-grown a b o g h =
     ∙ ap (made (trees_in a o.before)) (items-kept a b o.items g h.items)
 
 pub below-new : (n : ℕ) (ks ls : List ℕ) (k : ℕ) → ls ≡ ks ++ k ∷ [] → AllBelow n ks → k < n → AllBelow n ls
-below-new n ks ls k e h l = subst (AllBelow n) (sym e) (below-push n ks k h l)
+below-new n ks ls k e h l = subst (AllBelow n) (sym e) (All-push (λ j. j < n) ks k h l)
 
 pub items-new : (n : ℕ) (xs ys : List Item) (x : Item) → ys ≡ xs ++ x ∷ [] → AreItemsIn n xs → IsItemIn n x → AreItemsIn n ys
-items-new n xs ys x e h l = subst (AreItemsIn n) (sym e) (items-push n xs x h l)
+items-new n xs ys x e h l = subst (AreItemsIn n) (sym e) (All-push (IsItemIn n) xs x h l)
 
 pub items-none : (n : ℕ) (ys : List Item) → ys ≡ [] → AreItemsIn n ys
-items-none n ys e = subst (AreItemsIn n) (sym e) tt
+items-none n ys e = subst (AreItemsIn n) (sym e) (All-nil (IsItemIn n))
 
 -- the next alternative begins
 pub alternative-is : (old new : List Node) (before : List ℕ) (items : List Item) (ls : List ℕ) (none : List Item) (k : ℕ) → Grows old new → AllBelow (length old) before → ls ≡ before ++ k ∷ [] → none ≡ []

@@ -1,5 +1,5 @@
 -- Parts of trees that are put together.
-use Rattle.std.specs.Prelude.{◌≡◌, ◌<◌, ℕ, List, [], ◌∷◌, Option, Some, None, length, map}
+use Rattle.std.specs.Prelude.{◌≡◌, ◌<◌, ℕ, List, All, Option, Some, None, length, map}
 use Rattle.syntect_pattern.specs.Sets.{from_to}
 use Rattle.syntect_pattern.specs.Trees.{Tree, one_of}
 use Rattle.syntect_letters.specs.Letters.{letters_of, letters_tree}
@@ -11,8 +11,7 @@ use Rattle.syntect_pattern_reader.specs.declared.builder.End.{End}
 
 -- all of the places are in a table of this length
 abbrev pub AllBelow : ℕ → List ℕ → Type 0
-AllBelow n [] = Unit {0}
-AllBelow n (k ∷ ks) = (k < n) × AllBelow n ks
+AllBelow n = All (λ k. k < n)
 
 -- the trees of the nodes at the places
 abbrev pub trees_in : List Node → List ℕ → List Tree
@@ -25,8 +24,7 @@ IsItemIn n (Item.Letter fold letter) = Unit {0}
 
 -- the same of all items
 abbrev pub AreItemsIn : ℕ → List Item → Type 0
-AreItemsIn n [] = Unit {0}
-AreItemsIn n (x ∷ xs) = IsItemIn n x × AreItemsIn n xs
+AreItemsIn n = All (IsItemIn n)
 
 -- the tree of an item
 abbrev pub item_tree : List Node → Item → Tree

@@ -1,9 +1,10 @@
 -- Where matches of nodes can begin, kept by numbers of what is known.
-use Rattle.std.proofs.Common.{◌≡◌, ◌<◌, ◌≤◌, ℕ, zero, suc, List, [], ◌∷◌, ◌++◌, length, get_or, Option, Some, None, refl, sym, ap, ◌∙◌, arith}
+use Rattle.std.proofs.Common.{◌≡◌, ◌<◌, ◌≤◌, ℕ, List, [], ◌∷◌, ◌++◌, length, get_or, Option, Some, None, refl, sym, ap, ◌∙◌, arith}
 use Rattle.std.specs.Prelude.{slice_get}
 use Rattle.std.specs.Option.{option_map, unwrap_or}
 use Rattle.std.proofs.Math.Seq.{get_or-append_seam}
-use Rattle.std.proofs.lemmas.List.{get_or_append_left, get_or_default, length-append, length-map}
+use Rattle.std.proofs.lemmas.List.{get_or_append_left, get_or_default, length-append, length-map, map-append}
+use Rattle.std.proofs.lemmas.List.Elements.{All-head, All-push, All-tail}
 use Rattle.std.proofs.lemmas.Option.{get_or_from_slice_get, slice_get-get_or, slice_get-map, slice_get_past, slice_get_read, slice_get_within, unwrap_or-slice_get}
 use Rattle.syntect_pattern_table.specs.PlaceLists.{AreKnown, places_by_number}
 use Rattle.syntect_pattern_table.specs.Starts.{none_there}
@@ -29,36 +30,32 @@ same_number old new n s l = s n (get_or old n none_there) (slice_get-get_or old 
 
 -- the numbers are still those of known places
 pub known_stay : (old new : List Places) (ns : List ℕ) → Stays old new → AreKnown old ns → AreKnown new ns
-known_stay old new [] s h = tt
-known_stay old new (n ∷ ns) s h = (slice_get_within new n (get_or old n none_there) (same_number old new n s h.0), known_stay old new ns s h.1)
+known_stay old new ns s h k d l =
+    let n : ℕ = get_or ns k d in
+    slice_get_within new n (get_or old n none_there) (same_number old new n s (h k d l))
 
--- so they are with one more
-known_more : (known : List Places) (ns : List ℕ) (n : ℕ) → AreKnown known ns → n < length known → AreKnown known (ns ++ n ∷ [])
-known_more known [] n h l = (l, tt)
-known_more known (m ∷ ns) n h l = (h.0, known_more known ns n h.1 l)
-
--- also where more is known by then
+-- so they are with one more, also where more is known by then
 pub known_pushed : (old new : List Places) (ns : List ℕ) (n : ℕ) (p : Places) → Stays old new → AreKnown old ns → slice_get new n ≡ Some p → AreKnown new (ns ++ n ∷ [])
-known_pushed old new ns n p s h e = known_more new ns n (known_stay old new ns s h) (slice_get_within new n p e)
+known_pushed old new ns n p s h e = All-push (λ m. m < length new) ns n (known_stay old new ns s h) (slice_get_within new n p e)
 
 -- the list stays as it is where more is known
 pub by_number_stays : (old new : List Places) (ns : List ℕ) → Stays old new → AreKnown old ns → places_by_number new ns ≡ places_by_number old ns
 by_number_stays old new [] s h = refl
 by_number_stays old new (m ∷ ns) s h =
-    rw (get_or_from_slice_get new m (get_or old m none_there) none_there (same_number old new m s h.0), by_number_stays old new ns s h.1) refl
+    let first : slice_get new m ≡ Some (get_or old m none_there) = same_number old new m s (All-head (λ n. n < length old) m ns h) in
+    rw (get_or_from_slice_get new m (get_or old m none_there) none_there first, by_number_stays old new ns s (All-tail (λ n. n < length old) m ns h)) refl
 
 -- the list with one more
 pub by_number_pushed : (old new : List Places) (ns : List ℕ) (n : ℕ) (p : Places) → Stays old new → AreKnown old ns → slice_get new n ≡ Some p
     → places_by_number new (ns ++ n ∷ []) ≡ places_by_number old ns ++ p ∷ []
-by_number_pushed old new [] n p s h e = ap (λ q. q ∷ []) (get_or_from_slice_get new n p none_there e)
-by_number_pushed old new (m ∷ ns) n p s h e =
-    rw (get_or_from_slice_get new m (get_or old m none_there) none_there (same_number old new m s h.0), by_number_pushed old new ns n p s h.1 e) refl
+by_number_pushed old new ns n p s h e =
+    map-append (λ m. get_or new m none_there) ns (n ∷ [])
+    ∙ ap (λ ps. ps ++ get_or new n none_there ∷ []) (by_number_stays old new ns s h)
+    ∙ ap (λ q. places_by_number old ns ++ q ∷ []) (get_or_from_slice_get new n p none_there e)
 
 -- each of the numbers is that of known places
 pub known_at : (known : List Places) (ns : List ℕ) (k n : ℕ) → AreKnown known ns → k < length ns → n ≡ get_or ns k n → n < length known
-known_at known [] k n h l e = absurd (omega (arith, l))
-known_at known (m ∷ ns) zero n h l e = omega (arith, h.0, e)
-known_at known (m ∷ ns) (suc k) n h l e = known_at known ns k n h.1 (omega (arith, l)) e
+known_at known ns k n h l e = omega (arith, h k n l, e)
 
 -- what stands at a place is what its number tells
 pub by_number_at : (known : List Places) (ns : List ℕ) (k n : ℕ) (p : Places) → k < length ns → n ≡ get_or ns k n → n < length known → p ≡ get_or known n p → Some p ≡ slice_get (places_by_number known ns) k

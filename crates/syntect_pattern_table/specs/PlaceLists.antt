@@ -1,5 +1,5 @@
 -- Where matches of nodes can begin, kept by numbers of what is known.
-use Rattle.std.specs.Prelude.{◌<◌, ℕ, List, [], ◌∷◌, length, map, slice_index_or}
+use Rattle.std.specs.Prelude.{◌<◌, ℕ, List, All, length, map, slice_index_or}
 use Rattle.syntect_pattern_table.specs.Starts.{none_there}
 use Rattle.syntect_pattern_table.specs.declared.starts.Places.{Places}
 
@@ -9,5 +9,4 @@ places_by_number known numbers = map (λ n. slice_index_or known n none_there) n
 
 -- each number is that of known places
 abbrev pub AreKnown : List Places → List ℕ → Type 0
-AreKnown known [] = Unit {0}
-AreKnown known (n ∷ ns) = (n < length known) × AreKnown known ns
+AreKnown known = All (λ n. n < length known)

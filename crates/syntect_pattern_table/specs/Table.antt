@@ -19,10 +19,14 @@ node_tree before (Node.Char c) = one_of (range c c)
 node_tree before (Node.Class c) = one_of (set_of c)
 node_tree before (Node.Anchor a) = anchor (anchor_of a)
 node_tree before (Node.Same fold n) = same fold n
-node_tree before (Node.Text l a) = letters_tree l.fold (letters_of l) (slice_index_or before a nothing)
-node_tree before (Node.Sequence a b) = seq (slice_index_or before a nothing) (slice_index_or before b nothing)
-node_tree before (Node.Alternation a b) = alt (slice_index_or before a nothing) (slice_index_or before b nothing)
-node_tree before (Node.Repeat greedy least most a) = repeat greedy least most (slice_index_or before a nothing)
+node_tree before (Node.Text l a) =
+    letters_tree l.fold (letters_of l) (slice_index_or before a nothing)
+node_tree before (Node.Sequence a b) =
+    seq (slice_index_or before a nothing) (slice_index_or before b nothing)
+node_tree before (Node.Alternation a b) =
+    alt (slice_index_or before a nothing) (slice_index_or before b nothing)
+node_tree before (Node.Repeat greedy least most a) =
+    repeat greedy least most (slice_index_or before a nothing)
 node_tree before (Node.Group n a) = group n (slice_index_or before a nothing)
 node_tree before (Node.Atomic a) = atomic (slice_index_or before a nothing)
 node_tree before (Node.Ahead negated a) = ahead negated (slice_index_or before a nothing)

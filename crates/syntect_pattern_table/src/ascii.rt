@@ -221,7 +221,8 @@ fn both(a: u128, b: u128) -> u128
 /// The characters of a part, by those of the parts before it.
 pub(crate) fn bits_of(part: Part, before: &[u128]) -> u128
     requires { made_before (length before.now) part ≡ true }
-    ensures { (ss : List Set) (x : ℕ) → x < 128 → AreBits x before.now ss → (bit_at result x == 1) ≡ holds (part_set ss part) x }
+    ensures { (ss : List Set) (x : ℕ) → x < 128 → AreBits x before.now ss
+        → (bit_at result x == 1) ≡ holds (part_set ss part) x }
 {
     match part {
         Part::Nothing => span_bits(0, 0),
@@ -237,7 +238,8 @@ pub(crate) fn bits_of(part: Part, before: &[u128]) -> u128
 /// The characters of the part at the place. Of many classes it is the only part.
 pub fn ascii_bits(alloc: Global, parts: &[Part], root: usize) -> Result<u128, AllocError>
     requires { AreOrdered parts.now }
-    ensures { IfOk result (λ bits. (x : ℕ) → x < 128 → (bit_at bits x == 1) ≡ holds (set_in parts.now root) x) }
+    ensures { IfOk result (λ bits. (x : ℕ) → x < 128
+        → (bit_at bits x == 1) ≡ holds (set_in parts.now root) x) }
 {
     if root >= parts.len() {
         return Ok(0);

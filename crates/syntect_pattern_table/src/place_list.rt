@@ -1,17 +1,16 @@
 //! Where matches of the nodes of a table can begin. Few of those places differ.
-ghost use Rattle.std.specs.Prelude.{◌≡◌, ◌++◌, ◌∷◌, [], ℕ, IfOk, IfSome, OnErr, OnOk, Some, length, slice_get, true};
+ghost use Rattle.std.specs.Prelude.{◌≡◌, ◌<◌, ◌++◌, ◌∷◌, [], ℕ, IfOk, IfSome, OnErr, OnOk, Some, length, slice_get, true};
 ghost use Rattle.syntect_pattern_table.specs.declared.starts.Places.{Places as APlaces};
 
 use crate::starts::Places;
 use std::alloc::{AllocError, Global};
 use std::marker::Model;
 
-/// How many of the last that differ are looked at for those that are added. To look at all of them for each node would take the
-/// square of the table's length.
-const RECENT: usize = 64;
+/// Numbers of places, each in the slot that a sum over those gives. Where two share a slot, the first is no longer found there,
+/// and is kept once more if it comes again.
+pub type Slots = [u32; 256];
 
-/// Where matches of nodes can begin, seen as the list of a node's each. What is equal to one of the last that differ is kept
-/// once.
+/// Where matches of nodes can begin, seen as the list of a node's each. Most of what is equal is kept once.
 #[derive(Drop)]
 pub struct PlaceList {
     known: Vec<Places>,
@@ -39,35 +38,47 @@ fn are_same(a: &Places, b: &Places) -> bool
     a.ascii == b.ascii && a.wide == b.wide && a.end == b.end
 }
 
-/// The number of these among the last that are known, if they are one of them.
-fn recent(known: &[Places], wanted: &Places) -> Option<usize>
-    ensures { IfSome result (λ n. slice_get known.now n ≡ Some wanted.now) }
+/// Whether these have the number.
+#[inline]
+fn is_known(known: &[Places], number: u32, wanted: &Places) -> bool
+    ensures { result ≡ true → slice_get known.now number ≡ Some wanted.now }
 {
-    let mut next = known.len();
-    let first = next.saturating_sub(RECENT);
-    while next > first {
-        next -= 1;
-        if are_same(&known[next], wanted) {
-            return Some(next);
-        }
+    match known.get(number as usize) {
+        Some(places) => are_same(places, wanted),
+        None => false,
     }
-    None
 }
 
-/// The number of these, which are added where they aren't among the last that are known. More than such numbers can tell apart
-/// have no place in memory.
-fn number_of(known: &mut Vec<Places>, wanted: Places) -> Result<u32, AllocError>
+/// The slot of these. Multiplying by an odd number without pattern mixes the bits, so that places that differ in few seldom share
+/// one.
+fn slot_of(places: &Places) -> usize
+    ensures { result < 256 }
+{
+    const ODD: u64 = 0x9E37_79B9_7F4A_7C15;
+    let low = (places.ascii % (1 << 64)) as u64;
+    let high = (places.ascii >> 64) as u64;
+    let others = u64::from(places.wide) + 2 * u64::from(places.end);
+    let sum = (low.wrapping_mul(ODD).rotate_left(29) ^ high ^ others).wrapping_mul(ODD);
+    (sum >> 32) as usize % 256
+}
+
+/// The number of these, which are added where their slot has another's. More than such numbers can tell apart have no place in
+/// memory.
+fn number_of(known: &mut Vec<Places>, slots: &mut Slots, wanted: Places) -> Result<u32, AllocError>
     ensures number { IfOk result (λ n. slice_get known.new.items n ≡ Some wanted) }
     ensures stays { (n : ℕ) (p : APlaces) → slice_get known.old.items n ≡ Some p
         → slice_get known.new.items n ≡ Some p }
 {
-    let found = recent(known.as_slice(), &wanted);
-    let Ok(number) = u32::try_from(found.unwrap_or(known.len())) else {
+    let slot = slot_of(&wanted);
+    let number = slots[slot];
+    if is_known(known.as_slice(), number, &wanted) {
+        return Ok(number);
+    }
+    let Ok(number) = u32::try_from(known.len()) else {
         return Err(AllocError);
     };
-    if found.is_none() {
-        known.push(wanted)?;
-    }
+    known.push(wanted)?;
+    slots[slot] = number;
     Ok(number)
 }
 
@@ -82,12 +93,12 @@ impl PlaceList {
         })
     }
 
-    /// Puts the places of one more node last.
-    pub fn push(&mut self, places: Places) -> Result<(), AllocError>
+    /// Puts the places of one more node last. The slots are those of this list so far; others, or empty ones, only find less.
+    pub fn push(&mut self, slots: &mut Slots, places: Places) -> Result<(), AllocError>
         ensures ok { OnOk result (self.new ≡ self.old ++ places ∷ []) }
         ensures err { OnErr result (self.new ≡ self.old) }
     {
-        let number = number_of(&mut self.known, places)?;
+        let number = number_of(&mut self.known, slots, places)?;
         self.numbers.push(number)?;
         Ok(())
     }

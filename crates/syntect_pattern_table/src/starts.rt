@@ -10,7 +10,7 @@ ghost use Rattle.syntect_pattern_table.specs.Starts.{AreFirsts, Begin, GoesOn, b
 
 use crate::ascii::{bits_of, put};
 use crate::node::{Class, Node};
-use crate::place_list::PlaceList;
+use crate::place_list::{PlaceList, Slots};
 use crate::sets::{Part, has_bit, is_alike_wide};
 use std::alloc::{AllocError, Global};
 use syntect_pattern::anchor::Anchor;
@@ -298,11 +298,7 @@ fn firsts_of(node: &Node, places: &PlaceList, rows: &[usize], firsts: &[Firsts])
         → begins_at x result ≡ begins x (node_tree ts node.now) }
 {
     match node {
-        Node::Nothing
-        | Node::Behind {
-            negated: _,
-            body: _,
-        } => Firsts {
+        Node::Nothing | Node::Behind { .. } => Firsts {
             read: nowhere(),
             stay: anywhere(),
         },
@@ -318,11 +314,11 @@ fn firsts_of(node: &Node, places: &PlaceList, rows: &[usize], firsts: &[Firsts])
             read: nowhere(),
             stay: places_of_anchor(*anchor),
         },
-        Node::Same { fold: _, group: _ } => Firsts {
+        Node::Same { .. } => Firsts {
             read: anywhere(),
             stay: anywhere(),
         },
-        Node::Text { letters, rest: _ } => Firsts {
+        Node::Text { letters, .. } => Firsts {
             read: places_of_letter(letters.fold, letters.first),
             stay: nowhere(),
         },
@@ -331,13 +327,8 @@ fn firsts_of(node: &Node, places: &PlaceList, rows: &[usize], firsts: &[Firsts])
             at(places, rows, firsts, *first),
             at(places, rows, firsts, *second),
         ),
-        Node::Repeat {
-            greedy: _,
-            least,
-            most: _,
-            body,
-        } => in_loop(at(places, rows, firsts, *body), *least),
-        Node::Group { number: _, body } => at(places, rows, firsts, *body),
+        Node::Repeat { least, body, .. } => in_loop(at(places, rows, firsts, *body), *least),
+        Node::Group { body, .. } => at(places, rows, firsts, *body),
         Node::Atomic(body) => at(places, rows, firsts, *body),
         Node::Ahead { negated, body } => ahead(at(places, rows, firsts, *body), *negated),
     }
@@ -383,25 +374,26 @@ pub fn places_of(alloc: Global, nodes: &[Node]) -> Result<PlaceList, AllocError>
     let mut places = PlaceList::with_capacity(alloc, nodes.len())?;
     let mut rows = Vec::with_capacity(alloc, nodes.len())?;
     let mut firsts = Vec::new(alloc);
+    let mut slots: Slots = [0; 256];
     for place in 0..nodes.len() {
         let node = &nodes[place];
         if let Node::Char(wanted) = node {
             rows.push_reserved(0);
-            places.push(places_of_char(*wanted))?;
+            places.push(&mut slots, places_of_char(*wanted))?;
             continue;
         }
         if let Node::Sequence(first, _) = node {
             if rows[*first] == 0 {
                 let read = places.get(*first).unwrap_or(nowhere());
                 rows.push_reserved(0);
-                places.push(read)?;
+                places.push(&mut slots, read)?;
                 continue;
             }
         }
         let next = firsts_of(node, &places, rows.as_slice(), firsts.as_slice());
         let row = row_of(&mut firsts, next)?;
         rows.push_reserved(row);
-        places.push(either(next.read, next.stay))?;
+        places.push(&mut slots, either(next.read, next.stay))?;
     }
     places.shrink_to_fit();
     Ok(places)

@@ -1,22 +1,25 @@
 -- Tables whose letters stand each in a node of its own.
-use Rattle.std.proofs.Common.{◌≡◌, ℕ, zero, suc, ◌<◌, true, false, List, [], ◌∷◌, ◌++◌, length, get_or, refl, sym, ◌∙◌, ap, subst, arith, length-append, inl, inr}
+use Rattle.std.proofs.Common.{◌≡◌, ℕ, zero, suc, ◌<◌, ◌&&◌, nat_lt, Bool, true, false, Option, List, [], ◌∷◌, ◌++◌, length, get_or, refl, sym, ◌∙◌, ap, subst, arith, length-append, inl, inr}
 use Rattle.std.specs.Prelude.{Result, Ok, Err, IfOk, OnOk}
 use Rattle.std.specs.Result.{OnErr}
 use Rattle.std.proofs.Math.Seq.{get_or-append_seam}
 use Rattle.std.proofs.lemmas.List.{get_or_append_left, get_or_default}
+use Rattle.std.proofs.lemmas.List.Elements.{All-from_get_or}
 use Rattle.std.proofs.lemmas.Bool.{cases_lt, lt-ltb, ltb-true}
 use Rattle.syntect_pattern.specs.Trees.{Tree, nothing, one_of, seq, alt, repeat, group, atomic, ahead, behind}
 use Rattle.syntect_pattern_table.specs.Builder.{Grows, Holds, tree_in}
-use Rattle.syntect_pattern_table.specs.Table.{AreSpelt, IsOrdered, is_text, node_tree, parts_before, trees}
+use Rattle.syntect_pattern_table.specs.Table.{AreSpelt, IsOrdered, is_text, node_tree, parts_before, set_of, trees}
 use Rattle.syntect_pattern_table.specs.Needs.{AreNeeded}
 use Rattle.syntect_pattern_table.specs.Program.{IsProgramOf, trees_of}
 use Rattle.syntect_pattern_table.specs.Starts.{AreStarts}
+use Rattle.syntect_letters.specs.declared.letters.Letters.{Letters}
 use Rattle.syntect_pattern_table.specs.declared.node.Node.{Node}
+use Rattle.syntect_pattern_table.specs.declared.sets.Class.{Class}
 use Rattle.syntect_pattern_table.specs.declared.program.Program.{Program}
 use Rattle.syntect_pattern_table.proofs.BuilderLaws.{both-inside, Holds-grown}
 use Rattle.syntect_pattern_table.proofs.TableLaws.{get_or-trees}
 use Rattle.syntect_pattern_table.proofs.SetLaws.{left_before, right_before}
-use Rattle.syntect_plan.specs.Spelt.{AllBelow, ArePlaces, IsCopy, place_at}
+use Rattle.syntect_plan.specs.Spelt.{AllBelow, ArePlaces, place_at}
 
 -- -- One node more
 
@@ -45,86 +48,76 @@ spelt-push (x ∷ ns) n e h (suc k) = spelt-push ns n e (λ j. h (suc j)) k
 
 -- -- Copies of nodes
 
--- a copy holds no letters in a row
-pub copy-spelt : (places : List ℕ) (old new : Node) → IsCopy places old new → is_text new ≡ false
-copy-spelt places Node.Nothing new e = ap is_text e
-copy-spelt places (Node.Char c) new e = ap is_text e
-copy-spelt places (Node.Class c) new e = ap is_text e.is
-copy-spelt places (Node.Anchor a) new e = ap is_text e
-copy-spelt places (Node.Same fold n) new e = ap is_text e
-copy-spelt places (Node.Text l a) new e = e
-copy-spelt places (Node.Sequence a b) new e = ap is_text e
-copy-spelt places (Node.Alternation a b) new e = ap is_text e
-copy-spelt places (Node.Repeat greedy least most a) new e = ap is_text e
-copy-spelt places (Node.Group n a) new e = ap is_text e
-copy-spelt places (Node.Atomic a) new e = ap is_text e
-copy-spelt places (Node.Ahead negated a) new e = ap is_text e
-copy-spelt places (Node.Behind negated a) new e = ap is_text e
+-- what holds of a copy of a node whose parts have these new places
+pub record IsCopy (places : List ℕ) (old new : Node) : Type 0 where
+  pub spelt : is_text new ≡ false
+  pub before : (n : ℕ) → AllBelow n places → parts_before (length places) old ≡ true → parts_before n new ≡ true
+  pub tree : (ts : List Tree) (nodes : List Node) → is_text old ≡ false → parts_before (length places) old ≡ true → ArePlaces ts nodes places
+      → node_tree (trees nodes) new ≡ node_tree ts old
 
--- where the places of a node's parts stand before the number, the copy's parts do
-module _ (places : List ℕ) (n : ℕ) (below : AllBelow n places) where
-  -- of a single part
-  one : (a : ℕ) → parts_before (length places) (Node.Atomic a) ≡ true → parts_before n (Node.Atomic (place_at places a)) ≡ true
-  one a b = lt-ltb (place_at places a) n (below a (ltb-true a (length places) b))
+module _ (places : List ℕ) where
+  -- a part's new place stands before the number
+  one : (n a : ℕ) → AllBelow n places → nat_lt a (length places) ≡ true → nat_lt (place_at places a) n ≡ true
+  one n a below b = lt-ltb (place_at places a) n (below a 0 (ltb-true a (length places) b))
 
-  -- of two parts
-  both : (a b : ℕ) → parts_before (length places) (Node.Sequence a b) ≡ true → parts_before n (Node.Sequence (place_at places a) (place_at places b)) ≡ true
-  both a b e =
-      both-inside (place_at places a) (place_at places b) n (below a (left_before a b (length places) e)) (below b (right_before a b (length places) e))
+  -- those of two parts do
+  both : (n a b : ℕ) → AllBelow n places → (nat_lt a (length places) && nat_lt b (length places)) ≡ true → (nat_lt (place_at places a) n && nat_lt (place_at places b) n) ≡ true
+  both n a b below e =
+      both-inside (place_at places a) (place_at places b) n (below a 0 (left_before a b (length places) e)) (below b 0 (right_before a b (length places) e))
 
-  -- of all nodes that hold no letters in a row
-  pub copy-before : (old new : Node) → is_text old ≡ false → parts_before (length places) old ≡ true → IsCopy places old new → parts_before n new ≡ true
-  copy-before Node.Nothing new s b e = ap (parts_before n) e
-  copy-before (Node.Char c) new s b e = ap (parts_before n) e
-  copy-before (Node.Class c) new s b e = ap (parts_before n) e.is
-  copy-before (Node.Anchor a) new s b e = ap (parts_before n) e
-  copy-before (Node.Same fold k) new s b e = ap (parts_before n) e
-  copy-before (Node.Text l a) new s b e = absurd cc
-  copy-before (Node.Sequence x y) new s b e = ap (parts_before n) e ∙ both x y b
-  copy-before (Node.Alternation x y) new s b e = ap (parts_before n) e ∙ both x y b
-  copy-before (Node.Repeat greedy least most x) new s b e = ap (parts_before n) e ∙ one x b
-  copy-before (Node.Group k x) new s b e = ap (parts_before n) e ∙ one x b
-  copy-before (Node.Atomic x) new s b e = ap (parts_before n) e ∙ one x b
-  copy-before (Node.Ahead negated x) new s b e = ap (parts_before n) e ∙ one x b
-  copy-before (Node.Behind negated x) new s b e = ap (parts_before n) e ∙ one x b
+  -- a part's new place holds its tree
+  part : (ts : List Tree) (nodes : List Node) (a : ℕ) → ArePlaces ts nodes places → nat_lt a (length places) ≡ true → tree_in nodes (place_at places a) ≡ get_or ts a nothing
+  part ts nodes a h b = (h a (ltb-true a (length places) b)).is
 
--- where the places hold the trees of a node's parts, the copy has the node's tree
-module _ (ts : List Tree) (nodes : List Node) (places : List ℕ) (h : ArePlaces ts nodes places) where
-  -- the tree of a single part
-  part : (a : ℕ) → parts_before (length places) (Node.Atomic a) ≡ true → tree_in nodes (place_at places a) ≡ get_or ts a nothing
-  part a b = (h a (ltb-true a (length places) b)).is
+  -- the same of two parts, by what is made of their trees
+  parts : (make : Tree → Tree → Tree) (ts : List Tree) (nodes : List Node) (a b : ℕ) → ArePlaces ts nodes places → (nat_lt a (length places) && nat_lt b (length places)) ≡ true
+      → make (tree_in nodes (place_at places a)) (tree_in nodes (place_at places b)) ≡ make (get_or ts a nothing) (get_or ts b nothing)
+  parts make ts nodes a b h e =
+      ap (λ t. make t (tree_in nodes (place_at places b))) (h a (left_before a b (length places) e)).is ∙ ap (make (get_or ts a nothing)) (h b (right_before a b (length places) e)).is
 
-  -- of the first of two parts
-  left : (a b : ℕ) → parts_before (length places) (Node.Sequence a b) ≡ true → tree_in nodes (place_at places a) ≡ get_or ts a nothing
-  left a b e = (h a (left_before a b (length places) e)).is
+  -- a node with no parts is its own copy
+  pub copy-leaf : (n : Node) → is_text n ≡ false → ((k : ℕ) → parts_before k n ≡ true) → ((ts us : List Tree) → node_tree ts n ≡ node_tree us n) → IsCopy places n n
+  copy-leaf n s b t = record { spelt = s; before = λ k below e. b k; tree = λ ts nodes e f h. t (trees nodes) ts }
 
-  -- and of the second one
-  right : (a b : ℕ) → parts_before (length places) (Node.Sequence a b) ≡ true → tree_in nodes (place_at places b) ≡ get_or ts b nothing
-  right a b e = (h b (right_before a b (length places) e)).is
+  pub copy-class : (c d : Class) → set_of d ≡ set_of c → IsCopy places (Node.Class c) (Node.Class d)
+  copy-class c d e = record { spelt = refl; before = λ n below b. refl; tree = λ ts nodes s b h. ap one_of e }
 
-  -- the tree of all nodes that hold no letters in a row
-  pub copy-tree : (old new : Node) → is_text old ≡ false → parts_before (length places) old ≡ true → IsCopy places old new → node_tree (trees nodes) new ≡ node_tree ts old
-  copy-tree Node.Nothing new s b e = ap (node_tree (trees nodes)) e
-  copy-tree (Node.Char c) new s b e = ap (node_tree (trees nodes)) e
-  copy-tree (Node.Class c) new s b e = ap (node_tree (trees nodes)) e.is ∙ ap one_of e.same
-  copy-tree (Node.Anchor a) new s b e = ap (node_tree (trees nodes)) e
-  copy-tree (Node.Same fold n) new s b e = ap (node_tree (trees nodes)) e
-  copy-tree (Node.Text l a) new s b e = absurd cc
-  copy-tree (Node.Sequence x y) new s b e =
-      ap (node_tree (trees nodes)) e ∙ ap (λ t. seq t (tree_in nodes (place_at places y))) (left x y b) ∙ ap (seq (get_or ts x nothing)) (right x y b)
-  copy-tree (Node.Alternation x y) new s b e =
-      ap (node_tree (trees nodes)) e ∙ ap (λ t. alt t (tree_in nodes (place_at places y))) (left x y b) ∙ ap (alt (get_or ts x nothing)) (right x y b)
-  copy-tree (Node.Repeat greedy least most x) new s b e = ap (node_tree (trees nodes)) e ∙ ap (repeat greedy least most) (part x b)
-  copy-tree (Node.Group n x) new s b e = ap (node_tree (trees nodes)) e ∙ ap (group n) (part x b)
-  copy-tree (Node.Atomic x) new s b e = ap (node_tree (trees nodes)) e ∙ ap atomic (part x b)
-  copy-tree (Node.Ahead negated x) new s b e = ap (node_tree (trees nodes)) e ∙ ap (ahead negated) (part x b)
-  copy-tree (Node.Behind negated x) new s b e = ap (node_tree (trees nodes)) e ∙ ap (behind negated) (part x b)
+  -- letters in a row have no copy
+  pub copy-text : (l : Letters) (a : ℕ) → IsCopy places (Node.Text l a) Node.Nothing
+  copy-text l a = record { spelt = refl; before = λ n below b. refl; tree = λ ts nodes s b h. absurd cc }
 
--- a copy, by what the nodes are
-pub copy-is : (places : List ℕ) (old new o n : Node) → old ≡ o → new ≡ n → IsCopy places o n → IsCopy places old new
-copy-is places old new o n e f h = subst (λ x. IsCopy places x new) (sym e) (subst (IsCopy places o) (sym f) h)
+  -- nodes with parts
+
+  pub copy-sequence : (a b : ℕ) → IsCopy places (Node.Sequence a b) (Node.Sequence (place_at places a) (place_at places b))
+  copy-sequence x y = record { spelt = refl; before = λ n. both n x y; tree = λ ts nodes s b h. parts seq ts nodes x y h b }
+
+  pub copy-alternation : (a b : ℕ) → IsCopy places (Node.Alternation a b) (Node.Alternation (place_at places a) (place_at places b))
+  copy-alternation x y = record { spelt = refl; before = λ n. both n x y; tree = λ ts nodes s b h. parts alt ts nodes x y h b }
+
+  pub copy-repeat : (greedy : Bool) (least : ℕ) (most : Option ℕ) (a : ℕ) → IsCopy places (Node.Repeat greedy least most a) (Node.Repeat greedy least most (place_at places a))
+  copy-repeat greedy least most a = record { spelt = refl; before = λ n. one n a; tree = λ ts nodes s b h. ap (repeat greedy least most) (part ts nodes a h b) }
+
+  pub copy-group : (k a : ℕ) → IsCopy places (Node.Group k a) (Node.Group k (place_at places a))
+  copy-group k a = record { spelt = refl; before = λ n. one n a; tree = λ ts nodes s b h. ap (group k) (part ts nodes a h b) }
+
+  pub copy-atomic : (a : ℕ) → IsCopy places (Node.Atomic a) (Node.Atomic (place_at places a))
+  copy-atomic a = record { spelt = refl; before = λ n. one n a; tree = λ ts nodes s b h. ap atomic (part ts nodes a h b) }
+
+  pub copy-ahead : (negated : Bool) (a : ℕ) → IsCopy places (Node.Ahead negated a) (Node.Ahead negated (place_at places a))
+  copy-ahead negated a = record { spelt = refl; before = λ n. one n a; tree = λ ts nodes s b h. ap (ahead negated) (part ts nodes a h b) }
+
+  pub copy-behind : (negated : Bool) (a : ℕ) → IsCopy places (Node.Behind negated a) (Node.Behind negated (place_at places a))
+  copy-behind negated a = record { spelt = refl; before = λ n. one n a; tree = λ ts nodes s b h. ap (behind negated) (part ts nodes a h b) }
+
+  -- a copy, by what the nodes are
+  pub copy-is : (old new o n : Node) → IsCopy places o n → old ≡ o → new ≡ n → IsCopy places old new
+  copy-is old new o n h e f = subst (λ x. IsCopy places x new) (sym e) (subst (IsCopy places o) (sym f) h)
 
 -- -- The whole table
+
+-- places of trees are in the table
+pub places-inside : (ts : List Tree) (nodes : List Node) (places : List ℕ) → ArePlaces ts nodes places → AllBelow (length nodes) places
+places-inside ts nodes places h = All-from_get_or (λ k. k < length nodes) places 0 (λ k l. (h k l).inside)
 
 -- places of nodes stay theirs as the table grows
 pub places-grown : (ts : List Tree) (a b : List Node) (places : List ℕ) → Grows a b → ArePlaces ts a places → ArePlaces ts b places

@@ -1,6 +1,6 @@
 //! What the matches of nodes have in common.
-ghost use Rattle.std.specs.Prelude.{◌≡◌, IfOk, List};
-ghost use Rattle.syntect_pattern.specs.Trees.{Tree, seq, alt};
+ghost use Rattle.std.specs.Prelude.{◌≡◌, ℕ, Bool, IfOk, List, Option};
+ghost use Rattle.syntect_pattern.specs.Trees.{Tree, ahead, alt, behind, repeat, seq};
 ghost use Rattle.syntect_pattern_table.specs.Table.{node_tree, trees};
 ghost use Rattle.syntect_plan.specs.Facts as spec;
 ghost use Rattle.syntect_plan.specs.Facts.{AreFacts};
@@ -42,6 +42,15 @@ const READS: Facts = Facts {
     calm: true,
 };
 
+/// The text of a group once more.
+const SAME: Facts = Facts {
+    reads: false,
+    plain: false,
+    free: false,
+    bare: true,
+    calm: true,
+};
+
 /// What is known of the node with the number.
 #[inline]
 pub fn facts_at(facts: &[Facts], node: usize) -> Facts
@@ -78,6 +87,46 @@ fn one_of_two(a: Facts, b: Facts) -> Facts
     }
 }
 
+/// A part again and again, at least so many times.
+fn in_loop(a: Facts, least: u32) -> Facts
+    ensures { (greedy : Bool) (most : Option ℕ) (t : Tree) → a ≡ spec.facts_of t
+        → result ≡ spec.facts_of (repeat greedy least most t) }
+{
+    Facts {
+        reads: least > 0 && a.reads,
+        plain: false,
+        free: a.free && a.calm,
+        ..a
+    }
+}
+
+/// A part looked for ahead.
+fn in_lookahead(a: Facts, negated: bool) -> Facts
+    ensures { (t : Tree) → a ≡ spec.facts_of t
+        → result ≡ spec.facts_of (ahead negated t) }
+{
+    Facts {
+        reads: false,
+        plain: false,
+        calm: negated || a.bare,
+        ..a
+    }
+}
+
+/// A part looked for behind.
+fn in_lookbehind(a: Facts) -> Facts
+    ensures { (negated : Bool) (t : Tree) → a ≡ spec.facts_of t
+        → result ≡ spec.facts_of (behind negated t) }
+{
+    Facts {
+        reads: false,
+        plain: false,
+        free: a.plain,
+        bare: a.bare,
+        calm: true,
+    }
+}
+
 /// What is known of the node, by what is known of those before it.
 fn node_facts(node: &Node, before: &[Facts]) -> Facts
     ensures { (ts : List Tree) → AreFacts before.now ts
@@ -86,13 +135,7 @@ fn node_facts(node: &Node, before: &[Facts]) -> Facts
     match node {
         Node::Nothing | Node::Anchor(_) => STAYS,
         Node::Char(_) | Node::Class(_) => READS,
-        Node::Same { fold: _, group: _ } => Facts {
-            reads: false,
-            plain: false,
-            free: false,
-            bare: true,
-            calm: true,
-        },
+        Node::Same { .. } => SAME,
         Node::Text { letters: _, rest } => in_sequence(READS, facts_at(before, *rest)),
         Node::Sequence(first, second) => {
             in_sequence(facts_at(before, *first), facts_at(before, *second))
@@ -100,55 +143,18 @@ fn node_facts(node: &Node, before: &[Facts]) -> Facts
         Node::Alternation(first, second) => {
             one_of_two(facts_at(before, *first), facts_at(before, *second))
         }
-        Node::Repeat {
-            greedy: _,
-            least,
-            most: _,
-            body,
-        } => {
-            let body = facts_at(before, *body);
-            Facts {
-                reads: *least > 0 && body.reads,
-                plain: false,
-                free: body.free && body.calm,
-                bare: body.bare,
-                calm: body.calm,
-            }
-        }
-        Node::Group { number: _, body } => {
-            let body = facts_at(before, *body);
-            Facts {
-                reads: body.reads,
-                plain: false,
-                free: body.free,
-                bare: false,
-                calm: body.calm,
-            }
-        }
+        Node::Repeat { least, body, .. } => in_loop(facts_at(before, *body), *least),
+        Node::Group { body, .. } => Facts {
+            plain: false,
+            bare: false,
+            ..facts_at(before, *body)
+        },
         Node::Atomic(body) => Facts {
             plain: false,
             ..facts_at(before, *body)
         },
-        Node::Ahead { negated, body } => {
-            let body = facts_at(before, *body);
-            Facts {
-                reads: false,
-                plain: false,
-                free: body.free,
-                bare: body.bare,
-                calm: *negated || body.bare,
-            }
-        }
-        Node::Behind { negated: _, body } => {
-            let body = facts_at(before, *body);
-            Facts {
-                reads: false,
-                plain: false,
-                free: body.plain,
-                bare: body.bare,
-                calm: true,
-            }
-        }
+        Node::Ahead { negated, body } => in_lookahead(facts_at(before, *body), *negated),
+        Node::Behind { body, .. } => in_lookbehind(facts_at(before, *body)),
     }
 }
 

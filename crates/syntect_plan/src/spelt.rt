@@ -1,9 +1,10 @@
 //! Programs whose letters stand each in a node of its own, as plans are made of them.
-ghost use Rattle.std.specs.Prelude.{◌≡◌, IfOk, slice_index_or, false};
+ghost use Rattle.std.specs.Prelude.{◌≡◌, ℕ, IfOk, List, false, length, slice_index_or, true};
 ghost use Rattle.syntect_pattern.specs.Trees.{Tree, nothing};
 ghost use Rattle.syntect_pattern_table.specs.Program.{IsProgramOf, trees_of};
-ghost use Rattle.syntect_pattern_table.specs.Table.{AreSpelt, IsOrdered, is_text};
-ghost use Rattle.syntect_plan.specs.Spelt.{IsCopy};
+ghost use Rattle.syntect_pattern_table.specs.Table.{AreSpelt, IsOrdered, is_text, node_tree, parts_before, trees};
+ghost use Rattle.syntect_pattern_table.specs.declared.node.Node.{Node as ANode};
+ghost use Rattle.syntect_plan.specs.Spelt.{AllBelow, ArePlaces};
 ghost use Rattle.syntect_plan.specs.Spelt as spec;
 
 use std::alloc::{AllocError, Global};
@@ -28,9 +29,15 @@ fn place_at(places: &[usize], node: usize) -> usize
     places.get(node).copied().unwrap_or(0)
 }
 
-/// The node with its parts at their new places.
+/// The node with its parts at their new places: it has the same tree wherever these hold the trees of its parts. Letters in a
+/// row, which have no copy, give an empty node.
 fn copy_of(alloc: Global, node: &Node, places: &[usize]) -> Result<Node, AllocError>
-    ensures { IfOk result (λ copy. IsCopy places.now node.now copy) }
+    ensures spelt { IfOk result (λ copy. is_text copy ≡ false) }
+    ensures before { IfOk result (λ copy. (n : ℕ) → AllBelow n places.now
+        → parts_before (length places.now) node.now ≡ true → parts_before n copy ≡ true) }
+    ensures tree { IfOk result (λ copy. (ts : List Tree) (nodes : List ANode)
+        → is_text node.now ≡ false → parts_before (length places.now) node.now ≡ true
+        → ArePlaces ts nodes places.now → node_tree (trees nodes) copy ≡ node_tree ts node.now) }
 {
     let at = |node: usize| place_at(places, node);
     Ok(match *node {
@@ -69,13 +76,11 @@ fn copy_of(alloc: Global, node: &Node, places: &[usize]) -> Result<Node, AllocEr
 }
 
 impl Spelling {
-    ghost use Rattle.std.specs.Prelude.{◌<◌, List, OnOk, length, true};
+    ghost use Rattle.std.specs.Prelude.{◌<◌, OnOk};
     ghost use Rattle.syntect_pattern.specs.Sets.{from_to};
     ghost use Rattle.syntect_pattern.specs.Trees.{one_of};
     ghost use Rattle.syntect_letters.specs.Letters.{letters_tree};
     ghost use Rattle.syntect_pattern_table.specs.Builder.{Grows, Holds, tree_in};
-    ghost use Rattle.syntect_pattern_table.specs.Table.{node_tree, parts_before, trees};
-    ghost use Rattle.syntect_plan.specs.Spelt.{AllBelow, ArePlaces};
 
     /// Puts a node last.
     fn push(&mut self, node: Node) -> Result<usize, AllocError>

@@ -8,10 +8,13 @@ use Rattle.syntect_pattern_table.specs.declared.starts.Places.{Places}
 
 -- the ASCII characters of words
 abbrev pub is_word_char : ℕ → Bool
-is_word_char c = is_within 0x30 0x39 c || (is_within 0x41 0x5A c || (is_within 0x5F 0x5F c || is_within 0x61 0x7A c))
+is_word_char c =
+    is_within 0x30 0x39 c || (is_within 0x41 0x5A c
+    || (is_within 0x5F 0x5F c || is_within 0x61 0x7A c))
 
 abbrev pub word_chars : List ℕ
-word_chars = numbers_from 0x30 10 ++ (numbers_from 0x41 26 ++ (numbers_from 0x5F 1 ++ numbers_from 0x61 26))
+word_chars =
+    numbers_from 0x30 10 ++ (numbers_from 0x41 26 ++ (numbers_from 0x5F 1 ++ numbers_from 0x61 26))
 
 -- white space: a tab, a line feed or a space
 abbrev pub is_blank : ℕ → Bool
@@ -75,8 +78,10 @@ spans blank x t = record { read = passes blank t x; stay = ends blank t x }
 -- so it is with these trees: where matches of each go past the run, and where they end in it
 abbrev pub Span : Bool → ℕ → List Places → List Places → List Tree → Type 0
 Span blank x rs ss ts = (k : ℕ) (d : Places) → k < length rs
-    → begins_at x (record { read = slice_index_or rs k d; stay = slice_index_or ss k d }) ≡ spans blank x (slice_index_or ts k nothing)
+    → begins_at x (record { read = slice_index_or rs k d; stay = slice_index_or ss k d })
+    ≡ spans blank x (slice_index_or ts k nothing)
 
 -- what stands behind a run in which a match of the tree begins is one of these
 abbrev pub StandsBehind : Bool → Places → Tree → Type 0
-StandsBehind blank places tree = (x : ℕ) → x < 130 → is_in places x ≡ false → (passes blank tree x || ends blank tree x) ≡ false
+StandsBehind blank places tree =
+    (x : ℕ) → x < 130 → is_in places x ≡ false → (passes blank tree x || ends blank tree x) ≡ false

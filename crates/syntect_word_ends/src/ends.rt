@@ -110,12 +110,7 @@ fn spans_of_node(blank: bool, node: &Node, reads: &[Places], stays: &[Places]) -
         → begins_at x result ≡ spans blank x (node_tree ts node.now) }
 {
     match node {
-        Node::Nothing
-        | Node::Anchor(_)
-        | Node::Behind {
-            negated: _,
-            body: _,
-        } => Firsts {
+        Node::Nothing | Node::Anchor(_) | Node::Behind { .. } => Firsts {
             read: nowhere(),
             stay: anywhere(),
         },
@@ -127,7 +122,7 @@ fn spans_of_node(blank: bool, node: &Node, reads: &[Places], stays: &[Places]) -
             read: places_of_class(class),
             stay: anywhere_if(class_has(blank, class)),
         },
-        Node::Same { fold: _, group: _ } => Firsts {
+        Node::Same { .. } => Firsts {
             read: anywhere(),
             stay: anywhere(),
         },
@@ -146,13 +141,8 @@ fn spans_of_node(blank: bool, node: &Node, reads: &[Places], stays: &[Places]) -
         Node::Alternation(first, second) => {
             one_of_two(part(reads, stays, *first), part(reads, stays, *second))
         }
-        Node::Repeat {
-            greedy: _,
-            least,
-            most: _,
-            body,
-        } => in_loop(part(reads, stays, *body), *least),
-        Node::Group { number: _, body } => part(reads, stays, *body),
+        Node::Repeat { least, body, .. } => in_loop(part(reads, stays, *body), *least),
+        Node::Group { body, .. } => part(reads, stays, *body),
         Node::Atomic(body) => part(reads, stays, *body),
         Node::Ahead { negated, body } => ahead(part(reads, stays, *body), *negated),
     }

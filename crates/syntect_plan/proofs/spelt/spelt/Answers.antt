@@ -4,10 +4,16 @@ use Rattle.syntect_pattern_table.specs.Table.{AreSpelt, node_tree, trees}
 use Rattle.syntect_pattern_table.specs.declared.node.Node.{Node}
 use Rattle.syntect_pattern_table.proofs.BuilderLaws.{length-trees}
 use Rattle.syntect_ways.proofs.OkLaws.{if_ok_map}
-use Rattle.syntect_plan.specs.Spelt.{ArePlaces}
+use Rattle.syntect_plan.specs.Spelt.{AllBelow, ArePlaces}
 use Rattle.syntect_plan.proofs.BuildLaws.{ok-both}
-use Rattle.syntect_plan.proofs.SpeltLaws.{places-more, program-same}
+use Rattle.syntect_plan.proofs.SpeltLaws.{places-inside, places-more, program-same}
 use Rattle.syntect_plan.proofs.spelt.spelt.Goals as goal
+
+pub push_node-requires-clause-below : goal.push_node-requires-clause-below
+push_node-requires-clause-below c =
+    let olds : List Node = c.args.program.now.nodes in
+    let mid : List Node = c.loop-node.spelling.nodes in
+    subst (AllBelow (length mid)) (sym c.as_slice.ensures.value) (places-inside (trees olds) mid c.loop-node.places.items c.loop-node.invariant.placed)
 
 pub loop-node-preserved : goal.loop-node-preserved
 loop-node-preserved c =

@@ -1,4 +1,5 @@
-use Rattle.syntect_pattern_reader.proofs.JoinLaws.{links-first, links-more, below-left}
+use Rattle.std.proofs.Common.{length}
+use Rattle.syntect_pattern_reader.proofs.JoinLaws.{links-first, links-more, below-split}
 use Rattle.syntect_pattern_table.proofs.BuilderLaws.{both-inside}
 use Rattle.syntect_pattern_reader.proofs.builder.Builder.branches.Goals as goal
 
@@ -8,7 +9,7 @@ loop-part-init c = links-first c.args.self.now.nodes c.args.parts.now c.pop.new.
 pub push-requires-in-Some-pop : goal.push-requires-in-Some-pop
 push-requires-in-Some-pop c =
     let l = c.loop-part.invariant in
-    both-inside _ _ _ (l.grows.longer c.in-Some-pop.part (below-left c.args.self.now.nodes c.loop-part.parts c.pop-in-loop-part.new.self c.in-Some-pop.part c.in-Some-pop.ensures.items l.below)) l.inside
+    both-inside _ _ _ (l.grows.longer c.in-Some-pop.part (below-split (length c.args.self.now.nodes) c.loop-part.parts c.pop-in-loop-part.new.self c.in-Some-pop.part c.in-Some-pop.ensures.items l.below).1) l.inside
 
 pub loop-part-preserved : goal.loop-part-preserved
 loop-part-preserved c =

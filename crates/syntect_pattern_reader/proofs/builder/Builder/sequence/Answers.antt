@@ -1,12 +1,10 @@
-use Rattle.std.proofs.Common.{subst}
-use Rattle.syntect_pattern_reader.specs.JoinViews.{AreItemsIn}
-use Rattle.syntect_pattern_reader.proofs.JoinLaws.{chains-first, chains-item, chains-more, items-last}
+use Rattle.syntect_pattern_reader.proofs.JoinLaws.{chains-first, chains-item, chains-more, items-split}
 use Rattle.std.proofs.Common.{length}
 use Rattle.syntect_pattern_reader.proofs.builder.Builder.sequence.Goals as goal
 
 pub push_item-requires : goal.push_item-requires
 push_item-requires c =
-    items-last (length c.args.self.now.nodes) c.pop.new.self c.in-Some.last (subst (AreItemsIn (length c.args.self.now.nodes)) c.in-Some.ensures.items c.requires)
+    (items-split (length c.args.self.now.nodes) c.args.items.now c.pop.new.self c.in-Some.last c.in-Some.ensures.items c.requires).1
 
 pub loop-item-init : goal.loop-item-init
 loop-item-init c =
