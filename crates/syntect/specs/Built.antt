@@ -14,18 +14,23 @@ use Rattle.syntect_grammar.specs.declared.syntax_set.SyntaxSet.{SyntaxSet}
 
 -- the context `__start` of a definition, in which reading begins, if it has one
 abbrev pub start_context : SyntaxDefinition → Option Context
-start_context d = option_and_then (slice_get (map (λ entry. entry.1) d.contexts)) (position (pointwise ◌==◌ (codes "__start")) (names_of d.contexts))
+start_context d =
+    option_and_then (slice_get (map (λ entry. entry.1) d.contexts))
+    (position (pointwise ◌==◌ (codes "__start")) (names_of d.contexts))
 
 -- `__start` has no `meta_scope`, at most one content scope and clears nothing, as in every grammar that is loaded
 abbrev pub IsPlain : SyntaxDefinition → Type 0
-IsPlain d = IfSome (start_context d) (λ c. (c.meta_scope ≡ []) × (length c.meta_content_scope ≤ 1) × (c.clear_scopes ≡ None))
+IsPlain d =
+    IfSome (start_context d)
+    (λ c. (c.meta_scope ≡ []) × (length c.meta_content_scope ≤ 1) × (c.clear_scopes ≡ None))
 
 -- no context of the definition has the key `clear_scopes`
 abbrev pub clears_nothing : SyntaxDefinition → Bool
 clears_nothing d = list_all (λ entry. is_none entry.1.clear_scopes) d.contexts
 
 -- the set was built once, of these definitions, which are plain, and the syntax is one of it
-pub record IsBuiltOf (set : SyntaxSet) (syntax : SyntaxReference) (definitions : List SyntaxDefinition) : Type 0 where
+pub record IsBuiltOf (set : SyntaxSet) (syntax : SyntaxReference)
+    (definitions : List SyntaxDefinition) : Type 0 where
   pub links : syntaxes_in set ≡ linked definitions
   pub place : ℕ
   pub among : slice_get (syntaxes_in set) place ≡ Some syntax
@@ -47,4 +52,5 @@ pub record IsBuilt (set : SyntaxSet) (definitions : List SyntaxDefinition) : Typ
 
 -- Nothing that is looked at in `__start` alone pops it or sets another context in its place: a text never leaves it.
 abbrev pub StaysInStart : SyntaxSet → SyntaxReference → Type 0
-StaysInStart set syntax = IfSome (start_id syntax) (λ id. list_all (λ m. stays m.operation) (lone_patterns set id) ≡ true)
+StaysInStart set syntax =
+    IfSome (start_id syntax) (λ id. list_all (λ m. stays m.operation) (lone_patterns set id) ≡ true)

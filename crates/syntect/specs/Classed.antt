@@ -60,7 +60,9 @@ pub record StaysAt (g h : ClassedHTMLGenerator) : Type 0 where
 pub record AddsLine (line : List ℕ) (before after : ClassedHTMLGenerator) : Type 0 where
   pub ops : List (ℕ × ScopeStackOp)
   pub accepted : Accepts dialect (set_in before) line (state_in before) (state_in after) ops
-  pub text : text_so_far after ≡ text_so_far before ++ written (prefix_of (style_in before)) (repository_in before) (marks line 0 (stack_in before) ops)
+  pub text : text_so_far after
+      ≡ text_so_far before ++ written (prefix_of (style_in before)) (repository_in before)
+      (marks line 0 (stack_in before) ops)
   pub stack : stack_in after ≡ stack_after (stack_in before) ops
   pub goes_on : GoesOn before after
 
@@ -68,7 +70,10 @@ pub record AddsLine (line : List ℕ) (before after : ClassedHTMLGenerator) : Ty
 -- memory ran out.
 abbrev pub RefusesLineOf : ClassedHTMLGenerator → List ℕ → Error → Type 0
 RefusesLineOf g line (error.ParsingError e) = MayRefuse dialect (set_in g) line (state_in g) e
-RefusesLineOf g line (error.ScopeError e) = (after : Standing) × (ops : List (ℕ × ScopeStackOp)) × Accepts dialect (set_in g) line (state_in g) after ops × (some_refused (stack_in g) ops ≡ true)
+RefusesLineOf g line (error.ScopeError e) =
+    (after : Standing) × (ops : List (ℕ × ScopeStackOp))
+    × Accepts dialect (set_in g) line (state_in g) after ops
+    × (some_refused (stack_in g) ops ≡ true)
 RefusesLineOf g line error.Memory = Unit {0}
 RefusesLineOf g line e = ⊥
 

@@ -23,21 +23,31 @@ pub record IsSyntaxFor (set : SyntaxSet) (path : List ℕ) (syntax : SyntaxRefer
 
 -- It is that syntax; and where it is known what is left of the file, the line that was asked is a front of the first one
 -- that is left.
-pub record IsToldSyntax (set : SyntaxSet) (path : List ℕ) (left : Option (List ℕ)) (syntax : SyntaxReference) : Type 0 where
+pub record IsToldSyntax (set : SyntaxSet) (path : List ℕ) (left : Option (List ℕ))
+    (syntax : SyntaxReference) : Type 0 where
   pub is_for : IsSyntaxFor set path syntax
   pub front : IfSome left (λ xs. StartsWith (take_through 10 xs) is_for.line)
 
 -- no line of a file is read: no syntax is there for it, or the syntax has no `__start`, or the file is not read, or there was
 -- no memory
 abbrev pub HasNoLines : SyntaxSet → List ℕ → Error → Type 0
-HasNoLines set path error.NoSyntax = (line : List ℕ) × IsUtf8 line × (option_or (found_for_file set path line) (found_plain_text set) ≡ None)
+HasNoLines set path error.NoSyntax =
+    (line : List ℕ) × IsUtf8 line
+    × (option_or (found_for_file set path line) (found_plain_text set) ≡ None)
 HasNoLines set path (error.Io e) = Unit {0}
-HasNoLines set path e = OnlyParsing (λ e. (syntax : SyntaxReference) × IsSyntaxFor set path syntax × LacksStart syntax (error.ParsingError e)) e
+HasNoLines set path e =
+    OnlyParsing (λ e. (syntax : SyntaxReference) × IsSyntaxFor set path syntax
+    × LacksStart syntax (error.ParsingError e)) e
 
 -- the page shows some text in the syntax of the file
 abbrev pub IsPageOfFile : SyntaxSet → Theme → List ℕ → List ℕ → Type 0
-IsPageOfFile set theme path page = (syntax : SyntaxReference) × IsSyntaxFor set path syntax × (text : List ℕ) × IsPageOfBytes set theme syntax text page
+IsPageOfFile set theme path page =
+    (syntax : SyntaxReference) × IsSyntaxFor set path syntax × (text : List ℕ)
+    × IsPageOfBytes set theme syntax text page
 
 -- there is no page: no line is read, or one is refused, or is no text, or is not read
 abbrev pub HasNoPageOfFile : SyntaxSet → List ℕ → Error → Type 0
-HasNoPageOfFile set path e = HasNoLines set path e ⊎ ((syntax : SyntaxReference) × IsSyntaxFor set path syntax × (text : List ℕ) × IsStopped set syntax text e)
+HasNoPageOfFile set path e =
+    HasNoLines set path e
+    ⊎ ((syntax : SyntaxReference) × IsSyntaxFor set path syntax × (text : List ℕ)
+    × IsStopped set syntax text e)

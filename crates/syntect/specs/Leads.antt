@@ -67,17 +67,21 @@ BeginsPlain set syntax = (start : Standing) → start_of syntax ≡ Some start �
 -- What contexts clear in these lines, read one after another from the start of the syntax, is put back in the order in
 -- which it was cleared. In a set that clears nothing all lines are so: a law.
 abbrev pub RunsOrderly : SyntaxSet → SyntaxReference → List (List ℕ) → Type 0
-RunsOrderly set syntax lines = (start : Standing) → start_of syntax ≡ Some start → IsOrderlyRun dialect set lines start
+RunsOrderly set syntax lines =
+    (start : Standing) → start_of syntax ≡ Some start → IsOrderlyRun dialect set lines start
 
 -- These are the answers to these lines, read one after another from the start of the syntax, and h is what a
 -- highlighter of this theme then holds. Its styles stand on a stack that remembers a list at least for each level that
 -- clears; where the lines are orderly, that stack is the one of the levels.
-pub record Leads (set : SyntaxSet) (theme : Theme) (syntax : SyntaxReference) (lines : List (List ℕ)) (answers : List Answer) (h : HighlightLines) : Type 0 where
+pub record Leads (set : SyntaxSet) (theme : Theme) (syntax : SyntaxReference)
+    (lines : List (List ℕ)) (answers : List Answer) (h : HighlightLines) : Type 0 where
   pub start : Standing
   pub begins : start_of syntax ≡ Some start
   pub run : AnswersAll dialect set lines start answers (standing (reader_of h))
-  pub path : RunsOrderly set syntax lines → path_of (styles_of h) ≡ stack_before set (standing (reader_of h))
-  pub remembers : BeginsPlain set syntax → Remembers set (standing (reader_of h)).levels (path_of (styles_of h))
+  pub path : RunsOrderly set syntax lines
+      → path_of (styles_of h) ≡ stack_before set (standing (reader_of h))
+  pub remembers : BeginsPlain set syntax
+      → Remembers set (standing (reader_of h)).levels (path_of (styles_of h))
   pub theme_is : theme_of h ≡ theme
   pub keeps : Keeps theme (styles_of h)
 
@@ -100,19 +104,27 @@ pub record IsPast (past : Past) (set : SyntaxSet) (h : HighlightLines) : Type 0 
 
 -- the past with one line and its answer more
 abbrev pub and_then : Past → List ℕ → Answer → Past
-and_then past line answer = record past { lines = past.lines ++ line ∷ []; answers = past.answers ++ answer ∷ [] }
+and_then past line answer =
+    record past { lines = past.lines ++ line ∷ []; answers = past.answers ++ answer ∷ [] }
 
 -- The line is answered behind this past, and h is what is held then: an accepted line gives pieces that are not empty
 -- and join to it, and where the lines so far and this one are orderly, each byte has the theme's style for its scopes; a
 -- refused one has the refusal of its reading, unless memory ran out.
-abbrev pub Continues : Past → SyntaxSet → Bor (List ℕ) → HighlightLines → Result (Vec (Style × Bor (List ℕ))) Error → Type 0
+abbrev pub Continues : Past → SyntaxSet → Bor (List ℕ) → HighlightLines
+    → Result (Vec (Style × Bor (List ℕ))) Error → Type 0
 Continues past set line h (Ok pieces) =
     (bytes : List (List (List ℕ))) × IsPast (and_then past line.now (Accepted bytes)) set h
-    × Joins line.now pieces.items × (RunsOrderly set past.syntax (past.lines ++ line.now ∷ []) → IsStyled past.theme bytes pieces.items)
-Continues past set line h (Err e) = OnlyParsing (λ e. IsPast (and_then past line.now (RefusedBy e)) set h) e
+    × Joins line.now pieces.items
+    × (RunsOrderly set past.syntax (past.lines ++ line.now ∷ [])
+    → IsStyled past.theme bytes pieces.items)
+Continues past set line h (Err e) =
+    OnlyParsing (λ e. IsPast (and_then past line.now (RefusedBy e)) set h) e
 
 -- The line is refused exactly where a turn of its reading picks a match that names a reference without target, and with
 -- that reference, unless memory ran out. h is what is held before the line.
-abbrev pub RefusedExactly : SyntaxSet → List ℕ → HighlightLines → Result (Vec (Style × Bor (List ℕ))) Error → Type 0
-RefusedExactly set line h (Ok pieces) = (r : ContextReference) → PicksUnresolved dialect set line (standing (reader_of h)) r → ⊥
-RefusedExactly set line h (Err e) = OnlyParsing (NamesUnresolved dialect set line (standing (reader_of h))) e
+abbrev pub RefusedExactly : SyntaxSet → List ℕ → HighlightLines
+    → Result (Vec (Style × Bor (List ℕ))) Error → Type 0
+RefusedExactly set line h (Ok pieces) =
+    (r : ContextReference) → PicksUnresolved dialect set line (standing (reader_of h)) r → ⊥
+RefusedExactly set line h (Err e) =
+    OnlyParsing (NamesUnresolved dialect set line (standing (reader_of h))) e

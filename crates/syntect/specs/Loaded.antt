@@ -18,7 +18,9 @@ HoldsLoaded builder = All IsLoaded (definitions_in builder)
 
 -- the set was built once, of definitions that were loaded
 abbrev pub IsOfLoaded : SyntaxSet → Type 0
-IsOfLoaded set = (definitions : List SyntaxDefinition) × (syntaxes_in set ≡ linked definitions) × All IsLoaded definitions
+IsOfLoaded set =
+    (definitions : List SyntaxDefinition) × (syntaxes_in set ≡ linked definitions)
+    × All IsLoaded definitions
 
 -- the syntax is one of the set
 abbrev pub IsOneOf : SyntaxSet → SyntaxReference → Type 0
@@ -29,22 +31,34 @@ IsOneOf set syntax = (place : ℕ) × (slice_get (syntaxes_in set) place ≡ Som
 -- What the calls of a builder add was loaded; so a set that it builds is one of loaded definitions.
 pub record BuildersHold : Type 0 where
   pub nothing : (builder : SyntaxSetBuilder) → definitions_in builder ≡ [] → HoldsLoaded builder
-  pub one : (old new : SyntaxSetBuilder) (text : List ℕ) (newlines : Bool) (fallback : Option (List ℕ)) (repository left : List (List ℕ)) (d : SyntaxDefinition)
-      → HoldsLoaded old → loaded text newlines fallback repository ≡ Ok (d, left) → definitions_in new ≡ definitions_in old ++ d ∷ [] → HoldsLoaded new
-  pub plain_text : (old new : SyntaxSetBuilder) (before after : List (List ℕ)) → HoldsLoaded old → AddsPlainText old new before after → HoldsLoaded new
-  pub folder : (newlines : Bool) (path : List ℕ) (before after : List (List ℕ)) (old new : SyntaxSetBuilder)
+  pub one : (old new : SyntaxSetBuilder) (text : List ℕ) (newlines : Bool)
+      (fallback : Option (List ℕ)) (repository left : List (List ℕ)) (d : SyntaxDefinition)
+      → HoldsLoaded old → loaded text newlines fallback repository ≡ Ok (d, left)
+      → definitions_in new ≡ definitions_in old ++ d ∷ [] → HoldsLoaded new
+  pub plain_text : (old new : SyntaxSetBuilder) (before after : List (List ℕ)) → HoldsLoaded old
+      → AddsPlainText old new before after → HoldsLoaded new
+  pub folder : (newlines : Bool) (path : List ℕ) (before after : List (List ℕ))
+      (old new : SyntaxSetBuilder)
       → HoldsLoaded old → AddsFolder newlines path before old after new → HoldsLoaded new
-  pub built : (builder : SyntaxSetBuilder) (set : SyntaxSet) → HoldsLoaded builder → syntaxes_in set ≡ linked (definitions_in builder) → IsOfLoaded set
+  pub built : (builder : SyntaxSetBuilder) (set : SyntaxSet) → HoldsLoaded builder
+      → syntaxes_in set ≡ linked (definitions_in builder) → IsOfLoaded set
 
 -- What is found in a set is one of it.
 pub record FindsOwn : Type 0 where
-  pub scope : (set : SyntaxSet) (scope : List ℕ) (syntax : SyntaxReference) → Some syntax ≡ found_by_scope set scope → IsOneOf set syntax
-  pub name : (set : SyntaxSet) (name : List ℕ) (syntax : SyntaxReference) → Some syntax ≡ found_by_name set name → IsOneOf set syntax
-  pub extension : (set : SyntaxSet) (extension : List ℕ) (syntax : SyntaxReference) → Some syntax ≡ found_by_extension set extension → IsOneOf set syntax
-  pub token : (set : SyntaxSet) (token : List ℕ) (syntax : SyntaxReference) → Some syntax ≡ found_by_token set token → IsOneOf set syntax
-  pub first_line : (set : SyntaxSet) (line : List ℕ) (syntax : SyntaxReference) → Some syntax ≡ found_by_first_line set line → IsOneOf set syntax
-  pub plain_text : (set : SyntaxSet) (syntax : SyntaxReference) → Some syntax ≡ found_plain_text set → IsOneOf set syntax
-  pub file : (set : SyntaxSet) (path line : List ℕ) (syntax : SyntaxReference) → Some syntax ≡ found_for_file set path line → IsOneOf set syntax
+  pub scope : (set : SyntaxSet) (scope : List ℕ) (syntax : SyntaxReference)
+      → Some syntax ≡ found_by_scope set scope → IsOneOf set syntax
+  pub name : (set : SyntaxSet) (name : List ℕ) (syntax : SyntaxReference)
+      → Some syntax ≡ found_by_name set name → IsOneOf set syntax
+  pub extension : (set : SyntaxSet) (extension : List ℕ) (syntax : SyntaxReference)
+      → Some syntax ≡ found_by_extension set extension → IsOneOf set syntax
+  pub token : (set : SyntaxSet) (token : List ℕ) (syntax : SyntaxReference)
+      → Some syntax ≡ found_by_token set token → IsOneOf set syntax
+  pub first_line : (set : SyntaxSet) (line : List ℕ) (syntax : SyntaxReference)
+      → Some syntax ≡ found_by_first_line set line → IsOneOf set syntax
+  pub plain_text : (set : SyntaxSet) (syntax : SyntaxReference) → Some syntax ≡ found_plain_text set
+      → IsOneOf set syntax
+  pub file : (set : SyntaxSet) (path line : List ℕ) (syntax : SyntaxReference)
+      → Some syntax ≡ found_for_file set path line → IsOneOf set syntax
 
 -- all that pages and lines have as premises of a set and a syntax
 pub record MeetsPremises (set : SyntaxSet) (syntax : SyntaxReference) : Type 0 where
@@ -57,4 +71,5 @@ pub record MeetsPremises (set : SyntaxSet) (syntax : SyntaxReference) : Type 0 w
 
 -- a set of loaded definitions meets them with each of its syntaxes
 abbrev pub LoadedSetsMeet : Type 0
-LoadedSetsMeet = (set : SyntaxSet) (syntax : SyntaxReference) → IsOfLoaded set → IsOneOf set syntax → MeetsPremises set syntax
+LoadedSetsMeet = (set : SyntaxSet) (syntax : SyntaxReference) → IsOfLoaded set → IsOneOf set syntax
+    → MeetsPremises set syntax

@@ -40,7 +40,8 @@ AreStyled theme [] = Unit {0}
 AreStyled theme (row ∷ rows) = IsStyled theme row.scopes row.pieces × AreStyled theme rows
 
 -- The rows are joined, and where their lines are orderly they are styled.
-pub record AreShown (set : SyntaxSet) (theme : Theme) (syntax : SyntaxReference) (rows : List Row) : Type 0 where
+pub record AreShown (set : SyntaxSet) (theme : Theme) (syntax : SyntaxReference)
+    (rows : List Row) : Type 0 where
   pub joins : AreJoined rows
   pub styled : RunsOrderly set syntax (lines_in rows) → AreStyled theme rows
 
@@ -49,14 +50,23 @@ answers_in rows = map (λ row. Accepted row.scopes) rows
 
 -- the past in which these rows were shown
 abbrev pub past_of : List SyntaxDefinition → Theme → SyntaxReference → List Row → Past
-past_of definitions theme syntax rows = record { definitions = definitions; theme = theme; syntax = syntax; lines = lines_in rows; answers = answers_in rows }
+past_of definitions theme syntax rows =
+    record {
+      definitions = definitions;
+      theme = theme;
+      syntax = syntax;
+      lines = lines_in rows;
+      answers = answers_in rows;
+    }
 
 -- the lines of rows as HTML: the colour behind the theme's text is not told again
 abbrev pub body_text : Theme → List Row → List ℕ
-body_text theme rows = flat_map (λ row. line_text (IfDifferent (background_of theme)) row.pieces) rows
+body_text theme rows =
+    flat_map (λ row. line_text (IfDifferent (background_of theme)) row.pieces) rows
 
 -- The page shows the text's lines, each read from the state that the lines before it leave, between the theme's frame.
-pub record IsPage (set : SyntaxSet) (theme : Theme) (syntax : SyntaxReference) (text page : List ℕ) : Type 0 where
+pub record IsPage (set : SyntaxSet) (theme : Theme) (syntax : SyntaxReference)
+    (text page : List ℕ) : Type 0 where
   pub rows : List Row
   pub start : Standing
   pub after : Standing
@@ -67,7 +77,8 @@ pub record IsPage (set : SyntaxSet) (theme : Theme) (syntax : SyntaxReference) (
   pub written : page ≡ opening theme ++ (body_text theme rows ++ closing)
 
 -- The text's lines up to one are read, and that one is refused so.
-pub record IsRefusedAtALine (set : SyntaxSet) (syntax : SyntaxReference) (text : List ℕ) (e : ParsingError) : Type 0 where
+pub record IsRefusedAtALine (set : SyntaxSet) (syntax : SyntaxReference) (text : List ℕ)
+    (e : ParsingError) : Type 0 where
   pub rows : List Row
   pub line : List ℕ
   pub rest : List (List ℕ)
@@ -75,11 +86,13 @@ pub record IsRefusedAtALine (set : SyntaxSet) (syntax : SyntaxReference) (text :
   pub after : Standing
   pub begins : start_of syntax ≡ Some start
   pub lines : lines_in rows ++ line ∷ rest ≡ lines_of text
-  pub run : AnswersAll dialect set (lines_in rows ++ line ∷ []) start (answers_in rows ++ RefusedBy e ∷ []) after
+  pub run : AnswersAll dialect set (lines_in rows ++ line ∷ []) start
+      (answers_in rows ++ RefusedBy e ∷ []) after
 
 -- there is no page: the syntax has no `__start`, or a line is refused, or there was no memory
 abbrev pub HasNoPage : SyntaxSet → SyntaxReference → List ℕ → Error → Type 0
-HasNoPage set syntax text = OnlyParsing (λ e. LacksStart syntax (error.ParsingError e) ⊎ IsRefusedAtALine set syntax text e)
+HasNoPage set syntax text =
+    OnlyParsing (λ e. LacksStart syntax (error.ParsingError e) ⊎ IsRefusedAtALine set syntax text e)
 
 -- ---- the text of a reader ----
 
@@ -100,7 +113,8 @@ AreUtf8 (line ∷ lines) = IsUtf8 line × AreUtf8 lines
 
 -- A line is refused, and it and those before it are UTF-8.
 abbrev pub IsRefusedAtALineOfBytes : SyntaxSet → SyntaxReference → List ℕ → ParsingError → Type 0
-IsRefusedAtALineOfBytes set syntax text e = (r : IsRefusedAtALine set syntax text e) × AreUtf8 (lines_in r.rows) × IsUtf8 r.line
+IsRefusedAtALineOfBytes set syntax text e =
+    (r : IsRefusedAtALine set syntax text e) × AreUtf8 (lines_in r.rows) × IsUtf8 r.line
 
 -- The text's lines up to one of them, or to its end, are UTF-8, and none of them is refused.
 pub record IsReadUpTo (set : SyntaxSet) (syntax : SyntaxReference) (text : List ℕ) : Type 0 where

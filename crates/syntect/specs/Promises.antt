@@ -17,9 +17,12 @@ use Rattle.syntect.specs.Leads.{Past, IsPast, HoldsSame, RunsOrderly}
 
 -- a definition that loading answers is plain
 abbrev pub LoadedIsPlain : Type 0
-LoadedIsPlain = (text : List ℕ) (lines_include_newline : Bool) (fallback : Option (List ℕ)) (repository : List (List ℕ))
+LoadedIsPlain =
+    (text : List ℕ) (lines_include_newline : Bool) (fallback : Option (List ℕ))
+    (repository : List (List ℕ))
     (definition : SyntaxDefinition) (left : List (List ℕ))
-    → loaded text lines_include_newline fallback repository ≡ Ok (definition, left) → IsPlain definition
+    → loaded text lines_include_newline fallback repository ≡ Ok (definition, left)
+    → IsPlain definition
 
 -- in a set of loaded definitions no text leaves the `__start` of its syntax
 abbrev pub LoadedStay : Type 0
@@ -29,7 +32,8 @@ LoadedStay = (set : SyntaxSet) (syntax : SyntaxReference) (definitions : List Sy
 -- a set of definitions that have no `clear_scopes` clears nothing
 abbrev pub NothingIsCleared : Type 0
 NothingIsCleared = (set : SyntaxSet) (definitions : List SyntaxDefinition)
-    → syntaxes_in set ≡ linked definitions → list_all clears_nothing definitions ≡ true → ClearsNothing set
+    → syntaxes_in set ≡ linked definitions → list_all clears_nothing definitions ≡ true
+    → ClearsNothing set
 
 -- where nothing clears, all lines are orderly
 abbrev pub AllRunOrderly : Type 0
@@ -43,7 +47,9 @@ PastsStay = (past : Past) (set : SyntaxSet) (old new : HighlightLines)
 
 -- in a set of loaded definitions that clears nothing, each byte of an accepted line has a scope
 abbrev pub LoadedGiveScopes : Type 0
-LoadedGiveScopes = (set : SyntaxSet) (syntax : SyntaxReference) (definitions : List SyntaxDefinition)
+LoadedGiveScopes =
+    (set : SyntaxSet) (syntax : SyntaxReference) (definitions : List SyntaxDefinition)
     (start after : Standing) (lines : List (List ℕ)) (answers : List Answer)
-    → IsBuiltOf set syntax definitions → All IsLoaded definitions → ClearsNothing set → start_of syntax ≡ Some start
+    → IsBuiltOf set syntax definitions → All IsLoaded definitions → ClearsNothing set
+    → start_of syntax ≡ Some start
     → AnswersAll dialect set lines start answers after → GiveScopes answers

@@ -36,18 +36,23 @@ CanFollow line rest = can_go_on line ≡ false → rest ≡ []
 -- What a reader gives behind a line, and what it has left then: a line of at least one byte, whose newline, if it has one,
 -- stands at its end; or nothing, behind a line that none can follow or where nothing is left.
 abbrev pub GivesNext : Option (List ℕ) → List ℕ → Option (List ℕ) → List ℕ → Bool → Type 0
-GivesNext had last left line true = (0 < length line) × StopsAt line 10 × (can_go_on last ≡ true)
-    × IfSome had (λ bytes. (rest : List ℕ) × (left ≡ Some rest) × (bytes ≡ line ++ rest) × CanFollow line rest)
+GivesNext had last left line true =
+    (0 < length line) × StopsAt line 10 × (can_go_on last ≡ true)
+    × IfSome had (λ bytes. (rest : List ℕ)
+    × (left ≡ Some rest) × (bytes ≡ line ++ rest) × CanFollow line rest)
 GivesNext had last left line false = can_go_on last ≡ true → IfSome had (λ bytes. bytes ≡ [])
 
 -- a reader that had all has this left behind these bytes, the last line of which is `last`
 abbrev pub IsLeft : Option (List ℕ) → Option (List ℕ) → List ℕ → List ℕ → Type 0
-IsLeft had left done last = IfSome had (λ text. (rest : List ℕ) × (left ≡ Some rest) × (text ≡ done ++ rest) × CanFollow last rest)
+IsLeft had left done last =
+    IfSome had (λ text. (rest : List ℕ)
+    × (left ≡ Some rest) × (text ≡ done ++ rest) × CanFollow last rest)
 
 -- ---- rows ----
 
 -- The rows are the text's lines, each read from the state that the lines before it leave, in the theme's styles.
-pub record AreRowsOf (set : SyntaxSet) (theme : Theme) (syntax : SyntaxReference) (text : List ℕ) (rows : List Row) : Type 0 where
+pub record AreRowsOf (set : SyntaxSet) (theme : Theme) (syntax : SyntaxReference) (text : List ℕ)
+    (rows : List Row) : Type 0 where
   pub start : Standing
   pub after : Standing
   pub begins : start_of syntax ≡ Some start
@@ -56,11 +61,14 @@ pub record AreRowsOf (set : SyntaxSet) (theme : Theme) (syntax : SyntaxReference
   pub shown : AreShown set theme syntax rows
 
 -- What a reader has given so far is shown in these rows, and h is what the highlighter then holds.
-pub record AreRowsSoFar (set : SyntaxSet) (theme : Theme) (syntax : SyntaxReference) (had left : Option (List ℕ)) (last : List ℕ) (rows : List Row) (h : HighlightLines) : Type 0 where
+pub record AreRowsSoFar (set : SyntaxSet) (theme : Theme) (syntax : SyntaxReference)
+    (had left : Option (List ℕ)) (last : List ℕ) (rows : List Row)
+    (h : HighlightLines) : Type 0 where
   pub done : List ℕ
   pub valid : IsUtf8 done
   pub leads : Leads set theme syntax (lines_in rows) (answers_in rows) h
-  pub lines : (rest : List ℕ) → CanFollow last rest → lines_in rows ++ lines_of rest ≡ lines_of (done ++ rest)
+  pub lines : (rest : List ℕ) → CanFollow last rest
+      → lines_in rows ++ lines_of rest ≡ lines_of (done ++ rest)
   pub lines_valid : AreUtf8 (lines_in rows)
   pub shown : AreShown set theme syntax rows
   pub is_left : IsLeft had left done last
@@ -69,21 +77,28 @@ pub record AreRowsSoFar (set : SyntaxSet) (theme : Theme) (syntax : SyntaxRefere
 
 -- there are no rows at first
 abbrev pub RowsBegin : Type 0
-RowsBegin = (set : SyntaxSet) (theme : Theme) (syntax : SyntaxReference) (had : Option (List ℕ)) (last : List ℕ) (h : HighlightLines)
+RowsBegin =
+    (set : SyntaxSet) (theme : Theme) (syntax : SyntaxReference) (had : Option (List ℕ))
+    (last : List ℕ) (h : HighlightLines)
     → Leads set theme syntax [] [] h → last ≡ [] → AreRowsSoFar set theme syntax had had last [] h
 
 -- the next line, in the pieces that it is shown in, is a row more
 abbrev pub RowsGoOn : Type 0
-RowsGoOn = (set : SyntaxSet) (definitions : List SyntaxDefinition) (theme : Theme) (syntax : SyntaxReference) (had left after : Option (List ℕ)) (last bytes : List ℕ) (rows : List Row)
+RowsGoOn =
+    (set : SyntaxSet) (definitions : List SyntaxDefinition) (theme : Theme)
+    (syntax : SyntaxReference) (had left after : Option (List ℕ)) (last bytes : List ℕ)
+    (rows : List Row)
     (line : Bor (List ℕ)) (h new : HighlightLines) (pieces : Vec (Style × Bor (List ℕ)))
     → AreRowsSoFar set theme syntax had left last rows h
     → (l : Continues (past_of definitions theme syntax rows) set line new (Ok pieces))
     → GivesNext left last after bytes true → line.now ≡ bytes → IsUtf8 bytes
-    → AreRowsSoFar set theme syntax had after bytes (rows ++ record { line = line.now; scopes = l.0; pieces = pieces.items } ∷ []) new
+    → AreRowsSoFar set theme syntax had after bytes
+    (rows ++ record { line = line.now; scopes = l.0; pieces = pieces.items } ∷ []) new
 
 -- where nothing is left, the rows are those of a text, and that is the reader's if it tells
 abbrev pub RowsEnd : Type 0
-RowsEnd = (set : SyntaxSet) (theme : Theme) (syntax : SyntaxReference) (had left after : Option (List ℕ)) (last bytes : List ℕ) (rows : List Row) (h : HighlightLines)
+RowsEnd = (set : SyntaxSet) (theme : Theme) (syntax : SyntaxReference)
+    (had left after : Option (List ℕ)) (last bytes : List ℕ) (rows : List Row) (h : HighlightLines)
     → AreRowsSoFar set theme syntax had left last rows h → GivesNext left last after bytes false
     → (text : List ℕ) × IsTextOf had text × IsUtf8 text × AreRowsOf set theme syntax text rows
 
@@ -93,13 +108,20 @@ HasStopped set syntax had e = (text : List ℕ) × IsTextOf had text × IsStoppe
 
 -- a line that is refused ends the rows
 abbrev pub RowsRefuse : Type 0
-RowsRefuse = (set : SyntaxSet) (definitions : List SyntaxDefinition) (theme : Theme) (syntax : SyntaxReference) (had left after : Option (List ℕ)) (last bytes : List ℕ) (rows : List Row)
+RowsRefuse =
+    (set : SyntaxSet) (definitions : List SyntaxDefinition) (theme : Theme)
+    (syntax : SyntaxReference) (had left after : Option (List ℕ)) (last bytes : List ℕ)
+    (rows : List Row)
     (line : Bor (List ℕ)) (h new : HighlightLines) (e : Error)
     → AreRowsSoFar set theme syntax had left last rows h
     → Continues (past_of definitions theme syntax rows) set line new (Err e)
-    → GivesNext left last after bytes true → line.now ≡ bytes → IsUtf8 bytes → HasStopped set syntax had e
+    → GivesNext left last after bytes true → line.now ≡ bytes → IsUtf8 bytes
+    → HasStopped set syntax had e
 
 -- and so does a fault of reading, behind them
 abbrev pub RowsStop : Type 0
-RowsStop = (set : SyntaxSet) (theme : Theme) (syntax : SyntaxReference) (had left : Option (List ℕ)) (last : List ℕ) (rows : List Row) (h : HighlightLines) (e : Error)
-    → AreRowsSoFar set theme syntax had left last rows h → IsReadFault e → HasStopped set syntax had e
+RowsStop =
+    (set : SyntaxSet) (theme : Theme) (syntax : SyntaxReference) (had left : Option (List ℕ))
+    (last : List ℕ) (rows : List Row) (h : HighlightLines) (e : Error)
+    → AreRowsSoFar set theme syntax had left last rows h → IsReadFault e
+    → HasStopped set syntax had e

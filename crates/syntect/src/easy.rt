@@ -192,7 +192,9 @@ impl<'a, F: Read + Drop> HighlightFile<'a, F> {
         ss: &SyntaxSet,
         theme: &'a Theme,
     ) -> Result<HighlightFile<'a, F>, Error>
-        ensures leads { IfOk result (λ file. (syntax : ASyntax) × IsSyntaxFor ss.now (path_bytes path.entry) syntax × Leads ss.now theme.now syntax [] [] file.highlight_lines) }
+        ensures leads { IfOk result
+            (λ file. (syntax : ASyntax) × IsSyntaxFor ss.now (path_bytes path.entry) syntax
+            × Leads ss.now theme.now syntax [] [] file.highlight_lines) }
         // what the file had when it was opened, if that is known, is what the reader has left
         ensures unread { IfOk result (λ file. (opened : F) × (syntax : ASyntax)
             × Keeps (F.remaining opened) (reader_remaining F.remaining file.reader)

@@ -43,8 +43,10 @@ pub fn highlighted_html_for_string(
     theme: &Theme,
 ) -> Result<String, Error>
     // the set was built of plain definitions
-    ensures page { (definitions : List ADefinition) → IsBuiltOf ss.now syntax.now definitions → IfOk result (λ page. IsPage ss.now theme.now syntax.now s.now (string_bytes page)) }
-    ensures refused { (definitions : List ADefinition) → IsBuiltOf ss.now syntax.now definitions → IfErr result (HasNoPage ss.now syntax.now s.now) }
+    ensures page { (definitions : List ADefinition) → IsBuiltOf ss.now syntax.now definitions
+        → IfOk result (λ page. IsPage ss.now theme.now syntax.now s.now (string_bytes page)) }
+    ensures refused { (definitions : List ADefinition) → IsBuiltOf ss.now syntax.now definitions
+        → IfErr result (HasNoPage ss.now syntax.now s.now) }
 {
     let mut highlighter = HighlightLines::new(alloc, syntax, theme)?;
     let (mut page, color) = start_highlighted_html_snippet(alloc, theme)?;
@@ -70,9 +72,11 @@ pub fn highlighted_html_for_reader<R: BufRead + Drop>(
 ) -> Result<String, Error>
     // the set was built of plain definitions; the text is that of the reader, if it tells its bytes
     ensures page { (definitions : List ADefinition) → IsBuiltOf ss.now syntax.now definitions
-        → IfOk result (λ page. (text : List ℕ) × IsTextOf (R.remaining reader) text × IsPageOfBytes ss.now theme.now syntax.now text (string_bytes page)) }
+        → IfOk result (λ page. (text : List ℕ) × IsTextOf (R.remaining reader) text
+        × IsPageOfBytes ss.now theme.now syntax.now text (string_bytes page)) }
     ensures refused { (definitions : List ADefinition) → IsBuiltOf ss.now syntax.now definitions
-        → IfErr result (λ e. (text : List ℕ) × IsTextOf (R.remaining reader) text × HasNoPageOfBytes ss.now syntax.now text e) }
+        → IfErr result (λ e. (text : List ℕ) × IsTextOf (R.remaining reader) text
+        × HasNoPageOfBytes ss.now syntax.now text e) }
 {
     let highlighter = HighlightLines::new(alloc, syntax, theme)?;
     page_of_lines(alloc, reader, highlighter, ss, theme)
@@ -90,8 +94,10 @@ pub fn highlighted_html_for_file(
 ) -> Result<String, Error>
     // the set was built of plain definitions; of what the file holds nothing is known but that the page shows it
     ensures page { (definitions : List ADefinition) → IsBuilt ss.now definitions
-        → IfOk result (λ page. IsPageOfFile ss.now theme.now (path_bytes path.entry) (string_bytes page)) }
-    ensures refused { (definitions : List ADefinition) → IsBuilt ss.now definitions → IfErr result (HasNoPageOfFile ss.now (path_bytes path.entry)) }
+        → IfOk result (λ page. IsPageOfFile ss.now theme.now (path_bytes path.entry)
+        (string_bytes page)) }
+    ensures refused { (definitions : List ADefinition) → IsBuilt ss.now definitions
+        → IfErr result (HasNoPageOfFile ss.now (path_bytes path.entry)) }
 {
     match HighlightFile::new(files, alloc, path, ss, theme) {
         Ok(file) => page_of_lines(alloc, file.reader, file.highlight_lines, ss, theme),
@@ -107,10 +113,16 @@ fn page_of_lines<R: BufRead + Drop>(
     ss: &SyntaxSet,
     theme: &Theme,
 ) -> Result<String, Error>
-    ensures page { (definitions : List ADefinition) (syntax : ASyntax) → IsBuiltOf ss.now syntax definitions → Leads ss.now theme.now syntax [] [] highlighter.entry
-        → IfOk result (λ page. (text : List ℕ) × IsTextOf (R.remaining reader) text × IsPageOfBytes ss.now theme.now syntax text (string_bytes page)) }
-    ensures refused { (definitions : List ADefinition) (syntax : ASyntax) → IsBuiltOf ss.now syntax definitions → Leads ss.now theme.now syntax [] [] highlighter.entry
-        → IfErr result (λ e. (text : List ℕ) × IsTextOf (R.remaining reader) text × IsStopped ss.now syntax text e) }
+    ensures page { (definitions : List ADefinition) (syntax : ASyntax)
+        → IsBuiltOf ss.now syntax definitions
+        → Leads ss.now theme.now syntax [] [] highlighter.entry
+        → IfOk result (λ page. (text : List ℕ) × IsTextOf (R.remaining reader) text
+        × IsPageOfBytes ss.now theme.now syntax text (string_bytes page)) }
+    ensures refused { (definitions : List ADefinition) (syntax : ASyntax)
+        → IsBuiltOf ss.now syntax definitions
+        → Leads ss.now theme.now syntax [] [] highlighter.entry
+        → IfErr result (λ e. (text : List ℕ) × IsTextOf (R.remaining reader) text
+        × IsStopped ss.now syntax text e) }
 {
     let (mut page, color) = start_highlighted_html_snippet(alloc, theme)?;
     let mut spans = SpanWriter::new(alloc, IncludeBackground::IfDifferent(color));

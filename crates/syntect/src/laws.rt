@@ -19,8 +19,10 @@ pub fn loaded_is_plain()
 /// refused exactly where a picked match names a reference without target.
 #[tactic(auto, using(crate::proofs::StayLaws::loaded_are_plain))]
 pub fn loaded_sets_stay()
-    ensures plain { (definitions : List ADefinition) → All IsLoaded definitions → All IsPlain definitions }
-    ensures named { (definitions : List ADefinition) → All IsLoaded definitions → AreByName definitions }
+    ensures plain { (definitions : List ADefinition) → All IsLoaded definitions
+        → All IsPlain definitions }
+    ensures named { (definitions : List ADefinition) → All IsLoaded definitions
+        → AreByName definitions }
     ensures stay { LoadedStay }
 {
     syntect_grammar::laws::loaded_by_name();

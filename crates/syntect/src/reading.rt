@@ -24,7 +24,9 @@ fn can_go_on(line: &[u8]) -> bool
 /// Reads the next line, up to and with its newline, in place of the one before it. False where nothing is left, as behind a
 /// line without a newline. `Io` where reading fails.
 pub fn next_line<R: BufRead>(reader: &mut R, line: &mut Vec<u8>) -> Result<bool, Error>
-    ensures next { IfOk result (GivesNext (R.remaining reader.old) line.old.items (R.remaining reader.new) line.new.items) }
+    ensures next { IfOk result
+        (GivesNext (R.remaining reader.old) line.old.items
+        (R.remaining reader.new) line.new.items) }
     ensures err { IfErr result (IsReadFault) }
 {
     if !can_go_on(line.as_slice()) {

@@ -12,7 +12,9 @@ is_sought Themes name = str_eq_ignore_ascii_case (drop (length name - 8) name) (
 
 -- the name of an entry, which the folder itself and the one above it are not
 abbrev pub entry_name : List ℕ → Option (List ℕ)
-entry_name name = if bytes_eq name [] || bytes_eq name (codes ".") || bytes_eq name (codes "..") then None else Some name
+entry_name name =
+    if bytes_eq name [] || bytes_eq name (codes ".") || bytes_eq name (codes "..") then None
+    else Some name
 
 -- the name of an entry from its bytes, which one that is no text is not
 abbrev pub entry_of : List ℕ → Option (List ℕ)

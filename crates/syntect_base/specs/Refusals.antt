@@ -38,7 +38,8 @@ from_theme theme.UndefinedSettings = ParseTheme theme.UndefinedSettings
 from_theme (theme.UndefinedScopeSettings name) = ParseTheme (theme.UndefinedScopeSettings name)
 from_theme theme.ColorShemeScopeIsNotObject = ParseTheme theme.ColorShemeScopeIsNotObject
 from_theme theme.ColorShemeSettingsIsNotObject = ParseTheme theme.ColorShemeSettingsIsNotObject
-from_theme (theme.ScopeSelectorIsNotString shown) = ParseTheme (theme.ScopeSelectorIsNotString shown)
+from_theme (theme.ScopeSelectorIsNotString shown) =
+    ParseTheme (theme.ScopeSelectorIsNotString shown)
 from_theme theme.DuplicateSettings = ParseTheme theme.DuplicateSettings
 from_theme (theme.ScopeParse e) = ParseTheme (theme.ScopeParse e)
 

@@ -18,9 +18,12 @@ InByteOrder names = IsSorted (slice_cmp nat_cmp) names
 -- files, by its own names in byte order, stand at its place.
 pub data Walks : List ℕ → List (List ℕ) → List (List ℕ) → Type 0 where
   ended : {folder : List ℕ} → Walks folder [] []
-  passed_over : {folder name : List ℕ} {names files : List (List ℕ)} → Walks folder names files → Walks folder (name ∷ names) files
-  file : {folder name : List ℕ} {names files : List (List ℕ)} → Walks folder names files → Walks folder (name ∷ names) (joined folder name ∷ files)
-  subfolder : {folder name : List ℕ} {own names inner files : List (List ℕ)} → InByteOrder own → Walks (joined folder name) own inner
+  passed_over : {folder name : List ℕ} {names files : List (List ℕ)} → Walks folder names files
+      → Walks folder (name ∷ names) files
+  file : {folder name : List ℕ} {names files : List (List ℕ)} → Walks folder names files
+      → Walks folder (name ∷ names) (joined folder name ∷ files)
+  subfolder : {folder name : List ℕ} {own names inner files : List (List ℕ)} → InByteOrder own
+      → Walks (joined folder name) own inner
       → Walks folder names files → Walks folder (name ∷ names) (inner ++ files)
 
 -- these are the files of a folder, in the order of a walk
@@ -30,13 +33,17 @@ IsWalk folder files = (names : List (List ℕ)) × InByteOrder names × Walks fo
 -- the paths ahead, visited in order, give these files
 pub data Visits : List (List ℕ) → List (List ℕ) → Type 0 where
   none_ahead : Visits [] []
-  passes_over : {path : List ℕ} {ahead files : List (List ℕ)} → Visits ahead files → Visits (path ∷ ahead) files
-  takes : {path : List ℕ} {ahead files : List (List ℕ)} → Visits ahead files → Visits (path ∷ ahead) (path ∷ files)
-  enters : {path : List ℕ} {inner ahead files : List (List ℕ)} → IsWalk path inner → Visits ahead files → Visits (path ∷ ahead) (inner ++ files)
+  passes_over : {path : List ℕ} {ahead files : List (List ℕ)} → Visits ahead files
+      → Visits (path ∷ ahead) files
+  takes : {path : List ℕ} {ahead files : List (List ℕ)} → Visits ahead files
+      → Visits (path ∷ ahead) (path ∷ files)
+  enters : {path : List ℕ} {inner ahead files : List (List ℕ)} → IsWalk path inner
+      → Visits ahead files → Visits (path ∷ ahead) (inner ++ files)
 
 -- these files, and then those that what is ahead gives, are a folder's walk
 abbrev pub GoesOn : List ℕ → List (List ℕ) → Ahead → Type 0
-GoesOn folder found ahead = (rest : List (List ℕ)) → Visits ahead.paths rest → IsWalk folder (found ++ rest)
+GoesOn folder found ahead =
+    (rest : List (List ℕ)) → Visits ahead.paths rest → IsWalk folder (found ++ rest)
 
 -- what was ahead gives the file, and then what what is ahead now gives
 pub record GivesFile (before after : Ahead) (path : List ℕ) : Type 0 where

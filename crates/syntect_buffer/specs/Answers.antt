@@ -32,7 +32,9 @@ total pieces = length (flat_map (λ p. p.1.now) pieces)
 -- the ranges of pieces, the first of which begins at this place
 abbrev pub ranges_from : ℕ → List (Style × Bor (List ℕ)) → List (Style × Range ℕ)
 ranges_from from [] = []
-ranges_from from (p ∷ ps) = (p.0, record { start = from; end = from + length p.1.now }) ∷ ranges_from (from + length p.1.now) ps
+ranges_from from (p ∷ ps) =
+    (p.0, record { start = from; end = from + length p.1.now })
+    ∷ ranges_from (from + length p.1.now) ps
 
 -- ---- answers ----
 
@@ -45,6 +47,7 @@ IsRefusal e a = ⊥
 -- A buffer's answer is the one that a reading of the line comes to. Where that accepts the line, the ranges go from its start to
 -- its end, and where the lines are orderly, each byte has the theme's style for its scopes.
 abbrev pub IsAnswer : Type 0 → Theme → List ℕ → Answer → LineAnswer → Type 0
-IsAnswer orderly theme line (Accepted bytes) (answer.Pieces ps) = Follow 0 ps.items (length line) × (orderly → styles_in ps.items ≡ map (shown theme) bytes)
+IsAnswer orderly theme line (Accepted bytes) (answer.Pieces ps) =
+    Follow 0 ps.items (length line) × (orderly → styles_in ps.items ≡ map (shown theme) bytes)
 IsAnswer orderly theme line (Accepted bytes) (answer.Refused e) = ⊥
 IsAnswer orderly theme line (RefusedBy e) a = IsRefusal e a

@@ -19,7 +19,8 @@ pub record Buffer : Type 0 where
   pub answers : List LineAnswer
 
 -- only lines and answers differ
-pub record IsReadWith (b : Buffer) (syntax : SyntaxReference) (set : SyntaxSet) (theme : Theme) : Type 0 where
+pub record IsReadWith (b : Buffer) (syntax : SyntaxReference) (set : SyntaxSet)
+    (theme : Theme) : Type 0 where
   pub syntax_is : b.syntax ≡ syntax
   pub set_is : b.set ≡ set
   pub theme_is : b.theme ≡ theme
@@ -35,8 +36,10 @@ pub record IsAnswerAt (b : Buffer) (place : ℕ) (answer : LineAnswer) : Type 0 
   pub after : Standing
   pub begins : start_of b.syntax ≡ Some start
   pub line_is : slice_get b.lines place ≡ Some line
-  pub run : AnswersAll dialect b.set (take place b.lines ++ line ∷ []) start (before ++ given ∷ []) after
-  pub is_answer : IsAnswer (RunsOrderly b.set b.syntax (take place b.lines ++ line ∷ [])) b.theme line given answer
+  pub run : AnswersAll dialect b.set (take place b.lines ++ line ∷ []) start
+      (before ++ given ∷ []) after
+  pub is_answer : IsAnswer
+      (RunsOrderly b.set b.syntax (take place b.lines ++ line ∷ [])) b.theme line given answer
 
 -- ---- what an edit reads again ----
 
@@ -65,11 +68,13 @@ pub record StartsApart (before after : Buffer) (old new : ℕ) : Type 0 where
 -- another state than before (where all lines are orderly, before and after), and the next one, if there is one, from the same.
 pub record StartApart (before after : Buffer) (old new count : ℕ) : Type 0 where
   pub within : new + count ≤ length after.lines
-  pub first : RunsOrderly before.set before.syntax before.lines → RunsOrderly after.set after.syntax after.lines
+  pub first : RunsOrderly before.set before.syntax before.lines
+      → RunsOrderly after.set after.syntax after.lines
       → (k : ℕ) → k < count → StartsApart before after (old + k) (new + k)
   pub stops : new + count < length after.lines → StartsSame before after (old + count) (new + count)
 
 -- So many lines are read again: these that are new themselves, and the first unchanged ones behind them that start from
 -- another state than before.
 abbrev pub ReadsAgain : Buffer → Buffer → ℕ → ℕ → ℕ → ℕ → Type 0
-ReadsAgain before after own old new number = (count : ℕ) × (number ≡ own + count) × StartApart before after old new count
+ReadsAgain before after own old new number =
+    (count : ℕ) × (number ≡ own + count) × StartApart before after old new count

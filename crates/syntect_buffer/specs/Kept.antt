@@ -20,16 +20,19 @@ use Rattle.syntect_buffer.specs.declared.reading.Kept.{Kept}
 pub record Continues (past : Past) (set : SyntaxSet) (line : List ℕ) (r : Reading) : Type 0 where
   pub given : Answer
   pub holds : Holds (and_then past line given) set r.after
-  pub answer : IsAnswer (RunsOrderly set past.syntax (past.lines ++ line ∷ [])) past.theme line given r.answer
+  pub answer : IsAnswer (RunsOrderly set past.syntax
+      (past.lines ++ line ∷ [])) past.theme line given r.answer
 
 -- a reading that begins with these states ends alike where its mark says so
 abbrev pub IsMarked : LineStates → Reading → Type 0
 IsMarked before r = r.ends_alike ≡ true → StandSame before r.after
 
 -- The line was read from these states: whatever past leads to them, the reading continues it.
-pub record IsReadFrom (set : SyntaxSet) (theme : Theme) (before : LineStates) (line : List ℕ) (r : Reading) : Type 0 where
+pub record IsReadFrom (set : SyntaxSet) (theme : Theme) (before : LineStates) (line : List ℕ)
+    (r : Reading) : Type 0 where
   pub marked : IsMarked before r
-  pub continues : (past : Past) → past.theme ≡ theme → Holds past set before → Continues past set line r
+  pub continues : (past : Past) → past.theme ≡ theme → Holds past set before
+      → Continues past set line r
 
 -- ---- lines one after another ----
 
@@ -41,7 +44,8 @@ ending s (r ∷ rs) = ending r.after rs
 -- each line was read from the states that the reading before it left
 abbrev pub AreReadFrom : SyntaxSet → Theme → LineStates → List (List ℕ) → List Reading → Type 0
 AreReadFrom set theme s [] [] = Unit {0}
-AreReadFrom set theme s (l ∷ ls) (r ∷ rs) = IsReadFrom set theme s l r × AreReadFrom set theme r.after ls rs
+AreReadFrom set theme s (l ∷ ls) (r ∷ rs) =
+    IsReadFrom set theme s l r × AreReadFrom set theme r.after ls rs
 AreReadFrom set theme s ls rs = ⊥
 
 -- the marks of readings that begin with these states hold
@@ -55,41 +59,61 @@ lines_in k = map string_bytes k.lines
 
 -- what is seen of a buffer
 abbrev pub seen : SyntaxReference → SyntaxSet → Theme → Kept → Buffer
-seen syntax set theme k = record { syntax = syntax; set = set; theme = theme; lines = lines_in k; answers = map (λ r. r.answer) k.readings }
+seen syntax set theme k =
+    record {
+      syntax = syntax;
+      set = set;
+      theme = theme;
+      lines = lines_in k;
+      answers = map (λ r. r.answer) k.readings;
+    }
 
 -- What a buffer keeps: there are as many readings as lines, their marks hold, and for all definitions that the set is built of, the first states are
 -- those before a text, and each line was read from the states that the one before it left.
-pub record IsKept (set : SyntaxSet) (theme : Theme) (syntax : SyntaxReference) (kept : Kept) : Type 0 where
+pub record IsKept (set : SyntaxSet) (theme : Theme) (syntax : SyntaxReference)
+    (kept : Kept) : Type 0 where
   pub count : length (lines_in kept) ≡ length kept.readings
   pub marked : AreMarked kept.start kept.readings
-  pub starts : (definitions : List SyntaxDefinition) → IsBuiltOf set syntax definitions → Holds (no_lines definitions theme syntax) set kept.start
-  pub read : (definitions : List SyntaxDefinition) → IsBuiltOf set syntax definitions → AreReadFrom set theme kept.start (lines_in kept) kept.readings
+  pub starts : (definitions : List SyntaxDefinition) → IsBuiltOf set syntax definitions
+      → Holds (no_lines definitions theme syntax) set kept.start
+  pub read : (definitions : List SyntaxDefinition) → IsBuiltOf set syntax definitions
+      → AreReadFrom set theme kept.start (lines_in kept) kept.readings
 
 -- ---- lines read again ----
 
 -- Lines were read again one after another, each from other states than before: from `now` on the new ones, from `old` on the
 -- ones that stood there.
-abbrev pub ReadsOn : SyntaxSet → Theme → LineStates → LineStates → List (List ℕ) → List Reading → List Reading → Type 0
+abbrev pub ReadsOn : SyntaxSet → Theme → LineStates → LineStates → List (List ℕ) → List Reading
+    → List Reading → Type 0
 ReadsOn set theme now old ls rs [] = Unit {0}
-ReadsOn set theme now old (l ∷ ls) (r ∷ rs) (n ∷ ns) = ¬ (StandSame old now) × IsReadFrom set theme now l n × ReadsOn set theme n.after r.after ls rs ns
+ReadsOn set theme now old (l ∷ ls) (r ∷ rs) (n ∷ ns) =
+    ¬ (StandSame old now) × IsReadFrom set theme now l n
+    × ReadsOn set theme n.after r.after ls rs ns
 ReadsOn set theme now old ls rs (n ∷ ns) = ⊥
 
 -- The lines are read again up to, and without, the first one that starts from the same states as before, or to the end.
-pub record AreReadAgain (set : SyntaxSet) (theme : Theme) (now old : LineStates) (lines : List (List ℕ)) (readings again : List Reading) : Type 0 where
+pub record AreReadAgain (set : SyntaxSet) (theme : Theme) (now old : LineStates)
+    (lines : List (List ℕ)) (readings again : List Reading) : Type 0 where
   pub within : length again ≤ length lines
   pub on : ReadsOn set theme now old lines readings again
-  pub stops : length again < length lines → StandSame (ending old (take (length again) readings)) (ending now again)
+  pub stops : length again < length lines
+      → StandSame (ending old (take (length again) readings)) (ending now again)
 
 -- ---- edits ----
 
 -- an edit puts these lines in place of those from one place to another, and so many lines are read again
-pub record IsEdited (set : SyntaxSet) (theme : Theme) (old new : Kept) (place behind : ℕ) (own : List (List ℕ)) (number : ℕ) : Type 0 where
+pub record IsEdited (set : SyntaxSet) (theme : Theme) (old new : Kept) (place behind : ℕ)
+    (own : List (List ℕ)) (number : ℕ) : Type 0 where
   pub readings : List Reading
   pub again : List Reading
   pub start_is : new.start ≡ old.start
   pub lines_are : lines_in new ≡ take place (lines_in old) ++ (own ++ drop behind (lines_in old))
-  pub readings_are : new.readings ≡ take place old.readings ++ (readings ++ (again ++ drop (length again) (drop behind old.readings)))
+  pub readings_are : new.readings
+      ≡ take place old.readings
+      ++ (readings ++ (again ++ drop (length again) (drop behind old.readings)))
   pub own_read : AreReadFrom set theme (ending old.start (take place old.readings)) own readings
-  pub read_again : AreReadAgain set theme (ending (ending old.start (take place old.readings)) readings) (ending old.start (take behind old.readings))
+  pub read_again : AreReadAgain set theme
+      (ending (ending old.start (take place old.readings)) readings)
+      (ending old.start (take behind old.readings))
       (drop behind (lines_in old)) (drop behind old.readings) again
   pub number_is : number ≡ length own + length again

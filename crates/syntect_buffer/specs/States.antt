@@ -19,7 +19,9 @@ pub record StandSame (a b : LineStates) : Type 0 where
 -- What a line leaves: the states that were there before it, where those after it stand alike, or else those after it. A mark
 -- says which.
 abbrev pub IsLeft : LineStates → LineStates → LineStates → Bool → Type 0
-IsLeft before after left alike = ((left ≡ before) × StandSame before after × (alike ≡ true)) ⊎ ((left ≡ after) × ¬ (StandSame before after) × (alike ≡ false))
+IsLeft before after left alike =
+    ((left ≡ before) × StandSame before after × (alike ≡ true))
+    ⊎ ((left ≡ after) × ¬ (StandSame before after) × (alike ≡ false))
 
 -- a highlighter with this past holds these states
 pub record Holds (past : Past) (set : SyntaxSet) (s : LineStates) : Type 0 where
@@ -30,8 +32,10 @@ pub record Holds (past : Past) (set : SyntaxSet) (s : LineStates) : Type 0 where
 
 -- the past before the first line
 abbrev pub no_lines : List SyntaxDefinition → Theme → SyntaxReference → Past
-no_lines definitions theme syntax = record { definitions = definitions; theme = theme; syntax = syntax; lines = []; answers = [] }
+no_lines definitions theme syntax =
+    record { definitions = definitions; theme = theme; syntax = syntax; lines = []; answers = [] }
 
 -- the past with these lines and their answers more
 abbrev pub and_all : Past → List (List ℕ) → List Answer → Past
-and_all past lines answers = record past { lines = past.lines ++ lines; answers = past.answers ++ answers }
+and_all past lines answers =
+    record past { lines = past.lines ++ lines; answers = past.answers ++ answers }

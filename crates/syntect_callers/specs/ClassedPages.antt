@@ -17,20 +17,24 @@ use Rattle.syntect.specs.declared.classed.ClassedHTMLGenerator.{ClassedHTMLGener
 -- the page byte by byte sees the text, each byte as HTML writes it, under tags; meets no closing tag where none is open; and
 -- has none open in the end. Where the first push makes the stack that of the levels and the lines are orderly, as in loaded
 -- grammars that clear nothing, the tags of a byte are those of the scopes that it was read with.
-pub record IsClassedPage (set : SyntaxSet) (syntax : SyntaxReference) (repository : List (List ℕ)) (prefix text page : List ℕ) : Type 0 where
+pub record IsClassedPage (set : SyntaxSet) (syntax : SyntaxReference) (repository : List (List ℕ))
+    (prefix text page : List ℕ) : Type 0 where
   pub start : Standing
   pub after : Standing
   pub scopes : List (List (List (List ℕ)))
   pub bytes : List (ℕ × List (List ℕ))
   pub begins : start_of syntax ≡ Some start
   pub run : AnswersAll dialect set (lines_of text) start (map Accepted scopes) after
-  pub read_back : read (under prefix repository [] []) page ≡ under prefix repository [] (flat_map (shown prefix repository) bytes)
+  pub read_back : read (under prefix repository [] []) page
+      ≡ under prefix repository [] (flat_map (shown prefix repository) bytes)
   pub is_text : map (λ b. b.0) bytes ≡ text
-  pub has_scopes : BeginsPlain set syntax → RunsOrderly set syntax (lines_of text) → map (λ b. b.1) bytes ≡ flat_map (λ line. line) scopes
+  pub has_scopes : BeginsPlain set syntax → RunsOrderly set syntax (lines_of text)
+      → map (λ b. b.1) bytes ≡ flat_map (λ line. line) scopes
 
 -- Some lines of the text were accepted, one after another from the start of the syntax, and a generator that stands behind them
 -- refuses the next one with this refusal.
-pub record StopsAt (set : SyntaxSet) (syntax : SyntaxReference) (text : List ℕ) (e : Error) : Type 0 where
+pub record StopsAt (set : SyntaxSet) (syntax : SyntaxReference) (text : List ℕ)
+    (e : Error) : Type 0 where
   pub lines : List (List ℕ)
   pub line : List ℕ
   pub rest : List (List ℕ)

@@ -16,7 +16,8 @@ use Rattle.syntect.specs.Pages.{IsPage}
 -- The grammar's text has a definition in the repository, and the page shows the text in its syntax, whose set was built of
 -- it alone: each line is read from the state that the lines before it leave, and where the lines are orderly, each byte has
 -- the theme's style for its scopes.
-pub record IsPageOf (repository : List (List ℕ)) (grammar : List ℕ) (theme : Theme) (text page : List ℕ) : Type 0 where
+pub record IsPageOf (repository : List (List ℕ)) (grammar : List ℕ) (theme : Theme)
+    (text page : List ℕ) : Type 0 where
   pub definition : SyntaxDefinition
   pub left : List (List ℕ)
   pub loads : loaded grammar true None repository ≡ Ok (definition, left)
@@ -37,10 +38,13 @@ pub record Load (repository : List (List ℕ)) (first second : List ℕ) : Type 
 
 -- The lines were read one after another from the start of the first grammar's syntax, in the set that was built of both;
 -- the pieces join to the third, and where the lines are orderly, each of its bytes has the theme's style for its scopes.
-abbrev pub IsThirdOf : List (List ℕ) → List ℕ → List ℕ → Theme → List ℕ → List ℕ → List ℕ → List (Style × Bor (List ℕ)) → Type 0
-IsThirdOf repository first second theme x y z pieces = (l : Load repository first second) × IsThirdLine (l.one ∷ l.two ∷ []) theme x y z pieces
+abbrev pub IsThirdOf : List (List ℕ) → List ℕ → List ℕ → Theme → List ℕ → List ℕ → List ℕ
+    → List (Style × Bor (List ℕ)) → Type 0
+IsThirdOf repository first second theme x y z pieces =
+    (l : Load repository first second) × IsThirdLine (l.one ∷ l.two ∷ []) theme x y z pieces
 
 -- why there are no pieces: a line's reading picks a match that names a reference without target, or memory ran out
 abbrev pub IsRefusalOf : List (List ℕ) → List ℕ → List ℕ → List (List ℕ) → Error → Type 0
 IsRefusalOf repository first second lines error.Memory = Unit {0}
-IsRefusalOf repository first second lines e = (l : Load repository first second) × IsRefusal (l.one ∷ l.two ∷ []) lines e
+IsRefusalOf repository first second lines e =
+    (l : Load repository first second) × IsRefusal (l.one ∷ l.two ∷ []) lines e

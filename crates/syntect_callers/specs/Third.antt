@@ -27,7 +27,8 @@ IsOf definitions set = syntaxes_in set ≡ linked definitions
 -- The lines were read one after another from the start of the first syntax of a set that was built of the definitions,
 -- all accepted; the pieces join to the third, and where the lines are orderly, each of its bytes has the theme's style for
 -- its scopes.
-pub record IsThirdLine (definitions : List SyntaxDefinition) (theme : Theme) (first second third : List ℕ) (pieces : List (Style × Bor (List ℕ))) : Type 0 where
+pub record IsThirdLine (definitions : List SyntaxDefinition) (theme : Theme)
+    (first second third : List ℕ) (pieces : List (Style × Bor (List ℕ))) : Type 0 where
   pub set : SyntaxSet
   pub is_of : IsOf definitions set
   pub syntax : SyntaxReference
@@ -38,27 +39,34 @@ pub record IsThirdLine (definitions : List SyntaxDefinition) (theme : Theme) (fi
   pub bytes_second : List (List (List ℕ))
   pub bytes : List (List (List ℕ))
   pub begins : start_of syntax ≡ Some start
-  pub answers : AnswersAll dialect set (first ∷ second ∷ third ∷ []) start (Accepted bytes_first ∷ Accepted bytes_second ∷ Accepted bytes ∷ []) after
+  pub answers : AnswersAll dialect set (first ∷ second ∷ third ∷ []) start
+      (Accepted bytes_first ∷ Accepted bytes_second ∷ Accepted bytes ∷ []) after
   pub joins : Joins third pieces
   pub styled : RunsOrderly set syntax (first ∷ second ∷ third ∷ []) → IsStyled theme bytes pieces
 
 -- or the set has no syntax
-abbrev pub IsThird : List SyntaxDefinition → Theme → List ℕ → List ℕ → List ℕ → Option (Vec (Style × Bor (List ℕ))) → Type 0
+abbrev pub IsThird : List SyntaxDefinition → Theme → List ℕ → List ℕ → List ℕ
+    → Option (Vec (Style × Bor (List ℕ))) → Type 0
 IsThird definitions theme first second third None = definitions ≡ []
-IsThird definitions theme first second third (Some pieces) = IsThirdLine definitions theme first second third pieces.items
+IsThird definitions theme first second third (Some pieces) =
+    IsThirdLine definitions theme first second third pieces.items
 
 -- the answer of a call that isn't refused
-abbrev pub GivesThird : List SyntaxDefinition → Theme → List ℕ → List ℕ → List ℕ → Result (Option (Vec (Style × Bor (List ℕ)))) Error → Type 0
-GivesThird definitions theme first second third result = IfOk result (IsThird definitions theme first second third)
+abbrev pub GivesThird : List SyntaxDefinition → Theme → List ℕ → List ℕ → List ℕ
+    → Result (Option (Vec (Style × Bor (List ℕ)))) Error → Type 0
+GivesThird definitions theme first second third result =
+    IfOk result (IsThird definitions theme first second third)
 
 -- the first syntax is never left
 abbrev pub FirstStays : List SyntaxDefinition → Type 0
-FirstStays definitions = (set : SyntaxSet) (syntax : SyntaxReference) → IsOf definitions set → slice_get (syntaxes_in set) 0 ≡ Some syntax → StaysInStart set syntax
+FirstStays definitions = (set : SyntaxSet) (syntax : SyntaxReference) → IsOf definitions set
+    → slice_get (syntaxes_in set) 0 ≡ Some syntax → StaysInStart set syntax
 
 -- One of the lines is refused, in a set that was built of the definitions: those before it were accepted, from the start of
 -- its first syntax on, and a turn of its reading picks a match that names a reference without target, which the refusal
 -- has.
-pub record IsRefusedLine (definitions : List SyntaxDefinition) (lines : List (List ℕ)) (e : ParsingError) : Type 0 where
+pub record IsRefusedLine (definitions : List SyntaxDefinition) (lines : List (List ℕ))
+    (e : ParsingError) : Type 0 where
   pub set : SyntaxSet
   pub is_of : IsOf definitions set
   pub syntax : SyntaxReference

@@ -21,7 +21,8 @@ pub fn page_of(
     theme: &Theme,
     text: &str,
 ) -> Result<Option<String>, Error>
-    ensures { IfOk result (λ o. IfSome o (λ page. IsPageOf repository.old grammar.now theme.now text.now (string_bytes page))) }
+    ensures { IfOk result (λ o. IfSome o (λ page.
+        IsPageOf repository.old grammar.now theme.now text.now (string_bytes page))) }
 {
     loaded_is_plain();
     let loaded = SyntaxDefinition::load_from_str(alloc, grammar, true, None, repository);
@@ -48,8 +49,12 @@ pub fn third_line_of<'b>(
     theme: &Theme,
     lines: (&str, &str, &'b str),
 ) -> Result<Option<Vec<(Style, &'b str)>>, Error>
-    ensures pieces { IfOk result (λ o. IfSome o (λ pieces. IsThirdOf repository.old grammars.entry.0.now grammars.entry.1.now theme.now lines.entry.0.now lines.entry.1.now lines.entry.2.now pieces.items)) }
-    ensures refused { IfErr result (IsRefusalOf repository.old grammars.entry.0.now grammars.entry.1.now (lines.entry.0.now ∷ lines.entry.1.now ∷ lines.entry.2.now ∷ [])) }
+    ensures pieces { IfOk result (λ o. IfSome o (λ pieces.
+        IsThirdOf repository.old grammars.entry.0.now grammars.entry.1.now theme.now
+        lines.entry.0.now lines.entry.1.now lines.entry.2.now pieces.items)) }
+    ensures refused { IfErr result
+        (IsRefusalOf repository.old grammars.entry.0.now grammars.entry.1.now
+        (lines.entry.0.now ∷ lines.entry.1.now ∷ lines.entry.2.now ∷ [])) }
 {
     loaded_sets_stay();
     let loaded = SyntaxDefinition::load_from_str(alloc, grammars.0, true, None, repository);

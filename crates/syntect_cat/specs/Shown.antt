@@ -48,4 +48,6 @@ pub record IsShown (folder : List ℕ) (format : Format) (file text : List ℕ) 
 
 -- the text is what these words ask for
 abbrev pub IsAskedFor : List (List ℕ) → List ℕ → Type 0
-IsAskedFor words text = (folder theme file : List ℕ) × (format : Format) × (words ≡ words_for folder theme format file) × IsShown folder format file text
+IsAskedFor words text =
+    (folder theme file : List ℕ) × (format : Format) × (words ≡ words_for folder theme format file)
+    × IsShown folder format file text

@@ -19,7 +19,8 @@ rows_text rows = flat_map (λ row. terminal_text true row.pieces) rows
 
 -- The text's lines are shown, each read from the state that the lines before it leave, and the terminal's own colours behind
 -- them.
-pub record IsTerminalText (set : SyntaxSet) (theme : Theme) (syntax : SyntaxReference) (text all : List ℕ) : Type 0 where
+pub record IsTerminalText (set : SyntaxSet) (theme : Theme) (syntax : SyntaxReference)
+    (text all : List ℕ) : Type 0 where
   pub rows : List Row
   pub are_rows : AreRowsOf set theme syntax text rows
   pub written : all ≡ rows_text rows ++ reset

@@ -19,4 +19,5 @@ words_of job = words_for job.folder.now job.theme.now job.format job.file.now
 
 -- the words ask for something
 abbrev pub AreWords : List (List ℕ) → Type 0
-AreWords words = (folder theme file : List ℕ) × (format : Format) × (words ≡ words_for folder theme format file)
+AreWords words =
+    (folder theme file : List ℕ) × (format : Format) × (words ≡ words_for folder theme format file)

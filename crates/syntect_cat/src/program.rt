@@ -38,14 +38,19 @@ pub fn run<W: Write, E: Write>(
     ensures asked { AreWords (map string_bytes words.now) ↔ (result ≢ 2) }
 
     // the text was written, whole
-    ensures shown { result ≡ 0 → (text : List ℕ) × IsAskedFor (map string_bytes words.now) text × Appends (W.contents out.old) (W.contents out.new) text }
+    ensures shown { result ≡ 0
+        → (text : List ℕ) × IsAskedFor (map string_bytes words.now) text
+        × Appends (W.contents out.old) (W.contents out.new) text }
     ensures quiet { result ≡ 0 → err.new ≡ err.old }
 
     // a line tells of the fault, and no text is begun but where it can't be written; what can't be written is begun
-    ensures usage { result ≡ 2 → (out.new ≡ out.old) × Begins (E.contents err.old) (E.contents err.new) usage_line }
-    ensures failed { result ≡ 1 → (fault : AFault) × Begins (E.contents err.old) (E.contents err.new) (fault_line fault)
+    ensures usage { result ≡ 2
+        → (out.new ≡ out.old) × Begins (E.contents err.old) (E.contents err.new) usage_line }
+    ensures failed { result ≡ 1
+        → (fault : AFault) × Begins (E.contents err.old) (E.contents err.new) (fault_line fault)
         × (fault ≢ Writing → out.new ≡ out.old)
-        × (fault ≡ Writing → (text : List ℕ) × IsAskedFor (map string_bytes words.now) text × Begins (W.contents out.old) (W.contents out.new) text) }
+        × (fault ≡ Writing → (text : List ℕ) × IsAskedFor (map string_bytes words.now) text
+        × Begins (W.contents out.old) (W.contents out.new) text) }
 {
     let Some(job) = Job::from_words(words) else {
         let _ = put(err, USAGE.as_bytes());
@@ -62,10 +67,13 @@ pub fn run<W: Write, E: Write>(
 
 /// Writes the text that a job asks for.
 fn show<W: Write>(files: &impl Files, alloc: Global, job: Job<'_>, out: &mut W) -> Result<(), Fault>
-    ensures shown { OnOk result ((text : List ℕ) × IsShown job.entry.folder.now job.entry.format job.entry.file.now text × Appends (W.contents out.old) (W.contents out.new) text) }
+    ensures shown { OnOk result
+        ((text : List ℕ) × IsShown job.entry.folder.now job.entry.format job.entry.file.now text
+        × Appends (W.contents out.old) (W.contents out.new) text) }
     ensures kept { IfErr result (λ fault. fault ≢ Writing → out.new ≡ out.old) }
     ensures begun { IfErr result (λ fault. fault ≡ Writing
-        → (text : List ℕ) × IsShown job.entry.folder.now job.entry.format job.entry.file.now text × Begins (W.contents out.old) (W.contents out.new) text) }
+        → (text : List ℕ) × IsShown job.entry.folder.now job.entry.format job.entry.file.now text
+        × Begins (W.contents out.old) (W.contents out.new) text) }
 {
     let text = match text_for(files, alloc, job) {
         Ok(text) => text,

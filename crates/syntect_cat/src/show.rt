@@ -55,7 +55,8 @@ fn load_theme(
     path: &str,
     repository: &mut ScopeRepository,
 ) -> Result<Theme, Fault>
-    ensures ok { IfOk result (λ theme. (bytes : List ℕ) × IsThemeOf repository.old bytes repository.new theme) }
+    ensures ok { IfOk result
+        (λ theme. (bytes : List ℕ) × IsThemeOf repository.old bytes repository.new theme) }
     ensures err { IfErr result (λ fault. fault ≡ FaultOfTheme) }
 {
     match ThemeSet::get_theme(files, alloc, Path::new(path), repository) {
@@ -87,7 +88,9 @@ fn highlighted(
 /// The text that a job asks for. The grammars are loaded first, then the theme, and then the file is read and highlighted; the
 /// first fault ends it.
 pub(crate) fn text_for(files: &impl Files, alloc: Global, job: Job<'_>) -> Result<String, Fault>
-    ensures shown { IfOk result (λ text. IsShown job.entry.folder.now job.entry.format job.entry.file.now (string_bytes text)) }
+    ensures shown { IfOk result
+        (λ text. IsShown job.entry.folder.now job.entry.format job.entry.file.now
+        (string_bytes text)) }
     ensures err { IfErr result (λ fault. fault ≢ Writing) }
 {
     loaded_is_plain();

@@ -35,7 +35,8 @@ pub(crate) fn terminal_text_for_file(
     theme: &Theme,
 ) -> Result<String, Error>
     ensures shown { (definitions : List ADefinition) → IsBuilt set.now definitions
-        → IfOk result (λ all. IsTerminalTextOfFile set.now theme.now (path_bytes path.entry) (string_bytes all)) }
+        → IfOk result (λ all. IsTerminalTextOfFile set.now theme.now (path_bytes path.entry)
+        (string_bytes all)) }
     ensures refused { (definitions : List ADefinition) → IsBuilt set.now definitions
         → IfErr result (HasNoPageOfFile set.now (path_bytes path.entry)) }
 {

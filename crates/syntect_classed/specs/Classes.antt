@@ -21,7 +21,8 @@ classes_text prefix repo scope = join_with_byte 32 (map (class_text prefix repo)
 
 -- the tag that opens the span of a scope
 abbrev pub opening_tag : List ℕ → List (List ℕ) → List ℕ → List ℕ
-opening_tag prefix repo scope = codes "<span class=\"" ++ (classes_text prefix repo scope ++ codes "\">")
+opening_tag prefix repo scope =
+    codes "<span class=\"" ++ (classes_text prefix repo scope ++ codes "\">")
 
 -- the tag that closes a span
 abbrev pub closing_tag : List ℕ

@@ -33,7 +33,9 @@ operation_marks op stack = map mark_of (hook_calls op stack)
 -- the marks of the line from a place on
 abbrev pub marks : List ℕ → ℕ → ScopeStack → List (ℕ × ScopeStackOp) → List Mark
 marks line at stack [] = words_between line at (length line)
-marks line at stack (o ∷ os) = words_between line at o.0 ++ (operation_marks o.1 stack ++ marks line o.0 (applied o.1 stack) os)
+marks line at stack (o ∷ os) =
+    words_between line at o.0
+    ++ (operation_marks o.1 stack ++ marks line o.0 (applied o.1 stack) os)
 
 -- the stack behind the line
 abbrev pub stack_after : ScopeStack → List (ℕ × ScopeStackOp) → ScopeStack
@@ -54,8 +56,10 @@ written prefix repo (End ∷ ms) = closing_tag ++ written prefix repo ms
 written prefix repo (Words text ∷ ms) = escaped text ++ written prefix repo ms
 written prefix repo (Begin scope ∷ []) = opening_tag prefix repo scope
 written prefix repo (Begin scope ∷ (End ∷ ms)) = written prefix repo ms
-written prefix repo (Begin scope ∷ (Begin next ∷ ms)) = opening_tag prefix repo scope ++ written prefix repo (Begin next ∷ ms)
-written prefix repo (Begin scope ∷ (Words text ∷ ms)) = opening_tag prefix repo scope ++ written prefix repo (Words text ∷ ms)
+written prefix repo (Begin scope ∷ (Begin next ∷ ms)) =
+    opening_tag prefix repo scope ++ written prefix repo (Begin next ∷ ms)
+written prefix repo (Begin scope ∷ (Words text ∷ ms)) =
+    opening_tag prefix repo scope ++ written prefix repo (Words text ∷ ms)
 
 -- the marks with a span before them that was begun and not yet written
 abbrev pub behind : Option (List ℕ) → List Mark → List Mark

@@ -8,5 +8,7 @@ abbrev pub all_written : List ℕ → List (List ℕ) → Spans → List Mark �
 all_written prefix repo s ms = string_bytes s.text ++ written prefix repo (behind s.waiting ms)
 
 -- marks were put behind what stood there
-pub record Puts (prefix : List ℕ) (repo : List (List ℕ)) (before : Spans) (ms : List Mark) (after : Spans) : Type 0 where
-  pub put : (more : List Mark) → all_written prefix repo after more ≡ all_written prefix repo before (ms ++ more)
+pub record Puts (prefix : List ℕ) (repo : List (List ℕ)) (before : Spans) (ms : List Mark)
+    (after : Spans) : Type 0 where
+  pub put : (more : List Mark)
+      → all_written prefix repo after more ≡ all_written prefix repo before (ms ++ more)

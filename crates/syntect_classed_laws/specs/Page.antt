@@ -27,11 +27,15 @@ closed r (t ∷ ts) = record r { open_tags = take (length (t ∷ ts) - 1) (t ∷
 
 -- a tag has been read
 abbrev pub tagged : Reader → List ℕ → Reader
-tagged r tag = if is_closing tag then closed r r.open_tags else record r { open_tags = r.open_tags ++ tag ∷ []; tag = None }
+tagged r tag =
+    if is_closing tag then closed r r.open_tags
+    else record r { open_tags = r.open_tags ++ tag ∷ []; tag = None }
 
 -- a byte outside tags, or inside one
 abbrev pub read_byte : Reader → Option (List ℕ) → ℕ → Reader
-read_byte r None b = if b == 60 then record r { tag = Some [] } else record r { seen = r.seen ++ (b, r.open_tags) ∷ [] }
+read_byte r None b =
+    if b == 60 then record r { tag = Some [] }
+    else record r { seen = r.seen ++ (b, r.open_tags) ∷ [] }
 read_byte r (Some tag) b = if b == 62 then tagged r tag else record r { tag = Some (tag ++ b ∷ []) }
 
 -- one byte after another
@@ -72,4 +76,5 @@ shown prefix repo p = map (λ e. (e, map (tag_of prefix repo) p.1)) (entity p.0)
 
 -- a reader who has seen this much, under the tags of scopes
 abbrev pub under : List ℕ → List (List ℕ) → List (List ℕ) → List (ℕ × List (List ℕ)) → Reader
-under prefix repo scopes seen = record { open_tags = map (tag_of prefix repo) scopes; tag = None; seen = seen; stray = false }
+under prefix repo scopes seen =
+    record { open_tags = map (tag_of prefix repo) scopes; tag = None; seen = seen; stray = false }

@@ -52,4 +52,6 @@ count_contexts (cs ∷ css) = length cs + count_contexts css
 
 -- the context of a name in the syntax of this index whose contexts have these names
 abbrev pub named_in : ℕ → List (List ℕ) → List ℕ → Option ContextId
-named_in index names name = option_map (λ i. record { syntax_index = index; context_index = i }) (position (pointwise ◌==◌ name) names)
+named_in index names name =
+    option_map (λ i. record { syntax_index = index; context_index = i })
+    (position (pointwise ◌==◌ name) names)

@@ -16,23 +16,29 @@ pub record Opening : Type 0 where
 
 -- each group begins and ends on a character boundary of the text
 abbrev pub AreOnBoundaries : List ℕ → Groups → Type 0
-AreOnBoundaries text groups = (n : ℕ) (at : ℕ × ℕ) → slice_get groups n ≡ Some (Some at) → IsCharBoundary text at.0 × IsCharBoundary text at.1
+AreOnBoundaries text groups = (n : ℕ) (at : ℕ × ℕ) → slice_get groups n ≡ Some (Some at)
+    → IsCharBoundary text at.0 × IsCharBoundary text at.1
 
 -- the text of a group, nothing if it was not set
 abbrev pub group_text : Groups → List ℕ → ℕ → List ℕ
-group_text groups line n = option_map_or (λ at. take (at.1 - at.0) (drop at.0 line)) (option_flatten (slice_get groups n)) []
+group_text groups line n =
+    option_map_or (λ at. take (at.1 - at.0) (drop at.0 line))
+    (option_flatten (slice_get groups n)) []
 
 -- what stands for a backslash and this character: with a digit the escaped text of the group of that number, else they stay
 abbrev pub replaced : Groups → List ℕ → ℕ → List ℕ
-replaced groups line c = if is_ascii_digit c then escaped (group_text groups line (c - 48)) else 92 ∷ encode_utf8 c
+replaced groups line c =
+    if is_ascii_digit c then escaped (group_text groups line (c - 48)) else 92 ∷ encode_utf8 c
 
 -- the characters of a pattern, replaced where a backslash stands before them that isn't itself escaped; the flag says that
 -- one does
 abbrev pub substituted_from : Groups → List ℕ → Bool → List ℕ → List ℕ
 substituted_from groups line false [] = []
 substituted_from groups line true [] = 92 ∷ []
-substituted_from groups line false (c ∷ rest) = (if c == 92 then [] else encode_utf8 c) ++ substituted_from groups line (c == 92) rest
-substituted_from groups line true (c ∷ rest) = replaced groups line c ++ substituted_from groups line false rest
+substituted_from groups line false (c ∷ rest) =
+    (if c == 92 then [] else encode_utf8 c) ++ substituted_from groups line (c == 92) rest
+substituted_from groups line true (c ∷ rest) =
+    replaced groups line c ++ substituted_from groups line false rest
 
 -- the text of a pattern with the groups of a match in this line for its references
 abbrev pub substituted : List ℕ → Groups → List ℕ → List ℕ

@@ -184,7 +184,8 @@ impl ContextReference {
         &self,
         syntax_set: &'a S,
     ) -> Result<&'a Context, ParsingError>
-        ensures found { IfOk result (λ c. option_and_then (S.contexts syntax_set.now) (target self.now) ≡ Some c.now) }
+        ensures found { IfOk result
+            (λ c. option_and_then (S.contexts syntax_set.now) (target self.now) ≡ Some c.now) }
         ensures refused { IfErr result (IsMissing (S.contexts syntax_set.now) self.now) }
     {
         let id = self.id()?;

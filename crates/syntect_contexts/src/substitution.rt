@@ -26,7 +26,8 @@ fn push_replaced(
     text: &str,
 ) -> Result<(), AllocError>
     requires { AreOnBoundaries text.now region.now }
-    ensures { OnOk result (string_bytes out.new ≡ string_bytes out.old ++ replaced region.now text.now c) }
+    ensures { OnOk result (string_bytes out.new
+        ≡ string_bytes out.old ++ replaced region.now text.now c) }
 {
     if c.is_ascii_digit() {
         let group = (c as u32 - '0' as u32) as usize;

@@ -6,7 +6,8 @@ use Rattle.std.specs.List.{flat_map}
 
 -- a character stands in an identifier as it is: a letter, a hyphen, a low line, or a digit that isn't its first character
 abbrev pub stands : Bool → ℕ → Bool
-stands first c = is_ascii_alphabetic c || ((c == 45) || ((c == 95) || (not first && is_ascii_digit c)))
+stands first c =
+    is_ascii_alphabetic c || ((c == 45) || ((c == 95) || (not first && is_ascii_digit c)))
 
 -- another one is told by its number in hexadecimal digits, behind a backslash and before a space
 abbrev pub identifier_char : Bool → ℕ → List ℕ

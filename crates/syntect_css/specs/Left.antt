@@ -12,5 +12,7 @@ rule_left true (p ∷ ps) style = p ++ rule_left false ps style
 rule_left false (p ∷ ps) style = codes ", " ++ (p ++ rule_left false ps style)
 
 -- the same with one selector more, which is left out where it has no path
-abbrev pub rule_from : Bool → List ℕ → List (List ℕ) → ScopeSelector → List (List ℕ) → StyleModifier → List ℕ
-rule_from first prefix repo selector left style = rule_left first (path_selectors prefix repo (selector ∷ []) ++ left) style
+abbrev pub rule_from : Bool → List ℕ → List (List ℕ) → ScopeSelector → List (List ℕ) → StyleModifier
+    → List ℕ
+rule_from first prefix repo selector left style =
+    rule_left first (path_selectors prefix repo (selector ∷ []) ++ left) style

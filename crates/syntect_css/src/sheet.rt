@@ -138,7 +138,8 @@ fn push_selector(
 ) -> Result<bool, AllocError>
     ensures { (left : List (List ℕ)) (style : Change) → IfOk result (λ f. string_bytes out.new
         ++ rule_left f left style
-        ≡ string_bytes out.old ++ rule_from first prefix.now repository.now selector.now left style) }
+        ≡ string_bytes out.old
+        ++ rule_from first prefix.now repository.now selector.now left style) }
 {
     if selector.path.is_empty() {
         return Ok(first);

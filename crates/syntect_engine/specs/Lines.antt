@@ -5,4 +5,5 @@ use Rattle.syntect_pattern.specs.Matches.{Groups, matches, stands}
 
 -- the tree has no match but where a line begins
 abbrev pub IsAtLines : Tree → Type 0
-IsAtLines tree = (s : List ℕ) (place : ℕ) (g : Groups) → stands s line_start place ≡ false → matches s tree place g ≡ []
+IsAtLines tree = (s : List ℕ) (place : ℕ) (g : Groups) → stands s line_start place ≡ false
+    → matches s tree place g ≡ []

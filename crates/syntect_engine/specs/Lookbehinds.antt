@@ -8,4 +8,5 @@ pub record AreEnough (t : Tree) (place from n : ℕ) : Type 0 where
   pub before : from ≤ place
   pub inside : n ≤ suc from
   pub near : (s : List ℕ) (q : ℕ) (g : Groups) → from < q → ending_at place (matches s t q g) ≡ []
-  pub far : (s : List ℕ) (q : ℕ) (g : Groups) → q + n ≤ from → ending_at place (matches s t q g) ≡ []
+  pub far : (s : List ℕ) (q : ℕ) (g : Groups) → q + n ≤ from
+      → ending_at place (matches s t q g) ≡ []

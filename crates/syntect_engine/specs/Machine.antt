@@ -77,7 +77,8 @@ abbrev pub one_less : Option ℕ → Option ℕ
 one_less = option_map (λ n. n - 1)
 
 abbrev pub one_turn_less : Turns → Turns
-one_turn_less t = record { node = t.node; left = t.left - 1; least = t.least - 1; most = one_less t.most }
+one_turn_less t =
+    record { node = t.node; left = t.left - 1; least = t.least - 1; most = one_less t.most }
 
 -- no turn is left
 abbrev pub is_used_up : Option ℕ → Bool
@@ -88,7 +89,9 @@ abbrev pub search_turns : (On → On) → Bool → ℕ → ℕ → Option ℕ �
 search_turns body greedy zero least most k i g = tick none
 search_turns body greedy (suc n) least most k i g =
     tick (prefer greedy
-    (while_left most (tick (body (λ j h. tick (after_turn (j == i) k (search_turns body greedy n (least - 1) (one_less most) k) j h)) i g)))
+    (while_left most (tick (body (λ j h. tick
+    (after_turn (j == i) k (search_turns body greedy n (least - 1)
+    (one_less most) k) j h)) i g)))
     (work_if (least == 0) (tick (k i g))))
 
 -- the match ends here
@@ -115,7 +118,11 @@ outcome Bound.Fails (Some m) k i g = none
 
 -- the part, and then what follows it
 unfoldable pub bounded : Bound → Work → On → On
-bounded b w k i g = record { found = (outcome b w.found k i g).found; count = w.count + (outcome b w.found k i g).count }
+bounded b w k i g =
+    record {
+      found = (outcome b w.found k i g).found;
+      count = w.count + (outcome b w.found k i g).count;
+    }
 
 -- lookarounds
 abbrev pub look_bound : Bool → Bound
@@ -138,13 +145,18 @@ module _ (s : List ℕ) where
   search (one_of set) k i g = tick (go_on (after_char (holds set) (char_at s i) i) k g)
   search (seq a b) k i g = tick (search a (λ j h. tick (search b k j h)) i g)
   search (alt a b) k i g = tick (both (search a k i g) (tick (search b k i g)))
-  search (repeat greedy least most a) k i g = tick (search_turns (search a) greedy (suc (length s - i)) least most k i g)
-  search (group n a) k i g = tick (search a (λ j h. tick (tick (k j (slice_set h n (Some (i, j)))))) i g)
+  search (repeat greedy least most a) k i g =
+      tick (search_turns (search a) greedy (suc (length s - i)) least most k i g)
+  search (group n a) k i g =
+      tick (search a (λ j h. tick (tick (k j (slice_set h n (Some (i, j)))))) i g)
   search (anchor a) k i g = tick (work_if (stands s a i) (k i g))
   search (same fold n) k i g = tick (at_each k (same_text s fold (slice_get g n) i g))
   search (atomic a) k i g = tick (tick (bounded Bound.Whole (search a done i g) k i g))
-  search (ahead negated a) k i g = tick (tick (bounded (look_bound negated) (search a done i g) k i g))
-  search (behind negated a) k i g = tick (tick (bounded (look_bound negated) (tick (at_places (at_start (search a) (ends_at i done)) (suc i) i g)) k i g))
+  search (ahead negated a) k i g =
+      tick (tick (bounded (look_bound negated) (search a done i g) k i g))
+  search (behind negated a) k i g =
+      tick (tick (bounded (look_bound negated)
+      (tick (at_places (at_start (search a) (ends_at i done)) (suc i) i g)) k i g))
 
   module _ (ts : List Tree) where
     abbrev pub tree_at : ℕ → Tree
@@ -155,7 +167,8 @@ module _ (s : List ℕ) where
 
     -- the loop's turns, where the node is a loop
     abbrev pub turns_of : Tree → Turns → On → On
-    turns_of (repeat greedy least most a) t k i g = search_turns (search a) greedy t.left t.least t.most k i g
+    turns_of (repeat greedy least most a) t k i g =
+        search_turns (search a) greedy t.left t.least t.most k i g
     turns_of _ t k i g = tick none
 
     abbrev pub on_item : Item → On → On
@@ -184,12 +197,18 @@ module _ (s : List ℕ) where
     abbrev pub pending : List Cell → Groups → List Frame → Work → Work
     pending cells g [] w = w
     pending cells g (Enter n k i len ∷ fs) w =
-        pending (take len cells) g fs (both w (tick (search (tree_at n) (list_at (take len cells) k) i g)))
-    pending cells g (Leave k i len ∷ fs) w = pending (take len cells) g fs (both w (tick (list_at (take len cells) k i g)))
-    pending cells g (Stretch k n i len ∷ fs) w = pending (take len cells) g fs (both w (tick (at_places (list_at (take len cells) k) n i g)))
+        pending (take len cells) g fs
+        (both w (tick (search (tree_at n) (list_at (take len cells) k) i g)))
+    pending cells g (Leave k i len ∷ fs) w =
+        pending (take len cells) g fs (both w (tick (list_at (take len cells) k i g)))
+    pending cells g (Stretch k n i len ∷ fs) w =
+        pending (take len cells) g fs (both w (tick (at_places (list_at (take len cells) k) n i g)))
     pending cells g (Starts n k c i len ∷ fs) w =
-        pending (take len cells) g fs (both w (tick (at_places (at_start (search (tree_at n)) (list_at (take len cells) k)) c i g)))
-    pending cells g (Within b k i len ∷ fs) w = pending (take len cells) g fs (tick (bounded b w (list_at (take len cells) k) i g))
+        pending (take len cells) g fs
+        (both w (tick (at_places (at_start (search (tree_at n))
+        (list_at (take len cells) k)) c i g)))
+    pending cells g (Within b k i len ∷ fs) w =
+        pending (take len cells) g fs (tick (bounded b w (list_at (take len cells) k) i g))
     pending cells g (Restore n old ∷ fs) w = pending cells (slice_set g n old) fs (tick w)
 
     abbrev pub now : Next → List Cell → ℕ → Groups → Work
@@ -200,7 +219,9 @@ module _ (s : List ℕ) where
     now Next.Found cells i g = one i g
 
     abbrev pub total : Next → Search → Work
-    total next x = pending x.cells.items x.groups.items (reverse x.frames.items) (now next x.cells.items x.place x.groups.items)
+    total next x =
+        pending x.cells.items x.groups.items (reverse x.frames.items)
+        (now next x.cells.items x.place x.groups.items)
 
 -- the ends of a group's span are on boundaries
 abbrev pub SlotFits : List ℕ → Option (ℕ × ℕ) → Type 0
@@ -213,11 +234,14 @@ GroupsFit s g = (n : ℕ) → SlotFits s (slice_index_or g n None)
 -- The lists of the frames are there, and stay there while those above are taken off.
 abbrev pub FramesFit : List ℕ → ℕ → List Frame → Type 0
 FramesFit s n [] = Unit {0}
-FramesFit s n (Enter node k i len ∷ fs) = (k ≤ len) × (len ≤ n) × IsCharBoundary s i × FramesFit s len fs
+FramesFit s n (Enter node k i len ∷ fs) =
+    (k ≤ len) × (len ≤ n) × IsCharBoundary s i × FramesFit s len fs
 FramesFit s n (Leave k i len ∷ fs) = (k ≤ len) × (len ≤ n) × IsCharBoundary s i × FramesFit s len fs
-FramesFit s n (Stretch k count i len ∷ fs) = (k ≤ len) × (len ≤ n) × ((m : ℕ) → m < count → IsCharBoundary s (i - m)) × FramesFit s len fs
+FramesFit s n (Stretch k count i len ∷ fs) =
+    (k ≤ len) × (len ≤ n) × ((m : ℕ) → m < count → IsCharBoundary s (i - m)) × FramesFit s len fs
 FramesFit s n (Starts node k count i len ∷ fs) = (k ≤ len) × (len ≤ n) × FramesFit s len fs
-FramesFit s n (Within b k i len ∷ fs) = (k ≤ len) × (len ≤ n) × IsCharBoundary s i × FramesFit s len fs
+FramesFit s n (Within b k i len ∷ fs) =
+    (k ≤ len) × (len ≤ n) × IsCharBoundary s i × FramesFit s len fs
 FramesFit s n (Restore i old ∷ fs) = SlotFits s old × FramesFit s n fs
 
 abbrev pub ListFits : Next → ℕ → Type 0
@@ -234,7 +258,8 @@ ItemFits s _ = Unit {0}
 
 -- the list of each cell's others stands before it
 abbrev pub CellsFit : List ℕ → List Cell → Type 0
-CellsFit s cells = (k : ℕ) (d : Cell) → k < length cells → ((slice_index_or cells k d).next ≤ k) × ItemFits s (slice_index_or cells k d).item
+CellsFit s cells = (k : ℕ) (d : Cell) → k < length cells
+    → ((slice_index_or cells k d).next ≤ k) × ItemFits s (slice_index_or cells k d).item
 
 pub record Fits (s : List ℕ) (next : Next) (x : Search) : Type 0 where
   pub cells : CellsFit s x.cells.items
@@ -265,7 +290,8 @@ pub record FindsAlike (s : List ℕ) (ts : List Tree) (next next' : Next) (x : S
   pub fits : Fits s next' x
 
 -- a frame of a stretch without the ends at which its list finds nothing
-pub record IsShorter (s : List ℕ) (ts : List Tree) (xs : List Cell) (frame shorter : Frame) : Type 0 where
+pub record IsShorter (s : List ℕ) (ts : List Tree) (xs : List Cell)
+    (frame shorter : Frame) : Type 0 where
   pub list : ℕ
   pub count : ℕ
   pub place : ℕ
@@ -305,7 +331,8 @@ Retreats k zero i len old next new = (next ≡ Next.Fail) × ReturnsTo old.place
 Retreats k (suc n) i len old next new = TriesLast k n i len old next new
 
 -- the node is tried at the last of so many places, and the others are kept
-pub record TriesStart (s : List ℕ) (node k n i len : ℕ) (old : Search) (next : Next) (new : Search) : Type 0 where
+pub record TriesStart (s : List ℕ) (node k n i len : ℕ) (old : Search) (next : Next)
+    (new : Search) : Type 0 where
   pub next_is : next ≡ (if is_start s i then Next.Enter node k else Next.Fail)
   pub place : new.place ≡ (if is_start s i then i else old.place)
   pub cells : new.cells.items ≡ take len old.cells.items
@@ -375,7 +402,9 @@ pub record Cuts (b : Bound × ℕ × ℕ) (old : Search) (next : Next) (new : Se
 -- a loop over one character is entered
 abbrev pub EntersStretch : List ℕ → List Tree → ℕ → ℕ → ℕ → Search → Search → Type 0
 EntersStretch s ts least body k old new =
-    (node : ℕ) → slice_index_or ts node nothing ≡ repeat true least None (slice_index_or ts body nothing) → Goes s ts (Next.Enter node k) old Next.Fail new
+    (node : ℕ) → slice_index_or ts node nothing
+    ≡ repeat true least None (slice_index_or ts body nothing)
+    → Goes s ts (Next.Enter node k) old Next.Fail new
 
 -- the match that a search holds, if it found one: its end and its groups
 abbrev pub match_of : Bool → Search → Option Member
@@ -398,5 +427,7 @@ FindsGroups s p from groups = (tree : Tree) → IsProgramOf p tree → groups �
 -- these are the groups of that match, which begins at the last place or before; or none does, and what is found from the
 -- place on is found from behind the last
 abbrev pub FindsUpTo : List ℕ → Program → ℕ → ℕ → Option Groups → Type 0
-FindsUpTo s p from last None = (tree : Tree) → IsProgramOf p tree → found s tree from ≡ found s tree (suc last)
-FindsUpTo s p from last (Some groups) = (tree : Tree) → IsProgramOf p tree → found s tree from ≡ Some groups
+FindsUpTo s p from last None =
+    (tree : Tree) → IsProgramOf p tree → found s tree from ≡ found s tree (suc last)
+FindsUpTo s p from last (Some groups) =
+    (tree : Tree) → IsProgramOf p tree → found s tree from ≡ Some groups

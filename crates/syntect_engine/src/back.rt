@@ -13,7 +13,8 @@ impl Search {
     /// Goes on with the list.
     pub fn leave(&mut self, program: &Program, text: &str, list: usize) -> Result<Next, AllocError>
         requires { Fits text.now (Next.Leave list) self.old }
-        ensures { IfOk result (λ next. Goes text.now (trees_of program.now) (Next.Leave list) self.old next self.new) }
+        ensures { IfOk result (λ next. Goes text.now (trees_of program.now)
+            (Next.Leave list) self.old next self.new) }
     {
         if list == 0 {
             return Ok(Next::Found);
@@ -50,9 +51,15 @@ impl Search {
 
     /// The group matched from the start to the place.
     fn close(&mut self, group: usize, start: usize) -> Result<(), AllocError>
-        ensures inside { group < length self.old.groups.items → OnOk result (self.new.frames.items ≡ self.old.frames.items ++ Frame.Restore group (slice_index_or self.old.groups.items group None) ∷ []) }
-        ensures outside { length self.old.groups.items ≤ group → OnOk result (self.new.frames.items ≡ self.old.frames.items) }
-        ensures groups { OnOk result (self.new.groups.items ≡ slice_set self.old.groups.items group (Some (start, self.old.place))) }
+        ensures inside { group < length self.old.groups.items
+            → OnOk result (self.new.frames.items
+            ≡ self.old.frames.items
+            ++ Frame.Restore group (slice_index_or self.old.groups.items group None) ∷ []) }
+        ensures outside { length self.old.groups.items ≤ group
+            → OnOk result (self.new.frames.items ≡ self.old.frames.items) }
+        ensures groups { OnOk result
+            (self.new.groups.items ≡ slice_set self.old.groups.items group
+            (Some (start, self.old.place))) }
         ensures cells { OnOk result (self.new.cells.items ≡ self.old.cells.items) }
         ensures place { OnOk result (self.new.place ≡ self.old.place) }
     {
@@ -67,12 +74,25 @@ impl Search {
 
     /// Goes back to the frame, which was taken off the stack.
     fn resume(&mut self, text: &str, frame: Frame) -> Result<Next, AllocError>
-        ensures enter { (node list place cells : ℕ) → frame ≡ Frame.Enter node list place cells → IfOk result (λ next. (next ≡ Next.Enter node list) × ReturnsTo place cells self.old self.new) }
-        ensures leave { (list place cells : ℕ) → frame ≡ Frame.Leave list place cells → IfOk result (λ next. (next ≡ Next.Leave list) × ReturnsTo place cells self.old self.new) }
-        ensures stretch { (list count place cells : ℕ) → frame ≡ Frame.Stretch list count place cells → IfOk result (λ next. Retreats list count place cells self.old next self.new) }
-        ensures starts { (node list count place cells : ℕ) → frame ≡ Frame.Starts node list count place cells → IfOk result (λ next. Restarts text.now node list count place cells self.old next self.new) }
-        ensures within { (bound : Bound) (list place cells : ℕ) → frame ≡ Frame.Within bound list place cells → IfOk result (λ next. ComesOut bound list place cells self.old next self.new) }
-        ensures restore { (group : ℕ) (old : Option (ℕ × ℕ)) → frame ≡ Frame.Restore group old → IfOk result (λ next. (next ≡ Next.Fail) × RestoresGroup group old self.old self.new) }
+        ensures enter { (node list place cells : ℕ) → frame ≡ Frame.Enter node list place cells
+            → IfOk result (λ next. (next ≡ Next.Enter node list)
+            × ReturnsTo place cells self.old self.new) }
+        ensures leave { (list place cells : ℕ) → frame ≡ Frame.Leave list place cells
+            → IfOk result (λ next. (next ≡ Next.Leave list)
+            × ReturnsTo place cells self.old self.new) }
+        ensures stretch { (list count place cells : ℕ)
+            → frame ≡ Frame.Stretch list count place cells
+            → IfOk result (λ next. Retreats list count place cells self.old next self.new) }
+        ensures starts { (node list count place cells : ℕ)
+            → frame ≡ Frame.Starts node list count place cells
+            → IfOk result
+            (λ next. Restarts text.now node list count place cells self.old next self.new) }
+        ensures within { (bound : Bound) (list place cells : ℕ)
+            → frame ≡ Frame.Within bound list place cells
+            → IfOk result (λ next. ComesOut bound list place cells self.old next self.new) }
+        ensures restore { (group : ℕ) (old : Option (ℕ × ℕ)) → frame ≡ Frame.Restore group old
+            → IfOk result (λ next. (next ≡ Next.Fail)
+            × RestoresGroup group old self.old self.new) }
     {
         match frame {
             Frame::Enter {
@@ -152,7 +172,8 @@ impl Search {
         place: usize,
         cells: usize,
     ) -> Result<Next, AllocError>
-        ensures { IfOk result (λ next. Restarts text.now node list count place cells self.old next self.new) }
+        ensures { IfOk result
+            (λ next. Restarts text.now node list count place cells self.old next self.new) }
     {
         self.cells.truncate(cells);
         if count == 0 {
@@ -190,7 +211,9 @@ impl Search {
     /// Goes back to the last frame, if there is one.
     pub fn back(&mut self, program: &Program, text: &str) -> Result<Option<Next>, AllocError>
         requires { Fits text.now Next.Fail self.old }
-        ensures goes { IfOk result (λ found. IfSome found (λ next. Goes text.now (trees_of program.now) Next.Fail self.old next self.new)) }
+        ensures goes { IfOk result
+            (λ found. IfSome found (λ next.
+            Goes text.now (trees_of program.now) Next.Fail self.old next self.new)) }
         ensures over { IfOk result (λ found. IfNone found (self.old.frames.items ≡ [])) }
     {
         let Some(frame) = self.frames.pop() else {
@@ -207,9 +230,17 @@ impl Search {
     /// A match is found: what follows it, if it is that of a part of which the first match counts alone. What that part
     /// could still try is forgotten, and its cells are. None if the match is the whole one.
     pub fn finish(&mut self) -> Result<Option<Next>, AllocError>
-        ensures whole { IfOk result (λ found. IfNone found ((bound_of (reverse self.old.frames.items) ≡ None) × (self.new.place ≡ self.old.place) × (self.new.groups.items ≡ self.old.groups.items))) }
-        ensures part { IfOk result (λ found. IfSome found (λ next. IfSome (bound_of (reverse self.old.frames.items)) (λ b. Cuts b self.old next self.new))) }
-        ensures has_part { IfOk result (λ found. IfSome found (λ next. IsSome (bound_of (reverse self.old.frames.items)))) }
+        ensures whole { IfOk result
+            (λ found. IfNone found ((bound_of (reverse self.old.frames.items) ≡ None)
+            × (self.new.place ≡ self.old.place)
+            × (self.new.groups.items ≡ self.old.groups.items))) }
+        ensures part { IfOk result
+            (λ found. IfSome found (λ next.
+            IfSome (bound_of (reverse self.old.frames.items))
+            (λ b. Cuts b self.old next self.new))) }
+        ensures has_part { IfOk result
+            (λ found. IfSome found (λ next.
+            IsSome (bound_of (reverse self.old.frames.items)))) }
     {
         let mut kept = Vec::new(*self.frames.allocator());
         'cut: loop {
@@ -234,7 +265,8 @@ impl Search {
 
     /// Puts the frames back on the stack, the last one first.
     fn give_back(&mut self, kept: &mut Vec<Frame>) -> Result<(), AllocError>
-        ensures frames { OnOk result (reverse self.new.frames.items ≡ kept.old.items ++ reverse self.old.frames.items) }
+        ensures frames { OnOk result
+            (reverse self.new.frames.items ≡ kept.old.items ++ reverse self.old.frames.items) }
         ensures others { self.new ≡ record self.old { frames = self.new.frames } }
     {
         'frames: while let Some(frame) = kept.pop() {

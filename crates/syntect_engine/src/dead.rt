@@ -15,7 +15,8 @@ const LOOKS: u32 = 8;
 /// Whether it is seen at once that the node has no match at the place: what its matches begin with fails there.
 pub fn is_dead(program: &Program, text: &str, place: usize, node: usize) -> bool
     requires { IsCharBoundary text.now place }
-    ensures { result ≡ true → (g : Groups) → matches text.now (slice_index_or (trees_of program.now) node nothing) place g ≡ [] }
+    ensures { result ≡ true → (g : Groups)
+        → matches text.now (slice_index_or (trees_of program.now) node nothing) place g ≡ [] }
 {
     let mut first = node;
     for _ in 0..LOOKS {

@@ -19,7 +19,8 @@ use syntect_ways::text::past_text;
 /// one can.
 fn starts_before(program: &Program, place: usize, node: usize) -> (usize, usize)
     requires { place < 2 ^ 64 - 1 }
-    ensures { AreEnough (slice_index_or (trees_of program.now) node nothing) place result.0 result.1 }
+    ensures { AreEnough
+        (slice_index_or (trees_of program.now) node nothing) place result.0 result.1 }
 {
     let lengths = program.length_of(node);
     let least = lengths.least as usize;
@@ -48,7 +49,9 @@ impl Search {
 
     /// Goes on with the node from the place, if there is one.
     fn go_to(&mut self, place: Option<usize>, node: usize, list: usize) -> Next
-        ensures some { IfSome place (λ j. (result ≡ Next.Enter node list) × (self.new ≡ record self.old { place = j })) }
+        ensures some { IfSome place
+            (λ j. (result ≡ Next.Enter node list)
+            × (self.new ≡ record self.old { place = j })) }
         ensures none { IfNone place ((result ≡ Next.Fail) × (self.new ≡ self.old)) }
     {
         let Some(place) = place else {
@@ -70,8 +73,11 @@ impl Search {
         list: usize,
     ) -> Result<Next, AllocError>
         requires fits { Fits text.now (Next.Enter node list) self.old }
-        requires is { slice_index_or (trees_of program.now) node nothing ≡ seq (slice_index_or (trees_of program.now) first nothing) (slice_index_or (trees_of program.now) second nothing) }
-        ensures { IfOk result (λ next. Goes text.now (trees_of program.now) (Next.Enter node list) self.old next self.new) }
+        requires is { slice_index_or (trees_of program.now) node nothing
+            ≡ seq (slice_index_or (trees_of program.now) first nothing)
+            (slice_index_or (trees_of program.now) second nothing) }
+        ensures { IfOk result (λ next. Goes text.now (trees_of program.now)
+            (Next.Enter node list) self.old next self.new) }
     {
         match program.node(first) {
             Some(Node::Char(wanted)) => {
@@ -98,7 +104,8 @@ impl Search {
 
     /// Goes on with the list from the place, if there is one.
     fn go_on(&mut self, place: Option<usize>, list: usize) -> Next
-        ensures some { IfSome place (λ j. (result ≡ Next.Leave list) × (self.new ≡ record self.old { place = j })) }
+        ensures some { IfSome place
+            (λ j. (result ≡ Next.Leave list) × (self.new ≡ record self.old { place = j })) }
         ensures none { IfNone place ((result ≡ Next.Fail) × (self.new ≡ self.old)) }
     {
         let Some(place) = place else {
@@ -117,7 +124,8 @@ impl Search {
         list: usize,
     ) -> Result<Next, AllocError>
         requires { Fits text.now (Next.Enter node list) self.old }
-        ensures { IfOk result (λ next. Goes text.now (trees_of program.now) (Next.Enter node list) self.old next self.new) }
+        ensures { IfOk result (λ next. Goes text.now (trees_of program.now)
+            (Next.Enter node list) self.old next self.new) }
     {
         let Some(found) = program.node(node) else {
             return Ok(Next::Leave { list });
@@ -188,7 +196,9 @@ impl Search {
     fn past_group(&self, text: &str, fold: bool, group: usize) -> Option<usize>
         requires place { IsCharBoundary text.now self.now.place }
         requires groups { GroupsFit text.now self.now.groups.items }
-        ensures value { (g : Groups) → same_text text.now fold (slice_get self.now.groups.items group) self.now.place g ≡ at_end result g }
+        ensures value { (g : Groups)
+            → same_text text.now fold (slice_get self.now.groups.items group) self.now.place g
+            ≡ at_end result g }
         ensures boundary { IfSome result (λ j. IsCharBoundary text.now j) }
     {
         let (from, to) = (*self.groups.get(group)?)?;
@@ -200,7 +210,9 @@ impl Search {
 
     /// Begins a part of which the first match counts alone.
     fn enter_part(&mut self, bound: Bound, body: usize, list: usize) -> Result<Next, AllocError>
-        ensures frames { OnOk result (self.new.frames.items ≡ self.old.frames.items ++ Frame.Within bound list self.old.place (length self.old.cells.items) ∷ []) }
+        ensures frames { OnOk result
+            (self.new.frames.items ≡ self.old.frames.items
+            ++ Frame.Within bound list self.old.place (length self.old.cells.items) ∷ []) }
         ensures others { self.new ≡ record self.old { frames = self.new.frames } }
         ensures next { IfOk result (λ next. next ≡ Next.Enter body 0) }
     {
@@ -226,8 +238,14 @@ impl Search {
         count: usize,
         list: usize,
     ) -> Result<Next, AllocError>
-        ensures frames { OnOk result (self.new.frames.items ≡ self.old.frames.items ++ Frame.Within bound list self.old.place (length self.old.cells.items) ∷ Frame.Starts body (length self.new.cells.items) count from (length self.new.cells.items) ∷ []) }
-        ensures cells { OnOk result (self.new.cells.items ≡ self.old.cells.items ++ record { item = Item.EndsAt self.old.place; next = 0 } ∷ []) }
+        ensures frames { OnOk result
+            (self.new.frames.items ≡ self.old.frames.items
+            ++ Frame.Within bound list self.old.place (length self.old.cells.items)
+            ∷ Frame.Starts body (length self.new.cells.items) count from
+            (length self.new.cells.items) ∷ []) }
+        ensures cells { OnOk result
+            (self.new.cells.items ≡ self.old.cells.items
+            ++ record { item = Item.EndsAt self.old.place; next = 0 } ∷ []) }
         ensures place { self.new.place ≡ self.old.place }
         ensures groups { self.new.groups.items ≡ self.old.groups.items }
         ensures next { IfOk result (λ next. next ≡ Next.Fail) }
@@ -256,7 +274,8 @@ impl Search {
     /// is gone through here, in jumps past many of them where the program has some.
     fn alive_branch(&self, program: &Program, text: &str, node: usize, list: usize) -> usize
         requires { Fits text.now (Next.Enter node list) self.now }
-        ensures { FindsAlike text.now (trees_of program.now) (Next.Enter node list) (Next.Enter result list) self.now }
+        ensures { FindsAlike text.now (trees_of program.now) (Next.Enter node list)
+            (Next.Enter result list) self.now }
     {
         let mut branch = node;
         while let Some(Node::Alternation(first, second)) = program.node(branch) {
@@ -283,8 +302,11 @@ impl Search {
         list: usize,
     ) -> Result<Next, AllocError>
         requires fits { Fits text.now (Next.Enter node list) self.old }
-        requires is { slice_index_or (trees_of program.now) node nothing ≡ alt (slice_index_or (trees_of program.now) first nothing) (slice_index_or (trees_of program.now) second nothing) }
-        ensures { IfOk result (λ next. Goes text.now (trees_of program.now) (Next.Enter node list) self.old next self.new) }
+        requires is { slice_index_or (trees_of program.now) node nothing
+            ≡ alt (slice_index_or (trees_of program.now) first nothing)
+            (slice_index_or (trees_of program.now) second nothing) }
+        ensures { IfOk result (λ next. Goes text.now (trees_of program.now)
+            (Next.Enter node list) self.old next self.new) }
     {
         if program.is_dead(text, self.place, first) {
             let node = self.alive_branch(program, text, second, list);
@@ -314,9 +336,12 @@ impl Search {
         list: usize,
     ) -> Result<Next, AllocError>
         requires fits { Fits text.now (Next.Enter turns.node list) self.old }
-        requires is_loop { slice_index_or (trees_of program.now) turns.node nothing ≡ repeat greedy turns.least turns.most (slice_index_or (trees_of program.now) body nothing) }
+        requires is_loop { slice_index_or (trees_of program.now) turns.node nothing
+            ≡ repeat greedy turns.least turns.most
+            (slice_index_or (trees_of program.now) body nothing) }
         requires left { turns.left ≡ suc (length text.now - self.old.place) }
-        ensures { IfOk result (λ next. Goes text.now (trees_of program.now) (Next.Enter turns.node list) self.old next self.new) }
+        ensures { IfOk result (λ next. Goes text.now (trees_of program.now)
+            (Next.Enter turns.node list) self.old next self.new) }
     {
         if greedy
             && turns.most.is_none()
@@ -338,7 +363,9 @@ impl Search {
         list: usize,
     ) -> Result<bool, AllocError>
         requires { Fits text.now (Next.Enter body list) self.old }
-        ensures goes { IfOk result (λ yes. yes ≡ true → EntersStretch text.now (trees_of program.now) least body list self.old self.new) }
+        ensures goes { IfOk result
+            (λ yes. yes ≡ true → EntersStretch text.now
+            (trees_of program.now) least body list self.old self.new) }
         ensures stays { IfOk result (λ yes. yes ≡ false → self.new ≡ self.old) }
     {
         let Some(end) = stretch(program, text, self.place, body) else {

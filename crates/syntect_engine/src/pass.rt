@@ -24,7 +24,8 @@ impl Search {
         requires places { (m : ℕ) → m < count → IsCharBoundary text.now (place - m) }
         ensures inside { result ≤ count }
         ensures dead { (m : ℕ) → m < result → (g : Groups)
-            → (list_at text.now (trees_of program.now) self.now.cells.items list (place - m) g).found
+            → (list_at text.now (trees_of program.now) self.now.cells.items list
+            (place - m) g).found
             ≡ None }
     {
         if list == 0 {

@@ -151,7 +151,9 @@ impl Search {
 
     /// Puts the item before the list.
     pub fn cons(&mut self, item: Item, next: usize) -> Result<usize, AllocError>
-        ensures cells { OnOk result (self.new.cells.items ≡ self.old.cells.items ++ record { item = item; next = next } ∷ []) }
+        ensures cells { OnOk result
+            (self.new.cells.items ≡ self.old.cells.items
+            ++ record { item = item; next = next } ∷ []) }
         ensures list { IfOk result (λ k. k ≡ length self.old.cells.items + 1) }
         ensures others { self.new ≡ record self.old { cells = self.new.cells } }
     {

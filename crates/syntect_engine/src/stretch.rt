@@ -50,7 +50,9 @@ fn class_stretch(text: &[u8], place: usize, class: &Class) -> Option<usize>
 /// a character beyond ASCII stands behind it.
 pub fn stretch(program: &Program, text: &str, place: usize, node: usize) -> Option<usize>
     requires { place ≤ length text.now }
-    ensures { IfSome result (λ end. IsStretchOf text.now (slice_index_or (trees_of program.now) node nothing) place end) }
+    ensures { IfSome result
+        (λ end. IsStretchOf text.now
+        (slice_index_or (trees_of program.now) node nothing) place end) }
 {
     let found = program.node(node)?;
     match found {

@@ -57,7 +57,8 @@ impl Search {
         list: usize,
     ) -> Result<Next, AllocError>
         requires { Fits text.now (Next.Turn turns list) self.old }
-        ensures { IfOk result (λ next. Goes text.now (trees_of program.now) (Next.Turn turns list) self.old next self.new) }
+        ensures { IfOk result (λ next. Goes text.now (trees_of program.now)
+            (Next.Turn turns list) self.old next self.new) }
     {
         let Some(found) = program.node(turns.node) else {
             return Ok(Next::Fail);
@@ -121,8 +122,17 @@ impl Search {
     ) -> Result<Next, AllocError>
         ensures cells { OnOk result (self.new.cells.items ≡ self.old.cells.items
             ++ record { item = item; next = list } ∷ []) }
-        ensures more { greedy ≡ true → IfOk result (λ next. (next ≡ Next.Enter body (length self.old.cells.items + 1)) × (self.new.frames.items ≡ self.old.frames.items ++ Frame.Leave list self.old.place (length self.old.cells.items) ∷ [])) }
-        ensures leave { greedy ≡ false → IfOk result (λ next. (next ≡ Next.Leave list) × (self.new.frames.items ≡ self.old.frames.items ++ Frame.Enter body (suc (length self.old.cells.items)) self.old.place (length self.new.cells.items) ∷ [])) }
+        ensures more { greedy ≡ true
+            → IfOk result (λ next. (next ≡ Next.Enter body (length self.old.cells.items + 1))
+            × (self.new.frames.items
+            ≡ self.old.frames.items
+            ++ Frame.Leave list self.old.place (length self.old.cells.items) ∷ [])) }
+        ensures leave { greedy ≡ false
+            → IfOk result (λ next. (next ≡ Next.Leave list)
+            × (self.new.frames.items
+            ≡ self.old.frames.items
+            ++ Frame.Enter body (suc (length self.old.cells.items)) self.old.place
+            (length self.new.cells.items) ∷ [])) }
         ensures place { self.new.place ≡ self.old.place }
         ensures groups { self.new.groups.items ≡ self.old.groups.items }
     {

@@ -16,7 +16,8 @@ set_paths set = set.path_syntaxes
 
 -- the set of these syntaxes, none of which was loaded from a file, without metadata
 abbrev pub set_of : List SyntaxReference → SyntaxSet
-set_of syntaxes = record { syntaxes = syntaxes; path_syntaxes = []; metadata = record { scoped_metadata = [] } }
+set_of syntaxes =
+    record { syntaxes = syntaxes; path_syntaxes = []; metadata = record { scoped_metadata = [] } }
 
 -- the contexts of each syntax of a set
 abbrev pub contexts_of : SyntaxSet → List (List Context)
@@ -24,7 +25,9 @@ contexts_of set = map (λ s. s.contexts) (syntaxes_in set)
 
 -- the context of a number, if the set has it
 abbrev pub context_at : SyntaxSet → ContextId → Option Context
-context_at set id = option_and_then (λ cs. slice_get cs id.context_index) (slice_get (contexts_of set) id.syntax_index)
+context_at set id =
+    option_and_then (λ cs. slice_get cs id.context_index)
+    (slice_get (contexts_of set) id.syntax_index)
 
 -- a part of a context, nothing where the set lacks it
 abbrev pub part_of : {X : Type 0} → (Context → List X) → SyntaxSet → ContextId → List X

@@ -34,7 +34,9 @@ found_by_extension set extension = last_fitting (has_extension extension) (synta
 
 -- the last syntax of this extension, or else the last of this name, the case of ASCII letters aside
 abbrev pub found_by_token : SyntaxSet → List ℕ → Option SyntaxReference
-found_by_token set token = option_or (found_by_extension set token) (last_fitting (λ s. str_eq_ignore_ascii_case s.name token) (syntaxes_in set))
+found_by_token set token =
+    option_or (found_by_extension set token)
+    (last_fitting (λ s. str_eq_ignore_ascii_case s.name token) (syntaxes_in set))
 
 -- the syntax of text without markup
 abbrev pub found_plain_text : SyntaxSet → Option SyntaxReference
@@ -50,7 +52,8 @@ without_mark line = if starts_with ◌==◌ line mark then drop 3 line else line
 
 -- whether the first-line pattern of a syntax is found in a line
 abbrev pub fits_line : List ℕ → SyntaxReference → Bool
-fits_line line s = option_map_or (λ pattern. is_some (pattern_found pattern line 0)) s.first_line false
+fits_line line s =
+    option_map_or (λ pattern. is_some (pattern_found pattern line 0)) s.first_line false
 
 -- the last syntax whose first-line pattern is found in the line
 abbrev pub found_by_first_line : SyntaxSet → List ℕ → Option SyntaxReference
@@ -62,16 +65,21 @@ ends_in_path whole path = pointwise ◌==◌ whole path || ends_with ◌==◌ wh
 
 -- the syntax that was loaded last from a file of this path
 abbrev pub found_by_path : SyntaxSet → List ℕ → Option SyntaxReference
-found_by_path set path = option_and_then (λ entry. slice_get (syntaxes_in set) entry.1) (last_fitting (λ entry. ends_in_path entry.0 path) (set_paths set))
+found_by_path set path =
+    option_and_then (λ entry. slice_get (syntaxes_in set) entry.1)
+    (last_fitting (λ entry. ends_in_path entry.0 path) (set_paths set))
 
 -- What the path of a file tells: the last syntax that has the file's whole name as its extension, or else the last of the
 -- name's extension. A path without a name, or a name without an extension, has an empty one.
 abbrev pub found_by_file_name : SyntaxSet → List ℕ → Option SyntaxReference
-found_by_file_name set path = option_or (found_by_extension set (unwrap_or (path_file_name path) [])) (found_by_extension set (unwrap_or (path_extension path) []))
+found_by_file_name set path =
+    option_or (found_by_extension set (unwrap_or (path_file_name path) []))
+    (found_by_extension set (unwrap_or (path_extension path) []))
 
 -- what the path of a file tells, or else its first line
 abbrev pub found_for_file : SyntaxSet → List ℕ → List ℕ → Option SyntaxReference
-found_for_file set path line = option_or (found_by_file_name set path) (found_by_first_line set line)
+found_for_file set path line =
+    option_or (found_by_file_name set path) (found_by_first_line set line)
 
 -- The file is asked, as its path tells nothing; and it was not read, or there was no memory.
 abbrev pub NotFoundFor : SyntaxSet → List ℕ → Error → Type 0

@@ -27,8 +27,11 @@ pub record IsOpen (flat : Flat) : Type 0 where
 -- What is kept of the pattern at the place is true of it; and of one with back references into an opening match, in place of
 -- which something else is searched, nothing is told.
 abbrev pub Tells : SyntaxSet → Flat → Type 0
-Tells set flat = IfSome (pattern_at set flat) (λ m. (flat.has_captures ≡ m.has_captures) × NoneBeginsOutside flat.begins m.regex
-    × NoneBeginsBefore false flat.words m.regex × NoneBeginsBefore true flat.blanks m.regex × (flat.at_edges ≡ true → BeginsAtEdges m.regex)
+Tells set flat =
+    IfSome (pattern_at set flat)
+    (λ m. (flat.has_captures ≡ m.has_captures) × NoneBeginsOutside flat.begins m.regex
+    × NoneBeginsBefore false flat.words m.regex × NoneBeginsBefore true flat.blanks m.regex
+    × (flat.at_edges ≡ true → BeginsAtEdges m.regex)
     × (flat.has_captures ≡ true → IsOpen flat))
 
 -- Each test finds the same first pattern at these places as in the context's walk, there are no more of them than that has
@@ -44,7 +47,9 @@ flats_at table id = slice_index_or (slice_index_or table id.syntax_index []) id.
 
 -- the lists that are kept of the contexts of the syntax of this index
 abbrev pub AreListsOf : SyntaxSet → ℕ → List (Option (List Flat)) → Type 0
-AreListsOf set index lists = (k : ℕ) → k < length lists → IfSome (slice_index_or lists k None) (AreFlatsOf set (record { syntax_index = index; context_index = k }))
+AreListsOf set index lists = (k : ℕ) → k < length lists
+    → IfSome (slice_index_or lists k None)
+    (AreFlatsOf set (record { syntax_index = index; context_index = k }))
 
 -- the lists that are kept of all contexts
 abbrev pub IsTableOf : SyntaxSet → List (List (Option (List Flat))) → Type 0

@@ -18,60 +18,91 @@ use Rattle.syntect_grammar.specs.declared.syntax_set.SyntaxSetBuilder.{SyntaxSet
 
 -- whether a file is a grammar's: its extension is `sublime-syntax`, in this case
 abbrev pub is_grammar_path : List ℕ → Bool
-is_grammar_path path = option_map_or (λ extension. pointwise ◌==◌ extension (codes "sublime-syntax")) (path_extension path) false
+is_grammar_path path =
+    option_map_or (λ extension. pointwise ◌==◌ extension (codes "sublime-syntax"))
+    (path_extension path) false
 
 -- whether a file has metadata: its extension is `tmPreferences`, in this case
 abbrev pub is_metadata_path : List ℕ → Bool
-is_metadata_path path = option_map_or (λ extension. pointwise ◌==◌ extension (codes "tmPreferences")) (path_extension path) false
+is_metadata_path path =
+    option_map_or (λ extension. pointwise ◌==◌ extension (codes "tmPreferences"))
+    (path_extension path) false
 
 -- ---- files one after another ----
 
 -- a builder without definitions, and without metadata
 abbrev pub no_definitions : SyntaxSetBuilder
-no_definitions = record { syntaxes = []; path_syntaxes = []; raw_metadata = record { loaded = [] }; metadata = record { scoped_metadata = [] } }
+no_definitions =
+    record {
+      syntaxes = [];
+      path_syntaxes = [];
+      raw_metadata = record { loaded = [] };
+      metadata = record { scoped_metadata = [] };
+    }
 
 -- the builder with one definition more, last, which was loaded from the file of this path
 abbrev pub with_loaded : List ℕ → SyntaxDefinition → SyntaxSetBuilder → SyntaxSetBuilder
-with_loaded path d builder = record builder { syntaxes = definitions_in builder ++ d ∷ []; path_syntaxes = paths_in builder ++ (path, length (definitions_in builder)) ∷ [] }
+with_loaded path d builder =
+    record builder {
+      syntaxes = definitions_in builder ++ d ∷ [];
+      path_syntaxes = paths_in builder ++ (path, length (definitions_in builder)) ∷ [];
+    }
 
 -- the builder with one entry of metadata more, last
 abbrev pub with_entry : RawMetadataEntry → SyntaxSetBuilder → SyntaxSetBuilder
-with_entry entry builder = record builder { raw_metadata = record { loaded = entries_in builder ++ entry ∷ [] } }
+with_entry entry builder =
+    record builder { raw_metadata = record { loaded = entries_in builder ++ entry ∷ [] } }
 
 -- A file of metadata adds its entry; where it gives none, for another cause than want of memory, it is passed over.
 pub data AddsMetadata (path : List ℕ) (builder : SyntaxSetBuilder) : SyntaxSetBuilder → Type 0 where
-  entry_added : {bytes : List ℕ} {entry : RawMetadataEntry} → IsEntryOf path bytes entry → AddsMetadata path builder (with_entry entry builder)
+  entry_added : {bytes : List ℕ} {entry : RawMetadataEntry} → IsEntryOf path bytes entry
+      → AddsMetadata path builder (with_entry entry builder)
   passed_over : {e : LoadingError} → IsEntryFault e → e ≢ Memory → AddsMetadata path builder builder
 
 -- The grammars and the metadata among these files are added to a builder, one after another, each grammar under its path.
 -- Of what a file holds nothing is known but that it gave a definition or an entry.
-pub data AddsSyntaxes (newlines : Bool) : List (List ℕ) → List (List ℕ) → SyntaxSetBuilder → List (List ℕ) → SyntaxSetBuilder → Type 0 where
-  no_more : {repo : List (List ℕ)} {builder : SyntaxSetBuilder} → AddsSyntaxes newlines [] repo builder repo builder
-  other : {path : List ℕ} {paths old new : List (List ℕ)} {builder all : SyntaxSetBuilder} → is_grammar_path path ≡ false → is_metadata_path path ≡ false
-      → AddsSyntaxes newlines paths old builder new all → AddsSyntaxes newlines (path ∷ paths) old builder new all
-  grammar : {path bytes : List ℕ} {paths old left new : List (List ℕ)} {builder all : SyntaxSetBuilder} {d : SyntaxDefinition} → is_grammar_path path ≡ true
-      → IsSyntaxOf newlines path old bytes left d → AddsSyntaxes newlines paths left (with_loaded path d builder) new all
+pub data AddsSyntaxes (newlines : Bool) : List (List ℕ) → List (List ℕ) → SyntaxSetBuilder
+    → List (List ℕ) → SyntaxSetBuilder → Type 0 where
+  no_more : {repo : List (List ℕ)} {builder : SyntaxSetBuilder}
+      → AddsSyntaxes newlines [] repo builder repo builder
+  other : {path : List ℕ} {paths old new : List (List ℕ)} {builder all : SyntaxSetBuilder}
+      → is_grammar_path path ≡ false → is_metadata_path path ≡ false
+      → AddsSyntaxes newlines paths old builder new all
       → AddsSyntaxes newlines (path ∷ paths) old builder new all
-  metadata : {path : List ℕ} {paths old new : List (List ℕ)} {builder next all : SyntaxSetBuilder} → is_metadata_path path ≡ true
-      → AddsMetadata path builder next → AddsSyntaxes newlines paths old next new all → AddsSyntaxes newlines (path ∷ paths) old builder new all
+  grammar : {path bytes : List ℕ} {paths old left new : List (List ℕ)}
+      {builder all : SyntaxSetBuilder} {d : SyntaxDefinition} → is_grammar_path path ≡ true
+      → IsSyntaxOf newlines path old bytes left d
+      → AddsSyntaxes newlines paths left (with_loaded path d builder) new all
+      → AddsSyntaxes newlines (path ∷ paths) old builder new all
+  metadata : {path : List ℕ} {paths old new : List (List ℕ)} {builder next all : SyntaxSetBuilder}
+      → is_metadata_path path ≡ true
+      → AddsMetadata path builder next → AddsSyntaxes newlines paths old next new all
+      → AddsSyntaxes newlines (path ∷ paths) old builder new all
 
 -- why a file stops this: it is a grammar's and gives no syntax, or it has metadata and there is no memory
-pub data StopsFile (newlines : Bool) (path : List ℕ) (repo : List (List ℕ)) : LoadingError → Type 0 where
-  at_grammar : {e : LoadingError} → is_grammar_path path ≡ true → RefusesRead newlines path None repo e → StopsFile newlines path repo e
+pub data StopsFile (newlines : Bool) (path : List ℕ) (repo : List (List ℕ)) : LoadingError
+    → Type 0 where
+  at_grammar : {e : LoadingError} → is_grammar_path path ≡ true
+      → RefusesRead newlines path None repo e → StopsFile newlines path repo e
   at_metadata : is_metadata_path path ≡ true → StopsFile newlines path repo Memory
 
 -- ---- folders ----
 
 -- the grammars and the metadata in a folder and in those below it are added, in the order of a walk
-pub record AddsFolder (newlines : Bool) (folder : List ℕ) (old : List (List ℕ)) (builder : SyntaxSetBuilder) (new : List (List ℕ)) (all : SyntaxSetBuilder) : Type 0 where
+pub record AddsFolder (newlines : Bool) (folder : List ℕ) (old : List (List ℕ))
+    (builder : SyntaxSetBuilder) (new : List (List ℕ)) (all : SyntaxSetBuilder) : Type 0 where
   pub files : List (List ℕ)
   pub walk : IsWalk folder files
   pub adds : AddsSyntaxes newlines files old builder new all
 
 -- Why they are not, and what is added then: the files before a fault of the walk, whose scopes alone the repository has then
 -- more; or the files before one that stops this.
-pub data RefusesFolder (newlines : Bool) (folder : List ℕ) (old : List (List ℕ)) (builder : SyntaxSetBuilder) : LoadingError → List (List ℕ) → SyntaxSetBuilder → Type 0 where
-  no_walk : {e : LoadingError} {files new : List (List ℕ)} {all : SyntaxSetBuilder} → IsWalk folder files → AddsSyntaxes newlines files old builder new all
+pub data RefusesFolder (newlines : Bool) (folder : List ℕ) (old : List (List ℕ))
+    (builder : SyntaxSetBuilder) : LoadingError → List (List ℕ) → SyntaxSetBuilder → Type 0 where
+  no_walk : {e : LoadingError} {files new : List (List ℕ)} {all : SyntaxSetBuilder}
+      → IsWalk folder files → AddsSyntaxes newlines files old builder new all
       → IsWalkFault e → RefusesFolder newlines folder old builder e new all
-  no_syntax : {e : LoadingError} {path : List ℕ} {files left new : List (List ℕ)} {all : SyntaxSetBuilder} → IsWalk folder (files ++ path ∷ [])
-      → AddsSyntaxes newlines files old builder left all → StopsFile newlines path left e → RefusesFolder newlines folder old builder e new all
+  no_syntax : {e : LoadingError} {path : List ℕ} {files left new : List (List ℕ)}
+      {all : SyntaxSetBuilder} → IsWalk folder (files ++ path ∷ [])
+      → AddsSyntaxes newlines files old builder left all → StopsFile newlines path left e
+      → RefusesFolder newlines folder old builder e new all

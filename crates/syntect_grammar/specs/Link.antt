@@ -49,13 +49,17 @@ body_of d = map (λ entry. entry.1) d.contexts
 
 -- The definition that stands at this index, linked with these heads and contexts of all definitions: its contexts are
 -- linked, and all else is as it was given.
-abbrev pub linked_definition : List SyntaxReference → List (List Context) → ℕ → SyntaxDefinition → SyntaxReference
-linked_definition heads bodies index d = record (head_of index d) { contexts = linked_contexts heads bodies index 0 (body_of d) }
+abbrev pub linked_definition : List SyntaxReference → List (List Context) → ℕ → SyntaxDefinition
+    → SyntaxReference
+linked_definition heads bodies index d =
+    record (head_of index d) { contexts = linked_contexts heads bodies index 0 (body_of d) }
 
 -- definitions from this index on
-abbrev pub linked_from : List SyntaxReference → List (List Context) → ℕ → List SyntaxDefinition → List SyntaxReference
+abbrev pub linked_from : List SyntaxReference → List (List Context) → ℕ → List SyntaxDefinition
+    → List SyntaxReference
 linked_from heads bodies index [] = []
-linked_from heads bodies index (d ∷ ds) = linked_definition heads bodies index d ∷ linked_from heads bodies (index + 1) ds
+linked_from heads bodies index (d ∷ ds) =
+    linked_definition heads bodies index d ∷ linked_from heads bodies (index + 1) ds
 
 -- all of them, linked to one another
 abbrev pub linked : List SyntaxDefinition → List SyntaxReference

@@ -36,7 +36,8 @@ from_parsing parsing.Memory = error.Memory
 from_parsing parsing.MissingMainContext = error.ParsingError parsing.MissingMainContext
 from_parsing (parsing.MissingContext id) = error.ParsingError (parsing.MissingContext id)
 from_parsing (parsing.BadMatchIndex i) = error.ParsingError (parsing.BadMatchIndex i)
-from_parsing (parsing.UnresolvedContextReference r) = error.ParsingError (parsing.UnresolvedContextReference r)
+from_parsing (parsing.UnresolvedContextReference r) =
+    error.ParsingError (parsing.UnresolvedContextReference r)
 
 abbrev pub from_scope : ScopeError → Error
 from_scope scope.Memory = error.Memory

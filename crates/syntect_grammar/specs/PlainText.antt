@@ -13,7 +13,8 @@ use Rattle.syntect_grammar.specs.declared.syntax_set.SyntaxSetBuilder.{SyntaxSet
 
 -- its grammar
 abbrev pub plain_text : List ℕ
-plain_text = codes "---\nname: Plain Text\nfile_extensions: [txt]\nscope: text.plain\ncontexts: {main: []}"
+plain_text =
+    codes "---\nname: Plain Text\nfile_extensions: [txt]\nscope: text.plain\ncontexts: {main: []}"
 
 -- named `Plain Text`, of the extension `txt` and the scope `text.plain`, with a `main` that has no patterns
 pub record IsPlainText (repository : List (List ℕ)) (d : SyntaxDefinition) : Type 0 where
@@ -23,7 +24,8 @@ pub record IsPlainText (repository : List (List ℕ)) (d : SyntaxDefinition) : T
   pub first_line : d.first_line_match ≡ None
   pub shown : d.hidden ≡ false
   pub variables : d.variables ≡ []
-  pub main : option_map (λ c. c.patterns) (lookup (is_at (slice_cmp nat_cmp (codes "main"))) d.contexts) ≡ Some []
+  pub main : option_map (λ c. c.patterns)
+      (lookup (is_at (slice_cmp nat_cmp (codes "main"))) d.contexts) ≡ Some []
 
 -- the builder with the definition of that grammar last, whose scopes are those of the repository that is left
 pub record AddsPlainText (old new : SyntaxSetBuilder) (before after : List (List ℕ)) : Type 0 where
@@ -34,4 +36,5 @@ pub record AddsPlainText (old new : SyntaxSetBuilder) (before after : List (List
 
 -- what the grammar of plain text gives is such a definition
 abbrev pub PlainTextIsPlain : Type 0
-PlainTextIsPlain = (before after : List (List ℕ)) (d : SyntaxDefinition) → loaded plain_text false None before ≡ Ok (d, after) → IsPlainText after d
+PlainTextIsPlain = (before after : List (List ℕ)) (d : SyntaxDefinition)
+    → loaded plain_text false None before ≡ Ok (d, after) → IsPlainText after d

@@ -27,4 +27,5 @@ at_first id = record { id = id; next = 0 }
 -- what an include enters: its target, unless that has no entries or was entered before
 abbrev pub entering : SyntaxSet → List ContextId → Option ContextId → Option ContextId
 entering set seen None = None
-entering set seen (Some id) = if (length (entries set id) == 0) || list_any (is_same id) seen then None else Some id
+entering set seen (Some id) =
+    if (length (entries set id) == 0) || list_any (is_same id) seen then None else Some id

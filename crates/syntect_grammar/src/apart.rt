@@ -59,7 +59,8 @@ impl SyntaxSet {
     /// linked keep their numbers, contexts keep their prototypes and marks, and paths and metadata stay. Without memory the
     /// set is dropped.
     pub fn into_builder(self, alloc: Global) -> Result<SyntaxSetBuilder, AllocError>
-        ensures definitions { IfOk result (λ builder. definitions_in builder ≡ map definition_of_syntax (syntaxes_in self)) }
+        ensures definitions { IfOk result
+            (λ builder. definitions_in builder ≡ map definition_of_syntax (syntaxes_in self)) }
         ensures paths { IfOk result (λ builder. paths_in builder ≡ set_paths self) }
         ensures entries { IfOk result (λ builder. entries_in builder ≡ []) }
         ensures metadata { IfOk result (λ builder. kept_sets builder ≡ metadata_in self) }

@@ -126,7 +126,9 @@ impl SyntaxSet {
 
     /// The last syntax of this name, the case of ASCII letters aside.
     fn find_by_name_in_any_case(&self, name: &str) -> Option<&SyntaxReference>
-        ensures { option_copied result ≡ last_fitting (λ s. str_eq_ignore_ascii_case s.name name.now) (syntaxes_in self.now) }
+        ensures { option_copied result
+            ≡ last_fitting (λ s. str_eq_ignore_ascii_case s.name name.now)
+            (syntaxes_in self.now) }
     {
         self.syntaxes()
             .iter()
@@ -148,7 +150,8 @@ impl SyntaxSet {
         &self,
         line: &str,
     ) -> Result<Option<&SyntaxReference>, AllocError>
-        ensures { IfOk result (λ found. option_copied found ≡ found_by_first_line self.now line.now) }
+        ensures { IfOk result (λ found. option_copied found
+            ≡ found_by_first_line self.now line.now) }
     {
         let line = without_mark(line);
         let mut region = Region::new(self.allocator());
@@ -168,7 +171,8 @@ impl SyntaxSet {
 
     /// The place of the syntax that was loaded last from a file of this path.
     fn place_of_path(&self, path: &str) -> Option<&(Text, usize)>
-        ensures { option_copied result ≡ last_fitting (λ entry. ends_in_path entry.0 path.now) (set_paths self.now) }
+        ensures { option_copied result
+            ≡ last_fitting (λ entry. ends_in_path entry.0 path.now) (set_paths self.now) }
     {
         self.paths()
             .iter()
@@ -179,7 +183,8 @@ impl SyntaxSet {
     /// The syntax that was loaded last from a file of this path. The path may be the whole one, or its end behind a slash.
     pub fn find_syntax_by_path(&self, path: &str) -> Result<Option<&SyntaxReference>, AllocError>
         ensures answers { IsOk result }
-        ensures found { IfOk result (λ found. option_copied found ≡ found_by_path self.now path.now) }
+        ensures found { IfOk result
+            (λ found. option_copied found ≡ found_by_path self.now path.now) }
     {
         match self.place_of_path(path) {
             Some(entry) => Ok(self.syntaxes().get(entry.1)),
@@ -208,7 +213,9 @@ impl SyntaxSet {
         path: Path<'_>,
     ) -> Result<Option<&SyntaxReference>, Error>
         // of what the file holds nothing is known but that its first line is a text
-        ensures found { IfOk result (λ found. (line : List ℕ) × IsUtf8 line × (option_copied found ≡ found_for_file self.now (path_bytes path.entry) line)) }
+        ensures found { IfOk result
+            (λ found. (line : List ℕ) × IsUtf8 line
+            × (option_copied found ≡ found_for_file self.now (path_bytes path.entry) line)) }
         ensures refused { IfErr result (NotFoundFor self.now (path_bytes path.entry)) }
     {
         if let Some(syntax) = self.find_syntax_by_file_name(path) {

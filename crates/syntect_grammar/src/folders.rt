@@ -58,7 +58,8 @@ impl SyntaxSetBuilder {
     ) -> Result<(), LoadingError>
         ensures ok { OnOk result (AddsFolder lines_include_newline (path_bytes folder.entry)
             repository.old self.old repository.new self.new) }
-        ensures err { IfErr result (λ e. RefusesFolder lines_include_newline (path_bytes folder.entry)
+        ensures err { IfErr result
+            (λ e. RefusesFolder lines_include_newline (path_bytes folder.entry)
             repository.old self.old e repository.new self.new) }
         ensures kept { Keeps repository.old repository.new }
     {
@@ -95,7 +96,9 @@ impl SyntaxSetBuilder {
         lines_include_newline: bool,
         repository: &mut ScopeRepository,
     ) -> Result<(), LoadingError>
-        ensures ok { OnOk result (AddsSyntaxes lines_include_newline (path.now ∷ []) repository.old self.old repository.new self.new) }
+        ensures ok { OnOk result
+            (AddsSyntaxes lines_include_newline
+            (path.now ∷ []) repository.old self.old repository.new self.new) }
         ensures err { OnErr result (self.new ≡ self.old) }
         ensures refusal { IfErr result (StopsFile lines_include_newline path.now repository.old) }
         ensures kept { Keeps repository.old repository.new }
@@ -141,7 +144,9 @@ impl SyntaxSetBuilder {
         repository: &mut ScopeRepository,
     ) -> Result<(), LoadingError>
         requires { is_grammar_path path.now ≡ true }
-        ensures ok { OnOk result (AddsSyntaxes lines_include_newline (path.now ∷ []) repository.old self.old repository.new self.new) }
+        ensures ok { OnOk result
+            (AddsSyntaxes lines_include_newline
+            (path.now ∷ []) repository.old self.old repository.new self.new) }
         ensures err { OnErr result (self.new ≡ self.old) }
         ensures refusal { IfErr result (StopsFile lines_include_newline path.now repository.old) }
         ensures kept { Keeps repository.old repository.new }
@@ -173,7 +178,8 @@ impl SyntaxSet {
     ) -> Result<SyntaxSet, LoadingError>
         ensures ok { IfOk result (λ set. (builder : ABuilder) × (left : List (List ℕ))
             × AddsFolder false (path_bytes folder.entry) repository.old no_definitions left builder
-            × (syntaxes_in set ≡ linked (definitions_in builder)) × (set_paths set ≡ paths_in builder)
+            × (syntaxes_in set ≡ linked (definitions_in builder))
+            × (set_paths set ≡ paths_in builder)
             × IsMergedOf left builder repository.new (metadata_in set)) }
         ensures err { IfErr result (λ e. e ≢ Memory → (builder : ABuilder)
             × RefusesFolder false (path_bytes folder.entry) repository.old no_definitions e

@@ -120,7 +120,8 @@ pub(crate) fn link_definitions(
     alloc: Global,
     definitions: Seq<SyntaxDefinition>,
 ) -> Result<Seq<SyntaxReference>, AllocError>
-    ensures { IfOk result (λ ss. ss ≡ linked_from (heads_from 0 definitions) (map body_of definitions) 0 definitions) }
+    ensures { IfOk result (λ ss. ss ≡ linked_from (heads_from 0 definitions)
+        (map body_of definitions) 0 definitions) }
 {
     let (heads, bodies) = behead_all(alloc, definitions)?;
     let linked = link_bodies(alloc, heads.as_slice(), bodies)?;

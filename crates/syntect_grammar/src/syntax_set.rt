@@ -234,7 +234,8 @@ impl SyntaxSetBuilder {
 
     /// Puts a definition last. Without memory for it the builder stays as it is, and the definition is dropped.
     pub fn add(&mut self, syntax: SyntaxDefinition) -> Result<(), AllocError>
-        ensures ok { OnOk result (definitions_in self.new ≡ definitions_in self.old ++ syntax ∷ []) }
+        ensures ok { OnOk result
+            (definitions_in self.new ≡ definitions_in self.old ++ syntax ∷ []) }
         ensures paths { paths_in self.new ≡ paths_in self.old }
         ensures entries { entries_in self.new ≡ entries_in self.old }
         ensures metadata { kept_sets self.new ≡ kept_sets self.old }
@@ -262,8 +263,11 @@ impl SyntaxSetBuilder {
         syntax: SyntaxDefinition,
         path: Text,
     ) -> Result<(), AllocError>
-        ensures ok { OnOk result (definitions_in self.new ≡ definitions_in self.old ++ syntax ∷ []) }
-        ensures paths { OnOk result (paths_in self.new ≡ paths_in self.old ++ (path, length (definitions_in self.old)) ∷ []) }
+        ensures ok { OnOk result
+            (definitions_in self.new ≡ definitions_in self.old ++ syntax ∷ []) }
+        ensures paths { OnOk result
+            (paths_in self.new ≡ paths_in self.old ++ (path, length (definitions_in self.old))
+            ∷ []) }
         ensures entries { entries_in self.new ≡ entries_in self.old }
         ensures metadata { kept_sets self.new ≡ kept_sets self.old }
         ensures err { OnErr result (self.new ≡ self.old) }
@@ -304,7 +308,8 @@ impl SyntaxSetBuilder {
     ) -> Result<SyntaxSet, AllocError>
         ensures linked { IfOk result (λ set. syntaxes_in set ≡ linked (definitions_in self)) }
         ensures paths { IfOk result (λ set. set_paths set ≡ paths_in self) }
-        ensures metadata { IfOk result (λ set. IsMergedOf scope_repo.old self scope_repo.new (metadata_in set)) }
+        ensures metadata { IfOk result
+            (λ set. IsMergedOf scope_repo.old self scope_repo.new (metadata_in set)) }
         ensures whole { IsRepository scope_repo.new }
         ensures kept { take (length scope_repo.old) scope_repo.new ≡ scope_repo.old }
     {

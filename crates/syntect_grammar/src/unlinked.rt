@@ -17,7 +17,8 @@ impl SyntaxSet {
         alloc: Global,
         repository: &ScopeRepository,
     ) -> Result<BTreeSet<String>, AllocError>
-        ensures { IfOk result (λ texts. map string_bytes texts.keys ≡ with_texts [] (unlinked_in repository.now self.now)) }
+        ensures { IfOk result (λ texts. map string_bytes texts.keys
+            ≡ with_texts [] (unlinked_in repository.now self.now)) }
     {
         let mut out = BTreeSet::new(alloc);
         for syntax in self.syntaxes() {

@@ -164,7 +164,8 @@ impl Walker {
     /// Enters a context.
     fn enter(&mut self, id: ContextId) -> Result<(), AllocError>
         ensures entered { OnOk result (self.new.entered ≡ self.old.entered ++ id ∷ []) }
-        ensures frames { OnOk result (self.new.frames.items ≡ self.old.frames.items ++ at_first id ∷ []) }
+        ensures frames { OnOk result
+            (self.new.frames.items ≡ self.old.frames.items ++ at_first id ∷ []) }
         ensures flats { self.new.flats ≡ self.old.flats }
     {
         self.entered.push(id)?;

@@ -18,21 +18,28 @@ gift_for heads bodies id c = (prototype_for heads bodies id c, is_marked_in_set 
 -- the same for the contexts of the syntax of an index, from this place on
 abbrev pub gifts_in : List SyntaxReference → List (List Context) → ℕ → ℕ → List Context → List Gift
 gifts_in heads bodies index place [] = []
-gifts_in heads bodies index place (c ∷ cs) = gift_for heads bodies (record { syntax_index = index; context_index = place }) c ∷ gifts_in heads bodies index (place + 1) cs
+gifts_in heads bodies index place (c ∷ cs) =
+    gift_for heads bodies (record { syntax_index = index; context_index = place }) c
+    ∷ gifts_in heads bodies index (place + 1) cs
 
 -- the same for syntaxes, from this index on
-abbrev pub gifts_from : List SyntaxReference → List (List Context) → ℕ → List (List Context) → List (List Gift)
+abbrev pub gifts_from : List SyntaxReference → List (List Context) → ℕ → List (List Context)
+    → List (List Gift)
 gifts_from heads bodies index [] = []
-gifts_from heads bodies index (cs ∷ css) = gifts_in heads bodies index 0 cs ∷ gifts_from heads bodies (index + 1) css
+gifts_from heads bodies index (cs ∷ css) =
+    gifts_in heads bodies index 0 cs ∷ gifts_from heads bodies (index + 1) css
 
 -- contexts of the syntax of an index, linked and with their gifts
 abbrev pub given_all : List SyntaxReference → ℕ → List Gift → List Context → List Context
-given_all heads index gifts contexts = map (λ given. context_with heads index given.1.0 given.1.1 given.0) (zip contexts gifts)
+given_all heads index gifts contexts =
+    map (λ given. context_with heads index given.1.0 given.1.1 given.0) (zip contexts gifts)
 
 -- the same for syntaxes, from this index on
-abbrev pub given_from : List SyntaxReference → ℕ → List (List Context × List Gift) → List (List Context)
+abbrev pub given_from : List SyntaxReference → ℕ → List (List Context × List Gift)
+    → List (List Context)
 given_from heads index [] = []
-given_from heads index (given ∷ rest) = given_all heads index given.1 given.0 ∷ given_from heads (index + 1) rest
+given_from heads index (given ∷ rest) =
+    given_all heads index given.1 given.0 ∷ given_from heads (index + 1) rest
 
 -- a head with these contexts
 abbrev pub whole : SyntaxReference × List Context → SyntaxReference

@@ -19,7 +19,11 @@ linked_operation heads index op.Pop = op.Pop
 linked_operation heads index op.None = op.None
 
 abbrev pub linked_match : List SyntaxReference → ℕ → MatchPattern → MatchPattern
-linked_match heads index m = record m { operation = linked_operation heads index m.operation; with_prototype = option_map (linked_reference heads index) m.with_prototype }
+linked_match heads index m =
+    record m {
+      operation = linked_operation heads index m.operation;
+      with_prototype = option_map (linked_reference heads index) m.with_prototype;
+    }
 
 abbrev pub linked_pattern : List SyntaxReference → ℕ → Pattern → Pattern
 linked_pattern heads index (Match m) = Match (linked_match heads index m)
@@ -27,14 +31,24 @@ linked_pattern heads index (Include r) = Include (linked_reference heads index r
 
 -- the context with its references linked, with this prototype and this mark of back references
 abbrev pub context_with : List SyntaxReference → ℕ → Option ContextId → Bool → Context → Context
-context_with heads index prototype uses_backrefs c = record c { prototype = prototype; uses_backrefs = uses_backrefs; patterns = map (linked_pattern heads index) c.patterns }
+context_with heads index prototype uses_backrefs c =
+    record c {
+      prototype = prototype;
+      uses_backrefs = uses_backrefs;
+      patterns = map (linked_pattern heads index) c.patterns;
+    }
 
 -- the context of this number, linked
-abbrev pub linked_context : List SyntaxReference → List (List Context) → ContextId → Context → Context
-linked_context heads bodies id c = context_with heads id.syntax_index (prototype_for heads bodies id c) (is_marked_in_set heads bodies id) c
+abbrev pub linked_context : List SyntaxReference → List (List Context) → ContextId → Context
+    → Context
+linked_context heads bodies id c =
+    context_with heads id.syntax_index (prototype_for heads bodies id c)
+    (is_marked_in_set heads bodies id) c
 
 -- contexts of the syntax of an index, from this place on
-abbrev pub linked_contexts : List SyntaxReference → List (List Context) → ℕ → ℕ → List Context → List Context
+abbrev pub linked_contexts : List SyntaxReference → List (List Context) → ℕ → ℕ → List Context
+    → List Context
 linked_contexts heads bodies index place [] = []
 linked_contexts heads bodies index place (c ∷ cs) =
-    linked_context heads bodies (record { syntax_index = index; context_index = place }) c ∷ linked_contexts heads bodies index (place + 1) cs
+    linked_context heads bodies (record { syntax_index = index; context_index = place }) c
+    ∷ linked_contexts heads bodies index (place + 1) cs

@@ -23,13 +23,16 @@ leads_in steps test zero id = test id
 leads_in steps test (suc n) id = test id || list_any (leads_in steps test n) (steps id)
 
 -- the same for any number of steps
-pub data Leads (steps : ContextId → List ContextId) (test : ContextId → Bool) : ContextId → Type 0 where
+pub data Leads (steps : ContextId → List ContextId) (test : ContextId → Bool) : ContextId
+    → Type 0 where
   here : {id : ContextId} → test id ≡ true → Leads steps test id
-  there : {id next : ContextId} → list_any (is_same next) (steps id) ≡ true → Leads steps test next → Leads steps test id
+  there : {id next : ContextId} → list_any (is_same next) (steps id) ≡ true → Leads steps test next
+      → Leads steps test id
 
 -- the context of a number among contexts as they are given
 abbrev pub given_at : List (List Context) → ContextId → Option Context
-given_at bodies id = option_and_then (λ cs. slice_get cs id.context_index) (slice_get bodies id.syntax_index)
+given_at bodies id =
+    option_and_then (λ cs. slice_get cs id.context_index) (slice_get bodies id.syntax_index)
 
 -- the entries of a context as they are given
 abbrev pub entries_given : List (List Context) → ContextId → List Pattern
@@ -57,7 +60,8 @@ open_step home names (Direct id) = Some id
 -- the steps of an entry
 abbrev pub entry_steps : ℕ → List (List ℕ) → Pattern → List ContextId
 entry_steps home names (Include r) = option_to_list (include_step home names r)
-entry_steps home names (Match m) = filter_map (open_step home names) (option_map_or (λ refs. refs) (list_of m.operation) [])
+entry_steps home names (Match m) =
+    filter_map (open_step home names) (option_map_or (λ refs. refs) (list_of m.operation) [])
 
 -- the steps of a context
 abbrev pub prototype_steps : List (List Context) → ℕ → List (List ℕ) → ContextId → List ContextId
@@ -69,17 +73,25 @@ names_at heads index = option_map_or (λ s. s.names) (slice_get heads index) []
 
 -- a context is reached from this prototype of its syntax, in none or more steps
 abbrev pub is_reached : List SyntaxReference → List (List Context) → ContextId → ContextId → Bool
-is_reached heads bodies prototype id = leads_in (prototype_steps bodies id.syntax_index (names_at heads id.syntax_index)) (is_same id) (count_contexts bodies) prototype
+is_reached heads bodies prototype id =
+    leads_in (prototype_steps bodies id.syntax_index (names_at heads id.syntax_index)) (is_same id)
+    (count_contexts bodies) prototype
 
 -- the prototype of the syntax, if the context wants it and isn't reached from it
-abbrev pub unless_reached : List SyntaxReference → List (List Context) → ContextId → Option ContextId → Option ContextId
+abbrev pub unless_reached : List SyntaxReference → List (List Context) → ContextId
+    → Option ContextId → Option ContextId
 unless_reached heads bodies id None = None
-unless_reached heads bodies id (Some prototype) = if is_reached heads bodies prototype id then None else Some prototype
+unless_reached heads bodies id (Some prototype) =
+    if is_reached heads bodies prototype id then None else Some prototype
 
 -- A context keeps the prototype that it was given. Else it has that of its syntax, if it wants it and isn't reached from it.
-abbrev pub prototype_for : List SyntaxReference → List (List Context) → ContextId → Context → Option ContextId
+abbrev pub prototype_for : List SyntaxReference → List (List Context) → ContextId → Context
+    → Option ContextId
 prototype_for heads bodies id c =
-    option_or c.prototype (if c.meta_include_prototype then unless_reached heads bodies id (context_named heads id.syntax_index (codes "prototype")) else None)
+    option_or c.prototype
+    (if c.meta_include_prototype
+    then unless_reached heads bodies id (context_named heads id.syntax_index (codes "prototype"))
+    else None)
 
 -- ---- back references ----
 
@@ -98,16 +110,21 @@ is_marked bodies id = option_map_or (λ c. c.uses_backrefs) (given_at bodies id)
 
 -- A context is marked where it is or includes, over any number of includes, one that is marked as given.
 abbrev pub is_marked_in_set : List SyntaxReference → List (List Context) → ContextId → Bool
-is_marked_in_set heads bodies id = leads_in (includes_of heads bodies) (is_marked bodies) (count_contexts bodies) id
+is_marked_in_set heads bodies id =
+    leads_in (includes_of heads bodies) (is_marked bodies) (count_contexts bodies) id
 
 -- ---- so many steps are enough ----
 
 -- As many steps as there are contexts reach from a prototype what any number of steps reach.
 abbrev pub PrototypesReach : Type 0
-PrototypesReach = (heads : List SyntaxReference) (bodies : List (List Context)) (prototype id : ContextId)
-    → (is_reached heads bodies prototype id ≡ true) ↔ Leads (prototype_steps bodies id.syntax_index (names_at heads id.syntax_index)) (is_same id) prototype
+PrototypesReach =
+    (heads : List SyntaxReference) (bodies : List (List Context)) (prototype id : ContextId)
+    → (is_reached heads bodies prototype id ≡ true)
+    ↔ Leads (prototype_steps bodies id.syntax_index (names_at heads id.syntax_index))
+    (is_same id) prototype
 
 -- The same of includes and marks.
 abbrev pub MarksReach : Type 0
 MarksReach = (heads : List SyntaxReference) (bodies : List (List Context)) (id : ContextId)
-    → (is_marked_in_set heads bodies id ≡ true) ↔ Leads (includes_of heads bodies) (is_marked bodies) id
+    → (is_marked_in_set heads bodies id ≡ true) ↔ Leads (includes_of heads bodies)
+    (is_marked bodies) id

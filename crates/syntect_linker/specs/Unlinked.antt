@@ -37,27 +37,35 @@ truth_text false = codes "false"
 
 -- the end of a reference into another syntax, from its sub context on
 abbrev pub elsewhere_text : Option (List ℕ) → Bool → List ℕ
-elsewhere_text sub with_escape = sub_context_text sub ++ (codes ", with_escape: " ++ (truth_text with_escape ++ codes " }"))
+elsewhere_text sub with_escape =
+    sub_context_text sub ++ (codes ", with_escape: " ++ (truth_text with_escape ++ codes " }"))
 
 -- a reference by scope, by the text of its scope
 abbrev pub by_scope_text : List ℕ → Option (List ℕ) → Bool → List ℕ
-by_scope_text scope sub with_escape = codes "ByScope { scope: <" ++ (scope ++ (codes ">, sub_context: " ++ elsewhere_text sub with_escape))
+by_scope_text scope sub with_escape =
+    codes "ByScope { scope: <"
+    ++ (scope ++ (codes ">, sub_context: " ++ elsewhere_text sub with_escape))
 
 -- a reference by the name of a syntax
 abbrev pub file_text : List ℕ → Option (List ℕ) → Bool → List ℕ
-file_text name sub with_escape = codes "File { name: " ++ (quoted name ++ (codes ", sub_context: " ++ elsewhere_text sub with_escape))
+file_text name sub with_escape =
+    codes "File { name: " ++ (quoted name ++ (codes ", sub_context: "
+    ++ elsewhere_text sub with_escape))
 
 -- a reference that isn't resolved, its scope written by a repository; a resolved one has no text
 abbrev pub reference_text : List (List ℕ) → ContextReference → List ℕ
 reference_text atoms (Named name) = codes "Named(" ++ (quoted name ++ codes ")")
 reference_text atoms (Inline name) = codes "Inline(" ++ (quoted name ++ codes ")")
-reference_text atoms (ByScope scope sub with_escape) = by_scope_text (scope_text atoms scope) sub with_escape
+reference_text atoms (ByScope scope sub with_escape) =
+    by_scope_text (scope_text atoms scope) sub with_escape
 reference_text atoms (File name sub with_escape) = file_text name sub with_escape
 reference_text atoms (Direct id) = []
 
 -- what is said of a syntax with this name and scope and a reference of it, by their texts
 abbrev pub said : List ℕ → List ℕ → List ℕ → List ℕ
-said name scope reference = codes "Syntax '" ++ (name ++ (codes "' with scope '" ++ (scope ++ (codes "' has unresolved context reference " ++ reference))))
+said name scope reference =
+    codes "Syntax '" ++ (name ++ (codes "' with scope '"
+    ++ (scope ++ (codes "' has unresolved context reference " ++ reference))))
 
 abbrev pub unlinked_text : List (List ℕ) → SyntaxReference → ContextReference → List ℕ
 unlinked_text atoms s r = said s.name (scope_text atoms s.scope) (reference_text atoms r)
@@ -75,7 +83,8 @@ unlinked_among atoms s refs = map (unlinked_text atoms s) (filter (λ r. is_none
 
 -- those of a syntax
 abbrev pub unlinked_of : List (List ℕ) → SyntaxReference → List (List ℕ)
-unlinked_of atoms s = unlinked_among atoms s (flat_map (λ c. flat_map pushed_by c.patterns) s.contexts)
+unlinked_of atoms s =
+    unlinked_among atoms s (flat_map (λ c. flat_map pushed_by c.patterns) s.contexts)
 
 -- texts in their order, each once, with these
 abbrev pub with_texts : List (List ℕ) → List (List ℕ) → List (List ℕ)

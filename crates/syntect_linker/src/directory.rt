@@ -133,7 +133,9 @@ impl<'a> Directory<'a> {
 
     /// The context of this name, else `main`, in the syntax of a place.
     fn context_at(&self, place: Option<usize>, sub_context: Option<&str>) -> Option<ContextId>
-        ensures { result ≡ option_and_then (λ index. context_named self.now index (unwrap_or (option_copied sub_context.entry) (codes "main"))) place }
+        ensures { result ≡ option_and_then (λ index.
+            context_named self.now index
+            (unwrap_or (option_copied sub_context.entry) (codes "main"))) place }
     {
         self.context_named(place?, sub_context.unwrap_or("main"))
     }
@@ -147,7 +149,8 @@ impl<'a> Directory<'a> {
 
     /// The context of this name, else `main`, in the last syntax of a name.
     fn by_name(&self, name: &str, sub_context: Option<&str>) -> Option<ContextId>
-        ensures { result ≡ context_by (has_name name.now) self.now (option_copied sub_context.entry) }
+        ensures { result ≡ context_by (has_name name.now) self.now
+            (option_copied sub_context.entry) }
     {
         self.context_at(self.by_name.get(name).copied(), sub_context)
     }

@@ -146,7 +146,9 @@ fn prototype_of(
     prototype: Option<ContextId>,
     reached: &HashSet<ContextId>,
 ) -> Option<ContextId>
-    ensures { result ≡ option_or context.now.prototype (if context.now.meta_include_prototype && not (marks.contains is_same reached.now id) then prototype else None) }
+    ensures { result ≡ option_or context.now.prototype
+        (if context.now.meta_include_prototype && not (marks.contains is_same reached.now id)
+        then prototype else None) }
 {
     if context.prototype.is_some() {
         context.prototype
@@ -165,7 +167,10 @@ fn reached_in(
     index: usize,
     prototype: Option<ContextId>,
 ) -> Result<HashSet<ContextId>, AllocError>
-    ensures { IfOk result (λ set. (p id : ContextId) → prototype ≡ Some p → marks.contains is_same set id ≡ leads_in (prototype_steps bodies.now index (names_at directory.now index)) (is_same id) (count_contexts bodies.now) p) }
+    ensures { IfOk result (λ set. (p id : ContextId) → prototype ≡ Some p
+        → marks.contains is_same set id
+        ≡ leads_in (prototype_steps bodies.now index (names_at directory.now index)) (is_same id)
+        (count_contexts bodies.now) p) }
 {
     match prototype {
         Some(id) => reached_from(alloc, bodies, index, directory.names(index), id),
@@ -182,8 +187,10 @@ fn gifts_of(
     syntax_index: usize,
     contexts: &[Context],
 ) -> Result<Vec<(Option<ContextId>, bool)>, AllocError>
-    requires { (id : ContextId) → marks.contains is_same marked.now id ≡ is_marked_in_set directory.now bodies.now id }
-    ensures { IfOk result (λ v. v.items ≡ gifts_in directory.now bodies.now syntax_index 0 contexts.now) }
+    requires { (id : ContextId)
+        → marks.contains is_same marked.now id ≡ is_marked_in_set directory.now bodies.now id }
+    ensures { IfOk result
+        (λ v. v.items ≡ gifts_in directory.now bodies.now syntax_index 0 contexts.now) }
 {
     let prototype = directory.context_named(syntax_index, "prototype");
     let reached = reached_in(alloc, directory, bodies, syntax_index, prototype)?;
@@ -243,7 +250,8 @@ pub fn link_bodies(
     heads: &[SyntaxReference],
     bodies: Vec<Seq<Context>>,
 ) -> Result<Vec<Seq<Context>>, AllocError>
-    ensures { IfOk result (λ v. v.items ≡ given_from heads.now 0 (zip bodies.items (gifts_from heads.now bodies.items 0 bodies.items))) }
+    ensures { IfOk result (λ v. v.items ≡ given_from heads.now 0
+        (zip bodies.items (gifts_from heads.now bodies.items 0 bodies.items))) }
 {
     let directory = Directory::new(alloc, heads)?;
     let gifts = all_gifts(alloc, &directory, bodies.as_slice())?;

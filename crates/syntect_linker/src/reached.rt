@@ -53,7 +53,8 @@ fn add_opened(
     references: &[ContextReference],
     steps: &mut Vec<ContextId>,
 ) -> Result<(), AllocError>
-    ensures { OnOk result (steps.new.items ≡ steps.old.items ++ filter_map (open_step home names.now) references.now) }
+    ensures { OnOk result (steps.new.items ≡ steps.old.items
+        ++ filter_map (open_step home names.now) references.now) }
 {
     for reference in references {
         if let Some(id) = open_step(home, names, reference) {
@@ -70,7 +71,8 @@ fn add_entry_steps(
     entry: &Pattern,
     steps: &mut Vec<ContextId>,
 ) -> Result<(), AllocError>
-    ensures { OnOk result (steps.new.items ≡ steps.old.items ++ entry_steps home names.now entry.now) }
+    ensures { OnOk result (steps.new.items ≡ steps.old.items
+        ++ entry_steps home names.now entry.now) }
 {
     match entry {
         Pattern::Include(reference) => {
@@ -109,7 +111,8 @@ fn add_steps(
     id: ContextId,
     steps: &mut Vec<ContextId>,
 ) -> Result<(), AllocError>
-    ensures { OnOk result (steps.new.items ≡ steps.old.items ++ prototype_steps bodies.now home names.now id) }
+    ensures { OnOk result (steps.new.items ≡ steps.old.items
+        ++ prototype_steps bodies.now home names.now id) }
 {
     for entry in entries_of(bodies, id) {
         add_entry_steps(home, names, entry, steps)?;
@@ -125,7 +128,10 @@ pub(crate) fn reached_from(
     names: &ContextNames,
     prototype: ContextId,
 ) -> Result<HashSet<ContextId>, AllocError>
-    ensures { IfOk result (λ set. (id : ContextId) → marks.contains is_same set id ≡ leads_in (prototype_steps bodies.now home names.now) (is_same id) (count_contexts bodies.now) prototype) }
+    ensures { IfOk result (λ set. (id : ContextId)
+        → marks.contains is_same set id
+        ≡ leads_in (prototype_steps bodies.now home names.now) (is_same id)
+        (count_contexts bodies.now) prototype) }
 {
     let mut reached = HashSet::new(alloc);
     let mut waiting = Vec::new(alloc);
@@ -145,7 +151,8 @@ fn add_inclusions(
     entries: &[Pattern],
     inclusions: &mut Vec<(ContextId, ContextId)>,
 ) -> Result<(), AllocError>
-    ensures { OnOk result (inclusions.new.items ≡ inclusions.old.items ++ inclusions_of directory.now id entries.now) }
+    ensures { OnOk result (inclusions.new.items
+        ≡ inclusions.old.items ++ inclusions_of directory.now id entries.now) }
 {
     for entry in entries {
         if let Pattern::Include(reference) = entry {
@@ -164,7 +171,9 @@ fn add_inclusions_in(
     contexts: &[Context],
     inclusions: &mut Vec<(ContextId, ContextId)>,
 ) -> Result<(), AllocError>
-    ensures { OnOk result (inclusions.new.items ≡ inclusions.old.items ++ each_in (inclusions_by directory.now) syntax_index 0 contexts.now) }
+    ensures { OnOk result (inclusions.new.items
+        ≡ inclusions.old.items
+        ++ each_in (inclusions_by directory.now) syntax_index 0 contexts.now) }
 {
     for (context_index, context) in contexts.iter().enumerate() {
         let id = ContextId {
@@ -198,7 +207,11 @@ fn put_includer(
     included: ContextId,
     includer: ContextId,
 ) -> Result<(), AllocError>
-    ensures { OnOk result ((id : ContextId) → option_map_or (λ v. v.items) (hash.get is_same includers.new id) [] ≡ cond (is_same included id) (option_map_or (λ v. v.items) (hash.get is_same includers.old id) [] ++ includer ∷ []) (option_map_or (λ v. v.items) (hash.get is_same includers.old id) [])) }
+    ensures { OnOk result ((id : ContextId) → option_map_or (λ v. v.items)
+        (hash.get is_same includers.new id) []
+        ≡ cond (is_same included id)
+        (option_map_or (λ v. v.items) (hash.get is_same includers.old id) [] ++ includer ∷ [])
+        (option_map_or (λ v. v.items) (hash.get is_same includers.old id) [])) }
 {
     if !includers.contains_key(&included) {
         let mut ids = Vec::new(alloc);
@@ -217,7 +230,9 @@ fn includers(
     alloc: Global,
     inclusions: &[(ContextId, ContextId)],
 ) -> Result<HashMap<ContextId, Vec<ContextId>>, AllocError>
-    ensures { IfOk result (λ m. (id : ContextId) → option_map_or (λ v. v.items) (hash.get is_same m id) [] ≡ includers_in inclusions.now id) }
+    ensures { IfOk result (λ m. (id : ContextId)
+        → option_map_or (λ v. v.items) (hash.get is_same m id) []
+        ≡ includers_in inclusions.now id) }
 {
     let mut includers: HashMap<ContextId, Vec<ContextId>> = HashMap::new(alloc);
     for inclusion in inclusions {
@@ -232,7 +247,8 @@ fn add_marked(
     contexts: &[Context],
     marked: &mut Vec<ContextId>,
 ) -> Result<(), AllocError>
-    ensures { OnOk result (marked.new.items ≡ marked.old.items ++ each_in if_marked syntax_index 0 contexts.now) }
+    ensures { OnOk result (marked.new.items ≡ marked.old.items
+        ++ each_in if_marked syntax_index 0 contexts.now) }
 {
     for (context_index, context) in contexts.iter().enumerate() {
         if context.uses_backrefs {
@@ -262,7 +278,8 @@ fn add_includers(
     id: ContextId,
     waiting: &mut Vec<ContextId>,
 ) -> Result<(), AllocError>
-    ensures { OnOk result (waiting.new.items ≡ waiting.old.items ++ option_map_or (λ v. v.items) (hash.get is_same includers.now id) []) }
+    ensures { OnOk result (waiting.new.items ≡ waiting.old.items
+        ++ option_map_or (λ v. v.items) (hash.get is_same includers.now id) []) }
 {
     if let Some(ids) = includers.get(&id) {
         waiting.extend_from_slice(ids.as_slice())?;
@@ -276,7 +293,10 @@ fn spread(
     includers: &HashMap<ContextId, Vec<ContextId>>,
     given: Vec<ContextId>,
 ) -> Result<HashSet<ContextId>, AllocError>
-    ensures { IfOk result (λ set. (id : ContextId) → (marks.contains is_same set id ≡ true) ↔ From (λ from. option_map_or (λ v. v.items) (hash.get is_same includers.now from) []) given.items id) }
+    ensures { IfOk result (λ set. (id : ContextId)
+        → (marks.contains is_same set id ≡ true) ↔ From
+        (λ from. option_map_or (λ v. v.items)
+        (hash.get is_same includers.now from) []) given.items id) }
 {
     let mut waiting = given;
     let mut marked = HashSet::new(alloc);
@@ -294,7 +314,8 @@ pub(crate) fn marked_contexts(
     directory: &Directory<'_>,
     bodies: &[Seq<Context>],
 ) -> Result<HashSet<ContextId>, AllocError>
-    ensures { IfOk result (λ set. (id : ContextId) → marks.contains is_same set id ≡ is_marked_in_set directory.now bodies.now id) }
+    ensures { IfOk result (λ set. (id : ContextId)
+        → marks.contains is_same set id ≡ is_marked_in_set directory.now bodies.now id) }
 {
     let inclusions = inclusions_of(alloc, directory, bodies)?;
     let includers = includers(alloc, inclusions.as_slice())?;

@@ -15,7 +15,8 @@ use syntect_values::text::Text;
 
 /// Puts a character of a text in quotes last.
 fn push_quoted(out: &mut String, c: char) -> Result<(), AllocError>
-    ensures { OnOk result (string_bytes out.new ≡ string_bytes out.old ++ encode_utf8_all (quoted_char c)) }
+    ensures { OnOk result (string_bytes out.new
+        ≡ string_bytes out.old ++ encode_utf8_all (quoted_char c)) }
 {
     if c == '"' || c == '\\' {
         out.push('\\')?;
@@ -82,7 +83,8 @@ fn by_scope_text(
     sub_context: &Option<Text>,
     with_escape: bool,
 ) -> Result<String, AllocError>
-    ensures { IfOk result (λ t. string_bytes t ≡ by_scope_text scope.now sub_context.now with_escape) }
+    ensures { IfOk result (λ t. string_bytes t
+        ≡ by_scope_text scope.now sub_context.now with_escape) }
 {
     let end = elsewhere_text(alloc, sub_context, with_escape)?;
     format!(in alloc; "ByScope {{ scope: <{scope}>, sub_context: {end}")
@@ -151,7 +153,8 @@ fn unlinked_text(
     syntax: &SyntaxReference,
     reference: &ContextReference,
 ) -> Result<String, AllocError>
-    ensures { IfOk result (λ t. string_bytes t ≡ unlinked_text repository.now syntax.now reference.now) }
+    ensures { IfOk result (λ t. string_bytes t
+        ≡ unlinked_text repository.now syntax.now reference.now) }
 {
     let scope = repository.to_string(syntax.scope)?;
     let reference = reference_text(alloc, repository, reference)?;
@@ -165,7 +168,8 @@ fn unlinked_text(
 
 /// Puts a text into a set.
 fn add_text(out: &mut BTreeSet<String>, text: String) -> Result<(), AllocError>
-    ensures { IfOk result (λ _. map string_bytes out.new.keys ≡ insert_key (slice_cmp nat_cmp) (map string_bytes out.old.keys) (string_bytes text)) }
+    ensures { IfOk result (λ _. map string_bytes out.new.keys
+        ≡ insert_key (slice_cmp nat_cmp) (map string_bytes out.old.keys) (string_bytes text)) }
 {
     out.insert(text)?;
     Ok(())
@@ -179,7 +183,9 @@ fn add_reference(
     reference: &ContextReference,
     out: &mut BTreeSet<String>,
 ) -> Result<(), AllocError>
-    ensures { IfOk result (λ _. map string_bytes out.new.keys ≡ with_texts (map string_bytes out.old.keys) (unlinked_among repository.now syntax.now (reference.now ∷ []))) }
+    ensures { IfOk result (λ _. map string_bytes out.new.keys
+        ≡ with_texts (map string_bytes out.old.keys)
+        (unlinked_among repository.now syntax.now (reference.now ∷ []))) }
 {
     if reference.target().is_none() {
         let text = unlinked_text(alloc, repository, syntax, reference)?;
@@ -196,7 +202,9 @@ fn add_references(
     references: &[ContextReference],
     out: &mut BTreeSet<String>,
 ) -> Result<(), AllocError>
-    ensures { IfOk result (λ _. map string_bytes out.new.keys ≡ with_texts (map string_bytes out.old.keys) (unlinked_among repository.now syntax.now references.now)) }
+    ensures { IfOk result (λ _. map string_bytes out.new.keys
+        ≡ with_texts (map string_bytes out.old.keys)
+        (unlinked_among repository.now syntax.now references.now)) }
 {
     for reference in references {
         add_reference(alloc, repository, syntax, reference, out)?;
@@ -227,7 +235,9 @@ fn add_patterns(
     patterns: &[Pattern],
     out: &mut BTreeSet<String>,
 ) -> Result<(), AllocError>
-    ensures { IfOk result (λ _. map string_bytes out.new.keys ≡ with_texts (map string_bytes out.old.keys) (unlinked_among repository.now syntax.now (flat_map pushed_by patterns.now))) }
+    ensures { IfOk result (λ _. map string_bytes out.new.keys
+        ≡ with_texts (map string_bytes out.old.keys)
+        (unlinked_among repository.now syntax.now (flat_map pushed_by patterns.now))) }
 {
     for pattern in patterns {
         add_references(alloc, repository, syntax, pushed_by(pattern), out)?;
@@ -243,7 +253,8 @@ pub fn add_syntax(
     syntax: &SyntaxReference,
     out: &mut BTreeSet<String>,
 ) -> Result<(), AllocError>
-    ensures { IfOk result (λ _. map string_bytes out.new.keys ≡ with_texts (map string_bytes out.old.keys) (unlinked_of repository.now syntax.now)) }
+    ensures { IfOk result (λ _. map string_bytes out.new.keys
+        ≡ with_texts (map string_bytes out.old.keys) (unlinked_of repository.now syntax.now)) }
 {
     for context in syntax.contexts.as_slice() {
         add_patterns(alloc, repository, syntax, context.patterns.as_slice(), out)?;

@@ -41,7 +41,9 @@ abbrev pub enter : List ℕ → Reading → Reading
 enter name s = record s { top = name; begun = [] }
 
 abbrev pub top_context : Option (List ℕ) → Option (List Node) → Step (List ℕ)
-top_context (Some name) (Some items) = λ s. named_context (context deepest) name (not (bytes_eq name prototype_name)) items (enter name s)
+top_context (Some name) (Some items) =
+    λ s. named_context (context deepest) name (not (bytes_eq name prototype_name)) items
+    (enter name s)
 top_context (Some name) None = give []
 top_context None items = give []
 
@@ -65,7 +67,11 @@ start_match = record {
 
 -- reading begins in a context that pushes the outer one at once, under the scope of the grammar
 abbrev pub start_context : List ℕ → Context
-start_context top_scope = record (new_context false) { meta_content_scope = top_scope ∷ []; patterns = Match start_match ∷ [] }
+start_context top_scope =
+    record (new_context false) {
+      meta_content_scope = top_scope ∷ [];
+      patterns = Match start_match ∷ [];
+    }
 
 -- the outer one has the scopes of `main`, and its patterns
 abbrev pub outer_context : Context → Context
@@ -77,7 +83,8 @@ outer_context main = record (new_context main.meta_include_prototype) {
 
 -- where another syntax opens it, `main` gives the scope of the grammar
 abbrev pub main_context : List ℕ → Context → Context
-main_context top_scope main = record main { meta_content_scope = top_scope ∷ main.meta_content_scope }
+main_context top_scope main =
+    record main { meta_content_scope = top_scope ∷ main.meta_content_scope }
 
 -- the other contexts, with those of the start and `main` in its last form
 abbrev pub around_main : List ℕ → Context → List (List ℕ × Context) → List (List ℕ × Context)
@@ -87,7 +94,8 @@ around_main top_scope main others =
     (put start_name (start_context top_scope) others))
 
 abbrev pub with_start : List ℕ → Context → List (List ℕ × Context) → List (List ℕ × Context)
-with_start top_scope main contexts = around_main top_scope main (remove_entry (is_at (slice_cmp nat_cmp main_name)) contexts)
+with_start top_scope main contexts =
+    around_main top_scope main (remove_entry (is_at (slice_cmp nat_cmp main_name)) contexts)
 
 -- ---- the other keys ----
 
@@ -96,7 +104,9 @@ abbrev pub texts_in : Option (List Node) → List (List ℕ)
 texts_in items = unwrap_or (option_map (filter_map text_in) items) []
 
 abbrev pub extensions : Node → List (List ℕ)
-extensions v = texts_in (at list_in (codes "file_extensions") v) ++ texts_in (at list_in (codes "hidden_file_extensions") v)
+extensions v =
+    texts_in (at list_in (codes "file_extensions") v)
+    ++ texts_in (at list_in (codes "hidden_file_extensions") v)
 
 abbrev pub name_of : Node → Option (List ℕ) → List ℕ
 name_of v fallback = unwrap_or (at text_in (codes "name") v) (unwrap_or fallback (codes "Unnamed"))
@@ -104,7 +114,8 @@ name_of v fallback = unwrap_or (at text_in (codes "name") v) (unwrap_or fallback
 abbrev pub is_hidden : Node → Bool
 is_hidden v = unwrap_or (at truth_in (codes "hidden") v) false
 
-abbrev pub variable : List (List ℕ × List ℕ) → Option (List ℕ) → Option (List ℕ) → List (List ℕ × List ℕ)
+abbrev pub variable : List (List ℕ × List ℕ) → Option (List ℕ) → Option (List ℕ)
+    → List (List ℕ × List ℕ)
 variable found (Some name) (Some text) = insert_entry (slice_cmp nat_cmp) found name text
 variable found (Some name) None = found
 variable found None text = found
@@ -131,7 +142,8 @@ nothing_read variables lines_include_newline repository = record {
 }
 
 -- the definition of these contexts
-abbrev pub defined : Node → List (List ℕ × List ℕ) → Option (List ℕ) → List ℕ → List (List ℕ × Context) → SyntaxDefinition
+abbrev pub defined : Node → List (List ℕ × List ℕ) → Option (List ℕ) → List ℕ
+    → List (List ℕ × Context) → SyntaxDefinition
 defined v variables fallback top_scope contexts = record {
   name = name_of v fallback;
   file_extensions = extensions v;
@@ -167,31 +179,46 @@ read_contexts v =
     (top_contexts contexts >>= λ none.
     give top_scope))))
 
-abbrev pub finished_with : Node → List (List ℕ × List ℕ) → Option (List ℕ) → List ℕ → List (List ℕ × Context) → Option Context → Result SyntaxDefinition Refusal
+abbrev pub finished_with : Node → List (List ℕ × List ℕ) → Option (List ℕ) → List ℕ
+    → List (List ℕ × Context) → Option Context → Result SyntaxDefinition Refusal
 finished_with v variables fallback top_scope contexts None = Err no_main
-finished_with v variables fallback top_scope contexts (Some main) = Ok (defined v variables fallback top_scope (with_start top_scope main contexts))
+finished_with v variables fallback top_scope contexts (Some main) =
+    Ok (defined v variables fallback top_scope (with_start top_scope main contexts))
 
 -- the definition, where one of the contexts is `main`
-abbrev pub finished : Node → List (List ℕ × List ℕ) → Option (List ℕ) → List ℕ → List (List ℕ × Context) → Result SyntaxDefinition Refusal
-finished v variables fallback top_scope contexts = finished_with v variables fallback top_scope contexts (lookup (is_at (slice_cmp nat_cmp main_name)) contexts)
+abbrev pub finished : Node → List (List ℕ × List ℕ) → Option (List ℕ) → List ℕ
+    → List (List ℕ × Context) → Result SyntaxDefinition Refusal
+finished v variables fallback top_scope contexts =
+    finished_with v variables fallback top_scope contexts
+    (lookup (is_at (slice_cmp nat_cmp main_name)) contexts)
 
-abbrev pub leaving : List (List ℕ) → Result SyntaxDefinition Refusal → Result (SyntaxDefinition × List (List ℕ)) Refusal
+abbrev pub leaving : List (List ℕ) → Result SyntaxDefinition Refusal
+    → Result (SyntaxDefinition × List (List ℕ)) Refusal
 leaving repository (Ok d) = Ok (d, repository)
 leaving repository (Err r) = Err r
 
-abbrev pub finish : Node → Option (List ℕ) → Result (List ℕ × Reading) Refusal → Result (SyntaxDefinition × List (List ℕ)) Refusal
+abbrev pub finish : Node → Option (List ℕ) → Result (List ℕ × Reading) Refusal
+    → Result (SyntaxDefinition × List (List ℕ)) Refusal
 finish v fallback (Err r) = Err r
-finish v fallback (Ok p) = leaving p.1.repository (finished v p.1.variables fallback p.0 p.1.contexts)
+finish v fallback (Ok p) =
+    leaving p.1.repository (finished v p.1.variables fallback p.0 p.1.contexts)
 
 -- the definition of a value, and the repository that it leaves; or the first refusal
-abbrev pub definition_of : Node → Bool → Option (List ℕ) → List (List ℕ) → Result (SyntaxDefinition × List (List ℕ)) Refusal
-definition_of v lines_include_newline fallback repository = finish v fallback (read_contexts v (nothing_read (variables_at v) lines_include_newline repository))
+abbrev pub definition_of : Node → Bool → Option (List ℕ) → List (List ℕ)
+    → Result (SyntaxDefinition × List (List ℕ)) Refusal
+definition_of v lines_include_newline fallback repository =
+    finish v fallback (read_contexts v (nothing_read
+    (variables_at v) lines_include_newline repository))
 
-abbrev pub definition_in : Option (Option Node) → Bool → Option (List ℕ) → List (List ℕ) → Result (SyntaxDefinition × List (List ℕ)) Refusal
+abbrev pub definition_in : Option (Option Node) → Bool → Option (List ℕ) → List (List ℕ)
+    → Result (SyntaxDefinition × List (List ℕ)) Refusal
 definition_in None lines_include_newline fallback repository = Err no_value
 definition_in (Some None) lines_include_newline fallback repository = Err no_node
-definition_in (Some (Some v)) lines_include_newline fallback repository = definition_of v lines_include_newline fallback repository
+definition_in (Some (Some v)) lines_include_newline fallback repository =
+    definition_of v lines_include_newline fallback repository
 
 -- the definition of a text
-abbrev pub loaded : List ℕ → Bool → Option (List ℕ) → List (List ℕ) → Result (SyntaxDefinition × List (List ℕ)) Refusal
-loaded text lines_include_newline fallback repository = definition_in (yaml_of text) lines_include_newline fallback repository
+abbrev pub loaded : List ℕ → Bool → Option (List ℕ) → List (List ℕ)
+    → Result (SyntaxDefinition × List (List ℕ)) Refusal
+loaded text lines_include_newline fallback repository =
+    definition_in (yaml_of text) lines_include_newline fallback repository

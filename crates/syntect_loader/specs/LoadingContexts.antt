@@ -55,12 +55,14 @@ cleared_by (Some false) None = None
 cleared_by None None = None
 
 abbrev pub cleared : Node → Option ClearAmount
-cleared m = cleared_by (at truth_in (codes "clear_scopes") m) (at number_in (codes "clear_scopes") m)
+cleared m =
+    cleared_by (at truth_in (codes "clear_scopes") m) (at number_in (codes "clear_scopes") m)
 
 -- the item sets something, and has no other effect
 abbrev pub is_setting : Node → Bool
 is_setting m =
-    (is_some (at text_in (codes "meta_scope") m) || is_some (at text_in (codes "meta_content_scope") m))
+    (is_some (at text_in (codes "meta_scope") m)
+    || is_some (at text_in (codes "meta_content_scope") m))
     || (is_some (at truth_in (codes "meta_include_prototype") m) || is_some (cleared m))
 
 -- the first of these that there is
@@ -97,7 +99,11 @@ new_context wants_prototype = record {
 
 -- a pattern of the context; one that pops and refers back marks it
 abbrev pub with_match : Context → MatchPattern → Context
-with_match c m = record c { uses_backrefs = c.uses_backrefs || m.has_captures; patterns = c.patterns ++ Match m ∷ [] }
+with_match c m =
+    record c {
+      uses_backrefs = c.uses_backrefs || m.has_captures;
+      patterns = c.patterns ++ Match m ∷ [];
+    }
 
 abbrev pub with_include : Context → ContextReference → Context
 with_include c r = record c { patterns = c.patterns ++ Include r ∷ [] }
@@ -106,7 +112,9 @@ with_include c r = record c { patterns = c.patterns ++ Include r ∷ [] }
 
 -- the captures of a pattern, if there is a map of them
 abbrev pub captures_at : Node → List ℕ → Step (Option (List (ℕ × Scopes)))
-captures_at m tested = perhaps (λ es. captures tested es >>= λ cs. give (Some cs)) None (at map_in (codes "captures") m)
+captures_at m tested =
+    perhaps (λ es. captures tested es >>= λ cs. give (Some cs)) None
+    (at map_in (codes "captures") m)
 
 abbrev pub pattern_by : Option Node → Reading → Result (List ℕ) Refusal
 pattern_by None s = Err (missing (codes "match"))
@@ -157,7 +165,8 @@ module _ (inner : Bool → List Node → Step (List ℕ)) where
   abbrev pub embedded : Node → Node → Step MatchOperation
   embedded m v = embedded_until m v (get (codes "escape") m)
 
-  abbrev pub operation_by : Node → Option Node → Option Node → Option Node → Option Node → Step MatchOperation
+  abbrev pub operation_by : Node → Option Node → Option Node → Option Node → Option Node
+      → Step MatchOperation
   operation_by m (Some pop) push set embed = give op.Pop
   operation_by m None (Some v) set embed = references v >>= λ rs. give (op.Push rs)
   operation_by m None None (Some v) embed = references v >>= λ rs. give (op.Set rs)
@@ -166,11 +175,15 @@ module _ (inner : Bool → List Node → Step (List ℕ)) where
 
   -- what a match does: a pop with any value, else a push, else a set, else an embed
   abbrev pub operation : Node → Step MatchOperation
-  operation m = operation_by m (get (codes "pop") m) (get (codes "push") m) (get (codes "set") m) (get (codes "embed") m)
+  operation m =
+      operation_by m (get (codes "pop") m) (get (codes "push") m) (get (codes "set") m)
+      (get (codes "embed") m)
 
   abbrev pub ahead_of : Option Node → Step (Option ContextReference)
   ahead_of None = give None
-  ahead_of (Some escape) = known wrong_kind (text_in escape) >>= λ text. (inline false (ahead_items text) >>= λ r. give (Some r))
+  ahead_of (Some escape) =
+      known wrong_kind (text_in escape) >>= λ text.
+      (inline false (ahead_items text) >>= λ r. give (Some r))
 
   abbrev pub prototype_by : Option (List Node) → Option Node → Step (Option ContextReference)
   prototype_by (Some items) escape = inline false items >>= λ r. give (Some r)
@@ -210,9 +223,11 @@ module _ (inner : Bool → List Node → Step (List ℕ)) where
 
   -- a context of this name, recorded when all of its items have been read
   abbrev pub named_context : List ℕ → Bool → List Node → Step (List ℕ)
-  named_context name wants_prototype items = each item (new_context wants_prototype) items >>= λ c. keep name c
+  named_context name wants_prototype items =
+      each item (new_context wants_prototype) items >>= λ c. keep name c
 
 -- a context inside of another, where contexts nest fewer than n deep
 unfoldable pub context : ℕ → Bool → List Node → Step (List ℕ)
 context zero wants_prototype items = refuse wrong_kind
-context (suc n) wants_prototype items = begin >>= λ name. named_context (context n) name wants_prototype items
+context (suc n) wants_prototype items =
+    begin >>= λ name. named_context (context n) name wants_prototype items

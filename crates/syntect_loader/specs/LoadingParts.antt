@@ -25,11 +25,14 @@ with_repository repository s = record s { repository = repository }
 
 abbrev pub scopes_unless : Option ParseScopeError → List (List ℕ) → List (List ℕ) → Step Scopes
 scopes_unless (Some e) repository texts s = Err (no_scope e)
-scopes_unless None repository texts s = Ok (map (scope_in repository) texts, with_repository repository s)
+scopes_unless None repository texts s =
+    Ok (map (scope_in repository) texts, with_repository repository s)
 
 -- the scopes that a text names, taken up into the repository
 abbrev pub scopes : List ℕ → Step Scopes
-scopes text s = scopes_unless (first_refusal s.repository (words text)) (with_scopes s.repository (words text)) (words text) s
+scopes text s =
+    scopes_unless (first_refusal s.repository (words text)) (with_scopes s.repository (words text))
+    (words text) s
 
 abbrev pub scope_unless : Option ParseScopeError → List (List ℕ) → List ℕ → Step (List ℕ)
 scope_unless (Some e) repository text s = Err (no_scope e)
@@ -37,7 +40,9 @@ scope_unless None repository text s = Ok (scope_in repository text, with_reposit
 
 -- the one scope of a text
 abbrev pub scope : List ℕ → Step (List ℕ)
-scope text s = scope_unless (first_refusal s.repository (text ∷ [])) (with_atoms s.repository (atom_texts text)) text s
+scope text s =
+    scope_unless (first_refusal s.repository (text ∷ []))
+    (with_atoms s.repository (atom_texts text)) text s
 
 -- ---- patterns ----
 
@@ -49,7 +54,8 @@ is_pattern text = is_some (pattern_tree text)
 abbrev pub expression : List ℕ → Reading → Result (List ℕ) Refusal
 expression raw s =
     let text = rewritten s.variables s.lines_include_newline raw in
-    if is_pattern (tested_text text) then Ok text else Err (no_pattern (tested_text text) NotAPattern)
+    if is_pattern (tested_text text) then Ok text
+    else Err (no_pattern (tested_text text) NotAPattern)
 
 -- ---- captures ----
 
@@ -67,7 +73,9 @@ is_outside None = false
 
 abbrev pub group_outside : List ℕ → Option ℕ → Option ℕ
 group_outside text None = None
-group_outside text (Some n) = if is_outside (option_and_then (λ tree. group_in_look tree n) (pattern_tree text)) then Some n else None
+group_outside text (Some n) =
+    if is_outside (option_and_then (λ tree. group_in_look tree n) (pattern_tree text)) then Some n
+    else None
 
 -- the group of a capture's key, where it counts
 abbrev pub capture_group : List ℕ → Scalar → Option ℕ
@@ -88,8 +96,10 @@ captures text es = each (capture text) [] es
 
 -- ---- references by text ----
 
-abbrev pub reference_unless : Option (List ℕ) → Bool → List ℕ → Option (List ℕ) → Step ContextReference
-reference_unless (Some text) with_escape name sub = scope text >>= λ s. give (ByScope s sub with_escape)
+abbrev pub reference_unless : Option (List ℕ) → Bool → List ℕ → Option (List ℕ)
+    → Step ContextReference
+reference_unless (Some text) with_escape name sub =
+    scope text >>= λ s. give (ByScope s sub with_escape)
 reference_unless None with_escape name sub =
     if is_file name then give (File (file_name name) sub with_escape)
     else give (Named name)

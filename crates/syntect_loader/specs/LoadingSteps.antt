@@ -43,7 +43,8 @@ abbrev pub Fails : {B : Type 0} → Result B Refusal → ParseSyntaxError → Ty
 Fails answer e = (r : Refusal) → seen e ≡ Some r → answer ≡ Err r
 
 -- the result, seen by f, and what has been read after it, are the answer, unless memory ran out
-abbrev pub Gives : {A B : Type 0} → (A → B) → Result A ParseSyntaxError → Reading → Result (B × Reading) Refusal → Type 0
+abbrev pub Gives : {A B : Type 0} → (A → B) → Result A ParseSyntaxError → Reading
+    → Result (B × Reading) Refusal → Type 0
 Gives f (Ok a) after answer = answer ≡ Ok (f a, after)
 Gives f (Err e) after answer = Fails answer e
 
@@ -72,7 +73,8 @@ give a s = Ok (a, s)
 abbrev pub refuse : {A : Type 0} → Refusal → Step A
 refuse r s = Err r
 
-abbrev pub on : {A B : Type 0} → Result (A × Reading) Refusal → (A → Step B) → Result (B × Reading) Refusal
+abbrev pub on : {A B : Type 0} → Result (A × Reading) Refusal → (A → Step B)
+    → Result (B × Reading) Refusal
 on (Ok p) f = f p.0 p.1
 on (Err r) f = Err r
 

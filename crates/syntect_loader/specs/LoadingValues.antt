@@ -64,7 +64,8 @@ file_ending = codes ".sublime-syntax"
 
 -- what stands behind the mark of a scope
 abbrev pub scope_text : List ℕ → Option (List ℕ)
-scope_text name = if starts_with eqb name scope_mark then Some (drop (length scope_mark) name) else None
+scope_text name =
+    if starts_with eqb name scope_mark then Some (drop (length scope_mark) name) else None
 
 -- the name is that of a grammar's file
 abbrev pub is_file : List ℕ → Bool
@@ -72,7 +73,9 @@ is_file name = ends_with eqb name file_ending
 
 -- the text without the ending of a file, unless nothing is left
 abbrev pub without_ending : List ℕ → List ℕ
-without_ending t = if is_file t && nat_lt (length file_ending) (length t) then take (length t - length file_ending) t else t
+without_ending t =
+    if is_file t && nat_lt (length file_ending) (length t)
+    then take (length t - length file_ending) t else t
 
 -- the name of the syntax that a file holds: the part behind the last `/`, without the ending
 abbrev pub file_name : List ℕ → List ℕ
@@ -102,7 +105,8 @@ is_list_with p v = list_is (list_in v)
 -- What a push or a set has is told by the first member of its list. A text there is the first of several names, a list with
 -- a map in front is the first of several contexts, and an empty list means that nothing is pushed. All else is one reference.
 abbrev pub is_several : Node → Bool
-is_several = is_list_with (begins_with (λ v. is_some (text_in v) || is_list_with (begins_with is_map) v))
+is_several =
+    is_list_with (begins_with (λ v. is_some (text_in v) || is_list_with (begins_with is_map) v))
 
 abbrev pub is_none : Node → Bool
 is_none = is_list_with (begins_with (is_list_with is_empty))
@@ -138,7 +142,9 @@ lent v = option_map (λ w. view w.now) v
 
 -- the entries of an item that leaves its context at a pattern, perhaps with captures
 abbrev pub leaving : Node → Option Node → List (List ℕ × Node)
-leaving pattern captures = (codes "match", pattern) ∷ ((codes "pop", truth_node true) ∷ perhaps_entry (codes "captures") captures)
+leaving pattern captures =
+    (codes "match", pattern)
+    ∷ ((codes "pop", truth_node true) ∷ perhaps_entry (codes "captures") captures)
 
 -- the items of the context that an `embed` pushes first: it wants no prototype, has the `embed_scope` on its text, and is
 -- left at the `escape`

@@ -24,7 +24,8 @@ NamesNoNumber (Include r ∷ ps) = NamesNoNumber ps
 -- no context of these names a context by its number, be it as prototype
 abbrev pub KnowNoNumber : List (List ℕ × Context) → Type 0
 KnowNoNumber [] = Unit {0}
-KnowNoNumber (entry ∷ entries) = (entry.1.prototype ≡ None) × NamesNoNumber entry.1.patterns × KnowNoNumber entries
+KnowNoNumber (entry ∷ entries) =
+    (entry.1.prototype ≡ None) × NamesNoNumber entry.1.patterns × KnowNoNumber entries
 
 -- definitions whose references are all by name, and that give no context a prototype
 abbrev pub AreByName : List SyntaxDefinition → Type 0
@@ -33,5 +34,7 @@ AreByName (d ∷ ds) = KnowNoNumber d.contexts × AreByName ds
 
 -- A definition that was loaded names no context by its number, and gives none a prototype by hand.
 abbrev pub LoadedByName : Type 0
-LoadedByName = (text : List ℕ) (lines_include_newline : Bool) (fallback : Option (List ℕ)) (repository : List (List ℕ)) (d : SyntaxDefinition) (left : List (List ℕ))
+LoadedByName =
+    (text : List ℕ) (lines_include_newline : Bool) (fallback : Option (List ℕ))
+    (repository : List (List ℕ)) (d : SyntaxDefinition) (left : List (List ℕ))
     → loaded text lines_include_newline fallback repository ≡ Ok (d, left) → KnowNoNumber d.contexts

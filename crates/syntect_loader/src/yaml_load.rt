@@ -39,7 +39,9 @@ fn top_context(
     name: Option<&str>,
     items: Option<&[Yaml]>,
 ) -> Result<Text, ParseSyntaxError>
-    ensures value { Gives (λ t. t) result reading.new (loading.top_context (option_map (λ t. t.now) name.entry) (option_map (λ v. map view v.now) items.entry) reading.old) }
+    ensures value { Gives (λ t. t) result reading.new
+        (loading.top_context (option_map (λ t. t.now) name.entry)
+        (option_map (λ v. map view v.now) items.entry) reading.old) }
     ensures kept { Keeps reading.old.repository reading.new.repository }
 {
     let (Some(name), Some(items)) = (name, items) else {
@@ -58,7 +60,8 @@ fn top_contexts(
     reading: &mut Reading,
     entries: &[(Scalar, Yaml)],
 ) -> Result<(), ParseSyntaxError>
-    ensures value { Gives (λ _. []) result reading.new (loading.top_contexts (map entry_view entries.now) reading.old) }
+    ensures value { Gives (λ _. []) result reading.new
+        (loading.top_contexts (map entry_view entries.now) reading.old) }
     ensures kept { Keeps reading.old.repository reading.new.repository }
 {
     for entry in entries {
@@ -102,7 +105,8 @@ fn read_contexts(
     reading: &mut Reading,
     value: &Yaml,
 ) -> Result<Scope, ParseSyntaxError>
-    ensures value { Gives (λ s. s) result reading.new (loading.read_contexts (view value.now) reading.old) }
+    ensures value { Gives (λ s. s) result reading.new
+        (loading.read_contexts (view value.now) reading.old) }
     ensures kept { Keeps reading.old.repository reading.new.repository }
 {
     if map_of(value).is_none() {
@@ -196,7 +200,8 @@ fn with_start(
 
 /// Adds the texts of a list.
 fn add_texts(alloc: Global, texts: &mut Seq<Text>, items: Option<&[Yaml]>) -> Result<(), AllocError>
-    ensures { OnOk result (texts.new ≡ texts.old ++ loading.texts_in (option_map (λ v. map view v.now) items.entry)) }
+    ensures { OnOk result (texts.new ≡ texts.old
+        ++ loading.texts_in (option_map (λ v. map view v.now) items.entry)) }
 {
     let Some(values) = items else {
         return Ok(());
@@ -226,7 +231,8 @@ fn add_variable(
     name: Option<&str>,
     text: Option<&str>,
 ) -> Result<(), AllocError>
-    ensures { OnOk result (variables.new ≡ loading.variable variables.old (option_map (λ t. t.now) name.entry) (option_map (λ t. t.now) text.entry)) }
+    ensures { OnOk result (variables.new ≡ loading.variable variables.old
+        (option_map (λ t. t.now) name.entry) (option_map (λ t. t.now) text.entry)) }
 {
     if let (Some(name), Some(text)) = (name, text) {
         let _ = variables.insert(Text::from_str(alloc, name)?, Text::from_str(alloc, text)?)?;
@@ -250,7 +256,8 @@ fn variables_of(alloc: Global, value: &Yaml) -> Result<Table<Text, Text>, AllocE
 
 /// The name of the syntax.
 fn name_of(alloc: Global, value: &Yaml, fallback: Option<&str>) -> Result<Text, AllocError>
-    ensures { IfOk result (λ name. name ≡ loading.name_of (view value.now) (option_map (λ t. t.now) fallback.entry)) }
+    ensures { IfOk result (λ name. name ≡ loading.name_of (view value.now)
+        (option_map (λ t. t.now) fallback.entry)) }
 {
     match (text_at(value, "name"), fallback) {
         (Some(name), _) | (None, Some(name)) => Text::from_str(alloc, name),
@@ -287,7 +294,9 @@ fn finish(
     variables: Table<Text, Text>,
     mut contexts: Table<Text, Context>,
 ) -> Result<SyntaxDefinition, ParseSyntaxError>
-    ensures { Finds (λ d. d) result (loading.finished (view value.now) variables (option_map (λ t. t.now) fallback_name.entry) scope contexts) }
+    ensures { Finds (λ d. d) result
+        (loading.finished (view value.now) variables
+        (option_map (λ t. t.now) fallback_name.entry) scope contexts) }
 {
     let Some(main) = contexts.remove(&Text::from_str(alloc, "main")?) else {
         return Err(ParseSyntaxError::MainMissing);
@@ -312,7 +321,9 @@ fn definition(
     fallback_name: Option<&str>,
     repository: &mut ScopeRepository,
 ) -> Result<SyntaxDefinition, ParseSyntaxError>
-    ensures value { Finds (λ d. (d, repository.new)) result (loading.definition_of (view value.now) lines_include_newline (option_map (λ t. t.now) fallback_name.entry) repository.old) }
+    ensures value { Finds (λ d. (d, repository.new)) result
+        (loading.definition_of (view value.now) lines_include_newline
+        (option_map (λ t. t.now) fallback_name.entry) repository.old) }
     ensures kept { Keeps repository.old repository.new }
 {
     let variables = variables_of(alloc, value)?;
@@ -362,7 +373,9 @@ impl SyntaxDefinition {
         fallback_name: Option<&str>,
         repository: &mut ScopeRepository,
     ) -> Result<SyntaxDefinition, ParseSyntaxError>
-        ensures value { Finds (λ d. (d, repository.new)) result (loading.loaded s.now lines_include_newline (option_map (λ t. t.now) fallback_name.entry) repository.old) }
+        ensures value { Finds (λ d. (d, repository.new)) result
+            (loading.loaded s.now lines_include_newline
+            (option_map (λ t. t.now) fallback_name.entry) repository.old) }
         ensures kept { Keeps repository.old repository.new }
     {
         let value = match read(alloc, s) {

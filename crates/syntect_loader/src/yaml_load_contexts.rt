@@ -85,7 +85,8 @@ fn set(
     context: Context,
     map: &Yaml,
 ) -> Result<Context, ParseSyntaxError>
-    ensures value { Gives (λ c. c) result reading.new (contexts.set context (view map.now) reading.old) }
+    ensures value { Gives (λ c. c) result reading.new
+        (contexts.set context (view map.now) reading.old) }
     ensures kept { Keeps reading.old.repository reading.new.repository }
 {
     let Context {
@@ -130,7 +131,8 @@ fn with_match(mut context: Context, pattern: MatchPattern) -> Result<Context, Al
 
 /// The pattern of a match.
 fn pattern_of(alloc: Global, reading: &Reading, map: &Yaml) -> Result<Compiled, ParseSyntaxError>
-    ensures value { Finds (λ e. string_bytes e.text) result (contexts.pattern_at (view map.now) reading.now) }
+    ensures value { Finds (λ e. string_bytes e.text) result
+        (contexts.pattern_at (view map.now) reading.now) }
     ensures tested { IfOk result (λ e. e.tested ≡ tested_text (string_bytes e.text)) }
 {
     let Some(value) = map.get("match") else {
@@ -149,7 +151,8 @@ fn captures_at(
     map: &Yaml,
     tested: &Regex,
 ) -> Result<Option<CaptureMapping>, ParseSyntaxError>
-    ensures value { Gives (λ c. c) result reading.new (contexts.captures_at (view map.now) tested.now reading.old) }
+    ensures value { Gives (λ c. c) result reading.new
+        (contexts.captures_at (view map.now) tested.now reading.old) }
     ensures kept { Keeps reading.old.repository reading.new.repository }
 {
     match map_at(map, "captures") {
@@ -178,7 +181,8 @@ pub(crate) fn context(
     wants_prototype: bool,
     items: &[Yaml],
 ) -> Result<Text, ParseSyntaxError>
-    ensures value { Gives (λ t. t) result reading.new (context room wants_prototype (map view items.now) reading.old) }
+    ensures value { Gives (λ t. t) result reading.new
+        (context room wants_prototype (map view items.now) reading.old) }
     ensures kept { Keeps reading.old.repository reading.new.repository }
 {
     if room == 0 {
@@ -199,7 +203,9 @@ pub(crate) fn named_context(
     wants_prototype: bool,
     items: &[Yaml],
 ) -> Result<Text, ParseSyntaxError>
-    ensures value { Gives (λ t. t) result reading.new (contexts.named_context (context room) name wants_prototype (map view items.now) reading.old) }
+    ensures value { Gives (λ t. t) result reading.new
+        (contexts.named_context (context room) name wants_prototype
+        (map view items.now) reading.old) }
     ensures kept { Keeps reading.old.repository reading.new.repository }
 {
     let mut context = Context::new(alloc, wants_prototype);
@@ -222,7 +228,8 @@ fn item(
     so_far: Context,
     value: &Yaml,
 ) -> Result<Context, ParseSyntaxError>
-    ensures value { Gives (λ c. c) result reading.new (contexts.item (context room) so_far (view value.now) reading.old) }
+    ensures value { Gives (λ c. c) result reading.new
+        (contexts.item (context room) so_far (view value.now) reading.old) }
     ensures kept { Keeps reading.old.repository reading.new.repository }
 {
     if map_of(value).is_none() {
@@ -252,7 +259,8 @@ fn reference(
     with_escape: bool,
     value: &Yaml,
 ) -> Result<ContextReference, ParseSyntaxError>
-    ensures value { Gives (λ r. r) result reading.new (contexts.reference (context room) with_escape (view value.now) reading.old) }
+    ensures value { Gives (λ r. r) result reading.new
+        (contexts.reference (context room) with_escape (view value.now) reading.old) }
     ensures kept { Keeps reading.old.repository reading.new.repository }
 {
     if let Some(text) = value.as_str() {
@@ -273,7 +281,8 @@ fn add_reference(
     mut found: Seq<ContextReference>,
     value: &Yaml,
 ) -> Result<Seq<ContextReference>, ParseSyntaxError>
-    ensures value { Gives (λ r. r) result reading.new (contexts.add_reference (context room) found (view value.now) reading.old) }
+    ensures value { Gives (λ r. r) result reading.new
+        (contexts.add_reference (context room) found (view value.now) reading.old) }
     ensures kept { Keeps reading.old.repository reading.new.repository }
 {
     let one = reference(alloc, reading, room, false, value)?;
@@ -290,7 +299,8 @@ fn references(
     room: usize,
     value: &Yaml,
 ) -> Result<Seq<ContextReference>, ParseSyntaxError>
-    ensures value { Gives (λ r. r) result reading.new (contexts.references (context room) (view value.now) reading.old) }
+    ensures value { Gives (λ r. r) result reading.new
+        (contexts.references (context room) (view value.now) reading.old) }
     ensures kept { Keeps reading.old.repository reading.new.repository }
 {
     if is_none(value) {
@@ -322,7 +332,8 @@ fn embedded(
     map: &Yaml,
     value: &Yaml,
 ) -> Result<MatchOperation, ParseSyntaxError>
-    ensures value { Gives (λ o. o) result reading.new (contexts.embedded (context room) (view map.now) (view value.now) reading.old) }
+    ensures value { Gives (λ o. o) result reading.new
+        (contexts.embedded (context room) (view map.now) (view value.now) reading.old) }
     ensures kept { Keeps reading.old.repository reading.new.repository }
 {
     let Some(escape) = map.get("escape") else {
@@ -345,7 +356,8 @@ fn operation(
     room: usize,
     map: &Yaml,
 ) -> Result<MatchOperation, ParseSyntaxError>
-    ensures value { Gives (λ o. o) result reading.new (contexts.operation (context room) (view map.now) reading.old) }
+    ensures value { Gives (λ o. o) result reading.new
+        (contexts.operation (context room) (view map.now) reading.old) }
     ensures kept { Keeps reading.old.repository reading.new.repository }
 {
     if map.get("pop").is_some() {
@@ -371,7 +383,8 @@ fn with_prototype(
     room: usize,
     map: &Yaml,
 ) -> Result<Option<ContextReference>, ParseSyntaxError>
-    ensures value { Gives (λ p. p) result reading.new (contexts.with_prototype (context room) (view map.now) reading.old) }
+    ensures value { Gives (λ p. p) result reading.new
+        (contexts.with_prototype (context room) (view map.now) reading.old) }
     ensures kept { Keeps reading.old.repository reading.new.repository }
 {
     if let Some(items) = list_at(map, "with_prototype") {
@@ -397,7 +410,8 @@ fn match_pattern(
     room: usize,
     map: &Yaml,
 ) -> Result<MatchPattern, ParseSyntaxError>
-    ensures value { Gives (λ p. p) result reading.new (contexts.match (context room) (view map.now) reading.old) }
+    ensures value { Gives (λ p. p) result reading.new
+        (contexts.match (context room) (view map.now) reading.old) }
     ensures kept { Keeps reading.old.repository reading.new.repository }
 {
     let pattern = pattern_of(alloc, reading, map)?;

@@ -28,7 +28,8 @@ pub(crate) fn scopes_or(
     text: Option<&str>,
     otherwise: Seq<Scope>,
 ) -> Result<Seq<Scope>, ParseSyntaxError>
-    ensures value { Gives (λ s. s) result reading.new (perhaps parts.scopes otherwise (option_map (λ t. t.now) text.entry) reading.old) }
+    ensures value { Gives (λ s. s) result reading.new
+        (perhaps parts.scopes otherwise (option_map (λ t. t.now) text.entry) reading.old) }
     ensures kept { Keeps reading.old.repository reading.new.repository }
 {
     match text {
@@ -100,7 +101,8 @@ fn add_capture(
     group: Option<usize>,
     text: Option<&str>,
 ) -> Result<CaptureMapping, ParseSyntaxError>
-    ensures value { Gives (λ c. c) result reading.new (parts.add_capture found group (option_map (λ t. t.now) text.entry) reading.old) }
+    ensures value { Gives (λ c. c) result reading.new
+        (parts.add_capture found group (option_map (λ t. t.now) text.entry) reading.old) }
     ensures kept { Keeps reading.old.repository reading.new.repository }
 {
     match (group, text) {
@@ -121,7 +123,8 @@ pub(crate) fn captures(
     tested: &Regex,
     entries: &[(Scalar, Yaml)],
 ) -> Result<CaptureMapping, ParseSyntaxError>
-    ensures value { Gives (λ c. c) result reading.new (parts.captures tested.now (map entry_view entries.now) reading.old) }
+    ensures value { Gives (λ c. c) result reading.new
+        (parts.captures tested.now (map entry_view entries.now) reading.old) }
     ensures kept { Keeps reading.old.repository reading.new.repository }
 {
     let mut found = Seq::new(alloc);
@@ -211,7 +214,8 @@ fn named_reference(
     sub_context: Option<Text>,
     with_escape: bool,
 ) -> Result<ContextReference, ParseSyntaxError>
-    ensures value { Gives (λ r. r) result reading.new (parts.named_reference with_escape name.now sub_context reading.old) }
+    ensures value { Gives (λ r. r) result reading.new
+        (parts.named_reference with_escape name.now sub_context reading.old) }
     ensures kept { Keeps reading.old.repository reading.new.repository }
 {
     if let Some(text) = scope_text(name) {
@@ -239,7 +243,8 @@ pub(crate) fn text_reference(
     with_escape: bool,
     text: &str,
 ) -> Result<ContextReference, ParseSyntaxError>
-    ensures value { Gives (λ r. r) result reading.new (parts.text_reference with_escape text.now reading.old) }
+    ensures value { Gives (λ r. r) result reading.new
+        (parts.text_reference with_escape text.now reading.old) }
     ensures kept { Keeps reading.old.repository reading.new.repository }
 {
     let parts = parts_of(alloc, text)?;

@@ -151,7 +151,8 @@ fn truth_value(b: bool) -> Yaml
 
 /// Puts an entry last.
 fn push_entry(entries: &mut Entries, key: &str, value: Yaml) -> Result<(), AllocError>
-    ensures { OnOk result (map entry_view entries.new.items ≡ map entry_view entries.old.items ++ (scalar.Text key.now, view value) ∷ []) }
+    ensures { OnOk result (map entry_view entries.new.items
+        ≡ map entry_view entries.old.items ++ (scalar.Text key.now, view value) ∷ []) }
 {
     let alloc = *entries.allocator();
     let key = Scalar::Text(Text::from_str(alloc, key)?);
@@ -170,7 +171,8 @@ fn one_entry(alloc: Global, key: &str, value: Yaml) -> Result<Yaml, AllocError>
 
 /// The item of a context that leaves at a pattern, perhaps with captures.
 fn leaving(alloc: Global, pattern: Yaml, captures: Option<&Yaml>) -> Result<Yaml, AllocError>
-    ensures { IfOk result (λ v. view v ≡ values.map_node (values.leaving (view pattern) (values.lent captures.entry))) }
+    ensures { IfOk result (λ v. view v ≡ values.map_node
+        (values.leaving (view pattern) (values.lent captures.entry))) }
 {
     let mut entries = Vec::new(alloc);
     push_entry(&mut entries, "match", pattern)?;
@@ -188,7 +190,8 @@ pub(crate) fn escape_items(
     item: &Yaml,
     escape: &Yaml,
 ) -> Result<Vec<Yaml>, AllocError>
-    ensures { IfOk result (λ v. map view v.items ≡ values.escape_items (view item.now) (view escape.now)) }
+    ensures { IfOk result (λ v. map view v.items
+        ≡ values.escape_items (view item.now) (view escape.now)) }
 {
     let mut items = Vec::new(alloc);
     items.push(one_entry(alloc, "meta_include_prototype", truth_value(false))?)?;

@@ -43,7 +43,8 @@ pub data RefusesEntry (bytes : List ℕ) : LoadingError → Type 0 where
 -- why what a reader has left, where that is known, gives no entry: reading has a fault, or the bytes give none
 pub data RefusesRead (left : Option (List ℕ)) : LoadingError → Type 0 where
   not_read : {e : Error} → RefusesRead left (Io e)
-  refused : {bytes : List ℕ} {e : LoadingError} → IfSome left (λ xs. bytes ≡ xs) → RefusesEntry bytes e → RefusesRead left e
+  refused : {bytes : List ℕ} {e : LoadingError} → IfSome left (λ xs. bytes ≡ xs)
+      → RefusesEntry bytes e → RefusesRead left e
 
 -- why a file gives no entry
 abbrev pub IsEntryFault : LoadingError → Type 0

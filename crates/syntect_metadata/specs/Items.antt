@@ -15,7 +15,9 @@ use Rattle.syntect_metadata.specs.declared.items.Patterns.{Patterns}
 
 -- the keys of patterns
 abbrev pub pattern_keys : List (List ℕ)
-pattern_keys = codes "increaseIndentPattern" ∷ codes "decreaseIndentPattern" ∷ codes "bracketIndentNextLinePattern"
+pattern_keys =
+    codes "increaseIndentPattern" ∷ codes "decreaseIndentPattern"
+    ∷ codes "bracketIndentNextLinePattern"
     ∷ codes "disableIndentNextLinePattern" ∷ codes "unIndentedLinePattern" ∷ []
 
 -- the key of the variables
@@ -33,14 +35,17 @@ has_known_key d = list_any (λ key. is_some (get key d)) (variables_key ∷ pare
 -- ---- values ----
 
 -- the next answer, from the value of the first one; its refusal stays
-abbrev pub next : {X Y : Type 0} → Result X MetadataError → (X → Result Y MetadataError) → Result Y MetadataError
+abbrev pub next : {X Y : Type 0} → Result X MetadataError → (X → Result Y MetadataError)
+    → Result Y MetadataError
 next (Ok x) f = f x
 next (Err e) f = Err e
 
 -- what a value that may be missing or null says: nothing then
-abbrev pub optional : {X : Type 0} → (Data → Option X) → Option Data → Result (Option X) MetadataError
+abbrev pub optional : {X : Type 0} → (Data → Option X) → Option Data
+    → Result (Option X) MetadataError
 optional read None = Ok None
-optional read (Some d) = if is_some (as_null d) then Ok None else ok_or (option_map Some (read d)) BadItems
+optional read (Some d) =
+    if is_some (as_null d) then Ok None else ok_or (option_map Some (read d)) BadItems
 
 -- the pattern of a key, by its text
 abbrev pub pattern_at : List ℕ → Data → Result (Option (List ℕ)) MetadataError
@@ -49,7 +54,8 @@ pattern_at key d = optional as_str (get key d)
 -- the members of an object whose values are texts
 abbrev pub texts_in : Members → Option (List (List ℕ × List ℕ))
 texts_in no_members = Some []
-texts_in (member name d ms) = option_and_then (λ text. option_map (λ others. (name, text) ∷ others) (texts_in ms)) (as_str d)
+texts_in (member name d ms) =
+    option_and_then (λ text. option_map (λ others. (name, text) ∷ others) (texts_in ms)) (as_str d)
 
 -- the variables: none where the key is missing, else those of an object of texts
 abbrev pub variables_at : Option Data → Result (List (List ℕ × List ℕ)) MetadataError
@@ -68,7 +74,8 @@ line_mark vars start end = if is_some (variable end vars) then None else variabl
 
 -- the marks of a comment that has both
 abbrev pub block_marks : Option Data → List ℕ → List ℕ → Option (List ℕ × List ℕ)
-block_marks vars start end = option_and_then (λ s. option_map (λ e. (s, e)) (variable end vars)) (variable start vars)
+block_marks vars start end =
+    option_and_then (λ s. option_map (λ e. (s, e)) (variable end vars)) (variable start vars)
 
 -- the first of two that is there
 abbrev pub first_some : {X : Type 0} → Option X → Option X → Option X
@@ -83,13 +90,20 @@ line_comment vars = first_some (line_mark vars (codes "TM_COMMENT_START") (codes
 
 -- the first of them that has two marks
 abbrev pub block_comment : Option Data → Option (List ℕ × List ℕ)
-block_comment vars = first_some (block_marks vars (codes "TM_COMMENT_START") (codes "TM_COMMENT_END"))
+block_comment vars =
+    first_some (block_marks vars (codes "TM_COMMENT_START") (codes "TM_COMMENT_END"))
     (first_some (block_marks vars (codes "TM_COMMENT_START_2") (codes "TM_COMMENT_END_2"))
     (block_marks vars (codes "TM_COMMENT_START_3") (codes "TM_COMMENT_END_3")))
 
 -- the variables, and what they say of comments
 abbrev pub comments_at : Option Data → Result Comments MetadataError
-comments_at vars = next (variables_at vars) (λ variables. Ok (record { variables = variables; line = line_comment vars; block = block_comment vars }))
+comments_at vars =
+    next (variables_at vars)
+    (λ variables. Ok (record {
+      variables = variables;
+      line = line_comment vars;
+      block = block_comment vars;
+    }))
 
 -- ---- patterns ----
 
@@ -98,13 +112,15 @@ pair first second = record { first = first; second = second }
 
 -- the patterns of two keys
 abbrev pub pair_at : List ℕ → List ℕ → Data → Result Pair MetadataError
-pair_at first second d = next (pattern_at first d) (λ f. next (pattern_at second d) (λ s. Ok (pair f s)))
+pair_at first second d =
+    next (pattern_at first d) (λ f. next (pattern_at second d) (λ s. Ok (pair f s)))
 
 -- the patterns of an object, each at its key
 abbrev pub patterns_of : Data → Result Patterns MetadataError
 patterns_of d =
     next (pair_at (codes "increaseIndentPattern") (codes "decreaseIndentPattern") d) (λ indents.
-    next (pair_at (codes "bracketIndentNextLinePattern") (codes "disableIndentNextLinePattern") d) (λ next_line.
+    next (pair_at (codes "bracketIndentNextLinePattern") (codes "disableIndentNextLinePattern") d)
+    (λ next_line.
     next (pattern_at (codes "unIndentedLinePattern") d) (λ unindented.
     Ok (record { indents = indents; next_line = next_line; unindented = unindented }))))
 
@@ -132,7 +148,8 @@ patterns_in i = record {
 }
 
 abbrev pub comments_in : MetadataItems → Comments
-comments_in i = record { variables = i.shell_variables; line = i.line_comment; block = i.block_comment }
+comments_in i =
+    record { variables = i.shell_variables; line = i.line_comment; block = i.block_comment }
 
 -- what an object says; a key's value of a wrong kind is refused, and other keys are not looked at
 abbrev pub items_of : Data → Result MetadataItems MetadataError

@@ -31,12 +31,15 @@ pub record IsByPath (entries ordered : List RawMetadataEntry) : Type 0 where
 
 -- a variable of a list: an object with a text as `name`, and a `value`
 abbrev pub variable_of : Data → Option (List ℕ × Data)
-variable_of d = option_and_then (λ name. option_map (λ value. (name, value)) (get (codes "value") d)) (option_and_then as_str (get (codes "name") d))
+variable_of d =
+    option_and_then (λ name. option_map (λ value. (name, value)) (get (codes "value") d))
+    (option_and_then as_str (get (codes "name") d))
 
 -- the variables of a list, where each of its values is one
 abbrev pub all_variables : Items → Option (List (List ℕ × Data))
 all_variables no_items = Some []
-all_variables (item d ds) = option_and_then (λ v. option_map (λ vs. v ∷ vs) (all_variables ds)) (variable_of d)
+all_variables (item d ds) =
+    option_and_then (λ v. option_map (λ vs. v ∷ vs) (all_variables ds)) (variable_of d)
 
 -- the variables that a value adds: none unless it is a list of variables
 abbrev pub variables_of : Data → List (List ℕ × Data)
@@ -60,8 +63,13 @@ nothing = record { settings = no_members; variables = None }
 -- with one more member: a known key's value takes the place of the one that is there, and variables are added
 abbrev pub with_member : List ℕ → Data → Merged → Merged
 with_member key d m =
-    if bytes_eq key variables_key then record m { variables = Some (with_variables (variables_of d) (unwrap_or m.variables no_members)) }
-    else if list_any (bytes_eq key) (parens_key ∷ pattern_keys) then record m { settings = put key d m.settings } else m
+    if bytes_eq key variables_key
+    then record m {
+      variables = Some
+          (with_variables (variables_of d) (unwrap_or m.variables no_members));
+    }
+    else if list_any (bytes_eq key) (parens_key ∷ pattern_keys)
+    then record m { settings = put key d m.settings } else m
 
 -- with the members of an object, one after another
 abbrev pub with_members : Members → Merged → Merged
@@ -70,7 +78,9 @@ with_members (member key d ms) m = with_members ms (with_member key d m)
 
 -- the object of all: the variables stand in it as an object too
 abbrev pub object_of : Merged → Data
-object_of m = object (option_map_or (λ vars. put variables_key (object vars) m.settings) m.variables m.settings)
+object_of m =
+    object (option_map_or (λ vars. put variables_key
+    (object vars) m.settings) m.variables m.settings)
 
 -- ---- entries ----
 
@@ -80,11 +90,13 @@ merged_at text table = lookup (is_at (slice_cmp nat_cmp text)) table
 
 -- a table, in the byte order of scope texts, with this at one of them in place of what is there
 abbrev pub put_at : List ℕ → Merged → List (List ℕ × Merged) → List (List ℕ × Merged)
-put_at text m table = insert_entry (slice_cmp nat_cmp) (remove_entry (is_at (slice_cmp nat_cmp text)) table) text m
+put_at text m table =
+    insert_entry (slice_cmp nat_cmp) (remove_entry (is_at (slice_cmp nat_cmp text)) table) text m
 
 -- a table with settings, added to what stands at a scope text
 abbrev pub with_settings : List ℕ → Members → List (List ℕ × Merged) → List (List ℕ × Merged)
-with_settings text settings table = put_at text (with_members settings (unwrap_or (merged_at text table) nothing)) table
+with_settings text settings table =
+    put_at text (with_members settings (unwrap_or (merged_at text table) nothing)) table
 
 -- a table with an entry
 abbrev pub with_entry : RawMetadataEntry → List (List ℕ × Merged) → List (List ℕ × Merged)

@@ -19,7 +19,8 @@ with_score (Some score) set scored = (score, set) ∷ scored
 -- the sets that match a stack, each with its score there, in their order
 abbrev pub matching : List (List ℕ) → List MetadataSet → List (ℕ × MetadataSet)
 matching stack [] = []
-matching stack (set ∷ sets) = with_score (union_score set.selector.selectors stack) set (matching stack sets)
+matching stack (set ∷ sets) =
+    with_score (union_score set.selector.selectors stack) set (matching stack sets)
 
 -- the greater score
 abbrev pub outranks : ℕ × MetadataSet → ℕ × MetadataSet → Bool
@@ -40,7 +41,8 @@ first_of say (s ∷ ss) = first_some (say s.1.items) (first_of say ss)
 
 -- whether the first pattern of the kind, where there is one, matches at the begin of a line
 abbrev pub answer : (MetadataItems → Option (List ℕ)) → List (ℕ × MetadataSet) → List ℕ → Bool
-answer pattern ranked line = option_map_or (λ p. pattern_begins p line 0) (first_of pattern ranked) false
+answer pattern ranked line =
+    option_map_or (λ p. pattern_begins p line 0) (first_of pattern ranked) false
 
 -- the pattern of a kind
 abbrev pub pattern_for : Kind → MetadataItems → Option (List ℕ)

@@ -14,7 +14,10 @@ named v = (string_bytes v.0, view v.1)
 
 -- what entries of one scope text say
 abbrev pub seen : Merged → merging.Merged
-seen m = record { settings = members_view m.settings.entries; variables = option_map (λ vars. members_view vars.entries) m.variables }
+seen m = record {
+  settings = members_view m.settings.entries;
+  variables = option_map (λ vars. members_view vars.entries) m.variables;
+}
 
 -- what is said at each scope text
 abbrev pub table_seen : List (List ℕ × Merged) → List (List ℕ × merging.Merged)

@@ -51,28 +51,35 @@ with_set (Ok set) sets = set ∷ sets
 with_set (Err e) sets = sets
 
 -- A repository after a set was read with another one: it has the set's scopes, or, where the set was refused, perhaps more.
-abbrev pub IsAfterSet : List (List ℕ) → Result MetadataSet MetadataError → List ℕ → List (List ℕ) → Type 0
+abbrev pub IsAfterSet : List (List ℕ) → Result MetadataSet MetadataError → List ℕ → List (List ℕ)
+    → Type 0
 IsAfterSet old (Ok set) text new = new ≡ with_scopes old (union_words text)
 IsAfterSet old (Err e) text new = take (length old) new ≡ old
 
 -- The sets of scope texts with their settings, each read with the repository that the ones before left; what is refused is
 -- left out.
-abbrev pub ReadsSets : List (List ℕ) → List (List ℕ × Merged) → List (List ℕ) → List MetadataSet → Type 0
+abbrev pub ReadsSets : List (List ℕ) → List (List ℕ × Merged) → List (List ℕ) → List MetadataSet
+    → Type 0
 ReadsSets old [] new sets = (new ≡ old) × (sets ≡ [])
 ReadsSets old (m ∷ ms) new sets =
-    (left : List (List ℕ)) × IsAfterSet old (set_of old m.0 (object_of m.1)) m.0 left × (others : List MetadataSet) × ReadsSets left ms new others
+    (left : List (List ℕ)) × IsAfterSet old (set_of old m.0 (object_of m.1)) m.0 left
+    × (others : List MetadataSet) × ReadsSets left ms new others
     × (sets ≡ with_set (set_of old m.0 (object_of m.1)) others)
 
 -- the sets of entries, read with a repository that becomes another one
-abbrev pub IsOfEntries : List (List ℕ) → List RawMetadataEntry → List (List ℕ) → List MetadataSet → Type 0
-IsOfEntries old entries new sets = (ordered : List RawMetadataEntry) × IsByPath entries ordered × ReadsSets old (with_entries ordered []) new sets
+abbrev pub IsOfEntries : List (List ℕ) → List RawMetadataEntry → List (List ℕ) → List MetadataSet
+    → Type 0
+IsOfEntries old entries new sets =
+    (ordered : List RawMetadataEntry) × IsByPath entries ordered
+    × ReadsSets old (with_entries ordered []) new sets
 
 -- ---- old sets and new ones ----
 
 -- a table with sets, each at its scope text, in place of the one that is there
 abbrev pub with_sets : List MetadataSet → List (List ℕ × MetadataSet) → List (List ℕ × MetadataSet)
 with_sets [] table = table
-with_sets (set ∷ sets) table = with_sets sets (insert_entry (slice_cmp nat_cmp) table set.selector_string set)
+with_sets (set ∷ sets) table =
+    with_sets sets (insert_entry (slice_cmp nat_cmp) table set.selector_string set)
 
 -- old sets and new ones in the byte order of their scope texts, a new one in place of an old one of the same text
 abbrev pub replaced : List MetadataSet → List MetadataSet → List MetadataSet

@@ -170,7 +170,8 @@ fn add_settings(
     table: &mut BTreeMap<Text, Merged>,
 ) -> Result<(), AllocError>
     ensures { OnOk result (table_seen table.new.entries
-        ≡ merging.with_settings scope (members_view settings.entries) (table_seen table.old.entries)) }
+        ≡ merging.with_settings scope (members_view settings.entries)
+        (table_seen table.old.entries)) }
 {
     let merged = or_nothing(alloc, table.remove(&scope));
     let merged = with_members(alloc, settings, merged)?;

@@ -11,4 +11,6 @@ abbrev pub same_opening : Opening → Opening → Bool
 same_opening = eq_of_both (on (λ o. o.region) same_groups) (on (λ o. o.line) (pointwise ◌==◌))
 
 pub same_opening-equiv : IsEquivalence same_opening
-same_opening-equiv = and_equiv (on_equiv (λ o. o.region) same_groups-equiv) (on_equiv (λ o. o.line) (lists_equiv nat_eq_equiv))
+same_opening-equiv =
+    and_equiv (on_equiv (λ o. o.region) same_groups-equiv)
+    (on_equiv (λ o. o.line) (lists_equiv nat_eq_equiv))

@@ -24,7 +24,8 @@ abbrev pub contents : SyntaxSet → List ContextReference → Scopes
 contents set refs = flat_map (part_of (λ c. c.meta_content_scope) set) (filter_map target refs)
 
 abbrev pub opens : SyntaxSet → List ContextReference → Scopes
-opens set refs = flat_map (part_of (λ c. c.meta_scope ++ c.meta_content_scope) set) (filter_map target refs)
+opens set refs =
+    flat_map (part_of (λ c. c.meta_scope ++ c.meta_content_scope) set) (filter_map target refs)
 
 abbrev pub none : Scopes → Bool
 none [] = true
@@ -43,10 +44,13 @@ restores at amount = map (λ a. (at, Restore)) (option_to_list amount)
 
 -- what opens a context below a match, and what opens it to stay
 abbrev pub opens_below : ℕ → SyntaxSet → ContextId → List (ℕ × ScopeStackOp)
-opens_below at set id = clears at (clearing set id) ++ pushes at (part_of (λ c. c.meta_scope) set id)
+opens_below at set id =
+    clears at (clearing set id) ++ pushes at (part_of (λ c. c.meta_scope) set id)
 
 abbrev pub opens_here : ℕ → SyntaxSet → ContextId → List (ℕ × ScopeStackOp)
-opens_here at set id = clears at (clearing set id) ++ pushes at (part_of (λ c. c.meta_scope ++ c.meta_content_scope) set id)
+opens_here at set id =
+    clears at (clearing set id)
+    ++ pushes at (part_of (λ c. c.meta_scope ++ c.meta_content_scope) set id)
 
 -- the same of the contexts that references stand for, one after another
 abbrev pub all_below : ℕ → SyntaxSet → List ContextReference → List (ℕ × ScopeStackOp)

@@ -21,24 +21,30 @@ abbrev pub Place : Type 0
 Place = Context × ℕ
 
 -- an include gives what its target gives, and nothing where it is unresolved or its target is on the include path
-abbrev pub included_places : (ContextId → List Place) → List ContextId → Option ContextId → List Place
+abbrev pub included_places : (ContextId → List Place) → List ContextId → Option ContextId
+    → List Place
 included_places inner path None = []
 included_places inner path (Some id) = if list_any (is_same id) path then [] else inner id
 
 -- entries of a context from this index on, includes walked in place
-abbrev pub entry_places : (ContextId → List Place) → List ContextId → Context → ℕ → List Pattern → List Place
+abbrev pub entry_places : (ContextId → List Place) → List ContextId → Context → ℕ → List Pattern
+    → List Place
 entry_places inner path c k [] = []
 entry_places inner path c k (Match m ∷ ps) = (c, k) ∷ entry_places inner path c (k + 1) ps
-entry_places inner path c k (Include r ∷ ps) = included_places inner path (target r) ++ entry_places inner path c (k + 1) ps
+entry_places inner path c k (Include r ∷ ps) =
+    included_places inner path (target r) ++ entry_places inner path c (k + 1) ps
 
 -- what an include of this context gives, which was reached by this include path: nothing where the set lacks it
 abbrev pub target_places : ℕ → SyntaxSet → List ContextId → ContextId → List Place
 target_places zero set path id = []
-target_places (suc room) set path id = option_map_or (λ c. entry_places (λ x. target_places room set (path ++ id ∷ []) x) (path ++ id ∷ []) c 0 c.patterns) (context_at set id) []
+target_places (suc room) set path id =
+    option_map_or (λ c. entry_places (λ x. target_places room set (path ++ id ∷ []) x)
+    (path ++ id ∷ []) c 0 c.patterns) (context_at set id) []
 
 -- those of a context from an index on, with the include path that it was reached by and the room for more includes
 abbrev pub places_from : ℕ → SyntaxSet → List ContextId → Context → ℕ → List Place
-places_from room set path c k = entry_places (λ id. target_places room set path id) path c k (drop k c.patterns)
+places_from room set path c k =
+    entry_places (λ id. target_places room set path id) path c k (drop k c.patterns)
 
 -- An include path has no context twice: the room is never felt.
 abbrev pub places_in : SyntaxSet → Context → List Place
@@ -46,14 +52,17 @@ places_in set c = places_from (count_contexts (contexts_of set)) set [] c 0
 
 -- they are where the patterns of the context's walk stand
 abbrev pub PlacesArePatterns : Type 0
-PlacesArePatterns = (set : SyntaxSet) (c : Context) → map (λ p. match_of p.0 p.1) (places_in set c) ≡ map Some (patterns_in set c.patterns)
+PlacesArePatterns = (set : SyntaxSet) (c : Context)
+    → map (λ p. match_of p.0 p.1) (places_in set c) ≡ map Some (patterns_in set c.patterns)
 
 -- ---- what an iterator has left ----
 
 -- what the contexts give that wait for the end of an include, the outermost first
 abbrev pub places_behind : ℕ → SyntaxSet → List ContextId → List Waiting → List Place
 places_behind room set path [] = []
-places_behind room set path (w ∷ ws) = places_behind (room - 1) set (path ++ w.target ∷ []) ws ++ places_from room set path w.context.now w.next
+places_behind room set path (w ∷ ws) =
+    places_behind (room - 1) set (path ++ w.target ∷ []) ws
+    ++ places_from room set path w.context.now w.next
 
 -- the include path of a walk
 abbrev pub path_of : List Waiting → List ContextId
@@ -74,7 +83,8 @@ abbrev pub places_left : MatchIter → List Place
 places_left it = if it.failed then [] else walk_left it
 
 -- one call of `next`: the next place that is left; none where none is left; after want of memory none is left
-abbrev pub GivesPlace : MatchIter → Option (Result (Bor Context × ℕ) AllocError) → MatchIter → Type 0
+abbrev pub GivesPlace : MatchIter → Option (Result (Bor Context × ℕ) AllocError) → MatchIter
+    → Type 0
 GivesPlace old None new = (places_left old ≡ []) × (places_left new ≡ [])
 GivesPlace old (Some (Ok p)) new = places_left old ≡ (p.0.now, p.1) ∷ places_left new
 GivesPlace old (Some (Err e)) new = places_left new ≡ []

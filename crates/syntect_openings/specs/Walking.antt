@@ -24,18 +24,24 @@ included_steps inner path (Some id) = if list_any (is_same id) path then 0 else 
 abbrev pub entry_steps : (ContextId → ℕ) → List ContextId → List Pattern → ℕ
 entry_steps inner path [] = 1
 entry_steps inner path (Match m ∷ ps) = suc (entry_steps inner path ps)
-entry_steps inner path (Include r ∷ ps) = suc (included_steps inner path (target r) + entry_steps inner path ps)
+entry_steps inner path (Include r ∷ ps) =
+    suc (included_steps inner path (target r) + entry_steps inner path ps)
 
 abbrev pub target_steps : ℕ → SyntaxSet → List ContextId → ContextId → ℕ
 target_steps zero set path id = 0
-target_steps (suc room) set path id = option_map_or (λ c. entry_steps (λ x. target_steps room set (path ++ id ∷ []) x) (path ++ id ∷ []) c.patterns) (context_at set id) 0
+target_steps (suc room) set path id =
+    option_map_or (λ c. entry_steps (λ x. target_steps room set (path ++ id ∷ []) x)
+    (path ++ id ∷ []) c.patterns) (context_at set id) 0
 
 abbrev pub steps_from : ℕ → SyntaxSet → List ContextId → Context → ℕ → ℕ
-steps_from room set path c k = entry_steps (λ id. target_steps room set path id) path (drop k c.patterns)
+steps_from room set path c k =
+    entry_steps (λ id. target_steps room set path id) path (drop k c.patterns)
 
 abbrev pub steps_behind : ℕ → SyntaxSet → List ContextId → List Waiting → ℕ
 steps_behind room set path [] = 0
-steps_behind room set path (w ∷ ws) = steps_behind (room - 1) set (path ++ w.target ∷ []) ws + steps_from room set path w.context.now w.next
+steps_behind room set path (w ∷ ws) =
+    steps_behind (room - 1) set (path ++ w.target ∷ []) ws
+    + steps_from room set path w.context.now w.next
 
 abbrev pub steps_left : MatchIter → ℕ
 steps_left it =

@@ -81,11 +81,22 @@ pub fn context_iter<'a>(
 impl<'a> MatchIter<'a> {
     /// The context that an include goes on with, if it gives anything.
     fn followed(&self, reference: &ContextReference) -> Option<(ContextId, &'a Context)>
-        ensures nothing { IfNone result (included_places (target_places (room_of self.now) self.now.syntax_set.now (path_of self.now.waiting.items)) (path_of self.now.waiting.items) (target reference.now) ≡ []) }
-        ensures places { IfSome result (λ p. included_places (target_places (room_of self.now) self.now.syntax_set.now (path_of self.now.waiting.items)) (path_of self.now.waiting.items) (target reference.now)
-            ≡ places_from (room_of self.now - 1) self.now.syntax_set.now (path_of self.now.waiting.items ++ p.0 ∷ []) p.1.now 0) }
-        ensures steps { IfSome result (λ p. included_steps (target_steps (room_of self.now) self.now.syntax_set.now (path_of self.now.waiting.items)) (path_of self.now.waiting.items) (target reference.now)
-            ≡ steps_from (room_of self.now - 1) self.now.syntax_set.now (path_of self.now.waiting.items ++ p.0 ∷ []) p.1.now 0) }
+        ensures nothing { IfNone result
+            (included_places (target_places (room_of self.now) self.now.syntax_set.now
+            (path_of self.now.waiting.items)) (path_of self.now.waiting.items)
+            (target reference.now) ≡ []) }
+        ensures places { IfSome result
+            (λ p. included_places (target_places (room_of self.now) self.now.syntax_set.now
+            (path_of self.now.waiting.items)) (path_of self.now.waiting.items)
+            (target reference.now)
+            ≡ places_from (room_of self.now - 1) self.now.syntax_set.now
+            (path_of self.now.waiting.items ++ p.0 ∷ []) p.1.now 0) }
+        ensures steps { IfSome result
+            (λ p. included_steps (target_steps (room_of self.now) self.now.syntax_set.now
+            (path_of self.now.waiting.items)) (path_of self.now.waiting.items)
+            (target reference.now)
+            ≡ steps_from (room_of self.now - 1) self.now.syntax_set.now
+            (path_of self.now.waiting.items ++ p.0 ∷ []) p.1.now 0) }
     {
         let id = reference.target()?;
         if self.waiting.len() as u128 >= self.room || is_on(self.waiting.as_slice(), id) {
@@ -97,8 +108,14 @@ impl<'a> MatchIter<'a> {
 
     /// Goes on behind an include with what it names, if that gives anything.
     fn follow(&mut self, reference: &ContextReference) -> Result<(), AllocError>
-        ensures places { OnOk result (walk_left self.new ≡ included_places (target_places (room_of self.old) self.old.syntax_set.now (path_of self.old.waiting.items)) (path_of self.old.waiting.items) (target reference.now) ++ walk_left self.old) }
-        ensures steps { OnOk result (steps_left self.new < included_steps (target_steps (room_of self.old) self.old.syntax_set.now (path_of self.old.waiting.items)) (path_of self.old.waiting.items) (target reference.now) + steps_left self.old + 1) }
+        ensures places { OnOk result
+            (walk_left self.new ≡ included_places (target_places
+            (room_of self.old) self.old.syntax_set.now (path_of self.old.waiting.items))
+            (path_of self.old.waiting.items) (target reference.now) ++ walk_left self.old) }
+        ensures steps { OnOk result
+            (steps_left self.new < included_steps (target_steps
+            (room_of self.old) self.old.syntax_set.now (path_of self.old.waiting.items))
+            (path_of self.old.waiting.items) (target reference.now) + steps_left self.old + 1) }
         ensures failed { self.new.failed ≡ self.old.failed }
     {
         if let Some((id, context)) = self.followed(reference) {

@@ -46,7 +46,8 @@ fn unresolved_in(pattern: &MatchPattern) -> Option<&ContextReference>
 
 /// Whether the set lacks what a reference stands for.
 fn lacks(set: &SyntaxSet, r: &ContextReference) -> Option<ContextId>
-    ensures { result ≡ find (λ id. is_none (context_at set.now id)) (option_to_list (target r.now)) }
+    ensures { result ≡ find (λ id. is_none (context_at set.now id))
+        (option_to_list (target r.now)) }
 {
     let id = r.target()?;
     if set.context_at(id).is_none() {
@@ -58,7 +59,8 @@ fn lacks(set: &SyntaxSet, r: &ContextReference) -> Option<ContextId>
 
 /// The first context that a match names and that the set lacks.
 fn missing_in(set: &SyntaxSet, pattern: &MatchPattern) -> Option<ContextId>
-    ensures { result ≡ find (λ id. is_none (context_at set.now id)) (filter_map target (named pattern.now)) }
+    ensures { result ≡ find (λ id. is_none (context_at set.now id))
+        (filter_map target (named pattern.now)) }
 {
     let refs = list_of(&pattern.operation)?;
     for r in refs {

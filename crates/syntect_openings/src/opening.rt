@@ -49,7 +49,8 @@ impl Opening {
 
     /// A pattern with this match's groups for its back references.
     pub fn substituted(&self, pattern: &MatchPattern) -> Result<Regex, AllocError>
-        ensures { IfOk result (λ r. r ≡ substituted pattern.now.regex self.now.region self.now.line) }
+        ensures { IfOk result
+            (λ r. r ≡ substituted pattern.now.regex self.now.region self.now.line) }
     {
         pattern.regex_with_refs(&self.region, self.line.as_str())
     }

@@ -23,7 +23,8 @@ operation_text repo Noop = codes "noop"
 
 -- the line without white space at its end, and below its place the operation
 abbrev pub operation_lines : List (List ℕ) → List ℕ → ℕ × ScopeStackOp → List ℕ
-operation_lines repo line o = trim_end line ++ (10 ∷ [] ++ (replicate o.0 32 ++ (operation_text repo o.1 ++ 10 ∷ [])))
+operation_lines repo line o =
+    trim_end line ++ (10 ∷ [] ++ (replicate o.0 32 ++ (operation_text repo o.1 ++ 10 ∷ [])))
 
 abbrev pub operations_text : List (List ℕ) → List ℕ → List (ℕ × ScopeStackOp) → List ℕ
 operations_text repo line ops = flat_map (operation_lines repo line) ops

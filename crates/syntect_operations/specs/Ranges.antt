@@ -34,7 +34,8 @@ left s = ranges_behind (length s.line.now) s.from s.op s.ops.now
 
 -- the operations that are left are in order
 abbrev pub IsReady : ScopeRangeIterator → Type 0
-IsReady s = IsCharBoundary s.line.now s.from × InOrder s.line.now s.from s.ops.now (length s.line.now)
+IsReady s =
+    IsCharBoundary s.line.now s.from × InOrder s.line.now s.from s.ops.now (length s.line.now)
 
 abbrev pub items_left : ScopeRangeIterator → ℕ
 items_left s = length (left s)
@@ -52,7 +53,8 @@ pub record GivesNext (s t : ScopeRangeIterator) (item : Range ℕ × ScopeStackO
   pub is : IsRange range item
   pub line : line_of t ≡ line_of s
 
-abbrev pub GivesRange : ScopeRangeIterator → Option (Range ℕ × ScopeStackOp) → ScopeRangeIterator → Type 0
+abbrev pub GivesRange : ScopeRangeIterator → Option (Range ℕ × ScopeStackOp) → ScopeRangeIterator
+    → Type 0
 GivesRange s None t = (left s ≡ []) × (left t ≡ [])
 GivesRange s (Some item) t = GivesNext s t item
 
@@ -68,6 +70,7 @@ pub record GivesText (s t : ScopeRegionIterator) (item : Bor (List ℕ) × Scope
   pub op : item.1 ≡ range.op
   pub line : line_of (ranges_in t) ≡ line_of (ranges_in s)
 
-abbrev pub GivesRegion : ScopeRegionIterator → Option (Bor (List ℕ) × ScopeStackOp) → ScopeRegionIterator → Type 0
+abbrev pub GivesRegion : ScopeRegionIterator → Option (Bor (List ℕ) × ScopeStackOp)
+    → ScopeRegionIterator → Type 0
 GivesRegion s None t = (left (ranges_in s) ≡ []) × (left (ranges_in t) ≡ [])
 GivesRegion s (Some item) t = GivesText s t item

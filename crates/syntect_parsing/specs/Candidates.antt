@@ -86,9 +86,12 @@ AreMarksOf m cs marks = marks_operations marks ≡ capture_operations m.start m.
 -- ---- the operations of a match, as the reader of a line keeps it ----
 
 -- its own scopes and its captures, between what stands below them and what comes behind
-abbrev pub operations_between : Candidate → List Capture → List (ℕ × ScopeStackOp) → List (ℕ × ScopeStackOp) → List (ℕ × ScopeStackOp)
+abbrev pub operations_between : Candidate → List Capture → List (ℕ × ScopeStackOp)
+    → List (ℕ × ScopeStackOp) → List (ℕ × ScopeStackOp)
 operations_between m cs below behind = operations m.start m.end m.pattern.now.scope cs below behind
 
 -- all of them, with these levels
-abbrev pub operations_by : Candidate → List Capture → SyntaxSet → List Level → List (ℕ × ScopeStackOp)
-operations_by m cs set levels = operations_of m.start m.end m.pattern.now.scope cs set levels m.pattern.now.operation
+abbrev pub operations_by : Candidate → List Capture → SyntaxSet → List Level
+    → List (ℕ × ScopeStackOp)
+operations_by m cs set levels =
+    operations_of m.start m.end m.pattern.now.scope cs set levels m.pattern.now.operation

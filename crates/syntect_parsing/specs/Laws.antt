@@ -17,25 +17,38 @@ use Rattle.syntect_contexts.specs.declared.error.ParsingError.{ParsingError}
 
 -- No line is both accepted and refused.
 abbrev pub NeverBoth : Type 0
-NeverBoth = (engine : Engine) (set : SyntaxSet) (line : List ℕ) (state : Standing) (bytes : List Scopes) (after : Standing) (e : ParsingError) (m n : ℕ)
+NeverBoth =
+    (engine : Engine) (set : SyntaxSet) (line : List ℕ) (state : Standing) (bytes : List Scopes)
+    (after : Standing) (e : ParsingError) (m n : ℕ)
     → ReadsLine engine set line state bytes after m → RefusesLine engine set line state e n → ⊥
 
 -- One more line is answered at the state that the lines before it lead to.
 abbrev pub AnswersMore : Type 0
-AnswersMore = (engine : Engine) (set : SyntaxSet) (lines : List (List ℕ)) (line : List ℕ) (state next after : Standing) (answers : List Answer) (answer : Answer)
-    → AnswersAll engine set lines state answers next → Answers engine set line next answer after → AnswersAll engine set (lines ++ line ∷ []) state (answers ++ answer ∷ []) after
+AnswersMore =
+    (engine : Engine) (set : SyntaxSet) (lines : List (List ℕ)) (line : List ℕ)
+    (state next after : Standing) (answers : List Answer) (answer : Answer)
+    → AnswersAll engine set lines state answers next → Answers engine set line next answer after
+    → AnswersAll engine set (lines ++ line ∷ []) state (answers ++ answer ∷ []) after
 
 -- The answers to some lines and those to more lines behind them are the answers to all of them,
 abbrev pub AnswersJoin : Type 0
-AnswersJoin = (engine : Engine) (set : SyntaxSet) (lines more : List (List ℕ)) (state between after : Standing) (answers others : List Answer)
-    → AnswersAll engine set lines state answers between → AnswersAll engine set more between others after → AnswersAll engine set (lines ++ more) state (answers ++ others) after
+AnswersJoin =
+    (engine : Engine) (set : SyntaxSet) (lines more : List (List ℕ))
+    (state between after : Standing) (answers others : List Answer)
+    → AnswersAll engine set lines state answers between
+    → AnswersAll engine set more between others after
+    → AnswersAll engine set (lines ++ more) state (answers ++ others) after
 
 -- and lines can be parted anywhere.
 abbrev pub AnswersPart : Type 0
-AnswersPart = (engine : Engine) (set : SyntaxSet) (lines more : List (List ℕ)) (state after : Standing) (all : List Answer)
+AnswersPart =
+    (engine : Engine) (set : SyntaxSet) (lines more : List (List ℕ)) (state after : Standing)
+    (all : List Answer)
     → AnswersAll engine set (lines ++ more) state all after
-    → (answers : List Answer) × (others : List Answer) × (between : Standing) × (all ≡ answers ++ others)
-    × AnswersAll engine set lines state answers between × AnswersAll engine set more between others after
+    → (answers : List Answer) × (others : List Answer) × (between : Standing)
+    × (all ≡ answers ++ others)
+    × AnswersAll engine set lines state answers between
+    × AnswersAll engine set more between others after
 
 -- The whole match stands from the start to the end. Each group of a match that stands in no lookaround lies in it, on
 -- character boundaries, and each two of these groups are apart or one in the other.
@@ -43,19 +56,25 @@ pub record LaysOut (engine : Engine) (pattern text : List ℕ) (groups : Groups)
   pub start : ℕ
   pub end : ℕ
   pub whole : group_at groups 0 ≡ Some (start, end)
-  pub lies : (n : ℕ) (x : Span) → engine.in_lookaround pattern n ≡ false → group_at groups n ≡ Some x → LiesIn text start end x
-  pub nested : (n m : ℕ) (x y : Span) → engine.in_lookaround pattern n ≡ false → engine.in_lookaround pattern m ≡ false
+  pub lies : (n : ℕ) (x : Span) → engine.in_lookaround pattern n ≡ false
+      → group_at groups n ≡ Some x → LiesIn text start end x
+  pub nested : (n m : ℕ) (x y : Span) → engine.in_lookaround pattern n ≡ false
+      → engine.in_lookaround pattern m ≡ false
       → group_at groups n ≡ Some x → group_at groups m ≡ Some y → AreNested x y
 
 -- every match that is found is laid out so
 abbrev pub LaysGroupsOut : Engine → Type 0
 LaysGroupsOut engine = (pattern text : List ℕ) (place : ℕ) (groups : Groups)
-    → IsUtf8 text → engine.found pattern text place ≡ Some groups → LaysOut engine pattern text groups
+    → IsUtf8 text → engine.found pattern text place ≡ Some groups
+    → LaysOut engine pattern text groups
 
 -- If what the first accepted line pushes makes the stack that of the levels, that holds before each line.
 abbrev pub StackIsOpen : Type 0
-StackIsOpen = (engine : Engine) (set : SyntaxSet) (lines : List (List ℕ)) (state after : Standing) (answers : List Answer)
-    → HasPlainStart set state → AnswersAll engine set lines state answers after → HasPlainStart set after
+StackIsOpen =
+    (engine : Engine) (set : SyntaxSet) (lines : List (List ℕ)) (state after : Standing)
+    (answers : List Answer)
+    → HasPlainStart set state → AnswersAll engine set lines state answers after
+    → HasPlainStart set after
 
 -- ---- how many turns a line takes ----
 

@@ -54,15 +54,18 @@ module _ (engine : Engine) where
   -- what a turn with this choice makes
   abbrev pub step : SyntaxSet → List ℕ → Position → Choice → Step
   step set line p (Take m) =
-      unless_refused (refusal set m.pattern) (Goes (scopes_passed engine set p.levels p.place m) (position_after set line p m))
-  step set line p Skip = Goes (replicate (char_len line p.place) (visible set p.levels)) (skipped line p)
+      unless_refused (refusal set m.pattern)
+      (Goes (scopes_passed engine set p.levels p.place m) (position_after set line p m))
+  step set line p Skip =
+      Goes (replicate (char_len line p.place) (visible set p.levels)) (skipped line p)
   step set line p End = ended set line p
 
   -- a turn on this top level, whose context the set may lack: the chain's prototypes have to be in the set too
   abbrev pub turn_in : SyntaxSet → List ℕ → Position → Level → Option Context → Step
   turn_in set line p top None = Refused (error.MissingContext top.context)
   turn_in set line p top (Some c) =
-      unless_refused (missing set (prototypes_in p c)) (step set line p (winner line p (live engine line p (chain set p top c))))
+      unless_refused (missing set (prototypes_in p c))
+      (step set line p (winner line p (live engine line p (chain set p top c))))
 
   -- a turn on this top level, or on none: then the line ends
   abbrev pub turn_on : SyntaxSet → List ℕ → Position → Option Level → Step
@@ -74,10 +77,13 @@ module _ (engine : Engine) where
   turn set line p = turn_on set line (trimmed p) (last p.levels)
 
   -- The turns from a position on up to the end: the scopes of each byte, the state left, and how many turns.
-  pub data Reads (set : SyntaxSet) (line : List ℕ) : Position → List Scopes → Standing → ℕ → Type 0 where
-    ends : {p : Position} {bytes : List Scopes} {after : Standing} → turn set line p ≡ Ends bytes after → Reads set line p bytes after 1
+  pub data Reads (set : SyntaxSet) (line : List ℕ) : Position → List Scopes → Standing → ℕ
+      → Type 0 where
+    ends : {p : Position} {bytes : List Scopes} {after : Standing}
+        → turn set line p ≡ Ends bytes after → Reads set line p bytes after 1
     goes : {p q : Position} {bytes rest : List Scopes} {after : Standing} {n : ℕ}
-        → turn set line p ≡ Goes bytes q → Reads set line q rest after n → Reads set line p (bytes ++ rest) after (n + 1)
+        → turn set line p ≡ Goes bytes q → Reads set line q rest after n
+        → Reads set line p (bytes ++ rest) after (n + 1)
 
   -- The turns from a position on up to a refusal, and how many.
   pub data Refuses (set : SyntaxSet) (line : List ℕ) : Position → ParsingError → ℕ → Type 0 where
@@ -88,32 +94,47 @@ module _ (engine : Engine) where
   -- the turns from a position on come to another one
   pub data Reaches (set : SyntaxSet) (line : List ℕ) : Position → Position → Type 0 where
     here : {p : Position} → Reaches set line p p
-    further : {p q r : Position} {bytes : List Scopes} → turn set line p ≡ Goes bytes q → Reaches set line q r → Reaches set line p r
+    further : {p q r : Position} {bytes : List Scopes} → turn set line p ≡ Goes bytes q
+        → Reaches set line q r → Reaches set line p r
 
   -- a line read from a state
-  pub record ReadsLine (set : SyntaxSet) (line : List ℕ) (state : Standing) (bytes : List Scopes) (after : Standing) (turns : ℕ) : Type 0 where
+  pub record ReadsLine (set : SyntaxSet) (line : List ℕ) (state : Standing) (bytes : List Scopes)
+      (after : Standing) (turns : ℕ) : Type 0 where
     pub on_levels : state.levels ≢ []
     pub reads : Reads set line (at_start state) bytes after turns
 
   -- a line refused at a state
-  pub data RefusesLine (set : SyntaxSet) (line : List ℕ) (state : Standing) : ParsingError → ℕ → Type 0 where
+  pub data RefusesLine (set : SyntaxSet) (line : List ℕ) (state : Standing) : ParsingError → ℕ
+      → Type 0 where
     no_level : state.levels ≡ [] → RefusesLine set line state error.MissingMainContext 0
-    in_turn : {e : ParsingError} {n : ℕ} → state.levels ≢ [] → Refuses set line (at_start state) e n → RefusesLine set line state e n
+    in_turn : {e : ParsingError} {n : ℕ} → state.levels ≢ [] → Refuses set line (at_start state) e n
+        → RefusesLine set line state e n
 
   -- the answer to a line and the state after it: a refused line leaves the state
-  pub data Answers (set : SyntaxSet) (line : List ℕ) (state : Standing) : Answer → Standing → Type 0 where
-    accepts : {bytes : List Scopes} {after : Standing} {turns : ℕ} → ReadsLine set line state bytes after turns → Answers set line state (Accepted bytes) after
-    refuses : {e : ParsingError} {turns : ℕ} → RefusesLine set line state e turns → Answers set line state (RefusedBy e) state
+  pub data Answers (set : SyntaxSet) (line : List ℕ) (state : Standing) : Answer → Standing
+      → Type 0 where
+    accepts : {bytes : List Scopes} {after : Standing} {turns : ℕ}
+        → ReadsLine set line state bytes after turns → Answers set line state (Accepted bytes) after
+    refuses : {e : ParsingError} {turns : ℕ} → RefusesLine set line state e turns
+        → Answers set line state (RefusedBy e) state
 
   -- the answers to lines one after the other
-  pub data AnswersAll (set : SyntaxSet) : List (List ℕ) → Standing → List Answer → Standing → Type 0 where
+  pub data AnswersAll (set : SyntaxSet) : List (List ℕ) → Standing → List Answer → Standing
+      → Type 0 where
     none : {state : Standing} → AnswersAll set [] state [] state
-    one_more : {line : List ℕ} {lines : List (List ℕ)} {state next after : Standing} {answer : Answer} {answers : List Answer}
-        → Answers set line state answer next → AnswersAll set lines next answers after → AnswersAll set (line ∷ lines) state (answer ∷ answers) after
+    one_more : {line : List ℕ} {lines : List (List ℕ)} {state next after : Standing}
+        {answer : Answer} {answers : List Answer}
+        → Answers set line state answer next → AnswersAll set lines next answers after
+        → AnswersAll set (line ∷ lines) state (answer ∷ answers) after
 
 -- a syntax's first state: the one level `__start`
 abbrev pub start : ContextId → Standing
-start id = record { levels = record { context = id; prototypes = []; opening = None } ∷ []; cuts = []; first_line = true }
+start id =
+    record {
+      levels = record { context = id; prototypes = []; opening = None } ∷ [];
+      cuts = [];
+      first_line = true;
+    }
 
 -- the number of a syntax's `__start`, if it has one, and the state that reading it begins with
 abbrev pub start_id : SyntaxReference → Option ContextId
@@ -130,9 +151,13 @@ stack_before set state = if state.first_line then plain [] else stack_of set sta
 
 -- what the first accepted line pushes at 0: the first `meta_content_scope` scope of the top context
 abbrev pub first_push : SyntaxSet → Standing → Scopes
-first_push set state = if state.first_line then take 1 (option_map_or (λ l. part_of (λ c. c.meta_content_scope) set l.context) (last state.levels) []) else []
+first_push set state =
+    if state.first_line
+    then take 1 (option_map_or (λ l. part_of (λ c. c.meta_content_scope) set l.context)
+    (last state.levels) []) else []
 
 -- what has to hold for the operations to show the open scopes on a first line, and holds on each later one: `__start` clears
 -- nothing, has no `meta_scope` and at most one content scope
 abbrev pub HasPlainStart : SyntaxSet → Standing → Type 0
-HasPlainStart set state = onto (stack_before set state) (first_push set state) ≡ stack_of set state.levels
+HasPlainStart set state =
+    onto (stack_before set state) (first_push set state) ≡ stack_of set state.levels

@@ -18,15 +18,20 @@ use Rattle.syntect_contexts.specs.declared.error.ParsingError.TheVariants as err
 -- `__start`. They all apply to a stack that remembers at least a list for each level that clears, and leave such a one. Where the
 -- first push makes the stack that of the levels and the line is orderly, from the stack before the line they show at each byte
 -- the scopes that were read, and leave the stack before the next line, which is that of its levels.
-pub record Means (engine : Engine) (set : SyntaxSet) (line : List ℕ) (old new : Standing) (bytes : List Scopes) (ops : List (ℕ × ScopeStackOp)) : Type 0 where
+pub record Means (engine : Engine) (set : SyntaxSet) (line : List ℕ) (old new : Standing)
+    (bytes : List Scopes) (ops : List (ℕ × ScopeStackOp)) : Type 0 where
   pub order : InOrder line 0 ops (length line)
   pub begins : (rest : List (ℕ × ScopeStackOp)) × (ops ≡ pushes 0 (first_push set old) ++ rest)
-  pub apply : (stack : ScopeStack) → Remembers set old.levels stack → AllApply stack ops × Remembers set new.levels (replay ops (before_text stack)).stack
-  pub shows : HasPlainStart set old → IsOrderlyLine engine set line old → IsAt (replay ops (before_text (stack_before set old))) (length line) bytes (stack_before set new)
+  pub apply : (stack : ScopeStack) → Remembers set old.levels stack
+      → AllApply stack ops × Remembers set new.levels (replay ops (before_text stack)).stack
+  pub shows : HasPlainStart set old → IsOrderlyLine engine set line old
+      → IsAt (replay ops (before_text (stack_before set old))) (length line) bytes
+      (stack_before set new)
   pub begun : new.first_line ≡ false
 
 -- the line is read, and the operations mean what was read
-pub record Accepts (engine : Engine) (set : SyntaxSet) (line : List ℕ) (old new : Standing) (ops : List (ℕ × ScopeStackOp)) : Type 0 where
+pub record Accepts (engine : Engine) (set : SyntaxSet) (line : List ℕ) (old new : Standing)
+    (ops : List (ℕ × ScopeStackOp)) : Type 0 where
   pub bytes : List Scopes
   pub turns : ℕ
   pub reads : ReadsLine engine set line old bytes new turns

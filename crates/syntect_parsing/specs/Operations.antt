@@ -27,40 +27,53 @@ capture_operations start end cs = flat_map (captures_at cs) (range_with_len star
 
 -- how many scopes the top level's context put on the stack
 abbrev pub top_count : SyntaxSet → List Level → ℕ
-top_count set levels = length (top_part (λ c. c.meta_scope) set levels) + length (top_part (λ c. c.meta_content_scope) set levels)
+top_count set levels =
+    length (top_part (λ c. c.meta_scope) set levels)
+    + length (top_part (λ c. c.meta_content_scope) set levels)
 
 -- At a match's start, below its own scopes. A push opens its contexts; a set puts back what the context that it leaves
 -- cleared, and pushes the `meta_scope`s of its own, which don't clear yet; a pop takes the content scopes off.
 abbrev pub operations_below : ℕ → SyntaxSet → List Level → MatchOperation → List (ℕ × ScopeStackOp)
 operations_below at set levels (op.Push refs) = all_below at set refs
-operations_below at set levels (op.Set refs) = restores at (top_clearing set levels) ++ pushes at (metas set refs)
-operations_below at set levels op.Pop = pops at (length (top_part (λ c. c.meta_content_scope) set levels))
+operations_below at set levels (op.Set refs) =
+    restores at (top_clearing set levels) ++ pushes at (metas set refs)
+operations_below at set levels op.Pop =
+    pops at (length (top_part (λ c. c.meta_content_scope) set levels))
 operations_below at set levels op.None = []
 
 -- After a push, at the match's end: where the new contexts have content scopes, these come between their `meta_scope`s, so
 -- that they are popped and pushed anew.
 abbrev pub operations_pushed : ℕ → SyntaxSet → List ContextReference → List (ℕ × ScopeStackOp)
-operations_pushed at set refs = if none (contents set refs) then [] else pops at (length (metas set refs)) ++ pushes at (opens set refs)
+operations_pushed at set refs =
+    if none (contents set refs) then []
+    else pops at (length (metas set refs)) ++ pushes at (opens set refs)
 
 -- After a set: the same, with the scopes of the context that it leaves, where that one has some or a new one clears.
 abbrev pub operations_set : ℕ → SyntaxSet → ℕ → List ContextReference → List (ℕ × ScopeStackOp)
 operations_set at set left refs =
-    if none (contents set refs) && ((left == 0) && clear_nothing set (filter_map target refs)) then []
+    if none (contents set refs) && ((left == 0) && clear_nothing set (filter_map target refs))
+    then []
     else pops at (length (metas set refs) + left) ++ all_here at set refs
 
 -- At a match's end, once its own scopes are popped.
 abbrev pub operations_behind : ℕ → SyntaxSet → List Level → MatchOperation → List (ℕ × ScopeStackOp)
 operations_behind at set levels (op.Push refs) = operations_pushed at set refs
 operations_behind at set levels (op.Set refs) = operations_set at set (top_count set levels) refs
-operations_behind at set levels op.Pop = pops at (length (top_part (λ c. c.meta_scope) set levels)) ++ restores at (top_clearing set levels)
+operations_behind at set levels op.Pop =
+    pops at (length (top_part (λ c. c.meta_scope) set levels))
+    ++ restores at (top_clearing set levels)
 operations_behind at set levels op.None = []
 
 -- the scopes of a match stand on top of what is opened at its start, and its captures on top of them
-abbrev pub operations : ℕ → ℕ → Scopes → List Capture → List (ℕ × ScopeStackOp) → List (ℕ × ScopeStackOp) → List (ℕ × ScopeStackOp)
+abbrev pub operations : ℕ → ℕ → Scopes → List Capture → List (ℕ × ScopeStackOp)
+    → List (ℕ × ScopeStackOp) → List (ℕ × ScopeStackOp)
 operations start end scope captures below behind =
-    below ++ (pushes start scope ++ (capture_operations start end captures ++ (pops end (length scope) ++ behind)))
+    below ++ (pushes start scope ++
+    (capture_operations start end captures ++ (pops end (length scope) ++ behind)))
 
 -- all that a match does
-abbrev pub operations_of : ℕ → ℕ → Scopes → List Capture → SyntaxSet → List Level → MatchOperation → List (ℕ × ScopeStackOp)
+abbrev pub operations_of : ℕ → ℕ → Scopes → List Capture → SyntaxSet → List Level → MatchOperation
+    → List (ℕ × ScopeStackOp)
 operations_of start end scope captures set levels o =
-    operations start end scope captures (operations_below start set levels o) (operations_behind end set levels o)
+    operations start end scope captures (operations_below start set levels o)
+    (operations_behind end set levels o)

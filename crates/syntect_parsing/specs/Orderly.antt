@@ -19,19 +19,24 @@ use Rattle.syntect_winner.specs.declared.level.Level.{Level}
 -- in order
 abbrev pub is_orderly : SyntaxSet → List Level → MatchOperation → Bool
 is_orderly set levels (op.Push refs) = clear_nothing set (drop 1 (filter_map target refs))
-is_orderly set levels (op.Set refs) = is_none (top_clearing set levels) && clear_nothing set (drop 1 (filter_map target refs))
+is_orderly set levels (op.Set refs) =
+    is_none (top_clearing set levels) && clear_nothing set (drop 1 (filter_map target refs))
 is_orderly set levels op.Pop = true
 is_orderly set levels op.None = true
 
 -- so is the match that the turn from this position picks, if it picks one
 abbrev pub IsOrderlyTurn : Engine → SyntaxSet → List ℕ → Position → Type 0
-IsOrderlyTurn engine set line p = (m : Live) → Picks engine set line p m → is_orderly set p.levels m.pattern.operation ≡ true
+IsOrderlyTurn engine set line p =
+    (m : Live) → Picks engine set line p m → is_orderly set p.levels m.pattern.operation ≡ true
 
 -- so is each match of a line that is read from this state
 abbrev pub IsOrderlyLine : Engine → SyntaxSet → List ℕ → Standing → Type 0
-IsOrderlyLine engine set line state = (p : Position) → Reaches engine set line (at_start state) p → IsOrderlyTurn engine set line p
+IsOrderlyLine engine set line state =
+    (p : Position) → Reaches engine set line (at_start state) p → IsOrderlyTurn engine set line p
 
 -- so is each of these lines, read one after another from this state
 abbrev pub IsOrderlyRun : Engine → SyntaxSet → List (List ℕ) → Standing → Type 0
-IsOrderlyRun engine set lines state = (before behind : List (List ℕ)) (line : List ℕ) (answers : List Answer) (next : Standing)
-    → lines ≡ before ++ line ∷ behind → AnswersAll engine set before state answers next → IsOrderlyLine engine set line next
+IsOrderlyRun engine set lines state =
+    (before behind : List (List ℕ)) (line : List ℕ) (answers : List Answer) (next : Standing)
+    → lines ≡ before ++ line ∷ behind → AnswersAll engine set before state answers next
+    → IsOrderlyLine engine set line next

@@ -30,19 +30,22 @@ use Rattle.syntect_contexts.specs.declared.error.ParsingError.TheVariants as err
 -- ---- what a refusal comes from ----
 
 -- the turn from this position picks this match
-pub record Picks (engine : Engine) (set : SyntaxSet) (line : List ℕ) (p : Position) (m : Live) : Type 0 where
+pub record Picks (engine : Engine) (set : SyntaxSet) (line : List ℕ) (p : Position)
+    (m : Live) : Type 0 where
   pub top : Level
   pub context : Context
   pub on_top : last p.levels ≡ Some top
   pub has_context : context_at set top.context ≡ Some context
-  pub wins : winner line (trimmed p) (live engine line (trimmed p) (chain set (trimmed p) top context)) ≡ Take m
+  pub wins : winner line (trimmed p)
+      (live engine line (trimmed p) (chain set (trimmed p) top context)) ≡ Take m
 
 -- the first reference without target that a match names
 abbrev pub unresolved_of : MatchPattern → Option ContextReference
 unresolved_of m = find (λ r. is_none (target r)) (named m)
 
 -- A turn of the line picks a match that names this reference, the first of its references that have no target.
-pub record PicksUnresolved (engine : Engine) (set : SyntaxSet) (line : List ℕ) (state : Standing) (r : ContextReference) : Type 0 where
+pub record PicksUnresolved (engine : Engine) (set : SyntaxSet) (line : List ℕ) (state : Standing)
+    (r : ContextReference) : Type 0 where
   pub at : Position
   pub reached : Reaches engine set line (at_start state) at
   pub picked : Live
@@ -51,20 +54,25 @@ pub record PicksUnresolved (engine : Engine) (set : SyntaxSet) (line : List ℕ)
 
 -- the refusal is that of such a reference
 abbrev pub NamesUnresolved : Engine → SyntaxSet → List ℕ → Standing → ParsingError → Type 0
-NamesUnresolved engine set line state e = (r : ContextReference) × (e ≡ error.UnresolvedContextReference r) × PicksUnresolved engine set line state r
+NamesUnresolved engine set line state e =
+    (r : ContextReference) × (e ≡ error.UnresolvedContextReference r)
+    × PicksUnresolved engine set line state r
 
 -- ---- sets in which nothing else refuses ----
 
 -- each match of these entries names contexts that the set has, as far as its references have a target
 abbrev pub NamesKnown : SyntaxSet → List Pattern → Type 0
 NamesKnown set [] = Unit {0}
-NamesKnown set (Match m ∷ ps) = (missing set (filter_map target (named m)) ≡ None) × NamesKnown set ps
+NamesKnown set (Match m ∷ ps) =
+    (missing set (filter_map target (named m)) ≡ None) × NamesKnown set ps
 NamesKnown set (Include r ∷ ps) = NamesKnown set ps
 
 -- no reference and no prototype of the set leads out of it
 pub record IsClosed (set : SyntaxSet) : Type 0 where
-  pub names : (id : ContextId) (c : Context) → context_at set id ≡ Some c → NamesKnown set c.patterns
-  pub prototypes : (id : ContextId) (c : Context) → context_at set id ≡ Some c → missing set (option_to_list c.prototype) ≡ None
+  pub names : (id : ContextId) (c : Context) → context_at set id ≡ Some c
+      → NamesKnown set c.patterns
+  pub prototypes : (id : ContextId) (c : Context) → context_at set id ≡ Some c
+      → missing set (option_to_list c.prototype) ≡ None
 
 -- the operation leaves the top level where it is
 abbrev pub stays : MatchOperation → Bool
@@ -75,7 +83,9 @@ stays op.None = true
 
 -- the patterns that are looked at where only the context of this number is open
 abbrev pub lone_patterns : SyntaxSet → ContextId → List MatchPattern
-lone_patterns set id = flat_map (λ q. patterns_of set q) (part_of (λ c. option_to_list c.prototype) set id) ++ patterns_of set id
+lone_patterns set id =
+    flat_map (λ q. patterns_of set q) (part_of (λ c. option_to_list c.prototype) set id)
+    ++ patterns_of set id
 
 -- The set has the context of this number, and nothing that is looked at in it alone pops it or sets another in its place:
 -- a text that begins in it never leaves it.
@@ -86,13 +96,18 @@ pub record IsNeverLeft (set : SyntaxSet) (id : ContextId) : Type 0 where
 -- From the start in a context that is never left, a line is refused exactly where a picked match names a reference
 -- without target, with the refusal of that reference.
 abbrev pub RefusesUnresolved : Type 0
-RefusesUnresolved = (engine : Engine) (set : SyntaxSet) (id : ContextId) (lines : List (List ℕ)) (answers : List Answer) (state : Standing) (line : List ℕ)
+RefusesUnresolved =
+    (engine : Engine) (set : SyntaxSet) (id : ContextId) (lines : List (List ℕ))
+    (answers : List Answer) (state : Standing) (line : List ℕ)
     → IsClosed set → IsNeverLeft set id → AnswersAll engine set lines (start id) answers state
-    → ((e : ParsingError) (turns : ℕ) → RefusesLine engine set line state e turns → NamesUnresolved engine set line state e)
-    × ((r : ContextReference) → PicksUnresolved engine set line state r → (turns : ℕ) × RefusesLine engine set line state (error.UnresolvedContextReference r) turns)
+    → ((e : ParsingError) (turns : ℕ) → RefusesLine engine set line state e turns
+    → NamesUnresolved engine set line state e)
+    × ((r : ContextReference) → PicksUnresolved engine set line state r
+    → (turns : ℕ) × RefusesLine engine set line state (error.UnresolvedContextReference r) turns)
 
 -- ---- definitions whose sets are so ----
 
 -- A set whose syntaxes are definitions linked to one another, all of whose references are by name, is closed.
 abbrev pub LinksClosed : Type 0
-LinksClosed = (set : SyntaxSet) (definitions : List SyntaxDefinition) → syntaxes_in set ≡ linked definitions → AreByName definitions → IsClosed set
+LinksClosed = (set : SyntaxSet) (definitions : List SyntaxDefinition)
+    → syntaxes_in set ≡ linked definitions → AreByName definitions → IsClosed set

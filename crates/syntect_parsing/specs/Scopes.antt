@@ -38,19 +38,25 @@ module _ (engine : Engine) where
   abbrev pub effect : Live → ℕ → Scopes → Option (ℕ × ℕ) → Option Capture
   effect m group scopes None = None
   effect m group scopes (Some at) =
-      if nat_lt at.0 at.1 && nat_le m.start at.0 && nat_le at.1 m.end && not (in_lookaround m.searched group)
+      if nat_lt at.0 at.1 && nat_le m.start at.0 && nat_le at.1 m.end
+      && not (in_lookaround m.searched group)
       then Some (record { start = at.0; end = at.1; scopes = scopes })
       else None
 
   abbrev pub captures : Live → List Capture
-  captures m = filter_map (λ entry. effect m entry.0 entry.1 (group_at m.groups entry.0)) (unwrap_or m.pattern.captures [])
+  captures m =
+      filter_map (λ entry. effect m entry.0 entry.1 (group_at m.groups entry.0))
+      (unwrap_or m.pattern.captures [])
 
   -- the scopes of a byte inside a match: this base, the match's scopes, those of the captures over the byte
   abbrev pub scopes_at : Scopes → Live → ℕ → Scopes
-  scopes_at below m place = below ++ m.pattern.scope ++ flat_map (λ c. c.scopes) (longer_first (filter (covers place) (captures m)))
+  scopes_at below m place =
+      below ++ m.pattern.scope
+      ++ flat_map (λ c. c.scopes) (longer_first (filter (covers place) (captures m)))
 
   -- the scopes of each byte that a turn with this match passes: those before the match have the visible ones
   abbrev pub scopes_passed : SyntaxSet → List Level → ℕ → Live → List Scopes
   scopes_passed set levels place m =
       replicate (m.start - place) (visible set levels)
-      ++ map (scopes_at (visible_base set levels m.pattern.operation) m) (range_with_len m.start (m.end - m.start))
+      ++ map (scopes_at (visible_base set levels m.pattern.operation) m)
+      (range_with_len m.start (m.end - m.start))

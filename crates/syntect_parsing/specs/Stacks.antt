@@ -24,7 +24,9 @@ cleared (Some amount) stack = applied (Clear amount) stack
 
 -- a context on a stack: it clears first, and then puts its `meta_scope` and its `meta_content_scope` there
 abbrev pub enter : SyntaxSet → ScopeStack → ContextId → ScopeStack
-enter set stack id = onto (cleared (clearing set id) stack) (part_of (λ c. c.meta_scope ++ c.meta_content_scope) set id)
+enter set stack id =
+    onto (cleared (clearing set id) stack)
+    (part_of (λ c. c.meta_scope ++ c.meta_content_scope) set id)
 
 -- the stack of these levels, made from the bottom (its scopes are the visible ones: a law)
 abbrev pub stack_of : SyntaxSet → List Level → ScopeStack

@@ -24,5 +24,9 @@ GiveScopes (RefusedBy e ∷ answers) = GiveScopes answers
 -- From the start in a context that is never left and has a scope of its own, in a set that clears nothing, each byte of
 -- each line that is accepted has a scope.
 abbrev pub BytesHaveScopes : Type 0
-BytesHaveScopes = (engine : Engine) (set : SyntaxSet) (id : ContextId) (lines : List (List ℕ)) (answers : List Answer) (state : Standing)
-    → IsClosed set → IsNeverLeft set id → ClearsNothing set → part_of (λ c. c.meta_scope ++ c.meta_content_scope) set id ≢ [] → AnswersAll engine set lines (start id) answers state → GiveScopes answers
+BytesHaveScopes =
+    (engine : Engine) (set : SyntaxSet) (id : ContextId) (lines : List (List ℕ))
+    (answers : List Answer) (state : Standing)
+    → IsClosed set → IsNeverLeft set id → ClearsNothing set
+    → part_of (λ c. c.meta_scope ++ c.meta_content_scope) set id ≢ []
+    → AnswersAll engine set lines (start id) answers state → GiveScopes answers

@@ -27,13 +27,21 @@ uses_backrefs set id = option_map_or (λ c. c.uses_backrefs) (context_at set id)
 -- a new level keeps its opening match where its context or one of its prototypes uses back references
 abbrev pub new_level : SyntaxSet → Opening → ContextId → List ContextId → Level
 new_level set opening id prototypes =
-    record { context = id; prototypes = prototypes; opening = if list_any (uses_backrefs set) (id ∷ prototypes) then Some opening else None }
+    record {
+      context = id;
+      prototypes = prototypes;
+      opening = if list_any (uses_backrefs set) (id ∷ prototypes) then Some opening
+          else None;
+    }
 
 -- new levels: the first keeps these prototypes, the last has the `with_prototype` after them
-abbrev pub new_levels : SyntaxSet → Opening → List ContextId → Option ContextId → List ContextId → List Level
+abbrev pub new_levels : SyntaxSet → Opening → List ContextId → Option ContextId → List ContextId
+    → List Level
 new_levels set opening kept with_prototype [] = []
-new_levels set opening kept with_prototype (id ∷ []) = new_level set opening id (kept ++ option_to_list with_prototype) ∷ []
-new_levels set opening kept with_prototype (id ∷ next ∷ ids) = new_level set opening id kept ∷ new_levels set opening [] with_prototype (next ∷ ids)
+new_levels set opening kept with_prototype (id ∷ []) =
+    new_level set opening id (kept ++ option_to_list with_prototype) ∷ []
+new_levels set opening kept with_prototype (id ∷ next ∷ ids) =
+    new_level set opening id kept ∷ new_levels set opening [] with_prototype (next ∷ ids)
 
 abbrev pub without_last : {X : Type 0} → List X → List X
 without_last xs = take (length xs - 1) xs
@@ -41,12 +49,15 @@ without_last xs = take (length xs - 1) xs
 -- the levels that a match opens by this list, the first of which keeps these prototypes
 abbrev pub opened : SyntaxSet → List ℕ → Live → List ContextId → List ContextReference → List Level
 opened set line m kept refs =
-    new_levels set (record { region = m.groups; line = line }) kept (option_and_then target m.pattern.with_prototype) (filter_map target refs)
+    new_levels set (record { region = m.groups; line = line }) kept
+    (option_and_then target m.pattern.with_prototype) (filter_map target refs)
 
 -- a push adds levels, a set first takes the top level off and keeps its prototypes, a pop takes it off
 abbrev pub levels_by : SyntaxSet → List ℕ → List Level → Live → MatchOperation → List Level
 levels_by set line levels m (op.Push refs) = levels ++ opened set line m [] refs
-levels_by set line levels m (op.Set refs) = without_last levels ++ opened set line m (option_map_or (λ l. l.prototypes) (last levels) []) refs
+levels_by set line levels m (op.Set refs) =
+    without_last levels ++ opened set line m
+    (option_map_or (λ l. l.prototypes) (last levels) []) refs
 levels_by set line levels m op.Pop = without_last levels
 levels_by set line levels m op.None = levels
 
@@ -60,18 +71,27 @@ cuts_after p m = if m.from_with_prototype then p.cuts ++ length p.levels ∷ [] 
 
 -- an empty push is recorded, with the old height plus one
 abbrev pub record_by : Position → ℕ → MatchOperation → Option Record
-record_by p end (op.Push refs) = if end == p.place then Some (record { place = p.place; height = length p.levels + 1 }) else p.last
+record_by p end (op.Push refs) =
+    if end == p.place then Some (record { place = p.place; height = length p.levels + 1 })
+    else p.last
 record_by p end (op.Set refs) = p.last
 record_by p end op.Pop = p.last
 record_by p end op.None = p.last
 
 -- empty pushes and sets are counted, a move begins anew
 abbrev pub idle_by : Position → ℕ → MatchOperation → ℕ
-idle_by p end operation = if end == p.place then p.idle + option_map_or (λ refs. 1) (list_of operation) 0 else 0
+idle_by p end operation =
+    if end == p.place then p.idle + option_map_or (λ refs. 1) (list_of operation) 0 else 0
 
 abbrev pub position_after : SyntaxSet → List ℕ → Position → Live → Position
 position_after set line p m =
-    record { levels = levels_after set line p.levels m; cuts = cuts_after p m; place = m.end; last = record_by p m.end m.pattern.operation; idle = idle_by p m.end m.pattern.operation }
+    record {
+      levels = levels_after set line p.levels m;
+      cuts = cuts_after p m;
+      place = m.end;
+      last = record_by p m.end m.pattern.operation;
+      idle = idle_by p m.end m.pattern.operation;
+    }
 
 -- a move without a match
 abbrev pub skipped : List ℕ → Position → Position

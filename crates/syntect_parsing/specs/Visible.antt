@@ -35,11 +35,17 @@ opened_on set below id = left_by (clearing set id) below ++ part_of (λ c. c.met
 
 -- the open scopes, level by level
 abbrev pub visible : SyntaxSet → List Level → Scopes
-visible set levels = fold (λ below l. opened_on set below l.context ++ part_of (λ c. c.meta_content_scope) set l.context) [] levels
+visible set levels =
+    fold (λ below l. opened_on set below l.context
+    ++ part_of (λ c. c.meta_content_scope) set l.context) [] levels
 
 -- what stands below a match's own scopes: a push into clearing contexts clears, a set doesn't
 abbrev pub visible_base : SyntaxSet → List Level → MatchOperation → Scopes
-visible_base set levels (op.Push refs) = fold (opened_on set) (visible set levels) (filter_map target refs)
-visible_base set levels (op.Set refs) = visible set levels ++ flat_map (part_of (λ c. c.meta_scope) set) (filter_map target refs)
-visible_base set levels op.Pop = left_by (top_clearing set levels) (visible set (without_last levels)) ++ top_part (λ c. c.meta_scope) set levels
+visible_base set levels (op.Push refs) =
+    fold (opened_on set) (visible set levels) (filter_map target refs)
+visible_base set levels (op.Set refs) =
+    visible set levels ++ flat_map (part_of (λ c. c.meta_scope) set) (filter_map target refs)
+visible_base set levels op.Pop =
+    left_by (top_clearing set levels) (visible set (without_last levels))
+    ++ top_part (λ c. c.meta_scope) set levels
 visible_base set levels op.None = visible set levels

@@ -22,16 +22,21 @@ use Rattle.syntect_contexts.specs.declared.error.ParsingError.TheVariants as err
 -- Each turn of the line's reading looks at no more patterns than this; what is searched for each is linear, and a search of it
 -- in the line takes no more steps than that.
 abbrev pub LooksWithin : SyntaxSet → List ℕ → Standing → ℕ → ℕ → Type 0
-LooksWithin set line state patterns most = (p : Position) → Reaches dialect set line (at_start state) p
-    → (length (chain_at set (trimmed p)) ≤ patterns) × AreWithin (length line) most (chain_at set (trimmed p))
+LooksWithin set line state patterns most =
+    (p : Position) → Reaches dialect set line (at_start state) p
+    → (length (chain_at set (trimmed p)) ≤ patterns)
+    × AreWithin (length line) most (chain_at set (trimmed p))
 
 -- from the number before the line to the one after it the searches of so many turns took at most those steps of each turn
 abbrev pub TakesSteps : SyntaxSet → List ℕ → Standing → ℕ → ℕ → ℕ → Type 0
-TakesSteps set line state turns before after = (patterns most : ℕ) → LooksWithin set line state patterns most → after ≤ before + turns * turn_steps patterns most (length line)
+TakesSteps set line state turns before after = (patterns most : ℕ)
+    → LooksWithin set line state patterns most
+    → after ≤ before + turns * turn_steps patterns most (length line)
 
 -- the same of the one turn from a position where cuts are dropped
 abbrev pub TakesTurnSteps : SyntaxSet → List ℕ → Position → ℕ → ℕ → Type 0
-TakesTurnSteps set line p before after = (most : ℕ) → AreWithin (length line) most (chain_at set p) → after ≤ before + turn_steps (length (chain_at set p)) most (length line)
+TakesTurnSteps set line p before after = (most : ℕ) → AreWithin (length line) most (chain_at set p)
+    → after ≤ before + turn_steps (length (chain_at set p)) most (length line)
 
 -- ---- a bound that the set and the line give ----
 
@@ -43,7 +48,8 @@ pub record IsPlainWithin (long most : ℕ) (m : MatchPattern) : Type 0 where
 
 -- so it is with each pattern of the set
 abbrev pub AllWithin : SyntaxSet → ℕ → ℕ → Type 0
-AllWithin set long most = (id : ContextId) (index : ℕ) (m : MatchPattern) → slice_get (entries set id) index ≡ Some (Match m) → IsPlainWithin long most m
+AllWithin set long most = (id : ContextId) (index : ℕ) (m : MatchPattern)
+    → slice_get (entries set id) index ≡ Some (Match m) → IsPlainWithin long most m
 
 -- no context has more patterns than this, those that includes lead to counted for each path
 abbrev pub HasWalksWithin : SyntaxSet → ℕ → Type 0
@@ -56,12 +62,16 @@ prototypes_of levels = length (flat_map (λ l. l.prototypes) levels)
 -- No turn of the line looks at more patterns: those of each prototype that the open levels brought, and of one more for each
 -- turn that there may be, of the top context, and of its own prototype.
 abbrev pub most_patterns : SyntaxSet → List ℕ → Standing → ℕ → ℕ
-most_patterns set line state each = (prototypes_of state.levels + most_turns set line state + 2) * each
+most_patterns set line state each =
+    (prototypes_of state.levels + most_turns set line state + 2) * each
 
 -- from the number before the line to the one after it all searches took at most this
 abbrev pub TakesMostSteps : SyntaxSet → List ℕ → Standing → ℕ → ℕ → Type 0
-TakesMostSteps set line state before after = (each most : ℕ) → HasWalksWithin set each → AllWithin set (length line) most
-    → after ≤ before + most_turns set line state * turn_steps (most_patterns set line state each) most (length line)
+TakesMostSteps set line state before after =
+    (each most : ℕ) → HasWalksWithin set each → AllWithin set (length line) most
+    → after ≤ before
+    + most_turns set line state
+    * turn_steps (most_patterns set line state each) most (length line)
 
 -- ---- want of memory ----
 

@@ -27,7 +27,8 @@ pub struct Mark<'s> {
 /// Where a group of a match stands, if a capture of it has effect: it was set to a stretch that isn't empty and lies in
 /// the match, and stands in no lookaround of the pattern that was searched.
 fn effect(taken: &Taken<'_, '_>, group: usize) -> Option<(usize, usize)>
-    ensures stands { (scopes : Scopes) → option_map (λ at. record { start = at.0; end = at.1; scopes = scopes }) result
+    ensures stands { (scopes : Scopes)
+        → option_map (λ at. record { start = at.0; end = at.1; scopes = scopes }) result
         ≡ effect dialect (live_of taken.now) group scopes (group_at taken.now.region.now group) }
     ensures rises { IfSome result (λ at. at.0 < at.1) }
 {
@@ -86,7 +87,8 @@ fn collect_marks<'s>(
 
 /// Puts marks in order: by place, then pops first, then longer captures first.
 fn sort_marks(marks: &mut Vec<Mark<'_>>) -> Result<(), AllocError>
-    ensures { OnOk result (marks.new.items ≡ in_order (λ m. m.place) (in_order (λ m. m.rank) marks.old.items)) }
+    ensures { OnOk result (marks.new.items ≡ in_order (λ m. m.place)
+        (in_order (λ m. m.rank) marks.old.items)) }
 {
     marks.sort_by_key(|m| m.rank)?;
     marks.sort_by_key(|m| m.place)

@@ -147,8 +147,14 @@ fn prototypes_of_last(alloc: Global, levels: &[Level]) -> Result<Seq<ContextId>,
 fn count_idle(p: &mut Position, height: usize, m: &Candidate<'_>)
     requires few { p.old.idle ≤ MOST_IDLE }
     requires low { height < 9223372036854775808 }
-    ensures last { p.new.last ≡ (if m.now.end == p.old.place then record_at p.old.place height p.old.last m.now.pattern.now.operation else p.old.last) }
-    ensures idle { p.new.idle ≡ (if m.now.end == p.old.place then p.old.idle + option_map_or (λ refs. 1) (list_of m.now.pattern.now.operation) 0 else 0) }
+    ensures last { p.new.last
+        ≡ (if m.now.end == p.old.place
+        then record_at p.old.place height p.old.last m.now.pattern.now.operation
+        else p.old.last) }
+    ensures idle { p.new.idle
+        ≡ (if m.now.end == p.old.place
+        then p.old.idle + option_map_or (λ refs. 1) (list_of m.now.pattern.now.operation) 0
+        else 0) }
     ensures levels { p.new.levels ≡ p.old.levels }
     ensures cuts { p.new.cuts ≡ p.old.cuts }
     ensures place { p.new.place ≡ p.old.place }

@@ -113,7 +113,8 @@ impl ParseState {
         syntax_set: &SyntaxSet,
     ) -> Result<Vec<(usize, ScopeStackOp)>, ParsingError>
         ensures accepted { IfOk result (λ ops.
-            Accepts dialect syntax_set.now line.now (standing self.old) (standing self.new) ops.items) }
+            Accepts dialect syntax_set.now line.now (standing self.old) (standing self.new)
+            ops.items) }
         ensures refused { IfErr result (
             MayRefuse dialect syntax_set.now line.now (standing self.old)) }
         ensures err { OnErr result (standing self.new ≡ standing self.old) }
@@ -226,7 +227,9 @@ pub fn turns_of_line(
 
 /// The first scope of the content of the top level.
 fn first_content(set: &SyntaxSet, levels: &[Level]) -> Option<Scope>
-    ensures { option_to_list result ≡ take 1 (option_map_or (λ l. part_of (λ c. c.meta_content_scope) set.now l.context) (last levels.now) []) }
+    ensures { option_to_list result
+        ≡ take 1 (option_map_or (λ l. part_of (λ c. c.meta_content_scope) set.now l.context)
+        (last levels.now) []) }
 {
     let top = levels.last()?;
     let context = set.context_at(top.context)?;

@@ -84,7 +84,8 @@ abbrev pub changed : StyleModifier → List (Style × List ℕ) → List (Style 
 changed modifier ps = map (λ p. (restyled modifier p.0, p.1)) ps
 
 -- pieces between two bytes are changed: they are cut at the first, and what is behind it at the second
-pub record IsModified (start end : ℕ) (modifier : StyleModifier) (ps new : List (Style × List ℕ)) : Type 0 where
+pub record IsModified (start end : ℕ) (modifier : StyleModifier)
+    (ps new : List (Style × List ℕ)) : Type 0 where
   pub before : List (Style × List ℕ)
   pub behind : List (Style × List ℕ)
   pub inside : List (Style × List ℕ)

@@ -58,7 +58,8 @@ TakesAt match place old false new = (new ≡ old) × (match place ≡ match (pla
 
 -- the same of a pattern's matches in a text
 abbrev pub TriesAt : List ℕ → List ℕ → ℕ → Groups → Bool → Groups → Type 0
-TriesAt pattern text place old answer new = TakesAt (pattern_found pattern text) place old answer new
+TriesAt pattern text place old answer new =
+    TakesAt (pattern_found pattern text) place old answer new
 
 -- the same of the program's matches
 abbrev pub TakesHere : List ℕ → Program → ℕ → Groups → Bool → Groups → Type 0
@@ -66,7 +67,8 @@ TakesHere s p place old answer new = (tree : Tree) → IsProgramOf p tree
     → TakesAt (found s tree) place old answer new
 
 -- the value that was handed in and the one that was left, if one was lent
-abbrev pub Leaves : {R : Type 0} → (R → R → Type 0) → Option (MutBor R) → Unit {0} ⊎ ((MutBor R × Unit {0}) ⊎ ⊥) → Type 0
+abbrev pub Leaves : {R : Type 0} → (R → R → Type 0) → Option (MutBor R)
+    → Unit {0} ⊎ ((MutBor R × Unit {0}) ⊎ ⊥) → Type 0
 Leaves P None y = Unit {0}
 Leaves P (Some x) (inl y) = ⊥
 Leaves P (Some x) (inr (inl y)) = P x.now y.0.now
@@ -74,4 +76,5 @@ Leaves P (Some x) (inr (inr y)) = ⊥
 
 -- a match of the pattern begins at the place
 abbrev pub pattern_begins : List ℕ → List ℕ → ℕ → Bool
-pattern_begins pattern s place = is_some (option_and_then (λ tree. found_at s tree place) (pattern_tree pattern))
+pattern_begins pattern s place =
+    is_some (option_and_then (λ tree. found_at s tree place) (pattern_tree pattern))

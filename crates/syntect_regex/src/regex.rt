@@ -153,7 +153,8 @@ impl Regex {
 
     /// Why the text is no pattern, if it is none: `NotAPattern`, or `Memory` where that was wanting.
     pub fn try_compile(alloc: Global, text: &str) -> Option<PatternError>
-        ensures some { IfSome result (λ e. e ≡ PatternError.NotAPattern → pattern_tree text.now ≡ None) }
+        ensures some { IfSome result
+            (λ e. e ≡ PatternError.NotAPattern → pattern_tree text.now ≡ None) }
         ensures none { IfNone result (is_some (pattern_tree text.now) ≡ true) }
     {
         match compile(alloc, text) {
@@ -173,7 +174,8 @@ impl Regex {
     /// Whether a lookaround holds the group with this number. None holds group 0, since that is the whole match. There is no
     /// answer where the pattern has no such group, nor where the text is no pattern.
     pub fn group(&self, number: usize) -> Option<bool>
-        ensures { result ≡ option_and_then (λ tree. group_in_look tree number) (pattern_tree self.now) }
+        ensures { result ≡ option_and_then (λ tree. group_in_look tree number)
+            (pattern_tree self.now) }
     {
         self.body.details.group(number)
     }
@@ -257,8 +259,12 @@ impl Regex {
         requires order { begin ≤ end }
         requires begin_boundary { IsCharBoundary text.now begin }
         requires end_boundary { IsCharBoundary text.now end }
-        ensures ok { IfOk result (λ found. TakesMatch (pattern_found self.now (take end text.now) begin) region.old found region.new) }
-        ensures is_match { IfOk result (λ found. found ≡ true → IsPatternMatch self.now (take end text.now) begin region.new) }
+        ensures ok { IfOk result
+            (λ found. TakesMatch (pattern_found self.now
+            (take end text.now) begin) region.old found region.new) }
+        ensures is_match { IfOk result
+            (λ found. found ≡ true → IsPatternMatch self.now
+            (take end text.now) begin region.new) }
         ensures err { OnErr result (region.new ≡ region.old) }
     {
         self.search_counted(text, begin, end, region, &mut TurnCount::none())
@@ -307,7 +313,10 @@ impl Regex {
         region: &mut Region,
     ) -> Result<bool, AllocError>
         requires { begin ≤ last }
-        ensures ok { IfOk result (λ found. TakesUpTo (pattern_found self.now text.now) begin last region.old found region.new) }
+        ensures ok { IfOk result
+            (λ found.
+            TakesUpTo
+            (pattern_found self.now text.now) begin last region.old found region.new) }
         ensures err { OnErr result (region.new ≡ region.old) }
     {
         self.search_up_to_counted(text, begin, last, region, &mut TurnCount::none())
@@ -385,9 +394,15 @@ impl Regex {
         requires order { begin ≤ end }
         requires begin_boundary { IsCharBoundary text.now begin }
         requires end_boundary { IsCharBoundary text.now end }
-        ensures found { IfOk result (λ found. found ≡ is_some (pattern_found self.now (take end text.now) begin)) }
-        ensures is_match { IfOk result (λ found. found ≡ true → Leaves (λ old new. IsPatternMatch self.now (take end text.now) begin new) region.entry region.exit) }
-        ensures region { Leaves (λ old new. new ≡ (if is_ok result then unwrap_or (pattern_found self.now (take end text.now) begin) old else old)) region.entry region.exit }
+        ensures found { IfOk result
+            (λ found. found ≡ is_some (pattern_found self.now (take end text.now) begin)) }
+        ensures is_match { IfOk result
+            (λ found. found ≡ true → Leaves (λ old new.
+            IsPatternMatch self.now (take end text.now) begin new) region.entry region.exit) }
+        ensures region { Leaves
+            (λ old new. new ≡ (if is_ok result
+            then unwrap_or (pattern_found self.now (take end text.now) begin) old
+            else old)) region.entry region.exit }
     {
         match region {
             Some(region) => self.search_into(text, begin, end, region),
@@ -437,7 +452,8 @@ fn is_special(c: char) -> bool
 
 /// Puts the character last, escaped if it can have a meaning of its own.
 fn push_escaped(pattern: &mut String, c: char) -> Result<(), AllocError>
-    ensures { OnOk result (string_bytes pattern.new ≡ string_bytes pattern.old ++ encode_utf8_all (escaped_char c)) }
+    ensures { OnOk result (string_bytes pattern.new
+        ≡ string_bytes pattern.old ++ encode_utf8_all (escaped_char c)) }
 {
     if is_special(c) {
         pattern.push('\\')?;

@@ -107,7 +107,8 @@ impl Region {
         count: &mut TurnCount,
     ) -> Result<bool, AllocError>
         requires { begin ≤ last }
-        ensures found { IfOk result (λ b. TakesNear text.now program.now begin last self.old b self.new) }
+        ensures found { IfOk result
+            (λ b. TakesNear text.now program.now begin last self.old b self.new) }
         ensures err { OnErr result (self.new ≡ self.old) }
         ensures steps { OnOk result (IsWithinBound program.now size (length text.now)
             count.old.made count.new.made) }
@@ -128,7 +129,8 @@ impl Region {
         place: usize,
         count: &mut TurnCount,
     ) -> Result<bool, AllocError>
-        ensures found { IfOk result (λ b. TakesHere text.now program.now place self.old b self.new) }
+        ensures found { IfOk result
+            (λ b. TakesHere text.now program.now place self.old b self.new) }
         ensures err { OnErr result (self.new ≡ self.old) }
         ensures steps { OnOk result (IsWithinBound program.now size (length text.now)
             count.old.made count.new.made) }

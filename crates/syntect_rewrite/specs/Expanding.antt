@@ -7,17 +7,20 @@ use Rattle.syntect_rewrite.specs.Variables.{Variables, Part, itself, use_of, par
 use Rattle.syntect_rewrite.specs.declared.expand.Frame.{Frame}
 
 -- for the use of a variable a mark is written, and then its text
-abbrev pub marked_value : List ℕ → (Variables → List ℕ → List ℕ) → Variables → List ℕ → Option (List ℕ) → List ℕ
+abbrev pub marked_value : List ℕ → (Variables → List ℕ → List ℕ) → Variables → List ℕ
+    → Option (List ℕ) → List ℕ
 marked_value mark expand variables name None = mark
 marked_value mark expand variables name (Some text) = mark ++ expand (without name variables) text
 
 abbrev pub marked_part : List ℕ → (Variables → List ℕ → List ℕ) → Variables → Part → List ℕ
 marked_part mark expand variables (itself c) = c
-marked_part mark expand variables (use_of name) = marked_value mark expand variables name (lookup (bytes_eq name) variables)
+marked_part mark expand variables (use_of name) =
+    marked_value mark expand variables name (lookup (bytes_eq name) variables)
 
 abbrev pub marked_within : List ℕ → ℕ → Variables → List ℕ → List ℕ
 marked_within mark zero variables t = []
-marked_within mark (suc n) variables t = flat_map (marked_part mark (marked_within mark n) variables) (parts part_len part t)
+marked_within mark (suc n) variables t =
+    flat_map (marked_part mark (marked_within mark n) variables) (parts part_len part t)
 
 -- a text with its variables expanded, with a mark for each use
 unfoldable pub marked : List ℕ → Variables → List ℕ → List ℕ
@@ -31,7 +34,8 @@ inner variables (f ∷ fs) = inner (without f.name variables) fs
 -- what is left to write: the text that is read in the last frame, then what follows the use that each frame was opened for
 abbrev pub left : List ℕ → Variables → List Frame → List ℕ → List ℕ
 left mark variables [] t = marked mark variables t
-left mark variables (f ∷ fs) t = left mark (without f.name variables) fs t ++ marked mark variables f.rest.now
+left mark variables (f ∷ fs) t =
+    left mark (without f.name variables) fs t ++ marked mark variables f.rest.now
 
 -- how many turns are left: each writes, or opens a frame, or closes one
 abbrev pub turns : Variables → List Frame → List ℕ → ℕ
@@ -55,23 +59,31 @@ AllVanish variables known = All (Vanishes variables) (keys_of known)
 abbrev pub AreTraced : Variables → List Frame → List ℕ → ℕ → Type 0
 AreTraced variables [] t written = ⊤
 AreTraced variables (f ∷ fs) t written =
-    (f.start ≡ written → left [] (without f.name variables) fs t ≡ use_value variables f.name) × (f.start ≤ written) × AreTraced (without f.name variables) fs t written
+    (f.start ≡ written → left [] (without f.name variables) fs t ≡ use_value variables f.name)
+    × (f.start ≤ written) × AreTraced (without f.name variables) fs t written
 
 -- Behind the use of a variable the text `after` follows. From the frames fs a step is made to the frames gs and what is
 -- read there, by which nothing is written, and which is one of the turns.
-abbrev pub Enters : Variables → List Frame → List (List ℕ × Bool) → ℕ → List ℕ → List ℕ → List Frame → List ℕ → Type 0
+abbrev pub Enters : Variables → List Frame → List (List ℕ × Bool) → ℕ → List ℕ → List ℕ → List Frame
+    → List ℕ → Type 0
 Enters variables fs known written name after gs next =
     (t : List ℕ)
-    → ((mark : List ℕ) (us : Variables) → marked mark us t ≡ marked_value mark (marked mark) us name (lookup (bytes_eq name) us) ++ marked mark us after)
+    → ((mark : List ℕ) (us : Variables)
+    → marked mark us t ≡ marked_value mark (marked mark) us name (lookup (bytes_eq name) us)
+    ++ marked mark us after)
     → AreTraced variables fs t written
-    → (left [] variables fs t ≡ left [] variables gs next) × (turns variables gs next < turns variables fs t) × AreTraced variables gs next written × AllVanish (inner variables gs) known
+    → (left [] variables fs t ≡ left [] variables gs next)
+    × (turns variables gs next < turns variables fs t) × AreTraced variables gs next written
+    × AllVanish (inner variables gs) known
 
 -- at the end of a text a step is made from the frames fs to the frames gs and what is read there, by which nothing is
 -- written
-abbrev pub Closes : List Frame → List (List ℕ × Bool) → ℕ → List Frame → List (List ℕ × Bool) → List ℕ → Type 0
+abbrev pub Closes : List Frame → List (List ℕ × Bool) → ℕ → List Frame → List (List ℕ × Bool)
+    → List ℕ → Type 0
 Closes fs known written gs later next =
     (variables : Variables) (t : List ℕ)
     → length t ≡ 0
     → AreTraced variables fs t written
     → AllVanish (inner variables fs) known
-    → ((mark : List ℕ) → left mark variables fs t ≡ left mark variables gs next) × AreTraced variables gs next written × AllVanish (inner variables gs) later
+    → ((mark : List ℕ) → left mark variables fs t ≡ left mark variables gs next)
+    × AreTraced variables gs next written × AllVanish (inner variables gs) later

@@ -24,5 +24,6 @@ replaced words t = flat_map (λ written. written) (parts (word_len words) (repla
 -- a bracket's name by the categories that it stands for
 abbrev pub brackets : Words
 brackets =
-    (codes "[:alpha:]", codes "\\p{L}") ∷ (codes "[:alnum:]", codes "\\p{L}\\p{N}") ∷ (codes "[:lower:]", codes "\\p{Ll}")
+    (codes "[:alpha:]", codes "\\p{L}") ∷ (codes "[:alnum:]", codes "\\p{L}\\p{N}")
+    ∷ (codes "[:lower:]", codes "\\p{Ll}")
     ∷ (codes "[:upper:]", codes "\\p{Lu}") ∷ (codes "[:digit:]", codes "\\p{Nd}") ∷ []

@@ -25,7 +25,8 @@ open_after depth s = if first s ∈ "[" then depth + 1 else if first s ∈ "]" t
 -- how many bytes of the signs belong to the class: those to its closing bracket, or all
 abbrev pub rest_len : ℕ → List (List ℕ) → ℕ
 rest_len depth [] = 0
-rest_len depth (s ∷ ss) = length s + (if closes depth s then 0 else rest_len (open_after depth s) ss)
+rest_len depth (s ∷ ss) =
+    length s + (if closes depth s then 0 else rest_len (open_after depth s) ss)
 
 -- the sign is `\n`
 abbrev pub is_newline : List ℕ → Bool
@@ -34,7 +35,8 @@ is_newline s = first s ∈ "\\" && slice_index s 1 ∈ "n"
 -- among the signs of the class `\n` is one of its own
 abbrev pub has_newline : ℕ → List (List ℕ) → Bool
 has_newline depth [] = false
-has_newline depth (s ∷ ss) = (depth == 0 && is_newline s) || (not (closes depth s) && has_newline (open_after depth s) ss)
+has_newline depth (s ∷ ss) =
+    (depth == 0 && is_newline s) || (not (closes depth s) && has_newline (open_after depth s) ss)
 
 -- how many bytes the class at the front has
 unfoldable pub class_len : List ℕ → ℕ

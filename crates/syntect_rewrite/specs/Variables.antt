@@ -24,7 +24,8 @@ name t = take (name_len t) (drop 2 t)
 unfoldable pub is_use : List ℕ → Bool
 is_use t =
     (first t ∈ "{" && slice_index t 1 ∈ "{")
-    && (nat_lt 0 (name_len t) && (slice_index t (name_len t + 2) ∈ "}" && slice_index t (name_len t + 3) ∈ "}"))
+    && (nat_lt 0 (name_len t)
+    && (slice_index t (name_len t + 2) ∈ "}" && slice_index t (name_len t + 3) ∈ "}"))
 
 -- a character that stands for itself, or the use of a variable
 pub data Part : Type 0 where
@@ -49,12 +50,14 @@ value_by expand variables name (Some text) = expand (without name variables) tex
 -- that is no variable's stands for nothing.
 abbrev pub written_by : (Variables → List ℕ → List ℕ) → Variables → Part → List ℕ
 written_by expand variables (itself c) = c
-written_by expand variables (use_of name) = value_by expand variables name (lookup (bytes_eq name) variables)
+written_by expand variables (use_of name) =
+    value_by expand variables name (lookup (bytes_eq name) variables)
 
 -- a text with its variables expanded, fewer than n within one another
 abbrev pub expanded_within : ℕ → Variables → List ℕ → List ℕ
 expanded_within zero variables t = []
-expanded_within (suc n) variables t = flat_map (written_by (expanded_within n) variables) (parts part_len part t)
+expanded_within (suc n) variables t =
+    flat_map (written_by (expanded_within n) variables) (parts part_len part t)
 
 -- a text with its variables expanded: no more can be within one another than there are
 unfoldable pub expanded : Variables → List ℕ → List ℕ

@@ -24,4 +24,5 @@ token_of false s = plain s
 
 -- the first token of a text for lines that have no newline, by its text and by whether it is a class that takes one
 abbrev pub IsLineToken : List ℕ → List ℕ → Bool → Type 0
-IsLineToken t s takes = (after : ℕ) → ended_token (line_token t) after ≡ ended_token (token_of takes s) after
+IsLineToken t s takes =
+    (after : ℕ) → ended_token (line_token t) after ≡ ended_token (token_of takes s) after

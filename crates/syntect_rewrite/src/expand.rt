@@ -54,7 +54,8 @@ fn name_len(bytes: &[u8]) -> usize
 /// The name of the variable with whose use the text begins, and what follows that.
 #[tactic(auto, unfolding(crate::specs::Variables::is_use))]
 fn used(text: &str) -> Option<(&str, &str)>
-    ensures cases { MatchOption result (uses.is_use text.now ≡ false) (λ p. uses.is_use text.now ≡ true) }
+    ensures cases { MatchOption result (uses.is_use text.now ≡ false)
+        (λ p. uses.is_use text.now ≡ true) }
     ensures name { IfSome result (λ p. p.0.now ≡ uses.name text.now) }
     ensures rest { IfSome result (λ p. p.1.now ≡ drop (uses.name_len text.now + 4) text.now) }
 {
@@ -84,7 +85,8 @@ fn value_of<'a>(
     frames: &[Frame<'_>],
     name: &Text,
 ) -> Option<&'a Text>
-    ensures { option_map (λ v. v.now) result ≡ lookup (bytes_eq name.now) (inner variables.now frames.now) }
+    ensures { option_map (λ v. v.now) result
+        ≡ lookup (bytes_eq name.now) (inner variables.now frames.now) }
 {
     if is_open(frames, name) {
         return None;
@@ -110,7 +112,8 @@ fn enter<'a>(
     after: &'a str,
 ) -> Result<&'a str, AllocError>
     requires { AllVanish (inner variables.now frames.now.items) known.now }
-    ensures kept { IfOk result (λ r. Enters variables.now frames.old.items known.now written name after.now frames.new.items r.now) }
+    ensures kept { IfOk result (λ r. Enters variables.now frames.old.items known.now written name
+        after.now frames.new.items r.now) }
 {
     if vanishes(known, &name) {
         return Ok(after);
@@ -146,7 +149,8 @@ fn settle(
     name: Text,
     vanishes: bool,
 ) -> Result<(), AllocError>
-    ensures { IsOk result → (us : Variables) → (IsTrue vanishes → Vanishes us name) → AllVanish (without name us) known.old → AllVanish us known.new }
+    ensures { IsOk result → (us : Variables) → (IsTrue vanishes → Vanishes us name)
+        → AllVanish (without name us) known.old → AllVanish us known.new }
 {
     if vanishes {
         remember(known, name)?;
@@ -164,8 +168,11 @@ fn close<'a>(
     written: usize,
 ) -> Result<Option<&'a str>, AllocError>
     ensures none { IfOk result (λ r. r ≡ None → length frames.old.items ≡ 0) }
-    ensures kept { IfOk result (λ o. IfSome o (λ r. Closes frames.old.items known.old written frames.new.items known.new r.now)) }
-    ensures shallower { IfOk result (λ o. IfSome o (λ r. length frames.old.items ≡ length frames.new.items + 1)) }
+    ensures kept { IfOk result
+        (λ o. IfSome o
+        (λ r. Closes frames.old.items known.old written frames.new.items known.new r.now)) }
+    ensures shallower { IfOk result
+        (λ o. IfSome o (λ r. length frames.old.items ≡ length frames.new.items + 1)) }
 {
     let Some(Frame { name, rest, start }) = frames.pop() else {
         return Ok(None);
@@ -184,11 +191,17 @@ fn turn<'a>(
     text: &'a str,
 ) -> Result<&'a str, AllocError>
     requires more { 0 < length text.now + length frames.now.items }
-    requires traced { AreTraced variables.now frames.now.items text.now (length (string_bytes out.now)) }
+    requires traced { AreTraced variables.now frames.now.items text.now
+        (length (string_bytes out.now)) }
     requires vanish { AllVanish (inner variables.now frames.now.items) known.now }
-    ensures kept { IfOk result (λ r. string_bytes out.new ++ left [] variables.now frames.new.items r.now ≡ string_bytes out.old ++ left [] variables.now frames.old.items text.now) }
-    ensures falls { IfOk result (λ r. turns variables.now frames.new.items r.now < turns variables.now frames.old.items text.now) }
-    ensures traced { IfOk result (λ r. AreTraced variables.now frames.new.items r.now (length (string_bytes out.new))) }
+    ensures kept { IfOk result
+        (λ r. string_bytes out.new ++ left [] variables.now frames.new.items r.now
+        ≡ string_bytes out.old ++ left [] variables.now frames.old.items text.now) }
+    ensures falls { IfOk result
+        (λ r. turns variables.now frames.new.items r.now
+        < turns variables.now frames.old.items text.now) }
+    ensures traced { IfOk result
+        (λ r. AreTraced variables.now frames.new.items r.now (length (string_bytes out.new))) }
     ensures vanish { IfOk result (λ r. AllVanish (inner variables.now frames.new.items) known.new) }
 {
     if text.is_empty() {

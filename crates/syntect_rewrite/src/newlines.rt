@@ -11,7 +11,8 @@ use std::alloc::{AllocError, Global};
 
 /// Adds a token as it is written for lines that have their newline.
 fn push_anchored(out: &mut String, token: &str) -> Result<(), AllocError>
-    ensures { OnOk result (string_bytes out.new ≡ string_bytes out.old ++ newlines.anchored_token (plain token.now)) }
+    ensures { OnOk result (string_bytes out.new
+        ≡ string_bytes out.old ++ newlines.anchored_token (plain token.now)) }
 {
     if first(token) == b'$' {
         out.push_str("(?m:$)")
@@ -44,7 +45,9 @@ fn push_ended(
     takes_newline: bool,
     after: u8,
 ) -> Result<(), AllocError>
-    ensures { OnOk result (string_bytes out.new ≡ string_bytes out.old ++ newlines.ended_token (token_of takes_newline token.now) after) }
+    ensures { OnOk result (string_bytes out.new
+        ≡ string_bytes out.old ++ newlines.ended_token
+        (token_of takes_newline token.now) after) }
 {
     if takes_newline {
         if after == b'?' {

@@ -8,7 +8,8 @@ use ucd_category::GeneralCategory;
 
 /// Adds a sign, with a placeholder for a reference to a group.
 fn push_tested(out: &mut String, sign: &str) -> Result<(), AllocError>
-    ensures { OnOk result (string_bytes out.new ≡ string_bytes out.old ++ testing.tested_sign sign.now) }
+    ensures { OnOk result (string_bytes out.new
+        ≡ string_bytes out.old ++ testing.tested_sign sign.now) }
 {
     let digit = byte_at(sign.as_bytes(), 1);
     if first(sign) == b'\\' && digit.is_ascii_digit() {

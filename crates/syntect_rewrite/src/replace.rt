@@ -17,7 +17,8 @@ pub(crate) fn begins(text: &str, word: &str) -> bool
 
 /// What replaces the bracket's name at the front of a text. Each has nine bytes.
 fn bracket(text: &str) -> Option<&'static str>
-    ensures cases { MatchOption result (IsNoWord replacing.brackets text.now) (λ w. IsWord replacing.brackets text.now 9 w.now) }
+    ensures cases { MatchOption result (IsNoWord replacing.brackets text.now)
+        (λ w. IsWord replacing.brackets text.now 9 w.now) }
     ensures last { MatchOption result (result ≡ result) (λ w. slice_index text.now 8 ≡ 93) }
 {
     // most characters are told by this one look

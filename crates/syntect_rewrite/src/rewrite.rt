@@ -18,7 +18,8 @@ pub fn rewrite(
     variables: &Table<Text, Text>,
     lines_include_newline: bool,
 ) -> Result<String, AllocError>
-    ensures { IfOk result (λ s. string_bytes s ≡ rewriting.rewritten variables.now lines_include_newline text.now) }
+    ensures { IfOk result (λ s. string_bytes s
+        ≡ rewriting.rewritten variables.now lines_include_newline text.now) }
 {
     let expanded = expand(alloc, text, variables)?;
     let named = replaced(alloc, expanded.as_str())?;

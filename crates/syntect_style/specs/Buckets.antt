@@ -26,7 +26,8 @@ pub record AreBuckets (rules : List Rule) (buckets : List (List Rule)) : Type 0 
 
 -- A theme made ready: its single rules in buckets, its other rules in their order, the last scopes of the paths and
 -- exclusions of these in buckets too.
-pub record IsReady (theme : Theme) (buckets : List (List Rule)) (others : List (ScopeSelector × StyleModifier)) (lasts : List (List Rule)) : Type 0 where
+pub record IsReady (theme : Theme) (buckets : List (List Rule))
+    (others : List (ScopeSelector × StyleModifier)) (lasts : List (List Rule)) : Type 0 where
   pub singles : AreBuckets (single_rules theme) buckets
   pub all_others : others ≡ other_rules theme
   pub last_scopes : AreBuckets (last_rules (other_rules theme)) lasts

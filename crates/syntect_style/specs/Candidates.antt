@@ -31,11 +31,14 @@ pub record Score : Type 0 where
 
 -- a single rule scores by its atoms, at its deepest place
 abbrev pub single_score : List ℕ → List (List ℕ) → Option Score
-single_score scope stack = option_map (λ place. record { power = length scope * 8 ^ place; place = Some place }) (deepest scope stack)
+single_score scope stack =
+    option_map (λ place. record { power = length scope * 8 ^ place; place = Some place })
+    (deepest scope stack)
 
 -- every other selector scores by its least choice
 abbrev pub other_score : ScopeSelector → List (List ℕ) → Option Score
-other_score selector stack = option_map (λ power. record { power = power; place = None }) (selector_score selector stack)
+other_score selector stack =
+    option_map (λ power. record { power = power; place = None }) (selector_score selector stack)
 
 -- none where the selector doesn't match
 abbrev pub score_of : ScopeSelector → List (List ℕ) → Option Score
@@ -58,9 +61,12 @@ candidate None score = None
 candidate (Some v) None = None
 
 -- the candidates for an attribute, in the theme's order
-abbrev pub candidates : {V : Type 0} → (StyleModifier → Option V) → Theme → List (List ℕ) → List (Candidate V)
+abbrev pub candidates : {V : Type 0} → (StyleModifier → Option V) → Theme → List (List ℕ)
+    → List (Candidate V)
 candidates attribute theme stack =
-    flat_map (λ item. filter_map (λ selector. candidate (attribute item.style) (score_of selector stack)) item.scope.selectors) theme.scopes
+    flat_map (λ item.
+    filter_map (λ selector. candidate (attribute item.style) (score_of selector stack))
+    item.scope.selectors) theme.scopes
 
 -- ---- the one that prevails ----
 
@@ -79,4 +85,5 @@ prevailing cs = find (λ c. list_all (λ d. not (beats d.score c.score)) cs) cs
 
 -- the value of the candidate that prevails
 abbrev pub winner : {V : Type 0} → (StyleModifier → Option V) → Theme → List (List ℕ) → Option V
-winner attribute theme stack = option_map (λ c. c.value) (prevailing (candidates attribute theme stack))
+winner attribute theme stack =
+    option_map (λ c. c.value) (prevailing (candidates attribute theme stack))

@@ -27,10 +27,12 @@ stack_of s = path_of s.state.now
 
 -- the operations that are left are in order
 abbrev pub IsReady : RangedHighlightIterator → Type 0
-IsReady s = IsCharBoundary s.text.now s.pos × InOrder s.text.now s.pos s.changes.now (length s.text.now)
+IsReady s =
+    IsCharBoundary s.text.now s.pos × InOrder s.text.now s.pos s.changes.now (length s.text.now)
 
 -- an iterator at the start of a text, with all operations before it
-pub record Begins (s : RangedHighlightIterator) (theme : Theme) (text : List ℕ) (changes : List (ℕ × ScopeStackOp)) (state : HighlightState) : Type 0 where
+pub record Begins (s : RangedHighlightIterator) (theme : Theme) (text : List ℕ)
+    (changes : List (ℕ × ScopeStackOp)) (state : HighlightState) : Type 0 where
   pub ready : IsReady s
   pub theme_is : theme_of s ≡ theme
   pub text_is : s.text.now ≡ text
@@ -60,7 +62,8 @@ abbrev pub Tells : RangedHighlightIterator → Type 0
 Tells s = Keeps (theme_of s) s.state.now
 
 -- a piece shows a stretch of a text
-pub record Shows (theme : Theme) (text : List ℕ) (tells : Type 0) (st : Stretch) (p : Style × Bor (List ℕ) × Range ℕ) : Type 0 where
+pub record Shows (theme : Theme) (text : List ℕ) (tells : Type 0) (st : Stretch)
+    (p : Style × Bor (List ℕ) × Range ℕ) : Type 0 where
   pub style : tells → p.0 ≡ shown theme st.scopes
   pub text_of : p.1.now ≡ slice_range text st.from st.to
   pub from : p.2.start ≡ st.from
@@ -74,7 +77,8 @@ pub record Carries (s t : RangedHighlightIterator) : Type 0 where
   pub keeps : Keeps (theme_of s) s.state.now → Keeps (theme_of s) t.state.now
 
 -- Operations were applied, from one place to another, and these are left.
-pub record Passes (s t : RangedHighlightIterator) (to : ℕ) (others : List (ℕ × ScopeStackOp)) : Type 0 where
+pub record Passes (s t : RangedHighlightIterator) (to : ℕ)
+    (others : List (ℕ × ScopeStackOp)) : Type 0 where
   pub done : List (ℕ × ScopeStackOp)
   pub split : s.changes.now ≡ done ++ others
   pub order : InOrder s.text.now s.pos done to
@@ -82,7 +86,8 @@ pub record Passes (s t : RangedHighlightIterator) (to : ℕ) (others : List (ℕ
   pub stack : stack_of t ≡ last_stack (stack_of s) done
 
 -- a piece: the next stretch, up to the place that is reached
-pub record GivesPiece (s t : RangedHighlightIterator) (p : Style × Bor (List ℕ) × Range ℕ) : Type 0 where
+pub record GivesPiece (s t : RangedHighlightIterator)
+    (p : Style × Bor (List ℕ) × Range ℕ) : Type 0 where
   pub piece : Stretch
   pub next : left s ≡ Ok piece ∷ left t
   pub to : piece.to ≡ t.pos
@@ -95,23 +100,30 @@ pub record Stops (s t : RangedHighlightIterator) : Type 0 where
   pub passes : Passes s t s.pos others
   pub over : IsOver t
 
-abbrev pub GivesItem : RangedHighlightIterator → Option (Result (Style × Bor (List ℕ) × Range ℕ) ScopeError) → RangedHighlightIterator → Type 0
+abbrev pub GivesItem : RangedHighlightIterator
+    → Option (Result (Style × Bor (List ℕ) × Range ℕ) ScopeError) → RangedHighlightIterator → Type 0
 GivesItem s None t = (left s ≡ []) × IsOver t × (stack_of t ≡ final s)
 GivesItem s (Some (Ok p)) t = GivesPiece s t p
-GivesItem s (Some (Err NoClearedScopesToRestore)) t = (left s ≡ Err NoClearedScopesToRestore ∷ []) × IsOver t × (stack_of t ≡ final s)
+GivesItem s (Some (Err NoClearedScopesToRestore)) t =
+    (left s ≡ Err NoClearedScopesToRestore ∷ []) × IsOver t × (stack_of t ≡ final s)
 GivesItem s (Some (Err Memory)) t = Stops s t
 
-abbrev pub Gives : RangedHighlightIterator → Option (Result (Style × Bor (List ℕ) × Range ℕ) ScopeError) → RangedHighlightIterator → Type 0
+abbrev pub Gives : RangedHighlightIterator
+    → Option (Result (Style × Bor (List ℕ) × Range ℕ) ScopeError) → RangedHighlightIterator → Type 0
 Gives s r t = Carries s t × GivesItem s r t
 
 -- ---- without places ----
 
 -- an item without its place in the text
-abbrev pub unranged : Option (Result (Style × Bor (List ℕ) × Range ℕ) ScopeError) → Option (Result (Style × Bor (List ℕ)) ScopeError)
+abbrev pub unranged : Option (Result (Style × Bor (List ℕ) × Range ℕ) ScopeError)
+    → Option (Result (Style × Bor (List ℕ)) ScopeError)
 unranged None = None
 unranged (Some (Err e)) = Some (Err e)
 unranged (Some (Ok p)) = Some (Ok (p.0, p.1))
 
 -- an item, with no place told
-abbrev pub GivesUnranged : HighlightIterator → Option (Result (Style × Bor (List ℕ)) ScopeError) → HighlightIterator → Type 0
-GivesUnranged s r t = (full : Option (Result (Style × Bor (List ℕ) × Range ℕ) ScopeError)) × Gives s.ranged full t.ranged × (r ≡ unranged full)
+abbrev pub GivesUnranged : HighlightIterator → Option (Result (Style × Bor (List ℕ)) ScopeError)
+    → HighlightIterator → Type 0
+GivesUnranged s r t =
+    (full : Option (Result (Style × Bor (List ℕ) × Range ℕ) ScopeError))
+    × Gives s.ranged full t.ranged × (r ≡ unranged full)

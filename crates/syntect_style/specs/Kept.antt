@@ -18,11 +18,15 @@ pub record AreStanding (theme : Theme) (stack : List (List ℕ)) (s : Standings)
 
 -- these are what the other rules come to
 abbrev pub AreLarge : Theme → List (List ℕ) → OtherStandings → Type 0
-AreLarge theme stack s = AreOthers theme stack (other_from s.foreground) (other_from s.background) (other_from s.font_style)
+AreLarge theme stack s =
+    AreOthers theme stack (other_from s.foreground) (other_from s.background)
+    (other_from s.font_style)
 
 -- and these, whose scores are small
 abbrev pub AreSmall : Theme → List (List ℕ) → SmallStandings → Type 0
-AreSmall theme stack s = AreOthers theme stack (other_from s.foreground) (other_from s.background) (other_from s.font_style)
+AreSmall theme stack s =
+    AreOthers theme stack (other_from s.foreground) (other_from s.background)
+    (other_from s.font_style)
 
 -- each of the other rules scores in so many of the lowest scopes of a stack what it scores in the stack
 pub record IsBase (theme : Theme) (stack : List (List ℕ)) (base : ℕ) : Type 0 where
@@ -40,7 +44,8 @@ pub record IsKnown (theme : Theme) (stack : List (List ℕ)) (k : Kept) : Type 0
 -- each one is about the scopes below it, its own on top
 abbrev pub AreKnown : Theme → List (List ℕ) → List Kept → Type 0
 AreKnown theme below [] = Unit {0}
-AreKnown theme below (k ∷ ks) = IsKnown theme (below ++ k.scope ∷ []) k × AreKnown theme (below ++ k.scope ∷ []) ks
+AreKnown theme below (k ∷ ks) =
+    IsKnown theme (below ++ k.scope ∷ []) k × AreKnown theme (below ++ k.scope ∷ []) ks
 
 -- the scopes of the highest of these stacks
 abbrev pub scopes_of : List Kept → List (List ℕ)

@@ -36,7 +36,8 @@ pub record Stretch : Type 0 where
 
 -- a stretch, unless it is empty
 abbrev pub stretch : ℕ → ℕ → List (List ℕ) → List Stretch
-stretch from to scopes = if nat_lt from to then record { from = from; to = to; scopes = scopes } ∷ [] else []
+stretch from to scopes =
+    if nat_lt from to then record { from = from; to = to; scopes = scopes } ∷ [] else []
 
 -- each is a piece
 abbrev pub oks : List Stretch → List (Result Stretch ScopeError)
@@ -44,9 +45,12 @@ oks [] = []
 oks (x ∷ xs) = Ok x ∷ oks xs
 
 -- the stretches between the operations' places, from a place to the end, each with the stack at it; a refused operation ends them
-abbrev pub stretches : ℕ → ℕ → ScopeStack → List (ℕ × ScopeStackOp) → List (Result Stretch ScopeError)
+abbrev pub stretches : ℕ → ℕ → ScopeStack → List (ℕ × ScopeStackOp)
+    → List (Result Stretch ScopeError)
 stretches end at s [] = oks (stretch at end s.scopes)
-stretches end at s (o ∷ os) = if is_refused o.1 s then Err NoClearedScopesToRestore ∷ [] else oks (stretch at o.0 s.scopes) ++ stretches end o.0 (applied o.1 s) os
+stretches end at s (o ∷ os) =
+    if is_refused o.1 s then Err NoClearedScopesToRestore ∷ []
+    else oks (stretch at o.0 s.scopes) ++ stretches end o.0 (applied o.1 s) os
 
 -- the stack after the operations before a refused one
 abbrev pub last_stack : ScopeStack → List (ℕ × ScopeStackOp) → ScopeStack
@@ -62,4 +66,5 @@ pub record Joins (text : List ℕ) (pieces : List (Style × Bor (List ℕ))) : T
 
 -- each byte of the pieces has the theme's style for its scopes
 abbrev pub IsStyled : Theme → List (List (List ℕ)) → List (Style × Bor (List ℕ)) → Type 0
-IsStyled theme bytes pieces = flat_map (λ p. replicate (length p.1.now) p.0) pieces ≡ map (shown theme) bytes
+IsStyled theme bytes pieces =
+    flat_map (λ p. replicate (length p.1.now) p.0) pieces ≡ map (shown theme) bytes

@@ -33,7 +33,10 @@ Inserts f fs g = bits_of g ≡ with_flags (bits_of f) fs
 
 -- the debug text of a colour
 abbrev pub color_text : Color → List ℕ
-color_text c = codes "Color { r/g/b/a: " ++ (decimal c.r ++ (codes "/" ++ (decimal c.g ++ (codes "/" ++ (decimal c.b ++ (codes "/" ++ (decimal c.a ++ codes " }")))))))
+color_text c =
+    codes "Color { r/g/b/a: "
+    ++ (decimal c.r ++ (codes "/" ++ (decimal c.g
+    ++ (codes "/" ++ (decimal c.b ++ (codes "/" ++ (decimal c.a ++ codes " }")))))))
 
 -- ---- the debug text of flags ----
 
@@ -57,19 +60,25 @@ has_flag bits flag = bit_and bits flag == flag
 
 -- the bits that are no flag's, as a hexadecimal number, if there are any
 abbrev pub other_bits : ℕ → List (List ℕ)
-other_bits bits = if bits_without bits all_bits == 0 then [] else (codes "0x" ++ digits 16 false (bits_without bits all_bits)) ∷ []
+other_bits bits =
+    if bits_without bits all_bits == 0 then []
+    else (codes "0x" ++ digits 16 false (bits_without bits all_bits)) ∷ []
 
 -- a text if it is there, behind a bar unless it is the first
 abbrev pub part_text : Bool → Bool → List ℕ → List ℕ
-part_text is_first is_there text = if is_there then (if is_first then text else codes " | " ++ text) else []
+part_text is_first is_there text =
+    if is_there then (if is_first then text else codes " | " ++ text) else []
 
 -- the number of bits that are no flag's, behind a bar unless it is the first, and a word where there is nothing at all
 abbrev pub rest_text : Bool → ℕ → List ℕ
 rest_text is_first bits =
-    if bits == 0 then (if is_first then codes "(empty)" else []) else part_text is_first true (codes "0x" ++ digits 16 false bits)
+    if bits == 0 then (if is_first then codes "(empty)" else [])
+    else part_text is_first true (codes "0x" ++ digits 16 false bits)
 
 -- the names of the flags, and the other bits
 abbrev pub flags_text : FontStyle → List ℕ
 flags_text f =
     let bits = bits_of f in
-    between_bars (given (has_flag bits 1) (codes "BOLD") ++ (given (has_flag bits 2) (codes "UNDERLINE") ++ (given (has_flag bits 4) (codes "ITALIC") ++ other_bits bits)))
+    between_bars (given (has_flag bits 1) (codes "BOLD")
+    ++ (given (has_flag bits 2) (codes "UNDERLINE")
+    ++ (given (has_flag bits 4) (codes "ITALIC") ++ other_bits bits)))

@@ -49,8 +49,10 @@ byte_value high low = pair_value (hex_value high) (hex_value low)
 -- three digits, one for each part; six, two for each part; or eight, with two for how opaque it is
 abbrev pub color_of_digits : List ℕ → Option Color
 color_of_digits (r ∷ g ∷ b ∷ []) = color_from (hex_value r) (hex_value g) (hex_value b) (Some 255)
-color_of_digits (r ∷ s ∷ g ∷ h ∷ b ∷ c ∷ []) = color_from (byte_value r s) (byte_value g h) (byte_value b c) (Some 255)
-color_of_digits (r ∷ s ∷ g ∷ h ∷ b ∷ c ∷ a ∷ d ∷ []) = color_from (byte_value r s) (byte_value g h) (byte_value b c) (byte_value a d)
+color_of_digits (r ∷ s ∷ g ∷ h ∷ b ∷ c ∷ []) =
+    color_from (byte_value r s) (byte_value g h) (byte_value b c) (Some 255)
+color_of_digits (r ∷ s ∷ g ∷ h ∷ b ∷ c ∷ a ∷ d ∷ []) =
+    color_from (byte_value r s) (byte_value g h) (byte_value b c) (byte_value a d)
 color_of_digits digits = None
 
 -- a number sign, and then digits

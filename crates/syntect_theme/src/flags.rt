@@ -72,7 +72,9 @@ impl FontStyle {
 
     /// Puts the flags of the other in, or takes them out.
     pub fn set(&mut self, other: FontStyle, value: bool)
-        ensures { bits_of self.new ≡ (if value then bit_or (bits_of self.old) (bits_of other) else bits_without (bits_of self.old) (bits_of other)) }
+        ensures { bits_of self.new
+            ≡ (if value then bit_or (bits_of self.old) (bits_of other)
+            else bits_without (bits_of self.old) (bits_of other)) }
     {
         if value {
             self.insert(other);

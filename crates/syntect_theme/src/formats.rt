@@ -29,7 +29,9 @@ fn write_flag<W: fmt::Write>(
     is_there: bool,
     name: &str,
 ) -> Result<bool, fmt::Error>
-    ensures writes { OnOk result (IsPlainFormatter f.old → HasWritten W.write_str_gives f.old (part_text is_first is_there name.now) f.new) }
+    ensures writes { OnOk result
+        (IsPlainFormatter f.old
+        → HasWritten W.write_str_gives f.old (part_text is_first is_there name.now) f.new) }
     ensures next { IfOk result (λ first. first ≡ (is_first && not is_there)) }
 {
     if !is_there {
@@ -84,7 +86,8 @@ impl fmt::HasDigits for FontStyle {
 
 impl fmt::Binary for FontStyle {
     fn fmt<W: fmt::Write>(&self, f: &mut fmt::Formatter<W>) -> fmt::Result
-        ensures { WritesOnOk W.write_str_gives f.old result (digits 2 false (bits_of self.now)) f.new }
+        ensures { WritesOnOk W.write_str_gives f.old result
+            (digits 2 false (bits_of self.now)) f.new }
     {
         fmt::Binary::fmt(&self.bits(), f)
     }
@@ -92,7 +95,8 @@ impl fmt::Binary for FontStyle {
 
 impl fmt::Octal for FontStyle {
     fn fmt<W: fmt::Write>(&self, f: &mut fmt::Formatter<W>) -> fmt::Result
-        ensures { WritesOnOk W.write_str_gives f.old result (digits 8 false (bits_of self.now)) f.new }
+        ensures { WritesOnOk W.write_str_gives f.old result
+            (digits 8 false (bits_of self.now)) f.new }
     {
         fmt::Octal::fmt(&self.bits(), f)
     }
@@ -100,7 +104,8 @@ impl fmt::Octal for FontStyle {
 
 impl fmt::LowerHex for FontStyle {
     fn fmt<W: fmt::Write>(&self, f: &mut fmt::Formatter<W>) -> fmt::Result
-        ensures { WritesOnOk W.write_str_gives f.old result (digits 16 false (bits_of self.now)) f.new }
+        ensures { WritesOnOk W.write_str_gives f.old result
+            (digits 16 false (bits_of self.now)) f.new }
     {
         fmt::LowerHex::fmt(&self.bits(), f)
     }
@@ -108,7 +113,8 @@ impl fmt::LowerHex for FontStyle {
 
 impl fmt::UpperHex for FontStyle {
     fn fmt<W: fmt::Write>(&self, f: &mut fmt::Formatter<W>) -> fmt::Result
-        ensures { WritesOnOk W.write_str_gives f.old result (digits 16 true (bits_of self.now)) f.new }
+        ensures { WritesOnOk W.write_str_gives f.old result
+            (digits 16 true (bits_of self.now)) f.new }
     {
         fmt::UpperHex::fmt(&self.bits(), f)
     }

@@ -131,7 +131,12 @@ impl Drop for ThemeItem {
 impl Theme {
     /// A theme without name, author, settings and rules. Takes no memory.
     pub fn default(alloc: Global) -> Theme
-        ensures { result ≡ record { name = None; author = None; settings = no_settings; scopes = [] } }
+        ensures { result ≡ record {
+          name = None;
+          author = None;
+          settings = no_settings;
+          scopes = [];
+        } }
     {
         Theme {
             name: None,

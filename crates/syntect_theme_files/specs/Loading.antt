@@ -24,12 +24,14 @@ use Rattle.syntect_theme.specs.declared.theme.UnderlineOption.{UnderlineOption}
 -- ---- one answer after another ----
 
 -- the next answer, from the value of the first one; its refusal stays
-abbrev pub next : {X Y : Type 0} → Result X ParseThemeError → (X → Result Y ParseThemeError) → Result Y ParseThemeError
+abbrev pub next : {X Y : Type 0} → Result X ParseThemeError → (X → Result Y ParseThemeError)
+    → Result Y ParseThemeError
 next (Ok x) f = f x
 next (Err e) f = Err e
 
 -- nothing where there is no value
-abbrev pub optional : {X : Type 0} → (Data → Result X ParseThemeError) → Option Data → Result (Option X) ParseThemeError
+abbrev pub optional : {X : Type 0} → (Data → Result X ParseThemeError) → Option Data
+    → Result (Option X) ParseThemeError
 optional read None = Ok None
 optional read (Some d) = next (read d) (λ x. Ok (Some x))
 
@@ -64,7 +66,8 @@ abbrev pub selectors_of_text : List (List ℕ) → List ℕ → Result ScopeSele
 selectors_of_text repo text = unless_refused (first_refusal repo (union_words text))
   where
     unless_refused : Option ParseScopeError → Result ScopeSelectors ParseThemeError
-    unless_refused None = Ok (record { selectors = selectors_in (with_scopes repo (union_words text)) text })
+    unless_refused None =
+        Ok (record { selectors = selectors_in (with_scopes repo (union_words text)) text })
     unless_refused (Some e) = Err (error.ScopeParse e)
 
 -- the texts of the scopes of a union of selectors
@@ -215,7 +218,8 @@ fourth_fields d s = record s {
 }
 
 abbrev pub settings_at : Data → Result ThemeSettings ParseThemeError
-settings_at d = next (ok_or (as_object d) error.ColorShemeSettingsIsNotObject) (λ ms. Ok (settings_in d))
+settings_at d =
+    next (ok_or (as_object d) error.ColorShemeSettingsIsNotObject) (λ ms. Ok (settings_in d))
 
 -- ---- themes ----
 
@@ -234,7 +238,8 @@ own_text d = optional (λ v. ok_or (as_str v) error.IncorrectSyntax) d
 -- the settings of a theme: those of the first of its items
 abbrev pub first_settings : Items → Result ThemeSettings ParseThemeError
 first_settings no_items = Err error.UndefinedSettings
-first_settings (item d ds) = next (ok_or (get (codes "settings") d) error.UndefinedSettings) settings_at
+first_settings (item d ds) =
+    next (ok_or (get (codes "settings") d) error.UndefinedSettings) settings_at
 
 -- the items behind the first
 abbrev pub later_items : Items → Items
@@ -257,7 +262,12 @@ head_in d =
     next (own_text (get (codes "author") d)) (λ author.
     next (items_at d) (λ ds.
     next (first_settings ds) (λ settings.
-    Ok (record { name = name; author = author; settings = with_gutter (get (codes "gutterSettings") d) settings; scopes = [] })))))
+    Ok (record {
+      name = name;
+      author = author;
+      settings = with_gutter (get (codes "gutterSettings") d) settings;
+      scopes = [];
+    })))))
 
 -- a theme without its rules
 abbrev pub head_at : Data → Result Theme ParseThemeError
@@ -273,7 +283,8 @@ with_rule (Ok rule) rules = rule ∷ rules
 with_rule (Err e) rules = rules
 
 -- of two repositories the first, unless the rule is refused
-abbrev pub unless_refused : Result ThemeItem ParseThemeError → List (List ℕ) → List (List ℕ) → List (List ℕ)
+abbrev pub unless_refused : Result ThemeItem ParseThemeError → List (List ℕ) → List (List ℕ)
+    → List (List ℕ)
 unless_refused (Ok rule) grown repo = grown
 unless_refused (Err e) grown repo = repo
 
@@ -293,7 +304,8 @@ after_rules repo (item d ds) = after_rules (after_rule repo d) ds
 
 -- The theme of a value, read with a repository that becomes another one: what stands round the rules is the value's, and the
 -- rules are those of its later items. The other repository has the scopes of these rules more, and no others.
-pub record IsTheme (old : List (List ℕ)) (d : Data) (new : List (List ℕ)) (theme : Theme) : Type 0 where
+pub record IsTheme (old : List (List ℕ)) (d : Data) (new : List (List ℕ))
+    (theme : Theme) : Type 0 where
   pub head : head_at d ≡ Ok (record theme { scopes = [] })
   pub rules : theme.scopes ≡ rules_in old (all_later (items_at d))
   pub atoms : new ≡ after_rules old (all_later (items_at d))

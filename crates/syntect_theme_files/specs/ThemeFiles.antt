@@ -19,7 +19,8 @@ use Rattle.syntect_theme.specs.declared.theme.Theme.{Theme}
 -- ---- bytes ----
 
 -- a theme of bytes, read with a repository that becomes another one
-pub record IsThemeOf (old : List (List ℕ)) (bytes : List ℕ) (new : List (List ℕ)) (theme : Theme) : Type 0 where
+pub record IsThemeOf (old : List (List ℕ)) (bytes : List ℕ) (new : List (List ℕ))
+    (theme : Theme) : Type 0 where
   pub value : Data
   pub settings : IsSettings bytes value
   pub is_theme : IsTheme old value new theme
@@ -28,13 +29,15 @@ pub record IsThemeOf (old : List (List ℕ)) (bytes : List ℕ) (new : List (Lis
 -- no memory
 pub data RefusesTheme (bytes : List ℕ) : LoadingError → Type 0 where
   no_settings : ((d : Data) → ¬ (IsSettings bytes d)) → RefusesTheme bytes (ReadSettings Json)
-  no_theme : {d : Data} {e : ParseThemeError} → IsSettings bytes d → head_at d ≡ Err e → RefusesTheme bytes (ParseTheme e)
+  no_theme : {d : Data} {e : ParseThemeError} → IsSettings bytes d → head_at d ≡ Err e
+      → RefusesTheme bytes (ParseTheme e)
   no_memory : RefusesTheme bytes Memory
 
 -- why what a reader has left, where that is known, gives no theme: reading has a fault, or the bytes give none
 pub data RefusesRead (left : Option (List ℕ)) : LoadingError → Type 0 where
   not_read : {e : Error} → RefusesRead left (Io e)
-  refused : {bytes : List ℕ} {e : LoadingError} → IfSome left (λ xs. bytes ≡ xs) → RefusesTheme bytes e → RefusesRead left e
+  refused : {bytes : List ℕ} {e : LoadingError} → IfSome left (λ xs. bytes ≡ xs)
+      → RefusesTheme bytes e → RefusesRead left e
 
 -- why a file gives no theme
 abbrev pub IsThemeFault : LoadingError → Type 0
@@ -44,20 +47,28 @@ IsThemeFault e = RefusesRead None e
 
 -- the name of the theme in a file: the file's name without its extension, which is `tmTheme` in any ASCII case
 abbrev pub theme_name : List ℕ → Option (List ℕ)
-theme_name path = option_and_then (λ extension. if str_eq_ignore_ascii_case extension (codes "tmTheme") then path_file_stem path else None) (path_extension path)
+theme_name path =
+    option_and_then (λ extension. if str_eq_ignore_ascii_case extension (codes "tmTheme")
+    then path_file_stem path else None) (path_extension path)
 
 -- Themes of files, one after another, go into a table by their names, in place of those of the same name. A file of another
 -- kind is passed over. Of what a file holds nothing is known but that it gave a theme.
-pub data AddsThemes : List (List ℕ) → List (List ℕ) → List (List ℕ × Theme) → List (List ℕ) → List (List ℕ × Theme) → Type 0 where
-  no_more : {repo : List (List ℕ)} {themes : List (List ℕ × Theme)} → AddsThemes [] repo themes repo themes
-  other : {path : List ℕ} {paths old new : List (List ℕ)} {themes all : List (List ℕ × Theme)} → theme_name path ≡ None
+pub data AddsThemes : List (List ℕ) → List (List ℕ) → List (List ℕ × Theme) → List (List ℕ)
+    → List (List ℕ × Theme) → Type 0 where
+  no_more : {repo : List (List ℕ)} {themes : List (List ℕ × Theme)}
+      → AddsThemes [] repo themes repo themes
+  other : {path : List ℕ} {paths old new : List (List ℕ)} {themes all : List (List ℕ × Theme)}
+      → theme_name path ≡ None
       → AddsThemes paths old themes new all → AddsThemes (path ∷ paths) old themes new all
-  theme : {path name bytes : List ℕ} {paths old left new : List (List ℕ)} {themes all : List (List ℕ × Theme)} {one : Theme} → theme_name path ≡ Some name
-      → IsThemeOf old bytes left one → AddsThemes paths left (insert_entry (slice_cmp nat_cmp) themes name one) new all
+  theme : {path name bytes : List ℕ} {paths old left new : List (List ℕ)}
+      {themes all : List (List ℕ × Theme)} {one : Theme} → theme_name path ≡ Some name
+      → IsThemeOf old bytes left one
+      → AddsThemes paths left (insert_entry (slice_cmp nat_cmp) themes name one) new all
       → AddsThemes (path ∷ paths) old themes new all
 
 -- The themes of these files are added up to one, which gives no theme, for this cause.
-pub record StopsAtTheme (files : List (List ℕ)) (old : List (List ℕ)) (themes : List (List ℕ × Theme)) (e : LoadingError) (all : List (List ℕ × Theme)) : Type 0 where
+pub record StopsAtTheme (files : List (List ℕ)) (old : List (List ℕ))
+    (themes : List (List ℕ × Theme)) (e : LoadingError) (all : List (List ℕ × Theme)) : Type 0 where
   pub place : ℕ
   pub path : List ℕ
   pub left : List (List ℕ)
@@ -68,7 +79,10 @@ pub record StopsAtTheme (files : List (List ℕ)) (old : List (List ℕ)) (theme
 
 -- Why the themes of a folder are not added, and what is added then: nothing where the walk has a fault, which leaves the
 -- repository too; or those before a file that gives no theme.
-pub data RefusesThemes (folder : List ℕ) (old : List (List ℕ)) (themes : List (List ℕ × Theme)) : LoadingError → List (List ℕ) → List (List ℕ × Theme) → Type 0 where
+pub data RefusesThemes (folder : List ℕ) (old : List (List ℕ))
+    (themes : List (List ℕ × Theme)) : LoadingError → List (List ℕ) → List (List ℕ × Theme)
+    → Type 0 where
   no_walk : {e : LoadingError} → IsWalkFault e → RefusesThemes folder old themes e old themes
-  stopped : {e : LoadingError} {files new : List (List ℕ)} {all : List (List ℕ × Theme)} → IsWalk folder files → StopsAtTheme files old themes e all
+  stopped : {e : LoadingError} {files new : List (List ℕ)} {all : List (List ℕ × Theme)}
+      → IsWalk folder files → StopsAtTheme files old themes e all
       → RefusesThemes folder old themes e new all

@@ -77,8 +77,10 @@ fn selectors_of(
     text: &str,
     repository: &mut ScopeRepository,
 ) -> Result<ScopeSelectors, ParseThemeError>
-    ensures ok { IfOk result (λ selectors. loading.selectors_of_text repository.old text.now ≡ Ok selectors) }
-    ensures atoms { OnOk result (repository.new ≡ with_scopes repository.old (union_words text.now)) }
+    ensures ok { IfOk result
+        (λ selectors. loading.selectors_of_text repository.old text.now ≡ Ok selectors) }
+    ensures atoms { OnOk result
+        (repository.new ≡ with_scopes repository.old (union_words text.now)) }
     ensures err { IfErr result (Refuses (loading.selectors_of_text repository.old text.now)) }
     ensures whole { IsRepository repository.new }
     ensures kept { take (length repository.old) repository.new ≡ repository.old }
@@ -95,8 +97,11 @@ pub(crate) fn selectors(
     value: &Value,
     repository: &mut ScopeRepository,
 ) -> Result<ScopeSelectors, ParseThemeError>
-    ensures ok { IfOk result (λ selectors. loading.selectors_at repository.old (view value.now) ≡ Ok selectors) }
-    ensures atoms { OnOk result (repository.new ≡ with_scopes repository.old (loading.text_words (as_str (view value.now)))) }
+    ensures ok { IfOk result
+        (λ selectors. loading.selectors_at repository.old (view value.now) ≡ Ok selectors) }
+    ensures atoms { OnOk result
+        (repository.new ≡ with_scopes repository.old
+        (loading.text_words (as_str (view value.now)))) }
     ensures err { IfErr result (Refuses (loading.selectors_at repository.old (view value.now))) }
     ensures whole { IsRepository repository.new }
     ensures kept { take (length repository.old) repository.new ≡ repository.old }
@@ -110,7 +115,8 @@ pub(crate) fn selectors(
 
 /// The colour of a value, if there is one.
 fn optional_color(value: Option<&Value>) -> Result<Option<Color>, ParseThemeError>
-    ensures { result ≡ loading.optional loading.color_at (option_map (λ v. view v.now) value.entry) }
+    ensures { result ≡ loading.optional loading.color_at
+        (option_map (λ v. view v.now) value.entry) }
 {
     match value {
         Some(value) => match color(value) {
@@ -126,8 +132,12 @@ fn optional_flags(
     alloc: Global,
     value: Option<&Value>,
 ) -> Result<Option<FontStyle>, ParseThemeError>
-    ensures ok { IfOk result (λ flags. loading.optional loading.flags_at (option_map (λ v. view v.now) value.entry) ≡ Ok flags) }
-    ensures err { IfErr result (Refuses (loading.optional loading.flags_at (option_map (λ v. view v.now) value.entry))) }
+    ensures ok { IfOk result
+        (λ flags. loading.optional loading.flags_at (option_map (λ v. view v.now) value.entry)
+        ≡ Ok flags) }
+    ensures err { IfErr result
+        (Refuses (loading.optional loading.flags_at
+        (option_map (λ v. view v.now) value.entry))) }
 {
     match value {
         Some(value) => match flags(alloc, value) {
@@ -179,9 +189,16 @@ fn rule_selectors(
     value: Option<&Value>,
     repository: &mut ScopeRepository,
 ) -> Result<ScopeSelectors, ParseThemeError>
-    ensures ok { IfOk result (λ selectors. loading.rule_selectors repository.old (option_map (λ v. view v.now) value.entry) ≡ Ok selectors) }
-    ensures atoms { OnOk result (repository.new ≡ with_scopes repository.old (loading.text_words (option_and_then as_str (option_map (λ v. view v.now) value.entry)))) }
-    ensures err { IfErr result (Refuses (loading.rule_selectors repository.old (option_map (λ v. view v.now) value.entry))) }
+    ensures ok { IfOk result
+        (λ selectors. loading.rule_selectors repository.old
+        (option_map (λ v. view v.now) value.entry) ≡ Ok selectors) }
+    ensures atoms { OnOk result
+        (repository.new ≡ with_scopes repository.old
+        (loading.text_words (option_and_then as_str
+        (option_map (λ v. view v.now) value.entry)))) }
+    ensures err { IfErr result
+        (Refuses (loading.rule_selectors repository.old
+        (option_map (λ v. view v.now) value.entry))) }
     ensures whole { IsRepository repository.new }
     ensures kept { take (length repository.old) repository.new ≡ repository.old }
 {
@@ -194,8 +211,10 @@ fn rule_selectors(
 
 /// The changes that a rule makes.
 fn rule_changes(alloc: Global, value: Option<&Value>) -> Result<StyleModifier, ParseThemeError>
-    ensures ok { IfOk result (λ style. loading.rule_changes (option_map (λ v. view v.now) value.entry) ≡ Ok style) }
-    ensures err { IfErr result (Refuses (loading.rule_changes (option_map (λ v. view v.now) value.entry))) }
+    ensures ok { IfOk result
+        (λ style. loading.rule_changes (option_map (λ v. view v.now) value.entry) ≡ Ok style) }
+    ensures err { IfErr result
+        (Refuses (loading.rule_changes (option_map (λ v. view v.now) value.entry))) }
 {
     match value {
         Some(value) => style(alloc, value),
@@ -210,7 +229,8 @@ fn rule_in(
     repository: &mut ScopeRepository,
 ) -> Result<ThemeItem, ParseThemeError>
     ensures ok { IfOk result (λ rule. loading.rule_in repository.old (view value.now) ≡ Ok rule) }
-    ensures atoms { OnOk result (repository.new ≡ with_scopes repository.old (loading.rule_words (view value.now))) }
+    ensures atoms { OnOk result
+        (repository.new ≡ with_scopes repository.old (loading.rule_words (view value.now))) }
     ensures err { IfErr result (Refuses (loading.rule_in repository.old (view value.now))) }
     ensures whole { IsRepository repository.new }
     ensures kept { take (length repository.old) repository.new ≡ repository.old }
@@ -232,7 +252,8 @@ pub(crate) fn rule(
     repository: &mut ScopeRepository,
 ) -> Result<ThemeItem, ParseThemeError>
     ensures ok { IfOk result (λ rule. loading.item_at repository.old (view value.now) ≡ Ok rule) }
-    ensures atoms { OnOk result (repository.new ≡ with_scopes repository.old (loading.rule_words (view value.now))) }
+    ensures atoms { OnOk result
+        (repository.new ≡ with_scopes repository.old (loading.rule_words (view value.now))) }
     ensures err { IfErr result (Refuses (loading.item_at repository.old (view value.now))) }
     ensures unchanged { OnErr result (repository.new ≡ repository.old) }
     ensures whole { IsRepository repository.new }

@@ -157,8 +157,10 @@ fn with_gutter(gutter: Option<&Value>, settings: ThemeSettings) -> ThemeSettings
 
 /// The text of a value, if there is one.
 fn own_text(alloc: Global, value: Option<&Value>) -> Result<Option<Text>, ParseThemeError>
-    ensures ok { IfOk result (λ text. loading.own_text (option_map (λ v. view v.now) value.entry) ≡ Ok text) }
-    ensures err { IfErr result (Refuses (loading.own_text (option_map (λ v. view v.now) value.entry))) }
+    ensures ok { IfOk result
+        (λ text. loading.own_text (option_map (λ v. view v.now) value.entry) ≡ Ok text) }
+    ensures err { IfErr result
+        (Refuses (loading.own_text (option_map (λ v. view v.now) value.entry))) }
 {
     match value {
         Some(value) => match value.as_str() {
@@ -171,7 +173,8 @@ fn own_text(alloc: Global, value: Option<&Value>) -> Result<Option<Text>, ParseT
 
 /// The settings of the first item of a theme.
 fn first_settings(alloc: Global, items: &[Value]) -> Result<ThemeSettings, ParseThemeError>
-    ensures ok { IfOk result (λ settings. loading.first_settings (items_view items.now) ≡ Ok settings) }
+    ensures ok { IfOk result
+        (λ settings. loading.first_settings (items_view items.now) ≡ Ok settings) }
     ensures err { IfErr result (Refuses (loading.first_settings (items_view items.now))) }
 {
     match items.first() {
@@ -185,7 +188,8 @@ fn first_settings(alloc: Global, items: &[Value]) -> Result<ThemeSettings, Parse
 
 /// The items of a theme.
 fn items_of(value: &Value) -> Result<&[Value], ParseThemeError>
-    ensures ok { IfOk result (λ items. loading.items_at (view value.now) ≡ Ok (items_view items.now)) }
+    ensures ok { IfOk result
+        (λ items. loading.items_at (view value.now) ≡ Ok (items_view items.now)) }
     ensures err { IfErr result (λ e. loading.items_at (view value.now) ≡ Err e) }
 {
     match value.get("settings").and_then(Value::as_array) {

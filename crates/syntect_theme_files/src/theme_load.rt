@@ -86,8 +86,11 @@ impl ParseSettings for ScopeSelectors {
         settings: Settings,
         repository: &mut ScopeRepository,
     ) -> Result<ScopeSelectors, ParseThemeError>
-        ensures ok { IfOk result (λ selectors. loading.selectors_at repository.old (view settings) ≡ Ok selectors) }
-        ensures atoms { OnOk result (repository.new ≡ with_scopes repository.old (loading.text_words (as_str (view settings)))) }
+        ensures ok { IfOk result
+            (λ selectors. loading.selectors_at repository.old (view settings) ≡ Ok selectors) }
+        ensures atoms { OnOk result
+            (repository.new ≡ with_scopes repository.old
+            (loading.text_words (as_str (view settings)))) }
         ensures err { IfErr result (Refuses (loading.selectors_at repository.old (view settings))) }
         ensures whole { IsRepository repository.new }
         ensures kept { take (length repository.old) repository.new ≡ repository.old }
@@ -124,8 +127,10 @@ impl ParseSettings for ThemeItem {
         settings: Settings,
         repository: &mut ScopeRepository,
     ) -> Result<ThemeItem, ParseThemeError>
-        ensures ok { IfOk result (λ rule. loading.item_at repository.old (view settings) ≡ Ok rule) }
-        ensures atoms { OnOk result (repository.new ≡ with_scopes repository.old (loading.rule_words (view settings))) }
+        ensures ok { IfOk result
+            (λ rule. loading.item_at repository.old (view settings) ≡ Ok rule) }
+        ensures atoms { OnOk result
+            (repository.new ≡ with_scopes repository.old (loading.rule_words (view settings))) }
         ensures err { IfErr result (Refuses (loading.item_at repository.old (view settings))) }
         ensures unchanged { OnErr result (repository.new ≡ repository.old) }
         ensures whole { IsRepository repository.new }

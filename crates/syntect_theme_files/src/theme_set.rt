@@ -119,7 +119,8 @@ impl ThemeSet {
         alloc: Global,
         folder: Path<'_>,
     ) -> Result<Vec<PathBuf>, LoadingError>
-        ensures ok { IfOk result (λ paths. (found : List (List ℕ)) × IsWalk (path_bytes folder.entry) found
+        ensures ok { IfOk result
+            (λ paths. (found : List (List ℕ)) × IsWalk (path_bytes folder.entry) found
             × (map path_buf_bytes paths.items ≡ filter (λ path. is_some (theme_name path)) found)) }
         ensures err { IfErr result IsWalkFault }
     {
@@ -144,7 +145,8 @@ impl ThemeSet {
         path: Path<'_>,
         repository: &mut ScopeRepository,
     ) -> Result<Theme, LoadingError>
-        ensures ok { IfOk result (λ theme. (bytes : List ℕ) × IsThemeOf repository.old bytes repository.new theme) }
+        ensures ok { IfOk result
+            (λ theme. (bytes : List ℕ) × IsThemeOf repository.old bytes repository.new theme) }
         ensures err { IfErr result IsThemeFault }
         ensures whole { IsRepository repository.new }
         ensures kept { take (length repository.old) repository.new ≡ repository.old }
@@ -168,7 +170,9 @@ impl ThemeSet {
         reader: &mut R,
         repository: &mut ScopeRepository,
     ) -> Result<Theme, LoadingError>
-        ensures ok { IfOk result (λ theme. (bytes : List ℕ) × IfSome (R.Read.remaining reader.old) (λ left. bytes ≡ left)
+        ensures ok { IfOk result
+            (λ theme. (bytes : List ℕ)
+            × IfSome (R.Read.remaining reader.old) (λ left. bytes ≡ left)
             × IsThemeOf repository.old bytes repository.new theme) }
         ensures err { IfErr result (RefusesRead (R.Read.remaining reader.old)) }
         ensures whole { IsRepository repository.new }
@@ -187,7 +191,8 @@ impl ThemeSet {
         folder: Path<'_>,
         repository: &mut ScopeRepository,
     ) -> Result<ThemeSet, LoadingError>
-        ensures ok { IfOk result (λ set. (found : List (List ℕ)) × IsWalk (path_bytes folder.entry) found
+        ensures ok { IfOk result
+            (λ set. (found : List (List ℕ)) × IsWalk (path_bytes folder.entry) found
             × AddsThemes found repository.old [] repository.new set.themes) }
         ensures refusal { IfErr result (λ e. (all : List (List ℕ × ATheme))
             × RefusesThemes (path_bytes folder.entry) repository.old [] e repository.new all) }
@@ -234,7 +239,8 @@ impl ThemeSet {
         paths: &[Text],
         repository: &mut ScopeRepository,
     ) -> Result<(), LoadingError>
-        ensures ok { OnOk result (AddsThemes paths.now repository.old self.old.themes repository.new self.new.themes) }
+        ensures ok { OnOk result
+            (AddsThemes paths.now repository.old self.old.themes repository.new self.new.themes) }
         ensures err { IfErr result (λ e.
             StopsAtTheme paths.now repository.old self.old.themes e self.new.themes) }
         ensures whole { IsRepository repository.new }
@@ -259,7 +265,9 @@ impl ThemeSet {
         path: &str,
         repository: &mut ScopeRepository,
     ) -> Result<(), LoadingError>
-        ensures ok { OnOk result (AddsThemes (path.now ∷ []) repository.old self.old.themes repository.new self.new.themes) }
+        ensures ok { OnOk result
+            (AddsThemes
+            (path.now ∷ []) repository.old self.old.themes repository.new self.new.themes) }
         ensures err { OnErr result (self.new.themes ≡ self.old.themes) }
         ensures theme { OnErr result (is_some (theme_name path.now) ≡ true) }
         ensures refusal { IfErr result IsThemeFault }

@@ -58,7 +58,8 @@ fn are_equal(fold: bool, c: char, d: char) -> bool
 /// The place behind the characters of the other text, where they stand at the place.
 pub fn past_text(text: &str, place: usize, fold: bool, wanted: &str) -> Option<usize>
     requires { IsCharBoundary text.now place }
-    ensures value { (g : Groups) → spelled text.now fold (chars wanted.now) place g ≡ at_end result g }
+    ensures value { (g : Groups)
+        → spelled text.now fold (chars wanted.now) place g ≡ at_end result g }
     ensures boundary { IfSome result (λ j. IsCharBoundary text.now j) }
 {
     let mut place = place;

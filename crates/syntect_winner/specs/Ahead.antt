@@ -35,8 +35,10 @@ list_in (kept.Own flats) = flats.value
 
 -- each pattern at the places of a flat list is searched in this form, or as it stands
 abbrev pub AreReplaced : SyntaxSet → Part → List Flat → List (Option (List ℕ)) → Type 0
-AreReplaced set part flats replaced = (k : ℕ) (d : Flat) (m : MatchPattern) → k < length flats → pattern_at set (slice_index_or flats k d) ≡ Some m
-    → unwrap_or (slice_index_or replaced k None) m.regex ≡ searched_text dialect m (option_copied part.opening)
+AreReplaced set part flats replaced = (k : ℕ) (d : Flat) (m : MatchPattern) → k < length flats
+    → pattern_at set (slice_index_or flats k d) ≡ Some m
+    → unwrap_or (slice_index_or replaced k None) m.regex
+    ≡ searched_text dialect m (option_copied part.opening)
 
 -- the flat list is that of the part's context, and its patterns are searched in the form that the opening match asks for
 pub record IsRun (set : SyntaxSet) (run : Run) : Type 0 where
@@ -52,13 +54,17 @@ IsAhead reader lost i m =
 
 -- so it is with all patterns of a part from an index on,
 abbrev pub AreAheadFrom : LineReader → Bool → ℕ → Run → ℕ → Type 0
-AreAheadFrom reader lost i run from = (k : ℕ) (d : Flat) (m : MatchPattern) → from ≤ k → k < length (list_in run.flats)
-    → pattern_at reader.set.now (slice_index_or (list_in run.flats) k d) ≡ Some m → IsAhead reader lost i (part_member run.part m)
+AreAheadFrom reader lost i run from =
+    (k : ℕ) (d : Flat) (m : MatchPattern) → from ≤ k → k < length (list_in run.flats)
+    → pattern_at reader.set.now (slice_index_or (list_in run.flats) k d) ≡ Some m
+    → IsAhead reader lost i (part_member run.part m)
 
 -- with those before it,
 abbrev pub AreAheadUpTo : LineReader → Bool → ℕ → Run → ℕ → Type 0
-AreAheadUpTo reader lost i run to = (k : ℕ) (d : Flat) (m : MatchPattern) → k < to → k < length (list_in run.flats)
-    → pattern_at reader.set.now (slice_index_or (list_in run.flats) k d) ≡ Some m → IsAhead reader lost i (part_member run.part m)
+AreAheadUpTo reader lost i run to =
+    (k : ℕ) (d : Flat) (m : MatchPattern) → k < to → k < length (list_in run.flats)
+    → pattern_at reader.set.now (slice_index_or (list_in run.flats) k d) ≡ Some m
+    → IsAhead reader lost i (part_member run.part m)
 
 -- with all of them,
 abbrev pub AreAhead : LineReader → Bool → ℕ → Run → Type 0
@@ -66,7 +72,8 @@ AreAhead reader lost i run = AreAheadFrom reader lost i run 0
 
 -- and with all parts of a chain
 abbrev pub AllAhead : LineReader → Bool → ℕ → List Run → Type 0
-AllAhead reader lost i runs = (k : ℕ) (r : Run) → k < length runs → AreAhead reader lost i (slice_index_or runs k r)
+AllAhead reader lost i runs =
+    (k : ℕ) (r : Run) → k < length runs → AreAhead reader lost i (slice_index_or runs k r)
 
 -- what is seen of a place of the line
 pub record Sees (o : Outlook) (line : List ℕ) (i : ℕ) : Type 0 where
@@ -78,7 +85,8 @@ pub record Sees (o : Outlook) (line : List ℕ) (i : ℕ) : Type 0 where
 
 -- what is known of white space, or else a word that goes on at the place: up to where it does, and what stands behind it
 abbrev pub Reaches : List ℕ → ℕ → Reach → Type 0
-Reaches line i r = i < r.end → (IsRunUpTo r.blank line i r.end) × (r.behind ≡ start_at line r.end) × (r.behind < 130)
+Reaches line i r = i < r.end
+    → (IsRunUpTo r.blank line i r.end) × (r.behind ≡ start_at line r.end) × (r.behind < 130)
 
 -- something stands behind the white space, or the word, at the place that no match of the pattern has behind one in which it
 -- begins
@@ -97,7 +105,8 @@ IsRuledOut line i flat =
 
 -- no pattern of the part can begin with this, as its list tells
 abbrev pub IsQuiet : ℕ → Run → Type 0
-IsQuiet x run = (k : ℕ) (d : Flat) → k < length (list_in run.flats) → is_in (slice_index_or (list_in run.flats) k d).begins x ≡ false
+IsQuiet x run = (k : ℕ) (d : Flat) → k < length (list_in run.flats)
+    → is_in (slice_index_or (list_in run.flats) k d).begins x ≡ false
 
 -- the patterns of all parts begin with some of this alone
 abbrev pub BeginIn : Places → List Run → Type 0
@@ -117,22 +126,29 @@ pub record IsBestAt (reader : LineReader) (i : ℕ) (ms : List Live) (b : Best) 
   pub here : b.is_match ≡ true → b.start ≡ i
 
 -- The best of some matches is now the best of them and of a member's; and as long as none is found here, the member is ahead.
-pub record AddsMember (reader : LineReader) (i : ℕ) (lost : Bool) (m : Member) (ms : List Live) (b : Best) : Type 0 where
+pub record AddsMember (reader : LineReader) (i : ℕ) (lost : Bool) (m : Member) (ms : List Live)
+    (b : Best) : Type 0 where
   pub best : IsBestAt reader i (ms ++ cons_option (match_of reader m) []) b
   pub ahead : b.is_match ≡ false → IsAhead reader lost (i + 1) m
 
 -- the same of the pattern of a part at an index
-pub record AddsAt (reader : LineReader) (i : ℕ) (lost : Bool) (run : Run) (index : ℕ) (ms : List Live) (b : Best) : Type 0 where
-  pub best : (d : Flat) → IsBestAt reader i (ms ++ matches_of reader (flat_members reader.set.now run.part (slice_index_or (list_in run.flats) index d ∷ []))) b
-  pub ahead : (d : Flat) (m : MatchPattern) → b.is_match ≡ false → pattern_at reader.set.now (slice_index_or (list_in run.flats) index d) ≡ Some m
+pub record AddsAt (reader : LineReader) (i : ℕ) (lost : Bool) (run : Run) (index : ℕ)
+    (ms : List Live) (b : Best) : Type 0 where
+  pub best : (d : Flat) → IsBestAt reader i (ms
+      ++ matches_of reader (flat_members reader.set.now run.part
+      (slice_index_or (list_in run.flats) index d ∷ []))) b
+  pub ahead : (d : Flat) (m : MatchPattern) → b.is_match ≡ false
+      → pattern_at reader.set.now (slice_index_or (list_in run.flats) index d) ≡ Some m
       → IsAhead reader lost (i + 1) (part_member run.part m)
 
 -- the same of a part's patterns
-pub record AddsRun (reader : LineReader) (i : ℕ) (lost : Bool) (run : Run) (ms : List Live) (b : Best) : Type 0 where
+pub record AddsRun (reader : LineReader) (i : ℕ) (lost : Bool) (run : Run) (ms : List Live)
+    (b : Best) : Type 0 where
   pub best : IsBestAt reader i (ms ++ matches_of reader (part_members reader.set.now run.part)) b
   pub ahead : b.is_match ≡ false → AreAhead reader lost (i + 1) run
 
 -- the same of all parts of a chain
-pub record AddsAll (reader : LineReader) (i : ℕ) (lost : Bool) (runs : List Run) (b : Best) : Type 0 where
+pub record AddsAll (reader : LineReader) (i : ℕ) (lost : Bool) (runs : List Run)
+    (b : Best) : Type 0 where
   pub best : IsBestAt reader i (matches_of reader (flat_map (run_members reader.set.now) runs)) b
   pub ahead : b.is_match ≡ false → AllAhead reader lost (i + 1) runs

@@ -12,7 +12,8 @@ use Rattle.syntect_winner.specs.declared.search.Candidate.{Candidate}
 -- what a turn does whose matches of least start are these, if there are any, by the first of them that doesn't loop
 abbrev pub decided : List ℕ → ℕ → Bool → Option Live → Choice
 decided line place is_match (Some m) = Take m
-decided line place true None = if nat_lt (place + char_len line place) (length line) then Skip else End
+decided line place true None =
+    if nat_lt (place + char_len line place) (length line) then Skip else End
 decided line place false None = End
 
 abbrev pub choice_by : List ℕ → ℕ → Best → Choice
@@ -29,10 +30,12 @@ AreGroupsOf line place o groups = (m : Candidate) → o ≡ Some m → groups �
 
 -- The best of these matches that begin up to the last place: none begins before its start; where one begins there, it has
 -- the first of them that doesn't loop; and else none begins up to the last place.
-pub record IsBest (line : List ℕ) (p : Position) (last : ℕ) (ms : List Live) (b : Best) : Type 0 where
+pub record IsBest (line : List ℕ) (p : Position) (last : ℕ) (ms : List Live)
+    (b : Best) : Type 0 where
   pub least : list_all (λ k. nat_le b.start k.start) ms ≡ true
   pub first : b.is_match ≡ true → (list_any (λ k. k.start == b.start) ms ≡ true)
-      × (find (λ k. (k.start == b.start) && not (loops p k)) ms ≡ option_map (seen line p.place) b.candidate)
+      × (find (λ k. (k.start == b.start) && not (loops p k)) ms
+      ≡ option_map (seen line p.place) b.candidate)
   pub none : b.is_match ≡ false → (b.start ≡ suc last) × (b.candidate ≡ None)
   pub near : b.is_match ≡ true → b.start ≤ last
   pub bound : b.start ≤ suc last

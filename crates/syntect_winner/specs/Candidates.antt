@@ -15,7 +15,12 @@ use Rattle.syntect_winner.specs.declared.search.Choice.{Choice}
 use Rattle.syntect_winner.specs.declared.search.Choice.TheVariants as code
 
 abbrev pub member_of : Entry → Member
-member_of e = record { pattern = e.pattern.now; opening = option_copied e.opening; from_with_prototype = e.from_with_prototype }
+member_of e =
+    record {
+      pattern = e.pattern.now;
+      opening = option_copied e.opening;
+      from_with_prototype = e.from_with_prototype;
+    }
 
 -- the text of the pattern that a candidate was searched with
 abbrev pub text_of : Candidate → List ℕ
@@ -46,4 +51,5 @@ SkipsTo place code.End = Unit {0}
 -- the matches that a turn has to choose from, once cuts are dropped
 abbrev pub live_in : Engine → SyntaxSet → List ℕ → Position → List Live
 live_in engine set line p =
-    option_map_or (λ top. option_map_or (λ c. live engine line p (chain set p top c)) (context_at set top.context) []) (last p.levels) []
+    option_map_or (λ top. option_map_or (λ c. live engine line p (chain set p top c))
+    (context_at set top.context) []) (last p.levels) []

@@ -23,7 +23,8 @@ pub record Member : Type 0 where
 
 -- patterns as members of a chain
 abbrev pub as_members : Bool → Option Opening → List MatchPattern → List Member
-as_members from opening ms = map (λ m. record { pattern = m; opening = opening; from_with_prototype = from }) ms
+as_members from opening ms =
+    map (λ m. record { pattern = m; opening = opening; from_with_prototype = from }) ms
 
 -- those of a context
 abbrev pub members : SyntaxSet → Bool → Option Opening → ContextId → List Member
@@ -46,8 +47,11 @@ chain set p top context =
 
 -- the chain of a turn at a position; nothing where no context is open, or the set lacks the top one
 abbrev pub chain_at : SyntaxSet → Position → List Member
-chain_at set p = option_map_or (λ top. option_map_or (chain set p top) (context_at set top.context) []) (last p.levels) []
+chain_at set p =
+    option_map_or (λ top. option_map_or (chain set p top) (context_at set top.context) [])
+    (last p.levels) []
 
 -- the prototypes of the chain, in its order
 abbrev pub prototypes_in : Position → Context → List ContextId
-prototypes_in p context = flat_map (λ l. l.prototypes) (in_sight p) ++ option_to_list context.prototype
+prototypes_in p context =
+    flat_map (λ l. l.prototypes) (in_sight p) ++ option_to_list context.prototype

@@ -18,6 +18,8 @@ pub record Engine : Type 0 where
 abbrev pub dialect : Engine
 dialect = record {
   found = pattern_found;
-  in_lookaround = λ pattern group. unwrap_or (option_and_then (λ tree. group_in_look tree group) (pattern_tree pattern)) false;
+  in_lookaround =
+      λ pattern group. unwrap_or (option_and_then (λ tree. group_in_look tree group)
+      (pattern_tree pattern)) false;
   substituted = substituted;
 }

@@ -16,8 +16,10 @@ pub record StandsIn (text : List ℕ) (place start end : ℕ) : Type 0 where
 -- every match that is found stands so
 abbrev pub FindsInText : Engine → Type 0
 FindsInText engine = (pattern text : List ℕ) (place start end : ℕ) (groups : Groups)
-    → IsUtf8 text → engine.found pattern text place ≡ Some groups → group_at groups 0 ≡ Some (start, end) → StandsIn text place start end
+    → IsUtf8 text → engine.found pattern text place ≡ Some groups
+    → group_at groups 0 ≡ Some (start, end) → StandsIn text place start end
 
 -- each group of a match that is found begins and ends on character boundaries
 abbrev pub FindsOnBoundaries : Engine → Type 0
-FindsOnBoundaries engine = (pattern text : List ℕ) (place : ℕ) (groups : Groups) → IsUtf8 text → engine.found pattern text place ≡ Some groups → AreOnBoundaries text groups
+FindsOnBoundaries engine = (pattern text : List ℕ) (place : ℕ) (groups : Groups) → IsUtf8 text
+    → engine.found pattern text place ≡ Some groups → AreOnBoundaries text groups

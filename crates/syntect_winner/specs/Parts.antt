@@ -21,11 +21,17 @@ pub record Source : Type 0 where
   pub from_with_prototype : Bool
 
 abbrev pub seen_part : Part → Source
-seen_part part = record { id = part.id; opening = option_copied part.opening; from_with_prototype = part.from_with_prototype }
+seen_part part =
+    record {
+      id = part.id;
+      opening = option_copied part.opening;
+      from_with_prototype = part.from_with_prototype;
+    }
 
 -- the parts of these contexts
 abbrev pub parts_by : Bool → Option Opening → List ContextId → List Source
-parts_by from opening ids = map (λ id. record { id = id; opening = opening; from_with_prototype = from }) ids
+parts_by from opening ids =
+    map (λ id. record { id = id; opening = opening; from_with_prototype = from }) ids
 
 -- those of a level's prototypes
 abbrev pub level_parts : Level → List Source
@@ -34,7 +40,8 @@ level_parts l = parts_by true l.opening l.prototypes
 -- all of them, in the order of the chain
 abbrev pub parts_of : Position → Level → Context → List Source
 parts_of p top context =
-    flat_map level_parts (in_sight p) ++ parts_by false None (option_to_list context.prototype) ++ parts_by false top.opening (top.context ∷ [])
+    flat_map level_parts (in_sight p) ++ parts_by false None (option_to_list context.prototype)
+    ++ parts_by false top.opening (top.context ∷ [])
 
 -- the members of the chain that a part stands for
 abbrev pub source_members : SyntaxSet → Source → List Member
@@ -45,8 +52,15 @@ part_members set part = source_members set (seen_part part)
 
 -- one of its patterns
 abbrev pub part_member : Part → MatchPattern → Member
-part_member part m = record { pattern = m; opening = option_copied part.opening; from_with_prototype = part.from_with_prototype }
+part_member part m =
+    record {
+      pattern = m;
+      opening = option_copied part.opening;
+      from_with_prototype = part.from_with_prototype;
+    }
 
 -- those of these patterns of it
 abbrev pub flat_members : SyntaxSet → Part → List Flat → List Member
-flat_members set part flats = as_members part.from_with_prototype (option_copied part.opening) (filter_map (pattern_at set) flats)
+flat_members set part flats =
+    as_members part.from_with_prototype (option_copied part.opening)
+    (filter_map (pattern_at set) flats)

@@ -12,11 +12,14 @@ use Rattle.syntect_winner.specs.declared.search.Candidate.{Candidate}
 
 -- what a search of a member of the chain finds from a place on
 abbrev pub search_of : LineReader → ℕ → Member → Option Groups
-search_of reader from m = pattern_found (searched_text dialect m.pattern m.opening) reader.line.now from
+search_of reader from m =
+    pattern_found (searched_text dialect m.pattern m.opening) reader.line.now from
 
 -- the match of a member from the reader's place on, if it has one that counts
 abbrev pub match_of : LineReader → Member → Option Live
-match_of reader m = live_match dialect (length reader.position.now.levels) reader.line.now reader.position.now.place m
+match_of reader m =
+    live_match dialect
+    (length reader.position.now.levels) reader.line.now reader.position.now.place m
 
 -- those of members, in order
 abbrev pub matches_of : LineReader → List Member → List Live

@@ -8,7 +8,9 @@ use Rattle.syntect_winner.specs.Turn.{searched_text}
 
 -- what is searched for the member is linear, and a search of it in a text so long takes at most so many steps
 abbrev pub is_within : ℕ → ℕ → Member → Bool
-is_within long most m = let text = searched_text dialect m.pattern m.opening in pattern_is_linear text && nat_le (search_bound text long) most
+is_within long most m =
+    let text = searched_text dialect m.pattern m.opening in
+    pattern_is_linear text && nat_le (search_bound text long) most
 
 abbrev pub IsWithin : ℕ → ℕ → Member → Type 0
 IsWithin long most m = is_within long most m ≡ true

@@ -46,7 +46,14 @@ abbrev pub counted : ℕ → Member → List ℕ → Groups → Option (ℕ × �
 counted height member text groups None = None
 counted height member text groups (Some at) =
     if counts height member.pattern.operation at.0 at.1
-    then Some (record { pattern = member.pattern; from_with_prototype = member.from_with_prototype; searched = text; groups = groups; start = at.0; end = at.1 })
+    then Some (record {
+      pattern = member.pattern;
+      from_with_prototype = member.from_with_prototype;
+      searched = text;
+      groups = groups;
+      start = at.0;
+      end = at.1;
+    })
     else None
 
 abbrev pub matched : ℕ → Member → List ℕ → Option Groups → Option Live
@@ -57,12 +64,14 @@ module _ (engine : Engine) where
   -- the text that is searched: substituted where the pattern uses back references and there is an opening match
   abbrev pub searched_text : MatchPattern → Option Opening → List ℕ
   searched_text m None = m.regex
-  searched_text m (Some o) = if m.has_captures then engine.substituted m.regex o.region o.line else m.regex
+  searched_text m (Some o) =
+      if m.has_captures then engine.substituted m.regex o.region o.line else m.regex
 
   -- the match of a member of the chain from the place on, if it has one that counts
   abbrev pub live_match : ℕ → List ℕ → ℕ → Member → Option Live
   live_match height line place member =
-      let text = searched_text member.pattern member.opening in matched height member text (engine.found text line place)
+      let text = searched_text member.pattern member.opening in
+      matched height member text (engine.found text line place)
 
   -- the members of a chain that match from the place on, in order
   abbrev pub live : List ℕ → Position → List Member → List Live
@@ -102,7 +111,8 @@ char_len line place = option_map_or len_utf8 (char_at line place) 1
 abbrev pub choice_of : List ℕ → ℕ → List Live → Option Live → Choice
 choice_of line place ms (Some m) = Take m
 choice_of line place [] None = End
-choice_of line place (m ∷ ms) None = if nat_lt (place + char_len line place) (length line) then Skip else End
+choice_of line place (m ∷ ms) None =
+    if nat_lt (place + char_len line place) (length line) then Skip else End
 
 -- of the matches that begin first, the foremost in the chain that goes on
 abbrev pub winner : List ℕ → Position → List Live → Choice

@@ -16,7 +16,10 @@ latex_text text = encode_utf8_all (flat_map latex_char (chars text))
 -- what opens a group in the colour of a style
 abbrev pub latex_color : Style → List ℕ
 latex_color style =
-    codes "\\textcolor[RGB]{" ++ (decimal style.foreground.r ++ (codes "," ++ (decimal style.foreground.g ++ (codes "," ++ (decimal style.foreground.b ++ codes "}{")))))
+    codes "\\textcolor[RGB]{"
+    ++ (decimal style.foreground.r
+    ++ (codes "," ++ (decimal style.foreground.g
+    ++ (codes "," ++ (decimal style.foreground.b ++ codes "}{")))))
 
 abbrev pub is_space : List ℕ → Bool
 is_space text = bytes_eq text (32 ∷ [])
@@ -37,7 +40,8 @@ latex_piece (Some style) p =
 -- the style of the group that is open behind the piece
 abbrev pub latex_style : Option Style → Style × Bor (List ℕ) → Style
 latex_style None p = p.0
-latex_style (Some style) p = if is_space p.1.now then style else if is_newline p.1.now then style else p.0
+latex_style (Some style) p =
+    if is_space p.1.now then style else if is_newline p.1.now then style else p.0
 
 -- the rest of the pieces behind a group, and the end of the last group
 abbrev pub latex_behind : Option Style → List (Style × Bor (List ℕ)) → List ℕ

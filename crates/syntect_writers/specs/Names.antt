@@ -17,7 +17,9 @@ named rest =
 unfoldable pub shown_behind : ℕ → List ℕ → List ℕ
 shown_behind n [] = []
 shown_behind (suc n) (b ∷ rest) = shown_behind n rest
-shown_behind zero (b ∷ rest) = if b == 38 then option_map_or (λ p. p.0 ∷ shown_behind p.1 rest) (named rest) (b ∷ shown_behind 0 rest) else b ∷ shown_behind 0 rest
+shown_behind zero (b ∷ rest) =
+    if b == 38 then option_map_or (λ p. p.0 ∷ shown_behind p.1 rest) (named rest)
+    (b ∷ shown_behind 0 rest) else b ∷ shown_behind 0 rest
 
 -- what a text of HTML shows
 abbrev pub shown_text : List ℕ → List ℕ

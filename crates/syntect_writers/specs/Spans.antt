@@ -49,10 +49,13 @@ asked_for asked text = if asked then text else []
 unfoldable pub flags_text : ℕ → List ℕ
 flags_text bits =
     asked_for (bit_and bits 2 == 2) (codes "text-decoration:underline;")
-    ++ (asked_for (bit_and bits 1 == 1) (codes "font-weight:bold;") ++ asked_for (bit_and bits 4 == 4) (codes "font-style:italic;"))
+    ++ (asked_for (bit_and bits 1 == 1) (codes "font-weight:bold;")
+    ++ asked_for (bit_and bits 4 == 4) (codes "font-style:italic;"))
 
 abbrev pub same_style : Style → Style → Bool
-same_style s t = (same_color s.foreground t.foreground && same_color s.background t.background) && bits_of s.font_style == bits_of t.font_style
+same_style s t =
+    (same_color s.foreground t.foreground && same_color s.background t.background)
+    && bits_of s.font_style == bits_of t.font_style
 
 -- the spans tell the colour behind their text
 abbrev pub tells_background : IncludeBackground → Style → Bool
@@ -65,11 +68,15 @@ unfoldable pub color_property : List ℕ → Color → List ℕ
 color_property name c = name ++ (color_text c ++ codes ";")
 
 unfoldable pub background_text : IncludeBackground → Style → List ℕ
-background_text bg style = asked_for (tells_background bg style) (color_property (codes "background-color:") style.background)
+background_text bg style =
+    asked_for (tells_background bg style)
+    (color_property (codes "background-color:") style.background)
 
 -- a style as CSS has it
 unfoldable pub css : IncludeBackground → Style → List ℕ
-css bg style = background_text bg style ++ (flags_text (bits_of style.font_style) ++ color_property (codes "color:") style.foreground)
+css bg style =
+    background_text bg style
+    ++ (flags_text (bits_of style.font_style) ++ color_property (codes "color:") style.foreground)
 
 -- ---- spans ----
 
@@ -79,12 +86,15 @@ is_blank text = list_all is_whitespace (chars text)
 
 -- a piece continues a span: it has its style, or it is white space on the same background
 abbrev pub continues : Style → Style × List ℕ → Bool
-continues style p = same_style p.0 style || (same_color p.0.background style.background && is_blank p.1)
+continues style p =
+    same_style p.0 style || (same_color p.0.background style.background && is_blank p.1)
 
 -- a line's spans: each has the style of its first piece, and its text
 unfoldable pub spans_from : Style → List ℕ → List (Style × List ℕ) → List (Style × List ℕ)
 spans_from style text [] = (style, text) ∷ []
-spans_from style text (p ∷ ps) = if continues style p then spans_from style (text ++ p.1) ps else (style, text) ∷ spans_from p.0 p.1 ps
+spans_from style text (p ∷ ps) =
+    if continues style p then spans_from style (text ++ p.1) ps
+    else (style, text) ∷ spans_from p.0 p.1 ps
 
 abbrev pub spans : List (Style × List ℕ) → List (Style × List ℕ)
 spans [] = []
@@ -110,11 +120,13 @@ line_text bg pieces = flat_map (span_text bg) (spans (plain_pieces pieces))
 
 -- the colour behind a theme's text
 abbrev pub background_of : Theme → Color
-background_of theme = unwrap_or theme.settings.background (record { r = 255; g = 255; b = 255; a = 255 })
+background_of theme =
+    unwrap_or theme.settings.background (record { r = 255; g = 255; b = 255; a = 255 })
 
 -- what stands before the lines
 abbrev pub opening : Theme → List ℕ
-opening theme = codes "<pre style=\"background-color:" ++ (rgb_text (background_of theme) ++ codes ";\">\n")
+opening theme =
+    codes "<pre style=\"background-color:" ++ (rgb_text (background_of theme) ++ codes ";\">\n")
 
 -- and behind them
 abbrev pub closing : List ℕ

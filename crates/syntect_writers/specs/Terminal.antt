@@ -22,7 +22,10 @@ blended over under =
 
 -- the escape sequence of a colour; the number is 38 for the colour of the text and 48 for the one behind it
 abbrev pub sequence : List ℕ → Color → List ℕ
-sequence number c = 27 ∷ (codes "[" ++ (number ++ (codes ";2;" ++ (decimal c.r ++ (codes ";" ++ (decimal c.g ++ (codes ";" ++ (decimal c.b ++ codes "m"))))))))
+sequence number c =
+    27 ∷ (codes "[" ++ (number ++ (codes ";2;"
+    ++ (decimal c.r ++ (codes ";" ++ (decimal c.g
+    ++ (codes ";" ++ (decimal c.b ++ codes "m"))))))))
 
 -- a piece
 abbrev pub piece_text : Bool → Style × Bor (List ℕ) → List ℕ

@@ -79,9 +79,12 @@ module _ (line : ℕ → Rest → Found Node) (inner : ℕ → Place → Found N
   -- the rest of a list at the column, of fewer than n items, after those found, from behind a `-` on
   unfoldable pub items : ℕ → ℕ → Items → Rest → Found Items
   items column zero found t = None
-  items column (suc n) found t = item column t >>= (λ v. items_on (items column n) (has_item column v.1) (push_item found v.0) v.1)
+  items column (suc n) found t =
+      item column t >>= (λ v. items_on (items column n) (has_item column v.1)
+      (push_item found v.0) v.1)
 
-  abbrev entries_on : (Entries → Scalar → Rest → Found Entries) → Bool → Entries → Place → Found Entries
+  abbrev entries_on : (Entries → Scalar → Rest → Found Entries) → Bool → Entries → Place
+      → Found Entries
   entries_on more true found p = key false p.rest >>= (λ k. more found k.0 k.1)
   entries_on more false found p = Some (found, p)
 
@@ -91,7 +94,8 @@ module _ (line : ℕ → Rest → Found Node) (inner : ℕ → Place → Found N
   entries column zero found k t = None
   entries column (suc n) found k t =
       if has_key k found then None
-      else value column t >>= (λ v. entries_on (entries column n) (has_entry column v.1) (push_entry found k v.0) v.1)
+      else value column t >>=
+      (λ v. entries_on (entries column n) (has_entry column v.1) (push_entry found k v.0) v.1)
 
 -- what begins here: an item of a list, a key with what follows its `:`, or neither
 pub data Start : Type 0 where
@@ -109,11 +113,14 @@ start t = start_on (begins_item t) (key false t)
 
 module _ (line : ℕ → Rest → Found Node) (inner : ℕ → Place → Found Node) where
   abbrev pub node_on : (ℕ → Rest → Found Node) → ℕ → Place → Start → Found Node
-  node_on here least p starts_item = found_map node.list (items line inner p.column (length p.rest) no_items (drop 1 p.rest))
-  node_on here least p (starts_entry k t) = found_map node.map (entries line inner p.column (length p.rest) no_entries k t)
+  node_on here least p starts_item =
+      found_map node.list (items line inner p.column (length p.rest) no_items (drop 1 p.rest))
+  node_on here least p (starts_entry k t) =
+      found_map node.map (entries line inner p.column (length p.rest) no_entries k t)
   node_on here least p starts_part = here least p.rest
 
 -- a node, where maps and lists nest no deeper than this
 unfoldable pub block : ℕ → ℕ → Place → Found Node
 block zero least p = inline zero least p.rest
-block (suc depth) least p = node_on (inline depth) (block depth) (inline (suc depth)) least p (start p.rest)
+block (suc depth) least p =
+    node_on (inline depth) (block depth) (inline (suc depth)) least p (start p.rest)

@@ -21,7 +21,9 @@ gap t = gap_on t (line_tail false t)
 
 -- behind a part its comma is passed; the closing mark stays
 unfoldable pub after_part : ℕ → Rest → Option Rest
-after_part closing t = gap t >>= (λ u. if first u ∈ "," then Some (drop 1 u) else if first u == closing then Some u else None)
+after_part closing t =
+    gap t >>= (λ u. if first u ∈ "," then Some (drop 1 u) else if first u == closing then Some u
+    else None)
 
 module _ (value : Rest → Read Node) where
   -- the rest of a list, of fewer than n values, after those found

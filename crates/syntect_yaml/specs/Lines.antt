@@ -60,7 +60,9 @@ after_run test t = drop (prefix_len test t) t
 
 -- the line is over: at a line feed, which a carriage return may come before, or at the text's end
 abbrev pub ends_line : Rest → Bool
-ends_line t = (length t == 0 || first t == line_feed) || (first t == carriage_return && slice_index t 1 == line_feed)
+ends_line t =
+    (length t == 0 || first t == line_feed)
+    || (first t == carriage_return && slice_index t 1 == line_feed)
 
 -- the next line
 abbrev pub after_line : Rest → Rest

@@ -40,7 +40,9 @@ unfoldable pub lines : ℕ → ℕ → Rest → Read (List ℕ)
 lines column zero t = None
 lines column (suc n) [] = Some ([], [])
 lines column (suc n) (c ∷ t) =
-    if belongs column (c ∷ t) then prepend (line_text column (c ∷ t)) (lines column n (after_line (c ∷ t))) else Some ([], c ∷ t)
+    if belongs column (c ∷ t)
+    then prepend (line_text column (c ∷ t)) (lines column n (after_line (c ∷ t)))
+    else Some ([], c ∷ t)
 
 abbrev pub onto : ℕ → List ℕ → List ℕ
 onto c [] = if c == line_feed then [] else c ∷ []
@@ -58,12 +60,15 @@ closed (c ∷ text) = (c ∷ text) ++ line_feed ∷ []
 
 -- the text with the end that the header asks for: with `+` as it is, with `-` without a line feed, else with one
 abbrev pub chomped : ℕ → List ℕ → List ℕ
-chomped mark text = if mark ∈ "+" then text else if mark ∈ "-" then stripped text else closed (stripped text)
+chomped mark text =
+    if mark ∈ "+" then text else if mark ∈ "-" then stripped text else closed (stripped text)
 
 abbrev pub text_from : ℕ → ℕ → Rest → Option ℕ → Read (List ℕ)
 text_from mark least t None = Some ([], t)
 text_from mark least t (Some column) =
-    if nat_le least column then option_map (λ p. (chomped mark p.0, p.1)) (lines column (suc (length t)) t) else Some ([], t)
+    if nat_le least column
+    then option_map (λ p. (chomped mark p.0, p.1)) (lines column (suc (length t)) t)
+    else Some ([], t)
 
 -- the text from the line below the header on, whose lines reach the least column; none of them is no text
 abbrev pub text : ℕ → ℕ → Rest → Read (List ℕ)

@@ -18,7 +18,8 @@ Gives f (Ok a) expected = expected ≡ Some (f a)
 Gives f (Err e) expected = Fails e expected
 
 -- the same of a value and what follows it
-abbrev pub Reads : {A B : Type 0} → (A → B) → Result (A × Bor (List ℕ)) Refusal → Option (B × List ℕ) → Type 0
+abbrev pub Reads : {A B : Type 0} → (A → B) → Result (A × Bor (List ℕ)) Refusal
+    → Option (B × List ℕ) → Type 0
 Reads f r expected = Gives (λ p. (f p.0, p.1.now)) r expected
 
 -- something was read
@@ -26,7 +27,8 @@ abbrev pub Shortens : {A : Type 0} → List ℕ → Result (A × Bor (List ℕ))
 Shortens t r = IfOk r (λ p. length p.1.now < length t)
 
 -- the same of a value and the place behind it
-abbrev pub Finds : {A B : Type 0} → (A → B) → Result (A × Spot) Refusal → Option (B × Place) → Type 0
+abbrev pub Finds : {A B : Type 0} → (A → B) → Result (A × Spot) Refusal → Option (B × Place)
+    → Type 0
 Finds f r expected = Gives (λ p. (f p.0, place_of p.1)) r expected
 
 -- no more is left, also with what stands before the place in its line

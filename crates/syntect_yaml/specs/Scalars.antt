@@ -24,7 +24,8 @@ is_sign c = c ∈ "[]{},#&*!|>'\"%@`"
 
 -- a plain scalar may begin here: `-`, `?` and `:` begin one before a visible character alone
 unfoldable pub begins_plain : Rest → Bool
-begins_plain t = (is_visible t && not (is_sign (first t))) && (not (first t ∈ "-?:") || is_visible (drop 1 t))
+begins_plain t =
+    (is_visible t && not (is_sign (first t))) && (not (first t ∈ "-?:") || is_visible (drop 1 t))
 
 -- a `:` before this ends a key; the flag says that a flow map or list is open
 abbrev pub ends_key : Bool → Rest → Bool
@@ -34,7 +35,8 @@ ends_key flow t = (ends_line t || first t == space) || (flow && is_flow_mark (fi
 -- ends a key. The second flag says that a space stands before.
 unfoldable pub ends_plain : Bool → Bool → Rest → Bool
 ends_plain flow spaced t =
-    ends_line t || ((spaced && first t ∈ "#") || ((flow && is_flow_mark (first t)) || (first t ∈ ":" && ends_key flow (drop 1 t))))
+    ends_line t || ((spaced && first t ∈ "#")
+    || ((flow && is_flow_mark (first t)) || (first t ∈ ":" && ends_key flow (drop 1 t))))
 
 -- how long the plain scalar is: white space belongs to it where more of it follows
 unfoldable pub plain_len : Bool → Bool → Rest → ℕ
@@ -60,7 +62,8 @@ fitting negative n =
 
 -- the number that a text writes: digits, perhaps with a sign
 unfoldable pub number_of : List ℕ → Option ℤ
-number_of s = if is_whole (unsigned s) then fitting (first s ∈ "-") (digits_value 10 (unsigned s)) else None
+number_of s =
+    if is_whole (unsigned s) then fitting (first s ∈ "-") (digits_value 10 (unsigned s)) else None
 
 abbrev pub number_or_text : List ℕ → Option ℤ → Scalar
 number_or_text s (Some z) = Number z
@@ -146,7 +149,8 @@ double zero t = None
 double (suc n) t =
     let (front, u) = split_run is_double t in
     if first u ∈ "\"" then Some (front, drop 1 u)
-    else if first u ∈ "\\" then escape (drop 1 u) >>= (λ e. prepend (front ++ encode_utf8 e.0) (double n e.1))
+    else if first u ∈ "\\" then
+    escape (drop 1 u) >>= (λ e. prepend (front ++ encode_utf8 e.0) (double n e.1))
     else None
 
 -- ---- both

@@ -8,7 +8,8 @@ use Rattle.syntect_yaml.specs.declared.read.Heading.TheVariants.{Directive, Star
 
 -- without a byte order mark
 unfoldable pub unmasked : Rest → Rest
-unmasked t = if (first t == 0xEF && slice_index t 1 == 0xBB) && slice_index t 2 == 0xBF then drop 3 t else t
+unmasked t =
+    if (first t == 0xEF && slice_index t 1 == 0xBB) && slice_index t 2 == 0xBF then drop 3 t else t
 
 -- what the line at a place is before the node: one that begins with `%`, or `---`, or the node's first
 abbrev pub heading : Place → Heading
@@ -26,7 +27,8 @@ begin_on more directed p Body = if directed then None else unmarked p
 -- that one with `%` did
 unfoldable pub begin : ℕ → Bool → Rest → Option Place
 begin zero directed t = None
-begin (suc n) directed t = seek (suc (length t)) t >>= (λ p. begin_on (begin n true) directed p (heading p))
+begin (suc n) directed t =
+    seek (suc (length t)) t >>= (λ p. begin_on (begin n true) directed p (heading p))
 
 -- maps and lists nest no deeper than this
 abbrev pub deepest : ℕ

@@ -98,7 +98,9 @@ fn below(
 ) -> Result<(Yaml, Spot<'_>), Refusal>
     requires column { column < 2 ^ 63 }
     requires rest { spot.column + length spot.rest.now < 2 ^ 63 }
-    ensures value { Finds view result (blocks.below (blocks.inline depth) (blocks.block depth) deeper column (place_of spot.entry)) }
+    ensures value { Finds view result
+        (blocks.below (blocks.inline depth) (blocks.block depth) deeper column
+        (place_of spot.entry)) }
     ensures within { Stays (spot.entry.column + length spot.entry.rest.now) result }
 {
     if deeper {
@@ -117,7 +119,8 @@ fn value(
     depth: usize,
 ) -> Result<(Yaml, Spot<'_>), Refusal>
     requires { column + length text.now < 2 ^ 63 }
-    ensures value { Finds view result (blocks.value (blocks.inline depth) (blocks.block depth) column text.now) }
+    ensures value { Finds view result
+        (blocks.value (blocks.inline depth) (blocks.block depth) column text.now) }
     ensures within { Stays (length text.now) result }
 {
     match line_tail(text, false) {
@@ -136,7 +139,8 @@ fn value(
 #[cycle(block)]
 fn item(alloc: Global, text: &str, column: usize, depth: usize) -> Result<(Yaml, Spot<'_>), Refusal>
     requires { column + 1 + length text.now < 2 ^ 63 }
-    ensures value { Finds view result (blocks.item (blocks.inline depth) (blocks.block depth) column text.now) }
+    ensures value { Finds view result
+        (blocks.item (blocks.inline depth) (blocks.block depth) column text.now) }
     ensures within { Stays (length text.now) result }
 {
     match line_tail(text, false) {
@@ -167,7 +171,9 @@ fn items(
     depth: usize,
 ) -> Result<(Vec<Yaml>, Spot<'_>), Refusal>
     requires { column + 1 + length text.now < 2 ^ 63 }
-    ensures value { (n : ℕ) → length text.now < n → Finds (λ v. items_view v.items) result (blocks.items (blocks.inline depth) (blocks.block depth) column n no_items text.now) }
+    ensures value { (n : ℕ) → length text.now < n
+        → Finds (λ v. items_view v.items) result
+        (blocks.items (blocks.inline depth) (blocks.block depth) column n no_items text.now) }
     ensures within { Stays (length text.now) result }
 {
     let mut found = Vec::new(alloc);
@@ -195,7 +201,10 @@ fn entries(
     depth: usize,
 ) -> Result<(Vec<(Scalar, Yaml)>, Spot<'_>), Refusal>
     requires { column + length text.now < 2 ^ 63 }
-    ensures value { (n : ℕ) → length text.now < n → Finds (λ v. entries_view v.items) result (blocks.entries (blocks.inline depth) (blocks.block depth) column n no_entries first_key text.now) }
+    ensures value { (n : ℕ) → length text.now < n
+        → Finds (λ v. entries_view v.items) result
+        (blocks.entries (blocks.inline depth)
+        (blocks.block depth) column n no_entries first_key text.now) }
     ensures within { Stays (length text.now) result }
 {
     let mut found = Vec::new(alloc);

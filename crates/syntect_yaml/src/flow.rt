@@ -95,7 +95,9 @@ pub(crate) fn flow(alloc: Global, text: &str, depth: usize) -> Result<(Yaml, &st
 /// The rest of a list.
 #[cycle(flow)]
 fn items(alloc: Global, text: &str, depth: usize) -> Result<(Vec<Yaml>, &str), Refusal>
-    ensures value { (n : ℕ) → length text.now < n → Reads (λ v. items_view v.items) result (flow.items (flow.flow depth) n no_items text.now) }
+    ensures value { (n : ℕ) → length text.now < n
+        → Reads (λ v. items_view v.items) result
+        (flow.items (flow.flow depth) n no_items text.now) }
     ensures shorter { Shortens text.now result }
 {
     let mut found = Vec::new(alloc);
@@ -136,7 +138,9 @@ fn entry_value(alloc: Global, text: &str, depth: usize) -> Result<(Yaml, &str), 
 /// The rest of a map.
 #[cycle(flow)]
 fn entries(alloc: Global, text: &str, depth: usize) -> Result<(Vec<(Scalar, Yaml)>, &str), Refusal>
-    ensures value { (n : ℕ) → length text.now < n → Reads (λ v. entries_view v.items) result (flow.entries (flow.flow depth) n no_entries text.now) }
+    ensures value { (n : ℕ) → length text.now < n
+        → Reads (λ v. entries_view v.items) result
+        (flow.entries (flow.flow depth) n no_entries text.now) }
     ensures shorter { Shortens text.now result }
 {
     let mut found = Vec::new(alloc);

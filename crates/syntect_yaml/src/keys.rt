@@ -10,7 +10,9 @@ use std::collections::BTreeSet;
 /// Adds a key, and says whether it is new.
 pub(crate) fn add_key(keys: &mut BTreeSet<Scalar>, key: &Scalar) -> Result<bool, AllocError>
     ensures added { IfOk result (λ new. new ≡ not (has_scalar key.now keys.old.keys)) }
-    ensures updates { OnOk result ((q : Leaf) → has_scalar q keys.new.keys ≡ (same_scalar key.now q || has_scalar q keys.old.keys)) }
+    ensures updates { OnOk result
+        ((q : Leaf) → has_scalar q keys.new.keys
+        ≡ (same_scalar key.now q || has_scalar q keys.old.keys)) }
 {
     Ok(keys.insert(key.clone()?)?)
 }

@@ -67,7 +67,8 @@ fn push_line(out: &mut Text, text: &str, column: usize) -> Result<(), AllocError
 
 /// The lines of a text that begins at a column, and what follows them.
 fn lines(alloc: Global, text: &str, column: usize) -> Result<(Text, &str), Refusal>
-    ensures value { (n : ℕ) → length text.now < n → Reads (λ t. t) result (literal.lines column n text.now) }
+    ensures value { (n : ℕ) → length text.now < n
+        → Reads (λ t. t) result (literal.lines column n text.now) }
     ensures within { IfOk result (λ p. length p.1.now ≤ length text.now) }
 {
     let mut out = Text::new(alloc);

@@ -28,7 +28,8 @@ fn indented(text: &str) -> Option<Spot<'_>>
 
 /// The first visible character from a line's start on that begins no comment.
 pub(crate) fn seek(text: &str) -> Option<Spot<'_>>
-    ensures value { (n : ℕ) → length text.now < n → option_map place_of result ≡ lines.seek n text.now }
+    ensures value { (n : ℕ) → length text.now < n
+        → option_map place_of result ≡ lines.seek n text.now }
     ensures within { IsWithin text.now result }
 {
     let mut rest = text;

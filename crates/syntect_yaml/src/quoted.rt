@@ -13,7 +13,8 @@ use syntect_values::text::Text;
 
 /// The text from inside single quotes on.
 fn single(alloc: Global, text: &str) -> Result<(Text, &str), Refusal>
-    ensures value { (n : ℕ) → length text.now < n → Reads (λ t. t) result (scalars.single n text.now) }
+    ensures value { (n : ℕ) → length text.now < n
+        → Reads (λ t. t) result (scalars.single n text.now) }
     ensures shorter { Shortens text.now result }
 {
     let mut out = Text::new(alloc);
@@ -105,7 +106,8 @@ fn escape(text: &str) -> Option<(char, &str)>
 
 /// The text from inside double quotes on.
 fn double(alloc: Global, text: &str) -> Result<(Text, &str), Refusal>
-    ensures value { (n : ℕ) → length text.now < n → Reads (λ t. t) result (scalars.double n text.now) }
+    ensures value { (n : ℕ) → length text.now < n
+        → Reads (λ t. t) result (scalars.double n text.now) }
     ensures shorter { Shortens text.now result }
 {
     let mut out = Text::new(alloc);

@@ -58,7 +58,8 @@ fn unmasked(text: &str) -> &str
 
 /// Where the node begins.
 fn begin(text: &str) -> Option<Spot<'_>>
-    ensures value { (n : ℕ) → length text.now < n → option_map place_of result ≡ yaml.begin n false text.now }
+    ensures value { (n : ℕ) → length text.now < n
+        → option_map place_of result ≡ yaml.begin n false text.now }
     ensures within { IsWithin text.now result }
 {
     let mut rest = text;

@@ -74,7 +74,8 @@ fn is_text(scalar: &Scalar, text: &str) -> bool
 
 /// The value of the entry whose key is this text.
 fn value_at<'a>(entries: &'a [(Scalar, Yaml)], text: &str) -> Option<&'a Yaml>
-    ensures { option_map (λ v. view v.now) result ≡ node.value_at text.now (entries_view entries.now) }
+    ensures { option_map (λ v. view v.now) result
+        ≡ node.value_at text.now (entries_view entries.now) }
 {
     for entry in entries {
         if is_text(&entry.0, text) {
@@ -117,7 +118,8 @@ impl Yaml {
 
     /// The text, if it is one.
     pub fn as_str(&self) -> Option<&str>
-        ensures { option_map (λ s. s.now) result ≡ option_and_then node.text_of (node.as_scalar (view self.now)) }
+        ensures { option_map (λ s. s.now) result
+            ≡ option_and_then node.text_of (node.as_scalar (view self.now)) }
     {
         match self {
             Yaml::Scalar(scalar) => scalar.as_str(),
