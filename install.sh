@@ -1,28 +1,27 @@
 #!/bin/sh
-# Builds the program syncat and puts it on the user's path.
+# Builds the program syncat, proved, and puts it on the user's path; or shows it at once, without a proof.
 #
-#   sh install.sh [FOLDER]
+#   sh install.sh [FOLDER]              proves and builds it, and puts it into FOLDER, or else into $HOME/.local/bin
+#   sh install.sh --plan [FOLDER]       says what that needs, what of it is here and how long it takes, and does nothing
+#   sh install.sh --try                 builds it without any proof, in some two minutes, and shows a file in colour
+#   sh install.sh --uninstall           takes away what the other words have made
+#   sh install.sh --help                shows these lines
 #
-# FOLDER is where it is put; without the word it is $HOME/.local/bin. The Rattle kit's command rt has to be on the path.
-# What is built stays in the folder VULSANGI_BUILD, or else in the user's cache: a later call takes what has changed.
+# The Rattle kit's command rt has to be on the path. What is built stays in the folder VULSANGI_BUILD, or else in the user's
+# cache, $HOME/.cache/vulsangi: a later call takes what has changed, and one that was stopped, with Ctrl-C or otherwise, is
+# taken up by the same command. JOBS in the environment is how many processors are taken; without it all are.
 set -eu
 
 here=$(cd "$(dirname "$0")" && pwd)
-folder=${1:-"$HOME/.local/bin"}
-build=${VULSANGI_BUILD:-"${XDG_CACHE_HOME:-$HOME/.cache}/vulsangi"}
+build=${VULSANGI_BUILD:-"${XDG_CACHE_HOME:-${HOME:?}/.cache}/vulsangi"}
 program=syncat
+state=
+workers=
 
-if ! command -v rt > /dev/null; then
-    echo "install.sh: the command rt of the Rattle kit is not on the path" >&2
+# ends with a line on standard error
+stop() {
+    echo "install.sh: $1" >&2
     exit 1
-fi
-
-# the libraries of this repository that a crate names
-named() {
-    awk -F: -v crate="$1" '
-        /^[^#]/ && NF > 1 { own[$1] = 1; if ($1 == crate) uses = $2 }
-        END { n = split(uses, words, " "); for (i = 1; i <= n; i++) if (words[i] in own) print words[i] }
-    ' "$here/crates.txt"
 }
 
 # the crate and all that it stands on, lowest first
@@ -39,6 +38,37 @@ below() {
     ' "$here/crates.txt"
 }
 
+# a sum of the texts of a crate and of all that it stands on, with the kit's name: what is built stands as long as it stays
+sum_of() {
+    for library in $(below "$1"); do cat "$sums/$library"; done | sha256sum | cut -d ' ' -f 1
+}
+
+# a sum of a crate's own text in a repository or a copy of it, and of the kit's name
+sum_of_text() {
+    {
+        echo "$kit"
+        grep "^$2:" "$1/crates.txt"
+        (cd "$1/crates/$2" && find src specs proofs -type f 2> /dev/null | LC_ALL=C sort | tr '\n' '\0' | xargs -0 sha256sum)
+    } | sha256sum
+}
+
+# the sum of each crate's own text, a file a crate
+sum_texts() {
+    for library in $(below "$program"); do
+        sum_of_text "$here" "$library" > "$sums/$library"
+    done
+}
+
+# whether a crate is built of the text that stands here
+stands() {
+    [ "$(cat "$build/$1/sum" 2> /dev/null)" = "$(sum_of "$1")" ] || return 1
+    if [ "$1" = "$program" ]; then
+        [ -x "$build/$1/crates/$1/out/$1" ]
+    else
+        [ -d "$build/$1/crates/$1/out/rlib" ]
+    fi
+}
+
 # copies a crate's text into a folder of crates
 text_of() {
     mkdir -p "$2/$1"
@@ -50,7 +80,7 @@ text_of() {
     done
 }
 
-# Puts a built library into a folder: by links, as its files are only read and all lanes together would copy some 25 GB.
+# Puts a built library into a folder: by links, as its files are only read and all folders together would copy some 25 GB.
 # What tells that it fits is a file of the folder's own.
 linked() {
     if cp -Rl "$1" "$2/" 2> /dev/null; then
@@ -62,51 +92,95 @@ linked() {
     fi
 }
 
-# Proves one crate by so many jobs, in a folder of its own with the libraries that it stands on: rt works in a library's
-# folder one at a time, so that crates side by side need folders apart.
-prove() {
+# Makes a crate's folder, with the libraries that it stands on: rt works in a library's folder one at a time, so that crates
+# side by side need folders apart.
+lay_out() {
     lane="$build/$1"
+    rm -f "$lane/sum"
     mkdir -p "$lane/crates"
     cp "$here/HANDLES" "$lane/"
     : > "$lane/crates.txt"
     for library in $(below "$1"); do
         grep "^$library:" "$here/crates.txt" >> "$lane/crates.txt"
         text_of "$library" "$lane/crates"
+        if [ "$(sum_of_text "$lane" "$library")" != "$(cat "$sums/$library")" ]; then
+            echo "the text of $library was changed meanwhile, or could not be copied"
+            return 1
+        fi
         if [ "$library" != "$1" ]; then
             rm -rf "$lane/crates/$library/out"
             mkdir -p "$lane/crates/$library/out"
             linked "$build/$library/crates/$library/out/rlib" "$lane/crates/$library/out"
         fi
     done
-    cd "$lane/crates/$1" || return 1
-    if [ "$1" = "$program" ]; then
-        # Once built it shows a file, so that what is installed has run
-        rt run --jobs "$2" -- "$here/examples/grammars" "$here/examples/dusk.json" html "$here/examples/texts/settings.ini"
-    else
-        rt lib --jobs "$2"
-    fi
 }
 
-# The crates of the longest chain, by the seconds in docs/gate.tsv: nothing is done before its last one is, so each of
-# them has a job for each processor, whatever stands beside it.
-longest() {
-    awk -v crate="$program" '
-        function reach(name, words, n, i) {
+# Proves one crate by so many jobs. When rt ends, so does all that it has started; its number stands in a file meanwhile.
+prove() {
+    lay_out "$1" || return 1
+    cd "$build/$1/crates/$1" || return 1
+    [ ! -e "$state/over" ] || return 1
+    if [ "$1" = "$program" ]; then
+        # Once built it shows a file, so that what is installed has run
+        rt run --jobs "$2" -- "$here/examples/grammars" "$here/examples/dusk.json" html "$here/examples/texts/settings.ini" &
+    else
+        rt lib --jobs "$2" &
+    fi
+    echo $! > "$state/$1.pid"
+    proved=0
+    wait $! || proved=$?
+    rm -f "$state/$1.pid"
+    [ "$proved" = 0 ] && sum_of "$1" > "$build/$1/sum"
+}
+
+# The seconds that docs/gate.tsv has, gone through with what stands already: a line with the seconds of all crates that are
+# left and of the longest chain of them, and the names of that chain.
+left() {
+    for library in $crates; do
+        [ ! -e "$state/$library.done" ] || echo "$library"
+    done | awk -v crate="$program" '
+        function reach(name, words, n, i, best) {
             if (name in far) return far[name]
-            far[name] = 0
             n = split(uses[name], words, " ")
             for (i = 1; i <= n; i++)
-                if (words[i] in uses && reach(words[i]) > far[name]) {
-                    far[name] = far[words[i]]
+                if (words[i] in uses && reach(words[i]) > best) {
+                    best = far[words[i]]
                     next_one[name] = words[i]
                 }
-            far[name] += seconds[name] + 1
+            far[name] = best + (name in done ? 0 : seconds[name] + 1)
+            all += far[name] - best
             return far[name]
         }
-        FNR == NR { if (!/^#/) seconds[$1] = $2; next }
+        FILENAME == "-" { done[$1] = 1; next }
+        FILENAME ~ /tsv$/ { if (!/^#/) seconds[$1] = $2; next }
         /^[^#]/ { split($0, parts, ":"); uses[parts[1]] = parts[2] }
-        END { reach(crate); for (name = crate; name != ""; name = next_one[name]) print name }
-    ' "$here/docs/gate.tsv" "$here/crates.txt"
+        END {
+            reach(crate)
+            printf "%d %d", all, far[crate]
+            for (name = crate; name != ""; name = next_one[name]) printf " %s", name
+            print ""
+        }
+    ' - "$here/docs/gate.tsv" "$here/crates.txt"
+}
+
+# The seconds of the table that what is left takes at least: the longest chain, or all of them on all processors.
+least() {
+    # shellcheck disable=SC2046
+    set -- $(left)
+    all_left=$(($1 / processors))
+    echo $((all_left > $2 ? all_left : $2))
+}
+
+# The minutes that are left: the table's seconds, as much longer as they took so far; a quarter longer at first.
+minutes_left() {
+    now_left=$(least)
+    gone=$(($(date +%s) - start))
+    passed=$((first_left - now_left))
+    if [ "$passed" -gt 120 ]; then
+        echo $(((now_left * gone / passed + 59) / 60))
+    else
+        echo $(((now_left * 5 / 4 + 59) / 60))
+    fi
 }
 
 # how many jobs a crate beside the longest chain has: more than one where it takes so long that it would hold it up
@@ -117,11 +191,12 @@ jobs_of() {
     ' "$here/docs/gate.tsv"
 }
 
-# waits until a crate's libraries stand
+# waits until the libraries stand that a crate stands on
 ready() {
-    for library in $(named "$1"); do
+    for library in $(below "$1"); do
+        [ "$library" != "$1" ] || continue
         until [ -e "$state/$library.done" ]; do
-            [ ! -e "$state/failed" ] || return 1
+            [ ! -e "$state/over" ] || return 1
             sleep 0.2
         done
     done
@@ -131,7 +206,7 @@ ready() {
 taken() {
     slot=none
     while [ "$slot" = none ]; do
-        [ ! -e "$state/failed" ] || return 1
+        [ ! -e "$state/over" ] || return 1
         for number in $(seq "$others"); do
             if mkdir "$state/slot.$number" 2> /dev/null; then
                 slot=$number
@@ -142,49 +217,224 @@ taken() {
     done
 }
 
-# waits for what a crate needs, proves it, and says so
+# how many crates stand
+count_done() {
+    set -- "$state"/*.done
+    [ -e "$1" ] || set --
+    echo $#
+}
+
+# Waits for what a crate needs, proves it, and says so. Nothing of the longest chain waits for a place.
 work() {
     ready "$1" || return 0
     slot=none
     jobs=$processors
-    if ! echo "$chain" | grep -qx "$1"; then
-        jobs=$(jobs_of "$1")
-        taken || return 0
-    fi
-    if ( prove "$1" "$jobs" ) > "$build/$1.log" 2>&1 < /dev/null; then
+    case " $chain " in
+        *" $1 "*) ;;
+        *)
+            jobs=$(jobs_of "$1")
+            taken || return 0
+            ;;
+    esac
+    if (prove "$1" "$jobs") > "$build/$1.log" 2>&1 < /dev/null; then
         : > "$state/$1.done"
         now=$(($(date +%s) - start))
-        printf '%3d:%02d  %d of %d  %s\n' $((now / 60)) $((now % 60)) "$(ls "$state" | grep -c 'done$')" "$all" "$1"
-    else
-        : > "$state/failed"
-        echo "install.sh: $1 is not proved; what was said stands in $build/$1.log" >&2
+        printf '%3d:%02d  %2d of %d  %-24s %s\n' $((now / 60)) $((now % 60)) "$(count_done)" "$all" "$1" \
+            "some $(minutes_left) minutes left"
+    elif mkdir "$state/over" 2> /dev/null; then
+        echo "install.sh: $1 is not proved; what was said stands in $build/$1.log, at its end:" >&2
+        tail -n 4 "$build/$1.log" >&2
     fi
-    [ "$slot" = none ] || rmdir "$state/slot.$slot"
+    [ "$slot" = none ] || rmdir "$state/slot.$slot" 2> /dev/null || true
 }
 
-crates=$(below "$program")
-all=$(echo "$crates" | wc -l)
-chain=$(longest)
-processors=$(getconf _NPROCESSORS_ONLN 2> /dev/null || echo 1)
-# beside a crate of the longest chain, so many others are proved at a time
-others=$((processors > 2 ? processors - 1 : 1))
-start=$(date +%s)
-state=$(mktemp -d)
-trap 'rm -rf "$state"' EXIT
-mkdir -p "$build"
-echo "Proving the $all crates that $program stands on, on $processors processors. A first build takes some forty minutes"
-echo "on four processors, and more on fewer; a later one takes what has changed. Each line is a crate that stands."
-for crate in $crates; do
-    work "$crate" &
-done
-wait
-[ ! -e "$state/failed" ] || exit 1
+# Ends what is at work: no crate is begun any more, and each rt is told to end, by its number.
+end_work() {
+    mkdir "$state/over" 2> /dev/null || true
+    for worker in $workers; do
+        while kill -0 "$worker" 2> /dev/null; do
+            for file in "$state"/*.pid; do
+                [ ! -e "$file" ] || kill "$(cat "$file")" 2> /dev/null || true
+            done
+            sleep 0.1
+        done
+    done
+}
 
-mkdir -p "$folder"
-cp "$build/$program/crates/$program/out/$program" "$folder/$program"
-chmod 755 "$folder/$program"
-echo "$program is in $folder"
-case ":$PATH:" in
-    *":$folder:"*) ;;
-    *) echo "$folder is not on the path" ;;
+# what is to be done at an interrupt
+interrupted() {
+    trap '' INT TERM HUP
+    end_work
+    echo "install.sh: stopped; the same command goes on from here" >&2
+    exit 130
+}
+
+# the state of this call, which one call in a build folder has at a time
+take_state() {
+    mkdir -p "$build"
+    if ! mkdir "$build/state" 2> /dev/null; then
+        other=$(cat "$build/state/owner" 2> /dev/null || echo none)
+        if [ "$other" != none ] && kill -0 "$other" 2> /dev/null; then
+            stop "another call, process $other, is at work in $build"
+        fi
+        rm -rf "${build:?}/state"
+        mkdir "$build/state"
+    fi
+    state=$build/state
+    echo $$ > "$state/owner"
+    sums=$state/sums
+    mkdir "$sums"
+    trap 'rm -rf "$state"; rmdir "$build" 2> /dev/null || true' EXIT
+}
+
+# the kit's line, and how many processors, megabytes of memory and of disk are here
+look_round() {
+    kit=$(rt version)
+    # shellcheck disable=SC2016
+    gate_kit=$(sed -n 's/^Proved with `\([^`]*\)`.*/\1/p' "$here/README.md")
+    processors=${JOBS:-$(nproc 2> /dev/null || getconf _NPROCESSORS_ONLN 2> /dev/null || echo 1)}
+    memory=$(awk '/^(MemAvailable|SwapFree):/ { n += $2 } END { print int(n / 1024) }' /proc/meminfo 2> /dev/null || echo 0)
+    disk=$(df -Pk "$build" | awk 'NR == 2 { print int($4 / 1024) }')
+    # beside a crate of the longest chain, so many others are proved at a time, as far as there is memory
+    others=$((processors > 2 ? processors - 1 : 1))
+    room=$(((memory - first_need) / next_need))
+    [ "$room" -ge "$others" ] || others=$((room > 1 ? room : 1))
+}
+
+# Megabytes: of memory for the largest check and for each beside it, and of disk for a build from nothing
+first_need=3500
+next_need=2500
+disk_need=10000
+
+# what stands already, a file for each crate
+look_at_crates() {
+    crates=$(below "$program")
+    # shellcheck disable=SC2086
+    all=$(set -- $crates && echo $#)
+    for crate in $crates; do
+        if stands "$crate"; then : > "$state/$crate.done"; fi
+    done
+    # shellcheck disable=SC2046
+    chain=$(set -- $(left) && shift 2 && echo "$*")
+    start=$(date +%s)
+    first_left=$(least)
+}
+
+# says what the work needs, beside what is here
+tell_needs() {
+    [ "${kit%% *}" = "$gate_kit" ] && kit_note="as the gate" || kit_note="the gate was passed with $gate_kit"
+    cat << END
+$program is proved with the $all crates from its lowest library to itself; $(count_done) of them stand in $build.
+  kit         $kit ($kit_note)
+  processors  $processors here; four were measured
+  memory      $((memory / 1000)) GB free; a check takes $((first_need / 100 / 10)).$((first_need / 100 % 10)) GB at most, and $((others + 1)) are made at a time
+  disk        $((disk / 1000)) GB free; some $((disk_need / 1000)) GB are taken
+  time        some $(minutes_left) minutes, if these processors have nothing else to do
+END
+    [ "$memory" -ge "$first_need" ] || echo "There may be too little memory: a check that lacks it fails, and is told with its log."
+}
+
+# the program, put into its folder in one move, and where it is
+put() {
+    mkdir -p "$folder"
+    cp "$build/$program/crates/$program/out/$program" "$folder/.$program.$$"
+    chmod 755 "$folder/.$program.$$"
+    mv -f "$folder/.$program.$$" "$folder/$program"
+    sha256sum "$folder/$program" > "$build/installed"
+    echo "$program, proved, is in $folder"
+    case ":$PATH:" in
+        *":$folder:"*) ;;
+        *) echo "$folder is not on the path" ;;
+    esac
+}
+
+install() {
+    mkdir -p "$folder" 2> /dev/null || stop "the folder $folder cannot be made"
+    [ -w "$folder" ] || stop "nothing can be written into $folder"
+    tell_needs
+    if [ "$(count_done)" -lt "$all" ]; then
+        [ "$disk" -ge $((disk_need * (all - $(count_done)) / all)) ] ||
+            stop "there is too little disk at $build; VULSANGI_BUILD names another folder"
+        echo "Ctrl-C stops it, and the same command goes on. Each line is a crate that stands:"
+        trap interrupted INT TERM HUP
+        for crate in $crates; do
+            if [ ! -e "$state/$crate.done" ]; then
+                work "$crate" &
+                workers="$workers $!"
+            fi
+        done
+        wait
+        [ ! -e "$state/over" ] || exit 1
+    fi
+    put
+}
+
+# Shows a file by a program without any proof, which is built where the text has changed.
+try_it() {
+    unproved=$build/unproved
+    mkdir -p "$unproved"
+    builder=
+    wanted=$(sum_of "$program")
+    if [ "$(cat "$unproved/sum" 2> /dev/null)" != "$wanted" ] || [ ! -x "$unproved/$program" ]; then
+        echo "Building $program WITHOUT PROOF, in two steps: some two minutes on a free processor, and 2 GB of memory."
+        rm -f "$unproved/sum"
+        trap '[ -z "$builder" ] || kill "$builder" 2> /dev/null || true; wait; echo "install.sh: stopped" >&2; exit 130' INT TERM HUP
+        TMPDIR=$unproved sh "$here/scripts/unproved.sh" --say "$program" "$unproved/$program" &
+        builder=$!
+        wait "$builder" || exit 1
+        builder=
+        echo "$wanted" > "$unproved/sum"
+    fi
+    set -- "$here/examples/grammars" "$here/examples/dusk.json" term "$here/examples/texts/orbit.rs"
+    "$unproved/$program" "$@"
+    cat << END
+
+That was $* by
+  $unproved/$program
+This build is UNPROVED: it shows colours and is for nothing else. The gate proves this same text; sh install.sh proves it
+here, in some $(minutes_left) minutes on these processors, and installs what it has proved.
+END
+}
+
+# Takes away what calls of this script have made, and nothing else.
+uninstall() {
+    [ -d "$build" ] || stop "there is nothing at $build"
+    take_state
+    put_there=$(sed 's/^[^ ]* [ *]//' "$build/installed" 2> /dev/null || true)
+    if [ -n "$put_there" ] && sha256sum --check --status "$build/installed" 2> /dev/null; then
+        rm -f "$put_there"
+        echo "$put_there is taken away"
+    elif [ -n "$put_there" ] && [ -f "$put_there" ]; then
+        echo "$put_there is left: it is not what was put there"
+    fi
+    for lane in "$build"/*/; do
+        [ ! -f "$lane/HANDLES" ] || [ ! -f "$lane/crates.txt" ] || rm -rf "${lane:?}"
+    done
+    rm -rf "$build/unproved" "$build/installed" "$build/state" "$build"/*.log
+    rmdir "$build" 2> /dev/null || echo "$build is left: it has other files"
+    echo "what was built in $build is taken away"
+}
+
+word=install
+case ${1:-} in
+    --help) sed -n '2,13s/^# \{0,1\}//p' "$0"; exit 0 ;;
+    --plan | --try | --uninstall) word=${1#--}; shift ;;
+    -*) stop "there is no word $1; sh install.sh --help shows those there are" ;;
+esac
+[ $# -le 1 ] || stop "more than one folder is named"
+folder=${1:-"${HOME:?}/.local/bin"}
+case $folder in /*) ;; *) folder=$PWD/$folder ;; esac
+if [ "$word" = uninstall ]; then
+    uninstall
+    exit 0
+fi
+command -v rt > /dev/null || stop "the command rt of the Rattle kit is not on the path; README.md says how one comes by it"
+take_state
+look_round
+sum_texts
+look_at_crates
+case $word in
+    plan) tell_needs ;;
+    try) try_it ;;
+    install) install ;;
 esac
