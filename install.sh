@@ -38,7 +38,7 @@ below() {
     ' "$here/crates.txt"
 }
 
-# a sum of the texts of a crate and of all that it stands on, with the kit's name: what is built stands as long as it stays
+# A sum of the texts of a crate and of all that it stands on, with the kit's name: what is built stands as long as it stays.
 sum_of() {
     for library in $(below "$1"); do cat "$sums/$library"; done | sha256sum | cut -d ' ' -f 1
 }
@@ -240,7 +240,7 @@ work() {
         : > "$state/$1.done"
         now=$(($(date +%s) - start))
         printf '%3d:%02d  %2d of %d  %-24s %s\n' $((now / 60)) $((now % 60)) "$(count_done)" "$all" "$1" \
-            "some $(minutes_left) minutes left"
+            "some $(minutes_left) min left"
     elif mkdir "$state/over" 2> /dev/null; then
         echo "install.sh: $1 is not proved; what was said stands in $build/$1.log, at its end:" >&2
         tail -n 4 "$build/$1.log" >&2
@@ -295,10 +295,10 @@ look_round() {
     processors=${JOBS:-$(nproc 2> /dev/null || getconf _NPROCESSORS_ONLN 2> /dev/null || echo 1)}
     memory=$(awk '/^(MemAvailable|SwapFree):/ { n += $2 } END { print int(n / 1024) }' /proc/meminfo 2> /dev/null || echo 0)
     disk=$(df -Pk "$build" | awk 'NR == 2 { print int($4 / 1024) }')
-    # beside a crate of the longest chain, so many others are proved at a time, as far as there is memory
-    others=$((processors > 2 ? processors - 1 : 1))
-    room=$(((memory - first_need) / next_need))
-    [ "$room" -ge "$others" ] || others=$((room > 1 ? room : 1))
+    # so many checks are made at a time as there are processors and memory for them
+    places=$(((memory - first_need) / next_need + 1))
+    [ "$places" -le "$processors" ] || places=$processors
+    [ "$places" -ge 1 ] || places=1
 }
 
 # Megabytes: of memory for the largest check and for each beside it, and of disk for a build from nothing
@@ -314,24 +314,34 @@ look_at_crates() {
     for crate in $crates; do
         if stands "$crate"; then : > "$state/$crate.done"; fi
     done
+    # one place is the longest chain's; where there is but one, all crates wait for it
+    others=$((places - 1))
     # shellcheck disable=SC2046
     chain=$(set -- $(left) && shift 2 && echo "$*")
+    [ "$others" -ge 1 ] || { others=1; chain=; }
     start=$(date +%s)
     first_left=$(least)
 }
 
+# megabytes as gigabytes
+gigabytes() {
+    awk -v n="$1" 'BEGIN { print n / 1000 }'
+}
+
 # says what the work needs, beside what is here
 tell_needs() {
-    [ "${kit%% *}" = "$gate_kit" ] && kit_note="as the gate" || kit_note="the gate was passed with $gate_kit"
+    kit_note="which the gate was passed with"
+    [ "$kit" = "$gate_kit" ] || kit_note="the gate was passed with $gate_kit"
     cat << END
 $program is proved with the $all crates from its lowest library to itself; $(count_done) of them stand in $build.
-  kit         $kit ($kit_note)
-  processors  $processors here; four were measured
-  memory      $((memory / 1000)) GB free; a check takes $((first_need / 100 / 10)).$((first_need / 100 % 10)) GB at most, and $((others + 1)) are made at a time
-  disk        $((disk / 1000)) GB free; some $((disk_need / 1000)) GB are taken
+  kit         $kit, $kit_note
+  processors  $processors are taken
+  memory      $((memory / 1000)) GB free; a check takes $(gigabytes $first_need) GB at most; at a time are made: $places
+  disk        $((disk / 1000)) GB free; some $(gigabytes $disk_need) GB are taken in all
   time        some $(minutes_left) minutes, if these processors have nothing else to do
 END
-    [ "$memory" -ge "$first_need" ] || echo "There may be too little memory: a check that lacks it fails, and is told with its log."
+    [ "$memory" -ge "$first_need" ] ||
+        echo "There may be too little memory: a check that lacks it fails, and is told with its log."
 }
 
 # the program, put into its folder in one move, and where it is
@@ -378,7 +388,7 @@ try_it() {
     if [ "$(cat "$unproved/sum" 2> /dev/null)" != "$wanted" ] || [ ! -x "$unproved/$program" ]; then
         echo "Building $program WITHOUT PROOF, in two steps: some two minutes on a free processor, and 2 GB of memory."
         rm -f "$unproved/sum"
-        trap '[ -z "$builder" ] || kill "$builder" 2> /dev/null || true; wait; echo "install.sh: stopped" >&2; exit 130' INT TERM HUP
+        trap 'kill $builder 2> /dev/null; wait; echo "install.sh: stopped" >&2; exit 130' INT TERM HUP
         TMPDIR=$unproved sh "$here/scripts/unproved.sh" --say "$program" "$unproved/$program" &
         builder=$!
         wait "$builder" || exit 1
@@ -389,8 +399,7 @@ try_it() {
     "$unproved/$program" "$@"
     cat << END
 
-That was $* by
-  $unproved/$program
+That was examples/texts/orbit.rs, by $unproved/$program
 This build is UNPROVED: it shows colours and is for nothing else. The gate proves this same text; sh install.sh proves it
 here, in some $(minutes_left) minutes on these processors, and installs what it has proved.
 END
