@@ -269,8 +269,14 @@ interrupted() {
     exit 130
 }
 
-# the state of this call, which one call in a build folder has at a time
+# The state of this call. One that changes what is proved has it in the build folder, and is alone there.
 take_state() {
+    trap '[ -z "$state" ] || rm -rf "$state"; rmdir "$build/unproved" "$build" 2> /dev/null || true' EXIT
+    if [ "$word" = plan ] || [ "$word" = try ]; then
+        state=$(mktemp -d)
+        sums=$state
+        return 0
+    fi
     mkdir -p "$build"
     if ! mkdir "$build/state" 2> /dev/null; then
         other=$(cat "$build/state/owner" 2> /dev/null || echo none)
@@ -284,7 +290,6 @@ take_state() {
     echo $$ > "$state/owner"
     sums=$state/sums
     mkdir "$sums"
-    trap 'rm -rf "$state"; rmdir "$build" 2> /dev/null || true' EXIT
 }
 
 # the kit's line, and how many processors, megabytes of memory and of disk are here
@@ -294,7 +299,9 @@ look_round() {
     gate_kit=$(sed -n 's/^Proved with `\([^`]*\)`.*/\1/p' "$here/README.md")
     processors=${JOBS:-$(nproc 2> /dev/null || getconf _NPROCESSORS_ONLN 2> /dev/null || echo 1)}
     memory=$(awk '/^(MemAvailable|SwapFree):/ { n += $2 } END { print int(n / 1024) }' /proc/meminfo 2> /dev/null || echo 0)
-    disk=$(df -Pk "$build" | awk 'NR == 2 { print int($4 / 1024) }')
+    there=$build
+    until [ -d "$there" ]; do there=$(dirname "$there"); done
+    disk=$(df -Pk "$there" | awk 'NR == 2 { print int($4 / 1024) }')
     # so many checks are made at a time as there are processors and memory for them
     places=$(((memory - first_need) / next_need + 1))
     [ "$places" -le "$processors" ] || places=$processors
@@ -421,6 +428,7 @@ uninstall() {
         [ ! -f "$lane/HANDLES" ] || [ ! -f "$lane/crates.txt" ] || rm -rf "${lane:?}"
     done
     rm -rf "$build/unproved" "$build/installed" "$build/state" "$build"/*.log
+    state=
     rmdir "$build" 2> /dev/null || echo "$build is left: it has other files"
     echo "what was built in $build is taken away"
 }

@@ -93,7 +93,7 @@ run "$kit/toolchain/bin/clang" --target=x86_64-unknown-linux-gnu --sysroot="$kit
     failed "clang does not compile $crate"
 run "$kit/bin/rattle-link" --target x86_64-unknown-linux-gnu --toolchain "$kit/toolchain" -o "$room/program" \
     "$room/program.o" "$kit/c/libos_c.a" "$kit/c/liblibc_c.a" || failed "the linker does not make $crate"
-cp "$room/program" "$program.part"
-chmod 755 "$program.part"
-mv "$program.part" "$program"
+cp "$room/program" "$program.$$"
+chmod 755 "$program.$$"
+mv -f "$program.$$" "$program"
 [ -n "$telling" ] || echo "$crate is built without proof"
