@@ -45,11 +45,12 @@ sum_of() {
 
 # a sum of a crate's own text in a repository or a copy of it, and of the kit's name
 sum_of_text() {
-    {
+    (
         echo "$kit"
         grep "^$2:" "$1/crates.txt"
-        (cd "$1/crates/$2" && find src specs proofs -type f 2> /dev/null | LC_ALL=C sort | tr '\n' '\0' | xargs -0 sha256sum)
-    } | sha256sum
+        cd "$1/crates/$2"
+        find src specs proofs -type f 2> /dev/null | LC_ALL=C sort | tr '\n' '\0' | xargs -0 sha256sum
+    ) | sha256sum
 }
 
 # the sum of each crate's own text, a file a crate
@@ -122,7 +123,8 @@ prove() {
     [ ! -e "$state/over" ] || return 1
     if [ "$1" = "$program" ]; then
         # Once built it shows a file, so that what is installed has run
-        rt run --jobs "$2" -- "$here/examples/grammars" "$here/examples/dusk.json" html "$here/examples/texts/settings.ini" &
+        rt run --jobs "$2" -- \
+            "$here/examples/grammars" "$here/examples/dusk.json" html "$here/examples/texts/settings.ini" &
     else
         rt lib --jobs "$2" &
     fi
@@ -340,7 +342,7 @@ tell_needs() {
     kit_note="which the gate was passed with"
     [ "$kit" = "$gate_kit" ] || kit_note="the gate was passed with $gate_kit"
     cat << END
-$program is proved with the $all crates from its lowest library to itself; $(count_done) of them stand in $build.
+To prove: $program and the $((all - 1)) crates that it stands on. Of these $all there stand already: $(count_done), in $build.
   kit         $kit, $kit_note
   processors  $processors taken
   memory      $((memory / 1000)) GB free; a check takes $(gigabytes $first_need) GB at most; at a time are made: $places
@@ -395,7 +397,7 @@ try_it() {
     if [ "$(cat "$unproved/sum" 2> /dev/null)" != "$wanted" ] || [ ! -x "$unproved/$program" ]; then
         echo "Building $program WITHOUT PROOF, in two steps: some minute on a free processor, and 2 GB of memory."
         rm -f "$unproved/sum"
-        trap 'kill $builder 2> /dev/null; wait; echo "install.sh: stopped" >&2; exit 130' INT TERM HUP
+        trap 'kill $builder 2> /dev/null || true; wait; echo "install.sh: stopped" >&2; exit 130' INT TERM HUP
         # without optimizing, which takes as long again
         OPTIMIZE=0 TMPDIR=$unproved sh "$here/scripts/unproved.sh" --say "$program" "$unproved/$program" &
         builder=$!

@@ -3,11 +3,11 @@
 
     python3 scripts/edits.py [--check]
 
-An edit plants a fault in a body, and a check has to refuse it. A line has its crate, its file's name, where it stands (`gate`:
-in must-fail, tried at each run of the gate; `more`: in more-edits, tried by `sh scripts/more-edits.sh CRATE`), what it turns, by
-its name, and when it was refused. The last is kept from the table that stands, and is written there by hand: `each gate`,
-`last try`, `before a change` (of a text or a clause that it meets), or `not as it stands`, which is also what a new one has.
-With --check the table is only compared, and the status is 1 where it is another one.
+An edit plants a fault in a body, and a check has to refuse it. A line has its crate, its file's name, where it stands
+(`gate`: in must-fail, tried at each run of the gate; `more`: in more-edits, tried by `sh scripts/more-edits.sh CRATE`), what
+it turns, by its name, and when it was refused. The last is kept from the table that stands, and is written there by hand:
+`each gate`, `last try`, `before a change` (of a text or a clause that it meets), or `not as it stands`, which is also what
+a new one has. With --check the table is only compared, and the status is 1 where it is another one.
 """
 import pathlib
 import sys

@@ -1,6 +1,7 @@
 #!/bin/sh
-# Tries install.sh on a small repository of four crates, with all that it keeps in a folder of its own: by --plan, stopped and
-# taken up, called again, with a crate that is not proved, beside another call, and by --uninstall. It takes two minutes or so.
+# Tries install.sh on a small repository of four crates, with all that it keeps in a folder of its own: by --plan, stopped
+# and taken up, called again, with a crate that is not proved, beside another call, and by --uninstall. It takes some two
+# minutes.
 #
 #   sh scripts/install_trial.sh
 #
@@ -51,7 +52,7 @@ printf 'low:\nmiddle: low\nbeside:\nsyncat: middle beside\n' > "$top/crates.txt"
 printf '# crate\tproof\nlow\t10\nmiddle\t12\nbeside\t9\nsyncat\t20\n' > "$top/docs/gate.tsv"
 
 call --plan "$bin"
-seen "--plan says what is needed" said "with the 4 crates .* 0 of them stand"
+seen "--plan says what is needed" said "Of these 4 there stand already: 0"
 seen "--plan leaves nothing" test ! -e "$VULSANGI_BUILD"
 
 (cd "$top" && exec sh install.sh "$bin") > "$room/first" 2>&1 &
@@ -68,10 +69,10 @@ seen "nothing of it goes on" test -z "$(find /proc/[0-9]*/cwd -maxdepth 0 -lname
 seen "nothing is installed yet" test ! -e "$bin/syncat"
 
 call "$bin"
-seen "the same command goes on" said "[1-3] of them stand"
+seen "the same command goes on" said "there stand already: [1-3]"
 seen "and installs the program" test "$ended $(test -x "$bin/syncat" && echo there)" = "0 there"
 call "$bin"
-seen "a call with nothing changed proves nothing" said "4 of them stand"
+seen "a call with nothing changed proves nothing" said "there stand already: 4"
 seen "and installs" test "$ended" = 0
 
 cp "$top/crates/middle/src/lib.rt" "$room/kept.rt"

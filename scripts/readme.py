@@ -3,9 +3,9 @@
 
     python3 scripts/readme.py
 
-Links lead to files and headings that are there, and so do paths in backticks; commands name scripts, words and files that are
-there; code that is quoted stands in its file; README's figures are those of the tables and pages that they come from; and
-docs/edits.tsv is up to date. Each line that is no longer so is named, and the status is 1 then.
+Links lead to files and headings that are there, and so do paths in backticks; commands name scripts, words and files that
+are there; code that is quoted stands in its file; README's figures are those of the tables and pages that they come from;
+and docs/edits.tsv is up to date. Each line that is no longer so is named, and the status is 1 then.
 """
 import pathlib
 import re
@@ -26,6 +26,10 @@ def text_of(name):
 def fault(name, at, why):
     """Keeps a fault, with the line of a text's place."""
     faults.append(f"{name}:{text_of(name).count(chr(10), 0, at) + 1}: {why}")
+
+
+def failed(*words):
+    return subprocess.run(words, cwd=TOP, capture_output=True, check=False).returncode != 0
 
 
 def headings(name):
@@ -84,9 +88,9 @@ def try_commands():
             fault(README, call.start(), "the program's usage is another one")
         if words[0] != "FOLDER" and not (len(words) == 4 and all((TOP / words[it]).exists() for it in (0, 1, 3))):
             fault(README, call.start(), "the call names something that is not there")
-    if subprocess.run(["sh", "scripts/quotes.sh"], cwd=TOP, capture_output=True, check=False).returncode:
+    if failed("sh", "scripts/quotes.sh"):
         faults.append("docs/CALLING.md: sh scripts/quotes.sh fails: what it quotes is another text")
-    if subprocess.run([sys.executable, "scripts/edits.py", "--check"], cwd=TOP, capture_output=True, check=False).returncode:
+    if failed(sys.executable, "scripts/edits.py", "--check"):
         faults.append("docs/edits.tsv: it is not up to date: python3 scripts/edits.py")
 
 

@@ -28,7 +28,7 @@ kit=$(dirname "$(rt doc)")
 room=$(mktemp -d)
 child=
 trap 'rm -rf "$room"' EXIT
-trap '[ -z "$child" ] || kill "$child" 2> /dev/null || true; [ -z "$child" ] || wait "$child" || true; exit 130' INT TERM HUP
+trap 'kill $child 2> /dev/null || true; wait; exit 130' INT TERM HUP
 start=$(date +%s)
 
 # the step that begins, where steps are told
@@ -87,6 +87,7 @@ say "reading the text of $crate and of what it stands on, and translating it"
 cd "$here/crates/$crate"
 run env TMPDIR="$room/tmp" "$room/kit/bin/rt" try --seconds 1 --steps 1000 || true
 [ -s "$room/program.bc" ] || failed "rt try made no module of $crate"
+: > "$room/log"
 say "compiling it"
 run "$kit/toolchain/bin/clang" --target=x86_64-unknown-linux-gnu --sysroot="$kit/toolchain" --no-default-config \
     -ffunction-sections -fdata-sections -fPIE "-O${OPTIMIZE:-2}" -c -x ir "$room/program.bc" -o "$room/program.o" ||
