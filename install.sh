@@ -313,7 +313,7 @@ look_round() {
 # Megabytes: of memory for the largest check and for each beside it, and of disk for a build from nothing
 first_need=3500
 next_need=2500
-disk_need=10000
+disk_need=12000
 
 # what stands already, a file for each crate
 look_at_crates() {
