@@ -165,24 +165,24 @@ left() {
     ' - "$here/docs/gate.tsv" "$here/crates.txt"
 }
 
-# The seconds of the table that what is left takes at least: the longest chain, or all of them on all processors.
+# The seconds of the table that what is left takes at least: the longest chain, or all of them, as many at a time as there are places.
 least() {
     # shellcheck disable=SC2046
     set -- $(left)
-    all_left=$(($1 / processors))
+    all_left=$(($1 / places))
     echo $((all_left > $2 ? all_left : $2))
 }
 
-# The minutes that are left: the table's seconds, as much longer as they took so far; a quarter longer at first.
+# The minutes that are left: the table's seconds, as much longer as they took so far; a quarter longer at first. Crates that
+# were taken from kept work tell nothing of the others, so that it is never less than three quarters of the seconds.
 minutes_left() {
     now_left=$(least)
     gone=$(($(date +%s) - start))
     passed=$((first_left - now_left))
-    if [ "$passed" -gt 120 ]; then
-        echo $(((now_left * gone / passed + 59) / 60))
-    else
-        echo $(((now_left * 5 / 4 + 59) / 60))
-    fi
+    seconds=$((now_left * 5 / 4))
+    [ "$passed" -le 120 ] || seconds=$((now_left * gone / passed))
+    [ "$seconds" -ge $((now_left * 3 / 4)) ] || seconds=$((now_left * 3 / 4))
+    echo $(((seconds + 59) / 60))
 }
 
 # how many jobs a crate beside the longest chain has: more than one where it takes so long that it would hold it up
