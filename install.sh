@@ -165,7 +165,8 @@ left() {
     ' - "$here/docs/gate.tsv" "$here/crates.txt"
 }
 
-# The seconds of the table that what is left takes at least: the longest chain, or all of them, as many at a time as there are places.
+# The seconds of the table that what is left takes at least: the longest chain, or all of them, as many at a time as there
+# are places.
 least() {
     # shellcheck disable=SC2046
     set -- $(left)
