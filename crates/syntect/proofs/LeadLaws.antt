@@ -19,7 +19,7 @@ use Rattle.syntect_theme.specs.declared.theme.Theme.{Theme}
 use Rattle.syntect_style.specs.declared.state.HighlightState.{HighlightState}
 use Rattle.syntect_winner.specs.Engine.{dialect}
 use Rattle.syntect_parsing.specs.Laws.{AnswersMore, StackIsOpen}
-use Rattle.syntect_parsing.specs.Line.{Answer, Accepted, RefusedBy, Answers, accepts, refuses, none, start, start_id, start_of, stack_before, HasPlainStart}
+use Rattle.syntect_parsing.specs.Line.{Answer, Accepted, RefusedBy, Answers, ReadsLine, accepts, refuses, none, start, start_id, start_of, stack_before, HasPlainStart}
 use Rattle.syntect_parsing.specs.Meaning.{Means, Accepts, MayRefuse}
 use Rattle.syntect_contexts.specs.declared.context.ContextId.{ContextId}
 use Rattle.syntect_contexts.specs.declared.syntax_reference.SyntaxReference.{SyntaxReference}
@@ -45,7 +45,7 @@ LeadsOn set theme syntax lines answers line h (Err e) = OnlyParsing (λ e. Leads
 -- ---- before the first line ----
 
 -- at the start the stack is empty
-starts_empty : (set : SyntaxSet) (id : Option ContextId) (state : Standing) → option_map start id ≡ Some state → stack_before set state ≡ plain []
+pub starts_empty : (set : SyntaxSet) (id : Option ContextId) (state : Standing) → option_map start id ≡ Some state → stack_before set state ≡ plain []
 starts_empty set None state e = cc
 starts_empty set (Some id) state e = let f : start id ≡ state = cc in rw (← f) refl
 
@@ -58,7 +58,7 @@ amount_clears (Some a) e = cc
 plain_clears : (set : SyntaxSet) (id : ContextId) → HasPlainStart set (start id) → clearing set id ≡ None
 plain_clears set id h = amount_clears (clearing set id) (sym (ap (λ (s : ScopeStack). s.clear_stack) h))
 
-remembers_none : (set : SyntaxSet) (id : Option ContextId) (state : Standing) (stack : ScopeStack) → option_map start id ≡ Some state → HasPlainStart set state → Remembers set state.levels stack
+pub remembers_none : (set : SyntaxSet) (id : Option ContextId) (state : Standing) (stack : ScopeStack) → option_map start id ≡ Some state → HasPlainStart set state → Remembers set state.levels stack
 remembers_none set None state stack e h = cc
 remembers_none set (Some id) state stack e h =
     let f : start id ≡ state = cc in
@@ -98,17 +98,22 @@ pasts_stay past set old new s p = record {
   leads = leads-resumed set past.theme past.syntax past.lines past.answers old new (sym s.styles) (sym s.reader) (s.theme ∙ p.leads.theme_is) p.leads;
 }
 
+-- what holds the states of another one under its theme stands where that one stands
+pub states_go_on : (h new : HighlightLines) → styles_of new ≡ styles_of h → reader_of new ≡ reader_of h → theme_of new ≡ theme_of h → HoldsSame h new
+states_go_on h new s r t = record { reader = ap standing r; styles = s; theme = t }
+
 -- ---- one line more ----
 
 -- lines before an orderly run's last are one
 pub orderly_before : (set : SyntaxSet) (syntax : SyntaxReference) (lines : List (List ℕ)) (line : List ℕ) → RunsOrderly set syntax (lines ++ line ∷ []) → RunsOrderly set syntax lines
-orderly_before set syntax lines line o = λ start b before behind at answers next same run.
-    o start b before (behind ++ line ∷ []) at answers next (ap (λ (xs : List (List ℕ)). xs ++ line ∷ []) same ∙ append_assoc before (at ∷ behind) (line ∷ [])) run
+orderly_before set syntax lines line o = λ start b before behind at answers next after bytes turns same run reads.
+    o start b before (behind ++ line ∷ []) at answers next after bytes turns (ap (λ (xs : List (List ℕ)). xs ++ line ∷ []) same ∙ append_assoc before (at ∷ behind) (line ∷ [])) run reads
 
--- and its last line is orderly from the state that those lead to
-orderly_last : (set : SyntaxSet) (theme : Theme) (syntax : SyntaxReference) (lines : List (List ℕ)) (answers : List Answer) (line : List ℕ) (h : HighlightLines) → RunsOrderly set syntax (lines ++ line ∷ [])
-    → Leads set theme syntax lines answers h → IsOrderlyLine dialect set line (standing (reader_of h))
-orderly_last set theme syntax lines answers line h o l = o l.start l.begins lines [] line answers (standing (reader_of h)) refl l.run
+-- and its last line, if it is accepted, is orderly from the state that those lead to
+orderly_last : (set : SyntaxSet) (theme : Theme) (syntax : SyntaxReference) (lines : List (List ℕ)) (answers : List Answer) (line : List ℕ) (h : HighlightLines) (after : Standing) (bytes : List (List (List ℕ))) (turns : ℕ)
+    → RunsOrderly set syntax (lines ++ line ∷ []) → Leads set theme syntax lines answers h → ReadsLine dialect set line (standing (reader_of h)) bytes after turns
+    → IsOrderlyLine dialect set line (standing (reader_of h))
+orderly_last set theme syntax lines answers line h after bytes turns o l reads = o l.start l.begins lines [] line answers (standing (reader_of h)) after bytes turns refl l.run reads
 
 -- with one more answer, what is held leads on
 leads-more : (set : SyntaxSet) (theme : Theme) (syntax : SyntaxReference) (lines : List (List ℕ)) (answers : List Answer) (line : List ℕ) (h new : HighlightLines) (a : Answer) → AnswersMore
@@ -126,19 +131,20 @@ leads-more set theme syntax lines answers line h new a more l r p m t k = record
   keeps = k;
 }
 
-leads-refused : (set : SyntaxSet) (theme : Theme) (syntax : SyntaxReference) (lines : List (List ℕ)) (answers : List Answer) (line : List ℕ) (h : HighlightLines) (e : ParsingError) → AnswersMore
-    → Leads set theme syntax lines answers h → Answers dialect set line (standing (reader_of h)) (RefusedBy e) (standing (reader_of h)) → Leads set theme syntax (lines ++ line ∷ []) (answers ++ RefusedBy e ∷ []) h
-leads-refused set theme syntax lines answers line h e more l r =
-    leads-more set theme syntax lines answers line h h (RefusedBy e) more l r (λ o. l.path (orderly_before set syntax lines line o)) l.remembers l.theme_is l.keeps
+leads-refused : (set : SyntaxSet) (theme : Theme) (syntax : SyntaxReference) (lines : List (List ℕ)) (answers : List Answer) (line : List ℕ) (h next : HighlightLines) (e : ParsingError) → AnswersMore → HoldsSame h next
+    → Leads set theme syntax lines answers h → Answers dialect set line (standing (reader_of h)) (RefusedBy e) (standing (reader_of h)) → Leads set theme syntax (lines ++ line ∷ []) (answers ++ RefusedBy e ∷ []) next
+leads-refused set theme syntax lines answers line h next e more s l r =
+    leads-resumed set theme syntax (lines ++ line ∷ []) (answers ++ RefusedBy e ∷ []) h next (sym s.styles) (sym s.reader) (s.theme ∙ l.theme_is)
+    (leads-more set theme syntax lines answers line h h (RefusedBy e) more l r (λ o. l.path (orderly_before set syntax lines line o)) l.remembers l.theme_is l.keeps)
 
-pub lead_refused : (set : SyntaxSet) (theme : Theme) (syntax : SyntaxReference) (lines : List (List ℕ)) (answers : List Answer) (line : Bor (List ℕ)) (h : HighlightLines) (e : ParsingError) → AnswersMore
-    → Leads set theme syntax lines answers h → MayRefuse dialect set line.now (standing (reader_of h)) e → LeadsOn set theme syntax lines answers line h (Err (from_parsing e))
-lead_refused set theme syntax lines answers line h parsing.Memory more l r = tt
-lead_refused set theme syntax lines answers line h parsing.MissingMainContext more l r = leads-refused set theme syntax lines answers line.now h parsing.MissingMainContext more l (refuses r.1)
-lead_refused set theme syntax lines answers line h (parsing.MissingContext id) more l r = leads-refused set theme syntax lines answers line.now h (parsing.MissingContext id) more l (refuses r.1)
-lead_refused set theme syntax lines answers line h (parsing.BadMatchIndex i) more l r = leads-refused set theme syntax lines answers line.now h (parsing.BadMatchIndex i) more l (refuses r.1)
-lead_refused set theme syntax lines answers line h (parsing.UnresolvedContextReference x) more l r =
-    leads-refused set theme syntax lines answers line.now h (parsing.UnresolvedContextReference x) more l (refuses r.1)
+pub lead_refused : (set : SyntaxSet) (theme : Theme) (syntax : SyntaxReference) (lines : List (List ℕ)) (answers : List Answer) (line : Bor (List ℕ)) (h next : HighlightLines) (e : ParsingError) → AnswersMore → HoldsSame h next
+    → Leads set theme syntax lines answers h → MayRefuse dialect set line.now (standing (reader_of h)) e → LeadsOn set theme syntax lines answers line next (Err (from_parsing e))
+lead_refused set theme syntax lines answers line h next parsing.Memory more s l r = tt
+lead_refused set theme syntax lines answers line h next parsing.MissingMainContext more s l r = leads-refused set theme syntax lines answers line.now h next parsing.MissingMainContext more s l (refuses r.1)
+lead_refused set theme syntax lines answers line h next (parsing.MissingContext id) more s l r = leads-refused set theme syntax lines answers line.now h next (parsing.MissingContext id) more s l (refuses r.1)
+lead_refused set theme syntax lines answers line h next (parsing.BadMatchIndex i) more s l r = leads-refused set theme syntax lines answers line.now h next (parsing.BadMatchIndex i) more s l (refuses r.1)
+lead_refused set theme syntax lines answers line h next (parsing.UnresolvedContextReference x) more s l r =
+    leads-refused set theme syntax lines answers line.now h next (parsing.UnresolvedContextReference x) more s l (refuses r.1)
 
 -- the stack before the line is the open scopes, or empty before the first
 plain_here : (set : SyntaxSet) (theme : Theme) (syntax : SyntaxReference) (lines : List (List ℕ)) (answers : List Answer) (h : HighlightLines) → StackIsOpen → BeginsPlain set syntax → Leads set theme syntax lines answers h
@@ -180,7 +186,7 @@ lead_accepted set theme syntax lines answers line h next ops pieces more opens b
     )
   where
     at_end : RunsOrderly set syntax (lines ++ line.now ∷ []) → IsAt (replay ops (before_text (stack_before set (standing (reader_of h))))) (length line.now) a.bytes (stack_before set (standing (reader_of next)))
-    at_end o = a.means.shows (plain_here set theme syntax lines answers h opens b l) (orderly_last set theme syntax lines answers line.now h o l)
+    at_end o = a.means.shows (plain_here set theme syntax lines answers h opens b l) (orderly_last set theme syntax lines answers line.now h (standing (reader_of next)) a.bytes a.turns o l a.reads)
 
 -- ---- with the past ----
 

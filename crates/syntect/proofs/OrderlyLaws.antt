@@ -45,7 +45,7 @@ module _ (set : SyntaxSet) (c : ClearsNothing set) where
   orderly levels op.None = refl
 
   pub runs_orderly : (syntax : SyntaxReference) (lines : List (List ℕ)) → RunsOrderly set syntax lines
-  runs_orderly syntax lines = λ start b before behind line answers next same run p reaches m picks. orderly p.levels m.pattern.operation
+  runs_orderly syntax lines = λ start b before behind line answers next after bytes turns same run reads p reaches m picks. orderly p.levels m.pattern.operation
 
 -- ---- sets of definitions that clear nothing ----
 

@@ -6,8 +6,10 @@ use Rattle.syntect_classed.specs.Classes.{prefix_of, closing_tag}
 use Rattle.syntect_classed.specs.Marks.{marks, written, stack_after, some_refused}
 use Rattle.syntect_classed.specs.declared.style.ClassStyle.{ClassStyle}
 use Rattle.syntect_winner.specs.Engine.{dialect}
-use Rattle.syntect_parsing.specs.Meaning.{Accepts, MayRefuse}
-use Rattle.syntect_parsing.specs.States.{standing}
+use Rattle.syntect_parsing.specs.Line.{RefusesLine}
+use Rattle.syntect_parsing.specs.Meaning.{Accepts}
+use Rattle.syntect_parsing.specs.Stacks.{Remembers}
+use Rattle.syntect_parsing.specs.States.{standing, turns_made, steps_made}
 use Rattle.syntect_parsing.specs.declared.parser.Standing.{Standing}
 use Rattle.syntect_grammar.specs.declared.syntax_set.SyntaxSet.{SyntaxSet}
 use Rattle.syntect.specs.declared.classed.ClassedHTMLGenerator.{ClassedHTMLGenerator}
@@ -31,6 +33,13 @@ stack_in g = g.scope_stack
 
 abbrev pub state_in : ClassedHTMLGenerator → Standing
 state_in g = standing g.parse_state
+
+-- how many turns its reader made so far, and how many steps their searches took
+abbrev pub turns_in : ClassedHTMLGenerator → ℕ
+turns_in g = turns_made g.parse_state
+
+abbrev pub steps_in : ClassedHTMLGenerator → ℕ
+steps_in g = steps_made g.parse_state
 
 -- the set that it reads with, and how it writes the classes of scopes
 abbrev pub set_in : ClassedHTMLGenerator → SyntaxSet
@@ -66,12 +75,18 @@ pub record AddsLine (line : List ℕ) (before after : ClassedHTMLGenerator) : Ty
   pub stack : stack_in after ≡ stack_after (stack_in before) ops
   pub goes_on : GoesOn before after
 
--- A line was refused: by its reading, or where one of the operations of its reading restores and nothing is remembered; or
--- memory ran out.
+-- Its stack remembers at least a list for each open level whose context clears. In a set of loaded definitions it is so before
+-- the first line, and stays so.
+abbrev pub CanRestore : ClassedHTMLGenerator → Type 0
+CanRestore g = Remembers (set_in g) (state_in g).levels (stack_in g)
+
+-- A line was refused: by its reading; or, only where too little is remembered, since one of the operations of its reading
+-- restores and nothing is; or memory ran out.
 abbrev pub RefusesLineOf : ClassedHTMLGenerator → List ℕ → Error → Type 0
-RefusesLineOf g line (error.ParsingError e) = MayRefuse dialect (set_in g) line (state_in g) e
+RefusesLineOf g line (error.ParsingError e) =
+    (turns : ℕ) × RefusesLine dialect (set_in g) line (state_in g) e turns
 RefusesLineOf g line (error.ScopeError e) =
-    (after : Standing) × (ops : List (ℕ × ScopeStackOp))
+    (¬ (CanRestore g)) × (after : Standing) × (ops : List (ℕ × ScopeStackOp))
     × Accepts dialect (set_in g) line (state_in g) after ops
     × (some_refused (stack_in g) ops ≡ true)
 RefusesLineOf g line error.Memory = Unit {0}

@@ -51,6 +51,15 @@ OnlyParsing P (error.ParsingError e) = P e
 OnlyParsing P error.Memory = Unit {0}
 OnlyParsing P e = ⊥
 
+-- this holds of an answer, and of a refusal, unless memory ran out
+abbrev pub UnlessWanting : Type 0 → Error → Type 0
+UnlessWanting P error.Memory = Unit {0}
+UnlessWanting P e = P
+
+abbrev pub UnlessMemory : {X : Type 0} → Result X Error → Type 0 → Type 0
+UnlessMemory (Ok x) P = P
+UnlessMemory (Err e) P = UnlessWanting P e
+
 -- the syntax has no `__start`, unless memory ran out
 abbrev pub LacksStart : SyntaxReference → Error → Type 0
 LacksStart syntax (error.ParsingError parsing.MissingMainContext) = start_of syntax ≡ None
@@ -64,8 +73,8 @@ BeginsPlain set syntax = (start : Standing) → start_of syntax ≡ Some start �
 
 -- ---- lines one after another ----
 
--- What contexts clear in these lines, read one after another from the start of the syntax, is put back in the order in
--- which it was cleared. In a set that clears nothing all lines are so: a law.
+-- What contexts clear in these lines, as far as they are accepted, read one after another from the start of the syntax, is
+-- put back in the order in which it was cleared. In a set that clears nothing all lines are so: a law.
 abbrev pub RunsOrderly : SyntaxSet → SyntaxReference → List (List ℕ) → Type 0
 RunsOrderly set syntax lines =
     (start : Standing) → start_of syntax ≡ Some start → IsOrderlyRun dialect set lines start

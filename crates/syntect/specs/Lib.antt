@@ -1,11 +1,16 @@
 pub mod Built
 pub mod Classed
+pub mod ClassedPages
 pub mod Files
 pub mod Leads
 pub mod Loaded
 pub mod Pages
 pub mod Promises
 pub mod Rows
+pub use Rattle.syntect_classed.specs.Classes
+pub use Rattle.syntect_classed.specs.Marks
+pub use Rattle.syntect_classed_laws.specs.Laws
+pub use Rattle.syntect_classed_laws.specs.Page
 pub use Rattle.syntect_contexts.specs.declared.syntax_reference.SyntaxReference
 pub use Rattle.syntect_grammar.specs.Finding
 pub use Rattle.syntect_grammar.specs.Folders

@@ -11,6 +11,7 @@ use Rattle.syntect_contexts.specs.declared.syntax_reference.SyntaxReference.{Syn
 use Rattle.syntect_grammar.specs.declared.syntax_set.SyntaxSet.{SyntaxSet}
 use Rattle.syntect_grammar.specs.declared.syntax_set.SyntaxSetBuilder.{SyntaxSetBuilder}
 use Rattle.syntect.specs.Built.{IsBuilt, IsBuiltOf, IsLoaded, StaysInStart}
+use Rattle.syntect.specs.Leads.{BeginsPlain}
 
 -- each definition of the builder was loaded
 abbrev pub HoldsLoaded : SyntaxSetBuilder → Type 0
@@ -68,6 +69,7 @@ pub record MeetsPremises (set : SyntaxSet) (syntax : SyntaxReference) : Type 0 w
   pub built_of : IsBuiltOf set syntax definitions
   pub by_name : AreByName definitions
   pub stays : StaysInStart set syntax
+  pub begins_plain : BeginsPlain set syntax
 
 -- a set of loaded definitions meets them with each of its syntaxes
 abbrev pub LoadedSetsMeet : Type 0

@@ -1,5 +1,5 @@
 -- What joins the crates, each a law.
-use Rattle.std.specs.Prelude.{◌≡◌, List, ℕ, Bool, true, Option, Some, Ok, All}
+use Rattle.std.specs.Prelude.{◌≡◌, List, [], ℕ, Bool, true, Option, Some, Ok, All}
 use Rattle.std.specs.List.{list_all}
 use Rattle.syntect_grammar.specs.Link.{linked, syntaxes_in}
 use Rattle.syntect_loader.specs.Loading.{loaded}
@@ -7,13 +7,19 @@ use Rattle.syntect_loader.specs.declared.definition.SyntaxDefinition.{SyntaxDefi
 use Rattle.syntect_contexts.specs.declared.syntax_reference.SyntaxReference.{SyntaxReference}
 use Rattle.syntect_grammar.specs.declared.syntax_set.SyntaxSet.{SyntaxSet}
 use Rattle.syntect_parsing.specs.declared.parser.Standing.{Standing}
+use Rattle.syntect_scope.specs.Replay.{AllApply}
+use Rattle.syntect_scope.specs.Stack.{plain}
+use Rattle.syntect_scope.specs.declared.stack.ScopeStack.{ScopeStack}
+use Rattle.syntect_scope.specs.declared.stack.ScopeStackOp.{ScopeStackOp}
+use Rattle.syntect_classed.specs.Marks.{stack_after}
 use Rattle.syntect_winner.specs.Engine.{dialect}
+use Rattle.syntect_parsing.specs.Meaning.{Accepts}
 use Rattle.syntect_parsing.specs.Line.{Answer, AnswersAll, start_of}
 use Rattle.syntect_parsing.specs.Open.{ClearsNothing}
 use Rattle.syntect_parsing.specs.Standing.{GiveScopes}
 use Rattle.syntect.specs.declared.easy.HighlightLines.{HighlightLines}
 use Rattle.syntect.specs.Built.{IsPlain, IsLoaded, IsBuiltOf, StaysInStart, clears_nothing}
-use Rattle.syntect.specs.Leads.{Past, IsPast, HoldsSame, RunsOrderly}
+use Rattle.syntect.specs.Leads.{Past, IsPast, HoldsSame, BeginsPlain, RunsOrderly, theme_of, styles_of, reader_of}
 
 -- a definition that loading answers is plain
 abbrev pub LoadedIsPlain : Type 0
@@ -44,6 +50,36 @@ AllRunOrderly = (set : SyntaxSet) (syntax : SyntaxReference) (lines : List (List
 abbrev pub PastsStay : Type 0
 PastsStay = (past : Past) (set : SyntaxSet) (old new : HighlightLines)
     → HoldsSame old new → IsPast past set old → IsPast past set new
+
+-- a highlighter that holds the states of another one, under its theme, stands where that one stands
+abbrev pub StatesGoOn : Type 0
+StatesGoOn = (h new : HighlightLines) → styles_of new ≡ styles_of h → reader_of new ≡ reader_of h
+    → theme_of new ≡ theme_of h → HoldsSame h new
+
+-- the syntaxes of a set that was built of plain definitions begin plain
+abbrev pub BuiltBeginPlain : Type 0
+BuiltBeginPlain = (set : SyntaxSet) (syntax : SyntaxReference) (definitions : List SyntaxDefinition)
+    → IsBuiltOf set syntax definitions → BeginsPlain set syntax
+
+-- ---- operations on a stack of one's own ----
+
+-- Lines are accepted one after another, each from the state that the one before it leaves, and their operations are applied to a
+-- stack, in order.
+pub data LeadsStack (set : SyntaxSet) : Standing → ScopeStack → Standing → ScopeStack → Type 0 where
+  no_lines : {state : Standing} {stack : ScopeStack} → LeadsStack set state stack state stack
+  one_more : {state next after : Standing} {stack end : ScopeStack} {line : List ℕ}
+      {ops : List (ℕ × ScopeStackOp)} → Accepts dialect set line state next ops
+      → LeadsStack set next (stack_after stack ops) after end
+      → LeadsStack set state stack after end
+
+-- Where the syntax begins plain, the operations of its accepted lines, applied in order to a new stack, are never refused.
+abbrev pub OperationsApply : Type 0
+OperationsApply =
+    (set : SyntaxSet) (syntax : SyntaxReference) (start state next : Standing)
+    (stack : ScopeStack) (line : List ℕ) (ops : List (ℕ × ScopeStackOp))
+    → BeginsPlain set syntax → start_of syntax ≡ Some start
+    → LeadsStack set start (plain []) state stack → Accepts dialect set line state next ops
+    → AllApply stack ops
 
 -- in a set of loaded definitions that clears nothing, each byte of an accepted line has a scope
 abbrev pub LoadedGiveScopes : Type 0

@@ -1,11 +1,14 @@
 //! Lines as spans with classes, and pages of them.
-ghost use Rattle.std.specs.Prelude.{◌≡◌, ◌++◌, [], Some, length, string_bytes, pos, ◌-ℤ◌, IfOk, IfErr, OnOk, OnErr, false};
-ghost use Rattle.syntect.specs.Classed.{RefusesOperations, text_so_far, stack_in, state_in, set_in, repository_in, style_in, AddsLine, StaysAt, RefusesLineOf, closing_tags, closed_text};
-ghost use Rattle.syntect.specs.Leads.{LacksStart};
+ghost use Rattle.std.specs.Prelude.{◌≡◌, ◌++◌, ◌+◌, ◌-◌, ◌≤◌, [], Some, length, string_bytes, pos, ◌-ℤ◌, IfOk, IfErr, OnOk, OnErr, false};
+ghost use Rattle.syntect.specs.Classed.{RefusesOperations, text_so_far, stack_in, state_in, set_in, repository_in, style_in, turns_in, steps_in, AddsLine, CanRestore, StaysAt, RefusesLineOf, closing_tags, closed_text};
+ghost use Rattle.syntect.specs.Leads.{BeginsPlain, LacksStart, UnlessMemory};
+ghost use Rattle.syntect_parsing.specs.Bound.{TakesAll, TakesNoMore, most_turns};
 ghost use Rattle.syntect_parsing.specs.Line.{start_of};
+ghost use Rattle.syntect_parsing.specs.Work.{TakesSteps, TakesMostSteps};
 ghost use Rattle.syntect_scope.specs.Stack.{plain};
 ghost use Rattle.syntect_classed.specs.Classes.{prefix_of};
 ghost use Rattle.syntect_classed.specs.Marks.{marks, written, stack_after, some_refused};
+ghost use Rattle.syntect_winner.specs.Engine.{dialect};
 ghost use Rattle.syntect_scope.specs.Replay.{InOrder};
 
 use crate::memory::SearchMemory;
@@ -89,6 +92,10 @@ impl<'a> ClassedHTMLGenerator<'a> {
         ensures set { IfOk result (λ g. set_in g ≡ syntax_set.now) }
         ensures repository { IfOk result (λ g. repository_in g ≡ repository.now) }
         ensures classes { IfOk result (λ g. style_in g ≡ style) }
+        ensures restores { BeginsPlain syntax_set.now syntax_reference.now
+            → IfOk result CanRestore }
+        ensures none_made { IfOk result (λ g. turns_in g ≡ 0) }
+        ensures no_steps { IfOk result (λ g. steps_in g ≡ 0) }
         ensures refused { IfErr result (LacksStart syntax_reference.now) }
     {
         let parse_state = ParseState::new(alloc, syntax_reference)?;
@@ -104,12 +111,26 @@ impl<'a> ClassedHTMLGenerator<'a> {
     }
 
     /// Reads the next line, with its newline, and adds it to the text. A refusal changes nothing: that of the line's reading,
-    /// or want of memory.
+    /// or want of memory. The line is read once: the reader counts its turns and the steps of their searches, as
+    /// `ParseState::parse_line` does, also where the line is refused.
     #[tactic(auto, using(crate::proofs::ClassedLaws::line_refused, crate::proofs::ClassedLaws::operation_refused))]
     pub fn parse_html_for_line_which_includes_newline(&mut self, line: &str) -> Result<(), Error>
         ensures accepted { OnOk result (AddsLine line.now self.old self.new) }
         ensures refused { IfErr result (RefusesLineOf self.old line.now) }
+        ensures restores { CanRestore self.old → CanRestore self.new }
         ensures err { OnErr result (StaysAt self.old self.new) }
+        // how many turns and steps were made, by the numbers before and after
+        ensures taken { OnOk result (TakesAll dialect (set_in self.old) line.now
+            (state_in self.old) (turns_in self.old) (turns_in self.new)) }
+        ensures no_more { OnErr result (TakesNoMore dialect (set_in self.old) line.now
+            (state_in self.old) (turns_in self.old) (turns_in self.new)) }
+        ensures bound { turns_in self.new
+            ≤ turns_in self.old + most_turns (set_in self.old) line.now (state_in self.old) }
+        ensures steps { UnlessMemory result (TakesSteps (set_in self.old) line.now
+            (state_in self.old) (turns_in self.new - turns_in self.old)
+            (steps_in self.old) (steps_in self.new)) }
+        ensures most_steps { UnlessMemory result (TakesMostSteps (set_in self.old) line.now
+            (state_in self.old) (steps_in self.old) (steps_in self.new)) }
     {
         let alloc = *self.html.allocator();
         let regions = self.memory.lend();

@@ -1,7 +1,7 @@
 //! Lines to styled pieces, of texts and of files.
 ghost use Rattle.std.specs.Io.Buffered.{reader_remaining};
 ghost use Rattle.std.specs.Io.KnownBytes.{Keeps};
-ghost use Rattle.std.specs.Prelude.{◌≡◌, ◌++◌, ◌∷◌, [], List, ℕ, IfOk, IfErr, OnErr};
+ghost use Rattle.std.specs.Prelude.{◌≡◌, ◌++◌, ◌∷◌, ◌+◌, ◌-◌, ◌≤◌, [], List, ℕ, IfOk, IfErr, OnOk, OnErr};
 ghost use Rattle.std.specs.Path.{path_bytes};
 ghost use Rattle.syntect.specs.Files.{IsSyntaxFor, IsToldSyntax, HasNoLines};
 ghost use Rattle.syntect.specs.Leads.{Leads};
@@ -55,10 +55,14 @@ impl<'a> Drop for HighlightLines<'a> {
 }
 
 impl<'a> HighlightLines<'a> {
-    ghost use Rattle.syntect.specs.Leads.{Past, IsPast, Continues, HoldsSame, LacksStart, RefusedExactly, reader_of, styles_of};
+    ghost use Rattle.syntect.specs.Leads.{Past, IsPast, Continues, HoldsSame, LacksStart, RefusedExactly, UnlessMemory, reader_of, styles_of, theme_of};
     ghost use Rattle.syntect.specs.Built.{StaysInStart};
     ghost use Rattle.syntect_parsing.specs.Refusals.{AreByName};
-    ghost use Rattle.syntect_parsing.specs.States.{standing};
+    ghost use Rattle.syntect_parsing.specs.States.{standing, turns_made, steps_made};
+    ghost use Rattle.syntect_parsing.specs.Bound.{TakesAll, TakesNoMore, most_turns};
+    ghost use Rattle.syntect_parsing.specs.Work.{TakesSteps, TakesMostSteps};
+    ghost use Rattle.syntect_style.specs.Pieces.{Joins};
+    ghost use Rattle.syntect_winner.specs.Engine.{dialect};
 
     /// The state before the first line of a text in this syntax, under this theme. `MissingMainContext` where the
     /// syntax has no context `__start`.
@@ -68,6 +72,8 @@ impl<'a> HighlightLines<'a> {
         theme: &'a Theme,
     ) -> Result<HighlightLines<'a>, Error>
         ensures leads { (set : ASet) → IfOk result (Leads set theme.now syntax.now [] []) }
+        ensures none_made { IfOk result (λ h. turns_made (reader_of h) ≡ 0) }
+        ensures no_steps { IfOk result (λ h. steps_made (reader_of h) ≡ 0) }
         ensures refused { IfErr result (LacksStart syntax.now) }
     {
         let highlighter = Highlighter::new(alloc, theme)?;
@@ -83,14 +89,17 @@ impl<'a> HighlightLines<'a> {
         })
     }
 
-    /// The highlighter of this theme that goes on from these states. Under the theme of the highlighter that `state` took
-    /// them from, it answers as that one would.
+    /// The highlighter of this theme that holds just these states. Under the theme of the highlighter that `state` took
+    /// them from, it stands where that one stood, and answers as that one would.
     pub fn from_state(
         alloc: Global,
         theme: &'a Theme,
         highlight_state: HighlightState,
         parse_state: ParseState,
     ) -> Result<HighlightLines<'a>, AllocError>
+        ensures styles { IfOk result (λ h. styles_of h ≡ highlight_state) }
+        ensures reader { IfOk result (λ h. reader_of h ≡ parse_state) }
+        ensures theme { IfOk result (λ h. theme_of h ≡ theme.now) }
         // the past of a highlighter that holds those states is the past of this one
         ensures leads { (past : Past) (set : ASet) (h : ALines) → past.theme ≡ theme.now
             → IsPast past set h
@@ -127,7 +136,8 @@ impl<'a> HighlightLines<'a> {
     }
 
     /// The styled pieces of the next line, which join to it. The set has to be that of the syntax. A refusal, that of
-    /// the line's reading or want of memory, changes nothing.
+    /// the line's reading or want of memory, changes nothing. The line is read once: the reader counts its turns and the
+    /// steps of their searches, as `ParseState::parse_line` does, also where the line is refused.
     pub fn highlight_line<'b>(
         &mut self,
         alloc: Global,
@@ -139,12 +149,30 @@ impl<'a> HighlightLines<'a> {
         // its reading, or memory ran out.
         ensures answered { (past : Past) → IsPast past syntax_set.now self.old
             → Continues past syntax_set.now line.entry self.new result }
+        ensures joins { IfOk result (λ pieces. Joins line.entry.now pieces.items) }
         // Where the definitions' references are all by name, and no pattern leaves `__start`: it is refused exactly where a
         // match is picked that names an unresolved reference, and with that one, unless memory ran out.
         ensures refused { (past : Past) → IsPast past syntax_set.now self.old
             → AreByName past.definitions → StaysInStart syntax_set.now past.syntax
             → RefusedExactly syntax_set.now line.entry.now self.old result }
         ensures err { OnErr result (HoldsSame self.old self.new) }
+        // how many turns and steps were made, by the numbers before and after
+        ensures taken { OnOk result (TakesAll dialect syntax_set.now line.entry.now
+            (standing (reader_of self.old))
+            (turns_made (reader_of self.old)) (turns_made (reader_of self.new))) }
+        ensures no_more { OnErr result (TakesNoMore dialect syntax_set.now line.entry.now
+            (standing (reader_of self.old))
+            (turns_made (reader_of self.old)) (turns_made (reader_of self.new))) }
+        ensures bound { turns_made (reader_of self.new)
+            ≤ turns_made (reader_of self.old)
+            + most_turns syntax_set.now line.entry.now (standing (reader_of self.old)) }
+        ensures steps { UnlessMemory result (TakesSteps syntax_set.now line.entry.now
+            (standing (reader_of self.old))
+            (turns_made (reader_of self.new) - turns_made (reader_of self.old))
+            (steps_made (reader_of self.old)) (steps_made (reader_of self.new))) }
+        ensures most_steps { UnlessMemory result (TakesMostSteps syntax_set.now line.entry.now
+            (standing (reader_of self.old))
+            (steps_made (reader_of self.old)) (steps_made (reader_of self.new))) }
     {
         answers_more();
         stack_is_open();

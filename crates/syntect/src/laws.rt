@@ -3,9 +3,14 @@ ghost use Rattle.std.specs.Prelude.{List, All};
 ghost use Rattle.syntect_loader.specs.declared.definition.SyntaxDefinition.{SyntaxDefinition as ADefinition};
 ghost use Rattle.syntect_parsing.specs.Refusals.{AreByName};
 ghost use Rattle.syntect.specs.Built.{IsPlain, IsLoaded};
+ghost use Rattle.syntect.specs.ClassedPages.{ClosedIsPage, GivenStands};
 ghost use Rattle.syntect.specs.Loaded.{BuildersHold, FindsOwn, LoadedSetsMeet};
-ghost use Rattle.syntect.specs.Promises.{LoadedIsPlain, LoadedStay, NothingIsCleared, AllRunOrderly, PastsStay, LoadedGiveScopes};
+ghost use Rattle.syntect.specs.Promises.{LoadedIsPlain, LoadedStay, NothingIsCleared, AllRunOrderly, PastsStay, StatesGoOn, LoadedGiveScopes, BuiltBeginPlain, OperationsApply};
 ghost use Rattle.syntect.specs.Rows.{RowsBegin, RowsGoOn, RowsEnd, RowsRefuse, RowsStop};
+
+pub use syntect_classed_laws::{
+    marks_follow_the_operations, pages_are_seen, written_marks_are_seen,
+};
 
 /// A definition that was loaded is plain: its `__start` has no `meta_scope`, one content scope, and clears nothing. So
 /// what `HighlightLines::highlight_line` and `highlighted_html_for_string` say holds for sets that were built of such
@@ -50,6 +55,35 @@ pub fn orderly_where_nothing_clears()
 pub fn pasts_stay()
     ensures { PastsStay }
 {}
+
+/// A highlighter that was made by `HighlightLines::from_state` of what `HighlightLines::state` answers, under the same theme,
+/// stands where that one stood, so that it has the other's past.
+pub fn states_go_on()
+    ensures { StatesGoOn }
+{}
+
+/// The syntaxes of a set that was built of plain definitions, as loaded ones are, begin plain: so a generator of pages with
+/// classes can restore what was cleared before its first line (`ClassedHTMLGenerator::new_with_class_style`), and after each
+/// (`ClassedHTMLGenerator::parse_html_for_line_which_includes_newline`), and no line is refused with `ScopeError`. Of all
+/// sets: where the syntax begins plain, the operations of its accepted lines, applied in order to a new stack, are never
+/// refused.
+pub fn operations_are_never_refused()
+    ensures built { BuiltBeginPlain }
+    ensures apply { OperationsApply }
+{}
+
+/// A generator that was given lines stands after those that it accepted, and the text that `ClassedHTMLGenerator::finalize`
+/// answers is their page: whoever reads it byte by byte sees these lines, joined, meets no closing tag without an open one,
+/// and has no tag open in the end; and where the syntax begins plain and the lines are orderly, each byte stands under the
+/// tags of its scopes.
+pub fn closed_texts_are_pages()
+    ensures stands { GivenStands }
+    ensures pages { ClosedIsPage }
+{
+    syntect_parsing::laws::answers_more();
+    syntect_parsing::laws::stack_is_open();
+    pages_are_seen();
+}
 
 /// In a set that was built of loaded definitions and clears nothing, each byte of each line that is accepted has a scope.
 pub fn loaded_sets_give_scopes()

@@ -23,8 +23,8 @@ use Rattle.syntect_buffer.proofs.HeldLaws.{Led, some_same, none_is_some, led, st
 
 -- lines before an orderly run's end are one
 orderly_front : (set : SyntaxSet) (syntax : SyntaxReference) (xs ys : List (List ℕ)) → RunsOrderly set syntax (xs ++ ys) → RunsOrderly set syntax xs
-orderly_front set syntax xs ys o = λ start b before behind at answers next same run.
-    o start b before (behind ++ ys) at answers next (ap (λ (zs : List (List ℕ)). zs ++ ys) same ∙ append_assoc before (at ∷ behind) ys) run
+orderly_front set syntax xs ys o = λ start b before behind at answers next after bytes turns same run reads.
+    o start b before (behind ++ ys) at answers next after bytes turns (ap (λ (zs : List (List ℕ)). zs ++ ys) same ∙ append_assoc before (at ∷ behind) ys) run reads
 
 orderly_take : (set : SyntaxSet) (syntax : SyntaxReference) (lines : List (List ℕ)) (n : ℕ) → RunsOrderly set syntax lines → RunsOrderly set syntax (take n lines)
 orderly_take set syntax lines n o =

@@ -1,199 +1,169 @@
 -- A page with classes while it is written.
-use Rattle.std.proofs.Common.{◌≡◌, ℕ, List, [], ◌∷◌, ◌++◌, map, length, refl, sym, ap, ◌∙◌, append_assoc, append-nil, Some, inr}
-use Rattle.std.specs.List.{concat, flat_map}
+use Rattle.std.proofs.Common.{◌≡◌, ℕ, List, [], ◌∷◌, ◌++◌, map, refl, sym, ap, subst, ◌∙◌, append_assoc, append-nil, inl, inr}
+use Rattle.std.specs.List.{concat}
 use Rattle.syntect_scope.specs.Stack.{plain}
-use Rattle.syntect_scope.specs.Replay.{Replay, replay, replayed, before_text, bytes_to}
-use Rattle.syntect_scope.specs.declared.stack.ScopeStack.{ScopeStack}
-use Rattle.syntect_scope.specs.declared.stack.ScopeStackOp.{ScopeStackOp}
+use Rattle.std.specs.Prelude.{Some}
 use Rattle.syntect_winner.specs.Engine.{dialect}
-use Rattle.syntect_parsing.specs.Laws.{AnswersMore, StackIsOpen}
-use Rattle.std.specs.Prelude.{Option, None}
-use Rattle.std.specs.Option.{option_map}
-use Rattle.syntect_parsing.specs.Line.{Accepted, AnswersAll, none, accepts, start, start_id, start_of, stack_before}
-use Rattle.syntect_parsing.specs.Meaning.{Accepts}
-use Rattle.syntect_parsing.specs.Stacks.{IsAt}
+use Rattle.syntect_parsing.specs.Laws.{AnswersMore}
+use Rattle.syntect_parsing.specs.Line.{Answer, Accepted, RefusedBy, AnswersAll, RefusesLine, none, one_more, refuses, start_of}
 use Rattle.syntect_parsing.specs.declared.parser.Standing.{Standing}
 use Rattle.syntect_writers.specs.Lines.{lines_of}
 use Rattle.syntect_classed.specs.Classes.{prefix_of}
-use Rattle.syntect_classed.specs.Marks.{marks, written, stack_after}
-use Rattle.syntect_contexts.specs.declared.context.ContextId.{ContextId}
 use Rattle.syntect_classed.specs.declared.style.ClassStyle.{ClassStyle}
-use Rattle.syntect_classed_laws.specs.Laws.{Line, AreInOrder, PagesAreSeen, page_text, page_scopes}
+use Rattle.syntect_contexts.specs.declared.error.ParsingError.{ParsingError}
 use Rattle.syntect_contexts.specs.declared.syntax_reference.SyntaxReference.{SyntaxReference}
 use Rattle.syntect_grammar.specs.declared.syntax_set.SyntaxSet.{SyntaxSet}
 use Rattle.syntect_grammar.specs.declared.error.Error.{Error}
+use Rattle.syntect_grammar.specs.declared.error.Error.TheVariants as error
 use Rattle.syntect.specs.Classed.{text_so_far, stack_in, state_in, set_in, repository_in, style_in, AddsLine, RefusesLineOf, closed_text}
-use Rattle.syntect.specs.Leads.{BeginsPlain, RunsOrderly}
+use Rattle.syntect.specs.ClassedPages.{IsGiven, no_lines, accepted, StandsAfter, GivenStands, IsClassedPage, ShowsScopes, ClosedIsPage}
+use Rattle.syntect.specs.Leads.{BeginsPlain, LacksStart, RunsOrderly}
+use Rattle.syntect.specs.Pages.{Row, IsRefusedAtALine, HasNoPage, lines_in, answers_in}
 use Rattle.syntect.specs.declared.classed.ClassedHTMLGenerator.{ClassedHTMLGenerator}
-use Rattle.syntect.proofs.LeadLaws.{orderly_before}
-use Rattle.syntect.proofs.PageLaws.{map_last}
-use Rattle.syntect_callers.specs.ClassedPages.{IsClassedPage, HasNoClassedPage}
+use Rattle.syntect_callers.specs.ClassedPages.{IsClassedPageOf, HasNoClassedPage}
 
--- ---- stacks behind lines ----
-
--- the stack behind operations is the one that replaying them leaves
-replay_stack : (ops : List (ℕ × ScopeStackOp)) (r : Replay) → (replay ops r).stack ≡ stack_after r.stack ops
-replay_stack [] r = refl
-replay_stack (o ∷ os) r = replay_stack os (replayed r o)
-
--- the stack behind lines
-abbrev pub behind : ScopeStack → List Line → ScopeStack
-behind stack [] = stack
-behind stack (l ∷ ls) = behind (stack_after stack l.1) ls
-
-behind_last : (stack : ScopeStack) (ls : List Line) (l : Line) → behind stack (ls ++ l ∷ []) ≡ stack_after (behind stack ls) l.1
-behind_last stack [] l = refl
-behind_last stack (m ∷ ls) l = behind_last (stack_after stack m.1) ls l
-
--- the scopes of lines and of one more
-scopes_last : (stack : ScopeStack) (ls : List Line) (l : Line)
-    → page_scopes stack (ls ++ l ∷ []) ≡ page_scopes stack ls ++ bytes_to (replay l.1 (before_text (behind stack ls))) (length l.0)
-scopes_last stack [] l = append-nil (bytes_to (replay l.1 (before_text stack)) (length l.0))
-scopes_last stack (m ∷ ls) l =
-    ap (λ xs. bytes_to (replay m.1 (before_text stack)) (length m.0) ++ xs) (scopes_last (stack_after stack m.1) ls l)
-    ∙ sym (append_assoc (bytes_to (replay m.1 (before_text stack)) (length m.0)) (page_scopes (stack_after stack m.1) ls) (bytes_to (replay l.1 (before_text (behind (stack_after stack m.1) ls))) (length l.0)))
-
-order_last : (ls : List Line) (l : Line) → AreInOrder ls → AreInOrder (l ∷ []) → AreInOrder (ls ++ l ∷ [])
-order_last [] l h k = k
-order_last (m ∷ ls) l h k = (h.0, order_last ls l h.1 k)
-
--- lists joined, and one more behind them
-abbrev all_of : {X : Type 0} → List (List X) → List X
-all_of xss = flat_map (λ xs. xs) xss
-
-all_last : {X : Type 0} (xss : List (List X)) (xs : List X) → all_of (xss ++ xs ∷ []) ≡ all_of xss ++ xs
-all_last [] xs = append-nil xs
-all_last (ys ∷ xss) xs = ap (λ zs. ys ++ zs) (all_last xss xs) ∙ sym (append_assoc ys (all_of xss) xs)
-
-texts : (ls : List Line) → flat_map (λ (l : Line). l.0) ls ≡ concat (map (λ (l : Line). l.0) ls)
-texts [] = refl
-texts (l ∷ ls) = ap (λ xs. l.0 ++ xs) (texts ls)
-
--- ---- the page so far ----
-
-abbrev pub lines_in : List Line → List (List ℕ)
-lines_in ls = map (λ l. l.0) ls
-
--- These lines were accepted, with these scopes; the page so far and what is written of more lines is the page of all of them;
--- and where lines are orderly the generator's stack is that of its levels.
+-- the lines up to those that are left were given to the generator, which accepted them
 pub record ClassedSoFar (set : SyntaxSet) (syntax : SyntaxReference) (repository : List (List ℕ)) (style : ClassStyle) (text left : List ℕ) (g : ClassedHTMLGenerator) : Type 0 where
-  pub lines : List Line
-  pub scopes : List (List (List (List ℕ)))
-  pub start : Standing
-  pub begins : start_of syntax ≡ Some start
-  pub run : AnswersAll dialect set (lines_in lines) start (map Accepted scopes) (state_in g)
-  pub all : lines_in lines ++ lines_of left ≡ lines_of text
-  pub order : AreInOrder lines
-  pub page : (rest : List Line) → text_so_far g ++ page_text (prefix_of style) repository (stack_in g) rest ≡ page_text (prefix_of style) repository (plain []) (lines ++ rest)
-  pub stands : stack_in g ≡ behind (plain []) lines
-  pub levels : BeginsPlain set syntax → RunsOrderly set syntax (lines_in lines) → stack_in g ≡ stack_before set (state_in g)
-  pub shown : BeginsPlain set syntax → RunsOrderly set syntax (lines_in lines) → page_scopes (plain []) lines ≡ all_of scopes
-  pub has_set : set_in g ≡ set
-  pub has_repository : repository_in g ≡ repository
-  pub has_style : style_in g ≡ style
+  pub lines : List (List ℕ)
+  pub given : IsGiven set syntax repository style lines g
+  pub all : lines ++ lines_of left ≡ lines_of text
 
--- before its first line a reader's stack is empty
-starts_empty : (set : SyntaxSet) (id : Option ContextId) (state : Standing) → option_map start id ≡ Some state → stack_before set state ≡ plain []
-starts_empty set None state e = cc
-starts_empty set (Some id) state e = let f : start id ≡ state = cc in rw (← f) refl
+module _ (set : SyntaxSet) (syntax : SyntaxReference) (repository : List (List ℕ)) (style : ClassStyle) (text : List ℕ) where
+  pub so_far_none : (left : List ℕ) (g : ClassedHTMLGenerator)
+      → start_of syntax ≡ Some (state_in g) → text_so_far g ≡ [] → stack_in g ≡ plain [] → set_in g ≡ set → repository_in g ≡ repository → style_in g ≡ style → left ≡ text
+      → ClassedSoFar set syntax repository style text left g
+  so_far_none left g b t k s r y e = record { lines = []; given = no_lines b t k s r y; all = ap lines_of e }
 
-pub so_far_none : (set : SyntaxSet) (syntax : SyntaxReference) (repository : List (List ℕ)) (style : ClassStyle) (text left : List ℕ) (g : ClassedHTMLGenerator)
-    → start_of syntax ≡ Some (state_in g) → text_so_far g ≡ [] → stack_in g ≡ plain [] → set_in g ≡ set → repository_in g ≡ repository → style_in g ≡ style → left ≡ text
-    → ClassedSoFar set syntax repository style text left g
-so_far_none set syntax repository style text left g b t k s r y e = record {
-  lines = [];
-  scopes = [];
-  start = state_in g;
-  begins = b;
-  run = none;
-  all = ap lines_of e;
-  order = tt;
-  page = λ rest.
-      ap (λ (xs : List ℕ). xs ++ page_text (prefix_of style) repository (stack_in g) rest) t ∙ ap (λ (stack : ScopeStack). page_text (prefix_of style) repository stack rest) k;
-  stands = k;
-  levels = λ p o. k ∙ sym (starts_empty set (start_id syntax) (state_in g) b);
-  shown = λ p o. refl;
-  has_set = s;
-  has_repository = r;
-  has_style = y;
-}
+  pub so_far_more : (left rest line : List ℕ) (g h : ClassedHTMLGenerator)
+      → ClassedSoFar set syntax repository style text left g → AddsLine line g h → lines_of left ≡ line ∷ lines_of rest
+      → ClassedSoFar set syntax repository style text rest h
+  so_far_more left rest line g h s a e = record {
+    lines = s.lines ++ line ∷ [];
+    given = accepted s.given a;
+    all = append_assoc s.lines (line ∷ []) (lines_of rest) ∙ ap (λ xs. s.lines ++ xs) (sym e) ∙ s.all;
+  }
 
-pub so_far_more : (set : SyntaxSet) (syntax : SyntaxReference) (repository : List (List ℕ)) (style : ClassStyle) (text left rest line : List ℕ) (g h : ClassedHTMLGenerator)
-    → AnswersMore → StackIsOpen → ClassedSoFar set syntax repository style text left g → AddsLine line g h → lines_of left ≡ line ∷ lines_of rest
-    → ClassedSoFar set syntax repository style text rest h
-so_far_more set syntax repository style text left rest line g h more opens s a e =
-    let l : Line = (line, a.ops) in
-    let acc : Accepts dialect set line (state_in g) (state_in h) a.ops = rw s.has_set at a.accepted in
-    let P : List ℕ = prefix_of style in
-    let named : lines_in (s.lines ++ l ∷ []) ≡ lines_in s.lines ++ line ∷ [] = map_last (λ (m : Line). m.0) s.lines l in
-    let stack_is : stack_in h ≡ stack_after (stack_in g) a.ops = a.stack in
-    let at_end : BeginsPlain set syntax → RunsOrderly set syntax (lines_in (s.lines ++ l ∷ [])) → IsAt (replay a.ops (before_text (stack_in g))) (length line) acc.bytes (stack_before set (state_in h)) =
-    (λ p o.
-    let q : RunsOrderly set syntax (lines_in s.lines ++ line ∷ []) = rw named at o in
-    let k = acc.means.shows (opens dialect set (lines_in s.lines) s.start (state_in g) (map Accepted s.scopes) (p s.start s.begins) s.run)
-    (q s.start s.begins (lines_in s.lines) [] line (map Accepted s.scopes) (state_in g) refl s.run) in
-    rw (← (s.levels p (orderly_before set syntax (lines_in s.lines) line q))) at k) in
+  -- ---- the page ----
+
+  pub page_whole : (left page : List ℕ) (g : ClassedHTMLGenerator) → ClosedIsPage → ((t : List ℕ) → concat (lines_of t) ≡ t)
+      → ClassedSoFar set syntax repository style text left g → lines_of left ≡ [] → page ≡ closed_text g
+      → IsClassedPageOf (ShowsScopes set syntax (lines_of text)) set syntax repository (prefix_of style) text page
+  page_whole left page g closed joins s e w =
+      let all : s.lines ≡ lines_of text = sym (append-nil s.lines) ∙ ap (λ xs. s.lines ++ xs) (sym e) ∙ s.all in
+      let p : IsClassedPage (ShowsScopes set syntax s.lines) set syntax repository (prefix_of style) s.lines (closed_text g) = closed set syntax repository style s.lines g s.given in
+      let q : IsClassedPage (ShowsScopes set syntax (lines_of text)) set syntax repository (prefix_of style) (lines_of text) (closed_text g) =
+      subst (λ (ls : List (List ℕ)). IsClassedPage (ShowsScopes set syntax ls) set syntax repository (prefix_of style) ls (closed_text g)) all p in
+      record {
+        of_lines = subst (λ (xs : List ℕ). IsClassedPage (ShowsScopes set syntax (lines_of text)) set syntax repository (prefix_of style) (lines_of text) xs) (sym w) q;
+        joined = joins text;
+      }
+
+  -- where the syntax begins plain, orderly lines suffice
+  pub page_plain : (page : List ℕ) → BeginsPlain set syntax → IsClassedPageOf (ShowsScopes set syntax (lines_of text)) set syntax repository (prefix_of style) text page
+      → IsClassedPageOf (RunsOrderly set syntax (lines_of text)) set syntax repository (prefix_of style) text page
+  page_plain page b p =
+      let l = p.of_lines in
+      record {
+        of_lines = record {
+          start = l.start;
+          after = l.after;
+          scopes = l.scopes;
+          bytes = l.bytes;
+          begins = l.begins;
+          run = l.run;
+          read_back = l.read_back;
+          is_text = l.is_text;
+          has_scopes = λ o. l.has_scopes (b, o);
+        };
+        joined = p.joined;
+      }
+
+  -- ---- no page ----
+
+  pub stops : (left line : List ℕ) (rest : List (List ℕ)) (g : ClassedHTMLGenerator) (e : Error) → GivenStands
+      → ClassedSoFar set syntax repository style text left g → lines_of left ≡ line ∷ rest → RefusesLineOf g line e → HasNoClassedPage set syntax text e
+  stops left line rest g e stands s l r =
+      let b : StandsAfter set syntax s.lines g = stands set syntax repository style s.lines g s.given in
+      inr (record {
+        lines = s.lines;
+        line = line;
+        rest = rest;
+        scopes = b.scopes;
+        start = b.start;
+        generator = g;
+        begins = b.begins;
+        run = b.run;
+        all = ap (λ xs. s.lines ++ xs) (sym l) ∙ s.all;
+        has_set = b.has_set;
+        refuses = r;
+      })
+
+-- ---- refusals of readings ----
+
+-- rows of lines that were accepted, of which no pieces are asked
+record RowsFor (lines : List (List ℕ)) (answers : List Answer) : Type 0 where
+  rows : List Row
+  lines_are : lines_in rows ≡ lines
+  answers_are : answers_in rows ≡ answers
+
+rows_for : {set : SyntaxSet} {lines : List (List ℕ)} {start after : Standing} {answers : List Answer} → AnswersAll dialect set lines start answers after
+    → (scopes : List (List (List (List ℕ)))) → answers ≡ map Accepted scopes → RowsFor lines answers
+rows_for none scopes e = record { rows = []; lines_are = refl; answers_are = refl }
+rows_for (one_more {answer = Accepted b} a run) [] e = cc
+rows_for (one_more {line = line} {answer = Accepted b} a run) (s ∷ scopes) e =
+    let r = rows_for run scopes cc in
     record {
-      lines = s.lines ++ l ∷ [];
-      scopes = s.scopes ++ acc.bytes ∷ [];
-      start = s.start;
-      begins = s.begins;
-      run = rw (named, map_last Accepted s.scopes acc.bytes) (more dialect set (lines_in s.lines) line s.start (state_in g) (state_in h) (map Accepted s.scopes) (Accepted acc.bytes) s.run (accepts acc.reads));
-      all = ap (λ xs. xs ++ lines_of rest) named ∙ append_assoc (lines_in s.lines) (line ∷ []) (lines_of rest) ∙ ap (λ xs. lines_in s.lines ++ xs) (sym e) ∙ s.all;
-      order = order_last s.lines l s.order (acc.means.order, tt);
-      page = λ ls.
-          let t : text_so_far h ≡ text_so_far g ++ written P repository (marks line 0 (stack_in g) a.ops) = rw (s.has_style, s.has_repository) at a.text in
-          ap (λ xs. xs ++ page_text P repository (stack_in h) ls) t
-          ∙ append_assoc (text_so_far g) (written P repository (marks line 0 (stack_in g) a.ops)) (page_text P repository (stack_in h) ls)
-          ∙ ap (λ k. text_so_far g ++ (written P repository (marks line 0 (stack_in g) a.ops) ++ page_text P repository k ls)) stack_is
-          ∙ s.page (l ∷ ls)
-          ∙ ap (λ xs. page_text P repository (plain []) xs) (sym (append_assoc s.lines (l ∷ []) ls));
-      stands = stack_is ∙ ap (λ k. stack_after k a.ops) s.stands ∙ sym (behind_last (plain []) s.lines l);
-      levels = λ p o. stack_is ∙ sym (replay_stack a.ops (before_text (stack_in g))) ∙ (at_end p o).stack;
-      shown = λ p o.
-          scopes_last (plain []) s.lines l
-          ∙ ap (λ k. page_scopes (plain []) s.lines ++ bytes_to (replay a.ops (before_text k)) (length line)) (sym s.stands)
-          ∙ ap (λ xs. page_scopes (plain []) s.lines ++ xs) (at_end p o).before
-          ∙ ap (λ xs. xs ++ acc.bytes) (s.shown p (orderly_before set syntax (lines_in s.lines) line (rw named at o)))
-          ∙ sym (all_last s.scopes acc.bytes);
-      has_set = a.goes_on.set ∙ s.has_set;
-      has_repository = a.goes_on.repository ∙ s.has_repository;
-      has_style = a.goes_on.style ∙ s.has_style;
+      rows = record { line = line; scopes = b; pieces = [] } ∷ r.rows;
+      lines_are = ap (λ (ls : List (List ℕ)). line ∷ ls) r.lines_are;
+      answers_are = ap (λ (xs : List Answer). Accepted b ∷ xs) r.answers_are;
     }
+rows_for (one_more {answer = RefusedBy x} a run) [] e = cc
+rows_for (one_more {answer = RefusedBy x} a run) (s ∷ scopes) e = cc
 
-pub page_whole : (set : SyntaxSet) (syntax : SyntaxReference) (repository : List (List ℕ)) (style : ClassStyle) (text left whole : List ℕ) (g : ClassedHTMLGenerator)
-    → PagesAreSeen → ((t : List ℕ) → concat (lines_of t) ≡ t) → ClassedSoFar set syntax repository style text left g → lines_of left ≡ [] → whole ≡ closed_text g
-    → IsClassedPage set syntax repository (prefix_of style) text whole
-page_whole set syntax repository style text left whole g seen joins s e w =
-    let P : List ℕ = prefix_of style in
-    let v = seen P repository (plain []) [] s.lines s.order in
-    let all : lines_in s.lines ≡ lines_of text = sym (append-nil (lines_in s.lines)) ∙ ap (λ xs. lines_in s.lines ++ xs) (sym e) ∙ s.all in
-    let page : whole ≡ page_text P repository (plain []) s.lines =
-    w ∙ s.page [] ∙ ap (λ xs. page_text P repository (plain []) xs) (append-nil s.lines) in
-    record {
-      start = s.start;
-      after = state_in g;
-      scopes = s.scopes;
-      bytes = v.bytes;
-      begins = s.begins;
-      run = rw all at s.run;
-      read_back = rw (← page) at v.read_back;
-      is_text = v.text ∙ texts s.lines ∙ ap concat all ∙ joins text;
-      has_scopes = λ p o. v.scopes ∙ s.shown p (rw (← all) at o);
-    }
+module _ (set : SyntaxSet) (syntax : SyntaxReference) (repository : List (List ℕ)) (style : ClassStyle) (text : List ℕ) where
+  -- a line whose reading is refused
+  refused_at : (line : List ℕ) (rest : List (List ℕ)) (g : ClassedHTMLGenerator) (e : ParsingError) (turns : ℕ) (lines : List (List ℕ)) → AnswersMore → StandsAfter set syntax lines g
+      → lines ++ line ∷ rest ≡ lines_of text → RefusesLine dialect (set_in g) line (state_in g) e turns → IsRefusedAtALine set syntax text e
+  refused_at line rest g e turns lines more b l r =
+      let rows = rows_for b.run b.scopes refl in
+      let x : RefusesLine dialect set line (state_in g) e turns = rw b.has_set at r in
+      let run = more dialect set lines line b.start (state_in g) (state_in g) (map Accepted b.scopes) (RefusedBy e) b.run (refuses x) in
+      record {
+        rows = rows.rows;
+        line = line;
+        rest = rest;
+        start = b.start;
+        after = state_in g;
+        begins = b.begins;
+        lines = ap (λ (ls : List (List ℕ)). ls ++ line ∷ rest) rows.lines_are ∙ l;
+        run = subst (λ (xs : List Answer). AnswersAll dialect set (lines_in rows.rows ++ line ∷ []) b.start (xs ++ RefusedBy e ∷ []) (state_in g)) (sym rows.answers_are)
+            (subst (λ (ls : List (List ℕ)). AnswersAll dialect set (ls ++ line ∷ []) b.start (map Accepted b.scopes ++ RefusedBy e ∷ []) (state_in g)) (sym rows.lines_are) run);
+      }
 
-pub no_page : (set : SyntaxSet) (syntax : SyntaxReference) (repository : List (List ℕ)) (style : ClassStyle) (text left line : List ℕ) (rest : List (List ℕ)) (g : ClassedHTMLGenerator) (e : Error)
-    → ClassedSoFar set syntax repository style text left g → lines_of left ≡ line ∷ rest → RefusesLineOf g line e → HasNoClassedPage set syntax text e
-no_page set syntax repository style text left line rest g e s l r = inr (record {
-  lines = lines_in s.lines;
-  line = line;
-  rest = rest;
-  scopes = s.scopes;
-  start = s.start;
-  generator = g;
-  begins = s.begins;
-  run = s.run;
-  all = ap (λ xs. lines_in s.lines ++ xs) (sym l) ∙ s.all;
-  has_set = s.has_set;
-  refuses = r;
-})
+  -- in a set whose syntax begins plain a line is refused by its reading alone
+  pub no_page : (left line : List ℕ) (rest : List (List ℕ)) (g : ClassedHTMLGenerator) (e : Error) → AnswersMore → GivenStands → BeginsPlain set syntax
+      → ClassedSoFar set syntax repository style text left g → lines_of left ≡ line ∷ rest → RefusesLineOf g line e → HasNoPage set syntax text e
+  no_page left line rest g (error.ParsingError e) more stands plain s l r =
+      inr (refused_at line rest g e r.0 s.lines more (stands set syntax repository style s.lines g s.given) (ap (λ xs. s.lines ++ xs) (sym l) ∙ s.all) r.1)
+  no_page left line rest g (error.ScopeError e) more stands plain s l r = absurd (r.0 ((stands set syntax repository style s.lines g s.given).restores plain))
+  no_page left line rest g error.Memory more stands plain s l r = tt
+  no_page left line rest g (error.LoadingError e) more stands plain s l r = absurd r
+  no_page left line rest g (error.Fmt e) more stands plain s l r = absurd r
+  no_page left line rest g (error.Io e) more stands plain s l r = absurd r
+  no_page left line rest g error.NoSyntax more stands plain s l r = absurd r
+  no_page left line rest g (error.ParseSyntax e) more stands plain s l r = absurd r
+  no_page left line rest g (error.ParseScope e) more stands plain s l r = absurd r
+  no_page left line rest g (error.Pattern e) more stands plain s l r = absurd r
+
+-- there is no page where the syntax has no `__start`
+pub no_start : (set : SyntaxSet) (syntax : SyntaxReference) (text : List ℕ) (e : Error) → LacksStart syntax e → HasNoPage set syntax text e
+no_start set syntax text (error.ParsingError e) l = inl l
+no_start set syntax text error.Memory l = tt
+no_start set syntax text (error.ScopeError e) l = absurd l
+no_start set syntax text (error.LoadingError e) l = absurd l
+no_start set syntax text (error.Fmt e) l = absurd l
+no_start set syntax text (error.Io e) l = absurd l
+no_start set syntax text error.NoSyntax l = absurd l
+no_start set syntax text (error.ParseSyntax e) l = absurd l
+no_start set syntax text (error.ParseScope e) l = absurd l
+no_start set syntax text (error.Pattern e) l = absurd l

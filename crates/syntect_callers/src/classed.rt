@@ -1,21 +1,27 @@
 //! A caller of the generator of pages with classes, from a text to what a reader of its page sees.
-ghost use Rattle.std.specs.Prelude.{IfOk, IfErr, string_bytes};
+ghost use Rattle.std.specs.Prelude.{IfOk, IfErr, List, string_bytes};
 ghost use Rattle.syntect_classed.specs.Classes.{prefix_of};
-ghost use Rattle.syntect_callers.specs.ClassedPages.{IsClassedPage, HasNoClassedPage};
+ghost use Rattle.syntect_loader.specs.declared.definition.SyntaxDefinition.{SyntaxDefinition as ADefinition};
+ghost use Rattle.syntect_writers.specs.Lines.{lines_of};
+ghost use Rattle.syntect.specs.Built.{IsBuiltOf};
+ghost use Rattle.syntect.specs.ClassedPages.{ShowsScopes};
+ghost use Rattle.syntect.specs.Leads.{RunsOrderly};
+ghost use Rattle.syntect.specs.Pages.{HasNoPage};
+ghost use Rattle.syntect_callers.specs.ClassedPages.{IsClassedPageOf, HasNoClassedPage};
 
 use std::alloc::Global;
 use syntect::Error;
 use syntect::html::{ClassStyle, ClassedHTMLGenerator};
+use syntect::laws::{closed_texts_are_pages, operations_are_never_refused};
 use syntect::parsing::{ScopeRepository, SyntaxReference, SyntaxSet};
 use syntect::util::LinesWithEndings;
-use syntect_classed_laws::pages_are_seen;
-use syntect_parsing::laws::{answers_more, stack_is_open};
+use syntect_parsing::laws::answers_more;
 use syntect_writers::laws::lines_join;
 
 /// The page with classes of a text, in a syntax of the set. Its contract is what a reader of the page sees: the text, and
 /// nothing else outside tags, and every span closed; each byte under the tags of the scopes that it was read with, where
-/// the syntax's `__start` is plain and the lines are orderly, as in sets of loaded grammars that clear nothing. It is refused
-/// where the syntax has no `__start`, and where a line is.
+/// the lines are orderly, in each set that was built of plain definitions, as loaded ones are. It is refused where the syntax
+/// has no `__start`, and where a line's reading is refused.
 pub fn classed_page_of(
     alloc: Global,
     text: &str,
@@ -24,14 +30,22 @@ pub fn classed_page_of(
     repository: &ScopeRepository,
     style: ClassStyle,
 ) -> Result<String, Error>
-    ensures page { IfOk result (λ page. IsClassedPage set.now syntax.now repository.now
-        (prefix_of style) text.now (string_bytes page)) }
-    ensures refused { IfErr result (HasNoClassedPage set.now syntax.now text.now) }
+    ensures page { (definitions : List ADefinition) → IsBuiltOf set.now syntax.now definitions
+        → IfOk result (λ page.
+        IsClassedPageOf (RunsOrderly set.now syntax.now (lines_of text.now)) set.now syntax.now
+        repository.now (prefix_of style) text.now (string_bytes page)) }
+    ensures refused { (definitions : List ADefinition) → IsBuiltOf set.now syntax.now definitions
+        → IfErr result (HasNoPage set.now syntax.now text.now) }
+    // of any set
+    ensures any_page { IfOk result (λ page.
+        IsClassedPageOf (ShowsScopes set.now syntax.now (lines_of text.now)) set.now syntax.now
+        repository.now (prefix_of style) text.now (string_bytes page)) }
+    ensures any_refused { IfErr result (HasNoClassedPage set.now syntax.now text.now) }
 {
     answers_more();
-    stack_is_open();
-    pages_are_seen();
+    closed_texts_are_pages();
     lines_join();
+    operations_are_never_refused();
     let mut generator = ClassedHTMLGenerator::new_with_class_style(
         alloc, syntax, set, repository, style,
     )?;

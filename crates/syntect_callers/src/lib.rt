@@ -3,6 +3,7 @@
 //! a set and a text to what a reader of the text's page with classes sees.
 #![tactic(auto)]
 
+pub mod again;
 pub mod classed;
 pub mod third;
 pub mod whole;

@@ -57,17 +57,17 @@ enum Question {
 fn ask(rt: &(impl Print + AllocGlobal), question: Question) {
     let mut repository = ScopeRepository::new(rt.alloc());
     let set = set_of(rt.alloc(), &mut repository);
-    let Some(state) = state_of(rt.alloc(), &set) else {
+    let Some(mut state) = state_of(rt.alloc(), &set) else {
         return;
     };
     match question {
         Question::Copy => copy(rt, &state),
-        Question::Line => after_line(rt, &set, &state),
+        Question::Line => after_line(rt, &set, &mut state),
         Question::Turns => count_turns(rt, &set, &state),
     }
 }
 
-fn after_line(rt: &(impl Print + AllocGlobal), set: &SyntaxSet, state: &ParseState) {
+fn after_line(rt: &(impl Print + AllocGlobal), set: &SyntaxSet, state: &mut ParseState) {
     for _ in 0..TIMES {
         let mut regions = Regions::new(rt.alloc());
         begin(rt);

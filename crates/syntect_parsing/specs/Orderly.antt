@@ -6,7 +6,8 @@ use Rattle.syntect_winner.specs.Engine.{Engine}
 use Rattle.syntect_parsing.specs.Visible.{top_clearing}
 use Rattle.syntect_parsing.specs.Operations.{clear_nothing}
 use Rattle.syntect_winner.specs.Turn.{Live}
-use Rattle.syntect_parsing.specs.Line.{Answer, AnswersAll, Reaches, at_start}
+use Rattle.syntect_parsing.specs.Line.{Answer, AnswersAll, Reaches, ReadsLine, at_start}
+use Rattle.syntect_parsing.specs.Scopes.{Scopes}
 use Rattle.syntect_parsing.specs.Refusals.{Picks}
 use Rattle.syntect_contexts.specs.declared.context.MatchOperation.{MatchOperation}
 use Rattle.syntect_contexts.specs.declared.context.MatchOperation.TheVariants as op
@@ -34,9 +35,10 @@ abbrev pub IsOrderlyLine : Engine → SyntaxSet → List ℕ → Standing → Ty
 IsOrderlyLine engine set line state =
     (p : Position) → Reaches engine set line (at_start state) p → IsOrderlyTurn engine set line p
 
--- so is each of these lines, read one after another from this state
+-- so is each of these lines that is accepted, read one after another from this state; those that are refused leave no trace
 abbrev pub IsOrderlyRun : Engine → SyntaxSet → List (List ℕ) → Standing → Type 0
 IsOrderlyRun engine set lines state =
-    (before behind : List (List ℕ)) (line : List ℕ) (answers : List Answer) (next : Standing)
+    (before behind : List (List ℕ)) (line : List ℕ) (answers : List Answer)
+    (next after : Standing) (bytes : List Scopes) (turns : ℕ)
     → lines ≡ before ++ line ∷ behind → AnswersAll engine set before state answers next
-    → IsOrderlyLine engine set line next
+    → ReadsLine engine set line next bytes after turns → IsOrderlyLine engine set line next

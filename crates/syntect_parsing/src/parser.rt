@@ -7,7 +7,7 @@ ghost use Rattle.syntect_winner.specs.Chain.{last};
 ghost use Rattle.syntect_winner.specs.Engine.{dialect};
 ghost use Rattle.syntect_parsing.specs.Line.{start_id, start_of, at_start, first_push};
 ghost use Rattle.syntect_parsing.specs.Meaning.{MayLackStart, Accepts, MayRefuse};
-ghost use Rattle.syntect_parsing.specs.States.{standing, turns_made, steps_made};
+ghost use Rattle.syntect_parsing.specs.States.{standing, turns_made, steps_made, CountsSame};
 ghost use Rattle.syntect_parsing.specs.Bound.{TakesTurns, TakesAll, TakesNoMore, IsTold, most_turns};
 ghost use Rattle.syntect_parsing.specs.Work.{TakesSteps, TakesMostSteps, UnlessMemory};
 
@@ -150,42 +150,53 @@ impl ParseState {
         Ok(ops)
     }
 
-    /// The state after the next line, and its operations, as `parse_line` leaves and answers them. This state stays, so it
-    /// needn't be copied where it may be wanted again. The searches' memory can be kept from line to line; what is in it
-    /// before doesn't matter, and its count of steps begins as this state's. Refused as `parse_line` is.
+    /// The state after the next line, and its operations, as `parse_line` leaves and answers them. This state stays where it
+    /// stands, so it needn't be copied where it may be wanted again. It counts the turns and the steps as `parse_line` does,
+    /// also where the line is refused, and the state after the line has the same numbers. The searches' memory can be kept
+    /// from line to line; what is in it before doesn't matter, and its count of steps begins as this state's. Refused as
+    /// `parse_line` is.
     pub fn after_line(
-        &self,
+        &mut self,
         alloc: Global,
         line: &str,
         syntax_set: &SyntaxSet,
         regions: &mut Regions,
     ) -> Result<(ParseState, Vec<(usize, ScopeStackOp)>), ParsingError>
         ensures accepted { IfOk result (λ r. Accepts dialect syntax_set.now line.now
-            (standing self.now) (standing r.0) r.1.items) }
+            (standing self.old) (standing r.0) r.1.items) }
         ensures refused { IfErr result (
-            MayRefuse dialect syntax_set.now line.now (standing self.now)) }
-        ensures taken { IfOk result (λ r. TakesAll dialect syntax_set.now line.now
-            (standing self.now) (turns_made self.now) (turns_made r.0)) }
-        ensures bound { IfOk result (λ r. turns_made r.0
-            ≤ turns_made self.now + most_turns syntax_set.now line.now (standing self.now)) }
-        ensures steps { IfOk result (λ r. TakesSteps syntax_set.now line.now
-            (standing self.now) (turns_made r.0 - turns_made self.now)
-            (steps_made self.now) (steps_made r.0)) }
-        ensures most_steps { IfOk result (λ r. TakesMostSteps syntax_set.now line.now
-            (standing self.now) (steps_made self.now) (steps_made r.0)) }
+            MayRefuse dialect syntax_set.now line.now (standing self.old)) }
+        ensures stays { standing self.new ≡ standing self.old }
+        ensures counts { IfOk result (λ r. CountsSame self.new r.0) }
+        ensures taken { OnOk result (TakesAll dialect syntax_set.now line.now (standing self.old)
+            (turns_made self.old) (turns_made self.new)) }
+        ensures no_more { OnErr result (TakesNoMore dialect syntax_set.now line.now
+            (standing self.old) (turns_made self.old) (turns_made self.new)) }
+        ensures bound { turns_made self.new
+            ≤ turns_made self.old + most_turns syntax_set.now line.now (standing self.old) }
+        ensures steps { UnlessMemory result (TakesSteps syntax_set.now line.now
+            (standing self.old) (turns_made self.new - turns_made self.old)
+            (steps_made self.old) (steps_made self.new)) }
+        ensures most_steps { UnlessMemory result (TakesMostSteps syntax_set.now line.now
+            (standing self.old) (steps_made self.old) (steps_made self.new)) }
     {
         if self.standing.levels.is_empty() {
             return Err(ParsingError::MissingMainContext);
         }
-        let mut count = self.count.copy();
-        regions.steps = self.steps.copy();
-        match read_line(alloc, syntax_set, line, &self.standing, regions, &mut count) {
+        let ParseState {
+            standing,
+            count,
+            steps,
+        } = self;
+        regions.steps = steps.copy();
+        let read = read_line(alloc, syntax_set, line, standing, regions, count);
+        *steps = regions.steps.copy();
+        match read {
             Ok((standing, ops, _)) => {
-                let steps = regions.steps.copy();
                 let state = ParseState {
                     standing,
-                    count,
-                    steps,
+                    count: count.copy(),
+                    steps: steps.copy(),
                 };
                 Ok((state, ops))
             }

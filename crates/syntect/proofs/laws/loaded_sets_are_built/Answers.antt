@@ -1,3 +1,4 @@
+use Rattle.syntect.proofs.BuiltLaws.{built_begins_plain}
 use Rattle.syntect.proofs.LoadedSetLaws.{builders_hold, finds_own, built_of}
 use Rattle.syntect.proofs.StayLaws.{loaded_are_named, loaded_are_plain, loaded_stay}
 use Rattle.syntect.proofs.laws.loaded_sets_are_built.Goals as goal
@@ -19,4 +20,5 @@ returns-clause-premises c = λ set syntax s o.
       built_of = built;
       by_name = loaded_are_named c.loaded_by_name.ensures s.0 s.2;
       stays = loaded_stay set syntax s.0 built s.2;
+      begins_plain = built_begins_plain set syntax s.0 built;
     }

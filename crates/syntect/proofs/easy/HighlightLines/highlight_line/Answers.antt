@@ -10,7 +10,8 @@ use Rattle.syntect.proofs.easy.HighlightLines.highlight_line.Goals as goal
 pub returns-in_err-parse_state-clause-answered : goal.returns-in_err-parse_state-clause-answered
 returns-in_err-parse_state-clause-answered c = λ past h.
     let p = err_from_is_err_and c.from_residual.result c.from_residual.ensures.1 in
-    rw (p.1, p.2) (continues past c.args.syntax_set.now c.args.line c.args.self.now (Err (from_parsing c.in_err-parse_state.field-0.0)) h.built (lead_refused c.args.syntax_set.now past.theme past.syntax past.lines past.answers c.args.line c.args.self.now c.in_err-parse_state.field-0.0 c.answers_more.ensures h.leads
+    rw (p.1, p.2) (continues past c.args.syntax_set.now c.args.line _ (Err (from_parsing c.in_err-parse_state.field-0.0)) h.built (lead_refused c.args.syntax_set.now past.theme past.syntax past.lines past.answers c.args.line c.args.self.now _ c.in_err-parse_state.field-0.0 c.answers_more.ensures
+    (record { reader = c.after_line.ensures.stays; styles = refl; theme = refl }) h.leads
     c.in_err-parse_state.ensures.refused))
 
 pub returns-in_err-pieces-clause-answered : goal.returns-in_err-pieces-clause-answered
