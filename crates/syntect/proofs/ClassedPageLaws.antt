@@ -1,12 +1,9 @@
 -- Lines given to a generator, and the page of its closed text.
 use Rattle.std.proofs.Common.{◌≡◌, ℕ, List, [], ◌∷◌, ◌++◌, map, length, refl, sym, ap, ◌∙◌, append_assoc, append-nil, Some}
-use Rattle.std.specs.Prelude.{Option, None}
 use Rattle.std.specs.List.{concat, flat_map}
-use Rattle.std.specs.Option.{option_map}
 use Rattle.syntect_scope.specs.Stack.{plain}
 use Rattle.syntect_scope.specs.Replay.{replay, before_text, bytes_to}
 use Rattle.syntect_scope.specs.declared.stack.ScopeStack.{ScopeStack}
-use Rattle.syntect_scope.specs.declared.stack.ScopeStackOp.{ScopeStackOp}
 use Rattle.syntect_winner.specs.Engine.{dialect}
 use Rattle.syntect_parsing.specs.Laws.{AnswersMore, StackIsOpen}
 use Rattle.syntect_parsing.specs.Line.{Accepted, AnswersAll, none, accepts, start_id, start_of, stack_before}

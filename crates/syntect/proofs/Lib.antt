@@ -1,7 +1,6 @@
 pub mod BuiltLaws
 pub mod ClassedLaws
 pub mod ClassedPageLaws
-pub mod CountLaws
 pub mod LeadLaws
 pub mod ExactLaws
 pub mod PageLaws
