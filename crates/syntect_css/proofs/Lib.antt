@@ -1,2 +1,5 @@
+pub mod CommentLaws
 pub mod IdentifierLaws
+pub mod InsideLaws
+pub mod SheetInside
 pub mod SheetLaws

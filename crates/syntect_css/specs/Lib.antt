@@ -1,3 +1,4 @@
+pub mod Comment
 pub mod Identifier
 pub mod Left
 pub mod Sheet

@@ -1,6 +1,7 @@
 -- The style sheet of a theme.
 use Rattle.std.specs.Prelude.{ℕ, ◌==◌, Bool, true, false, List, [], ◌∷◌, ◌++◌, map, codes, bit_and, Option, Some, None}
 use Rattle.std.specs.List.{flat_map, filter}
+use Rattle.syntect_css.specs.Comment.{told_name}
 use Rattle.syntect_css.specs.Identifier.{identifier}
 use Rattle.syntect_scope.specs.Repository.{atom_text}
 use Rattle.syntect_scope.specs.declared.selector.ScopeSelector.{ScopeSelector}
@@ -88,12 +89,13 @@ rule_under (p ∷ ps) style = joined_by (codes ", ") (p ∷ ps) ++ rule_body sty
 abbrev pub rule_text : List ℕ → List (List ℕ) → ThemeItem → List ℕ
 rule_text prefix repo item = rule_under (path_selectors prefix repo item.scope.selectors) item.style
 
+-- the name of a theme, as a comment tells it
 abbrev pub theme_name : Theme → List ℕ
 theme_name theme = name_or theme.name
   where
     name_or : Option (List ℕ) → List ℕ
     name_or None = codes "unknown theme"
-    name_or (Some name) = name
+    name_or (Some name) = told_name name
 
 -- the comment that names the theme
 abbrev pub heading : Theme → List ℕ
@@ -105,6 +107,13 @@ abbrev pub sheet_start : List ℕ → Theme → List ℕ
 sheet_start prefix theme =
     heading theme ++ (class_selector prefix (codes "code")
     ++ (block theme.settings.foreground theme.settings.background None ++ codes "\n"))
+
+-- what stands after the comment
+abbrev pub sheet_rules : List ℕ → List (List ℕ) → Theme → List ℕ
+sheet_rules prefix repo theme =
+    (class_selector prefix (codes "code")
+    ++ (block theme.settings.foreground theme.settings.background None ++ codes "\n"))
+    ++ flat_map (rule_text prefix repo) theme.scopes
 
 -- the style sheet of a theme
 abbrev pub sheet_text : List ℕ → List (List ℕ) → Theme → List ℕ

@@ -1,7 +1,7 @@
 use Rattle.std.proofs.Common.{◌≡◌, ◌++◌, string_bytes, drop}
 use Rattle.std.specs.List.{flat_map}
 use Rattle.syntect_css.specs.Sheet.{rule_text, sheet_text}
-use Rattle.syntect_css.proofs.sheet.css_for_theme_with_class_style.Given as goal
+use Rattle.syntect_css.proofs.sheet.sheet_of.Given as goal
 
 -- what is written, and the rules that are left, are the whole
 abbrev pub invariant-loop-item : goal.invariant-loop-item
