@@ -31,6 +31,26 @@ fn scopes_of_texts(rt: HostRuntime) {
     );
 }
 
+/// Equal texts give equal scopes, and what was built is told as it was.
+#[test]
+fn texts_of_scopes(rt: HostRuntime) {
+    let mut repository = ScopeRepository::new(rt.alloc());
+    for text in ["", "source.php", "source.php.wow.hi.bob.troll.clock.5"] {
+        let first = repository.build(text);
+        holds(&rt, first == repository.build(text));
+    }
+    for text in ["", "source.php.wow"] {
+        let scope = repository.build(text).expect(&rt, "a scope");
+        let told = repository.to_string(scope).expect(&rt, "memory");
+        equal(&rt, told.as_str(), text);
+    }
+    let php = repository.build("source.php");
+    holds(&rt, php != repository.build("source.perl"));
+    holds(&rt, php != repository.build("source.php.wagon"));
+    let line = repository.build("comment.line.");
+    holds(&rt, line == repository.build("comment.line"));
+}
+
 #[test]
 fn scopes_of_nothing(rt: HostRuntime) {
     let mut repository = ScopeRepository::new(rt.alloc());
@@ -82,6 +102,24 @@ fn prefixes_and_order_of_long_scopes(rt: HostRuntime) {
     holds(&rt, !eight.is_prefix_of(six));
     holds(&rt, eight.is_prefix_of(eight));
     holds(&rt, four < five);
+}
+
+#[test]
+fn scopes_that_begin_others(rt: HostRuntime) {
+    let mut repository = ScopeRepository::new(rt.alloc());
+    for (front, whole, begins) in [
+        ("1.2.3.4.5.6.7.8", "1.2.3.4.5.6.7.8", true),
+        ("1.2.3.4.5.6", "1.2.3.4.5.6.7.8", true),
+        ("1.2.3.4", "1.2.3.4.5.6.7.8", true),
+        ("1.2.3.4.5.6.a", "1.2.3.4.5.6.7.8", false),
+        ("1.2.a.4.5.6.7", "1.2.3.4.5.6.7.8", false),
+        ("1.2.a.4.5.6.7", "1.2.3.4.5", false),
+        ("1.2.a", "1.2.3.4.5.6.7.8", false),
+    ] {
+        let front = repository.build(front).expect(&rt, "a scope");
+        let whole = repository.build(whole).expect(&rt, "a scope");
+        equal(&rt, front.is_prefix_of(whole), begins);
+    }
 }
 
 #[test]

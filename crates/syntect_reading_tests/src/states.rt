@@ -8,11 +8,19 @@ use syntect_parsing::syntax_definition::{
 };
 use syntect_parsing::syntax_set::{SyntaxSet, SyntaxSetBuilder};
 use syntect_scope::repository::ScopeRepository;
+use syntect_scope::stack::ScopeStackOp;
 use syntect_values::text::Text;
 
 /// `x` pushes the context `a`, which `b` leaves.
 const GRAMMAR: &str =
     "name: T\nscope: source.t\nfirst_line_match: ^x\ncontexts:\n  main: [{match: x, push: a}]\n  a: [{match: b, pop: true}]\n";
+
+/// Two grammars, the first of which leads into the second.
+const GRAMMAR_A: &str =
+    "name: A\nscope: source.a\nfile_extensions: [a]\ncontexts:\n  main:\n    - match: 'a'\n      scope: a\n    - match: 'go_b'\n      push: scope:source.b#main\n";
+
+const GRAMMAR_B: &str =
+    "name: B\nscope: source.b\nfile_extensions: [b]\ncontexts:\n  main:\n    - match: 'b'\n      scope: b\n";
 
 /// The set of the grammar, of a builder with a copy of its definition.
 fn built(rt: &impl Abort, alloc: Global, repository: &mut ScopeRepository) -> SyntaxSet {
@@ -54,6 +62,30 @@ fn copies_are_read_as_the_first(rt: HostRuntime) {
     copies_read_alike(&rt, alloc, &set);
     let syntax = set.find_syntax_by_first_line("xy").expect(&rt, "an answer");
     holds(&rt, syntax.is_some());
+}
+
+/// A copy of a set reads on where the first is gone.
+#[test]
+fn a_copied_set(rt: HostRuntime) {
+    let alloc = rt.alloc();
+    let mut repository = ScopeRepository::new(alloc);
+    let mut builder = SyntaxSetBuilder::new(alloc);
+    for text in [GRAMMAR_A, GRAMMAR_B] {
+        let definition = SyntaxDefinition::load_from_str(alloc, text, true, None, &mut repository);
+        builder
+            .add(definition.expect(&rt, "a grammar"))
+            .expect(&rt, "memory");
+    }
+    let first = builder.build(alloc, &mut repository).expect(&rt, "a set");
+    let set = first.clone().expect(&rt, "memory");
+    drop(first);
+    let syntax = set.find_syntax_by_extension("a").expect(&rt, "a syntax");
+    let mut state = ParseState::new(alloc, syntax).expect(&rt, "an answer");
+    let ops = state
+        .parse_line(alloc, "a go_b b", &set)
+        .expect(&rt, "an answer");
+    let b = repository.build("b").expect(&rt, "a scope");
+    holds(&rt, ops.contains(&(7, ScopeStackOp::Push(b))));
 }
 
 /// A state stays where the one behind a line is asked for.

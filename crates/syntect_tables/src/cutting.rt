@@ -20,6 +20,9 @@ pub fn write_cut(alloc: Global, question: &str, out: &mut String) -> Option<()> 
     let (place, rest) = question.split_once(", ")?;
     let mut pieces = Vec::new(alloc);
     for text in rest.split(", ") {
+        if text.is_empty() {
+            continue;
+        }
         let (number, text) = text.split_once(' ')?;
         pieces.push((number.parse::<u8>().ok()?, text)).ok()?;
     }
