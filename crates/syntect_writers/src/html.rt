@@ -45,7 +45,8 @@ fn put_rgb(out: &mut Tail, color: Color) -> Result<(), AllocError>
 
 /// Puts a colour last as CSS has it, without how opaque it is. Without memory the text is as it was.
 pub fn push_rgb(out: &mut String, color: Color) -> Result<(), AllocError>
-    ensures { OnOk result (string_bytes out.new ≡ string_bytes out.old ++ rgb_text color) }
+    ensures text { OnOk result (string_bytes out.new ≡ string_bytes out.old ++ rgb_text color) }
+    ensures err { OnErr result (string_bytes out.new ≡ string_bytes out.old) }
 {
     let mut tail = Tail::behind(replace(out, String::new(*out.allocator())));
     match put_rgb(&mut tail, color) {
