@@ -15,6 +15,8 @@ mod found;
 #[cfg(test)]
 mod operations;
 #[cfg(test)]
+mod refusals;
+#[cfg(test)]
 mod rewrites;
 #[cfg(test)]
 mod scopes;
