@@ -74,3 +74,29 @@ fn a_file_of_no_grammar_is_plain_text(rt: HostRuntime) {
     );
     desk.close(&rt);
 }
+
+/// A grammar whose files are told by their first line.
+const SCRIPT: &str =
+    "name: S\nscope: source.s\nfirst_line_match: '^#!.*tool'\ncontexts:\n  main: [{match: a, scope: word}]\n";
+
+const SCRIPT_PAGE: &str =
+    "<pre style=\"background-color:#020202;\">\n<span style=\"color:#010101;\">#!tool\n</span>\
+<span style=\"color:#030303;\">a\n</span></pre>\n";
+
+/// Of a script of one line without a newline.
+const LINE_PAGE: &str =
+    "<pre style=\"background-color:#020202;\">\n<span style=\"color:#010101;\">#!</span>\
+<span style=\"color:#030303;\">a</span><span style=\"color:#010101;\"> tool</span></pre>\n";
+
+/// The first line is asked where a name tells nothing, whether another line follows or not.
+#[test]
+fn a_script_is_told_by_its_first_line(rt: HostRuntime) {
+    let desk = Desk::new(&rt, "syncat_script");
+    desk.write(&rt, "grammars/S.sublime-syntax", SCRIPT.as_bytes());
+    desk.write(&rt, "script", b"#!tool\na\n");
+    let asked = ["grammars", "theme.tmTheme", "html", "script"];
+    shows(&rt, &desk, asked, SCRIPT_PAGE);
+    desk.write(&rt, "script", b"#!a tool");
+    shows(&rt, &desk, asked, LINE_PAGE);
+    desk.close(&rt);
+}

@@ -3,6 +3,7 @@
 use crate::files::within;
 use crate::found::{equal, holds};
 use crate::metadata::{File, written};
+use std::io::BufRead;
 use std::path::{Path, PathBuf};
 use std::process::Abort;
 use std::rt::Files;
@@ -109,4 +110,83 @@ fn files_without_a_syntax(rt: HostRuntime) {
     let missing = within(&rt, &folder, "missing.txt");
     holds(&rt, is_unread(unopened(&rt, missing.as_path(), &set)));
     holds(&rt, is_unread(unshown(&rt, missing.as_path(), &set)));
+}
+
+/// A theme that is none.
+const NO_THEME: [File; 1] = [("N.tmTheme", "[]")];
+
+/// Whether a theme's value refuses the call.
+fn is_no_theme<T: Drop>(answer: Result<T, LoadingError>) -> bool {
+    matches!(answer.err(), Some(LoadingError::ParseTheme(_)))
+}
+
+#[test]
+fn a_theme_that_is_none(rt: HostRuntime) {
+    let alloc = rt.alloc();
+    let folder = written(&rt, "syntect_no_theme", &NO_THEME);
+    let mut repository = ScopeRepository::new(alloc);
+    let all = ThemeSet::load_from_folder(&rt, alloc, folder.as_path(), &mut repository);
+    holds(&rt, is_no_theme(all));
+    let mut set = ThemeSet::new(alloc);
+    let added = set.add_from_folder(&rt, alloc, folder.as_path(), &mut repository);
+    holds(&rt, is_no_theme(added));
+    let file = within(&rt, &folder, "N.tmTheme");
+    let one = ThemeSet::get_theme(&rt, alloc, file.as_path(), &mut repository);
+    holds(&rt, is_no_theme(one));
+    let read = ThemeSet::load_from_reader(alloc, &mut "[]".as_bytes(), &mut repository);
+    holds(&rt, is_no_theme(read));
+}
+
+/// Whether a folder's walk refuses the call.
+fn is_no_walk<T: Drop>(answer: Result<T, LoadingError>) -> bool {
+    matches!(answer.err(), Some(LoadingError::WalkDir))
+}
+
+#[test]
+fn a_folder_that_is_missing(rt: HostRuntime) {
+    let alloc = rt.alloc();
+    let folder = written(&rt, "syntect_no_folder", &NO_THEME);
+    let none = within(&rt, &folder, "none");
+    let path = none.as_path();
+    let mut repository = ScopeRepository::new(alloc);
+    let all = ThemeSet::load_from_folder(&rt, alloc, path, &mut repository);
+    holds(&rt, is_no_walk(all));
+    let mut set = ThemeSet::new(alloc);
+    let added = set.add_from_folder(&rt, alloc, path, &mut repository);
+    holds(&rt, is_no_walk(added));
+    holds(
+        &rt,
+        is_no_walk(ThemeSet::discover_theme_paths(&rt, alloc, path)),
+    );
+    let grammars = SyntaxSet::load_from_folder(&rt, alloc, path, &mut repository);
+    holds(&rt, is_no_walk(grammars));
+}
+
+/// A grammar whose files are told by their first line, and such a file.
+const SCRIPT: [File; 2] = [
+    (
+        "S.sublime-syntax",
+        "name: S\nscope: source.s\nfirst_line_match: '^#!.*tool'\ncontexts: {main: []}\n",
+    ),
+    ("script", "#!a tool\nx\n"),
+];
+
+/// What a file's highlighter answers to its first line: there is one only where the first line was asked, since the set has
+/// no plain text.
+#[test]
+fn a_script_without_an_extension(rt: HostRuntime) {
+    let folder = written(&rt, "syntect_script", &SCRIPT);
+    let set = grammars_of(&rt, &folder);
+    let theme = Theme::default(rt.alloc());
+    let path = within(&rt, &folder, "script");
+    let mut file = HighlightFile::new(&rt, rt.alloc(), path.as_path(), &set, &theme).expect(
+        &rt, "a file",
+    );
+    let mut line = String::new(rt.alloc());
+    file.reader.read_line(&mut line).expect(&rt, "a line");
+    equal(&rt, line.as_str(), "#!a tool\n");
+    let pieces = file
+        .highlight_lines
+        .highlight_line(rt.alloc(), line.as_str(), &set);
+    equal(&rt, pieces.expect(&rt, "pieces").len(), 1);
 }

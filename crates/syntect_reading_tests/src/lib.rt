@@ -12,6 +12,8 @@ mod found;
 #[cfg(test)]
 mod pages;
 #[cfg(test)]
+mod refusals;
+#[cfg(test)]
 mod states;
 #[cfg(test)]
 mod turns;
