@@ -3,6 +3,7 @@
 use crate::files::within;
 use crate::found::{equal, holds};
 use crate::metadata::{File, written};
+use std::fs;
 use std::io::BufRead;
 use std::path::{Path, PathBuf};
 use std::process::Abort;
@@ -189,4 +190,24 @@ fn a_script_without_an_extension(rt: HostRuntime) {
         .highlight_lines
         .highlight_line(rt.alloc(), line.as_str(), &set);
     equal(&rt, pieces.expect(&rt, "pieces").len(), 1);
+}
+
+/// A script whose first line is no text.
+#[test]
+fn a_script_that_is_no_text(rt: HostRuntime) {
+    let folder = written(&rt, "syntect_script_bytes", &SCRIPT);
+    let set = grammars_of(&rt, &folder);
+    let path = within(&rt, &folder, "script");
+    fs::write(&rt, path.as_path(), b"#!\xff\nx\n").expect(&rt, "a file");
+    holds(&rt, is_unread(unopened(&rt, path.as_path(), &set)));
+}
+
+#[test]
+fn a_grammar_that_is_no_text(rt: HostRuntime) {
+    let folder = written(&rt, "syntect_grammar_bytes", &SCRIPT);
+    let path = within(&rt, &folder, "S.sublime-syntax");
+    fs::write(&rt, path.as_path(), b"name: \xff\n").expect(&rt, "a file");
+    let mut repository = ScopeRepository::new(rt.alloc());
+    let set = SyntaxSet::load_from_folder(&rt, rt.alloc(), folder.as_path(), &mut repository);
+    holds(&rt, matches!(set.err(), Some(LoadingError::Io(_))));
 }

@@ -9,12 +9,16 @@ use syntect::easy::{HighlightFile, HighlightLines};
 use syntect::highlighting::Theme;
 use syntect::html::{
     ClassStyle, ClassedHTMLGenerator, highlighted_html_for_file, highlighted_html_for_reader,
-    highlighted_html_for_string,
+    highlighted_html_for_string, line_tokens_to_classed_spans,
 };
-use syntect::parsing::{ScopeRepository, SyntaxDefinition, SyntaxSet, SyntaxSetBuilder};
+use syntect::parsing::{
+    ParseSyntaxError, ScopeRepository, SyntaxDefinition, SyntaxSet, SyntaxSetBuilder,
+};
 use syntect_buffer::buffer::LineBuffer;
 use syntect_parsing::parser::{ParseState, ParsingError, Regions, turns_of_line};
 use syntect_parsing::syntax_definition::{ContextId, ContextReference};
+use syntect_scope::repository::ParseScopeError;
+use syntect_scope::stack::{ScopeStack, ScopeStackOp};
 use syntect_values::text::Text;
 
 /// `x` pushes a context that is not there; the other one is left by `x`. Files whose name is `null` are of this syntax.
@@ -246,4 +250,37 @@ fn references_that_are_asked(rt: HostRuntime) {
     let wanted = ParsingError::UnresolvedContextReference(copy);
     is_refused(&rt, named.resolve(&none).err(), &wanted);
     is_refused(&rt, named.id().err(), &wanted);
+}
+
+/// The scope of plain text can't be told in a repository that is full.
+#[test]
+fn plain_text_in_a_full_repository(rt: HostRuntime) {
+    let alloc = rt.alloc();
+    let mut repository = ScopeRepository::new(alloc);
+    for i in 0..65534 {
+        let name = format!(in alloc; "{i}").expect(&rt, "memory");
+        holds(&rt, repository.build(name.as_str()).is_ok());
+    }
+    let mut builder = SyntaxSetBuilder::new(alloc);
+    let added = builder.add_plain_text_syntax(alloc, &mut repository);
+    let wanted = ParseSyntaxError::InvalidScope(ParseScopeError::TooManyAtoms);
+    holds(&rt, added.is_err_and(|e| e == wanted));
+    holds(&rt, builder.syntaxes().is_empty());
+}
+
+/// An operation that restores, where nothing was cleared.
+#[test]
+fn spans_of_an_operation_that_is_refused(rt: HostRuntime) {
+    let repository = ScopeRepository::new(rt.alloc());
+    let mut stack = ScopeStack::new(rt.alloc());
+    let ops = [(0, ScopeStackOp::Restore)];
+    let refused = line_tokens_to_classed_spans(
+        rt.alloc(),
+        "x",
+        &ops,
+        ClassStyle::Spaced,
+        &mut stack,
+        &repository,
+    );
+    holds(&rt, matches!(refused, Err(Error::ScopeError(_))));
 }
