@@ -34,8 +34,8 @@ const FIRST: [File; 5] = [
     ),
 ];
 
-/// A set that replaces one of the first folder, and one that is refused, so that it replaces none.
-const SECOND: [File; 2] = [
+/// A set that replaces one of the first folder; two that are refused, so that they replace none; and a file without a scope.
+const SECOND: [File; 4] = [
     (
         "new.tmPreferences",
         r##"{"scope":"source.rust","settings":{"shellVariables":[{"name":"TM_COMMENT_START","value":"# "}]}}"##,
@@ -43,6 +43,14 @@ const SECOND: [File; 2] = [
     (
         "none.tmPreferences",
         r#"{"scope":"source.c","settings":{"indentParens":"x"}}"#,
+    ),
+    (
+        "nine.tmPreferences",
+        r#"{"scope":"source.c, 1.2.3.4.5.6.7.8.9","settings":{"increaseIndentPattern":"^y"}}"#,
+    ),
+    (
+        "other.tmPreferences",
+        r#"{"settings":{"increaseIndentPattern":"^z"}}"#,
     ),
 ];
 
@@ -106,8 +114,10 @@ const FIRST_ROWS: [Row; 4] = [
 ];
 
 /// What the set of both folders answers.
-const SECOND_ROWS: [Row; 2] = [
+const SECOND_ROWS: [Row; 4] = [
     ("source.rust", "f(", false, "# "),
+    ("source.c", "y", false, "/* "),
+    ("source.c", "z", false, "/* "),
     ("source.c", "f(", false, "/* "),
 ];
 
