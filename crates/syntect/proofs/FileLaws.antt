@@ -1,5 +1,5 @@
 -- Syntaxes of files.
-use Rattle.std.proofs.Common.{◌≡◌, ℕ, suc, Bool, List, [], ◌∷◌, ◌++◌, refl, sym, ap, ◌∙◌, inl, inr, subst, Result, Ok, Err}
+use Rattle.std.proofs.Common.{◌≡◌, ℕ, suc, Bool, List, [], ◌∷◌, ◌++◌, length, refl, sym, ap, ◌∙◌, inl, inr, subst, Result, Ok, Err}
 use Rattle.std.specs.Io.{StartsWith}
 use Rattle.std.specs.Io.BufRead.{take_through}
 use Rattle.std.specs.Prelude.{Option, Some, None, IfSome, IfOk, IfErr, IsUtf8, slice_get, find, reverse, ◌⊎◌}
@@ -16,7 +16,7 @@ use Rattle.syntect_loader.specs.declared.definition.SyntaxDefinition.{SyntaxDefi
 use Rattle.syntect_grammar.specs.declared.error.Error.{Error}
 use Rattle.syntect_grammar.specs.declared.error.Error.TheVariants as error
 use Rattle.syntect.specs.Built.{IsBuilt, IsBuiltOf}
-use Rattle.syntect.specs.Files.{IsSyntaxFor, IsToldSyntax, HasNoLines, IsPageOfFile, HasNoPageOfFile}
+use Rattle.syntect.specs.Files.{IsSyntaxFor, IsToldSyntax, IsFirstOf, IsAskedOf, HasNoLines, IsPageOfFile, HasNoPageOfFile}
 use Rattle.syntect.specs.Leads.{LacksStart}
 use Rattle.syntect.specs.Pages.{IsPageOfBytes, IsStopped, IsReadFault}
 
@@ -103,6 +103,11 @@ no_syntax set path line u n e f = (line, u, ap (λ found. option_or found (found
 
 -- ---- what the first line that is left tells ----
 
+-- the line is that of what the reader gave
+pub asked_known : (left : Option (List ℕ)) (given line : List ℕ) → IfSome left (λ xs. StartsWith xs given) → IfSome left (λ xs. length given ≡ 0 → xs ≡ []) → IsFirstOf given line → IfSome left (λ xs. IsAskedOf xs line)
+asked_known None given line f n a = tt
+asked_known (Some xs) given line f n a = record { given = given; front = f; some = n; first = a }
+
 module _ (set : SyntaxSet) (path : List ℕ) (left : Option (List ℕ)) (syntax : SyntaxReference) where
   nothing_asked : (o : Option (List ℕ)) → IfSome o (λ xs. StartsWith (take_through 10 xs) [])
   nothing_asked None = tt
@@ -110,17 +115,21 @@ module _ (set : SyntaxSet) (path : List ℕ) (left : Option (List ℕ)) (syntax 
 
   pub told_by_name : Some syntax ≡ found_by_file_name set path → IsToldSyntax set path left syntax
   unfolding named_syntax is_syntax
-  told_by_name e = record { is_for = named_syntax set path syntax e; front = nothing_asked left }
+  told_by_name e = record {
+    is_for = named_syntax set path syntax e;
+    front = nothing_asked left;
+    asked = λ n. absurd (let q : None ≡ Some syntax = n ∙ sym e in cc);
+  }
 
-  pub told_by_line : (line : List ℕ) → IsUtf8 line → IfSome left (λ xs. StartsWith (take_through 10 xs) line) → None ≡ found_by_file_name set path → Some syntax ≡ found_by_first_line set line
+  pub told_by_line : (line : List ℕ) → IsUtf8 line → IfSome left (λ xs. StartsWith (take_through 10 xs) line) → IfSome left (λ xs. IsAskedOf xs line) → None ≡ found_by_file_name set path → Some syntax ≡ found_by_first_line set line
       → IsToldSyntax set path left syntax
   unfolding found_syntax is_syntax
-  told_by_line line u h e f = record { is_for = found_syntax set path line syntax u e f; front = h }
+  told_by_line line u h a e f = record { is_for = found_syntax set path line syntax u e f; front = h; asked = λ n. a }
 
-  pub told_by_none : (line : List ℕ) → IsUtf8 line → IfSome left (λ xs. StartsWith (take_through 10 xs) line) → None ≡ found_by_file_name set path → None ≡ found_by_first_line set line
+  pub told_by_none : (line : List ℕ) → IsUtf8 line → IfSome left (λ xs. StartsWith (take_through 10 xs) line) → IfSome left (λ xs. IsAskedOf xs line) → None ≡ found_by_file_name set path → None ≡ found_by_first_line set line
       → Some syntax ≡ found_plain_text set → IsToldSyntax set path left syntax
   unfolding plain_syntax is_syntax
-  told_by_none line u h n e f = record { is_for = plain_syntax set path line syntax u n e f; front = h }
+  told_by_none line u h a n e f = record { is_for = plain_syntax set path line syntax u n e f; front = h; asked = λ m. a }
 
 -- ---- no lines ----
 

@@ -1,10 +1,10 @@
 -- What is shown of a file. Of what a file holds nothing is known.
-use Rattle.std.specs.Prelude.{◌≡◌, ℕ, List, Option, Some, None, IfSome, IsUtf8, slice_get, ◌⊎◌}
+use Rattle.std.specs.Prelude.{◌≡◌, ◌<◌, ◌+◌, ℕ, List, [], length, Option, Some, None, IfSome, IsUtf8, slice_get, ◌⊎◌}
 use Rattle.std.specs.Io.{StartsWith}
 use Rattle.std.specs.Io.BufRead.{take_through}
 use Rattle.std.specs.Option.{option_or}
 use Rattle.syntect_theme.specs.declared.theme.Theme.{Theme}
-use Rattle.syntect_grammar.specs.Finding.{found_for_file, found_plain_text}
+use Rattle.syntect_grammar.specs.Finding.{found_for_file, found_by_file_name, found_plain_text}
 use Rattle.syntect_grammar.specs.Link.{syntaxes_in}
 use Rattle.syntect_contexts.specs.declared.syntax_reference.SyntaxReference.{SyntaxReference}
 use Rattle.syntect_grammar.specs.declared.syntax_set.SyntaxSet.{SyntaxSet}
@@ -21,12 +21,28 @@ pub record IsSyntaxFor (set : SyntaxSet) (path : List ℕ) (syntax : SyntaxRefer
   pub place : ℕ
   pub among : slice_get (syntaxes_in set) place ≡ Some syntax
 
+-- The line is the first one of the bytes, up to and with its newline: whole where something stands after it, else perhaps
+-- without a last character that is cut off.
+pub record IsFirstOf (bytes line : List ℕ) : Type 0 where
+  pub front : StartsWith (take_through 10 bytes) line
+  pub nearly : length (take_through 10 bytes) < length line + 4
+  pub whole : length (take_through 10 bytes) < length bytes → line ≡ take_through 10 bytes
+
+-- The line is the first one of what was read at once of the bytes that were left: of a front of them, which is empty only
+-- where nothing is left.
+pub record IsAskedOf (left line : List ℕ) : Type 0 where
+  pub given : List ℕ
+  pub front : StartsWith left given
+  pub some : length given ≡ 0 → left ≡ []
+  pub first : IsFirstOf given line
+
 -- It is that syntax; and where it is known what is left of the file, the line that was asked is a front of the first one
--- that is left.
+-- that is left, and where the path tells nothing that of what was read at once.
 pub record IsToldSyntax (set : SyntaxSet) (path : List ℕ) (left : Option (List ℕ))
     (syntax : SyntaxReference) : Type 0 where
   pub is_for : IsSyntaxFor set path syntax
   pub front : IfSome left (λ xs. StartsWith (take_through 10 xs) is_for.line)
+  pub asked : None ≡ found_by_file_name set path → IfSome left (λ xs. IsAskedOf xs is_for.line)
 
 -- no line of a file is read: no syntax is there for it, or the syntax has no `__start`, or the file is not read, or there was
 -- no memory

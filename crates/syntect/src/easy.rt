@@ -253,7 +253,7 @@ impl<'a, F: Read + Drop> HighlightFile<'a, F> {
 }
 
 /// The syntax of a file that a reader has opened, or else plain text. The reader's bytes stay.
-#[tactic(auto, using(crate::proofs::FileLaws::told_by_name, crate::proofs::FileLaws::no_syntax, crate::proofs::FileLaws::not_read))]
+#[tactic(auto, using(crate::proofs::FileLaws::no_syntax, crate::proofs::FileLaws::not_read))]
 fn syntax_for<'s, R: BufRead>(
     reader: &mut R,
     path: Path<'_>,

@@ -1,9 +1,10 @@
 //! The lines of a reader, one by one.
-ghost use Rattle.std.specs.Prelude.{◌≡◌, ◌==◌, IfOk, IfErr};
+ghost use Rattle.std.specs.Prelude.{◌≡◌, ◌==◌, ◌<◌, ◌+◌, length, IfOk, IfErr};
 ghost use Rattle.std.specs.Io.{StartsWith};
 ghost use Rattle.std.specs.Io.BufRead.{take_through};
 ghost use Rattle.std.specs.List.{position};
 ghost use Rattle.std.specs.Str.{IsUtf8};
+ghost use Rattle.syntect.specs.Files.{IsFirstOf};
 ghost use Rattle.syntect.specs.Pages.{IsReadFault};
 ghost use Rattle.syntect.specs.Rows.{can_go_on, GivesNext};
 
@@ -71,7 +72,8 @@ fn up_to_newline(bytes: &[u8]) -> &[u8]
 
 /// Bytes without their last character, if that isn't whole. Bytes that are no UTF-8 elsewhere stay as they are.
 fn whole_characters(bytes: &[u8]) -> &[u8]
-    ensures { StartsWith bytes.now result.now }
+    ensures front { StartsWith bytes.now result.now }
+    ensures nearly { length bytes.now < length result.now + 4 }
 {
     match str::from_utf8(bytes) {
         Ok(_) => bytes,
@@ -86,7 +88,7 @@ fn whole_characters(bytes: &[u8]) -> &[u8]
 /// the line is not UTF-8.
 pub fn first_line(bytes: &[u8]) -> Result<&str, Error>
     ensures line { IfOk result (λ line. IsUtf8 line.now) }
-    ensures front { IfOk result (λ line. StartsWith (take_through 10 bytes.now) line.now) }
+    ensures asked { IfOk result (λ line. IsFirstOf bytes.now line.now) }
     ensures err { IfErr result (IsReadFault) }
 {
     let line = up_to_newline(bytes);
