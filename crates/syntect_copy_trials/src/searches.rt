@@ -3,6 +3,7 @@ use crate::copies::show_copy;
 use std::alloc::{AllocError, Global};
 use syntect_call_trials::given::regex_of;
 use syntect_call_trials::marks::{TIMES, answer, begin, end, left};
+use syntect_regex::prospect::Prospect;
 use syntect_regex::regex::Regex;
 use syntect_regex::region::Region;
 use syntect_turns::count::TurnCount;
@@ -21,6 +22,7 @@ enum Search {
     UpToCounted,
     At,
     AtCounted,
+    AtKnown,
     /// Whether searches are linear.
     Linear,
 }
@@ -39,6 +41,9 @@ fn found(
         Search::UpToCounted => regex.search_up_to_counted(TEXT, 0, 3, region, &mut count),
         Search::At => regex.match_at(TEXT, 1, region),
         Search::AtCounted => regex.match_at_counted(TEXT, 1, region, &mut count),
+        Search::AtKnown => {
+            regex.match_at_known(TEXT, 1, &mut Prospect::new(), region, &mut count)
+        }
         Search::Linear => regex.is_linear(alloc),
     }
 }
@@ -74,13 +79,14 @@ fn region_clone(rt: &(impl Print + AllocGlobal)) {
 }
 
 /// The calls.
-pub const NAMES: [&str; 8] = [
+pub const NAMES: [&str; 9] = [
     "Regex::search_into",
     "Regex::search_counted",
     "Regex::search_up_to",
     "Regex::search_up_to_counted",
     "Regex::match_at",
     "Regex::match_at_counted",
+    "Regex::match_at_known",
     "Regex::is_linear",
     "Region::clone",
 ];
@@ -94,6 +100,7 @@ pub fn make(rt: &(impl Print + AllocGlobal), name: &str) {
         "Regex::search_up_to_counted" => searches(rt, Search::UpToCounted),
         "Regex::match_at" => searches(rt, Search::At),
         "Regex::match_at_counted" => searches(rt, Search::AtCounted),
+        "Regex::match_at_known" => searches(rt, Search::AtKnown),
         "Regex::is_linear" => searches(rt, Search::Linear),
         "Region::clone" => region_clone(rt),
         _ => {}

@@ -6,7 +6,7 @@ mod dead;
 mod engine;
 mod enter;
 mod lines;
-mod needed;
+pub mod needed;
 mod pass;
 pub mod state;
 mod stretch;

@@ -11,8 +11,9 @@ use syntect_pattern_table::needs::Need;
 use syntect_pattern_table::program::Program;
 use syntect_pattern_table::starts::{Places, is_in, start_at};
 
-/// Up to where it isn't looked again for each of the needs: behind the places where they were met.
-#[derive(Drop)]
+/// Up to where it isn't looked again for each of the needs: behind the places where they were met. It saves time alone: with
+/// whatever was met, in whatever text, what is told of a place is true.
+#[derive(Clone, Copy)]
 pub struct Met {
     rarest: usize,
     other: usize,
@@ -25,6 +26,12 @@ impl Met {
             rarest: 0,
             other: 0,
         }
+    }
+
+    /// Whether something else was met than there.
+    #[inline]
+    pub fn differs(&self, other: &Met) -> bool {
+        self.rarest != other.rarest || self.other != other.other
     }
 
     /// Whether what matches need stands at the place or behind it, as far as is known: where it doesn't, no match begins from

@@ -1,5 +1,5 @@
 -- The least place that has a match.
-use Rattle.std.proofs.Common.{◌≡◌, ℕ, suc, mul-le-mul_left, ◌*◌, ◌+◌, ◌-◌, ◌<◌, ◌≤◌, Bool, true, false, List, [], ◌∷◌, length, get_or, refl, sym, ◌∙◌, ap, arith, Some, None}
+use Rattle.std.proofs.Common.{◌≡◌, ℕ, zero, suc, mul-le-mul_left, ◌*◌, ◌+◌, ◌-◌, ◌<◌, ◌≤◌, Bool, true, false, List, [], ◌∷◌, length, get_or, refl, sym, ◌∙◌, ap, arith, Some, None}
 use Rattle.std.specs.Prelude.{IsCharBoundary, slice_get, option_map, replicate, if◌then◌else◌, is_some}
 use Rattle.std.specs.Option.{option_or}
 use Rattle.syntect_pattern.specs.Text.{is_boundary}
@@ -10,7 +10,7 @@ use Rattle.syntect_pattern_table.specs.declared.program.Program.{Program}
 use Rattle.syntect_plan.specs.Onward.{reaches, chosen, moved, is_free, onward}
 use Rattle.syntect_plan.specs.Cells.{cell_at, item_tree, is_end}
 use Rattle.syntect_plan.specs.Plan.{IsPart}
-use Rattle.syntect_linear.specs.Ground.{IsIn, ends_at}
+use Rattle.syntect_linear.specs.Ground.{IsGround, IsIn, ends_at}
 use Rattle.syntect_linear.specs.Walk.{IsFilled, Walks}
 use Rattle.syntect_linear.specs.Finds.{Covers, FindsGroups, FindsUpTo, groups_of}
 use Rattle.syntect_linear.specs.declared.ground.Ground.{Ground}
@@ -20,6 +20,7 @@ use Rattle.syntect_linear.proofs.ChosenLaws.{reaches-any, chosen-forward}
 use Rattle.syntect_plan.proofs.CellLaws.{ends-part, ends-end}
 use Rattle.syntect_linear.specs.Steps.{stay_cost, read_cost, walk_cost, look_cost, Costs}
 use Rattle.syntect_linear.proofs.CostLaws.{walks-on, costs-of}
+use Rattle.syntect_linear.proofs.GroundLaws.{ground-of}
 use Rattle.syntect_linear.proofs.WalkLaws.{part-chosen}
 
 pub covers-filled : (x : Ground) (begin place : ℕ) → Covers x begin → begin ≤ place → IsCharBoundary x.text.now place → IsFilled x place
@@ -43,7 +44,11 @@ no-member : (ms : List Member) → is_some (reaches Some ms) ≡ false → slice
 no-member [] e = refl
 no-member (m ∷ ms) e = cc
 
-module _ (x : Ground) (place : ℕ) (filled : IsFilled x place) where
+-- the tree of the whole match
+abbrev root_of : Ground → Tree
+root_of x = get_or (trees_of x.program.now) x.program.now.root nothing
+
+module _ (x : Ground) (place : ℕ) (on : IsGround x place) where
   abbrev s : List ℕ
   s = x.text.now
 
@@ -57,7 +62,7 @@ module _ (x : Ground) (place : ℕ) (filled : IsFilled x place) where
   root = get_or ts x.program.now.root nothing
 
   part : IsPart ts cells 1 root 0 0
-  part = filled.ready.plan_is.planned.root_is
+  part = on.plan_is.planned.root_is
 
   pub whole-inside : IsIn x 1
   whole-inside = part.cell.inside
@@ -66,34 +71,16 @@ module _ (x : Ground) (place : ℕ) (filled : IsFilled x place) where
   whole-real = ap is_end part.cell.item_is ∙ part.real
 
   root-free : is_free root ≡ true
-  root-free = ap is_free (sym part.tree ∙ ap (item_tree ts) (sym part.cell.item_is)) ∙ filled.ready.plan_is.planned.cells_are.free 1
+  root-free = ap is_free (sym part.tree ∙ ap (item_tree ts) (sym part.cell.item_is)) ∙ on.plan_is.planned.cells_are.free 1
 
   zero-end : (i : ℕ) → ends_at x 0 i ≡ Some i
-  zero-end i = ends-end s ts cells filled.ready.plan_is.planned.cells_are 0 i (ap (λ (c : Cell). is_end c.item) filled.ready.plan_is.planned.cells_are.last) filled.ready.plan_is.planned.cells_are.some
+  zero-end i = ends-end s ts cells on.plan_is.planned.cells_are 0 i (ap (λ (c : Cell). is_end c.item) on.plan_is.planned.cells_are.last) on.plan_is.planned.cells_are.some
 
   -- where the whole match ends
   whole-ends : ends_at x 1 place ≡ onward s root Some place
   whole-ends =
-      ends-part s ts cells filled.ready.plan_is.planned.cells_are filled.ready.utf8 1 root 0 0 place filled.ready.boundary part
-      ∙ onward-alike s filled.ready.utf8 root (moved place (ends_at x 0) (ends_at x 0)) Some place filled.ready.boundary (λ j l d. moved-same place j (ends_at x 0) ∙ zero-end j)
-
-  -- the steps of the walk along the whole match
-  pub whole-cost : (before : ℕ) (g : Groups) (end : ℕ) (h : Groups) (after : ℕ) → Walks x 1 place g end h → Costs x 1 place before end after
-      → after ≤ before + (walk_cost (get_or (trees_of x.program.now) x.program.now.root nothing) + look_cost (get_or (trees_of x.program.now) x.program.now.root nothing)) * (length x.text.now + 1)
-  whole-cost before g end h after w c =
-      let on = walks-on x 1 place g end h filled w in
-      let e : item_tree ts (cell_at cells 1).item ≡ root = ap (item_tree ts) part.cell.item_is ∙ part.tree in
-      let s = costs-of x 1 place before end after root e c in
-      let short : end - place ≤ length x.text.now + 1 = omega (arith, on.1) in
-      let one : 1 ≤ length x.text.now + 1 = omega arith in
-      let m = mul-le-mul_left (read_cost root) short in
-      let o = mul-le-mul_left (stay_cost root) one in
-      let p : stay_cost root * 1 ≡ stay_cost root = grind arith in
-      let n : suc (length x.text.now) ≡ length x.text.now + 1 = omega arith in
-      let l : look_cost root * suc (length x.text.now) ≡ look_cost root * (length x.text.now + 1) = ap (λ (k : ℕ). look_cost root * k) n in
-      let d : (walk_cost root + look_cost root) * (length x.text.now + 1)
-      ≡ stay_cost root * (length x.text.now + 1) + read_cost root * (length x.text.now + 1) + look_cost root * (length x.text.now + 1) = grind arith in
-      omega (arith, s, m, o, p, l, d)
+      ends-part s ts cells on.plan_is.planned.cells_are on.utf8 1 root 0 0 place on.boundary part
+      ∙ onward-alike s on.utf8 root (moved place (ends_at x 0) (ends_at x 0)) Some place on.boundary (λ j l d. moved-same place j (ends_at x 0) ∙ zero-end j)
 
   module _ (tree : Tree) (h : IsProgramOf x.program.now tree) (at : is_boundary x.text.now place ≡ true) where
     found-is : found_at s tree place ≡ option_map (λ (m : Member). m.1) (slice_get (matches s root place (replicate x.program.now.groups None)) 0)
@@ -107,15 +94,38 @@ module _ (x : Ground) (place : ℕ) (filled : IsFilled x place) where
     found-none e =
         sym (found-is ∙ ap (option_map (λ (m : Member). m.1))
         (no-member (matches s root place (replicate x.program.now.groups None))
-        (ap is_some (reaches-any s filled.ready.utf8 root root-free Some place (replicate x.program.now.groups None) ∙ sym whole-ends) ∙ e)))
+        (ap is_some (reaches-any s on.utf8 root root-free Some place (replicate x.program.now.groups None) ∙ sym whole-ends) ∙ e)))
 
-    pub found-some : (end : ℕ) (g : Groups) → Walks x 1 place (replicate x.program.now.groups None) end g → Some g ≡ found_at s tree place
+module _ (x : Ground) (place : ℕ) (filled : IsFilled x place) where
+  on : IsGround x place
+  on = ground-of x place filled.ready
+
+  -- the steps of the walk along the whole match
+  pub whole-cost : (before : ℕ) (g : Groups) (end : ℕ) (h : Groups) (after : ℕ) → Walks x 1 place g end h → Costs x 1 place before end after
+      → after ≤ before + (walk_cost (root_of x) + look_cost (root_of x)) * (length x.text.now + 1)
+  whole-cost before g end h after w c =
+      let far = walks-on x 1 place g end h filled w in
+      let e : item_tree (trees_of x.program.now) (cell_at x.plan.now.cells 1).item ≡ (root_of x) = ap (item_tree (trees_of x.program.now)) (part x place on).cell.item_is ∙ (part x place on).tree in
+      let s = costs-of x 1 place before end after (root_of x) e c in
+      let short : end - place ≤ length x.text.now + 1 = omega (arith, far.1) in
+      let one : 1 ≤ length x.text.now + 1 = omega arith in
+      let m = mul-le-mul_left (read_cost (root_of x)) short in
+      let o = mul-le-mul_left (stay_cost (root_of x)) one in
+      let p : stay_cost (root_of x) * 1 ≡ stay_cost (root_of x) = grind arith in
+      let n : suc (length x.text.now) ≡ length x.text.now + 1 = omega arith in
+      let l : look_cost (root_of x) * suc (length x.text.now) ≡ look_cost (root_of x) * (length x.text.now + 1) = ap (λ (k : ℕ). look_cost (root_of x) * k) n in
+      let d : (walk_cost (root_of x) + look_cost (root_of x)) * (length x.text.now + 1)
+      ≡ stay_cost (root_of x) * (length x.text.now + 1) + read_cost (root_of x) * (length x.text.now + 1) + look_cost (root_of x) * (length x.text.now + 1) = grind arith in
+      omega (arith, s, m, o, p, l, d)
+
+  module _ (tree : Tree) (h : IsProgramOf x.program.now tree) (at : is_boundary x.text.now place ≡ true) where
+    pub found-some : (end : ℕ) (g : Groups) → Walks x 1 place (replicate x.program.now.groups None) end g → Some g ≡ found_at x.text.now tree place
     found-some end g w =
-        let c = part-chosen x 1 place (replicate x.program.now.groups None) filled 1 root 0 0 end g part w in
-        let first : chosen Some (matches s root place (replicate x.program.now.groups None)) ≡ Some (end, g) =
-        chosen-forward s filled.ready.utf8 root Some (moved place (ends_at x 0) (ends_at x 0)) place (replicate x.program.now.groups None) filled.ready.boundary
-        (λ j l d. sym (moved-same place j (ends_at x 0) ∙ zero-end j)) ∙ c in
-        sym (found-is ∙ ap (option_map (λ (m : Member). m.1)) (first-member _ ∙ first))
+        let c = part-chosen x 1 place (replicate x.program.now.groups None) filled 1 (root_of x) 0 0 end g (part x place on) w in
+        let first : chosen Some (matches x.text.now (root_of x) place (replicate x.program.now.groups None)) ≡ Some (end, g) =
+        chosen-forward x.text.now filled.ready.utf8 (root_of x) Some (moved place (ends_at x 0) (ends_at x 0)) place (replicate x.program.now.groups None) filled.ready.boundary
+        (λ j l d. sym (moved-same place j (ends_at x 0) ∙ zero-end x place on j)) ∙ c in
+        sym (found-is x place on tree h at ∙ ap (option_map (λ (m : Member). m.1)) (first-member _ ∙ first))
 
 module _ (s : List ℕ) (tree : Tree) where
   pub found_at-between : (i : ℕ) → is_boundary s i ≡ false → None ≡ found_at s tree i
@@ -134,6 +144,19 @@ module _ (s : List ℕ) (tree : Tree) where
       ap (λ n. found_within s tree n i) (let n : suc (length s) - i ≡ suc (length s - i) = omega arith in n)
       ∙ ap (λ o. option_or o (found_within s tree (length s - i) (suc i))) e
       ∙ ap (λ n. found_within s tree n (suc i)) (let n : length s - i ≡ suc (length s) - suc i = omega arith in n)
+
+  -- places where no match begins are passed over
+  found-skip : (n i : ℕ) → i + n ≤ suc (length s) → ((k : ℕ) → i ≤ k → k < i + n → found_at s tree k ≡ None) → found s tree i ≡ found s tree (i + n)
+  found-skip zero i l h = ap (found s tree) (let e : i ≡ i + 0 = omega arith in e)
+  found-skip (suc n) i l h =
+      found-step i (omega arith) (h i (omega arith) (omega arith))
+      ∙ found-skip n (suc i) (omega arith) (λ k p q. h k (omega arith) (omega arith))
+      ∙ ap (found s tree) (let e : suc i + n ≡ i + suc n = omega arith in e)
+
+  pub found-jump : (i j : ℕ) → i ≤ j → j ≤ suc (length s) → ((k : ℕ) → i ≤ k → k < j → found_at s tree k ≡ None) → found s tree i ≡ found s tree j
+  found-jump i j l m h =
+      let e : i + (j - i) ≡ j = omega arith in
+      found-skip (j - i) i (omega arith) (λ k p q. h k p (omega arith)) ∙ ap (found s tree) e
 
   pub found-past : (i : ℕ) → length s < i → found s tree i ≡ None
   unfolding found

@@ -8,4 +8,5 @@ pub mod LoopLaws
 pub mod SightLaws
 pub mod FindLaws
 pub mod StepsLaws
+pub mod AskedLaws
 pub mod CostLaws

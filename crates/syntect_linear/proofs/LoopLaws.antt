@@ -15,7 +15,7 @@ use Rattle.syntect_plan.specs.Plan.{IsTurn, TurnIs}
 use Rattle.syntect_plan.proofs.OnwardLaws.{moved-past}
 use Rattle.syntect_linear.proofs.ChosenLaws.{chosen-leads, chosen-forward, chosen-turn, chosen-empty, chosen-more, chosen-leave, turned}
 use Rattle.syntect_linear.proofs.StepLaws.{IsAt, free, step, following-is, at-repeat, turn-ends}
-use Rattle.syntect_linear.proofs.GroundLaws.{tree-at, turn-if}
+use Rattle.syntect_linear.proofs.GroundLaws.{ground-of, tree-at, turn-if}
 use Rattle.syntect_linear.proofs.WalkLaws.{size_of, if-some, filled-on, CanWalk, can-walk, size-is, part-chosen, ends-forward, walks-by}
 
 module _ (x : Ground) (k place : ℕ) (g : Groups) (filled : IsFilled x place) (greedy : Bool) (least : ℕ) (most : Option ℕ) (a : Tree) (here : IsTreeAt x k (repeat greedy least most a)) where
@@ -66,7 +66,7 @@ module _ (x : Ground) (k place : ℕ) (g : Groups) (filled : IsFilled x place) (
   ends-is : ends_at x k place ≡ prefer_end greedy turn_found leave_found
   ends-is =
       (at-repeat x.text.now ts cells x.plan.now.parts x.plan.now.behinds k place filled.ready.boundary greedy least most a y).0
-      ∙ ap (λ (o : Option ℕ). prefer_end greedy o leave_found) (turn-if x place k filled.ready most (ends_at x first place))
+      ∙ ap (λ (o : Option ℕ). prefer_end greedy o leave_found) (turn-if x place k (ground-of x place filled.ready) most (ends_at x first place))
 
   choice : (b : Bool) (o p : Option ℕ) → is_some (prefer_end b o p) ≡ true → (if b then is_some o else not (is_some p)) ≡ true → (is_some o ≡ true) × ((b ≡ true) ⊎ (is_some p ≡ false))
   choice true o p e q = (q, inl refl)
@@ -89,14 +89,14 @@ module _ (x : Ground) (k place : ℕ) (g : Groups) (filled : IsFilled x place) (
   turn-is-some e =
       ap is_some
       (turn-ends x.text.now ts cells x.plan.now.parts x.plan.now.behinds k place filled.ready.boundary greedy least most a y most (step x.text.now ts cells x.plan.now.parts x.plan.now.behinds k (repeat greedy least most a) y)
-      ∙ turn-if x place k filled.ready most (ends_at x first place))
+      ∙ turn-if x place k (ground-of x place filled.ready) most (ends_at x first place))
       ∙ e
 
   turn-is-none : is_some turn_found ≡ false → is_some (turn_end most (onward x.text.now a (turned x.text.now u greedy least most a fr (E f) (E n) place g filled.ready.boundary) place)) ≡ false
   turn-is-none e =
       ap is_some
       (turn-ends x.text.now ts cells x.plan.now.parts x.plan.now.behinds k place filled.ready.boundary greedy least most a y most (step x.text.now ts cells x.plan.now.parts x.plan.now.behinds k (repeat greedy least most a) y)
-      ∙ turn-if x place k filled.ready most (ends_at x first place))
+      ∙ turn-if x place k (ground-of x place filled.ready) most (ends_at x first place))
       ∙ e
 
   pub turn-leaves : is_some (ends_at x k place) ≡ true → takes ≡ false → Walks x k place g place g

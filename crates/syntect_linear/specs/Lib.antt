@@ -1,5 +1,6 @@
 pub mod Rows
 pub mod Ground
+pub mod Memo
 pub mod Step
 pub mod Walk
 pub mod Finds

@@ -202,7 +202,7 @@ fn reach_loop(
 }
 
 /// Whether a lookaround holds, by whether its part was found.
-fn looks(found: bool, negated: bool) -> bool
+pub(crate) fn looks(found: bool, negated: bool) -> bool
     ensures { result ≡ (if negated then not found else found) }
 {
     found != negated

@@ -306,6 +306,7 @@ fn read_line(
         regions.old.steps.made regions.new.steps.made) }
 {
     dialect_finds_in_text();
+    regions.memory.begin_line();
     let mut ops = match first_operations(alloc, set, state) {
         Ok(ops) => ops,
         Err(_) => return Err(ParsingError::Memory),

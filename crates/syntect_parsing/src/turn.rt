@@ -1,5 +1,5 @@
 //! One turn of reading a line.
-ghost use Rattle.std.specs.Prelude.{◌≡◌, ◌≤◌, ◌+◌, ℕ, List, nat_lt, filter, IfOk, IfErr, IsCharBoundary, true};
+ghost use Rattle.std.specs.Prelude.{◌≡◌, ◌≤◌, ◌+◌, ℕ, List, nat_lt, filter, IfOk, IfErr, OnOk, IsCharBoundary, true};
 ghost use Rattle.syntect_winner.specs.Engine.{dialect};
 ghost use Rattle.syntect_winner.specs.Chain.{last};
 ghost use Rattle.syntect_parsing.specs.Turn.{trimmed, skipped};
@@ -7,6 +7,7 @@ ghost use Rattle.syntect_winner.specs.Turn.{char_len, winner, Take};
 ghost use Rattle.syntect_parsing.specs.Line.{step, turn_on};
 ghost use Rattle.syntect_winner.specs.Candidates.{live_in};
 ghost use Rattle.syntect_winner.specs.Best.{choice_by};
+ghost use Rattle.syntect_winner.specs.Memory.{Remembers};
 ghost use Rattle.syntect_winner.specs.Reader.{AreGroupsBy};
 ghost use Rattle.syntect_parsing.specs.Candidates.{IsTakenFrom, live_of};
 ghost use Rattle.syntect_parsing.specs.Orderly.{is_orderly};
@@ -53,6 +54,7 @@ fn best_match<'s>(
     reader: &LineReader<'s, '_>,
     regions: &mut Regions,
 ) -> Result<Best<'s>, ParsingError>
+    requires known { Remembers reader.now.set.now reader.now.line.now regions.old.memory }
     ensures groups { IfOk result (λ best. AreGroupsBy reader.now best.candidate regions.new.best) }
     ensures chosen { IfOk result (λ best. turn_on dialect reader.now.set.now reader.now.line.now
         reader.now.position.now (last reader.now.position.now.levels)
@@ -64,6 +66,8 @@ fn best_match<'s>(
         (live_in dialect reader.now.set.now reader.now.line.now reader.now.position.now)) }
     ensures refused { IfErr result (RefusesStep (turn_on dialect reader.now.set.now
         reader.now.line.now reader.now.position.now (last reader.now.position.now.levels))) }
+    ensures known { OnOk result
+        (Remembers reader.now.set.now reader.now.line.now regions.new.memory) }
     ensures steps { UnlessMemory result (TakesTurnSteps reader.now.set.now reader.now.line.now
         reader.now.position.now regions.old.steps.made regions.new.steps.made) }
 {
@@ -121,11 +125,13 @@ pub fn turn(
     ops: &mut Vec<(usize, ScopeStackOp)>,
     count: &mut TurnCount,
 ) -> Result<bool, ParsingError>
+    requires known { Remembers set.now line.now regions.old.memory }
     requires boundary { IsCharBoundary line.now p.old.place }
     requires few { p.old.idle ≤ MOST_IDLE }
     ensures turns { IfOk result
         (Turns dialect set.now line.now p.old p.new ops.old.items ops.new.items) }
     ensures refused { IfErr result (RefusesTurn dialect set.now line.now p.old) }
+    ensures known { OnOk result (Remembers set.now line.now regions.new.memory) }
     ensures counted { count.new.made ≡ count.old.made + 1 }
     ensures steps { UnlessMemory result (TakesTurnSteps set.now line.now (trimmed p.old)
         regions.old.steps.made regions.new.steps.made) }

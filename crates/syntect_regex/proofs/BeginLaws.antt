@@ -26,7 +26,7 @@ found-next s tree i e = elim (cases_lt (length s) i) [
   | inr l ↦ rw add-one (found-step s tree i l e)
 ]
 
-pattern-next : (s pattern : List ℕ) (tree : Tree) (i : ℕ) → pattern_tree pattern ≡ Some tree → found s tree i ≡ found s tree (i + 1) → pattern_found pattern s i ≡ pattern_found pattern s (i + 1)
+pub pattern-next : (s pattern : List ℕ) (tree : Tree) (i : ℕ) → pattern_tree pattern ≡ Some tree → found s tree i ≡ found s tree (i + 1) → pattern_found pattern s i ≡ pattern_found pattern s (i + 1)
 pattern-next s pattern tree i e h =
     ap (λ (o : Option Tree). option_and_then (λ t. found s t i) o) e ∙ h ∙ sym (ap (λ (o : Option Tree). option_and_then (λ t. found s t (i + 1)) o) e)
 

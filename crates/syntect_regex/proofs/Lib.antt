@@ -3,3 +3,5 @@ pub mod BeginLaws
 pub mod HereLaws
 pub mod MarkLaws
 pub mod OutlineLaws
+pub mod ProspectLaws
+pub mod SeekLaws

@@ -13,3 +13,4 @@ pub mod Outline
 pub mod Body
 pub mod Kept
 pub mod Groups
+pub mod Prospect

@@ -12,6 +12,7 @@ ghost use Rattle.syntect_pattern.specs.declared.error.PatternError.{PatternError
 ghost use Rattle.syntect_regex.specs.Body.{outline_in};
 ghost use Rattle.syntect_regex.specs.Bounds.{pattern_is_linear, search_bound};
 ghost use Rattle.syntect_regex.specs.Begins.{NoneBeginsBefore, NoneBeginsOutside, BeginsAtEdges};
+ghost use Rattle.syntect_regex.specs.Prospect.{IsProspectOf};
 ghost use Rattle.syntect_regex.specs.Escape.{is_special, escaped_char, escaped};
 ghost use Rattle.syntect_regex.specs.Region.{TakesMatch, TakesUpTo, TriesAt, Leaves, pattern_begins};
 
@@ -19,6 +20,7 @@ use crate::compiled::{Kept, program_in};
 use crate::details::Details;
 use crate::error::PatternError;
 use crate::outline::Outline;
+use crate::prospect::Prospect;
 use crate::region::Region;
 use crate::seek::begins_at;
 use once_cell::race::OnceBox;
@@ -380,6 +382,38 @@ impl Regex {
         };
         let size = self.body.text.len();
         region.find_at(program, size, text, place, count)
+    }
+
+    /// Tells as `match_at_counted` does, with what is known of the pattern in this text, of which more may be known after: no
+    /// step is taken at a place where no match can begin by that. To try a pattern at place after place of one text, hand in
+    /// what was left the last time.
+    pub fn match_at_known(
+        &self,
+        text: &str,
+        place: usize,
+        known: &mut Prospect,
+        region: &mut Region,
+        count: &mut TurnCount,
+    ) -> Result<bool, AllocError>
+        requires known { IsProspectOf self.now text.now known.old }
+        ensures known { IsProspectOf self.now text.now known.new }
+        ensures ok { IfOk result (λ b. TriesAt self.now text.now place region.old b region.new) }
+        ensures err { OnErr result (region.new ≡ region.old) }
+        ensures steps { pattern_is_linear self.now ≡ true
+            → OnOk result (count.new.made
+            ≤ count.old.made + search_bound self.now (length text.now)) }
+    {
+        if known.rules_out(place) {
+            return Ok(false);
+        }
+        let Some(program) = self.program()? else {
+            return Ok(false);
+        };
+        if !known.is_left(program, text, place) {
+            return Ok(false);
+        }
+        let size = self.body.text.len();
+        region.find_known(program, size, text, place, known, count)
     }
 
     /// Searches as `search_into` does, where a region is perhaps lent. Without one the memory of the search is let go.

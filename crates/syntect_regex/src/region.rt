@@ -1,11 +1,14 @@
 //! Where the groups of a match stand.
-ghost use Rattle.std.specs.Prelude.{◌≡◌, ◌≤◌, ◌↔◌, true, [], IfOk, OnErr, OnOk, None, length, slice_index_or};
+ghost use Rattle.std.specs.Prelude.{◌≡◌, ◌≤◌, ◌↔◌, ℕ, List, true, [], IfOk, OnErr, OnOk, None, length, slice_index_or};
 ghost use Rattle.syntect_pattern.specs.Matches.{Groups};
 ghost use Rattle.syntect_regex.specs.Bounds.{IsWithinBound};
+ghost use Rattle.syntect_pattern_reader.specs.Compiled.{IsCompiled};
+ghost use Rattle.syntect_regex.specs.Prospect.{IsProspectOf};
 ghost use Rattle.syntect_regex.specs.Region.{Takes, TakesHere, TakesNear, same_groups, same_groups-equiv};
 ghost use Rattle.std.specs.Cmp.{partial_equiv_from_equiv};
 
-use crate::seek::{begins_at, find, find_up_to};
+use crate::prospect::Prospect;
+use crate::seek::{begins_at, begins_known, find, find_up_to};
 use std::alloc::{AllocError, Global};
 use std::marker::Model;
 use std::mem;
@@ -136,6 +139,32 @@ impl Region {
             count.old.made count.new.made) }
     {
         let is_here = begins_at(&mut self.search, program, size, text, place, count)?;
+        if is_here {
+            mem::swap(&mut self.positions, &mut self.search.groups);
+        }
+        Ok(is_here)
+    }
+
+    /// The same of a text in which the program is tried at place after place, by what is known of it there, of which more is
+    /// known after.
+    pub(crate) fn find_known(
+        &mut self,
+        program: &Program,
+        size: usize,
+        text: &str,
+        place: usize,
+        known: &mut Prospect,
+        count: &mut TurnCount,
+    ) -> Result<bool, AllocError>
+        ensures found { IfOk result
+            (λ b. TakesHere text.now program.now place self.old b self.new) }
+        ensures known { (pattern : List ℕ) → IsCompiled pattern program.now
+            → IsProspectOf pattern text.now known.old → IsProspectOf pattern text.now known.new }
+        ensures err { OnErr result (self.new ≡ self.old) }
+        ensures steps { OnOk result (IsWithinBound program.now size (length text.now)
+            count.old.made count.new.made) }
+    {
+        let is_here = begins_known(&mut self.search, program, size, text, place, known, count)?;
         if is_here {
             mem::swap(&mut self.positions, &mut self.search.groups);
         }

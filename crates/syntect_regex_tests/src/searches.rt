@@ -2,6 +2,7 @@
 use crate::found::{equal, holds};
 use std::process::Abort;
 use syntect_pattern_table::starts::is_in;
+use syntect_regex::prospect::Prospect;
 use syntect_regex::regex::Regex;
 use syntect_regex::region::Region;
 use syntect_turns::count::TurnCount;
@@ -225,4 +226,25 @@ fn counts_the_steps_of_a_search(rt: HostRuntime) {
     let found = regex.search_counted("aab", 1, 3, &mut region, &mut count);
     equal(&rt, found.expect(&rt, "memory"), true);
     equal(&rt, region.pos(0), Some((1, 3)));
+}
+
+/// A pattern that is tried at place after place of one text begins where its matches do, also where what they need no longer
+/// stands behind.
+#[test]
+fn tries_a_pattern_by_what_is_known(rt: HostRuntime) {
+    let text = String::from_str(rt.alloc(), "a+b").expect(&rt, "memory");
+    let regex = Regex::new(rt.alloc(), text).expect(&rt, "memory");
+    let mut region = Region::default(rt.alloc());
+    let mut count = TurnCount::none();
+    let mut known = Prospect::new();
+    for (place, wanted) in [(0, true), (1, true), (2, false), (3, false), (4, false), (9, false)] {
+        let found = regex.match_at_known("aabaa", place, &mut known, &mut region, &mut count);
+        equal(&rt, found.expect(&rt, "memory"), wanted);
+    }
+    equal(&rt, region.pos(0), Some((1, 3)));
+    // Of another text something else is known
+    known = Prospect::new();
+    let found = regex.match_at_known("aaaab", 3, &mut known, &mut region, &mut count);
+    equal(&rt, found.expect(&rt, "memory"), true);
+    equal(&rt, region.pos(0), Some((3, 5)));
 }

@@ -8,3 +8,4 @@ pub mod Reader
 pub mod Ahead
 pub mod Best
 pub mod Steps
+pub mod Memory

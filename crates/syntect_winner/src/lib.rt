@@ -5,6 +5,7 @@
 pub mod chain;
 pub mod laws;
 pub mod level;
+pub mod memory;
 pub mod position;
 pub mod reader;
 pub mod search;

@@ -9,6 +9,7 @@ ghost use Rattle.syntect_winner.specs.Reader.{AreGroupsBy, match_of, seen_by};
 ghost use Rattle.syntect_winner.specs.Steps.{IsWithin};
 
 use crate::laws::dialect_finds_in_text;
+use crate::memory::Memory;
 use crate::position::{MOST_IDLE, MOST_LEVELS, Position};
 use crate::reader::LineReader;
 use std::alloc::{AllocError, Global};
@@ -21,17 +22,18 @@ use syntect_regex::region::Region;
 use syntect_turns::count::TurnCount;
 use syntect_ways::text::char_at;
 
-/// Where searches put the groups of their matches, the groups of the best match so far, and how many steps searches took,
-/// which contracts alone see.
+/// Where searches put the groups of their matches, the groups of the best match so far, how many steps searches took, which
+/// contracts alone see, and what is known of the patterns that were tried in the line that is read.
 #[derive(Drop)]
 pub struct Regions {
     pub searched: Region,
     pub best: Region,
     pub steps: TurnCount,
+    pub memory: Memory,
 }
 
 impl Regions {
-    /// Two without groups, and no step. Takes no memory.
+    /// Two without groups, no step, and nothing known. Takes no memory.
     pub fn new(alloc: Global) -> Regions
         ensures { result.steps.made ≡ 0 }
     {
@@ -39,6 +41,7 @@ impl Regions {
             searched: Region::new(alloc),
             best: Region::new(alloc),
             steps: TurnCount::none(),
+            memory: Memory::new(alloc),
         }
     }
 
@@ -46,6 +49,7 @@ impl Regions {
     pub fn keep(&mut self)
         ensures best { self.new.best ≡ self.old.searched }
         ensures steps { self.new.steps ≡ self.old.steps }
+        ensures memory { self.new.memory ≡ self.old.memory }
     {
         mem::swap(&mut self.searched, &mut self.best);
     }

@@ -8,6 +8,8 @@ ghost use Rattle.syntect_flats.specs.Slims.{origin_of};
 ghost use Rattle.syntect_grammar.specs.Flats.{AreFlatsOf, pattern_at};
 ghost use Rattle.syntect_pattern.specs.Matches.{is_word_edge};
 ghost use Rattle.syntect_pattern_table.specs.Starts.{start_at};
+ghost use Rattle.syntect_regex.specs.Bounds.{pattern_is_linear, search_bound};
+ghost use Rattle.syntect_regex.specs.Region.{TriesAt};
 ghost use Rattle.syntect_word_ends.specs.Ends.{IsRunUpTo};
 ghost use Rattle.syntect_winner.specs.declared.sweep.Run.{Run as ARun};
 ghost use Rattle.syntect_winner.specs.Ahead.{AddsAll, AddsAt, AddsMember, AddsRun, AllAhead, AreAhead, AreAheadFrom, AreReplaced, BeginIn, FindsHere, IsAhead, IsBestAt, IsRuledOut, IsRun, Reaches, Sees, list_in, run_members};
@@ -15,6 +17,7 @@ ghost use Rattle.syntect_contexts.specs.Substitution.{Groups};
 ghost use Rattle.syntect_winner.specs.Best.{choice_by};
 ghost use Rattle.syntect_winner.specs.Candidates.{member_of};
 ghost use Rattle.syntect_winner.specs.Engine.{dialect};
+ghost use Rattle.syntect_winner.specs.Memory.{Remembers, origin_pattern};
 ghost use Rattle.syntect_winner.specs.Parts.{part_members};
 ghost use Rattle.syntect_winner.specs.Reader.{AreGroupsBy, matches_of};
 ghost use Rattle.syntect_winner.specs.Steps.{AreWithin, IsWithin, place_steps, turn_steps};
@@ -264,6 +267,7 @@ fn with_searched<'s>(
         → FindsHere reader.now place (member_of entry.now) g → best.entry.candidate ≡ None
         → IsBestAt reader.now place ms best.entry
         → IfOk result (AddsMember reader.now place true (member_of entry.now) ms) }
+    ensures memory { regions.new.memory ≡ regions.old.memory }
     ensures steps { (w : ℕ) → IsWithin (length reader.now.line.now) w (member_of entry.now)
         → OnOk result (regions.new.steps.made ≤ regions.old.steps.made + w) }
 {
@@ -287,14 +291,48 @@ fn with_searched<'s>(
     }
 }
 
-/// What is searched: what stands in the pattern's place, or the pattern.
-fn regex_of<'r>(pattern: &'r MatchPattern, replaced: Option<&'r Regex>) -> &'r Regex
-    ensures { result.now ≡ unwrap_or (option_copied replaced.entry) pattern.now.regex }
+/// Whether a match of what is searched for an entry begins at the place. What is known of a pattern that is searched as it
+/// stands, there, is asked first, and kept in mind.
+fn is_here(
+    reader: &LineReader<'_, '_>,
+    entry: &Entry<'_, '_>,
+    replaced: Option<&Regex>,
+    origin: Origin,
+    place: usize,
+    regions: &mut Regions,
+) -> Result<bool, AllocError>
+    requires known { Remembers reader.now.set.now reader.now.line.now regions.old.memory }
+    requires origin { origin_pattern reader.now.set.now origin ≡ Some entry.now.pattern.now }
+    ensures tries { IfOk result (λ b.
+        TriesAt (unwrap_or (option_copied replaced.entry) entry.now.pattern.now.regex)
+        reader.now.line.now place regions.old.searched b regions.new.searched) }
+    ensures best { regions.new.best ≡ regions.old.best }
+    ensures known { OnOk result
+        (Remembers reader.now.set.now reader.now.line.now regions.new.memory) }
+    ensures steps { pattern_is_linear
+        (unwrap_or (option_copied replaced.entry) entry.now.pattern.now.regex) ≡ true
+        → OnOk result (regions.new.steps.made ≤ regions.old.steps.made
+        + search_bound (unwrap_or (option_copied replaced.entry) entry.now.pattern.now.regex)
+        (length reader.now.line.now)) }
 {
-    match replaced {
-        Some(regex) => regex,
-        None => &pattern.regex,
+    let searched = &mut regions.searched;
+    if let Some(regex) = replaced {
+        return regex.match_at_counted(reader.line, place, searched, &mut regions.steps);
     }
+    let known = regions.memory.recall(origin);
+    let mut prospect = known;
+    let regex = &entry.pattern.regex;
+    let is_here = regex.match_at_known(
+        reader.line,
+        place,
+        &mut prospect,
+        searched,
+        &mut regions.steps,
+    )?;
+    if prospect.differs(&known) {
+        regions.memory.keep(origin, prospect);
+    }
+    Ok(is_here)
 }
 
 /// A copy of what stands in a pattern's place.
@@ -320,11 +358,14 @@ fn with_entry<'s>(
     reader: &LineReader<'_, '_>,
     entry: &Entry<'s, '_>,
     replaced: Option<&Regex>,
+    origin: Origin,
     place: usize,
     best: Best<'s>,
     lost: &mut bool,
     regions: &mut Regions,
 ) -> Result<Best<'s>, AllocError>
+    requires known { Remembers reader.now.set.now reader.now.line.now regions.old.memory }
+    requires origin { origin_pattern reader.now.set.now origin ≡ Some entry.now.pattern.now }
     requires order { reader.now.position.now.place ≤ place }
     requires text { unwrap_or (option_copied replaced) entry.now.pattern.now.regex
         ≡ searched_text dialect entry.now.pattern.now (option_copied entry.now.opening) }
@@ -337,13 +378,13 @@ fn with_entry<'s>(
     ensures best { (ms : List Live) → IsAhead reader.now lost.old place (member_of entry.now)
         → best.entry.candidate ≡ None → IsBestAt reader.now place ms best.entry
         → IfOk result (AddsMember reader.now place lost.new (member_of entry.now) ms) }
+    ensures known { OnOk result
+        (Remembers reader.now.set.now reader.now.line.now regions.new.memory) }
     ensures steps { (w : ℕ) → IsWithin (length reader.now.line.now) w (member_of entry.now)
         → OnOk result (regions.new.steps.made ≤ regions.old.steps.made + 2 * w) }
 {
     dialect_finds_in_text();
-    let regex = regex_of(entry.pattern, replaced);
-    let searched = &mut regions.searched;
-    if !regex.match_at_counted(reader.line, place, searched, &mut regions.steps)? {
+    if !is_here(reader, entry, replaced, origin, place, regions)? {
         return Ok(best);
     }
     if *lost {
@@ -382,6 +423,7 @@ fn with_pattern<'s>(
     lost: &mut bool,
     regions: &mut Regions,
 ) -> Result<Best<'s>, AllocError>
+    requires known { Remembers reader.now.set.now reader.now.line.now regions.old.memory }
     requires order { reader.now.position.now.place ≤ place }
     requires run { IsRun reader.now.set.now run.now }
     requires inside { index < length (list_in run.now.flats) }
@@ -394,6 +436,8 @@ fn with_pattern<'s>(
     ensures best { (ms : List Live) → AreAheadFrom reader.now lost.old place run.now index
         → best.entry.candidate ≡ None → IsBestAt reader.now place ms best.entry
         → IfOk result (AddsAt reader.now place lost.new run.now index ms) }
+    ensures known { OnOk result
+        (Remembers reader.now.set.now reader.now.line.now regions.new.memory) }
     ensures steps { (w : ℕ) → AreWithin (length reader.now.line.now) w
         (run_members reader.now.set.now run.now)
         → OnOk result (regions.new.steps.made ≤ regions.old.steps.made + 2 * w) }
@@ -408,7 +452,9 @@ fn with_pattern<'s>(
         from_with_prototype: run.part.from_with_prototype,
     };
     let replaced = replaced_at(run, index);
-    with_entry(reader, &entry, replaced, place, best, lost, regions)
+    with_entry(
+        reader, &entry, replaced, origin, place, best, lost, regions,
+    )
 }
 
 /// What is found with the patterns of a part more, none of whose matches that count begins before the place, of which this is
@@ -422,6 +468,7 @@ fn with_run<'s>(
     lost: &mut bool,
     regions: &mut Regions,
 ) -> Result<Best<'s>, AllocError>
+    requires known { Remembers reader.now.set.now reader.now.line.now regions.old.memory }
     requires order { reader.now.position.now.place ≤ place }
     requires here { outlook.here < 130 }
     requires behind { outlook.behind < 130 }
@@ -435,6 +482,8 @@ fn with_run<'s>(
     ensures best { (ms : List Live) → AreAhead reader.now lost.old place run.now
         → IsBestAt reader.now place ms best.entry
         → IfOk result (AddsRun reader.now place lost.new run.now ms) }
+    ensures known { OnOk result
+        (Remembers reader.now.set.now reader.now.line.now regions.new.memory) }
     ensures steps { (w : ℕ) → AreWithin (length reader.now.line.now) w
         (run_members reader.now.set.now run.now)
         → OnOk result (regions.new.steps.made ≤ regions.old.steps.made
@@ -460,6 +509,7 @@ fn best_at<'s>(
     lost: &mut bool,
     regions: &mut Regions,
 ) -> Result<Best<'s>, AllocError>
+    requires known { Remembers reader.now.set.now reader.now.line.now regions.old.memory }
     requires order { reader.now.position.now.place ≤ place }
     requires here { outlook.here < 130 }
     requires behind { outlook.behind < 130 }
@@ -470,6 +520,8 @@ fn best_at<'s>(
         AreGroupsBy reader.now b.candidate regions.new.best) }
     ensures best { AllAhead reader.now lost.old place runs.now
         → IfOk result (AddsAll reader.now place lost.new runs.now) }
+    ensures known { OnOk result
+        (Remembers reader.now.set.now reader.now.line.now regions.new.memory) }
     ensures steps { (w : ℕ) → AreWithin (length reader.now.line.now) w
         (flat_map (run_members reader.now.set.now) runs.now)
         → OnOk result (regions.new.steps.made ≤ regions.old.steps.made
@@ -493,10 +545,13 @@ pub fn best_of_chain<'s>(
     parts: &[Part<'_>],
     regions: &mut Regions,
 ) -> Result<Best<'s>, AllocError>
+    requires known { Remembers reader.now.set.now reader.now.line.now regions.old.memory }
     ensures groups { IfOk result (λ b. AreGroupsBy reader.now b.candidate regions.new.best) }
     ensures best { IfOk result (λ b. choice_by reader.now.line.now reader.now.position.now.place b
         ≡ winner reader.now.line.now reader.now.position.now
         (matches_of reader.now (flat_map (part_members reader.now.set.now) parts.now))) }
+    ensures known { OnOk result
+        (Remembers reader.now.set.now reader.now.line.now regions.new.memory) }
     ensures steps { (w : ℕ) → AreWithin (length reader.now.line.now) w
         (flat_map (part_members reader.now.set.now) parts.now)
         → OnOk result (regions.new.steps.made ≤ regions.old.steps.made

@@ -2,6 +2,7 @@ use Rattle.std.proofs.Common.{sym, ◌∙◌, subst}
 use Rattle.syntect_pattern.specs.Matches.{Groups}
 use Rattle.syntect_linear.specs.Walk.{Walks}
 use Rattle.syntect_linear.proofs.FindLaws.{covers-filled, found_at-between, found-none, found-some, whole-cost}
+use Rattle.syntect_linear.proofs.GroundLaws.{ground-of}
 use Rattle.syntect_linear.proofs.find.begins_here.Goals as goal
 
 pub returns-then-not-is_boundary-clause-finds : goal.returns-then-not-is_boundary-clause-finds
@@ -11,7 +12,7 @@ returns-then-not-is_boundary-clause-finds c = λ tree h.
 pub returns-then-not-leads-clause-finds : goal.returns-then-not-leads-clause-finds
 returns-then-not-leads-clause-finds c = λ tree h.
     let at = c.if-not-is_boundary.false in
-    found-none c.args.ground.now c.args.place (covers-filled c.args.ground.now c.args.begin c.args.place c.requires.covers c.requires.later (c.is_boundary.ensures.boundary at))
+    found-none c.args.ground.now c.args.place (ground-of c.args.ground.now c.args.place (covers-filled c.args.ground.now c.args.begin c.args.place c.requires.covers c.requires.later (c.is_boundary.ensures.boundary at)).ready)
     tree h (sym c.is_boundary.ensures.value ∙ at) (sym c.leads.ensures ∙ c.if-not-leads.true)
 
 pub returns-clause-finds : goal.returns-clause-finds

@@ -11,7 +11,7 @@ use Rattle.syntect_plan.specs.Onward.{end_if, has_turn, prefer_end}
 use Rattle.syntect_linear.specs.Rows.{row_end}
 use Rattle.syntect_linear.specs.Ground.{ends_at, height_of}
 use Rattle.syntect_linear.specs.Step.{IsTreeAt}
-use Rattle.syntect_linear.proofs.GroundLaws.{nothing-goes, anchor-goes, seq-goes, alt-goes, group-goes, ahead-goes, behind-goes, char-goes, atomic-goes, loop-goes, first-is, second-is, empty-is, next-is, item-is, tree-more, if-lower, known-set, or-chosen, or-second}
+use Rattle.syntect_linear.proofs.GroundLaws.{ground-of, nothing-goes, anchor-goes, seq-goes, alt-goes, group-goes, ahead-goes, behind-goes, char-goes, atomic-goes, loop-goes, first-is, second-is, empty-is, next-is, item-is, tree-more, if-lower, known-set, or-chosen, or-second}
 use Rattle.syntect_plan.proofs.CellLaws.{ends-end}
 use Rattle.syntect_linear.proofs.StepsLaws.{takes-one, takes-both, takes-keep, none-if}
 use Rattle.syntect_linear.proofs.reach.+reach.Goals as goal
@@ -24,7 +24,7 @@ reach_node-reach-requires-in-Sequence t c =
     let second = second-is _ _ c.parts_at-parts.result c.args.cell c.parts_at-parts.ensures c.as_slice-2.ensures in
     let empty = empty-is _ _ c.cell_at-at.result c.args.cell c.cell_at-at.ensures c.as_slice.ensures in
     let next = next-is _ _ c.cell_at-at.result c.args.cell c.cell_at-at.ensures c.as_slice.ensures in
-    let g = seq-goes x c.args.place c.args.cell c.requires.ready (get_or ts c.in-Sequence.field-0 nothing) (get_or ts c.in-Sequence.field-1 nothing) (tree-more x c.args.cell _ _ (ap (node_tree ts) c.in-Sequence.is) c.requires.node) c.parts_at-parts.result.first first in
+    let g = seq-goes x c.args.place c.args.cell (ground-of x c.args.place c.requires.ready) (get_or ts c.in-Sequence.field-0 nothing) (get_or ts c.in-Sequence.field-1 nothing) (tree-more x c.args.cell _ _ (ap (node_tree ts) c.in-Sequence.is) c.requires.node) c.parts_at-parts.result.first first in
     (omega (arith, c.decreases, g.1.lower), (c.requires.ready, (g.1.there, (c.requires.known, c.requires.long))))
 
 pub reach_node-returns-in-Sequence-clause-value : goal.reach_node-returns-in-Sequence-clause-value
@@ -35,7 +35,7 @@ reach_node-returns-in-Sequence-clause-value t c =
     let second = second-is _ _ c.parts_at-parts.result c.args.cell c.parts_at-parts.ensures c.as_slice-2.ensures in
     let empty = empty-is _ _ c.cell_at-at.result c.args.cell c.cell_at-at.ensures c.as_slice.ensures in
     let next = next-is _ _ c.cell_at-at.result c.args.cell c.cell_at-at.ensures c.as_slice.ensures in
-    let g = seq-goes x c.args.place c.args.cell c.requires.ready (get_or ts c.in-Sequence.field-0 nothing) (get_or ts c.in-Sequence.field-1 nothing) (tree-more x c.args.cell _ _ (ap (node_tree ts) c.in-Sequence.is) c.requires.node) c.parts_at-parts.result.first first in
+    let g = seq-goes x c.args.place c.args.cell (ground-of x c.args.place c.requires.ready) (get_or ts c.in-Sequence.field-0 nothing) (get_or ts c.in-Sequence.field-1 nothing) (tree-more x c.args.cell _ _ (ap (node_tree ts) c.in-Sequence.is) c.requires.node) c.parts_at-parts.result.first first in
     c.reach-in-Sequence.ensures.value ∙ sym g.0
 
 pub reach_node-reach-requires : goal.reach_node-reach-requires
@@ -46,7 +46,7 @@ reach_node-reach-requires t c =
     let second = second-is _ _ c.parts_at-parts.result c.args.cell c.parts_at-parts.ensures c.as_slice-2.ensures in
     let empty = empty-is _ _ c.cell_at-at.result c.args.cell c.cell_at-at.ensures c.as_slice.ensures in
     let next = next-is _ _ c.cell_at-at.result c.args.cell c.cell_at-at.ensures c.as_slice.ensures in
-    let g = nothing-goes x c.args.place c.args.cell c.requires.ready (tree-more x c.args.cell _ _ (ap (node_tree ts) c.in-Nothing.is) c.requires.node) c.cell_at-at.result.empty empty in
+    let g = nothing-goes x c.args.place c.args.cell (ground-of x c.args.place c.requires.ready) (tree-more x c.args.cell _ _ (ap (node_tree ts) c.in-Nothing.is) c.requires.node) c.cell_at-at.result.empty empty in
     (omega (arith, c.decreases, g.1.lower), (c.requires.ready, (g.1.there, (c.requires.known, c.requires.long))))
 
 pub reach_node-returns-in-Nothing-clause-value : goal.reach_node-returns-in-Nothing-clause-value
@@ -57,7 +57,7 @@ reach_node-returns-in-Nothing-clause-value t c =
     let second = second-is _ _ c.parts_at-parts.result c.args.cell c.parts_at-parts.ensures c.as_slice-2.ensures in
     let empty = empty-is _ _ c.cell_at-at.result c.args.cell c.cell_at-at.ensures c.as_slice.ensures in
     let next = next-is _ _ c.cell_at-at.result c.args.cell c.cell_at-at.ensures c.as_slice.ensures in
-    let g = nothing-goes x c.args.place c.args.cell c.requires.ready (tree-more x c.args.cell _ _ (ap (node_tree ts) c.in-Nothing.is) c.requires.node) c.cell_at-at.result.empty empty in
+    let g = nothing-goes x c.args.place c.args.cell (ground-of x c.args.place c.requires.ready) (tree-more x c.args.cell _ _ (ap (node_tree ts) c.in-Nothing.is) c.requires.node) c.cell_at-at.result.empty empty in
     c.reach.ensures.value ∙ sym g.0
 
 pub reach_node-reach-requires-in-Group : goal.reach_node-reach-requires-in-Group
@@ -68,7 +68,7 @@ reach_node-reach-requires-in-Group t c =
     let second = second-is _ _ c.parts_at-parts.result c.args.cell c.parts_at-parts.ensures c.as_slice-2.ensures in
     let empty = empty-is _ _ c.cell_at-at.result c.args.cell c.cell_at-at.ensures c.as_slice.ensures in
     let next = next-is _ _ c.cell_at-at.result c.args.cell c.cell_at-at.ensures c.as_slice.ensures in
-    let g = group-goes x c.args.place c.args.cell c.requires.ready c.in-Group.number (get_or ts c.in-Group.body nothing) (tree-more x c.args.cell _ _ (ap (node_tree ts) c.in-Group.is) c.requires.node) c.parts_at-parts.result.first first in
+    let g = group-goes x c.args.place c.args.cell (ground-of x c.args.place c.requires.ready) c.in-Group.number (get_or ts c.in-Group.body nothing) (tree-more x c.args.cell _ _ (ap (node_tree ts) c.in-Group.is) c.requires.node) c.parts_at-parts.result.first first in
     (omega (arith, c.decreases, g.1.lower), (c.requires.ready, (g.1.there, (c.requires.known, c.requires.long))))
 
 pub reach_node-returns-in-Group-clause-value : goal.reach_node-returns-in-Group-clause-value
@@ -79,7 +79,7 @@ reach_node-returns-in-Group-clause-value t c =
     let second = second-is _ _ c.parts_at-parts.result c.args.cell c.parts_at-parts.ensures c.as_slice-2.ensures in
     let empty = empty-is _ _ c.cell_at-at.result c.args.cell c.cell_at-at.ensures c.as_slice.ensures in
     let next = next-is _ _ c.cell_at-at.result c.args.cell c.cell_at-at.ensures c.as_slice.ensures in
-    let g = group-goes x c.args.place c.args.cell c.requires.ready c.in-Group.number (get_or ts c.in-Group.body nothing) (tree-more x c.args.cell _ _ (ap (node_tree ts) c.in-Group.is) c.requires.node) c.parts_at-parts.result.first first in
+    let g = group-goes x c.args.place c.args.cell (ground-of x c.args.place c.requires.ready) c.in-Group.number (get_or ts c.in-Group.body nothing) (tree-more x c.args.cell _ _ (ap (node_tree ts) c.in-Group.is) c.requires.node) c.parts_at-parts.result.first first in
     c.reach-in-Group.ensures.value ∙ sym g.0
 
 pub reach_node-reach-requires-in-Alternation : goal.reach_node-reach-requires-in-Alternation
@@ -90,7 +90,7 @@ reach_node-reach-requires-in-Alternation t c =
     let second = second-is _ _ c.parts_at-parts.result c.args.cell c.parts_at-parts.ensures c.as_slice-2.ensures in
     let empty = empty-is _ _ c.cell_at-at.result c.args.cell c.cell_at-at.ensures c.as_slice.ensures in
     let next = next-is _ _ c.cell_at-at.result c.args.cell c.cell_at-at.ensures c.as_slice.ensures in
-    let g = alt-goes x c.args.place c.args.cell c.requires.ready (get_or ts c.in-Alternation.field-0 nothing) (get_or ts c.in-Alternation.field-1 nothing) (tree-more x c.args.cell _ _ (ap (node_tree ts) c.in-Alternation.is) c.requires.node) c.parts_at-parts.result.first c.parts_at-parts.result.second first second in
+    let g = alt-goes x c.args.place c.args.cell (ground-of x c.args.place c.requires.ready) (get_or ts c.in-Alternation.field-0 nothing) (get_or ts c.in-Alternation.field-1 nothing) (tree-more x c.args.cell _ _ (ap (node_tree ts) c.in-Alternation.is) c.requires.node) c.parts_at-parts.result.first c.parts_at-parts.result.second first second in
     (omega (arith, c.decreases, g.1.lower), (c.requires.ready, (g.1.there, (c.requires.known, c.requires.long))))
 
 pub reach_node-reach-requires-in-Alternation-2 : goal.reach_node-reach-requires-in-Alternation-2
@@ -101,7 +101,7 @@ reach_node-reach-requires-in-Alternation-2 t c =
     let second = second-is _ _ c.parts_at-parts.result c.args.cell c.parts_at-parts.ensures c.as_slice-2.ensures in
     let empty = empty-is _ _ c.cell_at-at.result c.args.cell c.cell_at-at.ensures c.as_slice.ensures in
     let next = next-is _ _ c.cell_at-at.result c.args.cell c.cell_at-at.ensures c.as_slice.ensures in
-    let g = alt-goes x c.args.place c.args.cell c.requires.ready (get_or ts c.in-Alternation.field-0 nothing) (get_or ts c.in-Alternation.field-1 nothing) (tree-more x c.args.cell _ _ (ap (node_tree ts) c.in-Alternation.is) c.requires.node) c.parts_at-parts.result.first c.parts_at-parts.result.second first second in
+    let g = alt-goes x c.args.place c.args.cell (ground-of x c.args.place c.requires.ready) (get_or ts c.in-Alternation.field-0 nothing) (get_or ts c.in-Alternation.field-1 nothing) (tree-more x c.args.cell _ _ (ap (node_tree ts) c.in-Alternation.is) c.requires.node) c.parts_at-parts.result.first c.parts_at-parts.result.second first second in
     (omega (arith, c.decreases, g.2.lower), (c.requires.ready, (g.2.there, (c.reach-in-Alternation.ensures.known, c.reach-in-Alternation.ensures.steps.long ∙ c.requires.long))))
 
 pub reach_node-returns-in-Some-clause-value : goal.reach_node-returns-in-Some-clause-value
@@ -112,7 +112,7 @@ reach_node-returns-in-Some-clause-value t c =
     let second = second-is _ _ c.parts_at-parts.result c.args.cell c.parts_at-parts.ensures c.as_slice-2.ensures in
     let empty = empty-is _ _ c.cell_at-at.result c.args.cell c.cell_at-at.ensures c.as_slice.ensures in
     let next = next-is _ _ c.cell_at-at.result c.args.cell c.cell_at-at.ensures c.as_slice.ensures in
-    let g = alt-goes x c.args.place c.args.cell c.requires.ready (get_or ts c.in-Alternation.field-0 nothing) (get_or ts c.in-Alternation.field-1 nothing) (tree-more x c.args.cell _ _ (ap (node_tree ts) c.in-Alternation.is) c.requires.node) c.parts_at-parts.result.first c.parts_at-parts.result.second first second in
+    let g = alt-goes x c.args.place c.args.cell (ground-of x c.args.place c.requires.ready) (get_or ts c.in-Alternation.field-0 nothing) (get_or ts c.in-Alternation.field-1 nothing) (tree-more x c.args.cell _ _ (ap (node_tree ts) c.in-Alternation.is) c.requires.node) c.parts_at-parts.result.first c.parts_at-parts.result.second first second in
     or-chosen _ _ _ c.in-Some.ensures.value ∙ sym g.0
 
 pub reach_node-returns-in_default-clause-value : goal.reach_node-returns-in_default-clause-value
@@ -123,7 +123,7 @@ reach_node-returns-in_default-clause-value t c =
     let second = second-is _ _ c.parts_at-parts.result c.args.cell c.parts_at-parts.ensures c.as_slice-2.ensures in
     let empty = empty-is _ _ c.cell_at-at.result c.args.cell c.cell_at-at.ensures c.as_slice.ensures in
     let next = next-is _ _ c.cell_at-at.result c.args.cell c.cell_at-at.ensures c.as_slice.ensures in
-    let g = alt-goes x c.args.place c.args.cell c.requires.ready (get_or ts c.in-Alternation.field-0 nothing) (get_or ts c.in-Alternation.field-1 nothing) (tree-more x c.args.cell _ _ (ap (node_tree ts) c.in-Alternation.is) c.requires.node) c.parts_at-parts.result.first c.parts_at-parts.result.second first second in
+    let g = alt-goes x c.args.place c.args.cell (ground-of x c.args.place c.requires.ready) (get_or ts c.in-Alternation.field-0 nothing) (get_or ts c.in-Alternation.field-1 nothing) (tree-more x c.args.cell _ _ (ap (node_tree ts) c.in-Alternation.is) c.requires.node) c.parts_at-parts.result.first c.parts_at-parts.result.second first second in
     or-second c.reach-in-Alternation.result _ _ _ c.in_default.not-Some c.reach-in-Alternation.ensures.value c.reach-in-Alternation-2.ensures.value ∙ sym g.0
 
 pub reach_node-reach_if-requires : goal.reach_node-reach_if-requires
@@ -134,7 +134,7 @@ reach_node-reach_if-requires t c =
     let second = second-is _ _ c.parts_at-parts.result c.args.cell c.parts_at-parts.ensures c.as_slice-2.ensures in
     let empty = empty-is _ _ c.cell_at-at.result c.args.cell c.cell_at-at.ensures c.as_slice.ensures in
     let next = next-is _ _ c.cell_at-at.result c.args.cell c.cell_at-at.ensures c.as_slice.ensures in
-    let g = anchor-goes x c.args.place c.args.cell c.requires.ready (anchor_of c.in-Anchor.anchor) (tree-more x c.args.cell _ _ (ap (node_tree ts) c.in-Anchor.is) c.requires.node) c.cell_at-at.result.empty empty in
+    let g = anchor-goes x c.args.place c.args.cell (ground-of x c.args.place c.requires.ready) (anchor_of c.in-Anchor.anchor) (tree-more x c.args.cell _ _ (ap (node_tree ts) c.in-Anchor.is) c.requires.node) c.cell_at-at.result.empty empty in
     (if-lower c.stands-holds.result (6 * height_of x c.cell_at-at.result.empty + 5) t (omega (arith, c.decreases)) (λ z. omega (arith, c.decreases, g.1.lower)), (c.requires.ready, ((λ z. g.1.there), (c.requires.known, c.requires.long))))
 
 pub reach_node-returns-in-Anchor-clause-value : goal.reach_node-returns-in-Anchor-clause-value
@@ -145,7 +145,7 @@ reach_node-returns-in-Anchor-clause-value t c =
     let second = second-is _ _ c.parts_at-parts.result c.args.cell c.parts_at-parts.ensures c.as_slice-2.ensures in
     let empty = empty-is _ _ c.cell_at-at.result c.args.cell c.cell_at-at.ensures c.as_slice.ensures in
     let next = next-is _ _ c.cell_at-at.result c.args.cell c.cell_at-at.ensures c.as_slice.ensures in
-    let g = anchor-goes x c.args.place c.args.cell c.requires.ready (anchor_of c.in-Anchor.anchor) (tree-more x c.args.cell _ _ (ap (node_tree ts) c.in-Anchor.is) c.requires.node) c.cell_at-at.result.empty empty in
+    let g = anchor-goes x c.args.place c.args.cell (ground-of x c.args.place c.requires.ready) (anchor_of c.in-Anchor.anchor) (tree-more x c.args.cell _ _ (ap (node_tree ts) c.in-Anchor.is) c.requires.node) c.cell_at-at.result.empty empty in
     c.reach_if.ensures.value ∙ ap (λ (b : Bool). end_if b (ends_at x c.cell_at-at.result.empty c.args.place)) c.stands-holds.ensures ∙ sym g.0
 
 pub reach_node-reach-requires-in-Ahead : goal.reach_node-reach-requires-in-Ahead
@@ -156,7 +156,7 @@ reach_node-reach-requires-in-Ahead t c =
     let second = second-is _ _ c.parts_at-parts.result c.args.cell c.parts_at-parts.ensures c.as_slice-2.ensures in
     let empty = empty-is _ _ c.cell_at-at.result c.args.cell c.cell_at-at.ensures c.as_slice.ensures in
     let next = next-is _ _ c.cell_at-at.result c.args.cell c.cell_at-at.ensures c.as_slice.ensures in
-    let g = ahead-goes x c.args.place c.args.cell c.requires.ready c.in-Ahead.negated (get_or ts c.in-Ahead.body nothing) (tree-more x c.args.cell _ _ (ap (node_tree ts) c.in-Ahead.is) c.requires.node) c.parts_at-parts.result.first c.cell_at-at.result.empty first empty in
+    let g = ahead-goes x c.args.place c.args.cell (ground-of x c.args.place c.requires.ready) c.in-Ahead.negated (get_or ts c.in-Ahead.body nothing) (tree-more x c.args.cell _ _ (ap (node_tree ts) c.in-Ahead.is) c.requires.node) c.parts_at-parts.result.first c.cell_at-at.result.empty first empty in
     (omega (arith, c.decreases, g.1.lower), (c.requires.ready, (g.1.there, (c.requires.known, c.requires.long))))
 
 pub reach_node-reach_if-requires-in-Ahead : goal.reach_node-reach_if-requires-in-Ahead
@@ -167,7 +167,7 @@ reach_node-reach_if-requires-in-Ahead t c =
     let second = second-is _ _ c.parts_at-parts.result c.args.cell c.parts_at-parts.ensures c.as_slice-2.ensures in
     let empty = empty-is _ _ c.cell_at-at.result c.args.cell c.cell_at-at.ensures c.as_slice.ensures in
     let next = next-is _ _ c.cell_at-at.result c.args.cell c.cell_at-at.ensures c.as_slice.ensures in
-    let g = ahead-goes x c.args.place c.args.cell c.requires.ready c.in-Ahead.negated (get_or ts c.in-Ahead.body nothing) (tree-more x c.args.cell _ _ (ap (node_tree ts) c.in-Ahead.is) c.requires.node) c.parts_at-parts.result.first c.cell_at-at.result.empty first empty in
+    let g = ahead-goes x c.args.place c.args.cell (ground-of x c.args.place c.requires.ready) c.in-Ahead.negated (get_or ts c.in-Ahead.body nothing) (tree-more x c.args.cell _ _ (ap (node_tree ts) c.in-Ahead.is) c.requires.node) c.parts_at-parts.result.first c.cell_at-at.result.empty first empty in
     (if-lower c.looks.result (6 * height_of x c.cell_at-at.result.empty + 5) t (omega (arith, c.decreases)) (λ z. omega (arith, c.decreases, g.2.lower)), (c.requires.ready, ((λ z. g.2.there), (c.reach-in-Ahead.ensures.known, c.reach-in-Ahead.ensures.steps.long ∙ c.requires.long))))
 
 pub reach_node-returns-in-Ahead-clause-value : goal.reach_node-returns-in-Ahead-clause-value
@@ -178,7 +178,7 @@ reach_node-returns-in-Ahead-clause-value t c =
     let second = second-is _ _ c.parts_at-parts.result c.args.cell c.parts_at-parts.ensures c.as_slice-2.ensures in
     let empty = empty-is _ _ c.cell_at-at.result c.args.cell c.cell_at-at.ensures c.as_slice.ensures in
     let next = next-is _ _ c.cell_at-at.result c.args.cell c.cell_at-at.ensures c.as_slice.ensures in
-    let g = ahead-goes x c.args.place c.args.cell c.requires.ready c.in-Ahead.negated (get_or ts c.in-Ahead.body nothing) (tree-more x c.args.cell _ _ (ap (node_tree ts) c.in-Ahead.is) c.requires.node) c.parts_at-parts.result.first c.cell_at-at.result.empty first empty in
+    let g = ahead-goes x c.args.place c.args.cell (ground-of x c.args.place c.requires.ready) c.in-Ahead.negated (get_or ts c.in-Ahead.body nothing) (tree-more x c.args.cell _ _ (ap (node_tree ts) c.in-Ahead.is) c.requires.node) c.parts_at-parts.result.first c.cell_at-at.result.empty first empty in
     let found : c.is_some-found.result ≡ is_some (ends_at x c.parts_at-parts.result.first c.args.place) = c.is_some-found.ensures ∙ ap is_some c.reach-in-Ahead.ensures.value in
     c.reach_if-in-Ahead.ensures.value
     ∙ ap (λ (b : Bool). end_if b (ends_at x c.cell_at-at.result.empty c.args.place)) (c.looks.ensures ∙ ap (λ (b : Bool). if c.in-Ahead.negated then not b else b) found)
@@ -192,7 +192,7 @@ reach_node-reach_if-requires-in-Behind t c =
     let second = second-is _ _ c.parts_at-parts.result c.args.cell c.parts_at-parts.ensures c.as_slice-2.ensures in
     let empty = empty-is _ _ c.cell_at-at.result c.args.cell c.cell_at-at.ensures c.as_slice.ensures in
     let next = next-is _ _ c.cell_at-at.result c.args.cell c.cell_at-at.ensures c.as_slice.ensures in
-    let g = behind-goes x c.args.place c.args.cell c.requires.ready c.in-Behind.negated (get_or ts c.in-Behind.body nothing) (tree-more x c.args.cell _ _ (ap (node_tree ts) c.in-Behind.is) c.requires.node) c.parts_at-parts.result.first c.cell_at-at.result.empty c.flag_at-found.result first empty c.flag_at-found.ensures in
+    let g = behind-goes x c.args.place c.args.cell (ground-of x c.args.place c.requires.ready) c.in-Behind.negated (get_or ts c.in-Behind.body nothing) (tree-more x c.args.cell _ _ (ap (node_tree ts) c.in-Behind.is) c.requires.node) c.parts_at-parts.result.first c.cell_at-at.result.empty c.flag_at-found.result first empty c.flag_at-found.ensures in
     (if-lower c.looks-in-Behind.result (6 * height_of x c.cell_at-at.result.empty + 5) t (omega (arith, c.decreases)) (λ z. omega (arith, c.decreases, g.1.lower)), (c.requires.ready, ((λ z. g.1.there), (c.requires.known, c.requires.long))))
 
 pub reach_node-returns-in-Behind-clause-value : goal.reach_node-returns-in-Behind-clause-value
@@ -203,7 +203,7 @@ reach_node-returns-in-Behind-clause-value t c =
     let second = second-is _ _ c.parts_at-parts.result c.args.cell c.parts_at-parts.ensures c.as_slice-2.ensures in
     let empty = empty-is _ _ c.cell_at-at.result c.args.cell c.cell_at-at.ensures c.as_slice.ensures in
     let next = next-is _ _ c.cell_at-at.result c.args.cell c.cell_at-at.ensures c.as_slice.ensures in
-    let g = behind-goes x c.args.place c.args.cell c.requires.ready c.in-Behind.negated (get_or ts c.in-Behind.body nothing) (tree-more x c.args.cell _ _ (ap (node_tree ts) c.in-Behind.is) c.requires.node) c.parts_at-parts.result.first c.cell_at-at.result.empty c.flag_at-found.result first empty c.flag_at-found.ensures in
+    let g = behind-goes x c.args.place c.args.cell (ground-of x c.args.place c.requires.ready) c.in-Behind.negated (get_or ts c.in-Behind.body nothing) (tree-more x c.args.cell _ _ (ap (node_tree ts) c.in-Behind.is) c.requires.node) c.parts_at-parts.result.first c.cell_at-at.result.empty c.flag_at-found.result first empty c.flag_at-found.ensures in
     c.reach_if-in-Behind.ensures.value
     ∙ ap (λ (b : Bool). end_if b (ends_at x c.cell_at-at.result.empty c.args.place)) c.looks-in-Behind.ensures
     ∙ sym g.0
@@ -294,7 +294,7 @@ reach_loop-reach_if-turn-requires t c =
     let second = second-is _ _ c.parts_at-parts.result c.args.cell c.parts_at-parts.ensures c.as_slice-2.ensures in
     let empty = empty-is _ _ c.cell_at-at.result c.args.cell c.cell_at-at.ensures c.as_slice.ensures in
     let next = next-is _ _ c.cell_at-at.result c.args.cell c.cell_at-at.ensures c.as_slice.ensures in
-    let g = loop-goes x c.args.place c.args.cell c.requires.ready c.args.greedy c.args.least c.args.most c.requires.turns.body c.requires.turns.at c.parts_at-parts.result.first c.cell_at-at.result.empty first empty in
+    let g = loop-goes x c.args.place c.args.cell (ground-of x c.args.place c.requires.ready) c.args.greedy c.args.least c.args.most c.requires.turns.body c.requires.turns.at c.parts_at-parts.result.first c.cell_at-at.result.empty first empty in
     (if-lower c.may_turn.result (6 * height_of x c.parts_at-parts.result.first + 5) t (omega (arith, c.decreases)) (λ z. let l = g.1 (sym c.may_turn.ensures ∙ z) in omega (arith, c.decreases, l.lower)), (c.requires.ready, ((λ z. (g.1 (sym c.may_turn.ensures ∙ z)).there), (c.requires.known, c.requires.long))))
 
 pub reach_loop-reach_if-leave-requires : goal.reach_loop-reach_if-leave-requires
@@ -305,7 +305,7 @@ reach_loop-reach_if-leave-requires t c =
     let second = second-is _ _ c.parts_at-parts.result c.args.cell c.parts_at-parts.ensures c.as_slice-2.ensures in
     let empty = empty-is _ _ c.cell_at-at.result c.args.cell c.cell_at-at.ensures c.as_slice.ensures in
     let next = next-is _ _ c.cell_at-at.result c.args.cell c.cell_at-at.ensures c.as_slice.ensures in
-    let g = loop-goes x c.args.place c.args.cell c.requires.ready c.args.greedy c.args.least c.args.most c.requires.turns.body c.requires.turns.at c.parts_at-parts.result.first c.cell_at-at.result.empty first empty in
+    let g = loop-goes x c.args.place c.args.cell (ground-of x c.args.place c.requires.ready) c.args.greedy c.args.least c.args.most c.requires.turns.body c.requires.turns.at c.parts_at-parts.result.first c.cell_at-at.result.empty first empty in
     (if-lower (c.args.least == 0) (6 * height_of x c.cell_at-at.result.empty + 5) t (omega (arith, c.decreases)) (λ z. let l = g.2 z in omega (arith, c.decreases, l.lower)), (c.requires.ready, ((λ z. (g.2 z).there), (c.reach_if-turn.ensures.known, (c.reach_if-turn.ensures.steps (height_of x c.args.cell) (λ z. (g.1 (sym c.may_turn.ensures ∙ z)).lower)).long ∙ c.requires.long))))
 
 pub reach_loop-returns-clause-value : goal.reach_loop-returns-clause-value
@@ -316,7 +316,7 @@ reach_loop-returns-clause-value t c =
     let second = second-is _ _ c.parts_at-parts.result c.args.cell c.parts_at-parts.ensures c.as_slice-2.ensures in
     let empty = empty-is _ _ c.cell_at-at.result c.args.cell c.cell_at-at.ensures c.as_slice.ensures in
     let next = next-is _ _ c.cell_at-at.result c.args.cell c.cell_at-at.ensures c.as_slice.ensures in
-    let g = loop-goes x c.args.place c.args.cell c.requires.ready c.args.greedy c.args.least c.args.most c.requires.turns.body c.requires.turns.at c.parts_at-parts.result.first c.cell_at-at.result.empty first empty in
+    let g = loop-goes x c.args.place c.args.cell (ground-of x c.args.place c.requires.ready) c.args.greedy c.args.least c.args.most c.requires.turns.body c.requires.turns.at c.parts_at-parts.result.first c.cell_at-at.result.empty first empty in
     c.prefer.ensures
     ∙ ap (λ (o : Option ℕ). prefer_end c.args.greedy o c.reach_if-leave.result)
     (c.reach_if-turn.ensures.value ∙ ap (λ (b : Bool). end_if b (ends_at x c.parts_at-parts.result.first c.args.place)) c.may_turn.ensures)
@@ -334,7 +334,7 @@ reach_item-reach-requires t c =
       real = ap is_end (sym item ∙ c.in-Node.is);
       tree = ap (item_tree ts) (sym item ∙ c.in-Node.is) ∙ c.in-None.ensures.is;
     } in
-    let g = nothing-goes x c.args.place c.args.cell c.requires.ready at c.cell_at-at.result.empty empty in
+    let g = nothing-goes x c.args.place c.args.cell (ground-of x c.args.place c.requires.ready) at c.cell_at-at.result.empty empty in
     (omega (arith, c.decreases, g.1.lower), (c.requires.ready, (g.1.there, (c.requires.known, c.requires.long))))
 
 pub reach_item-returns-in-None-clause-value : goal.reach_item-returns-in-None-clause-value
@@ -348,7 +348,7 @@ reach_item-returns-in-None-clause-value t c =
       real = ap is_end (sym item ∙ c.in-Node.is);
       tree = ap (item_tree ts) (sym item ∙ c.in-Node.is) ∙ c.in-None.ensures.is;
     } in
-    let g = nothing-goes x c.args.place c.args.cell c.requires.ready at c.cell_at-at.result.empty empty in
+    let g = nothing-goes x c.args.place c.args.cell (ground-of x c.args.place c.requires.ready) at c.cell_at-at.result.empty empty in
     c.reach.ensures.value ∙ sym g.0
 
 pub reach_item-returns-in-End-clause-value : goal.reach_item-returns-in-End-clause-value
@@ -373,7 +373,7 @@ reach_node-returns-in-Sequence-clause-steps t c =
     let second = second-is _ _ c.parts_at-parts.result c.args.cell c.parts_at-parts.ensures c.as_slice-2.ensures in
     let empty = empty-is _ _ c.cell_at-at.result c.args.cell c.cell_at-at.ensures c.as_slice.ensures in
     let next = next-is _ _ c.cell_at-at.result c.args.cell c.cell_at-at.ensures c.as_slice.ensures in
-    let g = seq-goes x c.args.place c.args.cell c.requires.ready (get_or ts c.in-Sequence.field-0 nothing) (get_or ts c.in-Sequence.field-1 nothing) (tree-more x c.args.cell _ _ (ap (node_tree ts) c.in-Sequence.is) c.requires.node) c.parts_at-parts.result.first first in
+    let g = seq-goes x c.args.place c.args.cell (ground-of x c.args.place c.requires.ready) (get_or ts c.in-Sequence.field-0 nothing) (get_or ts c.in-Sequence.field-1 nothing) (tree-more x c.args.cell _ _ (ap (node_tree ts) c.in-Sequence.is) c.requires.node) c.parts_at-parts.result.first first in
     takes-one x (suc (height_of x c.parts_at-parts.result.first)) (height_of x c.args.cell) c.args.now.now.items c.reach-in-Sequence.new.now.items c.args.count.now.made c.reach-in-Sequence.new.count.made 1 2 c.reach-in-Sequence.ensures.steps (omega (arith, g.1.lower)) (omega arith)
 
 pub reach_node-returns-in-Nothing-clause-steps : goal.reach_node-returns-in-Nothing-clause-steps
@@ -384,7 +384,7 @@ reach_node-returns-in-Nothing-clause-steps t c =
     let second = second-is _ _ c.parts_at-parts.result c.args.cell c.parts_at-parts.ensures c.as_slice-2.ensures in
     let empty = empty-is _ _ c.cell_at-at.result c.args.cell c.cell_at-at.ensures c.as_slice.ensures in
     let next = next-is _ _ c.cell_at-at.result c.args.cell c.cell_at-at.ensures c.as_slice.ensures in
-    let g = nothing-goes x c.args.place c.args.cell c.requires.ready (tree-more x c.args.cell _ _ (ap (node_tree ts) c.in-Nothing.is) c.requires.node) c.cell_at-at.result.empty empty in
+    let g = nothing-goes x c.args.place c.args.cell (ground-of x c.args.place c.requires.ready) (tree-more x c.args.cell _ _ (ap (node_tree ts) c.in-Nothing.is) c.requires.node) c.cell_at-at.result.empty empty in
     takes-one x (suc (height_of x c.cell_at-at.result.empty)) (height_of x c.args.cell) c.args.now.now.items c.reach.new.now.items c.args.count.now.made c.reach.new.count.made 1 2 c.reach.ensures.steps (omega (arith, g.1.lower)) (omega arith)
 
 pub reach_node-returns-in-Group-clause-steps : goal.reach_node-returns-in-Group-clause-steps
@@ -395,7 +395,7 @@ reach_node-returns-in-Group-clause-steps t c =
     let second = second-is _ _ c.parts_at-parts.result c.args.cell c.parts_at-parts.ensures c.as_slice-2.ensures in
     let empty = empty-is _ _ c.cell_at-at.result c.args.cell c.cell_at-at.ensures c.as_slice.ensures in
     let next = next-is _ _ c.cell_at-at.result c.args.cell c.cell_at-at.ensures c.as_slice.ensures in
-    let g = group-goes x c.args.place c.args.cell c.requires.ready c.in-Group.number (get_or ts c.in-Group.body nothing) (tree-more x c.args.cell _ _ (ap (node_tree ts) c.in-Group.is) c.requires.node) c.parts_at-parts.result.first first in
+    let g = group-goes x c.args.place c.args.cell (ground-of x c.args.place c.requires.ready) c.in-Group.number (get_or ts c.in-Group.body nothing) (tree-more x c.args.cell _ _ (ap (node_tree ts) c.in-Group.is) c.requires.node) c.parts_at-parts.result.first first in
     takes-one x (suc (height_of x c.parts_at-parts.result.first)) (height_of x c.args.cell) c.args.now.now.items c.reach-in-Group.new.now.items c.args.count.now.made c.reach-in-Group.new.count.made 1 2 c.reach-in-Group.ensures.steps (omega (arith, g.1.lower)) (omega arith)
 
 pub reach_node-returns-in-Some-clause-steps : goal.reach_node-returns-in-Some-clause-steps
@@ -406,7 +406,7 @@ reach_node-returns-in-Some-clause-steps t c =
     let second = second-is _ _ c.parts_at-parts.result c.args.cell c.parts_at-parts.ensures c.as_slice-2.ensures in
     let empty = empty-is _ _ c.cell_at-at.result c.args.cell c.cell_at-at.ensures c.as_slice.ensures in
     let next = next-is _ _ c.cell_at-at.result c.args.cell c.cell_at-at.ensures c.as_slice.ensures in
-    let g = alt-goes x c.args.place c.args.cell c.requires.ready (get_or ts c.in-Alternation.field-0 nothing) (get_or ts c.in-Alternation.field-1 nothing) (tree-more x c.args.cell _ _ (ap (node_tree ts) c.in-Alternation.is) c.requires.node) c.parts_at-parts.result.first c.parts_at-parts.result.second first second in
+    let g = alt-goes x c.args.place c.args.cell (ground-of x c.args.place c.requires.ready) (get_or ts c.in-Alternation.field-0 nothing) (get_or ts c.in-Alternation.field-1 nothing) (tree-more x c.args.cell _ _ (ap (node_tree ts) c.in-Alternation.is) c.requires.node) c.parts_at-parts.result.first c.parts_at-parts.result.second first second in
     takes-one x (suc (height_of x c.parts_at-parts.result.first)) (height_of x c.args.cell) c.args.now.now.items c.reach-in-Alternation.new.now.items c.args.count.now.made c.reach-in-Alternation.new.count.made 1 2 c.reach-in-Alternation.ensures.steps (omega (arith, g.1.lower)) (omega arith)
 
 pub reach_node-returns-in_default-clause-steps : goal.reach_node-returns-in_default-clause-steps
@@ -417,7 +417,7 @@ reach_node-returns-in_default-clause-steps t c =
     let second = second-is _ _ c.parts_at-parts.result c.args.cell c.parts_at-parts.ensures c.as_slice-2.ensures in
     let empty = empty-is _ _ c.cell_at-at.result c.args.cell c.cell_at-at.ensures c.as_slice.ensures in
     let next = next-is _ _ c.cell_at-at.result c.args.cell c.cell_at-at.ensures c.as_slice.ensures in
-    let g = alt-goes x c.args.place c.args.cell c.requires.ready (get_or ts c.in-Alternation.field-0 nothing) (get_or ts c.in-Alternation.field-1 nothing) (tree-more x c.args.cell _ _ (ap (node_tree ts) c.in-Alternation.is) c.requires.node) c.parts_at-parts.result.first c.parts_at-parts.result.second first second in
+    let g = alt-goes x c.args.place c.args.cell (ground-of x c.args.place c.requires.ready) (get_or ts c.in-Alternation.field-0 nothing) (get_or ts c.in-Alternation.field-1 nothing) (tree-more x c.args.cell _ _ (ap (node_tree ts) c.in-Alternation.is) c.requires.node) c.parts_at-parts.result.first c.parts_at-parts.result.second first second in
     takes-both x (suc (height_of x c.parts_at-parts.result.first)) (suc (height_of x c.parts_at-parts.result.second)) (height_of x c.args.cell) c.args.now.now.items c.reach-in-Alternation.new.now.items c.reach-in-Alternation-2.new.now.items c.args.count.now.made c.reach-in-Alternation.new.count.made c.reach-in-Alternation-2.new.count.made c.reach-in-Alternation.ensures.steps c.reach-in-Alternation-2.ensures.steps (omega (arith, g.1.lower)) (omega (arith, g.2.lower))
 
 pub reach_node-returns-in-Anchor-clause-steps : goal.reach_node-returns-in-Anchor-clause-steps
@@ -428,7 +428,7 @@ reach_node-returns-in-Anchor-clause-steps t c =
     let second = second-is _ _ c.parts_at-parts.result c.args.cell c.parts_at-parts.ensures c.as_slice-2.ensures in
     let empty = empty-is _ _ c.cell_at-at.result c.args.cell c.cell_at-at.ensures c.as_slice.ensures in
     let next = next-is _ _ c.cell_at-at.result c.args.cell c.cell_at-at.ensures c.as_slice.ensures in
-    let g = anchor-goes x c.args.place c.args.cell c.requires.ready (anchor_of c.in-Anchor.anchor) (tree-more x c.args.cell _ _ (ap (node_tree ts) c.in-Anchor.is) c.requires.node) c.cell_at-at.result.empty empty in
+    let g = anchor-goes x c.args.place c.args.cell (ground-of x c.args.place c.requires.ready) (anchor_of c.in-Anchor.anchor) (tree-more x c.args.cell _ _ (ap (node_tree ts) c.in-Anchor.is) c.requires.node) c.cell_at-at.result.empty empty in
     takes-one x (height_of x c.args.cell) (height_of x c.args.cell) c.args.now.now.items c.reach_if.new.now.items c.args.count.now.made c.reach_if.new.count.made 1 2 (c.reach_if.ensures.steps (height_of x c.args.cell) (λ z. g.1.lower)) (omega arith) (omega arith)
 
 pub reach_node-returns-in-Behind-clause-steps : goal.reach_node-returns-in-Behind-clause-steps
@@ -439,7 +439,7 @@ reach_node-returns-in-Behind-clause-steps t c =
     let second = second-is _ _ c.parts_at-parts.result c.args.cell c.parts_at-parts.ensures c.as_slice-2.ensures in
     let empty = empty-is _ _ c.cell_at-at.result c.args.cell c.cell_at-at.ensures c.as_slice.ensures in
     let next = next-is _ _ c.cell_at-at.result c.args.cell c.cell_at-at.ensures c.as_slice.ensures in
-    let g = behind-goes x c.args.place c.args.cell c.requires.ready c.in-Behind.negated (get_or ts c.in-Behind.body nothing) (tree-more x c.args.cell _ _ (ap (node_tree ts) c.in-Behind.is) c.requires.node) c.parts_at-parts.result.first c.cell_at-at.result.empty c.flag_at-found.result first empty c.flag_at-found.ensures in
+    let g = behind-goes x c.args.place c.args.cell (ground-of x c.args.place c.requires.ready) c.in-Behind.negated (get_or ts c.in-Behind.body nothing) (tree-more x c.args.cell _ _ (ap (node_tree ts) c.in-Behind.is) c.requires.node) c.parts_at-parts.result.first c.cell_at-at.result.empty c.flag_at-found.result first empty c.flag_at-found.ensures in
     takes-one x (height_of x c.args.cell) (height_of x c.args.cell) c.args.now.now.items c.reach_if-in-Behind.new.now.items c.args.count.now.made c.reach_if-in-Behind.new.count.made 1 2 (c.reach_if-in-Behind.ensures.steps (height_of x c.args.cell) (λ z. g.1.lower)) (omega arith) (omega arith)
 
 pub reach_node-returns-in-Ahead-clause-steps : goal.reach_node-returns-in-Ahead-clause-steps
@@ -450,7 +450,7 @@ reach_node-returns-in-Ahead-clause-steps t c =
     let second = second-is _ _ c.parts_at-parts.result c.args.cell c.parts_at-parts.ensures c.as_slice-2.ensures in
     let empty = empty-is _ _ c.cell_at-at.result c.args.cell c.cell_at-at.ensures c.as_slice.ensures in
     let next = next-is _ _ c.cell_at-at.result c.args.cell c.cell_at-at.ensures c.as_slice.ensures in
-    let g = ahead-goes x c.args.place c.args.cell c.requires.ready c.in-Ahead.negated (get_or ts c.in-Ahead.body nothing) (tree-more x c.args.cell _ _ (ap (node_tree ts) c.in-Ahead.is) c.requires.node) c.parts_at-parts.result.first c.cell_at-at.result.empty first empty in
+    let g = ahead-goes x c.args.place c.args.cell (ground-of x c.args.place c.requires.ready) c.in-Ahead.negated (get_or ts c.in-Ahead.body nothing) (tree-more x c.args.cell _ _ (ap (node_tree ts) c.in-Ahead.is) c.requires.node) c.parts_at-parts.result.first c.cell_at-at.result.empty first empty in
     let found : c.is_some-found.result ≡ is_some (ends_at x c.parts_at-parts.result.first c.args.place) = c.is_some-found.ensures ∙ ap is_some c.reach-in-Ahead.ensures.value in
     takes-both x (suc (height_of x c.parts_at-parts.result.first)) (height_of x c.args.cell) (height_of x c.args.cell) c.args.now.now.items c.reach-in-Ahead.new.now.items c.reach_if-in-Ahead.new.now.items c.args.count.now.made c.reach-in-Ahead.new.count.made c.reach_if-in-Ahead.new.count.made c.reach-in-Ahead.ensures.steps (c.reach_if-in-Ahead.ensures.steps (height_of x c.args.cell) (λ z. g.2.lower)) (omega (arith, g.1.lower)) (omega arith)
 
@@ -496,7 +496,7 @@ reach_loop-returns-clause-steps t c =
     let second = second-is _ _ c.parts_at-parts.result c.args.cell c.parts_at-parts.ensures c.as_slice-2.ensures in
     let empty = empty-is _ _ c.cell_at-at.result c.args.cell c.cell_at-at.ensures c.as_slice.ensures in
     let next = next-is _ _ c.cell_at-at.result c.args.cell c.cell_at-at.ensures c.as_slice.ensures in
-    let g = loop-goes x c.args.place c.args.cell c.requires.ready c.args.greedy c.args.least c.args.most c.requires.turns.body c.requires.turns.at c.parts_at-parts.result.first c.cell_at-at.result.empty first empty in
+    let g = loop-goes x c.args.place c.args.cell (ground-of x c.args.place c.requires.ready) c.args.greedy c.args.least c.args.most c.requires.turns.body c.requires.turns.at c.parts_at-parts.result.first c.cell_at-at.result.empty first empty in
     takes-both x (height_of x c.args.cell) (height_of x c.args.cell) (height_of x c.args.cell) c.args.now.now.items c.reach_if-turn.new.now.items c.reach_if-leave.new.now.items c.args.count.now.made c.reach_if-turn.new.count.made c.reach_if-leave.new.count.made (c.reach_if-turn.ensures.steps (height_of x c.args.cell) (λ z. (g.1 (sym c.may_turn.ensures ∙ z)).lower)) (c.reach_if-leave.ensures.steps (height_of x c.args.cell) (λ z. (g.2 z).lower)) (omega arith) (omega arith)
 
 pub reach_item-returns-in-None-clause-steps : goal.reach_item-returns-in-None-clause-steps
@@ -510,7 +510,7 @@ reach_item-returns-in-None-clause-steps t c =
       real = ap is_end (sym item ∙ c.in-Node.is);
       tree = ap (item_tree ts) (sym item ∙ c.in-Node.is) ∙ c.in-None.ensures.is;
     } in
-    let g = nothing-goes x c.args.place c.args.cell c.requires.ready at c.cell_at-at.result.empty empty in
+    let g = nothing-goes x c.args.place c.args.cell (ground-of x c.args.place c.requires.ready) at c.cell_at-at.result.empty empty in
     takes-one x (suc (height_of x c.cell_at-at.result.empty)) (height_of x c.args.cell) c.args.now.now.items c.reach.new.now.items c.args.count.now.made c.reach.new.count.made 1 2 c.reach.ensures.steps (omega (arith, g.1.lower)) (omega arith)
 
 pub reach-returns-clause-steps : goal.reach-returns-clause-steps

@@ -10,6 +10,7 @@ use Rattle.syntect_parsing.proofs.parser.read_line.Goals as goal
 
 pub loop-e-init : goal.loop-e-init
 loop-e-init c = record {
+  known = c.begin_line.ensures c.args.set.now c.args.line.now;
   read = rw (c.in-Ok-at_start.ensures, c.in-Ok.ensures) (so_far-start c.args.set.now c.args.line.now c.args.state.now c.args.count.now.made c.utf8.line);
   steps = rw c.in-Ok-at_start.ensures (steps-start c.args.set.now c.args.line.now c.args.state.now _ c.args.regions.now.steps.made);
 }
@@ -27,6 +28,7 @@ pub loop-e-preserved : goal.loop-e-preserved
 loop-e-preserved c =
     let t = rw c.in-Ok-true.field-0-test at c.in-Ok-true.ensures.turns in
     record {
+      known = c.in-Ok-true.ensures.known;
       read = so_far-more c.loop-e.invariant.read t
           (goes_falls dialect c.args.line.now (finds_in_order dialect c.dialect_finds_in_text.ensures c.args.line.now c.utf8.line) c.args.set.now c.loop-e.p c.turn.new.p t.bytes
           c.loop-e.invariant.read.within c.loop-e.invariant.read.few t.goes) c.turn.new.count.made c.turn.ensures.counted _ (search rules);

@@ -1,4 +1,5 @@
 use Rattle.std.proofs.Common.{◌-◌}
+use Rattle.syntect_winner.specs.Memory.{Remembers}
 use Rattle.syntect_parsing.specs.Step.{turns_left}
 use Rattle.syntect_parsing.proofs.Runs.{ReadSoFar}
 use Rattle.syntect_parsing.proofs.WorkLaws.{StepsSoFar}
@@ -6,6 +7,7 @@ use Rattle.syntect_parsing.proofs.parser.read_line.Given as goal
 
 abbrev pub invariant-loop-e : goal.invariant-loop-e
 invariant-loop-e l = record {
+  known : Remembers l.set l.line l.regions.memory;
   read : ReadSoFar l.set l.line l.state l.p l.ops.items l.fn.count.made l.count.made l.turns;
   steps : StepsSoFar l.set l.line l.state l.p (l.count.made - l.fn.count.made) l.fn.regions.steps.made l.regions.steps.made;
 }

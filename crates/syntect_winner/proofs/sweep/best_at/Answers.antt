@@ -11,6 +11,7 @@ with_run-requires-clause-run c = subst (λ r. IsRun c.args.reader.now.set.now r)
 
 pub loop-run-preserved : goal.loop-run-preserved
 loop-run-preserved c = record {
+  known = c.in_ok-best.ensures.known;
   lost = λ h. c.in_ok-best.ensures.lost (c.loop-run.invariant.lost h);
   groups = λ a.
       c.in_ok-best.ensures.groups

@@ -8,6 +8,7 @@ use Rattle.syntect_winner.proofs.sweep.best_of_chain.Goals as goal
 
 pub places-init : goal.places-init
 places-init c = record {
+  known = c.requires.known;
   near = omega arith;
   within = c.args.reader.now.boundary.0;
   ahead = all_first c.args.reader.now false c.in_ok-runs.runs.items;
@@ -39,6 +40,7 @@ returns-then-next-reader-clause-best c =
 
 pub places-preserved-else-next-reader : goal.places-preserved-else-next-reader
 places-preserved-else-next-reader c = record {
+  known = c.in_ok-found.ensures.known;
   near = omega (arith, c.places.invariant.near, c.next_place-next.ensures.later);
   within = omega (arith, c.if-next-reader.false);
   ahead = rw c.as_slice-in-places.ensures.value at (c.in_ok-found.ensures.best (rw c.as_slice-in-places.ensures.value (c.next_place-next.ensures.ahead c.places.lost c.in_ok-runs.runs.items (rw c.as_slice.ensures.value at c.begins_of-begins.ensures) c.in_ok-runs.ensures.runs c.places.invariant.ahead))).ahead c.if-found.false;
@@ -52,6 +54,7 @@ places-preserved-else-next-reader c = record {
 
 pub places-preserved-else-next-reader-2 : goal.places-preserved-else-next-reader-2
 places-preserved-else-next-reader-2 c = record {
+  known = c.in_ok-found.ensures.known;
   near = omega (arith, c.places.invariant.near, c.next_place-next.ensures.later);
   within = omega (arith, c.if-next-reader.false);
   ahead = rw c.as_slice-in-places.ensures.value at (c.in_ok-found.ensures.best (rw c.as_slice-in-places.ensures.value (c.next_place-next.ensures.ahead c.places.lost c.in_ok-runs.runs.items (rw c.as_slice.ensures.value at c.begins_of-begins.ensures) c.in_ok-runs.ensures.runs c.places.invariant.ahead))).ahead c.if-found.false;
@@ -65,6 +68,7 @@ places-preserved-else-next-reader-2 c = record {
 
 pub places-preserved : goal.places-preserved
 places-preserved c = record {
+  known = c.in_ok-found.ensures.known;
   near = omega (arith, c.places.invariant.near, c.next_place-next.ensures.later);
   within = omega (arith, c.if-next-reader.false);
   ahead = rw c.as_slice-in-places.ensures.value at (c.in_ok-found.ensures.best (rw c.as_slice-in-places.ensures.value (c.next_place-next.ensures.ahead c.places.lost c.in_ok-runs.runs.items (rw c.as_slice.ensures.value at c.begins_of-begins.ensures) c.in_ok-runs.ensures.runs c.places.invariant.ahead))).ahead c.if-found.false;

@@ -1,12 +1,14 @@
 use Rattle.std.proofs.Common.{ℕ, ◌+◌, ◌*◌, ◌≤◌, ◌-◌, length}
 use Rattle.std.specs.List.{flat_map}
 use Rattle.syntect_winner.specs.Ahead.{AllAhead, Reaches}
+use Rattle.syntect_winner.specs.Memory.{Remembers}
 use Rattle.syntect_winner.specs.Parts.{part_members}
 use Rattle.syntect_winner.specs.Steps.{AreWithin, place_steps, turn_steps}
 use Rattle.syntect_winner.proofs.sweep.best_of_chain.Given as goal
 
 abbrev pub invariant-places : goal.invariant-places
 invariant-places l = record {
+  known : Remembers l.reader.set.now l.reader.line.now l.regions.memory;
   near : l.reader.position.now.place ≤ l.place;
   within : l.place ≤ length l.reader.line.now;
   ahead : AllAhead l.reader l.lost l.place l.runs.items;

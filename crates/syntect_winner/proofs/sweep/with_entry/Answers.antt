@@ -1,4 +1,5 @@
 use Rattle.std.proofs.Common.{length, ◌∙◌, ap, refl, sym, unwrap_or}
+use Rattle.std.specs.Option.{option_copied}
 use Rattle.syntect_winner.specs.Candidates.{member_of}
 use Rattle.syntect_winner.proofs.AheadLaws.{adds_counted, adds_none, found_from, groups_counted, none_from}
 use Rattle.syntect_winner.proofs.StepLaws.{tried, tried_once}
@@ -7,39 +8,39 @@ use Rattle.syntect_winner.proofs.sweep.with_entry.Goals as goal
 pub returns-then-not-branch-clause-best : goal.returns-then-not-branch-clause-best
 returns-then-not-branch-clause-best c = λ ms a n h.
     adds_none c.args.reader.now c.args.place (member_of c.args.entry.now) c.dialect_finds_in_text.ensures c.args.lost.now c.args.best ms a h
-    (none_from c.args.reader.now.line.now c.args.place _ c.regex_of-regex.result.now _ _ c.in_ok-match_at_counted.field-0 (c.regex_of-regex.ensures ∙ c.requires.text) c.in_ok-match_at_counted.ensures.ok c.if-not-branch.true)
+    (none_from c.args.reader.now.line.now c.args.place _ (unwrap_or (option_copied c.args.replaced) c.args.entry.now.pattern.now.regex) _ _ c.in_ok-is_here.field-0 c.requires.text c.in_ok-is_here.ensures.tries c.if-not-branch.true)
 
 pub returns-clause-groups : goal.returns-clause-groups
 returns-clause-groups c = λ a h.
-    groups_counted c.args.reader.now (member_of c.args.entry.now) c.args.lost.now c.args.place _ c.led_by.result.candidate c.match_at_counted.new.region c.keep.new.self.best c.led_by.ensures.candidate c.keep.ensures.best c.if-lost.false a
-    (found_from c.args.reader.now.line.now c.args.place _ c.regex_of-regex.result.now _ _ c.in_ok-match_at_counted.field-0 (c.regex_of-regex.ensures ∙ c.requires.text) c.in_ok-match_at_counted.ensures.ok c.if-not-branch.false)
+    groups_counted c.args.reader.now (member_of c.args.entry.now) c.args.lost.now c.args.place _ c.led_by.result.candidate c.is_here.new.regions.searched c.keep.new.self.best c.led_by.ensures.candidate c.keep.ensures.best c.if-lost.false a
+    (found_from c.args.reader.now.line.now c.args.place _ (unwrap_or (option_copied c.args.replaced) c.args.entry.now.pattern.now.regex) _ _ c.in_ok-is_here.field-0 c.requires.text c.in_ok-is_here.ensures.tries c.if-not-branch.false)
     (sym c.pos.ensures ∙ c.in-Some.is) (rw c.len-height.ensures at (sym c.if-not-counts.ensures)) refl refl
     (ap (λ r. unwrap_or r c.args.entry.now.pattern.now.regex) c.in_ok-substituted.ensures ∙ c.requires.text)
 
 pub returns-clause-best : goal.returns-clause-best
 returns-clause-best c = λ ms a n h.
-    adds_counted c.args.reader.now c.args.place (member_of c.args.entry.now) c.args.lost.now c.args.best ms _ c.led_by.result c.match_at_counted.new.region c.requires.order c.if-lost.false a
-    (found_from c.args.reader.now.line.now c.args.place _ c.regex_of-regex.result.now _ _ c.in_ok-match_at_counted.field-0 (c.regex_of-regex.ensures ∙ c.requires.text) c.in_ok-match_at_counted.ensures.ok c.if-not-branch.false)
+    adds_counted c.args.reader.now c.args.place (member_of c.args.entry.now) c.args.lost.now c.args.best ms _ c.led_by.result c.is_here.new.regions.searched c.requires.order c.if-lost.false a
+    (found_from c.args.reader.now.line.now c.args.place _ (unwrap_or (option_copied c.args.replaced) c.args.entry.now.pattern.now.regex) _ _ c.in_ok-is_here.field-0 c.requires.text c.in_ok-is_here.ensures.tries c.if-not-branch.false)
     (sym c.pos.ensures ∙ c.in-Some.is) (rw c.len-height.ensures at (sym c.if-not-counts.ensures)) refl refl
     (ap (λ r. unwrap_or r c.args.entry.now.pattern.now.regex) c.in_ok-substituted.ensures ∙ c.requires.text)
     h n c.led_by.ensures.start c.led_by.ensures.is_match c.led_by.ensures.candidate
 
 pub returns-then-not-branch-clause-steps : goal.returns-then-not-branch-clause-steps
 returns-then-not-branch-clause-steps c = λ w s.
-    tried_once w _ _ (tried (member_of c.args.entry.now) c.regex_of-regex.result.now (length c.args.reader.now.line.now) w c.args.regions.now.steps.made c.match_at_counted.new.count.made
-    (c.regex_of-regex.ensures ∙ c.requires.text) c.in_ok-match_at_counted.ensures.steps s)
+    tried_once w _ _ (tried (member_of c.args.entry.now) (unwrap_or (option_copied c.args.replaced) c.args.entry.now.pattern.now.regex) (length c.args.reader.now.line.now) w c.args.regions.now.steps.made c.is_here.new.regions.steps.made
+    c.requires.text c.in_ok-is_here.ensures.steps s)
 
 pub returns-in_default-clause-steps : goal.returns-in_default-clause-steps
 returns-in_default-clause-steps c = λ w s.
-    tried_once w _ _ (tried (member_of c.args.entry.now) c.regex_of-regex.result.now (length c.args.reader.now.line.now) w c.args.regions.now.steps.made c.match_at_counted.new.count.made
-    (c.regex_of-regex.ensures ∙ c.requires.text) c.in_ok-match_at_counted.ensures.steps s)
+    tried_once w _ _ (tried (member_of c.args.entry.now) (unwrap_or (option_copied c.args.replaced) c.args.entry.now.pattern.now.regex) (length c.args.reader.now.line.now) w c.args.regions.now.steps.made c.is_here.new.regions.steps.made
+    c.requires.text c.in_ok-is_here.ensures.steps s)
 
 pub returns-then-not-counts-clause-steps : goal.returns-then-not-counts-clause-steps
 returns-then-not-counts-clause-steps c = λ w s.
-    tried_once w _ _ (tried (member_of c.args.entry.now) c.regex_of-regex.result.now (length c.args.reader.now.line.now) w c.args.regions.now.steps.made c.match_at_counted.new.count.made
-    (c.regex_of-regex.ensures ∙ c.requires.text) c.in_ok-match_at_counted.ensures.steps s)
+    tried_once w _ _ (tried (member_of c.args.entry.now) (unwrap_or (option_copied c.args.replaced) c.args.entry.now.pattern.now.regex) (length c.args.reader.now.line.now) w c.args.regions.now.steps.made c.is_here.new.regions.steps.made
+    c.requires.text c.in_ok-is_here.ensures.steps s)
 
 pub returns-clause-steps : goal.returns-clause-steps
 returns-clause-steps c = λ w s.
-    rw c.keep.ensures.steps (tried_once w _ _ (tried (member_of c.args.entry.now) c.regex_of-regex.result.now (length c.args.reader.now.line.now) w c.args.regions.now.steps.made c.match_at_counted.new.count.made
-    (c.regex_of-regex.ensures ∙ c.requires.text) c.in_ok-match_at_counted.ensures.steps s))
+    rw c.keep.ensures.steps (tried_once w _ _ (tried (member_of c.args.entry.now) (unwrap_or (option_copied c.args.replaced) c.args.entry.now.pattern.now.regex) (length c.args.reader.now.line.now) w c.args.regions.now.steps.made c.is_here.new.regions.steps.made
+    c.requires.text c.in_ok-is_here.ensures.steps s))

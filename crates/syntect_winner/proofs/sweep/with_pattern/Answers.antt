@@ -1,4 +1,4 @@
-use Rattle.std.proofs.Common.{◌≡◌, ℕ, List, Option, false, length, get_or, ap, sym, subst, ◌∙◌, arith}
+use Rattle.std.proofs.Common.{◌≡◌, ℕ, List, Option, false, length, get_or, ap, refl, sym, subst, ◌∙◌, arith}
 use Rattle.std.specs.Option.{option_copied}
 use Rattle.syntect_contexts.specs.declared.context.MatchPattern.{MatchPattern}
 use Rattle.syntect_flats.specs.Slims.{nothing, origin_of}
@@ -42,3 +42,6 @@ returns-clause-steps c = λ w all.
     (within_in c.args.reader.now.set.now c.args.run.now c.requires.run (length c.args.reader.now.line.now) w all c.args.index flat c.in-Some.pattern.now c.requires.inside
     (found_at c.args.reader.now.set.now c.list_in.result.now (list_in c.args.run.now.flats) c.args.index c.origin_at-origin.result (option_copied c.pattern_at.result) c.list_in.ensures c.origin_at-origin.ensures
     c.pattern_at.ensures flat ∙ ap option_copied c.in-Some.is))
+
+pub with_entry-requires-clause-origin : goal.with_entry-requires-clause-origin
+with_entry-requires-clause-origin c = sym (c.pattern_at.ensures (flat_of c.origin_at-origin.result) refl) ∙ ap option_copied c.in-Some.is

@@ -9,6 +9,7 @@ use Rattle.syntect_winner.proofs.sweep.with_run.Goals as goal
 
 pub loop-index-init : goal.loop-index-init
 loop-index-init c = record {
+  known = c.requires.known;
   lost = λ h. h;
   groups = λ a h. h;
   grows = λ h. h;
@@ -23,6 +24,7 @@ loop-index-init c = record {
 
 pub loop-index-preserved : goal.loop-index-preserved
 loop-index-preserved c = record {
+  known = c.in_ok-best.ensures.known;
   lost = λ h. c.in_ok-best.ensures.lost (c.loop-index.invariant.lost h);
   groups = λ a h.
       c.in_ok-best.ensures.groups

@@ -1,5 +1,6 @@
 use Rattle.std.proofs.Common.{◌≡◌, ℕ, ◌+◌, ◌*◌, ◌≤◌, ◌++◌, ◌-◌, List, length, take, true, false}
 use Rattle.syntect_winner.specs.Ahead.{AreAhead, AreAheadUpTo, IsBestAt, list_in, run_members}
+use Rattle.syntect_winner.specs.Memory.{Remembers}
 use Rattle.syntect_winner.specs.Parts.{flat_members}
 use Rattle.syntect_winner.specs.Reader.{AreGroupsBy, matches_of}
 use Rattle.syntect_winner.specs.Steps.{AreWithin}
@@ -8,6 +9,7 @@ use Rattle.syntect_winner.proofs.sweep.with_run.Given as goal
 
 abbrev pub invariant-loop-index : goal.invariant-loop-index
 invariant-loop-index l = record {
+  known : Remembers l.reader.set.now l.reader.line.now l.regions.memory;
   lost : l.fn.lost ≡ true → l.lost ≡ true;
   groups : AreAhead l.reader l.fn.lost l.place l.run → AreGroupsBy l.reader l.fn.best.candidate l.fn.regions.best → AreGroupsBy l.reader l.best.candidate l.regions.best;
   grows : l.best.is_match ≡ false → l.fn.best.is_match ≡ false;

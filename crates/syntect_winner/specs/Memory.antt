@@ -1,0 +1,27 @@
+-- What is known, while a line is read, of the patterns that were tried in it.
+use Rattle.std.specs.Prelude.{◌≡◌, ℕ, List, Option, Some}
+use Rattle.std.specs.List.{All}
+use Rattle.std.specs.Option.{option_and_then}
+use Rattle.syntect_contexts.specs.Contexts.{match_of}
+use Rattle.syntect_contexts.specs.declared.context.MatchPattern.{MatchPattern}
+use Rattle.syntect_flats.specs.declared.flats.Origin.{Origin}
+use Rattle.syntect_grammar.specs.Contexts.{context_at}
+use Rattle.syntect_grammar.specs.declared.syntax_set.SyntaxSet.{SyntaxSet}
+use Rattle.syntect_regex.specs.Prospect.{IsProspectOf}
+use Rattle.syntect_regex.specs.declared.prospect.Prospect.{Prospect}
+use Rattle.syntect_winner.specs.declared.memory.Memo.{Memo}
+
+-- the pattern that stands there, if there is one
+abbrev pub origin_pattern : SyntaxSet → Origin → Option MatchPattern
+origin_pattern set origin =
+    option_and_then (λ c. match_of c origin.index) (context_at set origin.context)
+
+-- so much is true of the pattern that stands there, in the line
+abbrev pub IsKnownAt : SyntaxSet → List ℕ → Origin → Prospect → Type 0
+IsKnownAt set line origin prospect = (m : MatchPattern) → origin_pattern set origin ≡ Some m
+    → IsProspectOf m.regex line prospect
+
+-- what is kept in mind is true of the patterns in the line
+abbrev pub Remembers : SyntaxSet → List ℕ → List Memo → Type 0
+Remembers set line memos =
+    All (λ memo. IsKnownAt set line memo.origin memo.prospect) memos
