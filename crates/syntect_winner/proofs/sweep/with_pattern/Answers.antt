@@ -44,4 +44,5 @@ returns-clause-steps c = λ w all.
     c.pattern_at.ensures flat ∙ ap option_copied c.in-Some.is))
 
 pub with_entry-requires-clause-origin : goal.with_entry-requires-clause-origin
+unfolding flat_of
 with_entry-requires-clause-origin c = sym (c.pattern_at.ensures (flat_of c.origin_at-origin.result) refl) ∙ ap option_copied c.in-Some.is
