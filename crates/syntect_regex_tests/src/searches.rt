@@ -237,7 +237,14 @@ fn tries_a_pattern_by_what_is_known(rt: HostRuntime) {
     let mut region = Region::default(rt.alloc());
     let mut count = TurnCount::none();
     let mut known = Prospect::new();
-    for (place, wanted) in [(0, true), (1, true), (2, false), (3, false), (4, false), (9, false)] {
+    for (place, wanted) in [
+        (0, true),
+        (1, true),
+        (2, false),
+        (3, false),
+        (4, false),
+        (9, false),
+    ] {
         let found = regex.match_at_known("aabaa", place, &mut known, &mut region, &mut count);
         equal(&rt, found.expect(&rt, "memory"), wanted);
     }

@@ -452,9 +452,7 @@ fn with_pattern<'s>(
         from_with_prototype: run.part.from_with_prototype,
     };
     let replaced = replaced_at(run, index);
-    with_entry(
-        reader, &entry, replaced, origin, place, best, lost, regions,
-    )
+    with_entry(reader, &entry, replaced, origin, place, best, lost, regions)
 }
 
 /// What is found with the patterns of a part more, none of whose matches that count begins before the place, of which this is
