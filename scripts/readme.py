@@ -191,7 +191,7 @@ def try_claims(text):
     elif shutil.which("rt"):
         here = subprocess.run(["rt", "version"], capture_output=True, text=True, check=False).stdout.strip()
         if here != kit[1]:
-            fault(README, kit.start(), f"the kit here is {here}")
+            print(f"readme.py: note: {README} names another kit than this one, {here}")
 
 
 def main():
