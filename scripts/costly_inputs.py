@@ -202,6 +202,7 @@ INPUTS = {
     "199 loops in one another on one place": lambda: cost("(" * 199 + "a" + ")*" * 199 + "b", "a\n"),
     "199 loops in one another on 60 places": lambda: cost("(" * 199 + "a" + ")*" * 199 + "b", "a" * 60 + "\n"),
     "100 loops of a sequence on 60 places": lambda: cost("(" * 100 + "a" + "b?)*" * 100 + "c", "a" * 60 + "\n"),
+    "a row of 36000 cells by a plan": lambda: cost("(?:a+)+b|a+" + "$" * 18000, "a" * 40 + "\n"),
     "100000 branches": lambda: cost("|".join(f"a{n}" for n in range(100000)), "a99999\n"),
     "a selector of 10000 scopes": lambda: selector("a " * 10000),
     "a selector of 10000 exclusions": lambda: selector("source" + " - b" * 10000),

@@ -136,10 +136,11 @@ const FILES_OF_PATTERNS: [(&str, (u32, u32)); 2] = [
     ("no_patterns.txt", (0, 7)),
 ];
 
-/// The file of queries, each behind the answer that Oniguruma gives, and how many there are.
+/// The file of queries, each behind the answer that Oniguruma gives, or, of those at the end that cost engines which back up too
+/// much, the answer that Perl gives; and how many there are.
 const ANSWERED: &str = "queries.tsv";
 
-const ANSWERED_QUERIES: u32 = 1524;
+const ANSWERED_QUERIES: u32 = 1545;
 
 /// Prints whether something comes out as it is written, and answers that.
 fn print_outcome(rt: &impl Print, label: &str, comes_out: bool) -> io::Result<bool> {

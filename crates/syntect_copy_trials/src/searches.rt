@@ -3,9 +3,10 @@ use crate::copies::show_copy;
 use std::alloc::{AllocError, Global};
 use syntect_call_trials::given::regex_of;
 use syntect_call_trials::marks::{TIMES, answer, begin, end, left};
-use syntect_regex::prospect::Prospect;
 use syntect_regex::regex::Regex;
 use syntect_regex::region::Region;
+use syntect_seek::depths::Depths;
+use syntect_seek::prospect::Prospect;
 use syntect_turns::count::TurnCount;
 
 /// A pattern with a group, and a loop that tries several ways.
@@ -42,7 +43,9 @@ fn found(
         Search::At => regex.match_at(TEXT, 1, region),
         Search::AtCounted => regex.match_at_counted(TEXT, 1, region, &mut count),
         Search::AtKnown => {
-            regex.match_at_known(TEXT, 1, &mut Prospect::new(), region, &mut count)
+            let mut known = Prospect::new();
+            let mut depths = Depths::new(alloc);
+            regex.match_at_known(TEXT, 1, &mut known, &mut depths, region, &mut count)
         }
         Search::Linear => regex.is_linear(alloc),
     }

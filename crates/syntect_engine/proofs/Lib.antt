@@ -10,6 +10,7 @@ pub mod FirstLaws
 pub mod StepsLaws
 pub mod LookbehindLaws
 pub mod RunLaws
+pub mod EndLaws
 pub mod FindLaws
 pub mod StretchLaws
 pub mod PassLaws

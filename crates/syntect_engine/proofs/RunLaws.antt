@@ -1,6 +1,6 @@
 -- How a search begins and ends.
 use Rattle.std.proofs.Common.{◌≡◌, ℕ, List, [], refl, ◌∙◌, ap, Some, None, reverse}
-use Rattle.std.specs.Prelude.{Option, IfNone, slice_get}
+use Rattle.std.specs.Prelude.{slice_get}
 use Rattle.syntect_pattern.specs.Trees.{Tree}
 use Rattle.syntect_pattern.specs.Matches.{Groups, matches}
 use Rattle.syntect_engine.specs.declared.state.Frame.{Frame}
@@ -34,7 +34,3 @@ module _ (s : List ℕ) (ts : List Tree) where
       ∙ ap (λ (h : Groups). (search s (tree_at s ts root) (end s ts) x.place h).found) hg
       ∙ ap (λ (j : ℕ). (search s (tree_at s ts root) (end s ts) j g).found) hi
       ∙ search-end s ts (tree_at s ts root) i g
-
-pub none_holds : {A : Type 0} (o : Option A) (P : Type 0) → o ≡ None → IfNone o P → P
-none_holds None P e h = h
-none_holds (Some x) P e h = cc

@@ -2,3 +2,4 @@ pub mod Machine
 pub mod Stretches
 pub mod Lookbehinds
 pub mod Lines
+pub mod Ends

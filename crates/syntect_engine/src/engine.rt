@@ -1,6 +1,7 @@
 //! The search of a pattern: a machine whose choices stand in lists of its own.
-ghost use Rattle.std.specs.Prelude.{◌≡◌, ◌+◌, ◌≤◌, IfOk, IfSome, OnOk, slice_index_or, None, Some, IsCharBoundary, true, false};
+ghost use Rattle.std.specs.Prelude.{◌≡◌, ◌+◌, ◌<◌, ◌≤◌, IfOk, IfSome, IfNone, OnOk, slice_index_or, None, Some, IsCharBoundary, true, false};
 ghost use Rattle.syntect_engine.specs.Machine.{FindsAt};
+ghost use Rattle.syntect_engine.specs.Ends.{is_found};
 
 use crate::dead::is_dead;
 use crate::lines::{is_at_lines, next_start};
@@ -41,14 +42,61 @@ fn is_lost_there(program: &Program, text: &str, place: usize) -> bool
     is_dead(program, text, place, program.root)
 }
 
+/// The search has found a match.
+#[inline]
+fn is_found(next: Next) -> bool
+    ensures { result ≡ is_found next }
+{
+    match next {
+        Next::Found => true,
+        _ => false,
+    }
+}
+
 impl Search {
     ghost use Rattle.syntect_pattern_table.specs.Program.{trees_of};
     ghost use Rattle.std.specs.Prelude.{replicate, slice_get};
     ghost use Rattle.syntect_pattern.specs.Trees.{nothing};
     ghost use Rattle.syntect_pattern.specs.Matches.{matches};
-    ghost use Rattle.syntect_engine.specs.Machine.{Fits, found_by, match_of, groups_of, FindsGroups, FindsUpTo};
+    ghost use Rattle.syntect_engine.specs.Machine.{Fits, Goes, found_by, match_of, groups_of, FindsGroups, FindsUpTo};
 
-    /// Takes steps until a match is found or nothing is left to try. None where the search is limited, and no step is left before that.
+    /// One step, which is counted: what comes next. None where the search is over.
+    #[inline(always)]
+    fn step(
+        &mut self,
+        program: &Program,
+        text: &str,
+        next: Next,
+        count: &mut TurnCount,
+    ) -> Result<Option<Next>, AllocError>
+        requires fits { Fits text.now next self.old }
+        ensures counted { count.new.made ≡ count.old.made + 1 }
+        ensures goes { IfOk result (λ r. IfSome r (λ after.
+            Goes text.now (trees_of program.now) next self.old after self.new)) }
+        ensures over { IfOk result (λ r. IfNone r (match_of (is_found next) self.new
+            ≡ found_by text.now (trees_of program.now) next self.old)) }
+    {
+        count.tick();
+        match next {
+            Next::Enter { node, list } => {
+                let next = self.enter(program, text, node, list)?;
+                Ok(Some(next))
+            }
+            Next::Turn { turns, list } => {
+                let next = self.turn(program, text, turns, list)?;
+                Ok(Some(next))
+            }
+            Next::Leave { list } => {
+                let next = self.leave(program, text, list)?;
+                Ok(Some(next))
+            }
+            Next::Fail => self.back(program, text),
+            Next::Found => self.finish(),
+        }
+    }
+
+    /// Takes steps until a match is found or nothing is left to try, at least one. None where the search is limited, and no
+    /// step is left before that: then it has taken all that were left.
     fn run(
         &mut self,
         program: &Program,
@@ -61,8 +109,12 @@ impl Search {
         ensures found { IfOk result (λ r. IfSome r (λ found. match_of found self.new
             ≡ found_by text.now (trees_of program.now) start self.old)) }
         ensures short { IfOk result (λ r. r ≡ None → limited ≡ true) }
+        ensures spent { IfOk result (λ r. r ≡ None → self.new.left ≡ 0) }
         ensures steps { limited ≡ true → OnOk result (count.new.made + self.new.left
             ≡ count.old.made + self.old.left) }
+        ensures rises { OnOk result (count.old.made ≤ count.new.made) }
+        ensures counted { IfOk result (λ r. IfSome r (λ _.
+            count.old.made < count.new.made)) }
     {
         let mut next = start;
         let mut left = self.left;
@@ -72,31 +124,18 @@ impl Search {
                 return Ok(None);
             }
             left = left.wrapping_sub(1);
-            count.tick();
-            next = match next {
-                Next::Enter { node, list } => self.enter(program, text, node, list)?,
-                Next::Turn { turns, list } => self.turn(program, text, turns, list)?,
-                Next::Leave { list } => self.leave(program, text, list)?,
-                Next::Fail => {
-                    let Some(next) = self.back(program, text)? else {
-                        self.left = left;
-                        return Ok(Some(false));
-                    };
-                    next
-                }
-                Next::Found => {
-                    let Some(next) = self.finish()? else {
-                        self.left = left;
-                        return Ok(Some(true));
-                    };
-                    next
-                }
+            let found = is_found(next);
+            let Some(after) = self.step(program, text, next, count)? else {
+                self.left = left;
+                return Ok(Some(found));
             };
+            next = after;
         }
     }
 
     /// Whether the program matches at the place, where a character begins or the text ends. Where it does, the search's place
-    /// is the match's end, and its groups are the match's. None where it is limited, and the steps that are left don't suffice.
+    /// is the match's end, and its groups are the match's. None where it is limited, and the steps that are left don't suffice;
+    /// they are all taken then. It takes one step at least otherwise.
     fn is_at(
         &mut self,
         program: &Program,
@@ -111,8 +150,12 @@ impl Search {
             (slice_index_or (trees_of program.now) program.now.root nothing) place
             (replicate program.now.groups None)) 0)) }
         ensures short { IfOk result (λ r. r ≡ None → limited ≡ true) }
+        ensures spent { IfOk result (λ r. r ≡ None → self.new.left ≡ 0) }
         ensures steps { limited ≡ true → OnOk result (count.new.made + self.new.left
             ≡ count.old.made + self.old.left) }
+        ensures rises { OnOk result (count.old.made ≤ count.new.made) }
+        ensures counted { IfOk result (λ r. IfSome r (λ _.
+            count.old.made < count.new.made)) }
     {
         self.begin(program.groups, place)?;
         let start = Next::Enter {
@@ -123,7 +166,8 @@ impl Search {
     }
 
     /// Whether a match begins at the place, which it does on boundaries of characters alone. Where it does, the search's
-    /// groups are the match's. None where it is limited, and the steps that are left don't suffice.
+    /// groups are the match's. None where it is limited, and the steps that are left don't suffice; they are all
+    /// taken then. Where it finds one it takes one step at least.
     pub fn begins_at(
         &mut self,
         program: &Program,
@@ -135,8 +179,11 @@ impl Search {
         ensures finds { IfOk result (λ r. IfSome r (λ found.
             FindsAt text.now program.now place (groups_of found self.new))) }
         ensures short { IfOk result (λ r. r ≡ None → limited ≡ true) }
+        ensures spent { IfOk result (λ r. r ≡ None → self.new.left ≡ 0) }
         ensures steps { limited ≡ true → OnOk result (count.new.made + self.new.left
             ≡ count.old.made + self.old.left) }
+        ensures rises { OnOk result (count.old.made ≤ count.new.made) }
+        ensures counted { IfOk result (λ r. r ≡ Some true → count.old.made < count.new.made) }
     {
         if is_lost(program, text, place) {
             return Ok(Some(false));
@@ -156,8 +203,11 @@ impl Search {
         ensures finds { IfOk result (λ r. IfSome r (λ found.
             FindsAt text.now program.now place (groups_of found self.new))) }
         ensures short { IfOk result (λ r. r ≡ None → limited ≡ true) }
+        ensures spent { IfOk result (λ r. r ≡ None → self.new.left ≡ 0) }
         ensures steps { limited ≡ true → OnOk result (count.new.made + self.new.left
             ≡ count.old.made + self.old.left) }
+        ensures rises { OnOk result (count.old.made ≤ count.new.made) }
+        ensures counted { IfOk result (λ r. r ≡ Some true → count.old.made < count.new.made) }
     {
         if is_lost_there(program, text, place) {
             return Ok(Some(false));
@@ -166,7 +216,8 @@ impl Search {
     }
 
     /// Whether the program matches at the place or at a later one, of which the least counts. Where it does, the search's
-    /// groups are the match's. None where it is limited, and the steps that are left don't suffice.
+    /// groups are the match's. None where it is limited, and the steps that are left don't suffice; they are all
+    /// taken then. Where it finds one it takes one step at least.
     pub fn find(
         &mut self,
         program: &Program,
@@ -178,8 +229,11 @@ impl Search {
         ensures finds { IfOk result (λ r. IfSome r (λ found.
             FindsGroups text.now program.now begin (groups_of found self.new))) }
         ensures short { IfOk result (λ r. r ≡ None → limited ≡ true) }
+        ensures spent { IfOk result (λ r. r ≡ None → self.new.left ≡ 0) }
         ensures steps { limited ≡ true → OnOk result (count.new.made + self.new.left
             ≡ count.old.made + self.old.left) }
+        ensures rises { OnOk result (count.old.made ≤ count.new.made) }
+        ensures counted { IfOk result (λ r. r ≡ Some true → count.old.made < count.new.made) }
     {
         if begin > text.len() {
             return Ok(Some(false));
@@ -206,7 +260,8 @@ impl Search {
     }
 
     /// Whether the program matches at the place or at a later one up to `last`, of which the least counts. Where it does,
-    /// the search's groups are the match's. None where it is limited, and the steps that are left don't suffice.
+    /// the search's groups are the match's. None where it is limited, and the steps that are left don't suffice; they are all
+    /// taken then. Where it finds one it takes one step at least.
     pub fn find_up_to(
         &mut self,
         program: &Program,
@@ -220,8 +275,11 @@ impl Search {
         ensures finds { IfOk result (λ r. IfSome r (λ found.
             FindsUpTo text.now program.now begin last (groups_of found self.new))) }
         ensures short { IfOk result (λ r. r ≡ None → limited ≡ true) }
+        ensures spent { IfOk result (λ r. r ≡ None → self.new.left ≡ 0) }
         ensures steps { limited ≡ true → OnOk result (count.new.made + self.new.left
             ≡ count.old.made + self.old.left) }
+        ensures rises { OnOk result (count.old.made ≤ count.new.made) }
+        ensures counted { IfOk result (λ r. r ≡ Some true → count.old.made < count.new.made) }
     {
         let end = if last < text.len() {
             last + 1

@@ -371,6 +371,7 @@ impl Search {
         let Some(end) = stretch(program, text, self.place, body) else {
             return Ok(false);
         };
+        self.read = self.read.saturating_add(end.saturating_sub(self.place));
         let frame = Frame::Stretch {
             list,
             count: (end.saturating_sub(self.place) + 1).saturating_sub(least as usize),

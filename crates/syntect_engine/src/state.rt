@@ -117,6 +117,8 @@ pub struct Search {
     pub place: usize,
     /// How many steps are left, where the search is limited.
     pub left: usize,
+    /// How many characters were read in stretches, each of which takes one step however long it is. Who asks sets it to 0 first.
+    pub read: usize,
 }
 
 impl Search {
@@ -130,6 +132,7 @@ impl Search {
             groups: Vec::new(alloc),
             place: 0,
             left: 0,
+            read: 0,
         }
     }
 

@@ -8,22 +8,22 @@ use Rattle.syntect_pattern_laws.proofs.TurnLaws.{matches-forward}
 use Rattle.syntect_plan.specs.Onward.{is_calm, is_free}
 use Rattle.syntect_plan.specs.Cells.{cell_at, parts_at, item_tree}
 use Rattle.syntect_plan.specs.Plan.{IsPart, IsSequence, IsTurn, TurnIs}
-use Rattle.syntect_linear.specs.Ground.{IsReady}
+use Rattle.syntect_linear.specs.Ground.{IsGround}
 use Rattle.syntect_linear.specs.Step.{IsTreeAt}
-use Rattle.syntect_linear.specs.Walk.{IsFilled, Walks}
+use Rattle.syntect_linear.specs.Walk.{Walks}
 use Rattle.syntect_linear.specs.Steps.{stay_cost, read_cost, walk_cost, look_cost, Within, Costs}
 use Rattle.syntect_linear.specs.declared.ground.Ground.{Ground}
 use Rattle.syntect_plan.specs.declared.cells.Cell.{Cell}
 use Rattle.syntect_plan.proofs.TreeLaws.{and_left, and_right}
 use Rattle.syntect_linear.proofs.StepLaws.{step, free}
-use Rattle.syntect_linear.proofs.GroundLaws.{tree-at}
+use Rattle.syntect_linear.proofs.GroundLaws.{tree-on}
 use Rattle.syntect_linear.proofs.WalkLaws.{chosen-each}
 
 -- a walk goes on
-pub walks-on : (x : Ground) (k place : ℕ) (g : Groups) (end : ℕ) (h : Groups) → IsFilled x place → Walks x k place g end h → (place ≤ end) × (end ≤ length x.text.now)
+pub walks-on : (x : Ground) (k place : ℕ) (g : Groups) (end : ℕ) (h : Groups) → IsGround x place → Walks x k place g end h → (place ≤ end) × (end ≤ length x.text.now)
 walks-on x k place g end h f w =
     let t : Tree = item_tree (trees_of x.program.now) (cell_at x.plan.now.cells k).item in
-    let m = chosen-each (λ (y : Member). (place ≤ y.0) × IsCharBoundary x.text.now y.0) _ (matches x.text.now t place g) (end, h) (matches-forward x.text.now f.ready.utf8 t place g f.ready.boundary) w.is in
+    let m = chosen-each (λ (y : Member). (place ≤ y.0) × IsCharBoundary x.text.now y.0) _ (matches x.text.now t place g) (end, h) (matches-forward x.text.now f.utf8 t place g f.boundary) w.is in
     (m.0, m.1.0)
 
 part-tree : (ts : List Tree) (cells : List Cell) (m : ℕ) (a : Tree) (e d : ℕ) → IsPart ts cells m a e d → item_tree ts (cell_at cells m).item ≡ a
@@ -108,7 +108,7 @@ calm-look (behind negated a) e = refl
 
 -- -- The trees of parts
 
-module _ (x : Ground) (k place : ℕ) (r : IsReady x place) where
+module _ (x : Ground) (k place : ℕ) (r : IsGround x place) where
   abbrev ts : List Tree
   ts = trees_of x.program.now
 
@@ -125,7 +125,7 @@ module _ (x : Ground) (k place : ℕ) (r : IsReady x place) where
   second = (parts_at x.plan.now.parts k).second
 
   st : (t : Tree) → IsTreeAt x k t → Rattle.syntect_plan.specs.Plan.IsStep ts cells x.plan.now.behinds (cell_at cells k).empty (cell_at cells k).next (parts_at x.plan.now.parts k) t
-  st t h = step x.text.now ts cells x.plan.now.parts x.plan.now.behinds k t (tree-at x place k t r h)
+  st t h = step x.text.now ts cells x.plan.now.parts x.plan.now.behinds k t (tree-on x place k t r h)
 
   pub seq-tree : (a b : Tree) → IsTreeAt x k (seq a b) → tree_of first ≡ a
   seq-tree a b h = let p : IsSequence ts cells (cell_at cells k).empty (cell_at cells k).next first a b = st (seq a b) h in part-tree ts cells first a p.at p.behind_it p.first_is
@@ -146,7 +146,7 @@ module _ (x : Ground) (k place : ℕ) (r : IsReady x place) where
 
   pub loop-calm : (greedy : Bool) (least : ℕ) (most : Option ℕ) (a : Tree) → IsTreeAt x k (repeat greedy least most a) → look_cost a ≡ 0
   loop-calm greedy least most a h =
-      calm-look a (and_right (is_free a) (is_calm a) (free x.text.now ts cells x.plan.now.parts x.plan.now.behinds k (repeat greedy least most a) (tree-at x place k (repeat greedy least most a) r h)))
+      calm-look a (and_right (is_free a) (is_calm a) (free x.text.now ts cells x.plan.now.parts x.plan.now.behinds k (repeat greedy least most a) (tree-on x place k (repeat greedy least most a) r h)))
 
 cost-some : (t : Tree) → 1 ≤ stay_cost t
 cost-some nothing = omega arith

@@ -12,7 +12,7 @@ use Rattle.syntect_plan.specs.Cells.{cell_at, item_tree, is_end}
 use Rattle.syntect_plan.specs.Plan.{IsPart}
 use Rattle.syntect_linear.specs.Ground.{IsGround, IsIn, ends_at}
 use Rattle.syntect_linear.specs.Walk.{IsFilled, Walks}
-use Rattle.syntect_linear.specs.Finds.{Covers, FindsGroups, FindsUpTo, groups_of}
+use Rattle.syntect_linear.specs.Finds.{Covers}
 use Rattle.syntect_linear.specs.declared.ground.Ground.{Ground}
 use Rattle.syntect_plan.specs.declared.cells.Cell.{Cell}
 use Rattle.syntect_plan.proofs.OnwardLaws.{moved-same, onward-alike}
@@ -23,16 +23,10 @@ use Rattle.syntect_linear.proofs.CostLaws.{walks-on, costs-of}
 use Rattle.syntect_linear.proofs.GroundLaws.{ground-of}
 use Rattle.syntect_linear.proofs.WalkLaws.{part-chosen}
 
-pub covers-filled : (x : Ground) (begin place : ℕ) → Covers x begin → begin ≤ place → IsCharBoundary x.text.now place → IsFilled x place
-covers-filled x begin place h l c = record {
-  ready = record {
-    utf8 = h.utf8;
-    plan_is = h.plan_is;
-    sights_are = h.sights_are;
-    rows_are = h.rows_are;
-    later = let a = h.count in let b = c.0 in omega arith;
-    boundary = c;
-  };
+pub covers-filled : (x : Ground) (marks : List (List Bool)) (begin place : ℕ) → Covers x marks begin → begin ≤ place → IsCharBoundary x.text.now place → IsFilled x marks place
+covers-filled x marks begin place h l c = record {
+  ground = record { utf8 = h.utf8; plan_is = h.plan_is; sights_are = h.sights_are; boundary = c };
+  marks_are = h.marks_are;
   here = let a = h.count in let b = c.0 in omega arith;
 }
 
@@ -96,15 +90,12 @@ module _ (x : Ground) (place : ℕ) (on : IsGround x place) where
         (no-member (matches s root place (replicate x.program.now.groups None))
         (ap is_some (reaches-any s on.utf8 root root-free Some place (replicate x.program.now.groups None) ∙ sym whole-ends) ∙ e)))
 
-module _ (x : Ground) (place : ℕ) (filled : IsFilled x place) where
-  on : IsGround x place
-  on = ground-of x place filled.ready
-
+module _ (x : Ground) (place : ℕ) (on : IsGround x place) where
   -- the steps of the walk along the whole match
   pub whole-cost : (before : ℕ) (g : Groups) (end : ℕ) (h : Groups) (after : ℕ) → Walks x 1 place g end h → Costs x 1 place before end after
       → after ≤ before + (walk_cost (root_of x) + look_cost (root_of x)) * (length x.text.now + 1)
   whole-cost before g end h after w c =
-      let far = walks-on x 1 place g end h filled w in
+      let far = walks-on x 1 place g end h on w in
       let e : item_tree (trees_of x.program.now) (cell_at x.plan.now.cells 1).item ≡ (root_of x) = ap (item_tree (trees_of x.program.now)) (part x place on).cell.item_is ∙ (part x place on).tree in
       let s = costs-of x 1 place before end after (root_of x) e c in
       let short : end - place ≤ length x.text.now + 1 = omega (arith, far.1) in
@@ -121,9 +112,9 @@ module _ (x : Ground) (place : ℕ) (filled : IsFilled x place) where
   module _ (tree : Tree) (h : IsProgramOf x.program.now tree) (at : is_boundary x.text.now place ≡ true) where
     pub found-some : (end : ℕ) (g : Groups) → Walks x 1 place (replicate x.program.now.groups None) end g → Some g ≡ found_at x.text.now tree place
     found-some end g w =
-        let c = part-chosen x 1 place (replicate x.program.now.groups None) filled 1 (root_of x) 0 0 end g (part x place on) w in
+        let c = part-chosen x 1 place (replicate x.program.now.groups None) on 1 (root_of x) 0 0 end g (part x place on) w in
         let first : chosen Some (matches x.text.now (root_of x) place (replicate x.program.now.groups None)) ≡ Some (end, g) =
-        chosen-forward x.text.now filled.ready.utf8 (root_of x) Some (moved place (ends_at x 0) (ends_at x 0)) place (replicate x.program.now.groups None) filled.ready.boundary
+        chosen-forward x.text.now on.utf8 (root_of x) Some (moved place (ends_at x 0) (ends_at x 0)) place (replicate x.program.now.groups None) on.boundary
         (λ j l d. sym (moved-same place j (ends_at x 0) ∙ zero-end x place on j)) ∙ c in
         sym (found-is x place on tree h at ∙ ap (option_map (λ (m : Member). m.1)) (first-member _ ∙ first))
 
@@ -162,11 +153,6 @@ module _ (s : List ℕ) (tree : Tree) where
   unfolding found
   found-past i l = ap (λ n. found_within s tree n i) (let n : suc (length s) - i ≡ 0 = omega arith in n)
 
--- what is found up to the text's end is all
-pub groups-up_to : (s : List ℕ) (p : Program) (from : ℕ) (b : Bool) (g : Groups) → FindsUpTo s p from (length s) (groups_of b g) → FindsGroups s p from (groups_of b g)
-groups-up_to s p from true g h tree is = sym (h tree is)
-groups-up_to s p from false g h tree is = sym (h tree is ∙ found-past s tree (suc (length s)) (omega arith))
-
 -- what is paid for a match alone
 pub paid-none : (b : Bool) (before after cost : ℕ) → b ≡ false → after ≤ before + (if b then cost else 0) → after ≤ before
 paid-none true before after cost e l = cc
@@ -175,15 +161,3 @@ paid-none false before after cost e l = omega (arith, l)
 pub paid-match : (b : Bool) (before after cost : ℕ) → b ≡ true → after ≤ before + (if b then cost else 0) → after ≤ before + cost
 paid-match true before after cost e l = l
 paid-match false before after cost e l = cc
-
--- the rows and the walk together
-pub paid-all : (cells walk long old rows before after : ℕ) → rows ≤ old + 6 * cells * long → before ≤ rows → after ≤ before + walk * long
-    → after ≤ old + (6 * cells + walk) * long
-paid-all cells walk long old rows before after r b w =
-    let d : (6 * cells + walk) * long ≡ 6 * cells * long + walk * long = grind arith in
-    omega (arith, r, b, w, d)
-
-pub paid-rows : (cells walk long old rows before : ℕ) → rows ≤ old + 6 * cells * long → before ≤ rows → before ≤ old + (6 * cells + walk) * long
-paid-rows cells walk long old rows before r b =
-    let d : (6 * cells + walk) * long ≡ 6 * cells * long + walk * long = grind arith in
-    omega (arith, r, b, d)

@@ -8,5 +8,6 @@ pub mod LoopLaws
 pub mod SightLaws
 pub mod FindLaws
 pub mod StepsLaws
-pub mod AskedLaws
+pub mod LeadLaws
+pub mod MarkLaws
 pub mod CostLaws

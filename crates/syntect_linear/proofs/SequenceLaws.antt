@@ -6,9 +6,9 @@ use Rattle.syntect_pattern.specs.Matches.{Groups, Member, matches}
 use Rattle.syntect_pattern_table.specs.Program.{trees_of}
 use Rattle.syntect_plan.specs.Onward.{Onward, chosen, moved, reads, is_free}
 use Rattle.syntect_plan.specs.Cells.{cell_at, parts_at, item_tree, is_end}
-use Rattle.syntect_linear.specs.Ground.{IsIn, ends_at}
+use Rattle.syntect_linear.specs.Ground.{IsGround, IsIn, ends_at}
 use Rattle.syntect_linear.specs.Step.{IsTreeAt}
-use Rattle.syntect_linear.specs.Walk.{IsFilled, Walks}
+use Rattle.syntect_linear.specs.Walk.{Walks}
 use Rattle.syntect_linear.specs.declared.ground.Ground.{Ground}
 use Rattle.syntect_plan.specs.declared.cells.Cell.{Cell}
 use Rattle.syntect_plan.specs.Plan.{IsPart, IsSequence}
@@ -17,12 +17,12 @@ use Rattle.syntect_plan.proofs.CellLaws.{either-bool}
 use Rattle.syntect_plan.proofs.OnwardLaws.{moved-at, moved-past, following, at-or-past, same-place, other-place}
 use Rattle.syntect_linear.proofs.ChosenLaws.{chosen-reads, chosen-leads, chosen-forward, chosen-seq, chosen-past_place}
 use Rattle.syntect_linear.proofs.StepLaws.{IsAt, free, step, following-is, at-seq}
-use Rattle.syntect_linear.proofs.GroundLaws.{tree-at}
-use Rattle.syntect_linear.proofs.WalkLaws.{size_of, chosen-each, filled-on, CanWalk, can-walk, size-is, part-chosen, ends-forward, walks-by}
+use Rattle.syntect_linear.proofs.GroundLaws.{tree-on}
+use Rattle.syntect_linear.proofs.WalkLaws.{size_of, chosen-each, ground-on, CanWalk, can-walk, size-is, part-chosen, ends-forward, walks-by}
 
 -- A cell that goes on at a later place.
 pub record GoesTo (x : Ground) (k place : ℕ) (g : Groups) (b : Tree) (m mid : ℕ) (h : Groups) : Type 0 where
-  pub filled : IsFilled x mid
+  pub filled : IsGround x mid
   pub is_tree : item_tree (trees_of x.program.now) (cell_at x.plan.now.cells m).item ≡ b
   pub inside : IsIn x m
   pub real : is_end (cell_at x.plan.now.cells m).item ≡ false
@@ -30,7 +30,7 @@ pub record GoesTo (x : Ground) (k place : ℕ) (g : Groups) (b : Tree) (m mid : 
   pub smaller : size_of x m < size_of x k
   pub same : (end : ℕ) (l : Groups) → Walks x m mid h end l → Walks x k place g end l
 
-module _ (x : Ground) (k place : ℕ) (g : Groups) (filled : IsFilled x place) (a b : Tree) (here : IsTreeAt x k (seq a b)) where
+module _ (x : Ground) (k place : ℕ) (g : Groups) (filled : IsGround x place) (a b : Tree) (here : IsTreeAt x k (seq a b)) where
   abbrev ts : List Tree
   ts = trees_of x.program.now
 
@@ -50,7 +50,7 @@ module _ (x : Ground) (k place : ℕ) (g : Groups) (filled : IsFilled x place) (
   first = (parts_at x.plan.now.parts k).first
 
   y : IsAt x.text.now (trees_of x.program.now) x.plan.now.cells x.plan.now.parts x.plan.now.behinds k (seq a b)
-  y = tree-at x place k (seq a b) filled.ready here
+  y = tree-on x place k (seq a b) filled here
 
   st : IsSequence ts cells f n first a b
   st = step x.text.now ts cells x.plan.now.parts x.plan.now.behinds k (seq a b) y
@@ -59,12 +59,12 @@ module _ (x : Ground) (k place : ℕ) (g : Groups) (filled : IsFilled x place) (
   fb = and_right (is_free a) (is_free b) (free x.text.now ts cells x.plan.now.parts x.plan.now.behinds k (seq a b) y)
 
   u : IsUtf8 x.text.now
-  u = filled.ready.utf8
+  u = filled.utf8
 
   pub seq-first : is_some (ends_at x k place) ≡ true → CanWalk x k place g filled first
   seq-first found =
       can-walk x k place g filled first a st.at st.behind_it st.first_is
-      (ap is_some (sym (at-seq x.text.now ts cells x.plan.now.parts x.plan.now.behinds k place filled.ready.boundary a b y).0) ∙ found)
+      (ap is_some (sym (at-seq x.text.now ts cells x.plan.now.parts x.plan.now.behinds k place filled.boundary a b y).0) ∙ found)
       (let z = size-is x k place g filled (seq a b) here in omega arith)
 
   following-next : (j : ℕ) → IsCharBoundary x.text.now j → following x.text.now u b (E n) (E n) j ≡ E st.behind_it j
@@ -76,12 +76,12 @@ module _ (x : Ground) (k place : ℕ) (g : Groups) (filled : IsFilled x place) (
   followed m q =
       elim (either-bool (reads a)) [
         | inl r ↦
-            chosen-reads x.text.now u a (following x.text.now u b (E f) (E n)) (E st.at) (following x.text.now u b (E n) (E n)) place g r filled.ready.boundary
-            ∙ chosen-forward x.text.now u a (moved place (E st.at) (following x.text.now u b (E n) (E n))) (moved place (E st.at) (E st.behind_it)) place g filled.ready.boundary
+            chosen-reads x.text.now u a (following x.text.now u b (E f) (E n)) (E st.at) (following x.text.now u b (E n) (E n)) place g r filled.boundary
+            ∙ chosen-forward x.text.now u a (moved place (E st.at) (following x.text.now u b (E n) (E n))) (moved place (E st.at) (E st.behind_it)) place g filled.boundary
             (λ j l d. ap (λ (o : Option ℕ). if j == place then E st.at j else o) (following-next j d))
             ∙ q
         | inr r ↦
-            chosen-forward x.text.now u a (moved place (following x.text.now u b (E f) (E n)) (following x.text.now u b (E n) (E n))) (moved place (E st.at) (E st.behind_it)) place g filled.ready.boundary
+            chosen-forward x.text.now u a (moved place (following x.text.now u b (E f) (E n)) (following x.text.now u b (E n) (E n))) (moved place (E st.at) (E st.behind_it)) place g filled.boundary
             (λ j l d.
             ap (λ (o : Option ℕ). if j == place then o else following x.text.now u b (E n) (E n) j)
             (following-is x.text.now ts cells x.plan.now.parts x.plan.now.behinds k (seq a b) y st.at b f n j d (st.again_is r))
@@ -89,7 +89,7 @@ module _ (x : Ground) (k place : ℕ) (g : Groups) (filled : IsFilled x place) (
             ∙ q
       ]
 
-  second-walks : (m mid : ℕ) (h : Groups) (e : ℕ) → IsFilled x mid → IsPart ts cells m b e n → is_some (ends_at x m mid) ≡ true
+  second-walks : (m mid : ℕ) (h : Groups) (e : ℕ) → IsGround x mid → IsPart ts cells m b e n → is_some (ends_at x m mid) ≡ true
       → chosen (moved place (E f) (E n)) (matches x.text.now (seq a b) place g) ≡ chosen (moved mid (E e) (E n)) (matches x.text.now b mid h)
       → GoesTo x k place g b m mid h
   second-walks m mid h e fill p found alike =
@@ -110,12 +110,12 @@ module _ (x : Ground) (k place : ℕ) (g : Groups) (filled : IsFilled x place) (
       let c = part-chosen x k place g filled first a st.at st.behind_it mid h st.first_is w in
       let on = ends-forward x k place g filled a (moved place (E st.at) (E st.behind_it)) (mid, h) c in
       let leads_on : is_some (moved place (E st.at) (E st.behind_it) mid) ≡ true = chosen-leads x.text.now u (moved place (E st.at) (E st.behind_it)) (matches x.text.now a place g) (mid, h) c in
-      let all = chosen-seq x.text.now u a b fb (E f) (E n) place g (mid, h) filled.ready.boundary (followed (mid, h) c) in
-      let fill = filled-on x place mid filled on.0 on.1 in
+      let all = chosen-seq x.text.now u a b fb (E f) (E n) place g (mid, h) filled.boundary (followed (mid, h) c) in
+      let fill = ground-on x place mid filled on.1 in
       elim (at-or-past place mid on.0) [
         | inl z ↦
             let stays : reads a ≡ false = elim (either-bool (reads a)) [
-              | inl r ↦ absurd (let l = chosen-each (λ v. place < v.0) _ (matches x.text.now a place g) (mid, h) (behind-matches x.text.now u a r place g filled.ready.boundary) c in omega arith)
+              | inl r ↦ absurd (let l = chosen-each (λ v. place < v.0) _ (matches x.text.now a place g) (mid, h) (behind-matches x.text.now u a r place g filled.boundary) c in omega arith)
               | inr r ↦ r
             ] in
             let is : m ≡ st.at =

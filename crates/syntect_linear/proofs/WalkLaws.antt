@@ -9,7 +9,7 @@ use Rattle.syntect_pattern.specs.Matches.{Groups, Member, only_if, look, close, 
 use Rattle.syntect_pattern_table.specs.Program.{trees_of}
 use Rattle.syntect_plan.specs.Onward.{Onward, chosen, reaches, moved, reads, onward, is_free, is_bare, end_if}
 use Rattle.syntect_plan.specs.Cells.{cell_at, parts_at, item_tree, is_end, tree_size}
-use Rattle.syntect_linear.specs.Ground.{IsIn, ends_at}
+use Rattle.syntect_linear.specs.Ground.{IsGround, IsIn, ends_at}
 use Rattle.syntect_linear.specs.Step.{IsTreeAt}
 use Rattle.syntect_linear.specs.Steps.{stay_cost, read_cost, look_cost}
 use Rattle.syntect_linear.specs.Walk.{IsFilled, Walks}
@@ -18,7 +18,6 @@ use Rattle.syntect_plan.specs.declared.cells.Cell.{Cell}
 use Rattle.syntect_plan.specs.declared.cells.Parts.{Parts}
 use Rattle.syntect_plan.specs.declared.cells.Item.{Item}
 use Rattle.syntect_plan.specs.Plan.{IsPart}
-use Rattle.syntect_linear.specs.Rows.{row_end}
 use Rattle.syntect_ways.specs.Steps.{after_char}
 use Rattle.syntect_pattern.proofs.Each.{Each}
 use Rattle.syntect_pattern_laws.proofs.TurnLaws.{matches-forward}
@@ -28,7 +27,7 @@ use Rattle.syntect_plan.proofs.OnwardLaws.{moved-at, moved-same, onward-one_of}
 use Rattle.syntect_linear.proofs.ChosenLaws.{reaches-any, chosen-reads, chosen-stays, chosen-past, stays-look, first-chosen, second-chosen, chosen-close, chosen-first, chosen-stay, chosen-forward}
 use Rattle.syntect_plan.proofs.ReachLaws.{reaches-chosen}
 use Rattle.syntect_linear.proofs.StepLaws.{IsAt, goes, free, step, part-goes, region, zero-ends, at-one_of, at-alt, at-group, at-atomic, at-ahead}
-use Rattle.syntect_linear.proofs.GroundLaws.{tree-at}
+use Rattle.syntect_linear.proofs.GroundLaws.{tree-on}
 
 -- how large the tree of a cell's item is
 abbrev pub size_of : Ground → ℕ → ℕ
@@ -66,22 +65,12 @@ chosen-each P F (y ∷ ms) m e q = by (chosen-each P F ms m e.1) (is_some (F y.0
     by more true q = let same : y ≡ m = cc in subst P same e.0
     by more false q = more q
 
-pub filled-on : (x : Ground) (place q : ℕ) → IsFilled x place → place ≤ q → IsCharBoundary x.text.now q → IsFilled x q
-filled-on x place q h l c = record {
-  ready = record {
-    utf8 = h.ready.utf8;
-    plan_is = h.ready.plan_is;
-    sights_are = h.ready.sights_are;
-    rows_are = h.ready.rows_are;
-    later = let a = h.ready.later in omega arith;
-    boundary = c;
-  };
-  here = let a = h.here in omega arith;
-}
+pub ground-on : (x : Ground) (place q : ℕ) → IsGround x place → IsCharBoundary x.text.now q → IsGround x q
+ground-on x place q h c = record { utf8 = h.utf8; plan_is = h.plan_is; sights_are = h.sights_are; boundary = c }
 
--- a row of the place or of a later one
-pub row-here : (x : Ground) (place k : ℕ) → IsFilled x place → IsIn x k → row_end x.rows.now (length x.text.now - place) k ≡ ends_at x k place
-row-here x place k h i = h.ready.rows_are place k h.here h.ready.boundary i
+-- the marks of a later place
+pub filled-on : (x : Ground) (marks : List (List Bool)) (place q : ℕ) → IsFilled x marks place → place ≤ q → IsGround x q → IsFilled x marks q
+filled-on x marks place q h l c = record { ground = c; marks_are = h.marks_are; here = let a = h.here in omega arith }
 
 pub then-some : (F : Onward) (o : Option ℕ) → is_some (option_and_then F o) ≡ true → (j : ℕ) × (o ≡ Some j) × (is_some (F j) ≡ true)
 then-some F None e = absurd cc
@@ -91,7 +80,7 @@ pub if-some : (b : Bool) (o : Option ℕ) → is_some (end_if b o) ≡ true → 
 if-some true o e = (refl, e)
 if-some false o e = absurd cc
 
-module _ (x : Ground) (k place : ℕ) (g : Groups) (filled : IsFilled x place) where
+module _ (x : Ground) (k place : ℕ) (g : Groups) (filled : IsGround x place) where
   abbrev s : List ℕ
   s = x.text.now
 
@@ -126,13 +115,13 @@ module _ (x : Ground) (k place : ℕ) (g : Groups) (filled : IsFilled x place) w
   Found = is_some (ends_at x k place) ≡ true
 
   pub at : (t : Tree) → At t → IsAt s ts cells parts behinds k t
-  at t h = tree-at x place k t filled.ready h
+  at t h = tree-on x place k t filled h
 
   utf8 : IsUtf8 s
-  utf8 = filled.ready.utf8
+  utf8 = filled.utf8
 
   bound : IsCharBoundary s place
-  bound = filled.ready.boundary
+  bound = filled.boundary
 
   goes-on : (t : Tree) (h : At t) → E k place ≡ onward s t F place
   goes-on t h = goes s ts cells parts behinds k t (at t h) place bound

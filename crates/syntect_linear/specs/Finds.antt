@@ -1,11 +1,12 @@
 -- What a search finds.
-use Rattle.std.specs.Prelude.{◌≡◌, ℕ, suc, ◌+◌, Bool, true, false, List, length, Option, Some, None, IsUtf8}
+use Rattle.std.specs.Prelude.{◌≡◌, ℕ, suc, ◌+◌, ◌<◌, Bool, true, false, List, length, Option, Some, None, IsUtf8}
 use Rattle.syntect_pattern.specs.Trees.{Tree}
 use Rattle.syntect_pattern.specs.Matches.{Groups, found_at, found}
 use Rattle.syntect_pattern_table.specs.Program.{trees_of, IsProgramOf}
 use Rattle.syntect_pattern_table.specs.declared.program.Program.{Program}
 use Rattle.syntect_plan.specs.PlanOf.{IsPlanOf}
-use Rattle.syntect_linear.specs.Rows.{AreRows, AreSights}
+use Rattle.syntect_linear.specs.Marks.{AreMarks}
+use Rattle.syntect_linear.specs.Rows.{AreSights}
 use Rattle.syntect_linear.specs.declared.ground.Ground.{Ground}
 
 -- the groups of the match that was found, if one was
@@ -29,10 +30,10 @@ FindsUpTo s p from last None =
 FindsUpTo s p from last (Some groups) =
     (tree : Tree) → IsProgramOf p tree → found s tree from ≡ Some groups
 
--- the rows are there of all places from this one on
-pub record Covers (x : Ground) (begin : ℕ) : Type 0 where
+-- the marks are there of all places from this one on
+pub record Covers (x : Ground) (marks : List (List Bool)) (begin : ℕ) : Type 0 where
   pub utf8 : IsUtf8 x.text.now
   pub plan_is : IsPlanOf x.program.now x.plan.now
   pub sights_are : AreSights x.text.now (trees_of x.program.now) x.plan.now.behinds x.sights.now
-  pub rows_are : AreRows x.text.now (trees_of x.program.now) x.plan.now.cells x.rows.now
-  pub count : length x.rows.now + begin ≡ length x.text.now + 1
+  pub marks_are : AreMarks x.text.now (trees_of x.program.now) x.plan.now.cells marks
+  pub count : length x.text.now < length marks + begin

@@ -1,8 +1,9 @@
 pub mod Rows
 pub mod Ground
-pub mod Memo
+pub mod Marks
 pub mod Step
 pub mod Walk
 pub mod Finds
 pub mod Steps
 pub mod Linear
+pub mod Guide

@@ -1,5 +1,6 @@
 -- How many steps the rows take.
-use Rattle.std.specs.Prelude.{◌≡◌, ℕ, suc, ◌+◌, ◌-◌, ◌*◌, ◌≤◌, ◌||◌, if◌then◌else◌, List, [], ◌∷◌, length, Option, Some, None, slice_index_or}
+use Rattle.std.specs.Prelude.{◌≡◌, ℕ, zero, suc, ◌+◌, ◌-◌, ◌*◌, ◌≤◌, ◌||◌, if◌then◌else◌, List, [], ◌∷◌, length, Option, Some, None, slice_index_or}
+use Rattle.syntect_pattern.specs.Text.{is_boundary}
 use Rattle.syntect_pattern.specs.Trees.{Tree, seq, alt, repeat, group, atomic, ahead}
 use Rattle.syntect_pattern_table.specs.Program.{trees_of}
 use Rattle.syntect_plan.specs.Onward.{is_bare}
@@ -13,13 +14,19 @@ unknown [] = 0
 unknown (None ∷ now) = suc (unknown now)
 unknown (Some o ∷ now) = unknown now
 
--- Steps at a place: what is known of cells that are as high as this or higher stays, and the steps are paid for by what became
--- known, but for a few.
+-- Steps at a place, none of which is taken back: what is known of cells that are as high as this or higher stays, and the steps
+-- are paid for by what became known, but for a few.
 pub record Takes (x : Ground) (high : ℕ) (old : List (Option (Option ℕ))) (before : ℕ)
     (new : List (Option (Option ℕ))) (after few : ℕ) : Type 0 where
   pub long : length new ≡ length old
   pub kept : (j : ℕ) → high ≤ height_of x j → slice_index_or new j None ≡ slice_index_or old j None
   pub paid : after + 4 * unknown new ≤ before + 4 * unknown old + few
+  pub counts : before ≤ after
+
+-- at how many of the last so many places of the text a character begins, or the text ends
+abbrev pub stops : List ℕ → ℕ → ℕ
+stops s zero = 0
+stops s (suc n) = stops s n + (if is_boundary s (length s - n) then 1 else 0)
 
 -- how many steps a walk through the tree takes where it reads nothing
 abbrev pub stay_cost : Tree → ℕ
@@ -65,4 +72,4 @@ pub record Costs (x : Ground) (k place before end after : ℕ) : Type 0 where
 
 -- how many steps a search takes for each byte of the text, in a plan of so many cells for the tree
 abbrev pub step_weight : ℕ → Tree → ℕ
-step_weight cells t = 6 * cells + (walk_cost t + look_cost t)
+step_weight cells t = 7 * cells + (walk_cost t + look_cost t)

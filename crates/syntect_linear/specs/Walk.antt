@@ -1,16 +1,18 @@
--- The match that the rows lead along.
-use Rattle.std.specs.Prelude.{◌≡◌, ℕ, ◌-◌, ◌<◌, length, Some}
+-- The match that the marks lead along.
+use Rattle.std.specs.Prelude.{◌≡◌, ℕ, ◌-◌, ◌<◌, Bool, List, length, Some}
 use Rattle.syntect_pattern.specs.Matches.{Groups, matches}
 use Rattle.syntect_pattern_table.specs.Program.{trees_of}
 use Rattle.syntect_plan.specs.Onward.{chosen, moved}
 use Rattle.syntect_plan.specs.Cells.{cell_at, item_tree}
-use Rattle.syntect_linear.specs.Ground.{IsReady, ends_at}
+use Rattle.syntect_linear.specs.Ground.{IsGround, ends_at}
+use Rattle.syntect_linear.specs.Marks.{AreMarks}
 use Rattle.syntect_linear.specs.declared.ground.Ground.{Ground}
 
--- the rows of the place and of all behind it are there
-pub record IsFilled (x : Ground) (place : ℕ) : Type 0 where
-  pub ready : IsReady x place
-  pub here : length x.text.now - place < length x.rows.now
+-- the marks of the place and of all after it are there
+pub record IsFilled (x : Ground) (marks : List (List Bool)) (place : ℕ) : Type 0 where
+  pub ground : IsGround x place
+  pub marks_are : AreMarks x.text.now (trees_of x.program.now) x.plan.now.cells marks
+  pub here : length x.text.now - place < length marks
 
 -- this is the end, and these are the groups, of the match of the cell's item from the place on that is chosen by what goes on
 pub record Walks (x : Ground) (k place : ℕ) (g : Groups) (end : ℕ) (h : Groups) : Type 0 where

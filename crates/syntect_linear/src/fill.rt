@@ -4,7 +4,7 @@ ghost use Rattle.syntect_pattern_table.specs.Program.{trees_of};
 ghost use Rattle.syntect_linear.specs.Ground.{IsIn, IsReady, Knows, ends_at};
 ghost use Rattle.syntect_plan.specs.PlanOf.{IsPlanOf};
 ghost use Rattle.syntect_linear.specs.Rows.{AreRows, AreSights};
-ghost use Rattle.syntect_linear.specs.Steps.{unknown};
+ghost use Rattle.syntect_linear.specs.Steps.{stops, unknown};
 
 use crate::ground::{Ground, Known};
 use crate::reach::reach;
@@ -40,6 +40,8 @@ fn known_of(
     ensures long { IfOk result (λ now. length now.items ≡ length ground.now.plan.now.cells) }
     ensures steps { IfOk result (λ now. count.new.made + 4 * unknown now.items
         ≤ count.old.made + 5 * length ground.now.plan.now.cells) }
+    ensures counted { OnOk result (count.old.made + length ground.now.plan.now.cells
+        ≤ count.new.made) }
 {
     let cells = ground.plan.cells.len();
     let mut now = nothing_known(alloc, cells)?;
@@ -63,6 +65,8 @@ fn row_of(
         → slice_index_or row k None ≡ ends_at ground.now k place) }
     ensures steps { OnOk result (count.new.made
         ≤ count.old.made + 6 * length ground.now.plan.now.cells) }
+    ensures counted { OnOk result (count.old.made + 2 * length ground.now.plan.now.cells
+        ≤ count.new.made) }
 {
     let mut now = known_of(alloc, ground, order, count, place)?;
     let mut row = Vec::with_capacity(alloc, now.len())?;
@@ -91,6 +95,8 @@ pub fn rows_from(
     ensures there { IfOk result (λ rows. length rows.items + begin ≡ length text.now + 1) }
     ensures steps { OnOk result (count.new.made
         ≤ count.old.made + 6 * length plan.now.cells * (length text.now + 1)) }
+    ensures counted { IfOk result (λ rows. count.old.made
+        + 2 * length plan.now.cells * stops text.now (length rows.items) ≤ count.new.made) }
 {
     let order = order_of(alloc, program, plan)?;
     let mut left = text.len() - begin + 1;

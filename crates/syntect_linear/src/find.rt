@@ -1,19 +1,23 @@
-//! The search of a pattern, in steps that are bounded by the pattern times the text.
-ghost use Rattle.std.specs.Prelude.{◌≡◌, ◌≤◌, ◌+◌, ◌*◌, IfOk, OnOk, None, if◌then◌else◌, length, replicate, slice_index_or};
-ghost use Rattle.syntect_linear.specs.Finds.{Covers, FindsAt, FindsGroups, FindsUpTo, groups_of};
+//! The search of a pattern, in steps that are bounded by the pattern times the text: by the marks of a text it is known of each
+//! place whether a match begins there, and the match is read along them.
+ghost use Rattle.std.specs.Prelude.{◌≡◌, ◌≤◌, ◌+◌, ◌*◌, ◌<◌, IfOk, OnOk, true, None, if◌then◌else◌, length, replicate, slice_index_or};
+ghost use Rattle.syntect_linear.specs.Finds.{Covers, FindsAt, FindsUpTo, groups_of};
+ghost use Rattle.syntect_linear.specs.Guide.{IsGuideIn};
 ghost use Rattle.syntect_plan.specs.PlanOf.{IsPlanOf};
 ghost use Rattle.syntect_linear.specs.Steps.{look_cost, step_weight, walk_cost};
 ghost use Rattle.syntect_pattern.specs.Trees.{nothing};
 ghost use Rattle.syntect_pattern_table.specs.Program.{trees_of};
 
-use crate::fill::rows_from;
 use crate::ground::Ground;
+use crate::marking::marks_from;
+use crate::marks::Marks;
 use crate::sight::sights_of;
 use crate::walk::{Span, leads, walk};
 use std::alloc::{AllocError, Global};
 use syntect_pattern_table::program::Program;
 use syntect_plan::plan::Plan;
 use syntect_turns::count::TurnCount;
+use syntect_values::seq::Seq;
 use syntect_ways::text::is_boundary;
 
 /// The cell of the whole pattern.
@@ -30,16 +34,17 @@ fn no_groups(alloc: Global, count: usize) -> Result<Vec<Option<Span>>, AllocErro
     Ok(groups)
 }
 
-/// Whether a match begins at the place, whose rows are there. Where one does, the groups are the match's.
+/// Whether a match begins at the place, whose marks are there. Where one does, the groups are the match's.
 fn begins_here(
     alloc: Global,
     ground: &Ground,
+    marks: &Marks,
     begin: usize,
     place: usize,
     groups: &mut Vec<Option<Span>>,
     count: &mut TurnCount,
 ) -> Result<bool, AllocError>
-    requires covers { Covers ground.now begin }
+    requires covers { Covers ground.now marks.now begin }
     requires later { begin ≤ place }
     ensures finds { IfOk result (λ found. FindsAt ground.now.text.now ground.now.program.now place
         (groups_of found groups.new.items)) }
@@ -53,113 +58,154 @@ fn begins_here(
     if !is_boundary(ground.text, place) {
         return Ok(false);
     }
-    if !leads(ground, place, WHOLE) {
+    if !leads(ground, marks, place, WHOLE) {
         return Ok(false);
     }
     let mut unset = no_groups(alloc, ground.program.groups)?;
-    let _ = walk(ground, place, WHOLE, &mut unset, count);
+    let _ = walk(ground, marks, place, WHOLE, &mut unset, count);
     *groups = unset;
     Ok(true)
 }
 
-/// Whether a match begins at the place, which it does on boundaries of characters alone. Where one does, the groups are the
-/// match's.
-pub fn begins_at(
-    alloc: Global,
-    program: &Program,
-    plan: &Plan,
-    text: &str,
-    place: usize,
-    groups: &mut Vec<Option<Span>>,
-    count: &mut TurnCount,
-) -> Result<bool, AllocError>
-    requires { IsPlanOf program.now plan.now }
-    ensures finds { IfOk result (λ found. FindsAt text.now program.now place (groups_of found
-        groups.new.items)) }
-    ensures steps { OnOk result (count.new.made ≤ count.old.made
-        + step_weight (length plan.now.cells)
-        (slice_index_or (trees_of program.now) program.now.root nothing)
-        * (length text.now + 1)) }
-{
-    if place > text.len() {
-        return Ok(false);
-    }
-    let sights = sights_of(alloc, program, plan, text)?;
-    let rows = rows_from(alloc, program, plan, text, sights.as_slice(), place, count)?;
-    let ground = Ground {
-        program,
-        plan,
-        text,
-        sights: sights.as_slice(),
-        rows: rows.as_slice(),
-    };
-    begins_here(alloc, &ground, place, place, groups, count)
+/// A pattern's plan in a text, with the marks of its places from one on.
+pub struct Guide {
+    /// The pattern, each letter in a node of its own.
+    pub program: Program,
+    pub plan: Plan,
+    /// Where lookbehinds hold.
+    pub sights: Vec<Seq<bool>>,
+    pub marks: Marks,
 }
 
-/// Whether the program matches at the place or at a later one up to `last`, of which the least counts. Where it does, the
-/// groups are the match's.
-pub fn find_up_to(
-    alloc: Global,
-    program: &Program,
-    plan: &Plan,
-    text: &str,
-    begin: usize,
-    last: usize,
-    groups: &mut Vec<Option<Span>>,
-    count: &mut TurnCount,
-) -> Result<bool, AllocError>
-    requires plan { IsPlanOf program.now plan.now }
-    requires order { begin ≤ last }
-    ensures finds { IfOk result (λ found. FindsUpTo text.now program.now begin last (groups_of found
-        groups.new.items)) }
-    ensures steps { OnOk result (count.new.made ≤ count.old.made
-        + step_weight (length plan.now.cells)
-        (slice_index_or (trees_of program.now) program.now.root nothing)
-        * (length text.now + 1)) }
-{
-    if begin > text.len() {
-        return Ok(false);
+/// Written out, so that crates above call it and needn't prove each part's drop again.
+impl Drop for Guide {
+    fn drop(self) {
+        let Guide {
+            program: _,
+            plan: _,
+            sights: _,
+            marks: _,
+        } = self;
     }
-    let sights = sights_of(alloc, program, plan, text)?;
-    let rows = rows_from(alloc, program, plan, text, sights.as_slice(), begin, count)?;
-    let ground = Ground {
-        program,
-        plan,
-        text,
-        sights: sights.as_slice(),
-        rows: rows.as_slice(),
-    };
-    let mut place = begin;
-    'starts: while place <= last && place <= text.len() {
-        if begins_here(alloc, &ground, begin, place, groups, count)? {
-            return Ok(true);
+}
+
+impl Guide {
+    /// The plan in a text of which no place is marked.
+    pub fn new(alloc: Global, program: Program, plan: Plan, text: &str) -> Result<Guide, AllocError>
+        requires { IsPlanOf program plan }
+        ensures guides { IfOk result (λ guide. IsGuideIn text.now guide) }
+        ensures program { IfOk result (λ guide. guide.program ≡ program) }
+        ensures plan { IfOk result (λ guide. guide.plan ≡ plan) }
+    {
+        let sights = sights_of(alloc, &program, &plan, text)?;
+        Ok(Guide {
+            program,
+            plan,
+            sights,
+            marks: Marks::new(alloc),
+        })
+    }
+
+    /// Marks the places from this one on.
+    pub fn mark(
+        &mut self,
+        text: &str,
+        begin: usize,
+        count: &mut TurnCount,
+    ) -> Result<(), AllocError>
+        requires guides { IsGuideIn text.now self.old }
+        requires begin { begin ≤ length text.now }
+        ensures guides { OnOk result (IsGuideIn text.now self.new) }
+        ensures there { OnOk result (length text.now < length self.new.marks + begin) }
+        ensures program { self.new.program ≡ self.old.program }
+        ensures plan { self.new.plan ≡ self.old.plan }
+        ensures steps { OnOk result (count.new.made ≤ count.old.made
+            + 7 * length self.old.plan.cells * (length text.now + 1)) }
+    {
+        let alloc = *self.sights.allocator();
+        let sights = self.sights.as_slice();
+        self.marks = marks_from(alloc, &self.program, &self.plan, text, sights, begin, count)?;
+        Ok(())
+    }
+
+    /// Whether the place is marked.
+    #[inline]
+    pub fn tells(&self, text: &str, place: usize) -> bool
+        ensures { result ≡ true → length text.now < length self.now.marks + place }
+    {
+        match self.marks.len().checked_add(place) {
+            Some(sum) => text.len() < sum,
+            None => true,
         }
-        place += 1;
     }
-    Ok(false)
-}
 
-/// Whether the program matches at the place or at a later one, of which the least counts. Where it does, the groups are the
-/// match's.
-pub fn find(
-    alloc: Global,
-    program: &Program,
-    plan: &Plan,
-    text: &str,
-    begin: usize,
-    groups: &mut Vec<Option<Span>>,
-    count: &mut TurnCount,
-) -> Result<bool, AllocError>
-    requires { IsPlanOf program.now plan.now }
-    ensures finds { IfOk result (λ found. FindsGroups text.now program.now begin (groups_of found
-        groups.new.items)) }
-    ensures steps { OnOk result (count.new.made ≤ count.old.made
-        + step_weight (length plan.now.cells)
-        (slice_index_or (trees_of program.now) program.now.root nothing)
-        * (length text.now + 1)) }
-{
-    if begin > text.len() {
-        return Ok(false);
+    /// Whether a match begins at the place, which it does on boundaries of characters alone. Where one does, the groups are
+    /// the match's.
+    pub fn begins_at(
+        &self,
+        text: &str,
+        place: usize,
+        groups: &mut Vec<Option<Span>>,
+        count: &mut TurnCount,
+    ) -> Result<bool, AllocError>
+        requires guides { IsGuideIn text.now self.now }
+        requires there { length text.now < length self.now.marks + place }
+        ensures finds { IfOk result (λ found. FindsAt text.now self.now.program place
+            (groups_of found groups.new.items)) }
+        ensures steps { OnOk result (count.new.made ≤ count.old.made + (walk_cost
+            (slice_index_or (trees_of self.now.program) self.now.program.root nothing)
+            + look_cost (slice_index_or (trees_of self.now.program) self.now.program.root nothing))
+            * (length text.now + 1)) }
+    {
+        if place > text.len() {
+            return Ok(false);
+        }
+        let ground = Ground {
+            program: &self.program,
+            plan: &self.plan,
+            text,
+            sights: self.sights.as_slice(),
+            rows: &[],
+        };
+        let alloc = *self.sights.allocator();
+        begins_here(alloc, &ground, &self.marks, place, place, groups, count)
     }
-    find_up_to(alloc, program, plan, text, begin, text.len(), groups, count)
+
+    /// Whether a match begins at the place or at a later one up to `last`, of which the least counts. Where one does, the
+    /// groups are the match's.
+    pub fn find_up_to(
+        &self,
+        text: &str,
+        begin: usize,
+        last: usize,
+        groups: &mut Vec<Option<Span>>,
+        count: &mut TurnCount,
+    ) -> Result<bool, AllocError>
+        requires guides { IsGuideIn text.now self.now }
+        requires there { length text.now < length self.now.marks + begin }
+        requires order { begin ≤ last }
+        ensures finds { IfOk result (λ found. FindsUpTo text.now self.now.program begin last
+            (groups_of found groups.new.items)) }
+        ensures steps { OnOk result (count.new.made ≤ count.old.made + (walk_cost
+            (slice_index_or (trees_of self.now.program) self.now.program.root nothing)
+            + look_cost (slice_index_or (trees_of self.now.program) self.now.program.root nothing))
+            * (length text.now + 1)) }
+    {
+        let ground = Ground {
+            program: &self.program,
+            plan: &self.plan,
+            text,
+            sights: self.sights.as_slice(),
+            rows: &[],
+        };
+        let alloc = *self.sights.allocator();
+        let mut place = begin;
+        'starts: while place <= last && place <= text.len() {
+            if begins_here(alloc, &ground, &self.marks, begin, place, groups, count)? {
+                return Ok(true);
+            }
+            place += 1;
+        }
+        Ok(false)
+    }
 }

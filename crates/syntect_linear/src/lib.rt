@@ -1,11 +1,12 @@
 //! A search whose steps are bounded by the pattern times the text.
 #![tactic(auto)]
 
-pub mod asked;
 mod fill;
 pub mod find;
 pub mod ground;
-pub mod memo;
+mod lead;
+mod marking;
+pub mod marks;
 pub mod reach;
 pub mod rows;
 pub mod sight;

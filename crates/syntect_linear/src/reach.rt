@@ -32,6 +32,7 @@ pub fn reach(
     ensures known { Knows ground.now place now.new.items }
     ensures steps { Takes ground.now (suc (height_of ground.now cell)) now.old.items count.old.made
         now.new.items count.new.made 1 }
+    ensures counted { count.old.made < count.new.made }
 {
     count.tick();
     if let Some(known) = known_at(now.as_slice(), cell) {
@@ -202,14 +203,14 @@ fn reach_loop(
 }
 
 /// Whether a lookaround holds, by whether its part was found.
-pub(crate) fn looks(found: bool, negated: bool) -> bool
+pub fn looks(found: bool, negated: bool) -> bool
     ensures { result ≡ (if negated then not found else found) }
 {
     found != negated
 }
 
 /// Whether there may be a turn.
-pub(crate) fn may_turn(most: Option<u32>) -> bool
+pub fn may_turn(most: Option<u32>) -> bool
     ensures { result ≡ has_turn most }
 {
     match most {

@@ -1,4 +1,4 @@
-//! The match that the rows lead along, without a step back.
+//! The match that the marks lead along, without a step back.
 ghost use Rattle.std.specs.Prelude.{◌≡◌, suc, ◌&&◌, ◌==◌, not, is_some, slice_set, Some, true, false, if◌then◌else◌};
 ghost use Rattle.syntect_pattern_table.specs.Table.{is_text};
 ghost use Rattle.syntect_linear.specs.Ground.{IsIn, ends_at};
@@ -9,8 +9,8 @@ ghost use Rattle.syntect_linear.specs.Steps.{Costs};
 ghost use Rattle.syntect_linear.specs.Walk.{IsFilled, Walks};
 
 use crate::ground::Ground;
+use crate::marks::Marks;
 use crate::reach::may_turn;
-use crate::rows::end_at;
 use syntect_pattern_table::node::Node;
 use syntect_plan::cells::{Item, cell_at, parts_at};
 use syntect_plan::facts::facts_at;
@@ -22,13 +22,13 @@ use syntect_ways::past::{past_char, past_class};
 pub type Span = (usize, usize);
 
 /// Whether the whole match ends anywhere from the cell on.
-pub(crate) fn leads(ground: &Ground, place: usize, cell: usize) -> bool
-    requires filled { IsFilled ground.now place }
+pub(crate) fn leads(ground: &Ground, marks: &Marks, place: usize, cell: usize) -> bool
+    requires filled { IsFilled ground.now marks.now place }
     requires cell { IsIn ground.now cell }
     ensures { result ≡ is_some (ends_at ground.now cell place) }
 {
     let row = ground.text.len().saturating_sub(place);
-    end_at(ground.rows, row, cell).is_some()
+    marks.leads(row, cell)
 }
 
 /// The group matched this span.
@@ -44,12 +44,13 @@ fn close(groups: &mut Vec<Option<Span>>, group: usize, start: usize, end: usize)
 #[cycle(walk)]
 pub fn walk(
     ground: &Ground,
+    marks: &Marks,
     place: usize,
     cell: usize,
     groups: &mut Vec<Option<Span>>,
     count: &mut TurnCount,
 ) -> usize
-    requires filled { IsFilled ground.now place }
+    requires filled { IsFilled ground.now marks.now place }
     requires cell { IsIn ground.now cell }
     requires real { spec.is_end (spec.cell_at ground.now.plan.now.cells cell).item ≡ false }
     requires found { is_some (ends_at ground.now cell place) ≡ true }
@@ -65,9 +66,11 @@ pub fn walk(
             least,
             most,
             body: _,
-        } => walk_turns(ground, place, cell, groups, count, greedy, least, most),
+        } => walk_turns(
+            ground, marks, place, cell, groups, count, greedy, least, most,
+        ),
         Item::Node(node) => match ground.program.node(node) {
-            Some(node) => walk_node(ground, place, cell, groups, count, node),
+            Some(node) => walk_node(ground, marks, place, cell, groups, count, node),
             None => place,
         },
     }
@@ -77,13 +80,14 @@ pub fn walk(
 #[cycle(walk)]
 fn walk_node(
     ground: &Ground,
+    marks: &Marks,
     place: usize,
     cell: usize,
     groups: &mut Vec<Option<Span>>,
     count: &mut TurnCount,
     node: &Node,
 ) -> usize
-    requires filled { IsFilled ground.now place }
+    requires filled { IsFilled ground.now marks.now place }
     requires node { IsNodeAt ground.now cell node.now }
     requires spelt { is_text node.now ≡ false }
     requires found { is_some (ends_at ground.now cell place) ≡ true }
@@ -95,28 +99,30 @@ fn walk_node(
         Node::Char(wanted) => past_char(ground.text, place, *wanted).unwrap_or(place),
         Node::Class(class) => past_class(ground.text, place, class).unwrap_or(place),
         Node::Sequence(_, _) => {
-            let middle = walk(ground, place, parts.first, groups, count);
+            let middle = walk(ground, marks, place, parts.first, groups, count);
             let second = follows(ground, parts.first, middle == place);
-            walk(ground, middle, second, groups, count)
+            walk(ground, marks, middle, second, groups, count)
         }
         Node::Alternation(_, _) => {
-            if leads(ground, place, parts.first) {
-                return walk(ground, place, parts.first, groups, count);
+            if leads(ground, marks, place, parts.first) {
+                return walk(ground, marks, place, parts.first, groups, count);
             }
-            walk(ground, place, parts.second, groups, count)
+            walk(ground, marks, place, parts.second, groups, count)
         }
         Node::Repeat {
             greedy,
             least,
             most,
             body: _,
-        } => walk_turns(ground, place, cell, groups, count, *greedy, *least, *most),
+        } => walk_turns(
+            ground, marks, place, cell, groups, count, *greedy, *least, *most,
+        ),
         Node::Group { number, .. } => {
-            let end = walk(ground, place, parts.first, groups, count);
+            let end = walk(ground, marks, place, parts.first, groups, count);
             close(groups, *number, place, end);
             end
         }
-        Node::Atomic(_) => walk(ground, place, parts.first, groups, count),
+        Node::Atomic(_) => walk(ground, marks, place, parts.first, groups, count),
         Node::Ahead { negated, body } => {
             if *negated {
                 return place;
@@ -124,7 +130,7 @@ fn walk_node(
             if facts_at(ground.plan.facts.as_slice(), *body).bare {
                 return place;
             }
-            let _ = walk(ground, place, parts.first, groups, count);
+            let _ = walk(ground, marks, place, parts.first, groups, count);
             place
         }
         Node::Nothing => place,
@@ -147,13 +153,14 @@ fn follows(ground: &Ground, cell: usize, empty: bool) -> usize
 /// Whether a loop takes a turn at the place, which it leaves else.
 fn takes_turn(
     ground: &Ground,
+    marks: &Marks,
     place: usize,
     cell: usize,
     greedy: bool,
     least: u32,
     most: Option<u32>,
 ) -> bool
-    requires filled { IsFilled ground.now place }
+    requires filled { IsFilled ground.now marks.now place }
     requires turns { IsLoopAt ground.now cell greedy least most }
     ensures { result ≡ (if greedy
         then is_some (end_if (has_turn most)
@@ -163,16 +170,17 @@ fn takes_turn(
 {
     if greedy {
         let first = parts_at(ground.plan.parts.as_slice(), cell).first;
-        return may_turn(most) && leads(ground, place, first);
+        return may_turn(most) && leads(ground, marks, place, first);
     }
     let empty = cell_at(ground.plan.cells.as_slice(), cell).empty;
-    !(least == 0 && leads(ground, place, empty))
+    !(least == 0 && leads(ground, marks, place, empty))
 }
 
 /// The same as `walk`, of a loop.
 #[cycle(walk)]
 fn walk_turns(
     ground: &Ground,
+    marks: &Marks,
     place: usize,
     cell: usize,
     groups: &mut Vec<Option<Span>>,
@@ -181,7 +189,7 @@ fn walk_turns(
     least: u32,
     most: Option<u32>,
 ) -> usize
-    requires filled { IsFilled ground.now place }
+    requires filled { IsFilled ground.now marks.now place }
     requires turns { IsLoopAt ground.now cell greedy least most }
     requires found { is_some (ends_at ground.now cell place) ≡ true }
     ensures walks { Walks ground.now cell place groups.old.items result groups.new.items }
@@ -191,9 +199,9 @@ fn walk_turns(
     let mut turn = cell;
     let mut least = least;
     let mut most = most;
-    'turns: while takes_turn(ground, at, turn, greedy, least, most) {
+    'turns: while takes_turn(ground, marks, at, turn, greedy, least, most) {
         let first = parts_at(ground.plan.parts.as_slice(), turn).first;
-        let end = walk(ground, at, first, groups, count);
+        let end = walk(ground, marks, at, first, groups, count);
         if end == at {
             return end;
         }

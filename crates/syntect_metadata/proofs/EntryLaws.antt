@@ -1,7 +1,9 @@
 -- Why bytes and files give no entry.
-use Rattle.std.proofs.Common.{◌≡◌, ◌≢◌, ℕ, List, [], ◌++◌, refl, ap, ◌∙◌, false}
+use Rattle.std.proofs.Common.{◌≡◌, ◌≢◌, ℕ, List, [], ◌++◌, refl, sym, ap, ◌∙◌, false}
 use Rattle.std.specs.Prelude.{Option, Some, None, Result, Ok, Err, IfSome, IfOk, OnOk, IfErr, IsErrAnd}
+use Rattle.std.specs.IoError.{error_kind}
 use Rattle.std.specs.declared.io.Error.{Error}
+use Rattle.std.specs.declared.io.ErrorKind.TheVariants.{OutOfMemory}
 use Rattle.serde_json.specs.Data.{Data}
 use Rattle.syntect_base.specs.Refusals.{IsReadFault, from_settings}
 use Rattle.syntect_base.specs.Settings.{IsSettings}
@@ -37,10 +39,18 @@ some_bytes : (left : Option (List ℕ)) → (bytes : List ℕ) × IfSome left (�
 some_bytes None = ([], tt)
 some_bytes (Some xs) = (xs, refl)
 
+-- a fault that is told as such is not that memory was wanting
+no_memory_fault : (e x : Error) → IsReadFault e (loading.Io x) → error_kind x ≢ OutOfMemory
+no_memory_fault e x f k =
+    let i : loading.Io x ≡ loading.Io e = f.either (λ q. cc) in
+    let s : x ≡ e = cc in
+    let m : loading.Io x ≡ loading.Memory = f.memory (ap error_kind (sym s) ∙ k) in
+    cc
+
 -- a fault of reading, told
 pub read_so : (left : Option (List ℕ)) (e : Error) (r : LoadingError) → IsReadFault e r → RefusesRead left r
 read_so left e loading.Memory f = let s = some_bytes left in refused s.1 no_memory
-read_so left e (loading.Io x) f = not_read
+read_so left e (loading.Io x) f = not_read (no_memory_fault e x f)
 read_so left e loading.WalkDir f = let q : loading.WalkDir ≡ loading.Io e = f.either (λ q. cc) in cc
 read_so left e (loading.ParseSyntax x y) f = let q : loading.ParseSyntax x y ≡ loading.Io e = f.either (λ q. cc) in cc
 read_so left e loading.ParseMetadata f = let q : loading.ParseMetadata ≡ loading.Io e = f.either (λ q. cc) in cc
@@ -54,7 +64,7 @@ fault_read e r f = read_so None e r f
 
 -- of a file the bytes are not known
 pub of_file : (left : Option (List ℕ)) (e : LoadingError) → RefusesRead left e → IsEntryFault e
-of_file left e not_read = not_read
+of_file left e (not_read k) = not_read k
 of_file left e (refused {bytes = bytes} k r) = refused {bytes = bytes} tt r
 
 -- the bytes that were read are those that were left

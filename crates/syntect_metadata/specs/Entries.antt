@@ -1,6 +1,8 @@
 -- Entries of metadata, as files have them.
-use Rattle.std.specs.Prelude.{◌≡◌, ℕ, List, codes, Bool, ◌&&◌, false, Option, Some, None, IfSome, option_and_then, is_some}
+use Rattle.std.specs.Prelude.{◌≡◌, ◌≢◌, ℕ, List, codes, Bool, ◌&&◌, false, Option, Some, None, IfSome, option_and_then, is_some}
+use Rattle.std.specs.IoError.{error_kind}
 use Rattle.std.specs.declared.io.Error.{Error}
+use Rattle.std.specs.declared.io.ErrorKind.TheVariants.{OutOfMemory}
 use Rattle.serde_json.specs.Data.{Data, Members}
 use Rattle.serde_json.specs.Find.{get, as_str, as_object}
 use Rattle.serde_json.specs.View.{members_view}
@@ -40,9 +42,10 @@ pub data RefusesEntry (bytes : List ℕ) : LoadingError → Type 0 where
   no_entry : {d : Data} → IsSettings bytes d → is_entry d ≡ false → RefusesEntry bytes ParseMetadata
   no_memory : RefusesEntry bytes Memory
 
--- why what a reader has left, where that is known, gives no entry: reading has a fault, or the bytes give none
+-- why what a reader has left, where that is known, gives no entry: reading has a fault, which is not that memory was wanting, or
+-- the bytes give none
 pub data RefusesRead (left : Option (List ℕ)) : LoadingError → Type 0 where
-  not_read : {e : Error} → RefusesRead left (Io e)
+  not_read : {e : Error} → error_kind e ≢ OutOfMemory → RefusesRead left (Io e)
   refused : {bytes : List ℕ} {e : LoadingError} → IfSome left (λ xs. bytes ≡ xs)
       → RefusesEntry bytes e → RefusesRead left e
 

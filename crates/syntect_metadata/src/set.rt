@@ -1,9 +1,10 @@
 //! Sets of metadata.
-ghost use Rattle.std.specs.Prelude.{◌≡◌, length, take, string_bytes, IfOk, OnOk, IfErr, Ok};
+ghost use Rattle.std.specs.Prelude.{◌≡◌, false, length, take, string_bytes, IfOk, OnOk, IfErr, Ok};
 ghost use Rattle.serde_json.specs.Data.{object};
 ghost use Rattle.serde_json.specs.View.{members_view, view};
 ghost use Rattle.syntect_scope.specs.Repository.{with_scopes, IsRepository};
 ghost use Rattle.syntect_scope.specs.SelectorText.{union_words};
+ghost use Rattle.syntect_metadata.specs.Items.{has_known_key};
 ghost use Rattle.syntect_metadata.specs.Sets.{set_with, set_of, scope_refusal, Refuses};
 
 use crate::error::MetadataError;
@@ -49,10 +50,10 @@ impl MetadataSet {
     }
 
     /// The set of a selector's text and the members of an object, of which the repository takes up the scopes. It is `Skipped`
-    /// where none of the seven keys is there; else `BadItems` where a pattern's key has neither a text nor null, `indentParens`
-    /// neither a truth value nor null, or `shellVariables` no object of texts; else `BadSelector` with the refusal of the first
-    /// scope that is refused. Other keys are not looked at. After a refusal the repository may have more atoms, and the old
-    /// ones keep their numbers.
+    /// where none of the seven keys is there, which is tested before memory is taken; else `BadItems` where a pattern's key has
+    /// neither a text nor null, `indentParens` neither a truth value nor null, or `shellVariables` no object of texts; else
+    /// `BadSelector` with the refusal of the first scope that is refused. Other keys are not looked at. After a refusal the
+    /// repository may have more atoms, and the old ones keep their numbers.
     pub fn from_raw(
         alloc: Global,
         raw: (String, Map<String, Value>),
@@ -65,6 +66,9 @@ impl MetadataSet {
             ≡ with_scopes repository.old (union_words (string_bytes raw.0))) }
         ensures err { IfErr result (Refuses
             (set_of repository.old (string_bytes raw.0) (object (members_view raw.1.entries)))) }
+        ensures skipped { IfErr result (λ e.
+            has_known_key (object (members_view raw.1.entries)) ≡ false
+            → e ≡ MetadataError.Skipped) }
         ensures whole { IsRepository repository.new }
         ensures kept { take (length repository.old) repository.new ≡ repository.old }
     {

@@ -9,3 +9,4 @@ pub mod BuildLaws
 pub mod MakesLaws
 pub mod LinearLaws
 pub mod SpeltLaws
+pub mod OrderLaws

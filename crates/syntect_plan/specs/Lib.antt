@@ -6,3 +6,4 @@ pub mod PlanOf
 pub mod Build
 pub mod Linear
 pub mod Spelt
+pub mod Order

@@ -2,8 +2,18 @@
 //!
 //! What a cell has to know at a place it learns from lower ones: the cells of its parts, and the one that goes on at the
 //! place. With the lowest first, each is known when it is asked for, so that calls lie in one another but one deep, however
-//! deep the pattern is. What is found does not depend on the order, so no contract speaks of it.
-use crate::cells::{Cell, Item};
+//! deep the pattern is. What is found does not depend on the order.
+ghost use Rattle.std.specs.Prelude.{◌≡◌, ◌+◌, ◌&&◌, ℕ, suc, nat_lt, if◌then◌else◌, [], IfOk, IsPermutation, IsSorted, List, false, length, slice_index_or};
+ghost use Rattle.syntect_pattern.specs.Trees.{Tree};
+ghost use Rattle.syntect_pattern_table.specs.Program.{trees_of};
+ghost use Rattle.syntect_pattern_table.specs.Table.{AreSpelt, is_text, node_tree, trees};
+ghost use Rattle.syntect_plan.specs.Cells as spec;
+ghost use Rattle.syntect_plan.specs.Cells.{heights_from, tree_size};
+ghost use Rattle.syntect_plan.specs.Facts.{AreFacts};
+ghost use Rattle.syntect_plan.specs.Order.{AreCapped, AreSizes, capped, levels};
+ghost use Rattle.syntect_plan.specs.PlanOf.{IsPlanOf};
+
+use crate::cells::{Cell, Item, cell_at};
 use crate::facts::{Facts, facts_at};
 use crate::plan::Plan;
 use std::alloc::{AllocError, Global};
@@ -11,30 +21,58 @@ use syntect_pattern_table::node::Node;
 use syntect_pattern_table::program::Program;
 
 /// The number at the place.
-fn number_at(numbers: &[usize], place: usize) -> usize {
+fn number_at(numbers: &[usize], place: usize) -> usize
+    ensures { result ≡ slice_index_or numbers.now place 0 }
+{
     numbers.get(place).copied().unwrap_or(0)
 }
 
+/// The size of the node with the number.
+fn size_at(sizes: &[usize], node: usize) -> usize
+    ensures { result ≡ slice_index_or sizes.now node 1 }
+{
+    sizes.get(node).copied().unwrap_or(1)
+}
+
+/// How many nodes two parts have with the node that they are in.
+#[tactic(auto, unfolding(crate::specs::Order::capped))]
+fn size_of_two(first: usize, second: usize) -> usize
+    ensures { (a b : ℕ) → first ≡ capped a → second ≡ capped b → result ≡ capped (suc (a + b)) }
+{
+    first.saturating_add(second).saturating_add(1)
+}
+
+/// The number with so many more.
+#[tactic(auto, unfolding(crate::specs::Order::capped))]
+fn larger(size: usize, more: usize) -> usize
+    ensures { (a : ℕ) → size ≡ capped a → result ≡ capped (a + more) }
+{
+    size.saturating_add(more)
+}
+
 /// How many nodes a node has with those of its parts, and one more for a part that is matched on its own.
-fn node_size(node: &Node, before: &[usize]) -> usize {
+#[tactic(auto, unfolding(crate::specs::Order::capped))]
+fn node_size(node: &Node, before: &[usize]) -> usize
+    ensures { (ts : List Tree) → AreSizes before.now ts → is_text node.now ≡ false
+        → result ≡ capped (tree_size (node_tree ts node.now)) }
+{
     match node {
         Node::Sequence(first, second) | Node::Alternation(first, second) => {
-            number_at(before, *first)
-                .saturating_add(number_at(before, *second))
-                .saturating_add(1)
+            size_of_two(size_at(before, *first), size_at(before, *second))
         }
         Node::Repeat { body, .. } | Node::Group { body, .. } | Node::Behind { body, .. } => {
-            number_at(before, *body).saturating_add(1)
+            larger(size_at(before, *body), 1)
         }
-        Node::Atomic(body) | Node::Ahead { body, .. } => {
-            number_at(before, *body).saturating_add(2)
-        }
-        _ => 1,
+        Node::Atomic(body) | Node::Ahead { body, .. } => larger(size_at(before, *body), 2),
+        Node::Nothing | Node::Char(_) | Node::Class(_) | Node::Anchor(_) => 1,
+        Node::Same { .. } | Node::Text { .. } => 1,
     }
 }
 
 /// The same of each node.
-fn sizes_of(alloc: Global, nodes: &[Node]) -> Result<Vec<usize>, AllocError> {
+fn sizes_of(alloc: Global, nodes: &[Node]) -> Result<Vec<usize>, AllocError>
+    ensures { IfOk result (λ sizes. AreSpelt nodes.now → AreSizes sizes.items (trees nodes.now)) }
+{
     let mut sizes = Vec::new(alloc);
     for node in nodes {
         let size = node_size(node, sizes.as_slice());
@@ -43,43 +81,75 @@ fn sizes_of(alloc: Global, nodes: &[Node]) -> Result<Vec<usize>, AllocError> {
     Ok(sizes)
 }
 
+/// How much can be gone through at one place of a part so large, before so much that goes on at the place.
+#[tactic(auto, unfolding(crate::specs::Order::capped))]
+fn height_from(size: usize, reads: bool, rest: usize) -> usize
+    ensures { (a b : ℕ) → size ≡ capped a → rest ≡ capped b
+        → result ≡ capped (a + (if reads then 0 else b)) }
+{
+    if reads {
+        return size;
+    }
+    size.saturating_add(rest)
+}
+
+/// Whether each match of a loop reads something, by whether each of its body does.
+fn loop_reads(least: u32, reads: bool) -> bool
+    ensures { result ≡ (nat_lt 0 least && reads) }
+{
+    least > 0 && reads
+}
+
 /// How much of the pattern can be gone through at one place from the cell on.
-fn cell_height(cell: Cell, sizes: &[usize], facts: &[Facts], before: &[usize]) -> usize {
-    let (size, reads) = match cell.item {
-        Item::End => return 0,
-        Item::Node(node) => (number_at(sizes, node), facts_at(facts, node).reads),
+fn cell_height(cell: Cell, sizes: &[usize], facts: &[Facts], before: &[usize]) -> usize
+    ensures { (ts : List Tree) (heights : List ℕ) → AreFacts facts.now ts → AreSizes sizes.now ts
+        → AreCapped before.now heights → result ≡ capped (spec.cell_height ts heights cell) }
+{
+    let rest = number_at(before, cell.empty);
+    match cell.item {
+        Item::End => 0,
+        Item::Node(node) => {
+            let reads = facts_at(facts, node).reads;
+            height_from(size_at(sizes, node), reads, rest)
+        }
         Item::Turns {
             greedy: _,
             least,
             most: _,
             body,
-        } => (
-            number_at(sizes, body).saturating_add(1),
-            least > 0 && facts_at(facts, body).reads,
-        ),
-    };
-    if reads {
-        return size;
+        } => {
+            let reads = loop_reads(least, facts_at(facts, body).reads);
+            height_from(larger(size_at(sizes, body), 1), reads, rest)
+        }
     }
-    size.saturating_add(number_at(before, cell.empty))
 }
 
 /// The same of each cell.
-fn heights_of(alloc: Global, plan: &Plan, sizes: &[usize]) -> Result<Vec<usize>, AllocError> {
+fn heights_of(alloc: Global, plan: &Plan, sizes: &[usize]) -> Result<Vec<usize>, AllocError>
+    ensures heights { IfOk result (λ heights. (ts : List Tree) → AreFacts plan.now.facts ts
+        → AreSizes sizes.now ts → AreCapped heights.items (heights_from ts [] plan.now.cells)) }
+    ensures long { IfOk result (λ heights. length heights.items ≡ length plan.now.cells) }
+{
     let mut heights = Vec::new(alloc);
-    for cell in plan.cells.as_slice() {
-        let height = cell_height(*cell, sizes, plan.facts.as_slice(), heights.as_slice());
+    for number in 0..plan.cells.len() {
+        let cell = cell_at(plan.cells.as_slice(), number);
+        let height = cell_height(cell, sizes, plan.facts.as_slice(), heights.as_slice());
         heights.push(height)?;
     }
     Ok(heights)
 }
 
-/// The cells, the lowest first.
+/// The cells, each behind its height, the lowest first.
 pub fn order_of(
     alloc: Global,
     program: &Program,
     plan: &Plan,
-) -> Result<Vec<(usize, usize)>, AllocError> {
+) -> Result<Vec<(usize, usize)>, AllocError>
+    ensures all { IfOk result (λ order. IsPlanOf program.now plan.now
+        → IsPermutation (levels (trees_of program.now) plan.now.cells (length plan.now.cells))
+        order.items) }
+    ensures ascends { IfOk result (λ order. IsSorted ⟦<(usize, usize) as Ord>⟧.cmp order.items) }
+{
     let sizes = sizes_of(alloc, program.nodes.as_slice())?;
     let heights = heights_of(alloc, plan, sizes.as_slice())?;
     let mut order = Vec::new(alloc);

@@ -463,6 +463,9 @@ impl Plan {
             ≡ is_linear (slice_index_or (trees_of program.now) program.now.root nothing)) }
         ensures steps { OnOk result (count.new.made ≤ count.old.made
             + plan_cells (slice_index_or (trees_of program.now) program.now.root nothing)) }
+        ensures counted { IfOk result (λ found. IfSome found (λ plan. count.new.made
+            ≡ count.old.made + length plan.cells)) }
+        ensures rises { OnOk result (count.old.made ≤ count.new.made) }
     {
         let facts = facts_of(alloc, program.nodes.as_slice())?;
         if !facts_at(facts.as_slice(), program.root).free {

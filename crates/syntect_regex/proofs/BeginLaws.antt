@@ -14,21 +14,11 @@ use Rattle.syntect_pattern_table.specs.declared.starts.Places.{Places}
 use Rattle.syntect_pattern_table.proofs.BeginLaws.{start-bound}
 use Rattle.syntect_pattern_table.proofs.StartLaws.{found_at-nothing}
 use Rattle.syntect_engine.proofs.FindLaws.{found-past, found-step}
+use Rattle.syntect_seek.proofs.NextLaws.{found-next, pattern-next}
 use Rattle.syntect_pattern_reader.specs.Compiled.{Compiles, IsCompiled}
 use Rattle.syntect_regex.specs.Begins.{BeginsAtEdges, IsAtEdges, NoneBeginsBefore, NoneBeginsOutside}
 use Rattle.syntect_word_ends.specs.Ends.{StandsBehind, ends, passes}
 use Rattle.syntect_word_ends.proofs.EndLaws.{none-in_run}
-
--- a place where no match begins is passed over, also one past the end
-pub found-next : (s : List ℕ) (tree : Tree) (i : ℕ) → found_at s tree i ≡ None → found s tree i ≡ found s tree (i + 1)
-found-next s tree i e = elim (cases_lt (length s) i) [
-  | inl l ↦ found-past s tree i l ∙ sym (found-past s tree (i + 1) (omega (arith, l)))
-  | inr l ↦ rw add-one (found-step s tree i l e)
-]
-
-pub pattern-next : (s pattern : List ℕ) (tree : Tree) (i : ℕ) → pattern_tree pattern ≡ Some tree → found s tree i ≡ found s tree (i + 1) → pattern_found pattern s i ≡ pattern_found pattern s (i + 1)
-pattern-next s pattern tree i e h =
-    ap (λ (o : Option Tree). option_and_then (λ t. found s t i) o) e ∙ h ∙ sym (ap (λ (o : Option Tree). option_and_then (λ t. found s t (i + 1)) o) e)
 
 -- what the root of a program can begin with
 pub none-outside : (pattern : List ℕ) (p : Program) → IsCompiled pattern p → (places : Places) → Some places ≡ slice_get p.firsts p.root → NoneBeginsOutside places pattern

@@ -11,7 +11,7 @@ use Rattle.syntect_engine.specs.Machine.{FindsAt, groups_of}
 use Rattle.syntect_engine.specs.declared.state.Search.{Search}
 use Rattle.syntect_pattern_table.specs.declared.program.Program.{Program}
 use Rattle.syntect_regex.specs.Region.{BeginsAt, TakesHere}
-use Rattle.syntect_regex.proofs.BeginLaws.{found-next}
+use Rattle.syntect_seek.proofs.NextLaws.{found-next}
 
 -- the group that a match closes last begins where the match does
 closed : (i j : ℕ) (h g : Groups) → slice_set h 0 (Some (i, j)) ≡ g → BeginsAt g i

@@ -3,5 +3,3 @@ pub mod BeginLaws
 pub mod HereLaws
 pub mod MarkLaws
 pub mod OutlineLaws
-pub mod ProspectLaws
-pub mod SeekLaws

@@ -3,6 +3,8 @@ pub use Rattle.syntect_pattern.specs.Matches
 pub use Rattle.syntect_pattern.specs.Nesting
 pub use Rattle.syntect_pattern.specs.Found
 pub use Rattle.syntect_word_ends.specs.Ends
+pub use Rattle.syntect_seek.specs.Prospect
+pub use Rattle.syntect_seek.specs.Depths
 pub mod Region
 pub mod Escape
 pub mod Begins
@@ -13,4 +15,3 @@ pub mod Outline
 pub mod Body
 pub mod Kept
 pub mod Groups
-pub mod Prospect

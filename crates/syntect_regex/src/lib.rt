@@ -7,7 +7,5 @@ mod edges;
 pub mod error;
 mod looks;
 mod outline;
-pub mod prospect;
 pub mod regex;
 pub mod region;
-mod seek;

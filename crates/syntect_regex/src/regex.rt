@@ -12,7 +12,8 @@ ghost use Rattle.syntect_pattern.specs.declared.error.PatternError.{PatternError
 ghost use Rattle.syntect_regex.specs.Body.{outline_in};
 ghost use Rattle.syntect_regex.specs.Bounds.{pattern_is_linear, search_bound};
 ghost use Rattle.syntect_regex.specs.Begins.{NoneBeginsBefore, NoneBeginsOutside, BeginsAtEdges};
-ghost use Rattle.syntect_regex.specs.Prospect.{IsProspectOf};
+ghost use Rattle.syntect_seek.specs.Depths.{AreDepthsIn};
+ghost use Rattle.syntect_seek.specs.Prospect.{IsProspectOf};
 ghost use Rattle.syntect_regex.specs.Escape.{is_special, escaped_char, escaped};
 ghost use Rattle.syntect_regex.specs.Region.{TakesMatch, TakesUpTo, TriesAt, Leaves, pattern_begins};
 
@@ -20,9 +21,7 @@ use crate::compiled::{Kept, program_in};
 use crate::details::Details;
 use crate::error::PatternError;
 use crate::outline::Outline;
-use crate::prospect::Prospect;
 use crate::region::Region;
-use crate::seek::begins_at;
 use once_cell::race::OnceBox;
 use std::alloc::{AllocError, Global};
 use std::marker::Model;
@@ -32,6 +31,9 @@ use syntect_pattern_table::program::Program;
 use syntect_pattern_table::starts::Places;
 use syntect_plan::plan::Plan;
 use syntect_plan::spelt::spelt;
+use syntect_seek::depths::Depths;
+use syntect_seek::prospect::Prospect;
+use syntect_seek::seek::begins_known;
 use syntect_turns::count::TurnCount;
 
 /// A pattern. It is its text: equal texts are equal patterns.
@@ -377,26 +379,35 @@ impl Regex {
             → OnOk result (count.new.made
             ≤ count.old.made + search_bound self.now (length text.now)) }
     {
-        let Some(program) = self.program()? else {
-            return Ok(false);
-        };
-        let size = self.body.text.len();
-        region.find_at(program, size, text, place, count)
+        let alloc = *self.body.text.allocator();
+        let mut depths = Depths::new(alloc);
+        self.match_at_known(
+            text,
+            place,
+            &mut Prospect::new(),
+            &mut depths,
+            region,
+            count,
+        )
     }
 
     /// Tells as `match_at_counted` does, with what is known of the pattern in this text, of which more may be known after: no
     /// step is taken at a place where no match can begin by that. To try a pattern at place after place of one text, hand in
-    /// what was left the last time.
+    /// what was left the last time. Patterns that backed up too often leave the plans that they go on by in `depths`, which may
+    /// be handed in for all patterns that are tried in the text.
     pub fn match_at_known(
         &self,
         text: &str,
         place: usize,
         known: &mut Prospect,
+        depths: &mut Depths,
         region: &mut Region,
         count: &mut TurnCount,
     ) -> Result<bool, AllocError>
         requires known { IsProspectOf self.now text.now known.old }
+        requires depths { AreDepthsIn text.now depths.old }
         ensures known { IsProspectOf self.now text.now known.new }
+        ensures depths { OnOk result (AreDepthsIn text.now depths.new) }
         ensures ok { IfOk result (λ b. TriesAt self.now text.now place region.old b region.new) }
         ensures err { OnErr result (region.new ≡ region.old) }
         ensures steps { pattern_is_linear self.now ≡ true
@@ -412,8 +423,8 @@ impl Regex {
         if !known.is_left(program, text, place) {
             return Ok(false);
         }
-        let size = self.body.text.len();
-        region.find_known(program, size, text, place, known, count)
+        let pattern = self.body.text.as_str();
+        region.find_known(program, pattern, text, place, known, depths, count)
     }
 
     /// Searches as `search_into` does, where a region is perhaps lent. Without one the memory of the search is let go.
@@ -452,8 +463,20 @@ impl Regex {
             return Ok(false);
         };
         let mut search = Search::new(alloc);
-        let size = self.body.text.len();
-        begins_at(&mut search, program, size, text, 0, &mut TurnCount::none())
+        let pattern = self.body.text.as_str();
+        let mut known = Prospect::new();
+        let mut depths = Depths::new(alloc);
+        let mut count = TurnCount::none();
+        begins_known(
+            &mut search,
+            program,
+            pattern,
+            text,
+            0,
+            &mut known,
+            &mut depths,
+            &mut count,
+        )
     }
 }
 

@@ -1,19 +1,21 @@
 //! Where the groups of a match stand.
 ghost use Rattle.std.specs.Prelude.{◌≡◌, ◌≤◌, ◌↔◌, ℕ, List, true, [], IfOk, OnErr, OnOk, None, length, slice_index_or};
 ghost use Rattle.syntect_pattern.specs.Matches.{Groups};
-ghost use Rattle.syntect_regex.specs.Bounds.{IsWithinBound};
+ghost use Rattle.syntect_seek.specs.Bounds.{IsWithinBound};
 ghost use Rattle.syntect_pattern_reader.specs.Compiled.{IsCompiled};
-ghost use Rattle.syntect_regex.specs.Prospect.{IsProspectOf};
+ghost use Rattle.syntect_seek.specs.Depths.{AreDepthsIn};
+ghost use Rattle.syntect_seek.specs.Prospect.{IsProspectOf};
 ghost use Rattle.syntect_regex.specs.Region.{Takes, TakesHere, TakesNear, same_groups, same_groups-equiv};
 ghost use Rattle.std.specs.Cmp.{partial_equiv_from_equiv};
 
-use crate::prospect::Prospect;
-use crate::seek::{begins_at, begins_known, find, find_up_to};
 use std::alloc::{AllocError, Global};
 use std::marker::Model;
 use std::mem;
 use syntect_engine::state::{Search, Span};
 use syntect_pattern_table::program::Program;
+use syntect_seek::depths::Depths;
+use syntect_seek::prospect::Prospect;
+use syntect_seek::seek::{begins_known, find, find_up_to};
 use syntect_turns::count::TurnCount;
 
 /// Where each group of a match stands, from 0, which is the whole match. A region also keeps the memory of the last search
@@ -123,48 +125,31 @@ impl Region {
         Ok(is_found)
     }
 
-    /// The same for this place alone.
-    pub(crate) fn find_at(
-        &mut self,
-        program: &Program,
-        size: usize,
-        text: &str,
-        place: usize,
-        count: &mut TurnCount,
-    ) -> Result<bool, AllocError>
-        ensures found { IfOk result
-            (λ b. TakesHere text.now program.now place self.old b self.new) }
-        ensures err { OnErr result (self.new ≡ self.old) }
-        ensures steps { OnOk result (IsWithinBound program.now size (length text.now)
-            count.old.made count.new.made) }
-    {
-        let is_here = begins_at(&mut self.search, program, size, text, place, count)?;
-        if is_here {
-            mem::swap(&mut self.positions, &mut self.search.groups);
-        }
-        Ok(is_here)
-    }
-
-    /// The same of a text in which the program is tried at place after place, by what is known of it there, of which more is
-    /// known after.
+    /// The same for this place alone of a text in which the pattern is tried at place after place, by what is known of it there,
+    /// of which more is known after. The program is the pattern's.
     pub(crate) fn find_known(
         &mut self,
         program: &Program,
-        size: usize,
+        pattern: &str,
         text: &str,
         place: usize,
         known: &mut Prospect,
+        depths: &mut Depths,
         count: &mut TurnCount,
     ) -> Result<bool, AllocError>
+        requires program { IsCompiled pattern.now program.now }
+        requires depths { AreDepthsIn text.now depths.old }
         ensures found { IfOk result
             (λ b. TakesHere text.now program.now place self.old b self.new) }
-        ensures known { (pattern : List ℕ) → IsCompiled pattern program.now
-            → IsProspectOf pattern text.now known.old → IsProspectOf pattern text.now known.new }
+        ensures known { IsProspectOf pattern.now text.now known.old
+            → IsProspectOf pattern.now text.now known.new }
+        ensures depths { OnOk result (AreDepthsIn text.now depths.new) }
         ensures err { OnErr result (self.new ≡ self.old) }
-        ensures steps { OnOk result (IsWithinBound program.now size (length text.now)
-            count.old.made count.new.made) }
+        ensures steps { OnOk result (IsWithinBound program.now (length pattern.now)
+            (length text.now) count.old.made count.new.made) }
     {
-        let is_here = begins_known(&mut self.search, program, size, text, place, known, count)?;
+        let search = &mut self.search;
+        let is_here = begins_known(search, program, pattern, text, place, known, depths, count)?;
         if is_here {
             mem::swap(&mut self.positions, &mut self.search.groups);
         }

@@ -2,9 +2,10 @@
 use crate::found::{equal, holds};
 use std::process::Abort;
 use syntect_pattern_table::starts::is_in;
-use syntect_regex::prospect::Prospect;
 use syntect_regex::regex::Regex;
 use syntect_regex::region::Region;
+use syntect_seek::depths::Depths;
+use syntect_seek::prospect::Prospect;
 use syntect_turns::count::TurnCount;
 
 #[test]
@@ -237,17 +238,73 @@ fn tries_a_pattern_by_what_is_known(rt: HostRuntime) {
     let mut region = Region::default(rt.alloc());
     let mut count = TurnCount::none();
     let mut known = Prospect::new();
+    let mut depths = Depths::new(rt.alloc());
     let line = "aabaa";
-    let found = regex.match_at_known(line, 1, &mut known, &mut region, &mut count);
+    let found = regex.match_at_known(line, 1, &mut known, &mut depths, &mut region, &mut count);
     equal(&rt, found.expect(&rt, "memory"), true);
-    let found = regex.match_at_known(line, 3, &mut known, &mut region, &mut count);
+    let found = regex.match_at_known(line, 3, &mut known, &mut depths, &mut region, &mut count);
     equal(&rt, found.expect(&rt, "memory"), false);
-    let found = regex.match_at_known(line, 4, &mut known, &mut region, &mut count);
+    let found = regex.match_at_known(line, 4, &mut known, &mut depths, &mut region, &mut count);
     equal(&rt, found.expect(&rt, "memory"), false);
     equal(&rt, region.pos(0), Some((1, 3)));
     // Of another text something else is known
     known = Prospect::new();
-    let found = regex.match_at_known("aaaab", 3, &mut known, &mut region, &mut count);
+    depths.forget();
+    let found = regex.match_at_known("aaaab", 3, &mut known, &mut depths, &mut region, &mut count);
     equal(&rt, found.expect(&rt, "memory"), true);
     equal(&rt, region.pos(0), Some((3, 5)));
+}
+
+/// Where the pattern begins in the line, tried at each of its places with what was known at the one before.
+fn begins(
+    rt: &(impl Abort + AllocGlobal),
+    pattern: &str,
+    depths: &mut Depths,
+    place: usize,
+) -> bool {
+    let text = String::from_str(rt.alloc(), pattern).expect(rt, "memory");
+    let regex = Regex::new(rt.alloc(), text).expect(rt, "memory");
+    let mut region = Region::default(rt.alloc());
+    let mut count = TurnCount::none();
+    let mut known = Prospect::new();
+    let mut begins = false;
+    for at in 0..=place {
+        let tried = regex.match_at_known(TRAP, at, &mut known, depths, &mut region, &mut count);
+        begins = tried.expect(rt, "memory");
+    }
+    begins
+}
+
+/// At each of these letters a search that backs up has as many ways as there are.
+const TRAP: &str = "aaaaaaaaaaaaaaaaaaaaaaaaaaaaaaaaaaaaaaaa.aacbbc";
+
+/// Patterns that back up too often begin where their matches do, each by a plan of its own that is kept of the line.
+#[test]
+fn tries_patterns_by_plans_that_are_kept(rt: HostRuntime) {
+    let mut depths = Depths::new(rt.alloc());
+    holds(&rt, !begins(&rt, "(a+)+c", &mut depths, 0));
+    holds(&rt, begins(&rt, "(a+)+c", &mut depths, 41));
+    holds(&rt, begins(&rt, "(a+)+c", &mut depths, 42));
+    holds(&rt, !begins(&rt, "(a+)+c", &mut depths, 43));
+    holds(&rt, !begins(&rt, "(a+)+b", &mut depths, 41));
+    holds(&rt, begins(&rt, "(b+)+c", &mut depths, 44));
+    holds(&rt, begins(&rt, "(a+)+c", &mut depths, 41));
+}
+
+/// A plan of some 36000 cells, each of which goes on with the next where the line ends. What each comes to there is worked out
+/// in an order in which no call waits for many others: a stack of 1 MB would not hold them.
+#[test]
+fn fills_a_long_row(rt: HostRuntime) {
+    let mut text = String::from_str(rt.alloc(), "(?:a+)+b|a+").expect(&rt, "memory");
+    for _end in 0..18000 {
+        text.push('$').expect(&rt, "memory");
+    }
+    let regex = Regex::new(rt.alloc(), text).expect(&rt, "memory");
+    let linear = regex.is_linear(rt.alloc());
+    equal(&rt, linear.expect(&rt, "memory"), true);
+    let mut region = Region::default(rt.alloc());
+    let line = "aaaaaaaaaaaaaaaaaaaaaaaaaaaaaaaaaaaaaaaa";
+    let found = regex.search_into(line, 0, 40, &mut region);
+    equal(&rt, found.expect(&rt, "memory"), true);
+    equal(&rt, region.pos(0), Some((0, 40)));
 }

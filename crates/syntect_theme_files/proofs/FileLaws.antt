@@ -8,7 +8,9 @@ use Rattle.std.specs.Prelude.{IfSome, IfOk, OnOk, IsErrAnd, IfErr, Result, Ok, i
 use Rattle.std.proofs.lemmas.List.{take_all, take-append-le, take-append-drop, length-take}
 use Rattle.std.proofs.lemmas.Map.Entries.{entries_from_clone}
 use Rattle.std.specs.List.{AllZip}
+use Rattle.std.specs.IoError.{error_kind}
 use Rattle.std.specs.declared.io.Error.{Error}
+use Rattle.std.specs.declared.io.ErrorKind.TheVariants.{OutOfMemory}
 use Rattle.serde_json.specs.Data.{Data}
 use Rattle.syntect_base.specs.Settings.{IsSettings}
 use Rattle.syntect_base.specs.Walks.{IsWalk}
@@ -21,6 +23,7 @@ use Rattle.syntect_base.specs.declared.loading.LoadingError.{LoadingError}
 use Rattle.syntect_base.specs.declared.loading.LoadingError.TheVariants as loading
 use Rattle.syntect_theme_files.specs.Loading.{head_at}
 use Rattle.syntect_theme.specs.Refusals.{Refuses}
+use Rattle.syntect_theme_files.specs.Refusals.{RefusesExactly}
 use Rattle.syntect_theme_files.specs.ThemeFiles.{IsThemeOf, RefusesTheme, RefusesRead, IsThemeFault, theme_name, AddsThemes, StopsAtTheme, RefusesThemes, no_settings, no_theme, not_read, refused, no_memory, no_more, other, theme, stopped}
 use Rattle.syntect_theme.specs.declared.theme.Theme.{Theme}
 
@@ -28,20 +31,28 @@ pub not_settings : (bytes : List ℕ) (e : SettingsError) → (e ≢ settings.Me
 not_settings bytes settings.Memory h = no_memory
 not_settings bytes settings.Json h = no_settings (h (λ q. cc))
 
-pub not_theme : (bytes : List ℕ) (d : Data) → IsSettings bytes d → (e : ParseThemeError) → Refuses (head_at d) e → RefusesTheme bytes (from_theme e)
-not_theme bytes d s error.Memory h = no_memory
-not_theme bytes d s error.IncorrectUnderlineOption h = no_theme s (h (λ q. cc))
-not_theme bytes d s (error.IncorrectFontStyle x) h = no_theme s (h (λ q. cc))
-not_theme bytes d s error.IncorrectColor h = no_theme s (h (λ q. cc))
-not_theme bytes d s error.IncorrectSyntax h = no_theme s (h (λ q. cc))
-not_theme bytes d s error.IncorrectSettings h = no_theme s (h (λ q. cc))
-not_theme bytes d s error.UndefinedSettings h = no_theme s (h (λ q. cc))
-not_theme bytes d s (error.UndefinedScopeSettings x) h = no_theme s (h (λ q. cc))
-not_theme bytes d s error.ColorShemeScopeIsNotObject h = no_theme s (h (λ q. cc))
-not_theme bytes d s error.ColorShemeSettingsIsNotObject h = no_theme s (h (λ q. cc))
-not_theme bytes d s (error.ScopeSelectorIsNotString x) h = no_theme s (h (λ q. cc))
-not_theme bytes d s error.DuplicateSettings h = no_theme s (h (λ q. cc))
-not_theme bytes d s (error.ScopeParse x) h = no_theme s (h (λ q. cc))
+-- a refusal that is exact
+exact_so : {X : Type 0} (answer : Result X ParseThemeError) (e : ParseThemeError) → RefusesExactly answer e → Refuses answer e
+exact_so (Ok x) e h n = absurd (n h)
+exact_so (Err r) e h n = ap Err (sym h)
+
+theme_refused : (bytes : List ℕ) (d : Data) → IsSettings bytes d → (e : ParseThemeError) → Refuses (head_at d) e → RefusesTheme bytes (from_theme e)
+theme_refused bytes d s error.Memory h = no_memory
+theme_refused bytes d s error.IncorrectUnderlineOption h = no_theme s (h (λ q. cc))
+theme_refused bytes d s (error.IncorrectFontStyle x) h = no_theme s (h (λ q. cc))
+theme_refused bytes d s error.IncorrectColor h = no_theme s (h (λ q. cc))
+theme_refused bytes d s error.IncorrectSyntax h = no_theme s (h (λ q. cc))
+theme_refused bytes d s error.IncorrectSettings h = no_theme s (h (λ q. cc))
+theme_refused bytes d s error.UndefinedSettings h = no_theme s (h (λ q. cc))
+theme_refused bytes d s (error.UndefinedScopeSettings x) h = no_theme s (h (λ q. cc))
+theme_refused bytes d s error.ColorShemeScopeIsNotObject h = no_theme s (h (λ q. cc))
+theme_refused bytes d s error.ColorShemeSettingsIsNotObject h = no_theme s (h (λ q. cc))
+theme_refused bytes d s (error.ScopeSelectorIsNotString x) h = no_theme s (h (λ q. cc))
+theme_refused bytes d s error.DuplicateSettings h = no_theme s (h (λ q. cc))
+theme_refused bytes d s (error.ScopeParse x) h = no_theme s (h (λ q. cc))
+
+pub not_theme : (bytes : List ℕ) (d : Data) → IsSettings bytes d → (e : ParseThemeError) → RefusesExactly (head_at d) e → RefusesTheme bytes (from_theme e)
+not_theme bytes d s e h = theme_refused bytes d s e (exact_so (head_at d) e h)
 
 -- bytes that a reader may have had
 some_bytes : (left : Option (List ℕ)) → (bytes : List ℕ) × IfSome left (λ xs. bytes ≡ xs)
@@ -50,10 +61,18 @@ some_bytes (Some xs) = (xs, refl)
 
 -- ---- reading ----
 
+-- a fault that is told as such is not that memory was wanting
+no_memory_fault : (e x : Error) → IsReadFault e (loading.Io x) → error_kind x ≢ OutOfMemory
+no_memory_fault e x f k =
+    let i : loading.Io x ≡ loading.Io e = f.either (λ q. cc) in
+    let s : x ≡ e = cc in
+    let m : loading.Io x ≡ loading.Memory = f.memory (ap error_kind (sym s) ∙ k) in
+    cc
+
 -- a fault of reading, told
 pub read_so : (left : Option (List ℕ)) (e : Error) (r : LoadingError) → IsReadFault e r → RefusesRead left r
 read_so left e loading.Memory f = let s = some_bytes left in refused s.1 no_memory
-read_so left e (loading.Io x) f = not_read
+read_so left e (loading.Io x) f = not_read (no_memory_fault e x f)
 read_so left e loading.WalkDir f = let q : loading.WalkDir ≡ loading.Io e = f.either (λ q. cc) in cc
 read_so left e (loading.ParseSyntax x y) f = let q : loading.ParseSyntax x y ≡ loading.Io e = f.either (λ q. cc) in cc
 read_so left e loading.ParseMetadata f = let q : loading.ParseMetadata ≡ loading.Io e = f.either (λ q. cc) in cc
@@ -67,7 +86,7 @@ not_opened e r f = read_so None e r f
 
 -- what a reader whose bytes are known has left is as good as what one has left whose bytes are not
 pub of_file : (left : Option (List ℕ)) (e : LoadingError) → RefusesRead left e → IsThemeFault e
-of_file left e not_read = not_read
+of_file left e (not_read k) = not_read k
 of_file left e (refused {bytes = bytes} k r) = refused {bytes = bytes} tt r
 
 -- the bytes that were read are those that were left

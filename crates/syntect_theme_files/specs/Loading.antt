@@ -255,19 +255,22 @@ abbrev pub all_later : Result Items ParseThemeError → Items
 all_later (Ok ds) = later_items ds
 all_later (Err e) = no_items
 
+-- a theme of this name, by this author, with these settings and those of an object's gutter
+abbrev pub bare_theme : Data → Option (List ℕ) → Option (List ℕ) → ThemeSettings → Theme
+bare_theme d name author settings = record {
+  name = name;
+  author = author;
+  settings = with_gutter (get (codes "gutterSettings") d) settings;
+  scopes = [];
+}
+
 -- what stands round the rules in an object
 abbrev pub head_in : Data → Result Theme ParseThemeError
 head_in d =
     next (own_text (get (codes "name") d)) (λ name.
     next (own_text (get (codes "author") d)) (λ author.
     next (items_at d) (λ ds.
-    next (first_settings ds) (λ settings.
-    Ok (record {
-      name = name;
-      author = author;
-      settings = with_gutter (get (codes "gutterSettings") d) settings;
-      scopes = [];
-    })))))
+    next (first_settings ds) (λ settings. Ok (bare_theme d name author settings)))))
 
 -- a theme without its rules
 abbrev pub head_at : Data → Result Theme ParseThemeError

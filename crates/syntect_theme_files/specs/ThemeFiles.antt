@@ -1,11 +1,13 @@
 -- Themes from bytes and from files.
-use Rattle.std.specs.Prelude.{◌≡◌, ℕ, List, [], ◌∷◌, codes, if◌then◌else◌, true, Option, Some, None, option_and_then, is_some, IfSome, slice_get, take, Err}
+use Rattle.std.specs.Prelude.{◌≡◌, ◌≢◌, ℕ, List, [], ◌∷◌, codes, if◌then◌else◌, true, Option, Some, None, option_and_then, is_some, IfSome, slice_get, take, Err}
 use Rattle.std.specs.Path.{path_extension, path_file_stem}
 use Rattle.std.specs.BTreeMap.{insert_entry}
 use Rattle.std.specs.Cmp.Lexicographic.{slice_cmp}
 use Rattle.std.specs.Ordering.{nat_cmp}
 use Rattle.std.specs.Str.{str_eq_ignore_ascii_case}
+use Rattle.std.specs.IoError.{error_kind}
 use Rattle.std.specs.declared.io.Error.{Error}
+use Rattle.std.specs.declared.io.ErrorKind.TheVariants.{OutOfMemory}
 use Rattle.serde_json.specs.Data.{Data}
 use Rattle.syntect_base.specs.Settings.{IsSettings}
 use Rattle.syntect_base.specs.Walks.{IsWalk, IsWalkFault}
@@ -33,9 +35,10 @@ pub data RefusesTheme (bytes : List ℕ) : LoadingError → Type 0 where
       → RefusesTheme bytes (ParseTheme e)
   no_memory : RefusesTheme bytes Memory
 
--- why what a reader has left, where that is known, gives no theme: reading has a fault, or the bytes give none
+-- why what a reader has left, where that is known, gives no theme: reading has a fault, which is not that memory was wanting, or
+-- the bytes give none
 pub data RefusesRead (left : Option (List ℕ)) : LoadingError → Type 0 where
-  not_read : {e : Error} → RefusesRead left (Io e)
+  not_read : {e : Error} → error_kind e ≢ OutOfMemory → RefusesRead left (Io e)
   refused : {bytes : List ℕ} {e : LoadingError} → IfSome left (λ xs. bytes ≡ xs)
       → RefusesTheme bytes e → RefusesRead left e
 

@@ -1,13 +1,13 @@
 //! Values read as themes.
-ghost use Rattle.std.specs.Prelude.{◌≡◌, [], length, take, IfOk, OnOk, IfErr, Ok, option_map, option_and_then};
-ghost use Rattle.std.specs.Option.{ok_or};
+ghost use Rattle.std.specs.Prelude.{◌≡◌, [], length, take, IfOk, OnOk, IfErr, Ok, Err, option_map, option_and_then};
+ghost use Rattle.std.specs.Option.{ok_or, option_copied};
 ghost use Rattle.serde_json.specs.Data.{Items};
 ghost use Rattle.serde_json.specs.Find.{get};
 ghost use Rattle.serde_json.specs.View.{view, items_view};
 ghost use Rattle.syntect_base.specs.declared.theme.ParseThemeError.{ParseThemeError};
 ghost use Rattle.syntect_scope.specs.Repository.{with_scopes, IsRepository};
 ghost use Rattle.syntect_theme_files.specs.Loading as loading;
-ghost use Rattle.syntect_theme.specs.Refusals.{Refuses};
+ghost use Rattle.syntect_theme_files.specs.Refusals.{RefusesExactly};
 
 use crate::load::{color, rule, underline};
 use serde_json::Value;
@@ -36,6 +36,16 @@ fn underline_field(value: &Value, key: &str) -> Option<UnderlineOption>
     match value.get(key) {
         Some(value) => underline(value).ok(),
         None => None,
+    }
+}
+
+/// A text of its own, if there is one.
+fn own(alloc: Global, text: Option<&str>) -> Result<Option<Text>, AllocError>
+    ensures { IfOk result (λ own. own ≡ option_copied text.entry) }
+{
+    match text {
+        Some(text) => Ok(Some(Text::from_str(alloc, text)?)),
+        None => Ok(None),
     }
 }
 
@@ -128,14 +138,26 @@ fn settings_in(alloc: Global, value: &Value) -> Result<ThemeSettings, AllocError
     Ok(fourth_fields(value, third_fields(value, settings)))
 }
 
+/// The object that has settings.
+fn settings_object(value: &Value) -> Result<&Value, ParseThemeError>
+    ensures ok { IfOk result (λ object.
+        loading.settings_at (view value.now) ≡ Ok (loading.settings_in (view object.now))) }
+    ensures err { IfErr result (λ e. loading.settings_at (view value.now) ≡ Err e) }
+{
+    match value.as_object() {
+        Some(_) => Ok(value),
+        None => Err(ParseThemeError::ColorShemeSettingsIsNotObject),
+    }
+}
+
 /// The settings of a value.
 pub(crate) fn settings(alloc: Global, value: &Value) -> Result<ThemeSettings, ParseThemeError>
     ensures ok { IfOk result (λ settings. loading.settings_at (view value.now) ≡ Ok settings) }
-    ensures err { IfErr result (Refuses (loading.settings_at (view value.now))) }
+    ensures err { IfErr result (RefusesExactly (loading.settings_at (view value.now))) }
 {
-    match value.as_object() {
-        Some(_) => Ok(settings_in(alloc, value)?),
-        None => Err(ParseThemeError::ColorShemeSettingsIsNotObject),
+    match settings_object(value) {
+        Ok(object) => Ok(settings_in(alloc, object)?),
+        Err(e) => Err(e),
     }
 }
 
@@ -156,30 +178,30 @@ fn with_gutter(gutter: Option<&Value>, settings: ThemeSettings) -> ThemeSettings
 }
 
 /// The text of a value, if there is one.
-fn own_text(alloc: Global, value: Option<&Value>) -> Result<Option<Text>, ParseThemeError>
-    ensures ok { IfOk result
-        (λ text. loading.own_text (option_map (λ v. view v.now) value.entry) ≡ Ok text) }
+fn own_text(value: Option<&Value>) -> Result<Option<&str>, ParseThemeError>
+    ensures ok { IfOk result (λ text. loading.own_text (option_map (λ v. view v.now) value.entry)
+        ≡ Ok (option_copied text)) }
     ensures err { IfErr result
-        (Refuses (loading.own_text (option_map (λ v. view v.now) value.entry))) }
+        (λ e. loading.own_text (option_map (λ v. view v.now) value.entry) ≡ Err e) }
 {
     match value {
         Some(value) => match value.as_str() {
-            Some(text) => Ok(Some(Text::from_str(alloc, text)?)),
+            Some(text) => Ok(Some(text)),
             None => Err(ParseThemeError::IncorrectSyntax),
         },
         None => Ok(None),
     }
 }
 
-/// The settings of the first item of a theme.
-fn first_settings(alloc: Global, items: &[Value]) -> Result<ThemeSettings, ParseThemeError>
-    ensures ok { IfOk result
-        (λ settings. loading.first_settings (items_view items.now) ≡ Ok settings) }
-    ensures err { IfErr result (Refuses (loading.first_settings (items_view items.now))) }
+/// The object with the settings, which the first item of a theme has.
+fn first_settings(items: &[Value]) -> Result<&Value, ParseThemeError>
+    ensures ok { IfOk result (λ value.
+        loading.first_settings (items_view items.now) ≡ Ok (loading.settings_in (view value.now))) }
+    ensures err { IfErr result (λ e. loading.first_settings (items_view items.now) ≡ Err e) }
 {
     match items.first() {
         Some(item) => match item.get("settings") {
-            Some(value) => settings(alloc, value),
+            Some(value) => settings_object(value),
             None => Err(ParseThemeError::UndefinedSettings),
         },
         None => Err(ParseThemeError::UndefinedSettings),
@@ -198,17 +220,17 @@ fn items_of(value: &Value) -> Result<&[Value], ParseThemeError>
     }
 }
 
-/// What stands round the rules in an object.
+/// What stands round the rules in an object. Memory is taken when nothing else is left to refuse.
 fn head_in(alloc: Global, value: &Value) -> Result<Theme, ParseThemeError>
     ensures ok { IfOk result (λ theme. loading.head_in (view value.now) ≡ Ok theme) }
     ensures bare { IfOk result (λ theme. theme.scopes ≡ []) }
-    ensures err { IfErr result (Refuses (loading.head_in (view value.now))) }
+    ensures err { IfErr result (RefusesExactly (loading.head_in (view value.now))) }
 {
-    let name = match own_text(alloc, value.get("name")) {
+    let name = match own_text(value.get("name")) {
         Ok(name) => name,
         Err(e) => return Err(e),
     };
-    let author = match own_text(alloc, value.get("author")) {
+    let author = match own_text(value.get("author")) {
         Ok(author) => author,
         Err(e) => return Err(e),
     };
@@ -216,10 +238,31 @@ fn head_in(alloc: Global, value: &Value) -> Result<Theme, ParseThemeError>
         Ok(items) => items,
         Err(e) => return Err(e),
     };
-    let settings = match first_settings(alloc, items) {
-        Ok(settings) => settings,
+    let first = match first_settings(items) {
+        Ok(first) => first,
         Err(e) => return Err(e),
     };
+    match bare_theme(alloc, value, name, author, first) {
+        Ok(theme) => Ok(theme),
+        Err(_) => Err(ParseThemeError::Memory),
+    }
+}
+
+/// A theme of this name, by this author, with the settings of an object.
+fn bare_theme(
+    alloc: Global,
+    value: &Value,
+    name: Option<&str>,
+    author: Option<&str>,
+    first: &Value,
+) -> Result<Theme, AllocError>
+    ensures { IfOk result (λ theme. theme ≡ loading.bare_theme (view value.now)
+        (option_copied name.entry) (option_copied author.entry)
+        (loading.settings_in (view first.now))) }
+{
+    let name = own(alloc, name)?;
+    let author = own(alloc, author)?;
+    let settings = settings_in(alloc, first)?;
     Ok(Theme {
         name,
         author,
@@ -232,7 +275,7 @@ fn head_in(alloc: Global, value: &Value) -> Result<Theme, ParseThemeError>
 fn head(alloc: Global, value: &Value) -> Result<Theme, ParseThemeError>
     ensures ok { IfOk result (λ theme. loading.head_at (view value.now) ≡ Ok theme) }
     ensures bare { IfOk result (λ theme. theme.scopes ≡ []) }
-    ensures err { IfErr result (Refuses (loading.head_at (view value.now))) }
+    ensures err { IfErr result (RefusesExactly (loading.head_at (view value.now))) }
 {
     match value.as_object() {
         Some(_) => head_in(alloc, value),
@@ -282,7 +325,7 @@ pub(crate) fn theme(
     repository: &mut ScopeRepository,
 ) -> Result<Theme, ParseThemeError>
     ensures ok { IfOk result (loading.IsTheme repository.old (view value.now) repository.new) }
-    ensures err { IfErr result (Refuses (loading.head_at (view value.now))) }
+    ensures err { IfErr result (RefusesExactly (loading.head_at (view value.now))) }
     ensures whole { IsRepository repository.new }
     ensures kept { take (length repository.old) repository.new ≡ repository.old }
 {

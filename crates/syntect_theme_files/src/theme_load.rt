@@ -5,6 +5,7 @@ ghost use Rattle.serde_json.specs.View.{view};
 ghost use Rattle.syntect_scope.specs.Repository.{with_scopes, IsRepository};
 ghost use Rattle.syntect_theme_files.specs.Loading as loading;
 ghost use Rattle.syntect_theme.specs.Refusals.{Refuses};
+ghost use Rattle.syntect_theme_files.specs.Refusals.{RefusesExactly};
 
 use crate::{load, load_theme};
 use std::alloc::Global;
@@ -151,7 +152,7 @@ impl ParseSettings for ThemeSettings {
         _repository: &mut ScopeRepository,
     ) -> Result<ThemeSettings, ParseThemeError>
         ensures ok { IfOk result (λ all. loading.settings_at (view settings) ≡ Ok all) }
-        ensures err { IfErr result (Refuses (loading.settings_at (view settings))) }
+        ensures err { IfErr result (RefusesExactly (loading.settings_at (view settings))) }
         ensures repository { _repository.new ≡ _repository.old }
     {
         load_theme::settings(alloc, &settings)
@@ -163,14 +164,15 @@ impl ParseSettings for Theme {
 
     /// The theme of an object. Its first item has the settings, the later ones are rules, of which those that are
     /// refused for another cause than memory are left out in silence, as one whose colour is none. `IncorrectSyntax`,
-    /// `UndefinedSettings` and `ColorShemeSettingsIsNotObject` speak of what stands round the rules.
+    /// `UndefinedSettings` and `ColorShemeSettingsIsNotObject` speak of what stands round the rules, and are tested before
+    /// memory is taken.
     fn parse_settings(
         alloc: Global,
         settings: Settings,
         repository: &mut ScopeRepository,
     ) -> Result<Theme, ParseThemeError>
         ensures ok { IfOk result (loading.IsTheme repository.old (view settings) repository.new) }
-        ensures err { IfErr result (Refuses (loading.head_at (view settings))) }
+        ensures err { IfErr result (RefusesExactly (loading.head_at (view settings))) }
         ensures whole { IsRepository repository.new }
         ensures kept { take (length repository.old) repository.new ≡ repository.old }
     {

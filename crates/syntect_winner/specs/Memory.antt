@@ -7,9 +7,11 @@ use Rattle.syntect_contexts.specs.declared.context.MatchPattern.{MatchPattern}
 use Rattle.syntect_flats.specs.declared.flats.Origin.{Origin}
 use Rattle.syntect_grammar.specs.Contexts.{context_at}
 use Rattle.syntect_grammar.specs.declared.syntax_set.SyntaxSet.{SyntaxSet}
-use Rattle.syntect_regex.specs.Prospect.{IsProspectOf}
-use Rattle.syntect_regex.specs.declared.prospect.Prospect.{Prospect}
+use Rattle.syntect_seek.specs.Depths.{AreDepthsIn}
+use Rattle.syntect_seek.specs.Prospect.{IsProspectOf}
+use Rattle.syntect_seek.specs.declared.prospect.Prospect.{Prospect}
 use Rattle.syntect_winner.specs.declared.memory.Memo.{Memo}
+use Rattle.syntect_winner.specs.declared.memory.Memory.{Memory}
 
 -- the pattern that stands there, if there is one
 abbrev pub origin_pattern : SyntaxSet → Origin → Option MatchPattern
@@ -22,6 +24,11 @@ IsKnownAt set line origin prospect = (m : MatchPattern) → origin_pattern set o
     → IsProspectOf m.regex line prospect
 
 -- what is kept in mind is true of the patterns in the line
-abbrev pub Remembers : SyntaxSet → List ℕ → List Memo → Type 0
-Remembers set line memos =
+abbrev pub AreKnown : SyntaxSet → List ℕ → List Memo → Type 0
+AreKnown set line memos =
     All (λ memo. IsKnownAt set line memo.origin memo.prospect) memos
+
+-- and so is what is kept of those that backed up too often
+pub record Remembers (set : SyntaxSet) (line : List ℕ) (memory : Memory) : Type 0 where
+  pub memos : AreKnown set line memory.memos
+  pub depths : AreDepthsIn line memory.depths

@@ -1,15 +1,16 @@
 //! What is known, while a line is read, of the patterns that were tried in it.
 ghost use Rattle.std.specs.Prelude.{◌≡◌, ◌<◌, List, ℕ, true};
-ghost use Rattle.syntect_winner.specs.Memory.{IsKnownAt, Remembers};
+ghost use Rattle.syntect_winner.specs.Memory.{AreKnown, IsKnownAt, Remembers};
 ghost use Rattle.syntect_grammar.specs.declared.syntax_set.SyntaxSet.{SyntaxSet};
 
 use std::alloc::Global;
 use std::marker::Model;
 use syntect_flats::flats::Origin;
-use syntect_regex::prospect::Prospect;
+use syntect_seek::depths::Depths;
+use syntect_seek::prospect::Prospect;
 
 /// How many patterns are kept in mind at most, and how many slots lead to them.
-const SLOTS: usize = 256;
+const SLOTS: usize = 2048;
 
 /// What is known of the pattern that stands there.
 #[derive(Clone, Copy)]
@@ -18,27 +19,30 @@ pub struct Memo {
     pub prospect: Prospect,
 }
 
-/// What is known of the patterns that were tried in a line, seen as a list of memos.
+/// What is known of the patterns that were tried in a line, seen as a list.
 #[derive(Drop)]
-pub struct Memory {
-    memos: Vec<Memo>,
+pub struct Memos {
+    kept: Vec<Memo>,
     /// Where the memo of a pattern may stand, by where the pattern does. What a slot says is looked at before it is believed,
     /// so that slots needn't be wiped from line to line.
-    slots: [u8; SLOTS],
+    slots: [u16; SLOTS],
 }
 
-/// The slot of the pattern that stands there: patterns of a context that stand side by side have slots of their own.
+/// The slot of the pattern that stands there. Hundreds of patterns may be tried in a line, and two that share one ask anew at each
+/// try, so there are many more slots.
 #[inline]
 fn slot_of(origin: Origin) -> usize
-    ensures { result < 256 }
+    ensures { result < 2048 }
 {
     let context = origin.context;
     let mixed = context
         .syntax_index
-        .wrapping_mul(97)
-        .wrapping_add(context.context_index.wrapping_mul(37))
-        .wrapping_add(origin.index);
-    mixed % SLOTS
+        .wrapping_mul(0x9E37_79B9_7F4A_7C15)
+        .wrapping_add(context.context_index)
+        .wrapping_mul(0xD6E8_FEB8_6659_FD93)
+        .wrapping_add(origin.index)
+        .wrapping_mul(0x9E37_79B9_7F4A_7C15);
+    (mixed >> 32) % SLOTS
 }
 
 /// Whether the same pattern stands there.
@@ -51,13 +55,20 @@ fn is_same(a: Origin, b: Origin) -> bool
         && a.context.syntax_index == b.context.syntax_index
 }
 
-impl Model for Memory {
+impl Model for Memos {
     ghost use Rattle.std.specs.Prelude.{List};
     ghost use Rattle.syntect_winner.specs.declared.memory.Memo.{Memo as AMemo};
 
     ghost Value = { List AMemo };
 
-    ghost view = { λ m. m.memos.items };
+    ghost view = { λ m. m.kept.items };
+}
+
+/// What is known of a line: of the patterns that were tried in it, and the plans of those that backed up too often.
+#[derive(Drop)]
+pub struct Memory {
+    pub memos: Memos,
+    pub depths: Depths,
 }
 
 impl Memory {
@@ -66,8 +77,8 @@ impl Memory {
         ensures { (set : SyntaxSet) (line : List ℕ) → Remembers set line result }
     {
         Memory {
-            memos: Vec::new(alloc),
-            slots: [0; SLOTS],
+            memos: Memos::new(alloc),
+            depths: Depths::new(alloc),
         }
     }
 
@@ -75,17 +86,37 @@ impl Memory {
     pub fn begin_line(&mut self)
         ensures { (set : SyntaxSet) (line : List ℕ) → Remembers set line self.new }
     {
-        self.memos.clear();
+        self.memos.forget();
+        self.depths.forget();
+    }
+}
+
+impl Memos {
+    /// Nothing is known. Takes no memory.
+    pub fn new(alloc: Global) -> Memos
+        ensures { (set : SyntaxSet) (line : List ℕ) → AreKnown set line result }
+    {
+        Memos {
+            kept: Vec::new(alloc),
+            slots: [0; SLOTS],
+        }
+    }
+
+    /// Forgets everything.
+    pub fn forget(&mut self)
+        ensures { (set : SyntaxSet) (line : List ℕ) → AreKnown set line self.new }
+    {
+        self.kept.clear();
     }
 
     /// What is known of the pattern that stands there.
     #[inline]
     pub fn recall(&self, origin: Origin) -> Prospect
-        ensures { (set : SyntaxSet) (line : List ℕ) → Remembers set line self.now
+        ensures { (set : SyntaxSet) (line : List ℕ) → AreKnown set line self.now
             → IsKnownAt set line origin result }
     {
         let number = self.slots[slot_of(origin)] as usize;
-        match self.memos.get(number) {
+        match self.kept.get(number) {
             Some(memo) => {
                 if is_same(memo.origin, origin) {
                     memo.prospect
@@ -100,22 +131,22 @@ impl Memory {
     /// Keeps in mind what is known of the pattern that stands there. What is known of another pattern of its slot is
     /// forgotten. Where there is no room left, nothing is kept.
     pub fn keep(&mut self, origin: Origin, prospect: Prospect)
-        ensures { (set : SyntaxSet) (line : List ℕ) → Remembers set line self.old
-            → IsKnownAt set line origin prospect → Remembers set line self.new }
+        ensures { (set : SyntaxSet) (line : List ℕ) → AreKnown set line self.old
+            → IsKnownAt set line origin prospect → AreKnown set line self.new }
     {
         let slot = slot_of(origin);
         let number = self.slots[slot] as usize;
         let memo = Memo { origin, prospect };
-        if number < self.memos.len() && slot_of(self.memos[number].origin) == slot {
-            self.memos[number] = memo;
+        if number < self.kept.len() && slot_of(self.kept[number].origin) == slot {
+            self.kept[number] = memo;
             return;
         }
-        let next = self.memos.len();
+        let next = self.kept.len();
         if next >= SLOTS {
             return;
         }
-        if self.memos.push(memo).is_ok() {
-            self.slots[slot] = next as u8;
+        if self.kept.push(memo).is_ok() {
+            self.slots[slot] = next as u16;
         }
     }
 }

@@ -37,6 +37,7 @@ use syntect_grammar::syntax_set::SyntaxSet;
 use syntect_pattern::anchor::Anchor;
 use syntect_pattern_table::starts::{Places, either, is_in, nowhere, start_at};
 use syntect_regex::regex::Regex;
+use syntect_seek::prospect::Prospect;
 use syntect_ways::anchor::stands;
 use syntect_ways::text::is_boundary;
 use syntect_word_ends::ends::{is_blank_byte, is_word_byte, run_end};
@@ -315,22 +316,28 @@ fn is_here(
         + search_bound (unwrap_or (option_copied replaced.entry) entry.now.pattern.now.regex)
         (length reader.now.line.now)) }
 {
-    let searched = &mut regions.searched;
     if let Some(regex) = replaced {
-        return regex.match_at_counted(reader.line, place, searched, &mut regions.steps);
+        return regex.match_at_known(
+            reader.line,
+            place,
+            &mut Prospect::new(),
+            &mut regions.memory.depths,
+            &mut regions.searched,
+            &mut regions.steps,
+        );
     }
-    let known = regions.memory.recall(origin);
+    let known = regions.memory.memos.recall(origin);
     let mut prospect = known;
-    let regex = &entry.pattern.regex;
-    let is_here = regex.match_at_known(
+    let is_here = entry.pattern.regex.match_at_known(
         reader.line,
         place,
         &mut prospect,
-        searched,
+        &mut regions.memory.depths,
+        &mut regions.searched,
         &mut regions.steps,
     )?;
     if prospect.differs(&known) {
-        regions.memory.keep(origin, prospect);
+        regions.memory.memos.keep(origin, prospect);
     }
     Ok(is_here)
 }

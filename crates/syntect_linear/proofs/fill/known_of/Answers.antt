@@ -10,4 +10,5 @@ loop-late-init c =
       knows = λ k o e. absurd (none-known _ _ c.in_ok-now.ensures k o e);
       long = long;
       paid = omega (arith, long, most);
+      counted = omega arith;
     }

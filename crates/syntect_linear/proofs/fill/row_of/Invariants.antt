@@ -10,4 +10,5 @@ invariant-loop-cell l = record {
   paid : l.count.made + 4 * unknown l.now.items ≤ l.initial.count.made + 4 * unknown l.initial.now.items + l.cell;
   filled : length l.row.items ≡ l.cell;
   right : (k : ℕ) → k < l.cell → get_or l.row.items k None ≡ ends_at l.ground k l.place;
+  counted : l.initial.count.made + l.cell ≤ l.count.made;
 }

@@ -1,10 +1,11 @@
-use Rattle.std.proofs.Common.{◌≡◌, ◌≤◌, ◌*◌, ◌+◌, ◌-◌, ◌<◌, ℕ, length, get_or, Option, List, None, ap, sym, ◌∙◌, arith, ◌∷◌, [], length-append, true, false}
-use Rattle.std.specs.Prelude.{IsCharBoundary}
+use Rattle.std.proofs.Common.{◌≡◌, ◌≤◌, ◌*◌, ◌+◌, ◌-◌, ◌<◌, ℕ, suc, length, get_or, Option, List, None, ap, sym, ◌∙◌, arith, ◌∷◌, [], length-append, mul-le-mul_left, true, false}
+use Rattle.std.specs.Prelude.{IsCharBoundary, if◌then◌else◌}
+use Rattle.syntect_pattern.specs.Text.{is_boundary}
 use Rattle.syntect_pattern_table.specs.Program.{trees_of}
 use Rattle.syntect_plan.specs.Cells.{ends}
 use Rattle.syntect_ways.proofs.BoundaryLaws.{true-boundary}
 use Rattle.syntect_turns.specs.declared.count.TurnCount.{TurnCount}
-use Rattle.syntect_linear.proofs.StepsLaws.{rows-cost}
+use Rattle.syntect_linear.proofs.StepsLaws.{rows-cost, rows-least}
 use Rattle.syntect_linear.proofs.RowLaws.{rows-push}
 use Rattle.syntect_linear.proofs.fill.rows_from.Goals as goal
 use Rattle.syntect_linear.proofs.fill.rows_from.Goals.{then-is_boundary+in_ok-row, else-is_boundary}
@@ -33,4 +34,25 @@ places-preserved c =
           ] in
           let cost = rows-cost (6 * length cells) (length c.places.rows.items) c.args.count.now.made c.places.count.made c.if-is_boundary.count.made c.places.invariant.paid step in
           rw grown cost;
+      counted =
+          let grown : length c.push.new.self.items ≡ suc (length c.places.rows.items) = ap length c.in_ok-push.ensures.items ∙ length-append c.places.rows.items (row ∷ []) ∙ omega arith in
+          let least : c.places.count.made + (if is_boundary s place then 2 * length cells else 0) ≤ c.if-is_boundary.count.made = elim c.if-is_boundary.branch [
+            | then-is_boundary+in_ok-row w ↦
+                let a = ap (λ (v : TurnCount). v.made) w.count-is in
+                let b = w.in_ok-row.ensures.counted in
+                let e : is_boundary s place ≡ true = sym c.is_boundary.ensures.value ∙ w.if-is_boundary.true in
+                rw e (omega (arith, a, b))
+            | else-is_boundary w ↦
+                let a = ap (λ (v : TurnCount). v.made) w.count-is in
+                let e : is_boundary s place ≡ false = sym c.is_boundary.ensures.value ∙ w.if-is_boundary.false in
+                rw e (omega (arith, a))
+          ] in
+          let cost = rows-least s (2 * length cells) (length c.places.rows.items) place c.args.count.now.made c.places.count.made c.if-is_boundary.count.made (omega (arith, c.places.invariant.there)) c.places.invariant.counted least in
+          rw grown cost;
     }
+
+pub returns-clause-steps : goal.returns-clause-steps
+returns-clause-steps c =
+    let within : length c.places.rows.items ≤ length c.args.text.now + 1 = omega (arith, c.places.invariant.there) in
+    let most = mul-le-mul_left (6 * length c.args.plan.now.cells) within in
+    omega (arith, c.places.invariant.paid, most)

@@ -14,7 +14,7 @@ use Rattle.syntect_linear.specs.Step.{IsTreeAt}
 use Rattle.syntect_linear.specs.Walk.{Walks}
 use Rattle.syntect_plan.specs.declared.facts.Facts.{Facts}
 use Rattle.syntect_linear.proofs.GroundLaws.{first-is, second-is, tree-more, item-is}
-use Rattle.syntect_linear.proofs.WalkLaws.{walks-nothing, walks-anchor, walks-behind, walks-bare_ahead, walks-char, alt-first, alt-second, group-walks, atomic-walks, ahead-walks, CanWalk, follow, loop-is}
+use Rattle.syntect_linear.proofs.WalkLaws.{walks-nothing, walks-anchor, walks-behind, walks-bare_ahead, walks-char, alt-first, alt-second, group-walks, atomic-walks, ahead-walks, CanWalk, filled-on, follow, loop-is}
 use Rattle.syntect_linear.proofs.SequenceLaws.{seq-first, seq-second}
 use Rattle.syntect_linear.proofs.LoopLaws.{turn-leaves, turn-first, turn-stays, turn-goes, turn-tree}
 use Rattle.syntect_linear.specs.Steps.{stay_cost, read_cost, walk_cost, look_cost}
@@ -28,7 +28,7 @@ walk_node-returns-in-Nothing-clause-walks t c =
     let g = c.args.groups.now.items in
     let first = first-is _ _ c.parts_at-parts.result c.args.cell c.parts_at-parts.ensures c.as_slice.ensures in
     let second = second-is _ _ c.parts_at-parts.result c.args.cell c.parts_at-parts.ensures c.as_slice.ensures in
-    walks-nothing x c.args.cell c.args.place g c.requires.filled (tree-more x c.args.cell _ _ (ap (node_tree ts) c.in-Nothing.is) c.requires.node) c.requires.found
+    walks-nothing x c.args.cell c.args.place g c.requires.filled.ground (tree-more x c.args.cell _ _ (ap (node_tree ts) c.in-Nothing.is) c.requires.node) c.requires.found
 
 pub walk_node-returns-in-Anchor-clause-walks : goal.walk_node-returns-in-Anchor-clause-walks
 walk_node-returns-in-Anchor-clause-walks t c =
@@ -37,7 +37,7 @@ walk_node-returns-in-Anchor-clause-walks t c =
     let g = c.args.groups.now.items in
     let first = first-is _ _ c.parts_at-parts.result c.args.cell c.parts_at-parts.ensures c.as_slice.ensures in
     let second = second-is _ _ c.parts_at-parts.result c.args.cell c.parts_at-parts.ensures c.as_slice.ensures in
-    walks-anchor x c.args.cell c.args.place g c.requires.filled (anchor_of c.in-Anchor.field-0) (tree-more x c.args.cell _ _ (ap (node_tree ts) c.in-Anchor.is) c.requires.node) c.requires.found
+    walks-anchor x c.args.cell c.args.place g c.requires.filled.ground (anchor_of c.in-Anchor.field-0) (tree-more x c.args.cell _ _ (ap (node_tree ts) c.in-Anchor.is) c.requires.node) c.requires.found
 
 pub walk_node-returns-in-Behind-clause-walks : goal.walk_node-returns-in-Behind-clause-walks
 walk_node-returns-in-Behind-clause-walks t c =
@@ -46,7 +46,7 @@ walk_node-returns-in-Behind-clause-walks t c =
     let g = c.args.groups.now.items in
     let first = first-is _ _ c.parts_at-parts.result c.args.cell c.parts_at-parts.ensures c.as_slice.ensures in
     let second = second-is _ _ c.parts_at-parts.result c.args.cell c.parts_at-parts.ensures c.as_slice.ensures in
-    walks-behind x c.args.cell c.args.place g c.requires.filled c.in-Behind.negated (get_or ts c.in-Behind.body nothing) (tree-more x c.args.cell _ _ (ap (node_tree ts) c.in-Behind.is) c.requires.node) c.requires.found
+    walks-behind x c.args.cell c.args.place g c.requires.filled.ground c.in-Behind.negated (get_or ts c.in-Behind.body nothing) (tree-more x c.args.cell _ _ (ap (node_tree ts) c.in-Behind.is) c.requires.node) c.requires.found
 
 pub walk_node-returns-in-Char-clause-walks : goal.walk_node-returns-in-Char-clause-walks
 walk_node-returns-in-Char-clause-walks t c =
@@ -55,7 +55,7 @@ walk_node-returns-in-Char-clause-walks t c =
     let g = c.args.groups.now.items in
     let first = first-is _ _ c.parts_at-parts.result c.args.cell c.parts_at-parts.ensures c.as_slice.ensures in
     let second = second-is _ _ c.parts_at-parts.result c.args.cell c.parts_at-parts.ensures c.as_slice.ensures in
-    let w = walks-char x c.args.cell c.args.place g c.requires.filled (range c.in-Char.wanted c.in-Char.wanted) (tree-more x c.args.cell _ _ (ap (node_tree ts) c.in-Char.is) c.requires.node) c.requires.found c.past_char.result c.past_char.ensures.value in
+    let w = walks-char x c.args.cell c.args.place g c.requires.filled.ground (range c.in-Char.wanted c.in-Char.wanted) (tree-more x c.args.cell _ _ (ap (node_tree ts) c.in-Char.is) c.requires.node) c.requires.found c.past_char.result c.past_char.ensures.value in
     subst (λ (e : ℕ). Walks x c.args.cell c.args.place g e g) (sym c.unwrap_or.ensures) w
 
 pub walk_node-returns-in-Class-clause-walks : goal.walk_node-returns-in-Class-clause-walks
@@ -65,7 +65,7 @@ walk_node-returns-in-Class-clause-walks t c =
     let g = c.args.groups.now.items in
     let first = first-is _ _ c.parts_at-parts.result c.args.cell c.parts_at-parts.ensures c.as_slice.ensures in
     let second = second-is _ _ c.parts_at-parts.result c.args.cell c.parts_at-parts.ensures c.as_slice.ensures in
-    let w = walks-char x c.args.cell c.args.place g c.requires.filled (set_of c.in-Class.class) (tree-more x c.args.cell _ _ (ap (node_tree ts) c.in-Class.is) c.requires.node) c.requires.found c.past_class.result c.past_class.ensures.value in
+    let w = walks-char x c.args.cell c.args.place g c.requires.filled.ground (set_of c.in-Class.class) (tree-more x c.args.cell _ _ (ap (node_tree ts) c.in-Class.is) c.requires.node) c.requires.found c.past_class.result c.past_class.ensures.value in
     subst (λ (e : ℕ). Walks x c.args.cell c.args.place g e g) (sym c.unwrap_or-in-Class.ensures) w
 
 pub walk_node-returns-then-leads-clause-walks : goal.walk_node-returns-then-leads-clause-walks
@@ -75,7 +75,7 @@ walk_node-returns-then-leads-clause-walks t c =
     let g = c.args.groups.now.items in
     let first = first-is _ _ c.parts_at-parts.result c.args.cell c.parts_at-parts.ensures c.as_slice.ensures in
     let second = second-is _ _ c.parts_at-parts.result c.args.cell c.parts_at-parts.ensures c.as_slice.ensures in
-    let a = alt-first x c.args.cell c.args.place g c.requires.filled (get_or ts c.in-Alternation.field-0 nothing) (get_or ts c.in-Alternation.field-1 nothing) (tree-more x c.args.cell _ _ (ap (node_tree ts) c.in-Alternation.is) c.requires.node) (sym (c.leads.ensures ∙ ap (λ (j : ℕ). is_some (ends_at x j c.args.place)) first) ∙ c.if-leads.true) in
+    let a = alt-first x c.args.cell c.args.place g c.requires.filled.ground (get_or ts c.in-Alternation.field-0 nothing) (get_or ts c.in-Alternation.field-1 nothing) (tree-more x c.args.cell _ _ (ap (node_tree ts) c.in-Alternation.is) c.requires.node) (sym (c.leads.ensures ∙ ap (λ (j : ℕ). is_some (ends_at x j c.args.place)) first) ∙ c.if-leads.true) in
     a.1 c.walk-then-leads.result c.walk-then-leads.new.groups.items (subst (λ (j : ℕ). Walks x j c.args.place g c.walk-then-leads.result c.walk-then-leads.new.groups.items) first c.walk-then-leads.ensures.walks)
 
 pub walk_node-walk-requires-in-Alternation : goal.walk_node-walk-requires-in-Alternation
@@ -85,8 +85,8 @@ walk_node-walk-requires-in-Alternation t c =
     let g = c.args.groups.now.items in
     let first = first-is _ _ c.parts_at-parts.result c.args.cell c.parts_at-parts.ensures c.as_slice.ensures in
     let second = second-is _ _ c.parts_at-parts.result c.args.cell c.parts_at-parts.ensures c.as_slice.ensures in
-    let a = alt-second x c.args.cell c.args.place g c.requires.filled (get_or ts c.in-Alternation.field-0 nothing) (get_or ts c.in-Alternation.field-1 nothing) (tree-more x c.args.cell _ _ (ap (node_tree ts) c.in-Alternation.is) c.requires.node) c.requires.found (sym (c.leads.ensures ∙ ap (λ (j : ℕ). is_some (ends_at x j c.args.place)) first) ∙ c.if-leads.false) in
-    let w : CanWalk x c.args.cell c.args.place g c.requires.filled c.parts_at-parts.result.second = subst (λ (j : ℕ). CanWalk x c.args.cell c.args.place g c.requires.filled j) (sym second) a.0 in
+    let a = alt-second x c.args.cell c.args.place g c.requires.filled.ground (get_or ts c.in-Alternation.field-0 nothing) (get_or ts c.in-Alternation.field-1 nothing) (tree-more x c.args.cell _ _ (ap (node_tree ts) c.in-Alternation.is) c.requires.node) c.requires.found (sym (c.leads.ensures ∙ ap (λ (j : ℕ). is_some (ends_at x j c.args.place)) first) ∙ c.if-leads.false) in
+    let w : CanWalk x c.args.cell c.args.place g c.requires.filled.ground c.parts_at-parts.result.second = subst (λ (j : ℕ). CanWalk x c.args.cell c.args.place g c.requires.filled.ground j) (sym second) a.0 in
     (omega (arith, c.decreases, w.smaller), (c.requires.filled, (w.inside, (w.real, w.found))))
 
 pub walk_node-returns-else-leads-clause-walks : goal.walk_node-returns-else-leads-clause-walks
@@ -96,7 +96,7 @@ walk_node-returns-else-leads-clause-walks t c =
     let g = c.args.groups.now.items in
     let first = first-is _ _ c.parts_at-parts.result c.args.cell c.parts_at-parts.ensures c.as_slice.ensures in
     let second = second-is _ _ c.parts_at-parts.result c.args.cell c.parts_at-parts.ensures c.as_slice.ensures in
-    let a = alt-second x c.args.cell c.args.place g c.requires.filled (get_or ts c.in-Alternation.field-0 nothing) (get_or ts c.in-Alternation.field-1 nothing) (tree-more x c.args.cell _ _ (ap (node_tree ts) c.in-Alternation.is) c.requires.node) c.requires.found (sym (c.leads.ensures ∙ ap (λ (j : ℕ). is_some (ends_at x j c.args.place)) first) ∙ c.if-leads.false) in
+    let a = alt-second x c.args.cell c.args.place g c.requires.filled.ground (get_or ts c.in-Alternation.field-0 nothing) (get_or ts c.in-Alternation.field-1 nothing) (tree-more x c.args.cell _ _ (ap (node_tree ts) c.in-Alternation.is) c.requires.node) c.requires.found (sym (c.leads.ensures ∙ ap (λ (j : ℕ). is_some (ends_at x j c.args.place)) first) ∙ c.if-leads.false) in
     a.1 c.walk-in-Alternation.result c.walk-in-Alternation.new.groups.items (subst (λ (j : ℕ). Walks x j c.args.place g c.walk-in-Alternation.result c.walk-in-Alternation.new.groups.items) second c.walk-in-Alternation.ensures.walks)
 
 pub walk_node-walk-end-requires : goal.walk_node-walk-end-requires
@@ -106,8 +106,8 @@ walk_node-walk-end-requires t c =
     let g = c.args.groups.now.items in
     let first = first-is _ _ c.parts_at-parts.result c.args.cell c.parts_at-parts.ensures c.as_slice.ensures in
     let second = second-is _ _ c.parts_at-parts.result c.args.cell c.parts_at-parts.ensures c.as_slice.ensures in
-    let a = group-walks x c.args.cell c.args.place g c.requires.filled c.in-Group.number (get_or ts c.in-Group.body nothing) (tree-more x c.args.cell _ _ (ap (node_tree ts) c.in-Group.is) c.requires.node) c.requires.found in
-    let w : CanWalk x c.args.cell c.args.place g c.requires.filled c.parts_at-parts.result.first = subst (λ (j : ℕ). CanWalk x c.args.cell c.args.place g c.requires.filled j) (sym first) a.0 in
+    let a = group-walks x c.args.cell c.args.place g c.requires.filled.ground c.in-Group.number (get_or ts c.in-Group.body nothing) (tree-more x c.args.cell _ _ (ap (node_tree ts) c.in-Group.is) c.requires.node) c.requires.found in
+    let w : CanWalk x c.args.cell c.args.place g c.requires.filled.ground c.parts_at-parts.result.first = subst (λ (j : ℕ). CanWalk x c.args.cell c.args.place g c.requires.filled.ground j) (sym first) a.0 in
     (omega (arith, c.decreases, w.smaller), (c.requires.filled, (w.inside, (w.real, w.found))))
 
 pub walk_node-returns-in-Group-clause-walks : goal.walk_node-returns-in-Group-clause-walks
@@ -117,7 +117,7 @@ walk_node-returns-in-Group-clause-walks t c =
     let g = c.args.groups.now.items in
     let first = first-is _ _ c.parts_at-parts.result c.args.cell c.parts_at-parts.ensures c.as_slice.ensures in
     let second = second-is _ _ c.parts_at-parts.result c.args.cell c.parts_at-parts.ensures c.as_slice.ensures in
-    let a = group-walks x c.args.cell c.args.place g c.requires.filled c.in-Group.number (get_or ts c.in-Group.body nothing) (tree-more x c.args.cell _ _ (ap (node_tree ts) c.in-Group.is) c.requires.node) c.requires.found in
+    let a = group-walks x c.args.cell c.args.place g c.requires.filled.ground c.in-Group.number (get_or ts c.in-Group.body nothing) (tree-more x c.args.cell _ _ (ap (node_tree ts) c.in-Group.is) c.requires.node) c.requires.found in
     subst (λ (h : Groups). Walks x c.args.cell c.args.place g c.walk-end.result h) (sym c.close.ensures)
     (a.1 c.walk-end.result c.walk-end.new.groups.items (subst (λ (j : ℕ). Walks x j c.args.place g c.walk-end.result c.walk-end.new.groups.items) first c.walk-end.ensures.walks))
 
@@ -128,8 +128,8 @@ walk_node-walk-requires-in-Atomic t c =
     let g = c.args.groups.now.items in
     let first = first-is _ _ c.parts_at-parts.result c.args.cell c.parts_at-parts.ensures c.as_slice.ensures in
     let second = second-is _ _ c.parts_at-parts.result c.args.cell c.parts_at-parts.ensures c.as_slice.ensures in
-    let a = atomic-walks x c.args.cell c.args.place g c.requires.filled (get_or ts c.in-Atomic.field-0 nothing) (tree-more x c.args.cell _ _ (ap (node_tree ts) c.in-Atomic.is) c.requires.node) c.requires.found in
-    let w : CanWalk x c.args.cell c.args.place g c.requires.filled c.parts_at-parts.result.first = subst (λ (j : ℕ). CanWalk x c.args.cell c.args.place g c.requires.filled j) (sym first) a.0 in
+    let a = atomic-walks x c.args.cell c.args.place g c.requires.filled.ground (get_or ts c.in-Atomic.field-0 nothing) (tree-more x c.args.cell _ _ (ap (node_tree ts) c.in-Atomic.is) c.requires.node) c.requires.found in
+    let w : CanWalk x c.args.cell c.args.place g c.requires.filled.ground c.parts_at-parts.result.first = subst (λ (j : ℕ). CanWalk x c.args.cell c.args.place g c.requires.filled.ground j) (sym first) a.0 in
     (omega (arith, c.decreases, w.smaller), (c.requires.filled, (w.inside, (w.real, w.found))))
 
 pub walk_node-returns-in-Atomic-clause-walks : goal.walk_node-returns-in-Atomic-clause-walks
@@ -139,7 +139,7 @@ walk_node-returns-in-Atomic-clause-walks t c =
     let g = c.args.groups.now.items in
     let first = first-is _ _ c.parts_at-parts.result c.args.cell c.parts_at-parts.ensures c.as_slice.ensures in
     let second = second-is _ _ c.parts_at-parts.result c.args.cell c.parts_at-parts.ensures c.as_slice.ensures in
-    let a = atomic-walks x c.args.cell c.args.place g c.requires.filled (get_or ts c.in-Atomic.field-0 nothing) (tree-more x c.args.cell _ _ (ap (node_tree ts) c.in-Atomic.is) c.requires.node) c.requires.found in
+    let a = atomic-walks x c.args.cell c.args.place g c.requires.filled.ground (get_or ts c.in-Atomic.field-0 nothing) (tree-more x c.args.cell _ _ (ap (node_tree ts) c.in-Atomic.is) c.requires.node) c.requires.found in
     a.1 c.walk-in-Atomic.result c.walk-in-Atomic.new.groups.items (subst (λ (j : ℕ). Walks x j c.args.place g c.walk-in-Atomic.result c.walk-in-Atomic.new.groups.items) first c.walk-in-Atomic.ensures.walks)
 
 pub walk_node-returns-then-negated-clause-walks : goal.walk_node-returns-then-negated-clause-walks
@@ -151,7 +151,7 @@ walk_node-returns-then-negated-clause-walks t c =
     let second = second-is _ _ c.parts_at-parts.result c.args.cell c.parts_at-parts.ensures c.as_slice.ensures in
     let b = (get_or ts c.in-Ahead.body nothing) in
     let at : IsTreeAt x c.args.cell (ahead c.in-Ahead.negated b) = (tree-more x c.args.cell _ _ (ap (node_tree ts) c.in-Ahead.is) c.requires.node) in
-    walks-bare_ahead x c.args.cell c.args.place g c.requires.filled c.in-Ahead.negated b at c.requires.found (inl c.if-negated.true)
+    walks-bare_ahead x c.args.cell c.args.place g c.requires.filled.ground c.in-Ahead.negated b at c.requires.found (inl c.if-negated.true)
 
 pub walk_node-returns-then-facts_at-clause-walks : goal.walk_node-returns-then-facts_at-clause-walks
 walk_node-returns-then-facts_at-clause-walks t c =
@@ -163,8 +163,8 @@ walk_node-returns-then-facts_at-clause-walks t c =
     let b = (get_or ts c.in-Ahead.body nothing) in
     let at : IsTreeAt x c.args.cell (ahead c.in-Ahead.negated b) = (tree-more x c.args.cell _ _ (ap (node_tree ts) c.in-Ahead.is) c.requires.node) in
     let bare : is_bare b ≡ true =
-    sym (ap (λ (f : Facts). f.bare) (c.facts_at.ensures ∙ ap (λ l. facts_at l c.in-Ahead.body) c.as_slice-in-Ahead.ensures ∙ c.requires.filled.ready.plan_is.facts_are c.in-Ahead.body)) ∙ c.if-facts_at.true in
-    walks-bare_ahead x c.args.cell c.args.place g c.requires.filled c.in-Ahead.negated b at c.requires.found (inr bare)
+    sym (ap (λ (f : Facts). f.bare) (c.facts_at.ensures ∙ ap (λ l. facts_at l c.in-Ahead.body) c.as_slice-in-Ahead.ensures ∙ c.requires.filled.ground.plan_is.facts_are c.in-Ahead.body)) ∙ c.if-facts_at.true in
+    walks-bare_ahead x c.args.cell c.args.place g c.requires.filled.ground c.in-Ahead.negated b at c.requires.found (inr bare)
 
 pub walk_node-walk-requires-in-Ahead : goal.walk_node-walk-requires-in-Ahead
 walk_node-walk-requires-in-Ahead t c =
@@ -175,8 +175,8 @@ walk_node-walk-requires-in-Ahead t c =
     let second = second-is _ _ c.parts_at-parts.result c.args.cell c.parts_at-parts.ensures c.as_slice.ensures in
     let b = (get_or ts c.in-Ahead.body nothing) in
     let at : IsTreeAt x c.args.cell (ahead c.in-Ahead.negated b) = (tree-more x c.args.cell _ _ (ap (node_tree ts) c.in-Ahead.is) c.requires.node) in
-    let a = ahead-walks x c.args.cell c.args.place g c.requires.filled b (tree-more x c.args.cell _ _ (ap (λ (n : Bool). ahead n b) c.if-negated.false) at) c.requires.found in
-    let w : CanWalk x c.args.cell c.args.place g c.requires.filled c.parts_at-parts.result.first = subst (λ (j : ℕ). CanWalk x c.args.cell c.args.place g c.requires.filled j) (sym first) a.0 in
+    let a = ahead-walks x c.args.cell c.args.place g c.requires.filled.ground b (tree-more x c.args.cell _ _ (ap (λ (n : Bool). ahead n b) c.if-negated.false) at) c.requires.found in
+    let w : CanWalk x c.args.cell c.args.place g c.requires.filled.ground c.parts_at-parts.result.first = subst (λ (j : ℕ). CanWalk x c.args.cell c.args.place g c.requires.filled.ground j) (sym first) a.0 in
     (omega (arith, c.decreases, w.smaller), (c.requires.filled, (w.inside, (w.real, w.found))))
 
 pub walk_node-returns-else-facts_at-clause-walks : goal.walk_node-returns-else-facts_at-clause-walks
@@ -188,7 +188,7 @@ walk_node-returns-else-facts_at-clause-walks t c =
     let second = second-is _ _ c.parts_at-parts.result c.args.cell c.parts_at-parts.ensures c.as_slice.ensures in
     let b = (get_or ts c.in-Ahead.body nothing) in
     let at : IsTreeAt x c.args.cell (ahead c.in-Ahead.negated b) = (tree-more x c.args.cell _ _ (ap (node_tree ts) c.in-Ahead.is) c.requires.node) in
-    let a = ahead-walks x c.args.cell c.args.place g c.requires.filled b (tree-more x c.args.cell _ _ (ap (λ (n : Bool). ahead n b) c.if-negated.false) at) c.requires.found in
+    let a = ahead-walks x c.args.cell c.args.place g c.requires.filled.ground b (tree-more x c.args.cell _ _ (ap (λ (n : Bool). ahead n b) c.if-negated.false) at) c.requires.found in
     a.1 c.walk-in-Ahead.result c.walk-in-Ahead.new.groups.items (subst (λ (j : ℕ). Walks x j c.args.place g c.walk-in-Ahead.result c.walk-in-Ahead.new.groups.items) first c.walk-in-Ahead.ensures.walks)
 
 pub walk_node-walk-middle-requires : goal.walk_node-walk-middle-requires
@@ -198,7 +198,7 @@ walk_node-walk-middle-requires t c =
     let g = c.args.groups.now.items in
     let first = first-is _ _ c.parts_at-parts.result c.args.cell c.parts_at-parts.ensures c.as_slice.ensures in
     let second = second-is _ _ c.parts_at-parts.result c.args.cell c.parts_at-parts.ensures c.as_slice.ensures in
-    let w : CanWalk x c.args.cell c.args.place g c.requires.filled c.parts_at-parts.result.first = subst (λ (j : ℕ). CanWalk x c.args.cell c.args.place g c.requires.filled j) (sym first) (seq-first x c.args.cell c.args.place g c.requires.filled (get_or ts c.in-Sequence.field-0 nothing) (get_or ts c.in-Sequence.field-1 nothing) (tree-more x c.args.cell _ _ (ap (node_tree ts) c.in-Sequence.is) c.requires.node) c.requires.found) in
+    let w : CanWalk x c.args.cell c.args.place g c.requires.filled.ground c.parts_at-parts.result.first = subst (λ (j : ℕ). CanWalk x c.args.cell c.args.place g c.requires.filled.ground j) (sym first) (seq-first x c.args.cell c.args.place g c.requires.filled.ground (get_or ts c.in-Sequence.field-0 nothing) (get_or ts c.in-Sequence.field-1 nothing) (tree-more x c.args.cell _ _ (ap (node_tree ts) c.in-Sequence.is) c.requires.node) c.requires.found) in
     (omega (arith, c.decreases, w.smaller), (c.requires.filled, (w.inside, (w.real, w.found))))
 
 pub walk_node-walk-requires : goal.walk_node-walk-requires
@@ -210,9 +210,9 @@ walk_node-walk-requires t c =
     let second = second-is _ _ c.parts_at-parts.result c.args.cell c.parts_at-parts.ensures c.as_slice.ensures in
     let p = (parts_at x.plan.now.parts c.args.cell).first in
     let after = c.follows-second.ensures ∙ ap (λ (j : ℕ). follow x j c.walk-middle.result c.args.place) first in
-    let s = seq-second x c.args.cell c.args.place g c.requires.filled (get_or ts c.in-Sequence.field-0 nothing) (get_or ts c.in-Sequence.field-1 nothing) (tree-more x c.args.cell _ _ (ap (node_tree ts) c.in-Sequence.is) c.requires.node) c.follows-second.result c.walk-middle.result c.walk-middle.new.groups.items
+    let s = seq-second x c.args.cell c.args.place g c.requires.filled.ground (get_or ts c.in-Sequence.field-0 nothing) (get_or ts c.in-Sequence.field-1 nothing) (tree-more x c.args.cell _ _ (ap (node_tree ts) c.in-Sequence.is) c.requires.node) c.follows-second.result c.walk-middle.result c.walk-middle.new.groups.items
     (subst (λ (j : ℕ). Walks x j c.args.place g c.walk-middle.result c.walk-middle.new.groups.items) first c.walk-middle.ensures.walks) after in
-    (omega (arith, c.decreases, s.smaller), (s.filled, (s.inside, (s.real, s.found))))
+    (omega (arith, c.decreases, s.smaller), (filled-on x c.args.marks.now c.args.place c.walk-middle.result c.requires.filled (walks-on x c.parts_at-parts.result.first c.args.place g c.walk-middle.result c.walk-middle.new.groups.items c.requires.filled.ground c.walk-middle.ensures.walks).0 s.filled, (s.inside, (s.real, s.found))))
 
 pub walk_node-returns-in-Sequence-clause-walks : goal.walk_node-returns-in-Sequence-clause-walks
 walk_node-returns-in-Sequence-clause-walks t c =
@@ -223,7 +223,7 @@ walk_node-returns-in-Sequence-clause-walks t c =
     let second = second-is _ _ c.parts_at-parts.result c.args.cell c.parts_at-parts.ensures c.as_slice.ensures in
     let p = (parts_at x.plan.now.parts c.args.cell).first in
     let after = c.follows-second.ensures ∙ ap (λ (j : ℕ). follow x j c.walk-middle.result c.args.place) first in
-    let s = seq-second x c.args.cell c.args.place g c.requires.filled (get_or ts c.in-Sequence.field-0 nothing) (get_or ts c.in-Sequence.field-1 nothing) (tree-more x c.args.cell _ _ (ap (node_tree ts) c.in-Sequence.is) c.requires.node) c.follows-second.result c.walk-middle.result c.walk-middle.new.groups.items
+    let s = seq-second x c.args.cell c.args.place g c.requires.filled.ground (get_or ts c.in-Sequence.field-0 nothing) (get_or ts c.in-Sequence.field-1 nothing) (tree-more x c.args.cell _ _ (ap (node_tree ts) c.in-Sequence.is) c.requires.node) c.follows-second.result c.walk-middle.result c.walk-middle.new.groups.items
     (subst (λ (j : ℕ). Walks x j c.args.place g c.walk-middle.result c.walk-middle.new.groups.items) first c.walk-middle.ensures.walks) after in
     s.same c.walk.result c.walk.new.groups.items c.walk.ensures.walks
 
@@ -232,7 +232,7 @@ walk-returns-in-None-clause-walks t c =
     let x = c.args.ground.now in
     let ts = trees_of x.program.now in
     let item = item-is _ _ c.cell_at-at.result c.args.cell c.cell_at-at.ensures c.as_slice.ensures in
-    walks-nothing x c.args.cell c.args.place c.args.groups.now.items c.requires.filled
+    walks-nothing x c.args.cell c.args.place c.args.groups.now.items c.requires.filled.ground
     (record {
       inside = c.requires.cell;
       real = c.requires.real;
@@ -245,7 +245,7 @@ walk_turns-returns-clause-walks t c =
     let g = c.turns.groups.items in
     let i = c.turns.invariant in
     let test = sym c.takes_turn.ensures in
-    i.goes.same c.turns.at g (turn-leaves x c.turns.turn c.turns.at g i.filled c.args.greedy c.turns.least c.turns.most i.goes.body i.goes.is_loop i.goes.found (test ∙ c.turns-test.false))
+    i.goes.same c.turns.at g (turn-leaves x c.turns.turn c.turns.at g i.filled.ground c.args.greedy c.turns.least c.turns.most i.goes.body i.goes.is_loop i.goes.found (test ∙ c.turns-test.false))
 
 pub walk_turns-walk-end-requires : goal.walk_turns-walk-end-requires
 walk_turns-walk-end-requires t c =
@@ -254,8 +254,8 @@ walk_turns-walk-end-requires t c =
     let i = c.turns.invariant in
     let test = sym c.takes_turn.ensures in
     let first = first-is _ _ c.parts_at-first.result c.turns.turn c.parts_at-first.ensures c.as_slice.ensures in
-    let w : CanWalk x c.turns.turn c.turns.at g i.filled c.parts_at-first.result.first =
-    subst (λ (j : ℕ). CanWalk x c.turns.turn c.turns.at g i.filled j) (sym first) (turn-first x c.turns.turn c.turns.at g i.filled c.args.greedy c.turns.least c.turns.most i.goes.body i.goes.is_loop i.goes.found (test ∙ c.turns-test.true)) in
+    let w : CanWalk x c.turns.turn c.turns.at g i.filled.ground c.parts_at-first.result.first =
+    subst (λ (j : ℕ). CanWalk x c.turns.turn c.turns.at g i.filled.ground j) (sym first) (turn-first x c.turns.turn c.turns.at g i.filled.ground c.args.greedy c.turns.least c.turns.most i.goes.body i.goes.is_loop i.goes.found (test ∙ c.turns-test.true)) in
     (omega (arith, c.decreases, w.smaller, i.goes.size), (i.filled, (w.inside, (w.real, w.found))))
 
 pub walk_turns-returns-then-end-at-clause-walks : goal.walk_turns-returns-then-end-at-clause-walks
@@ -265,7 +265,7 @@ walk_turns-returns-then-end-at-clause-walks t c =
     let i = c.turns.invariant in
     let test = sym c.takes_turn.ensures in
     let first = first-is _ _ c.parts_at-first.result c.turns.turn c.parts_at-first.ensures c.as_slice.ensures in
-    i.goes.same c.walk-end.result c.walk-end.new.groups.items (turn-stays x c.turns.turn c.turns.at g i.filled c.args.greedy c.turns.least c.turns.most i.goes.body i.goes.is_loop i.goes.found (test ∙ c.turns-test.true) c.walk-end.result c.walk-end.new.groups.items (subst (λ (j : ℕ). Walks x j c.turns.at g c.walk-end.result c.walk-end.new.groups.items) first c.walk-end.ensures.walks) c.if-end-at.true)
+    i.goes.same c.walk-end.result c.walk-end.new.groups.items (turn-stays x c.turns.turn c.turns.at g i.filled.ground c.args.greedy c.turns.least c.turns.most i.goes.body i.goes.is_loop i.goes.found (test ∙ c.turns-test.true) c.walk-end.result c.walk-end.new.groups.items (subst (λ (j : ℕ). Walks x j c.turns.at g c.walk-end.result c.walk-end.new.groups.items) first c.walk-end.ensures.walks) c.if-end-at.true)
 
 pub walk_turns-turns-preserved : goal.walk_turns-turns-preserved
 walk_turns-turns-preserved t c =
@@ -275,11 +275,11 @@ walk_turns-turns-preserved t c =
     let test = sym c.takes_turn.ensures in
     let first = first-is _ _ c.parts_at-first.result c.turns.turn c.parts_at-first.ensures c.as_slice.ensures in
     let after = c.follows-turn.ensures ∙ ap (λ (j : ℕ). (cell_at x.plan.now.cells j).next) first in
-    let n = turn-goes x c.turns.turn c.turns.at g i.filled c.args.greedy c.turns.least c.turns.most i.goes.body i.goes.is_loop i.goes.found (test ∙ c.turns-test.true) c.walk-end.result c.walk-end.new.groups.items (subst (λ (j : ℕ). Walks x j c.turns.at g c.walk-end.result c.walk-end.new.groups.items) first c.walk-end.ensures.walks) c.if-end-at.false c.follows-turn.result after in
-    let u = costs-of x c.parts_at-first.result.first c.turns.at c.turns.count.made c.walk-end.result c.walk-end.new.count.made i.goes.body (ap (λ (j : ℕ). item_tree (trees_of x.program.now) (cell_at x.plan.now.cells j).item) first ∙ turn-tree x c.turns.turn c.turns.at g i.filled c.args.greedy c.turns.least c.turns.most i.goes.body i.goes.is_loop i.goes.found (test ∙ c.turns-test.true)) c.walk-end.ensures.steps in
+    let n = turn-goes x c.turns.turn c.turns.at g i.filled.ground c.args.greedy c.turns.least c.turns.most i.goes.body i.goes.is_loop i.goes.found (test ∙ c.turns-test.true) c.walk-end.result c.walk-end.new.groups.items (subst (λ (j : ℕ). Walks x j c.turns.at g c.walk-end.result c.walk-end.new.groups.items) first c.walk-end.ensures.walks) c.if-end-at.false c.follows-turn.result after in
+    let u = costs-of x c.parts_at-first.result.first c.turns.at c.turns.count.made c.walk-end.result c.walk-end.new.count.made i.goes.body (ap (λ (j : ℕ). item_tree (trees_of x.program.now) (cell_at x.plan.now.cells j).item) first ∙ turn-tree x c.turns.turn c.turns.at g i.filled.ground c.args.greedy c.turns.least c.turns.most i.goes.body i.goes.is_loop i.goes.found (test ∙ c.turns-test.true)) c.walk-end.ensures.steps in
     let v = subst (λ (l : ℕ). c.walk-end.new.count.made ≤ c.turns.count.made + (stay_cost i.goes.body + read_cost i.goes.body * (c.walk-end.result - c.turns.at) + l * (suc (length x.text.now)))) i.goes.calm u in
     record {
-      filled = n.filled_there;
+      filled = filled-on x c.args.marks.now c.turns.at c.walk-end.result i.filled (omega (arith, n.later)) n.filled_there;
       goes = record {
         body = i.goes.body;
         is_loop = loop-is x c.follows-turn.result c.args.greedy c.turns.least c.saturating_sub-least.result c.turns.most c.one_less-most.result i.goes.body c.saturating_sub-least.ensures c.one_less-most.ensures n.is_loop;
@@ -305,8 +305,8 @@ walk_turns-turns-smaller t c =
     let test = sym c.takes_turn.ensures in
     let first = first-is _ _ c.parts_at-first.result c.turns.turn c.parts_at-first.ensures c.as_slice.ensures in
     let after = c.follows-turn.ensures ∙ ap (λ (j : ℕ). (cell_at x.plan.now.cells j).next) first in
-    let n = turn-goes x c.turns.turn c.turns.at g i.filled c.args.greedy c.turns.least c.turns.most i.goes.body i.goes.is_loop i.goes.found (test ∙ c.turns-test.true) c.walk-end.result c.walk-end.new.groups.items (subst (λ (j : ℕ). Walks x j c.turns.at g c.walk-end.result c.walk-end.new.groups.items) first c.walk-end.ensures.walks) c.if-end-at.false c.follows-turn.result after in
-    let l = n.later in let b = n.filled_there.ready.boundary.0 in omega (arith, l, b)
+    let n = turn-goes x c.turns.turn c.turns.at g i.filled.ground c.args.greedy c.turns.least c.turns.most i.goes.body i.goes.is_loop i.goes.found (test ∙ c.turns-test.true) c.walk-end.result c.walk-end.new.groups.items (subst (λ (j : ℕ). Walks x j c.turns.at g c.walk-end.result c.walk-end.new.groups.items) first c.walk-end.ensures.walks) c.if-end-at.false c.follows-turn.result after in
+    let l = n.later in let b = n.filled_there.boundary.0 in omega (arith, l, b)
 
 pub walk-returns-in-Turns-clause-steps : goal.walk-returns-in-Turns-clause-steps
 walk-returns-in-Turns-clause-steps t c =
@@ -365,8 +365,8 @@ walk_node-returns-in-Group-clause-steps t c =
     let g = c.args.groups.now.items in
     let first = first-is _ _ c.parts_at-parts.result c.args.cell c.parts_at-parts.ensures c.as_slice.ensures in
     let second = second-is _ _ c.parts_at-parts.result c.args.cell c.parts_at-parts.ensures c.as_slice.ensures in
-    let a = group-walks x c.args.cell c.args.place g c.requires.filled c.in-Group.number (get_or ts c.in-Group.body nothing) (tree-more x c.args.cell _ _ (ap (node_tree ts) c.in-Group.is) c.requires.node) c.requires.found in
-    costs-up x c.args.cell c.parts_at-parts.result.first c.args.place c.args.count.now.made c.walk-end.result c.walk-end.new.count.made (group c.in-Group.number (get_or ts c.in-Group.body nothing)) (get_or ts c.in-Group.body nothing) ((tree-more x c.args.cell _ _ (ap (node_tree ts) c.in-Group.is) c.requires.node)).tree (ap (λ (j : ℕ). item_tree ts (cell_at x.plan.now.cells j).item) first ∙ group-tree x c.args.cell c.args.place c.requires.filled.ready c.in-Group.number (get_or ts c.in-Group.body nothing) (tree-more x c.args.cell _ _ (ap (node_tree ts) c.in-Group.is) c.requires.node)) refl refl refl c.walk-end.ensures.steps
+    let a = group-walks x c.args.cell c.args.place g c.requires.filled.ground c.in-Group.number (get_or ts c.in-Group.body nothing) (tree-more x c.args.cell _ _ (ap (node_tree ts) c.in-Group.is) c.requires.node) c.requires.found in
+    costs-up x c.args.cell c.parts_at-parts.result.first c.args.place c.args.count.now.made c.walk-end.result c.walk-end.new.count.made (group c.in-Group.number (get_or ts c.in-Group.body nothing)) (get_or ts c.in-Group.body nothing) ((tree-more x c.args.cell _ _ (ap (node_tree ts) c.in-Group.is) c.requires.node)).tree (ap (λ (j : ℕ). item_tree ts (cell_at x.plan.now.cells j).item) first ∙ group-tree x c.args.cell c.args.place c.requires.filled.ground c.in-Group.number (get_or ts c.in-Group.body nothing) (tree-more x c.args.cell _ _ (ap (node_tree ts) c.in-Group.is) c.requires.node)) refl refl refl c.walk-end.ensures.steps
 
 pub walk_node-returns-in-Atomic-clause-steps : goal.walk_node-returns-in-Atomic-clause-steps
 walk_node-returns-in-Atomic-clause-steps t c =
@@ -375,8 +375,8 @@ walk_node-returns-in-Atomic-clause-steps t c =
     let g = c.args.groups.now.items in
     let first = first-is _ _ c.parts_at-parts.result c.args.cell c.parts_at-parts.ensures c.as_slice.ensures in
     let second = second-is _ _ c.parts_at-parts.result c.args.cell c.parts_at-parts.ensures c.as_slice.ensures in
-    let a = atomic-walks x c.args.cell c.args.place g c.requires.filled (get_or ts c.in-Atomic.field-0 nothing) (tree-more x c.args.cell _ _ (ap (node_tree ts) c.in-Atomic.is) c.requires.node) c.requires.found in
-    costs-up x c.args.cell c.parts_at-parts.result.first c.args.place c.args.count.now.made c.walk-in-Atomic.result c.walk-in-Atomic.new.count.made (atomic (get_or ts c.in-Atomic.field-0 nothing)) (get_or ts c.in-Atomic.field-0 nothing) ((tree-more x c.args.cell _ _ (ap (node_tree ts) c.in-Atomic.is) c.requires.node)).tree (ap (λ (j : ℕ). item_tree ts (cell_at x.plan.now.cells j).item) first ∙ atomic-tree x c.args.cell c.args.place c.requires.filled.ready (get_or ts c.in-Atomic.field-0 nothing) (tree-more x c.args.cell _ _ (ap (node_tree ts) c.in-Atomic.is) c.requires.node)) refl refl refl c.walk-in-Atomic.ensures.steps
+    let a = atomic-walks x c.args.cell c.args.place g c.requires.filled.ground (get_or ts c.in-Atomic.field-0 nothing) (tree-more x c.args.cell _ _ (ap (node_tree ts) c.in-Atomic.is) c.requires.node) c.requires.found in
+    costs-up x c.args.cell c.parts_at-parts.result.first c.args.place c.args.count.now.made c.walk-in-Atomic.result c.walk-in-Atomic.new.count.made (atomic (get_or ts c.in-Atomic.field-0 nothing)) (get_or ts c.in-Atomic.field-0 nothing) ((tree-more x c.args.cell _ _ (ap (node_tree ts) c.in-Atomic.is) c.requires.node)).tree (ap (λ (j : ℕ). item_tree ts (cell_at x.plan.now.cells j).item) first ∙ atomic-tree x c.args.cell c.args.place c.requires.filled.ground (get_or ts c.in-Atomic.field-0 nothing) (tree-more x c.args.cell _ _ (ap (node_tree ts) c.in-Atomic.is) c.requires.node)) refl refl refl c.walk-in-Atomic.ensures.steps
 
 pub walk_node-returns-then-leads-clause-steps : goal.walk_node-returns-then-leads-clause-steps
 walk_node-returns-then-leads-clause-steps t c =
@@ -385,10 +385,10 @@ walk_node-returns-then-leads-clause-steps t c =
     let g = c.args.groups.now.items in
     let first = first-is _ _ c.parts_at-parts.result c.args.cell c.parts_at-parts.ensures c.as_slice.ensures in
     let second = second-is _ _ c.parts_at-parts.result c.args.cell c.parts_at-parts.ensures c.as_slice.ensures in
-    let a = alt-first x c.args.cell c.args.place g c.requires.filled (get_or ts c.in-Alternation.field-0 nothing) (get_or ts c.in-Alternation.field-1 nothing) (tree-more x c.args.cell _ _ (ap (node_tree ts) c.in-Alternation.is) c.requires.node) (sym (c.leads.ensures ∙ ap (λ (j : ℕ). is_some (ends_at x j c.args.place)) first) ∙ c.if-leads.true) in
+    let a = alt-first x c.args.cell c.args.place g c.requires.filled.ground (get_or ts c.in-Alternation.field-0 nothing) (get_or ts c.in-Alternation.field-1 nothing) (tree-more x c.args.cell _ _ (ap (node_tree ts) c.in-Alternation.is) c.requires.node) (sym (c.leads.ensures ∙ ap (λ (j : ℕ). is_some (ends_at x j c.args.place)) first) ∙ c.if-leads.true) in
     let ta : Tree = (get_or ts c.in-Alternation.field-0 nothing) in
     let tb : Tree = (get_or ts c.in-Alternation.field-1 nothing) in
-    let e = alt-trees x c.args.cell c.args.place c.requires.filled.ready ta tb (tree-more x c.args.cell _ _ (ap (node_tree ts) c.in-Alternation.is) c.requires.node) in
+    let e = alt-trees x c.args.cell c.args.place c.requires.filled.ground ta tb (tree-more x c.args.cell _ _ (ap (node_tree ts) c.in-Alternation.is) c.requires.node) in
     let s = costs-of x c.parts_at-parts.result.first c.args.place c.args.count.now.made c.walk-then-leads.result c.walk-then-leads.new.count.made ta (ap (λ (j : ℕ). item_tree ts (cell_at x.plan.now.cells j).item) first ∙ e.0) c.walk-then-leads.ensures.steps in
     costs-is x c.args.cell c.args.place c.args.count.now.made c.walk-then-leads.result (suc c.walk-then-leads.new.count.made) (alt ta tb) ((tree-more x c.args.cell _ _ (ap (node_tree ts) c.in-Alternation.is) c.requires.node)).tree
     (left-cost (stay_cost ta) (stay_cost tb) (read_cost ta) (read_cost tb) (look_cost ta) (look_cost tb) (suc (length x.text.now)) (c.walk-then-leads.result - c.args.place) c.args.count.now.made c.walk-then-leads.new.count.made s)
@@ -400,10 +400,10 @@ walk_node-returns-else-leads-clause-steps t c =
     let g = c.args.groups.now.items in
     let first = first-is _ _ c.parts_at-parts.result c.args.cell c.parts_at-parts.ensures c.as_slice.ensures in
     let second = second-is _ _ c.parts_at-parts.result c.args.cell c.parts_at-parts.ensures c.as_slice.ensures in
-    let a = alt-second x c.args.cell c.args.place g c.requires.filled (get_or ts c.in-Alternation.field-0 nothing) (get_or ts c.in-Alternation.field-1 nothing) (tree-more x c.args.cell _ _ (ap (node_tree ts) c.in-Alternation.is) c.requires.node) c.requires.found (sym (c.leads.ensures ∙ ap (λ (j : ℕ). is_some (ends_at x j c.args.place)) first) ∙ c.if-leads.false) in
+    let a = alt-second x c.args.cell c.args.place g c.requires.filled.ground (get_or ts c.in-Alternation.field-0 nothing) (get_or ts c.in-Alternation.field-1 nothing) (tree-more x c.args.cell _ _ (ap (node_tree ts) c.in-Alternation.is) c.requires.node) c.requires.found (sym (c.leads.ensures ∙ ap (λ (j : ℕ). is_some (ends_at x j c.args.place)) first) ∙ c.if-leads.false) in
     let ta : Tree = (get_or ts c.in-Alternation.field-0 nothing) in
     let tb : Tree = (get_or ts c.in-Alternation.field-1 nothing) in
-    let e = alt-trees x c.args.cell c.args.place c.requires.filled.ready ta tb (tree-more x c.args.cell _ _ (ap (node_tree ts) c.in-Alternation.is) c.requires.node) in
+    let e = alt-trees x c.args.cell c.args.place c.requires.filled.ground ta tb (tree-more x c.args.cell _ _ (ap (node_tree ts) c.in-Alternation.is) c.requires.node) in
     let s = costs-of x c.parts_at-parts.result.second c.args.place c.args.count.now.made c.walk-in-Alternation.result c.walk-in-Alternation.new.count.made tb (ap (λ (j : ℕ). item_tree ts (cell_at x.plan.now.cells j).item) second ∙ e.1) c.walk-in-Alternation.ensures.steps in
     costs-is x c.args.cell c.args.place c.args.count.now.made c.walk-in-Alternation.result (suc c.walk-in-Alternation.new.count.made) (alt ta tb) ((tree-more x c.args.cell _ _ (ap (node_tree ts) c.in-Alternation.is) c.requires.node)).tree
     (right-cost (stay_cost ta) (stay_cost tb) (read_cost ta) (read_cost tb) (look_cost ta) (look_cost tb) (suc (length x.text.now)) (c.walk-in-Alternation.result - c.args.place) c.args.count.now.made c.walk-in-Alternation.new.count.made s)
@@ -417,12 +417,12 @@ walk_node-returns-in-Sequence-clause-steps t c =
     let second = second-is _ _ c.parts_at-parts.result c.args.cell c.parts_at-parts.ensures c.as_slice.ensures in
     let p = (parts_at x.plan.now.parts c.args.cell).first in
     let after = c.follows-second.ensures ∙ ap (λ (j : ℕ). follow x j c.walk-middle.result c.args.place) first in
-    let s = seq-second x c.args.cell c.args.place g c.requires.filled (get_or ts c.in-Sequence.field-0 nothing) (get_or ts c.in-Sequence.field-1 nothing) (tree-more x c.args.cell _ _ (ap (node_tree ts) c.in-Sequence.is) c.requires.node) c.follows-second.result c.walk-middle.result c.walk-middle.new.groups.items
+    let s = seq-second x c.args.cell c.args.place g c.requires.filled.ground (get_or ts c.in-Sequence.field-0 nothing) (get_or ts c.in-Sequence.field-1 nothing) (tree-more x c.args.cell _ _ (ap (node_tree ts) c.in-Sequence.is) c.requires.node) c.follows-second.result c.walk-middle.result c.walk-middle.new.groups.items
     (subst (λ (j : ℕ). Walks x j c.args.place g c.walk-middle.result c.walk-middle.new.groups.items) first c.walk-middle.ensures.walks) after in
     let ta : Tree = (get_or ts c.in-Sequence.field-0 nothing) in
     let tb : Tree = (get_or ts c.in-Sequence.field-1 nothing) in
-    let e = seq-tree x c.args.cell c.args.place c.requires.filled.ready ta tb (tree-more x c.args.cell _ _ (ap (node_tree ts) c.in-Sequence.is) c.requires.node) in
-    let on = walks-on x c.parts_at-parts.result.first c.args.place g c.walk-middle.result c.walk-middle.new.groups.items c.requires.filled c.walk-middle.ensures.walks in
+    let e = seq-tree x c.args.cell c.args.place c.requires.filled.ground ta tb (tree-more x c.args.cell _ _ (ap (node_tree ts) c.in-Sequence.is) c.requires.node) in
+    let on = walks-on x c.parts_at-parts.result.first c.args.place g c.walk-middle.result c.walk-middle.new.groups.items c.requires.filled.ground c.walk-middle.ensures.walks in
     let more = walks-on x c.follows-second.result c.walk-middle.result c.walk-middle.new.groups.items c.walk.result c.walk.new.groups.items s.filled c.walk.ensures.walks in
     let u = costs-of x c.parts_at-parts.result.first c.args.place c.args.count.now.made c.walk-middle.result c.walk-middle.new.count.made ta (ap (λ (j : ℕ). item_tree ts (cell_at x.plan.now.cells j).item) first ∙ e) c.walk-middle.ensures.steps in
     let v = costs-of x c.follows-second.result c.walk-middle.result c.walk-middle.new.count.made c.walk.result c.walk.new.count.made tb s.is_tree c.walk.ensures.steps in
@@ -439,12 +439,12 @@ walk_node-returns-else-facts_at-clause-steps t c =
     let second = second-is _ _ c.parts_at-parts.result c.args.cell c.parts_at-parts.ensures c.as_slice.ensures in
     let b = (get_or ts c.in-Ahead.body nothing) in
     let at : IsTreeAt x c.args.cell (ahead c.in-Ahead.negated b) = (tree-more x c.args.cell _ _ (ap (node_tree ts) c.in-Ahead.is) c.requires.node) in
-    let a = ahead-walks x c.args.cell c.args.place g c.requires.filled b (tree-more x c.args.cell _ _ (ap (λ (n : Bool). ahead n b) c.if-negated.false) at) c.requires.found in
-    let on = walks-on x c.parts_at-parts.result.first c.args.place g c.walk-in-Ahead.result c.walk-in-Ahead.new.groups.items c.requires.filled c.walk-in-Ahead.ensures.walks in
-    let e = ahead-tree x c.args.cell c.args.place c.requires.filled.ready c.in-Ahead.negated b at in
+    let a = ahead-walks x c.args.cell c.args.place g c.requires.filled.ground b (tree-more x c.args.cell _ _ (ap (λ (n : Bool). ahead n b) c.if-negated.false) at) c.requires.found in
+    let on = walks-on x c.parts_at-parts.result.first c.args.place g c.walk-in-Ahead.result c.walk-in-Ahead.new.groups.items c.requires.filled.ground c.walk-in-Ahead.ensures.walks in
+    let e = ahead-tree x c.args.cell c.args.place c.requires.filled.ground c.in-Ahead.negated b at in
     let u = costs-of x c.parts_at-parts.result.first c.args.place c.args.count.now.made c.walk-in-Ahead.result c.walk-in-Ahead.new.count.made b (ap (λ (j : ℕ). item_tree ts (cell_at x.plan.now.cells j).item) first ∙ e) c.walk-in-Ahead.ensures.steps in
     let bare : is_bare b ≡ false =
-    sym (ap (λ (f : Facts). f.bare) (c.facts_at.ensures ∙ ap (λ l. facts_at l c.in-Ahead.body) c.as_slice-in-Ahead.ensures ∙ c.requires.filled.ready.plan_is.facts_are c.in-Ahead.body)) ∙ c.if-facts_at.false in
+    sym (ap (λ (f : Facts). f.bare) (c.facts_at.ensures ∙ ap (λ l. facts_at l c.in-Ahead.body) c.as_slice-in-Ahead.ensures ∙ c.requires.filled.ground.plan_is.facts_are c.in-Ahead.body)) ∙ c.if-facts_at.false in
     let looks : look_cost (ahead c.in-Ahead.negated b) ≡ walk_cost b + look_cost b =
     ap (λ (n : Bool). if n || is_bare b then 0 else walk_cost b + look_cost b) c.if-negated.false ∙ ap (λ (n : Bool). if n then 0 else walk_cost b + look_cost b) bare in
     let v = look-costs (stay_cost b) (read_cost b) (look_cost b) (suc (length x.text.now)) (c.walk-in-Ahead.result - c.args.place) c.args.count.now.made c.walk-in-Ahead.new.count.made (omega (arith, on.1)) u in
@@ -468,7 +468,7 @@ walk_turns-returns-then-end-at-clause-steps t c =
     let i = c.turns.invariant in
     let test = sym c.takes_turn.ensures in
     let first = first-is _ _ c.parts_at-first.result c.turns.turn c.parts_at-first.ensures c.as_slice.ensures in
-    let u = costs-of x c.parts_at-first.result.first c.turns.at c.turns.count.made c.walk-end.result c.walk-end.new.count.made i.goes.body (ap (λ (j : ℕ). item_tree (trees_of x.program.now) (cell_at x.plan.now.cells j).item) first ∙ turn-tree x c.turns.turn c.turns.at g i.filled c.args.greedy c.turns.least c.turns.most i.goes.body i.goes.is_loop i.goes.found (test ∙ c.turns-test.true)) c.walk-end.ensures.steps in
+    let u = costs-of x c.parts_at-first.result.first c.turns.at c.turns.count.made c.walk-end.result c.walk-end.new.count.made i.goes.body (ap (λ (j : ℕ). item_tree (trees_of x.program.now) (cell_at x.plan.now.cells j).item) first ∙ turn-tree x c.turns.turn c.turns.at g i.filled.ground c.args.greedy c.turns.least c.turns.most i.goes.body i.goes.is_loop i.goes.found (test ∙ c.turns-test.true)) c.walk-end.ensures.steps in
     let v = subst (λ (l : ℕ). c.walk-end.new.count.made ≤ c.turns.count.made + (stay_cost i.goes.body + read_cost i.goes.body * (c.walk-end.result - c.turns.at) + l * (suc (length x.text.now)))) i.goes.calm u in
     let none : c.walk-end.result - c.turns.at ≡ 0 = omega (arith, c.if-end-at.true) in
     let w = subst (λ (y : ℕ). c.walk-end.new.count.made ≤ c.turns.count.made + (stay_cost i.goes.body + read_cost i.goes.body * y + 0 * (suc (length x.text.now)))) none v in
@@ -491,7 +491,7 @@ walk_turns-turns-init t c =
         later = omega arith;
         stays = ap stay_cost c.requires.turns.at.tree;
         reads = ap read_cost c.requires.turns.at.tree;
-        calm = loop-calm x c.args.cell c.args.place c.requires.filled.ready c.args.greedy c.args.least c.args.most c.requires.turns.body c.requires.turns.at;
+        calm = loop-calm x c.args.cell c.args.place c.requires.filled.ground c.args.greedy c.args.least c.args.most c.requires.turns.body c.requires.turns.at;
         paid = omega arith;
       };
     }

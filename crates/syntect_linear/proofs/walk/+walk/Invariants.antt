@@ -14,7 +14,7 @@ decreases-walk_turns l = 3 * size_of l.ground.now l.cell
 
 abbrev pub invariant-walk_turns-turns : goal.invariant-walk_turns-turns
 invariant-walk_turns-turns l = record {
-  filled : IsFilled l.ground l.at;
+  filled : IsFilled l.ground l.marks l.at;
   goes : Continues l.ground l.fn.cell l.fn.place l.initial.groups.items l.turn l.at l.groups.items l.greedy l.least l.most l.initial.count.made l.count.made;
 }
 

@@ -18,6 +18,7 @@ returns-in-Some-true-clause-finds c = λ tree is.
 pub loop-place-preserved : goal.loop-place-preserved
 loop-place-preserved c = record {
   paid = λ l. c.in_ok-begins_there.ensures.steps l ∙ c.loop-place.invariant.paid l;
+  rises = omega (arith, c.in_ok-begins_there.ensures.rises, c.loop-place.invariant.rises);
   same = λ tree is.
       let s = c.args.text.now in
       let next = c.next_start-place.result in
@@ -50,4 +51,4 @@ pub returns-then-begin-text-clause-finds : goal.returns-then-begin-text-clause-f
 returns-then-begin-text-clause-finds c = λ tree is. sym (found-past c.args.text.now tree c.args.begin (omega arith))
 
 pub loop-place-init : goal.loop-place-init
-loop-place-init c = record { same = λ tree is. refl; paid = λ l. refl }
+loop-place-init c = record { same = λ tree is. refl; paid = λ l. refl; rises = omega arith }

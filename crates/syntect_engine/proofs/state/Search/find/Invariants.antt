@@ -1,4 +1,4 @@
-use Rattle.std.proofs.Common.{◌≡◌, ◌+◌, true, ◌-◌, suc, length}
+use Rattle.std.proofs.Common.{◌≡◌, ◌+◌, ◌≤◌, true, ◌-◌, suc, length}
 use Rattle.syntect_pattern.specs.Trees.{Tree}
 use Rattle.syntect_pattern.specs.Matches.{found}
 use Rattle.syntect_pattern_table.specs.Program.{IsProgramOf}
@@ -8,6 +8,7 @@ abbrev pub invariant-loop-place : goal.invariant-loop-place
 invariant-loop-place l = record {
   same : (tree : Tree) → IsProgramOf l.program tree → found l.text tree l.place ≡ found l.text tree l.fn.begin;
   paid : l.limited ≡ true → l.count.made + l.self.left ≡ l.fn.count.made + l.fn.self.left;
+  rises : l.fn.count.made ≤ l.count.made;
 }
 
 abbrev pub decreases-loop-place : goal.decreases-loop-place

@@ -66,6 +66,7 @@ loop-place-preserved c =
     record {
       within = omega (arith, c.if-place-last.false);
       paid = λ l. c.in_ok-begins.ensures.steps l ∙ c.loop-place.invariant.paid l;
+      rises = omega (arith, c.in_ok-begins.ensures.rises, c.loop-place.invariant.rises);
       same = λ tree is.
           let nothing_here : found_at s tree next ≡ None = sym (answer_holds c.in_ok-begins.begins c.in-Some-false.field-0 false (λ (b : Bool). FindsAt s c.args.program.now next (groups_of b c.begins_there.new.self)) c.in-Some-false.is c.in-Some-false.field-0-test c.in_ok-begins.ensures.finds tree is) in
           rw add-one (sym (found-step s tree next within nothing_here)
@@ -78,6 +79,7 @@ loop-place-init c = record {
   within = omega (arith, c.requires);
   same = λ tree is. refl;
   paid = λ l. refl;
+  rises = omega arith;
 }
 
 pub returns-else-place-text-clause-finds : goal.returns-else-place-text-clause-finds

@@ -9,6 +9,7 @@ invariant-loop-place l = record {
   within : l.place ≤ suc l.fn.last;
   same : (tree : Tree) → IsProgramOf l.program tree → found l.text tree l.place ≡ found l.text tree l.fn.begin;
   paid : l.limited ≡ true → l.count.made + l.self.left ≡ l.fn.count.made + l.fn.self.left;
+  rises : l.fn.count.made ≤ l.count.made;
 }
 
 abbrev pub decreases-loop-place : goal.decreases-loop-place

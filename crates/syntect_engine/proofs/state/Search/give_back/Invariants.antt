@@ -8,6 +8,7 @@ invariant-frames l = record {
   groups : l.self.groups ≡ l.fn.self.groups;
   place : l.self.place ≡ l.fn.self.place;
   left : l.self.left ≡ l.fn.self.left;
+  read : l.self.read ≡ l.fn.self.read;
 }
 
 abbrev pub decreases-frames : goal.decreases-frames

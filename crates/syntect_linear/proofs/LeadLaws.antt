@@ -1,0 +1,97 @@
+-- Whether a cell leads on.
+use Rattle.std.proofs.Common.{◌≡◌, ℕ, zero, suc, ◌-◌, ◌<◌, ◌≤◌, Bool, true, false, List, [], ◌∷◌, length, get_or, set, replicate, Option, Some, None, refl, sym, ap, subst, ◌∙◌, arith}
+use Rattle.std.specs.Prelude.{IfSome, is_some, unwrap_or, option_map, option_and_then, IsCharBoundary}
+use Rattle.std.specs.Option.{option_or}
+use Rattle.syntect_pattern.specs.Text.{char_at}
+use Rattle.syntect_pattern.specs.Sets.{Set, holds}
+use Rattle.syntect_pattern.specs.Trees.{one_of}
+use Rattle.syntect_pattern_table.specs.Program.{trees_of}
+use Rattle.syntect_ways.specs.Steps.{after_char}
+use Rattle.syntect_plan.specs.Cells.{cell_at}
+use Rattle.syntect_plan.specs.Onward.{prefer_end}
+use Rattle.syntect_linear.specs.Ground.{IsGround, IsIn, ends_at}
+use Rattle.syntect_linear.specs.Marks.{AreMarks, IsMarked, KnowsLeads}
+use Rattle.syntect_linear.specs.Rows.{row_flag}
+use Rattle.syntect_linear.specs.Step.{IsTreeAt}
+use Rattle.syntect_linear.specs.declared.ground.Ground.{Ground}
+use Rattle.syntect_linear.proofs.GroundLaws.{char-on, past-on, next-inside}
+
+-- an answer to the same
+pub same-lead : (r : Option Bool) (a b : Bool) → a ≡ b → IfSome r (λ l. l ≡ a) → IfSome r (λ l. l ≡ b)
+same-lead None a b e h = h
+same-lead (Some l) a b e h = h ∙ e
+
+pub known-lead : (x : Ground) (place k : ℕ) (here : List (Option Bool)) (o : Option Bool) → o ≡ get_or here k None → KnowsLeads x place here → IfSome o (λ b. b ≡ is_some (ends_at x k place))
+known-lead x place k here None e h = tt
+known-lead x place k here (Some b) e h = h k b (sym e)
+
+-- one of two branches
+pub either-first : (a b : Option ℕ) → is_some a ≡ true → true ≡ is_some (option_or a b)
+either-first None b h = cc
+either-first (Some v) b h = refl
+
+pub either-last : (a b : Option ℕ) → is_some a ≡ false → is_some b ≡ is_some (option_or a b)
+either-last None b h = refl
+either-last (Some v) b h = cc
+
+-- one of a loop's two ways
+pub loop-turn : (greedy : Bool) (turn leave : Option ℕ) → is_some turn ≡ true → true ≡ is_some (prefer_end greedy turn leave)
+loop-turn greedy None leave h = cc
+loop-turn true (Some v) leave h = refl
+loop-turn false (Some v) None h = refl
+loop-turn false (Some v) (Some w) h = refl
+
+pub loop-leave : (greedy : Bool) (turn leave : Option ℕ) → is_some turn ≡ false → is_some leave ≡ is_some (prefer_end greedy turn leave)
+loop-leave greedy (Some v) leave h = cc
+loop-leave true None leave h = refl
+loop-leave false None None h = refl
+loop-leave false None (Some w) h = refl
+
+-- a character is read
+pub char-leads : (x : Ground) (marks : List (List Bool)) (place k : ℕ) → IsMarked x marks place → (a : Set) → IsTreeAt x k (one_of a) → (n : ℕ) (o : Option ℕ) → n ≡ (cell_at x.plan.now.cells k).next
+    → o ≡ after_char (holds a) (char_at x.text.now place) place → IfSome o (λ j. IsCharBoundary x.text.now j)
+    → unwrap_or (option_map (λ j. row_flag marks (length x.text.now - j) n) o) false ≡ is_some (ends_at x k place)
+char-leads x marks place k r a h n o q e b = by o e b ∙ sym (ap is_some (char-on x place k r.ground a h n o q e))
+  where
+    by : (o : Option ℕ) → o ≡ after_char (holds a) (char_at x.text.now place) place → IfSome o (λ j. IsCharBoundary x.text.now j)
+        → unwrap_or (option_map (λ j. row_flag marks (length x.text.now - j) n) o) false ≡ is_some (option_and_then (ends_at x n) o)
+    by None e b = refl
+    by (Some j) e b =
+        let past = past-on x place k r.ground (holds a) (char_at x.text.now place) j (sym e) in
+        r.marks_are j n (let l = r.later in let w = b.0 in omega (arith, past, l, w)) b (next-inside x place k r.ground (one_of a) h n q)
+
+-- one more is known
+set-cases : (l : List (Option Bool)) (n j : ℕ) (v : Option Bool) (p : Bool) (P : ℕ → Bool → Type 0) → IfSome v (λ b. P n b) → (get_or l j None ≡ Some p → P j p) → get_or (set l n v) j None ≡ Some p → P j p
+set-cases [] n j v p P h a q = a q
+set-cases (y ∷ l) zero zero None p P h a q = cc
+set-cases (y ∷ l) zero zero (Some b) p P h a q = let same : b ≡ p = cc in subst (λ (w : Bool). P zero w) same h
+set-cases (y ∷ l) zero (suc j) v p P h a q = a q
+set-cases (y ∷ l) (suc n) zero v p P h a q = a q
+set-cases (y ∷ l) (suc n) (suc j) v p P h a q = set-cases l n j v p (λ i w. P (suc i) w) h a q
+
+pub knows-set : (x : Ground) (place k : ℕ) (here new : List (Option Bool)) (o : Option Bool) → new ≡ set here k o → IfSome o (λ b. b ≡ is_some (ends_at x k place)) → KnowsLeads x place here → KnowsLeads x place new
+knows-set x place k here new o e h a j p q =
+    set-cases here k j o p (λ i w. w ≡ is_some (ends_at x i place)) h (λ z. a j p z) (ap (λ (l : List (Option Bool)). get_or l j None) (sym e) ∙ q)
+
+pub knows-none : (x : Ground) (place : ℕ) (here : List (Option Bool)) (n : ℕ) → here ≡ replicate n None → KnowsLeads x place here
+knows-none x place here n e k b q = absurd (no n k (ap (λ (l : List (Option Bool)). get_or l k None) (sym e) ∙ q))
+  where
+    no : (n k : ℕ) → get_or (replicate n None) k None ≡ Some b → ⊥
+    no zero zero q = cc
+    no zero (suc k) q = cc
+    no (suc n) zero q = cc
+    no (suc n) (suc k) q = no n k q
+
+pub none-long : (here : List (Option Bool)) (n : ℕ) → here ≡ replicate n None → length here ≡ n
+none-long here n e = ap length e ∙ long n
+  where
+    long : (n : ℕ) → length (replicate {A = Option Bool} n None) ≡ n
+    long zero = refl
+    long (suc n) = ap suc (long n)
+
+-- what is known of all cells is a row
+pub row-leads : (x : Ground) (place : ℕ) (here : List (Option Bool)) (made : Option (List Bool)) → KnowsLeads x place here → length here ≡ length x.plan.now.cells
+    → IfSome made (λ row. (k : ℕ) → k < length here → get_or here k None ≡ Some (get_or row k false))
+    → IfSome made (λ row. (k : ℕ) → IsIn x k → get_or row k false ≡ is_some (ends_at x k place))
+row-leads x place here None knows long h = h
+row-leads x place here (Some row) knows long h = λ k i. knows k (get_or row k false) (h k (omega (arith, long, i)))

@@ -1,0 +1,26 @@
+-- From which cells the whole match ends anywhere.
+use Rattle.std.specs.Prelude.{◌≡◌, ℕ, ◌-◌, ◌<◌, ◌≤◌, Bool, List, length, Option, Some, None, slice_index_or, is_some, IsCharBoundary}
+use Rattle.syntect_pattern.specs.Trees.{Tree}
+use Rattle.syntect_pattern_table.specs.Program.{trees_of}
+use Rattle.syntect_plan.specs.Cells.{ends}
+use Rattle.syntect_plan.specs.declared.cells.Cell.{Cell}
+use Rattle.syntect_linear.specs.Ground.{IsGround, ends_at}
+use Rattle.syntect_linear.specs.Rows.{row_flag}
+use Rattle.syntect_linear.specs.declared.ground.Ground.{Ground}
+
+-- the rows, from that of the text's end on, mark the cells from which the whole match ends anywhere
+abbrev pub AreMarks : List ℕ → List Tree → List Cell → List (List Bool) → Type 0
+AreMarks s ts cells marks =
+    (q k : ℕ) → length s - q < length marks → IsCharBoundary s q → k < length cells
+    → row_flag marks (length s - q) k ≡ is_some (ends s ts cells k q)
+
+-- the marks are right, and they are there of all places after this one
+pub record IsMarked (x : Ground) (marks : List (List Bool)) (place : ℕ) : Type 0 where
+  pub ground : IsGround x place
+  pub marks_are : AreMarks x.text.now (trees_of x.program.now) x.plan.now.cells marks
+  pub later : length x.text.now - place ≤ length marks
+
+-- what is known of the place is so
+abbrev pub KnowsLeads : Ground → ℕ → List (Option Bool) → Type 0
+KnowsLeads x place here = (k : ℕ) (b : Bool) → slice_index_or here k None ≡ Some b
+    → b ≡ is_some (ends_at x k place)

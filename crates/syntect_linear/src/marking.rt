@@ -1,0 +1,171 @@
+//! The marks of a text, from its end on.
+ghost use Rattle.std.specs.Prelude.{◌≡◌, ◌<◌, ◌≤◌, ◌+◌, ◌*◌, ℕ, IfOk, IfSome, OnOk, None, false, is_some, length, replicate, slice_index_or, slice_set, Some};
+ghost use Rattle.syntect_pattern_table.specs.Program.{trees_of};
+ghost use Rattle.syntect_plan.specs.PlanOf.{IsPlanOf};
+ghost use Rattle.syntect_linear.specs.Ground.{IsIn, ends_at};
+ghost use Rattle.syntect_linear.specs.Marks.{AreMarks, IsMarked, KnowsLeads};
+ghost use Rattle.syntect_linear.specs.Rows.{AreSights};
+
+use crate::fill::rows_from;
+use crate::ground::Ground;
+use crate::lead::lead_by;
+use crate::marks::{Marks, marks_of};
+use std::alloc::{AllocError, Global};
+use syntect_pattern_table::program::Program;
+use syntect_plan::order::{cell_in, order_of};
+use syntect_plan::plan::Plan;
+use syntect_turns::count::TurnCount;
+use syntect_values::seq::Seq;
+use syntect_ways::text::is_boundary;
+
+/// Nothing is known of so many cells.
+fn nothing_known(alloc: Global, count: usize) -> Result<Vec<Option<bool>>, AllocError>
+    ensures { IfOk result (λ here. here.items ≡ replicate count None) }
+{
+    let mut here = Vec::with_capacity(alloc, count)?;
+    for _cell in 0..count {
+        here.push(None)?;
+    }
+    Ok(here)
+}
+
+/// Keeps whether the cell leads on, if that is known.
+fn keep(here: &mut Vec<Option<bool>>, cell: usize, leads: Option<bool>)
+    ensures { here.new.items ≡ slice_set here.old.items cell leads }
+{
+    if cell < here.len() {
+        here[cell] = leads;
+    }
+}
+
+/// What is known of a place once each cell was asked, the lowest first.
+fn known_of(
+    alloc: Global,
+    ground: &Ground,
+    marks: &Marks,
+    order: &[(usize, usize)],
+    place: usize,
+    count: &mut TurnCount,
+) -> Result<Vec<Option<bool>>, AllocError>
+    requires { IsMarked ground.now marks.now place }
+    ensures knows { IfOk result (λ here. KnowsLeads ground.now place here.items) }
+    ensures long { IfOk result (λ here. length here.items ≡ length ground.now.plan.now.cells) }
+    ensures steps { OnOk result (count.new.made
+        ≡ count.old.made + length ground.now.plan.now.cells) }
+{
+    let cells = ground.plan.cells.len();
+    let mut here = nothing_known(alloc, cells)?;
+    for late in 0..cells {
+        count.tick();
+        let cell = cell_in(order, late).min(cells - 1);
+        let leads = lead_by(ground, marks, here.as_slice(), place, cell);
+        keep(&mut here, cell, leads);
+    }
+    Ok(here)
+}
+
+/// The row of a place, if all is known of it.
+fn row_of(alloc: Global, here: &[Option<bool>]) -> Result<Option<Seq<bool>>, AllocError>
+    ensures { IfOk result (λ made. IfSome made (λ row. (k : ℕ) → k < length here.now
+        → slice_index_or here.now k None ≡ Some (slice_index_or row k false))) }
+{
+    let mut row = Vec::with_capacity(alloc, here.len())?;
+    for known in here {
+        match known {
+            Some(leads) => row.push(*leads)?,
+            None => return Ok(None),
+        }
+    }
+    Ok(Some(Seq::from_vec(row)))
+}
+
+/// The row of a place, if it can be told without where matches end.
+fn marked(
+    alloc: Global,
+    ground: &Ground,
+    marks: &Marks,
+    order: &[(usize, usize)],
+    place: usize,
+    count: &mut TurnCount,
+) -> Result<Option<Seq<bool>>, AllocError>
+    requires { IsMarked ground.now marks.now place }
+    ensures leads { IfOk result (λ made. IfSome made (λ row. (k : ℕ) → IsIn ground.now k
+        → slice_index_or row k false ≡ is_some (ends_at ground.now k place))) }
+    ensures steps { OnOk result (count.new.made
+        ≡ count.old.made + length ground.now.plan.now.cells) }
+{
+    let here = known_of(alloc, ground, marks, order, place, count)?;
+    row_of(alloc, here.as_slice())
+}
+
+/// The marks of the places from the text's end down to this one, if they can be told without where matches end.
+fn marked_from(
+    alloc: Global,
+    program: &Program,
+    plan: &Plan,
+    text: &str,
+    sights: &[Seq<bool>],
+    begin: usize,
+    count: &mut TurnCount,
+) -> Result<Option<Marks>, AllocError>
+    requires plan { IsPlanOf program.now plan.now }
+    requires sights { AreSights text.now (trees_of program.now) plan.now.behinds sights.now }
+    requires begin { begin ≤ length text.now }
+    ensures marks { IfOk result (λ made. IfSome made (λ marks. AreMarks text.now
+        (trees_of program.now) plan.now.cells marks)) }
+    ensures there { IfOk result (λ made. IfSome made (λ marks.
+        length marks + begin ≡ length text.now + 1)) }
+    ensures steps { OnOk result (count.new.made
+        ≤ count.old.made + length plan.now.cells * (length text.now + 1)) }
+{
+    let order = order_of(alloc, program, plan)?;
+    let ground = Ground {
+        program,
+        plan,
+        text,
+        sights,
+        rows: &[],
+    };
+    let mut marks = Marks::new(alloc);
+    let mut left = text.len() - begin + 1;
+    'places: while left > 0 {
+        left -= 1;
+        let place = begin + left;
+        let row = if is_boundary(text, place) {
+            marked(alloc, &ground, &marks, order.as_slice(), place, count)?
+        } else {
+            Some(Seq::new(alloc))
+        };
+        match row {
+            Some(row) => marks.push(row)?,
+            None => return Ok(None),
+        }
+    }
+    Ok(Some(marks))
+}
+
+/// The marks of the places from the text's end down to this one. With atomic groups where matches end is worked out first.
+pub fn marks_from(
+    alloc: Global,
+    program: &Program,
+    plan: &Plan,
+    text: &str,
+    sights: &[Seq<bool>],
+    begin: usize,
+    count: &mut TurnCount,
+) -> Result<Marks, AllocError>
+    requires plan { IsPlanOf program.now plan.now }
+    requires sights { AreSights text.now (trees_of program.now) plan.now.behinds sights.now }
+    requires begin { begin ≤ length text.now }
+    ensures marks { IfOk result (λ marks. AreMarks text.now (trees_of program.now) plan.now.cells
+        marks) }
+    ensures there { IfOk result (λ marks. length marks + begin ≡ length text.now + 1) }
+    ensures steps { OnOk result (count.new.made
+        ≤ count.old.made + 7 * length plan.now.cells * (length text.now + 1)) }
+{
+    if let Some(marks) = marked_from(alloc, program, plan, text, sights, begin, count)? {
+        return Ok(marks);
+    }
+    let rows = rows_from(alloc, program, plan, text, sights, begin, count)?;
+    marks_of(alloc, rows.as_slice())
+}

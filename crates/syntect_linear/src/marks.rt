@@ -1,0 +1,141 @@
+//! Which cells lead to the end of a match, at each place of a text from its end on. Equal rows are kept once.
+ghost use Rattle.std.specs.Prelude.{◌≡◌, ◌<◌, ◌≤◌, ◌++◌, ◌∷◌, [], ℕ, IfOk, OnOk, is_some, length, map, slice_index_or};
+ghost use Rattle.syntect_linear.specs.Rows as spec;
+
+use std::alloc::{AllocError, Global};
+use std::marker::Model;
+use syntect_values::seq::Seq;
+
+/// In how many slots an equal row is looked for.
+const SLOTS: usize = 64;
+
+/// Rows, each of them once as far as that is seen.
+#[derive(Drop)]
+struct Rows {
+    rows: Vec<Seq<bool>>,
+    /// Where an equal row may stand, by its sum.
+    slots: [usize; SLOTS],
+}
+
+/// The slot of a row.
+fn slot_of(row: &[bool]) -> usize
+    ensures { result < 64 }
+{
+    let mut sum: usize = 0;
+    for mark in row {
+        sum = sum.wrapping_mul(31).wrapping_add(if *mark { 7 } else { 1 });
+    }
+    (sum >> 7) % SLOTS
+}
+
+impl Rows {
+    /// Where the row stands, as it is put in if it is not seen there.
+    fn place_of(&mut self, row: Seq<bool>) -> Result<usize, AllocError>
+        ensures found { IfOk result (λ i. slice_index_or self.new.rows.items i [] ≡ row) }
+        ensures within { IfOk result (λ i. i < length self.new.rows.items) }
+        ensures grows { length self.old.rows.items ≤ length self.new.rows.items }
+        ensures stays { (i : ℕ) → i < length self.old.rows.items
+            → slice_index_or self.new.rows.items i [] ≡ slice_index_or self.old.rows.items i [] }
+    {
+        let slot = slot_of(row.as_slice());
+        let at = self.slots[slot];
+        if let Some(kept) = self.rows.get(at) {
+            if *kept == row {
+                return Ok(at);
+            }
+        }
+        let at = self.rows.len();
+        self.rows.push(row)?;
+        self.slots[slot] = at;
+        Ok(at)
+    }
+}
+
+/// Which cells lead to the end of a match, row by row, seen as the list of the rows.
+#[derive(Drop)]
+pub struct Marks {
+    rows: Rows,
+    /// Where the row of each place stands.
+    places: Vec<usize>,
+}
+
+impl Model for Marks {
+    ghost use Rattle.std.specs.Prelude.{List, [], Bool, ◌<◌, length, map, slice_index_or};
+    ghost use Rattle.std.specs.List.{All};
+
+    ghost Value = { List (List Bool) };
+
+    ghost view = { λ m. map (λ i. slice_index_or m.rows.rows.items i []) m.places.items };
+
+    ghost invariant = { λ m. All (λ i. i < length m.rows.rows.items) m.places.items };
+}
+
+impl Marks {
+    /// No row. Takes no memory.
+    pub fn new(alloc: Global) -> Marks
+        ensures { result ≡ [] }
+    {
+        Marks {
+            rows: Rows {
+                rows: Vec::new(alloc),
+                slots: [0; SLOTS],
+            },
+            places: Vec::new(alloc),
+        }
+    }
+
+    /// How many rows there are.
+    pub fn len(&self) -> usize
+        ensures { result ≡ length self.now }
+    {
+        self.places.len()
+    }
+
+    /// One row more.
+    pub fn push(&mut self, row: Seq<bool>) -> Result<(), AllocError>
+        ensures { OnOk result (self.new ≡ self.old ++ row ∷ []) }
+    {
+        let place = self.rows.place_of(row)?;
+        self.places.push(place)?;
+        Ok(())
+    }
+
+    /// Whether the cell leads on in the row.
+    #[inline]
+    pub fn leads(&self, row: usize, cell: usize) -> bool
+        ensures { result ≡ spec.row_flag self.now row cell }
+    {
+        let Some(place) = self.places.get(row) else {
+            return false;
+        };
+        let Some(marks) = self.rows.rows.get(*place) else {
+            return false;
+        };
+        match marks.as_slice().get(cell) {
+            Some(mark) => *mark,
+            None => false,
+        }
+    }
+}
+
+/// Which cells have an end in the row.
+fn marks_in(alloc: Global, ends: &[Option<usize>]) -> Result<Seq<bool>, AllocError>
+    ensures { IfOk result (λ row. row ≡ map (λ end. is_some end) ends.now) }
+{
+    let mut row = Vec::with_capacity(alloc, ends.len())?;
+    for end in ends {
+        row.push(end.is_some())?;
+    }
+    Ok(Seq::from_vec(row))
+}
+
+/// Which cells have an end, row by row.
+pub fn marks_of(alloc: Global, rows: &[Seq<Option<usize>>]) -> Result<Marks, AllocError>
+    ensures { IfOk result (λ marks. marks ≡ map (λ row. map (λ end. is_some end) row) rows.now) }
+{
+    let mut marks = Marks::new(alloc);
+    for ends in rows {
+        marks.push(marks_in(alloc, ends.as_slice())?)?;
+    }
+    Ok(marks)
+}

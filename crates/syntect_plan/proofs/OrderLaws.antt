@@ -1,0 +1,79 @@
+-- How large nodes are, and how high cells, as far as 64 bits hold it.
+use Rattle.std.proofs.Common.{◌≡◌, ℕ, zero, suc, ◌+◌, ◌<◌, List, [], ◌∷◌, ◌++◌, length, take, get_or, refl, sym, ap, ◌∙◌, arith, length-append}
+use Rattle.std.proofs.lemmas.List.{length-take-le, take_more}
+use Rattle.syntect_pattern.specs.Trees.{Tree, nothing}
+use Rattle.syntect_pattern_table.specs.Table.{node_tree, trees, trees_from}
+use Rattle.syntect_pattern_table.specs.declared.node.Node.{Node}
+use Rattle.syntect_plan.specs.Cells.{tree_size, cell_height, heights_from, height}
+use Rattle.syntect_plan.specs.Order.{capped, levels, AreSizes, AreCapped}
+use Rattle.syntect_plan.specs.declared.cells.Cell.{Cell}
+use Rattle.syntect_plan.proofs.FactLaws.{trees-take, length-trees}
+
+-- one more of each of two lists
+sizes-push : (ns : List ℕ) (ts : List Tree) (n : ℕ) (t : Tree) → length ns ≡ length ts → AreSizes ns ts → n ≡ capped (tree_size t) → AreSizes (ns ++ n ∷ []) (ts ++ t ∷ [])
+unfolding capped
+sizes-push [] [] n t l a e zero = e
+sizes-push [] [] n t l a e (suc k) = refl
+sizes-push [] (u ∷ ts) n t l a e k = absurd (omega arith)
+sizes-push (x ∷ ns) [] n t l a e k = absurd (omega arith)
+sizes-push (x ∷ ns) (u ∷ ts) n t l a e zero = a zero
+sizes-push (x ∷ ns) (u ∷ ts) n t l a e (suc k) = sizes-push ns ts n t (omega arith) (λ j. a (suc j)) e k
+
+pub sizes-more : (nodes : List Node) (ns new : List ℕ) (n i : ℕ) (x : Node) → new ≡ ns ++ n ∷ [] → length ns ≡ i → i < length nodes → x ≡ get_or nodes i x
+    → AreSizes ns (trees (take i nodes)) → n ≡ capped (tree_size (node_tree (trees (take i nodes)) x)) → AreSizes new (trees (take (i + 1) nodes))
+sizes-more nodes ns new n i x e l inside is a right =
+    let ts : List Tree = trees (take i nodes) in
+    let long : length ns ≡ length ts = l ∙ sym (length-trees (take i nodes) ∙ length-take-le i nodes (omega arith)) in
+    let here : n ≡ capped (tree_size (node_tree ts (get_or nodes i x))) = right ∙ ap (λ (m : Node). capped (tree_size (node_tree ts m))) is in
+    let pushed : AreSizes (ns ++ n ∷ []) (ts ++ node_tree ts (get_or nodes i x) ∷ []) = sizes-push ns ts n (node_tree ts (get_or nodes i x)) long a here in
+    rw (e, trees-take nodes i x inside) pushed
+
+pub sizes-none : (ns : List ℕ) → ns ≡ [] → AreSizes ns (trees [])
+unfolding trees capped
+sizes-none ns e n = rw e (none n)
+  where
+    none : (n : ℕ) → get_or [] n 1 ≡ capped (tree_size (get_or (trees_from [] []) n nothing))
+    none zero = refl
+    none (suc n) = refl
+
+-- the heights of one more cell
+heights-append : (ts : List Tree) (xs : List ℕ) (cs : List Cell) (c : Cell) → heights_from ts xs (cs ++ c ∷ []) ≡ heights_from ts xs cs ++ cell_height ts (heights_from ts xs cs) c ∷ []
+heights-append ts xs [] c = refl
+heights-append ts xs (d ∷ cs) c = heights-append ts (xs ++ cell_height ts xs d ∷ []) cs c
+
+length-heights : (ts : List Tree) (xs : List ℕ) (cs : List Cell) → length (heights_from ts xs cs) ≡ length xs + length cs
+length-heights ts xs [] = omega arith
+length-heights ts xs (c ∷ cs) = length-heights ts (xs ++ cell_height ts xs c ∷ []) cs ∙ omega (arith, length-append xs (cell_height ts xs c ∷ []))
+
+capped-push : (ns hs : List ℕ) (n h : ℕ) → length ns ≡ length hs → AreCapped ns hs → n ≡ capped h → AreCapped (ns ++ n ∷ []) (hs ++ h ∷ [])
+unfolding capped
+capped-push [] [] n h l a e zero = e
+capped-push [] [] n h l a e (suc k) = refl
+capped-push [] (u ∷ hs) n h l a e k = absurd (omega arith)
+capped-push (x ∷ ns) [] n h l a e k = absurd (omega arith)
+capped-push (x ∷ ns) (u ∷ hs) n h l a e zero = a zero
+capped-push (x ∷ ns) (u ∷ hs) n h l a e (suc k) = capped-push ns hs n h (omega arith) (λ j. a (suc j)) e k
+
+pub heights-more : (ts : List Tree) (cells : List Cell) (ns new : List ℕ) (n i : ℕ) (x d : Cell) → new ≡ ns ++ n ∷ [] → length ns ≡ i → i < length cells → x ≡ get_or cells i d
+    → AreCapped ns (heights_from ts [] (take i cells)) → n ≡ capped (cell_height ts (heights_from ts [] (take i cells)) x) → AreCapped new (heights_from ts [] (take (i + 1) cells))
+heights-more ts cells ns new n i x d e l inside is a right =
+    let hs : List ℕ = heights_from ts [] (take i cells) in
+    let long : length ns ≡ length hs = omega (arith, l, length-heights ts [] (take i cells), length-take-le i cells (omega arith)) in
+    let here : n ≡ capped (cell_height ts hs (get_or cells i d)) = right ∙ ap (λ (c : Cell). capped (cell_height ts hs c)) is in
+    let more : heights_from ts [] (take (i + 1) cells) ≡ hs ++ cell_height ts hs (get_or cells i d) ∷ [] = ap (heights_from ts []) (take_more cells i d inside) ∙ heights-append ts [] (take i cells) (get_or cells i d) in
+    rw (e, more) (capped-push ns hs n (cell_height ts hs (get_or cells i d)) long a here)
+
+pub heights-none : (ts : List Tree) (ns : List ℕ) → ns ≡ [] → AreCapped ns []
+unfolding capped
+heights-none ts ns e n = rw e (none n)
+  where
+    none : (n : ℕ) → get_or [] n 0 ≡ capped (get_or [] n 0)
+    none zero = refl
+    none (suc n) = refl
+
+-- one cell more behind its height
+pub levels-more : (ts : List Tree) (cells : List Cell) (old new : List (ℕ × ℕ)) (hs : List ℕ) (n k : ℕ) → AreCapped hs (heights_from ts [] cells) → n ≡ get_or hs k 0
+    → old ≡ levels ts cells k → new ≡ old ++ (n, k) ∷ [] → new ≡ levels ts cells (suc k)
+unfolding height
+levels-more ts cells old new hs n k a e f g =
+    g ∙ ap (λ (l : List (ℕ × ℕ)). l ++ (n, k) ∷ []) f ∙ ap (λ (m : ℕ). levels ts cells k ++ (m, k) ∷ []) (e ∙ a k)

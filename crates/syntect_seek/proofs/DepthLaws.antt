@@ -1,0 +1,89 @@
+-- Plans that are kept.
+use Rattle.std.proofs.Common.{◌≡◌, ℕ, ◌+◌, ◌*◌, ◌≤◌, List, Bool, true, false, Option, Some, None, refl, sym, ap, ◌∙◌, subst, arith}
+use Rattle.std.specs.Prelude.{IfSome, IfNone, OnOk, Result, Ok, Err}
+use Rattle.syntect_pattern.specs.Trees.{Tree, group}
+use Rattle.syntect_pattern.specs.Matches.{Groups, found_at}
+use Rattle.syntect_pattern.specs.Pattern.{pattern_tree}
+use Rattle.syntect_pattern_reader.specs.Compiled.{IsCompiled}
+use Rattle.syntect_pattern_table.specs.Program.{IsProgramOf}
+use Rattle.syntect_pattern_table.specs.declared.program.Program.{Program}
+use Rattle.syntect_linear.specs.Finds as planned
+use Rattle.syntect_linear.specs.Finds.{FindsAt}
+use Rattle.syntect_engine.specs.Machine as engine
+use Rattle.syntect_engine.specs.declared.state.Search.{Search}
+use Rattle.syntect_linear.specs.Guide.{IsGuideIn}
+use Rattle.syntect_linear.specs.declared.find.Guide.{Guide}
+use Rattle.syntect_plan.specs.Linear.{is_linear}
+use Rattle.syntect_seek.specs.Bounds.{root_tree}
+use Rattle.syntect_seek.specs.Depths.{IsDepthOf, StandsFor}
+use Rattle.syntect_seek.specs.declared.depths.Depth.{Depth}
+
+-- a program has one tree
+pub one-tree : (p : Program) (a b : Tree) → IsProgramOf p a → IsProgramOf p b → a ≡ b
+one-tree p a b h i = let e : group 0 a ≡ group 0 b = sym h.root ∙ i.root in cc
+
+-- a pattern has one tree
+pub read-tree : (pattern : List ℕ) (a b : Tree) → pattern_tree pattern ≡ Some a → pattern_tree pattern ≡ Some b → a ≡ b
+read-tree pattern a b h i = let e : Some a ≡ Some b = sym h ∙ i in cc
+
+-- what the plan finds is what each program of the pattern finds
+pub found-by : (s pattern : List ℕ) (p q : Program) (place : ℕ) (groups : Option Groups) → IsCompiled pattern p → ((tree : Tree) → pattern_tree pattern ≡ Some tree → IsProgramOf q tree)
+    → FindsAt s q place groups → FindsAt s p place groups
+found-by s pattern p q place groups is stands h = λ tree t.
+    let e : is.tree ≡ tree = one-tree p is.tree tree is.program t in
+    subst (λ (u : Tree). groups ≡ found_at s u place) e (h is.tree (stands is.tree is.reads))
+
+-- and their trees are one
+pub root-by : (pattern : List ℕ) (p q : Program) → IsCompiled pattern p → ((tree : Tree) → pattern_tree pattern ≡ Some tree → IsProgramOf q tree) → root_tree q ≡ root_tree p
+root-by pattern p q is stands = (stands is.tree is.reads).root ∙ sym is.program.root
+
+-- a plan that was made of a program
+pub kept-guide : (s pattern : List ℕ) (p : Program) (d : Depth) (g : Guide) → d.guide ≡ Some g → IsCompiled pattern p → StandsFor p g.program → IsGuideIn s g → IsDepthOf s pattern d
+kept-guide s pattern p d g e is stands guides =
+    let reads : (tree : Tree) → pattern_tree pattern ≡ Some tree → IsProgramOf g.program tree =
+    λ tree r. subst (λ (t : Tree). IsProgramOf g.program t) (read-tree pattern is.tree tree is.reads r) (stands is.tree is.program) in
+    let o : (x : Option Guide) → x ≡ Some g → IfSome x (λ h. IsGuideIn s h) × IfSome x (λ h. (tree : Tree) → pattern_tree pattern ≡ Some tree → IsProgramOf h.program tree)
+    × IfNone x ((tree : Tree) → pattern_tree pattern ≡ Some tree → is_linear (group 0 tree) ≡ false) = λ x q.
+    subst (λ (x : Option Guide). IfSome x (λ h. IsGuideIn s h) × IfSome x (λ h. (tree : Tree) → pattern_tree pattern ≡ Some tree → IsProgramOf h.program tree)
+    × IfNone x ((tree : Tree) → pattern_tree pattern ≡ Some tree → is_linear (group 0 tree) ≡ false)) (sym q) (guides, reads, tt) in
+    let all = o d.guide e in
+    record { guides = all.0; program = all.1; hard = all.2 }
+
+-- that there is none
+pub kept-none : (s pattern : List ℕ) (p : Program) (d : Depth) → d.guide ≡ None → IsCompiled pattern p → is_linear (root_tree p) ≡ false → IsDepthOf s pattern d
+kept-none s pattern p d e is hard =
+    let reads : (tree : Tree) → pattern_tree pattern ≡ Some tree → is_linear (group 0 tree) ≡ false =
+    λ tree r. ap is_linear (sym (ap (group 0) (read-tree pattern is.tree tree is.reads r)) ∙ sym is.program.root) ∙ hard in
+    record {
+      guides = subst (λ (x : Option Guide). IfSome x (λ h. IsGuideIn s h)) (sym e) tt;
+      program = subst (λ (x : Option Guide). IfSome x (λ h. (tree : Tree) → pattern_tree pattern ≡ Some tree → IsProgramOf h.program tree)) (sym e) tt;
+      hard = subst (λ (x : Option Guide). IfNone x ((tree : Tree) → pattern_tree pattern ≡ Some tree → is_linear (group 0 tree) ≡ false)) (sym e) reads;
+    }
+
+-- the marks and the walk together
+pub weighed : (cells walk long before marked after : ℕ) → marked ≤ before + 7 * cells * long → after ≤ marked + walk * long → after ≤ before + (7 * cells + walk) * long
+weighed cells walk long before marked after m w =
+    let d : (7 * cells + walk) * long ≡ 7 * cells * long + walk * long = grind arith in
+    omega (arith, m, w, d)
+
+-- what is so anyhow is so of an answer
+pub on_ok-any : {V E : Type 0} (r : Result V E) (P : Type 0) → P → OnOk r P
+on_ok-any (Ok v) P h = h
+on_ok-any (Err e) P h = tt
+
+pub on_ok-map : {V E : Type 0} (r : Result V E) (P Q : Type 0) → (P → Q) → OnOk r P → OnOk r Q
+on_ok-map (Ok v) P Q f h = f h
+on_ok-map (Err e) P Q f h = h
+
+pub if_none-is : {A : Type 0} (o : Option A) (P : Type 0) → IfNone o P → ((v : A) → o ≡ Some v → ⊥) → P
+if_none-is None P h n = h
+if_none-is (Some v) P h n = absurd (n v refl)
+
+-- a pattern that is not linear has no bound
+pub unbounded : (pattern : List ℕ) (p : Program) (tree : Tree) → IsCompiled pattern p → pattern_tree pattern ≡ Some tree → is_linear (group 0 tree) ≡ false → is_linear (root_tree p) ≡ false
+unbounded pattern p tree is r h = ap is_linear (is.program.root ∙ ap (group 0) (read-tree pattern is.tree tree is.reads r)) ∙ h
+
+-- what the plan finds at a place
+pub planned-here : (s : List ℕ) (p q : Program) (place : ℕ) (b : Bool) (x : Search) → StandsFor p q → FindsAt s q place (planned.groups_of b x.groups.items) → engine.FindsAt s p place (engine.groups_of b x)
+planned-here s p q place true x stands h = λ tree is. h tree (stands tree is)
+planned-here s p q place false x stands h = λ tree is. h tree (stands tree is)

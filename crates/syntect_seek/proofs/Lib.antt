@@ -1,0 +1,4 @@
+pub mod NextLaws
+pub mod ProspectLaws
+pub mod SeekLaws
+pub mod DepthLaws

@@ -1,0 +1,3 @@
+pub mod Prospect
+pub mod Bounds
+pub mod Depths

@@ -1,0 +1,119 @@
+//! What is known of a pattern in a text in which it is tried at place after place.
+ghost use Rattle.std.specs.Prelude.{◌≡◌, ◌≤◌, ◌+◌, List, ℕ, false, true};
+ghost use Rattle.syntect_pattern_reader.specs.Compiled.{IsCompiled};
+ghost use Rattle.syntect_seek.specs.Prospect.{IsProspectOf, NoneBeginsIn};
+
+use syntect_engine::needed::Met;
+use syntect_pattern_table::program::Program;
+
+/// A try that finds nothing in so few steps is not counted, and each try has so many.
+const FEW: usize = 64;
+
+const LEAST: usize = 512;
+
+/// A stretch of the text in which no match of the pattern begins, how far what its matches need was met, and how many steps are
+/// left for tries that find nothing: once they are used up, it is told for a whole stretch where none begins. It is of one
+/// pattern in one text.
+#[derive(Clone, Copy)]
+pub struct Prospect {
+    /// The first place of the stretch, and the one behind its last.
+    from: usize,
+    until: usize,
+    met: Met,
+    /// The greatest number before such a try.
+    left: usize,
+}
+
+impl Prospect {
+    /// Nothing is known, of any pattern and any text.
+    #[inline]
+    pub fn new() -> Prospect
+        ensures { (pattern text : List ℕ) → IsProspectOf pattern text result }
+    {
+        Prospect {
+            from: 0,
+            until: 0,
+            met: Met::new(),
+            left: usize::MAX,
+        }
+    }
+
+    /// Whether something else is known than there.
+    #[inline]
+    pub fn differs(&self, other: &Prospect) -> bool {
+        self.met.differs(&other.met)
+            || self.from != other.from
+            || self.until != other.until
+            || self.left != other.left
+    }
+
+    /// Whether it is known that no match begins at the place.
+    #[inline]
+    pub fn rules_out(&self, place: usize) -> bool
+        ensures { result ≡ true → (pattern text : List ℕ) → IsProspectOf pattern text self.now
+            → NoneBeginsIn pattern text place (place + 1) }
+    {
+        self.from <= place && place < self.until
+    }
+
+    /// Whether what matches need stands at the place or behind it, as far as is known. Where it doesn't, that is known from
+    /// then on.
+    #[inline]
+    pub fn is_left(&mut self, program: &Program, text: &str, place: usize) -> bool
+        ensures none { result ≡ false → (pattern : List ℕ) → IsCompiled pattern program.now
+            → NoneBeginsIn pattern text.now place (place + 1) }
+        ensures known { (pattern : List ℕ) → IsCompiled pattern program.now
+            → IsProspectOf pattern text.now self.old → IsProspectOf pattern text.now self.new }
+    {
+        if place > text.len() || self.met.stands_behind(program, text, place) {
+            return true;
+        }
+        self.from = place;
+        self.until = usize::MAX;
+        false
+    }
+
+    /// Whether the steps are used up.
+    #[inline]
+    pub fn is_spent(&self) -> bool {
+        self.left < LEAST
+    }
+
+    /// Tries have all steps again.
+    pub fn renew(&mut self)
+        ensures { (pattern text : List ℕ) → IsProspectOf pattern text self.old
+            → IsProspectOf pattern text self.new }
+    {
+        self.left = usize::MAX;
+    }
+
+    /// In how many steps a try may back up, of so many that a pattern has in all.
+    #[inline]
+    pub fn allowed(&self, all: usize) -> usize
+        ensures { result ≤ all }
+    {
+        self.left.max(LEAST).min(all)
+    }
+
+    /// A try took so many of all these steps, and found nothing. Answers whether it took more than each try has, where they are used
+    /// up: then the next ones had better not back up.
+    #[inline]
+    pub fn spend(&mut self, all: usize, steps: usize) -> bool
+        ensures { (pattern text : List ℕ) → IsProspectOf pattern text self.old
+            → IsProspectOf pattern text self.new }
+    {
+        if steps > FEW {
+            self.left = self.left.min(all).saturating_sub(steps);
+        }
+        steps > LEAST && self.is_spent()
+    }
+
+    /// No match begins from the one place up to the other.
+    pub fn pass(&mut self, from: usize, until: usize)
+        ensures { (pattern text : List ℕ) → NoneBeginsIn pattern text from until
+            → IsProspectOf pattern text self.new }
+    {
+        self.from = from;
+        self.until = until;
+    }
+}
