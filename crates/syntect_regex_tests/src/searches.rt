@@ -255,40 +255,56 @@ fn tries_a_pattern_by_what_is_known(rt: HostRuntime) {
     equal(&rt, region.pos(0), Some((3, 5)));
 }
 
-/// Where the pattern begins in the line, tried at each of its places with what was known at the one before.
-fn begins(
-    rt: &(impl Abort + AllocGlobal),
-    pattern: &str,
-    depths: &mut Depths,
-    place: usize,
-) -> bool {
-    let text = String::from_str(rt.alloc(), pattern).expect(rt, "memory");
-    let regex = Regex::new(rt.alloc(), text).expect(rt, "memory");
-    let mut region = Region::default(rt.alloc());
-    let mut count = TurnCount::none();
-    let mut known = Prospect::new();
-    let mut begins = false;
-    for at in 0..=place {
-        let tried = regex.match_at_known(TRAP, at, &mut known, depths, &mut region, &mut count);
-        begins = tried.expect(rt, "memory");
-    }
-    begins
-}
-
 /// At each of these letters a search that backs up has as many ways as there are.
 const TRAP: &str = "aaaaaaaaaaaaaaaaaaaaaaaaaaaaaaaaaaaaaaaa.aacbbc";
 
-/// Patterns that back up too often begin where their matches do, each by a plan of its own that is kept of the line.
+/// The pattern of a text.
+fn pattern_of(rt: &(impl Abort + AllocGlobal), text: &str) -> Regex {
+    let text = String::from_str(rt.alloc(), text).expect(rt, "memory");
+    Regex::new(rt.alloc(), text).expect(rt, "memory")
+}
+
+/// A pattern that backs up too often begins where its matches do, by a plan that is kept of the line.
 #[test]
-fn tries_patterns_by_plans_that_are_kept(rt: HostRuntime) {
+fn tries_a_pattern_by_a_plan_that_is_kept(rt: HostRuntime) {
+    let regex = pattern_of(&rt, "(a+)+c");
+    let mut region = Region::default(rt.alloc());
+    let mut count = TurnCount::none();
+    let mut known = Prospect::new();
     let mut depths = Depths::new(rt.alloc());
-    holds(&rt, !begins(&rt, "(a+)+c", &mut depths, 0));
-    holds(&rt, begins(&rt, "(a+)+c", &mut depths, 41));
-    holds(&rt, begins(&rt, "(a+)+c", &mut depths, 42));
-    holds(&rt, !begins(&rt, "(a+)+c", &mut depths, 43));
-    holds(&rt, !begins(&rt, "(a+)+b", &mut depths, 41));
-    holds(&rt, begins(&rt, "(b+)+c", &mut depths, 44));
-    holds(&rt, begins(&rt, "(a+)+c", &mut depths, 41));
+    let found = regex.match_at_known(TRAP, 0, &mut known, &mut depths, &mut region, &mut count);
+    equal(&rt, found.expect(&rt, "memory"), false);
+    let found = regex.match_at_known(TRAP, 39, &mut known, &mut depths, &mut region, &mut count);
+    equal(&rt, found.expect(&rt, "memory"), false);
+    let found = regex.match_at_known(TRAP, 41, &mut known, &mut depths, &mut region, &mut count);
+    equal(&rt, found.expect(&rt, "memory"), true);
+    equal(&rt, region.pos(0), Some((41, 44)));
+    let found = regex.match_at_known(TRAP, 42, &mut known, &mut depths, &mut region, &mut count);
+    equal(&rt, found.expect(&rt, "memory"), true);
+    equal(&rt, region.pos(1), Some((42, 43)));
+    let found = regex.match_at_known(TRAP, 43, &mut known, &mut depths, &mut region, &mut count);
+    equal(&rt, found.expect(&rt, "memory"), false);
+}
+
+/// A second pattern that backs up too often goes by a plan of its own, not by the one that is kept of the first.
+#[test]
+fn tries_each_pattern_by_its_own_plan(rt: HostRuntime) {
+    let first = pattern_of(&rt, "(a+)+c");
+    let second = pattern_of(&rt, "(a+)+b");
+    let mut region = Region::default(rt.alloc());
+    let mut count = TurnCount::none();
+    let mut known = Prospect::new();
+    let mut other = Prospect::new();
+    let mut depths = Depths::new(rt.alloc());
+    let found = first.match_at_known(TRAP, 0, &mut known, &mut depths, &mut region, &mut count);
+    equal(&rt, found.expect(&rt, "memory"), false);
+    let found = second.match_at_known(TRAP, 0, &mut other, &mut depths, &mut region, &mut count);
+    equal(&rt, found.expect(&rt, "memory"), false);
+    let found = second.match_at_known(TRAP, 41, &mut other, &mut depths, &mut region, &mut count);
+    equal(&rt, found.expect(&rt, "memory"), false);
+    let found = first.match_at_known(TRAP, 41, &mut known, &mut depths, &mut region, &mut count);
+    equal(&rt, found.expect(&rt, "memory"), true);
+    equal(&rt, region.pos(0), Some((41, 44)));
 }
 
 /// A plan of some 36000 cells, each of which goes on with the next where the line ends. What each comes to there is worked out
