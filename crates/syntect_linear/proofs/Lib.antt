@@ -11,3 +11,4 @@ pub mod StepsLaws
 pub mod LeadLaws
 pub mod MarkLaws
 pub mod CostLaws
+pub mod AlikeLaws

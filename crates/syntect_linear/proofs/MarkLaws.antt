@@ -1,5 +1,5 @@
 -- Rows of marks.
-use Rattle.std.proofs.Common.{◌≡◌, ℕ, suc, ◌+◌, ◌-◌, ◌<◌, Bool, false, List, [], ◌∷◌, ◌++◌, length, map, get_or, Option, Some, None, sym, ap, subst, ◌∙◌, arith, inl, inr, length-append}
+use Rattle.std.proofs.Common.{◌≡◌, ℕ, suc, ◌+◌, ◌-◌, ◌<◌, Bool, false, List, [], ◌∷◌, ◌++◌, length, map, get_or, Option, Some, None, sym, refl, zero, ap, subst, ◌∙◌, arith, inl, inr, length-append}
 use Rattle.std.specs.Prelude.{IsCharBoundary, is_some}
 use Rattle.std.proofs.lemmas.Bool.{cases_lt}
 use Rattle.std.proofs.lemmas.List.{get_or_append_left}
@@ -54,3 +54,19 @@ view-push old new places more at row below stays here e =
     all (i ∷ l) b =
         ap (λ (r : List Bool). r ∷ map (λ i. get_or new i []) (l ++ at ∷ [])) (stays i (b 0 0 (omega arith)))
         ∙ ap (λ (m : List (List Bool)). get_or old i [] ∷ m) (all l (λ k d q. b (suc k) d (omega (arith, q))))
+
+-- a row once more
+row-at : (f : ℕ → List Bool) (l : List ℕ) (row d : ℕ) → row < length l → get_or (map f l) row [] ≡ f (get_or l row d)
+row-at f [] row d h = absurd (omega (arith, h))
+row-at f (i ∷ l) zero d h = refl
+row-at f (i ∷ l) (suc row) d h = row-at f l row d (omega (arith, h))
+
+pub view-again : (rows : List (List Bool)) (places more : List ℕ) (at row d : ℕ) → row < length places → at ≡ get_or places row d → more ≡ places ++ at ∷ []
+    → map (λ i. get_or rows i []) more ≡ map (λ i. get_or rows i []) places ++ get_or (map (λ i. get_or rows i []) places) row [] ∷ []
+view-again rows places more at row d l a e =
+    ap (map (λ i. get_or rows i [])) e ∙ all places
+    ∙ ap (λ (r : List Bool). map (λ i. get_or rows i []) places ++ r ∷ []) (ap (λ (i : ℕ). get_or rows i []) a ∙ sym (row-at (λ i. get_or rows i []) places row d l))
+  where
+    all : (l : List ℕ) → map (λ i. get_or rows i []) (l ++ at ∷ []) ≡ map (λ i. get_or rows i []) l ++ get_or rows at [] ∷ []
+    all [] = refl
+    all (i ∷ l) = ap (λ (m : List (List Bool)). get_or rows i [] ∷ m) (all l)

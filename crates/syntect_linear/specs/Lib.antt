@@ -7,3 +7,4 @@ pub mod Finds
 pub mod Steps
 pub mod Linear
 pub mod Guide
+pub mod Alike

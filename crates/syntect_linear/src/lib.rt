@@ -1,6 +1,7 @@
 //! A search whose steps are bounded by the pattern times the text.
 #![tactic(auto)]
 
+mod alike;
 mod fill;
 pub mod find;
 pub mod ground;

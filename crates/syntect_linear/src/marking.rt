@@ -1,11 +1,13 @@
 //! The marks of a text, from its end on.
-ghost use Rattle.std.specs.Prelude.{◌≡◌, ◌<◌, ◌≤◌, ◌+◌, ◌*◌, ℕ, IfOk, IfSome, OnOk, None, false, is_some, length, replicate, slice_index_or, slice_set, Some};
+ghost use Rattle.std.specs.Prelude.{◌≡◌, ◌<◌, ◌≤◌, ◌+◌, ◌*◌, ℕ, IfOk, IfSome, OnOk, None, false, true, is_some, length, replicate, slice_index_or, slice_set, Some};
 ghost use Rattle.syntect_pattern_table.specs.Program.{trees_of};
 ghost use Rattle.syntect_plan.specs.PlanOf.{IsPlanOf};
+ghost use Rattle.syntect_linear.specs.Alike.{IsLoose};
 ghost use Rattle.syntect_linear.specs.Ground.{IsIn, ends_at};
 ghost use Rattle.syntect_linear.specs.Marks.{AreMarks, IsMarked, KnowsLeads};
 ghost use Rattle.syntect_linear.specs.Rows.{AreSights};
 
+use crate::alike::{Seen, is_loose};
 use crate::fill::rows_from;
 use crate::ground::Ground;
 use crate::lead::lead_by;
@@ -98,6 +100,45 @@ fn marked(
     row_of(alloc, here.as_slice())
 }
 
+/// Marks one place more, the one before those that are marked, if that can be told without where matches end.
+fn mark_place(
+    alloc: Global,
+    ground: &Ground,
+    marks: &mut Marks,
+    seen: &mut Seen,
+    order: &[(usize, usize)],
+    place: usize,
+    count: &mut TurnCount,
+) -> Result<bool, AllocError>
+    requires plan { IsPlanOf ground.now.program.now ground.now.plan.now }
+    requires sights { AreSights ground.now.text.now (trees_of ground.now.program.now)
+        ground.now.plan.now.behinds ground.now.sights.now }
+    requires loose { IsLoose ground.now }
+    requires marks { AreMarks ground.now.text.now (trees_of ground.now.program.now)
+        ground.now.plan.now.cells marks.old }
+    requires there { length marks.old + place ≡ length ground.now.text.now }
+    ensures marks { IfOk result (λ told. told ≡ true → AreMarks ground.now.text.now
+        (trees_of ground.now.program.now) ground.now.plan.now.cells marks.new) }
+    ensures there { IfOk result (λ told. told ≡ true → length marks.new ≡ length marks.old + 1) }
+    ensures steps { OnOk result (count.new.made
+        ≤ count.old.made + length ground.now.plan.now.cells) }
+{
+    if !is_boundary(ground.text, place) {
+        marks.push(Seq::new(alloc))?;
+        return Ok(true);
+    }
+    if let Some(row) = seen.row_like(ground, marks, place) {
+        count.tick();
+        marks.repeat(row)?;
+        return Ok(true);
+    }
+    let Some(row) = marked(alloc, ground, marks, order, place, count)? else {
+        return Ok(false);
+    };
+    marks.push(row)?;
+    Ok(true)
+}
+
 /// The marks of the places from the text's end down to this one, if they can be told without where matches end.
 fn marked_from(
     alloc: Global,
@@ -126,19 +167,25 @@ fn marked_from(
         sights,
         rows: &[],
     };
+    if !is_loose(&ground) {
+        return Ok(None);
+    }
     let mut marks = Marks::new(alloc);
+    let mut seen = Seen::new(alloc)?;
     let mut left = text.len() - begin + 1;
     'places: while left > 0 {
         left -= 1;
         let place = begin + left;
-        let row = if is_boundary(text, place) {
-            marked(alloc, &ground, &marks, order.as_slice(), place, count)?
-        } else {
-            Some(Seq::new(alloc))
-        };
-        match row {
-            Some(row) => marks.push(row)?,
-            None => return Ok(None),
+        if !mark_place(
+            alloc,
+            &ground,
+            &mut marks,
+            &mut seen,
+            order.as_slice(),
+            place,
+            count,
+        )? {
+            return Ok(None);
         }
     }
     Ok(Some(marks))

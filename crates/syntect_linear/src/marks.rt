@@ -1,5 +1,5 @@
 //! Which cells lead to the end of a match, at each place of a text from its end on. Equal rows are kept once.
-ghost use Rattle.std.specs.Prelude.{◌≡◌, ◌<◌, ◌≤◌, ◌++◌, ◌∷◌, [], ℕ, IfOk, OnOk, is_some, length, map, slice_index_or};
+ghost use Rattle.std.specs.Prelude.{◌≡◌, ◌<◌, ◌≤◌, ◌++◌, ◌∷◌, [], ℕ, IfOk, OnOk, is_some, length, map, slice_index_or, true};
 ghost use Rattle.syntect_linear.specs.Rows as spec;
 
 use std::alloc::{AllocError, Global};
@@ -7,7 +7,7 @@ use std::marker::Model;
 use syntect_values::seq::Seq;
 
 /// In how many slots an equal row is looked for.
-const SLOTS: usize = 64;
+const SLOTS: usize = 512;
 
 /// Rows, each of them once as far as that is seen.
 #[derive(Drop)]
@@ -19,7 +19,7 @@ struct Rows {
 
 /// The slot of a row.
 fn slot_of(row: &[bool]) -> usize
-    ensures { result < 64 }
+    ensures { result < 512 }
 {
     let mut sum: usize = 0;
     for mark in row {
@@ -60,7 +60,7 @@ pub struct Marks {
 }
 
 impl Model for Marks {
-    ghost use Rattle.std.specs.Prelude.{List, [], Bool, ◌<◌, length, map, slice_index_or};
+    ghost use Rattle.std.specs.Prelude.{List, [], Bool, ◌<◌, length, map, slice_index_or, true};
     ghost use Rattle.std.specs.List.{All};
 
     ghost Value = { List (List Bool) };
@@ -98,6 +98,34 @@ impl Marks {
         let place = self.rows.place_of(row)?;
         self.places.push(place)?;
         Ok(())
+    }
+
+    /// The row once more.
+    pub fn repeat(&mut self, row: usize) -> Result<(), AllocError>
+        requires { row < length self.old }
+        ensures { OnOk result (self.new ≡ self.old ++ slice_index_or self.old row [] ∷ []) }
+    {
+        let place = self.places[row];
+        self.places.push(place)?;
+        Ok(())
+    }
+
+    /// Where the row stands among those that are kept.
+    pub fn number(&self, row: usize) -> usize {
+        match self.places.get(row) {
+            Some(place) => *place,
+            None => 0,
+        }
+    }
+
+    /// Whether both rows are known to be equal.
+    pub fn are_same(&self, row: usize, other: usize) -> bool
+        ensures { result ≡ true → slice_index_or self.now row [] ≡ slice_index_or self.now other [] }
+    {
+        match (self.places.get(row), self.places.get(other)) {
+            (Some(place), Some(there)) => place == there,
+            _ => false,
+        }
     }
 
     /// Whether the cell leads on in the row.

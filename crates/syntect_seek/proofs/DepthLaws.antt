@@ -1,6 +1,6 @@
 -- Plans that are kept.
-use Rattle.std.proofs.Common.{◌≡◌, ℕ, ◌+◌, ◌*◌, ◌≤◌, List, Bool, true, false, Option, Some, None, refl, sym, ap, ◌∙◌, subst, arith}
-use Rattle.std.specs.Prelude.{IfSome, IfNone, OnOk, Result, Ok, Err}
+use Rattle.std.proofs.Common.{◌≡◌, ℕ, zero, suc, [], ◌∷◌, ◌++◌, ◌+◌, ◌*◌, ◌≤◌, List, Bool, true, false, Option, Some, None, refl, sym, ap, ◌∙◌, subst, arith}
+use Rattle.std.specs.Prelude.{IfSome, IfNone, OnOk, Result, Ok, Err, string_bytes}
 use Rattle.syntect_pattern.specs.Trees.{Tree, group}
 use Rattle.syntect_pattern.specs.Matches.{Groups, found_at}
 use Rattle.syntect_pattern.specs.Pattern.{pattern_tree}
@@ -15,7 +15,7 @@ use Rattle.syntect_linear.specs.Guide.{IsGuideIn}
 use Rattle.syntect_linear.specs.declared.find.Guide.{Guide}
 use Rattle.syntect_plan.specs.Linear.{is_linear}
 use Rattle.syntect_seek.specs.Bounds.{root_tree}
-use Rattle.syntect_seek.specs.Depths.{IsDepthOf, StandsFor}
+use Rattle.syntect_seek.specs.Depths.{AreDepthsIn, IsDepthOf, StandsFor}
 use Rattle.syntect_seek.specs.declared.depths.Depth.{Depth}
 
 -- a program has one tree
@@ -87,3 +87,10 @@ unbounded pattern p tree is r h = ap is_linear (is.program.root ∙ ap (group 0)
 pub planned-here : (s : List ℕ) (p q : Program) (place : ℕ) (b : Bool) (x : Search) → StandsFor p q → FindsAt s q place (planned.groups_of b x.groups.items) → engine.FindsAt s p place (engine.groups_of b x)
 planned-here s p q place true x stands h = λ tree is. h tree (stands tree is)
 planned-here s p q place false x stands h = λ tree is. h tree (stands tree is)
+
+-- one more is kept
+pub one-more : (s : List ℕ) (ds : List Depth) (d : Depth) → AreDepthsIn s ds → IsDepthOf s (string_bytes d.pattern) d → AreDepthsIn s (ds ++ d ∷ [])
+one-more s [] d h one zero e l = one
+one-more s [] d h one (suc k) e l = absurd (omega (arith, l))
+one-more s (x ∷ ds) d h one zero e l = h zero e (omega arith)
+one-more s (x ∷ ds) d h one (suc k) e l = one-more s ds d (λ j f m. h (suc j) f (omega (arith, m))) one k e (omega (arith, l))

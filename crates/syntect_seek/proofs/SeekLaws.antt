@@ -1,11 +1,10 @@
 -- Searches that go on from a later place.
-use Rattle.std.proofs.Common.{◌≡◌, ℕ, suc, ◌+◌, ◌<◌, ◌≤◌, List, length, Bool, true, false, Option, Some, None, inl, inr, sym, ap, ◌∙◌, arith}
-use Rattle.std.proofs.lemmas.Bool.{cases_lt}
+use Rattle.std.proofs.Common.{◌≡◌, ℕ, suc, List, length, Bool, true, false, Option, Some, None, sym, ap, ◌∙◌, arith}
 use Rattle.syntect_pattern.specs.Trees.{Tree}
 use Rattle.syntect_pattern.specs.Matches.{Groups, found}
 use Rattle.syntect_pattern_table.specs.Program.{IsProgramOf}
 use Rattle.syntect_pattern_table.specs.declared.program.Program.{Program}
-use Rattle.syntect_engine.proofs.FindLaws.{found-jump, found-past}
+use Rattle.syntect_engine.proofs.FindLaws.{found-past}
 use Rattle.syntect_engine.specs.Machine.{FindsGroups, FindsUpTo, groups_of}
 use Rattle.syntect_engine.specs.declared.state.Search.{Search}
 use Rattle.syntect_linear.specs.Finds as planned
@@ -13,14 +12,6 @@ use Rattle.syntect_linear.specs.Finds as planned
 -- what is found from the one place on is found from the other one on
 abbrev pub AreFoundAlike : List ℕ → Program → ℕ → ℕ → Type 0
 AreFoundAlike s p i j = (tree : Tree) → IsProgramOf p tree → found s tree i ≡ found s tree j
-
--- places are passed over where no match of the program, nor of the one that stands for it, begins
-pub passed-alike : (s : List ℕ) (p q : Program) (begin end to : ℕ) → begin ≤ to → to ≤ end → (begin ≤ length s → end ≤ length s + 1)
-    → ((tree : Tree) → IsProgramOf p tree → IsProgramOf q tree) → ((k : ℕ) → begin ≤ k → k < end → planned.FindsAt s q k None) → AreFoundAlike s p begin to
-passed-alike s p q begin end to l m w spelt none tree is = elim (cases_lt (length s) begin) [
-  | inl b ↦ found-past s tree begin b ∙ sym (found-past s tree to (omega (arith, b, l)))
-  | inr b ↦ found-jump s tree begin to l (omega (arith, m, w b)) (λ k x y. sym (none k x (omega (arith, y, m)) tree (spelt tree is)))
-]
 
 pub groups-alike : (s : List ℕ) (p : Program) (i j : ℕ) (o : Option Groups) → AreFoundAlike s p i j → FindsGroups s p j o → FindsGroups s p i o
 groups-alike s p i j o same h = λ tree is. h tree is ∙ sym (same tree is)

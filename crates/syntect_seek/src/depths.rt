@@ -16,8 +16,8 @@ use syntect_linear::find::Guide;
 use syntect_linear::walk::Span;
 use syntect_turns::count::TurnCount;
 
-/// So many are kept: with one more all earlier ones are let go.
-const MOST: usize = 8;
+/// So many places are marked of all that are kept, but for the last one's: with more all earlier ones are let go.
+const MOST: usize = 4_000_000;
 
 /// A pattern's plan with the marks of a text, or none where the pattern is not linear.
 #[derive(Drop)]
@@ -29,12 +29,14 @@ pub struct Depth {
 /// What is kept of a text, seen as a list.
 pub struct Depths {
     kept: Vec<Depth>,
+    /// How many places are marked of them.
+    places: usize,
 }
 
 /// Written out, so that crates above call it and needn't prove each part's drop again.
 impl Drop for Depths {
     fn drop(self) {
-        let Depths { kept: _ } = self;
+        let Depths { kept: _, places: _ } = self;
     }
 }
 
@@ -54,6 +56,7 @@ impl Depths {
     {
         Depths {
             kept: Vec::new(alloc),
+            places: 0,
         }
     }
 
@@ -62,6 +65,7 @@ impl Depths {
         ensures { (text : List ℕ) → AreDepthsIn text self.new }
     {
         self.kept.clear();
+        self.places = 0;
     }
 
     /// What is kept of the pattern.
@@ -119,17 +123,34 @@ impl Depths {
         Ok(Some(found))
     }
 
+    /// Lets all go where too much is kept, and counts so many places more.
+    fn make_room(&mut self, places: usize)
+        ensures { (text : List ℕ) → AreDepthsIn text self.old → AreDepthsIn text self.new }
+    {
+        if self.places >= MOST {
+            self.kept.truncate(0);
+            self.places = places;
+            return;
+        }
+        self.places = self.places.saturating_add(places);
+    }
+
     /// Keeps one more.
     pub(crate) fn push(&mut self, depth: Depth) -> Result<(), AllocError>
         ensures { (text : List ℕ) → AreDepthsIn text self.old
             → IsDepthOf text (string_bytes depth.pattern) depth
             → OnOk result (AreDepthsIn text self.new) }
     {
-        let kept = &mut self.kept;
-        if kept.len() >= MOST {
-            kept.clear();
-        }
-        kept.push(depth)?;
+        self.make_room(places_of(&depth));
+        self.kept.push(depth)?;
         Ok(())
+    }
+}
+
+/// How many places are marked.
+fn places_of(depth: &Depth) -> usize {
+    match &depth.guide {
+        Some(guide) => guide.marks.len(),
+        None => 0,
     }
 }

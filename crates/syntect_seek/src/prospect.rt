@@ -6,14 +6,11 @@ ghost use Rattle.syntect_seek.specs.Prospect.{IsProspectOf, NoneBeginsIn};
 use syntect_engine::needed::Met;
 use syntect_pattern_table::program::Program;
 
-/// A try that finds nothing in so few steps is not counted, and each try has so many.
-const FEW: usize = 64;
+/// A try of so few steps is not counted.
+const FEW: usize = 16;
 
-const LEAST: usize = 512;
-
-/// A stretch of the text in which no match of the pattern begins, how far what its matches need was met, and how many steps are
-/// left for tries that find nothing: once they are used up, it is told for a whole stretch where none begins. It is of one
-/// pattern in one text.
+/// From where on no match of the pattern begins, how far what its matches need was met, and how many steps are left for its tries:
+/// once they are used up, it goes by its plan. It is of one pattern in one text.
 #[derive(Clone, Copy)]
 pub struct Prospect {
     /// The first place of the stretch, and the one behind its last.
@@ -76,7 +73,7 @@ impl Prospect {
     /// Whether the steps are used up.
     #[inline]
     pub fn is_spent(&self) -> bool {
-        self.left < LEAST
+        self.left == 0
     }
 
     /// Tries have all steps again.
@@ -92,28 +89,17 @@ impl Prospect {
     pub fn allowed(&self, all: usize) -> usize
         ensures { result ≤ all }
     {
-        self.left.max(LEAST).min(all)
+        self.left.min(all)
     }
 
-    /// A try took so many of all these steps, and found nothing. Answers whether it took more than each try has, where they are used
-    /// up: then the next ones had better not back up.
+    /// A try took so many of all these steps.
     #[inline]
-    pub fn spend(&mut self, all: usize, steps: usize) -> bool
+    pub fn spend(&mut self, all: usize, steps: usize)
         ensures { (pattern text : List ℕ) → IsProspectOf pattern text self.old
             → IsProspectOf pattern text self.new }
     {
         if steps > FEW {
             self.left = self.left.min(all).saturating_sub(steps);
         }
-        steps > LEAST && self.is_spent()
-    }
-
-    /// No match begins from the one place up to the other.
-    pub fn pass(&mut self, from: usize, until: usize)
-        ensures { (pattern text : List ℕ) → NoneBeginsIn pattern text from until
-            → IsProspectOf pattern text self.new }
-    {
-        self.from = from;
-        self.until = until;
     }
 }

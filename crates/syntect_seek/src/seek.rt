@@ -1,7 +1,6 @@
 //! Searches whose steps are bounded: one that backs up too often goes on by the pattern's plan, which doesn't back up at all. From
 //! the text's end on it is worked out which cells of the plan lead to the end of a match, which tells of each place whether one
-//! begins there. Of a large plan what is asked of its cells is looked for at first as it is asked, which tells where no match
-//! begins; where one does, or that took too many steps, the search backs up once more before all cells are worked out.
+//! begins there.
 ghost use Rattle.std.specs.Prelude.{◌≡◌, ◌≤◌, ◌+◌, ◌*◌, ℕ, List, IfNone, IfOk, IfSome, OnOk, false, length, min};
 ghost use Rattle.syntect_pattern_reader.specs.Compiled.{IsCompiled};
 ghost use Rattle.syntect_plan.specs.Linear.{is_linear, most_cells};
@@ -18,7 +17,6 @@ ghost use Rattle.syntect_seek.specs.Prospect.{IsProspectOf};
 use crate::depths::{Depth, Depths};
 use crate::prospect::Prospect;
 use std::alloc::{AllocError, Global};
-use syntect_asked::asked::passed_within;
 use syntect_engine::state::Search;
 use syntect_linear::find::Guide;
 use syntect_pattern_table::program::Program;
@@ -26,42 +24,41 @@ use syntect_plan::plan::Plan;
 use syntect_plan::spelt::spelt;
 use syntect_turns::count::TurnCount;
 
-/// How many steps a search may take for each byte of the text, beside one for each byte of the pattern, and how many more in
-/// all. A plan takes a step for each of its cells at each byte, and has about as many cells as the pattern has bytes, counted
-/// loops aside: so a search may take about as many steps as the plan would before all its cells are worked out.
+/// In how many steps a search may back up for each byte of the text, and in how many more in all.
 const STEPS_A_BYTE: usize = 64;
 
 const STEPS: usize = 16384;
 
-/// In a plan with more cells than this, what is asked of its cells is looked for as it is asked, before all are worked out at each
-/// place: of a large pattern most are never asked for.
-const LARGE: usize = 1024;
+/// The same of the tries of a pattern at place after place of a text. Marking a place takes about as long as some steps, where the
+/// same stood at another place.
+const TRIED_A_BYTE: usize = 8;
 
-/// How many of these steps it may back up in, for each byte of the pattern, beside those for each byte of the text: as many as
-/// it takes to make the plan. Few searches of real patterns take a tenth of that.
-const STEPS_A_PLAN: usize = 4;
+const TRIED: usize = 2048;
+
+/// In how many it may for each byte of the pattern, as a plan takes long to make.
+const STEPS_A_PLAN: usize = 16;
 
 /// How many bytes of the pattern count at most: as many as a plan has cells at most.
 const MOST: usize = 40000;
 
-/// How many steps a search of the text may take for a pattern of so many bytes.
+/// In how many steps a search of the text may back up for a pattern of so many bytes.
 #[inline]
 fn steps_in(size: usize, text: &str) -> usize
-    ensures { result ≤ length text.now * (64 + min size most_cells) + 16384 }
+    ensures { result ≤ length text.now * 64 + min size most_cells * 16 + 16384 }
 {
-    let each = STEPS_A_BYTE + size.min(MOST);
-    text.len().saturating_mul(each).saturating_add(STEPS)
+    let bytes = text.len().saturating_mul(STEPS_A_BYTE);
+    let plan = size.min(MOST).saturating_mul(STEPS_A_PLAN);
+    bytes.saturating_add(plan).saturating_add(STEPS)
 }
 
-/// How many of them it may back up in, and how many are left then.
-fn parted_steps(size: usize, text: &str) -> (usize, usize)
-    ensures { result.0 + result.1 ≤ length text.now * (64 + min size most_cells) + 16384 }
+/// The same of tries at place after place.
+#[inline]
+fn tried_steps_in(size: usize, text: &str) -> usize
+    ensures { result ≤ length text.now * 64 + min size most_cells * 16 + 16384 }
 {
-    let all = steps_in(size, text);
-    let bytes = text.len().saturating_mul(STEPS_A_BYTE);
-    let plan = size.saturating_mul(STEPS_A_PLAN);
-    let first = bytes.saturating_add(plan).saturating_add(STEPS).min(all);
-    (first, all - first)
+    let bytes = text.len().saturating_mul(TRIED_A_BYTE);
+    let plan = size.min(MOST).saturating_mul(STEPS_A_PLAN);
+    bytes.saturating_add(plan).saturating_add(TRIED)
 }
 
 /// The program's plan in the text, if the program is linear.
@@ -104,20 +101,18 @@ pub fn find(
     ensures steps { OnOk result (IsWithinBound program.now size (length text.now)
         count.old.made count.new.made) }
 {
-    let (first, later) = parted_steps(size, text);
-    search.left = first;
+    search.left = steps_in(size, text);
     match search.find(program, text, begin, true, count)? {
         Some(found) => Ok(found),
-        None => find_planned(search, program, later, text, begin, count),
+        None => find_planned(search, program, text, begin, count),
     }
 }
 
-/// The same where those steps didn't suffice, with so many more.
+/// The same where those steps didn't suffice.
 #[inline(never)]
 fn find_planned(
     search: &mut Search,
     program: &Program,
-    steps: usize,
     text: &str,
     begin: usize,
     count: &mut TurnCount,
@@ -125,12 +120,12 @@ fn find_planned(
     ensures finds { IfOk result (λ found.
         FindsGroups text.now program.now begin (groups_of found search.new)) }
     ensures steps { OnOk result (IsWithinPlan program.now (length text.now)
-        (count.old.made + steps) count.new.made) }
+        count.old.made count.new.made) }
 {
     if begin > text.len() {
         return Ok(false);
     }
-    find_up_to_planned(search, program, steps, text, begin, text.len(), count)
+    find_up_to_planned(search, program, text, begin, text.len(), count)
 }
 
 /// The same for the places from `begin` to `last` alone.
@@ -150,20 +145,18 @@ pub fn find_up_to(
     ensures steps { OnOk result (IsWithinBound program.now size (length text.now)
         count.old.made count.new.made) }
 {
-    let (first, later) = parted_steps(size, text);
-    search.left = first;
+    search.left = steps_in(size, text);
     match search.find_up_to(program, text, begin, last, true, count)? {
         Some(found) => Ok(found),
-        None => find_up_to_planned(search, program, later, text, begin, last, count),
+        None => find_up_to_planned(search, program, text, begin, last, count),
     }
 }
 
-/// The same where those steps didn't suffice, with so many more.
+/// The same where those steps didn't suffice.
 #[inline(never)]
 fn find_up_to_planned(
     search: &mut Search,
     program: &Program,
-    steps: usize,
     text: &str,
     begin: usize,
     last: usize,
@@ -173,7 +166,7 @@ fn find_up_to_planned(
     ensures finds { IfOk result (λ found.
         FindsUpTo text.now program.now begin last (groups_of found search.new)) }
     ensures steps { OnOk result (IsWithinPlan program.now (length text.now)
-        (count.old.made + steps) count.new.made) }
+        count.old.made count.new.made) }
 {
     let alloc = *search.frames.allocator();
     let Some(guide) = guide_of(alloc, program, text, count)? else {
@@ -182,42 +175,7 @@ fn find_up_to_planned(
             None => Ok(false),
         };
     };
-    if guide.plan.cells.len() > LARGE {
-        return find_asked(search, program, guide, steps, text, begin, last, count);
-    }
     find_marked(search, guide, text, begin, last, count)
-}
-
-/// The same by what is asked of the plan's cells, and by backing up once more from where a match may begin, as far as these steps
-/// go, and then by the marks.
-fn find_asked(
-    search: &mut Search,
-    program: &Program,
-    guide: Guide,
-    steps: usize,
-    text: &str,
-    begin: usize,
-    last: usize,
-    count: &mut TurnCount,
-) -> Result<bool, AllocError>
-    requires order { begin ≤ last }
-    requires guides { IsGuideIn text.now guide }
-    requires program { StandsFor program.now guide.program }
-    ensures finds { IfOk result (λ found.
-        FindsUpTo text.now program.now begin last (groups_of found search.new)) }
-    ensures steps { OnOk result (count.new.made ≤ count.old.made + steps
-        + step_weight (length guide.plan.cells) (root_tree guide.program) * (length text.now + 1)) }
-{
-    let half = steps / 2;
-    let from = passed_within(&guide, text, begin, last, half, count)?;
-    if from > last {
-        return Ok(false);
-    }
-    search.left = half;
-    if let Some(found) = search.find_up_to(program, text, from, last, true, count)? {
-        return Ok(found);
-    }
-    find_marked(search, guide, text, from, last, count)
 }
 
 /// The same by the marks of the places from `begin` on.
@@ -245,8 +203,8 @@ fn find_marked(
 }
 
 /// The same for this place alone of a text in which the pattern is tried at place after place, by what is known of it there, of
-/// which more is known after. The program is the pattern's. The tries that find nothing share the steps that a single search may
-/// back up in: after that it is told for a whole stretch where no match begins, or for all later places whether one does.
+/// which more is known after. The program is the pattern's. Its tries share so many steps: after that its plan tells of this place
+/// and all later ones whether a match begins there.
 #[inline]
 pub fn begins_known(
     search: &mut Search,
@@ -269,11 +227,7 @@ pub fn begins_known(
         count.old.made count.new.made) }
 {
     if known.is_spent() {
-        let groups = &mut search.groups;
-        return match depths.begins_at(pattern, text, place, groups, count)? {
-            Some(found) => Ok(found),
-            None => begins_tried(search, program, pattern, text, place, known, depths, count),
-        };
+        return begins_after(search, program, pattern, text, place, known, depths, count);
     }
     begins_tried(search, program, pattern, text, place, known, depths, count)
 }
@@ -300,37 +254,29 @@ fn begins_tried(
     ensures steps { OnOk result (IsWithinBound program.now (length pattern.now) (length text.now)
         count.old.made count.new.made) }
 {
-    let (first, later) = parted_steps(pattern.len(), text);
-    let allowed = known.allowed(first);
+    let all = tried_steps_in(pattern.len(), text);
+    let allowed = known.allowed(all);
     search.left = allowed;
     search.read = 0;
     match search.begins_at(program, text, place, true, count)? {
-        Some(true) => Ok(true),
-        Some(false) => {
+        Some(found) => {
             // A character of a stretch, which is gone through forth and back, counts as a step here
             let steps = allowed.saturating_sub(search.left);
-            if !known.spend(first, steps.saturating_add(search.read)) {
-                return Ok(false);
-            }
-            begins_after(
-                search, program, later, pattern, text, place, known, depths, count,
-            )
+            known.spend(all, steps.saturating_add(search.read));
+            Ok(found)
         }
         None => {
-            let _ = known.spend(first, allowed);
-            begins_after(
-                search, program, later, pattern, text, place, known, depths, count,
-            )
+            known.spend(all, allowed);
+            begins_after(search, program, pattern, text, place, known, depths, count)
         }
     }
 }
 
-/// The same where those steps didn't suffice, with so many more.
+/// The same where those steps didn't suffice.
 #[inline(never)]
 fn begins_after(
     search: &mut Search,
     program: &Program,
-    steps: usize,
     pattern: &str,
     text: &str,
     place: usize,
@@ -346,7 +292,34 @@ fn begins_after(
         → IsProspectOf pattern.now text.now known.new }
     ensures depths { OnOk result (AreDepthsIn text.now depths.new) }
     ensures steps { OnOk result (IsWithinPlan program.now (length text.now)
-        (count.old.made + steps) count.new.made) }
+        count.old.made count.new.made) }
+{
+    if let Some(found) = depths.begins_at(pattern, text, place, &mut search.groups, count)? {
+        return Ok(found);
+    }
+    begins_planned(search, program, pattern, text, place, known, depths, count)
+}
+
+/// The same where nothing is kept of the pattern, or that it is not linear.
+fn begins_planned(
+    search: &mut Search,
+    program: &Program,
+    pattern: &str,
+    text: &str,
+    place: usize,
+    known: &mut Prospect,
+    depths: &mut Depths,
+    count: &mut TurnCount,
+) -> Result<bool, AllocError>
+    requires program { IsCompiled pattern.now program.now }
+    requires depths { AreDepthsIn text.now depths.old }
+    ensures finds { IfOk result (λ found.
+        FindsAt text.now program.now place (groups_of found search.new)) }
+    ensures known { IsProspectOf pattern.now text.now known.old
+        → IsProspectOf pattern.now text.now known.new }
+    ensures depths { OnOk result (AreDepthsIn text.now depths.new) }
+    ensures steps { OnOk result (IsWithinPlan program.now (length text.now)
+        count.old.made count.new.made) }
 {
     if depths.is_hard(pattern) {
         known.renew();
@@ -361,13 +334,6 @@ fn begins_after(
         })?;
         return backs_up(search, program, text, place, count);
     };
-    if guide.plan.cells.len() > LARGE {
-        let asked = begins_asked(search, program, &guide, steps, text, place, known, count)?;
-        return match asked {
-            Some(found) => Ok(found),
-            None => begins_marked(search, guide, pattern, text, place, depths, count),
-        };
-    }
     begins_marked(search, guide, pattern, text, place, depths, count)
 }
 
@@ -386,35 +352,6 @@ fn backs_up(
         Some(found) => Ok(found),
         None => Ok(false),
     }
-}
-
-/// The same by what is asked of the plan's cells, and by backing up once more where a match may begin, as far as these steps go.
-fn begins_asked(
-    search: &mut Search,
-    program: &Program,
-    guide: &Guide,
-    steps: usize,
-    text: &str,
-    place: usize,
-    known: &mut Prospect,
-    count: &mut TurnCount,
-) -> Result<Option<bool>, AllocError>
-    requires guides { IsGuideIn text.now guide.now }
-    requires program { StandsFor program.now guide.now.program }
-    ensures finds { IfOk result (λ told. IfSome told (λ found.
-        FindsAt text.now program.now place (groups_of found search.new))) }
-    ensures known { (pattern : List ℕ) → IsCompiled pattern program.now
-        → IsProspectOf pattern text.now known.old → IsProspectOf pattern text.now known.new }
-    ensures steps { OnOk result (count.new.made ≤ count.old.made + steps) }
-{
-    let half = steps / 2;
-    let until = passed_within(guide, text, place, text.len(), half, count)?;
-    if until > place {
-        known.pass(place, until);
-        return Ok(Some(false));
-    }
-    search.left = half;
-    search.begins_at(program, text, place, true, count)
 }
 
 /// The same by the marks of this place and all later ones, which are kept.

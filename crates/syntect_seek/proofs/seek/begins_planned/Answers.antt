@@ -5,7 +5,7 @@ use Rattle.syntect_linear.specs.declared.find.Guide.{Guide}
 use Rattle.syntect_seek.specs.Depths.{IsDepthOf, StandsFor}
 use Rattle.syntect_seek.specs.declared.depths.Depth.{Depth}
 use Rattle.syntect_seek.proofs.DepthLaws.{kept-none, on_ok-any, if_none-is, unbounded, planned-here}
-use Rattle.syntect_seek.proofs.seek.begins_after.Goals as goal
+use Rattle.syntect_seek.proofs.seek.begins_planned.Goals as goal
 
 pub returns-then-is_hard-clause-steps : goal.returns-then-is_hard-clause-steps
 returns-then-is_hard-clause-steps c =
@@ -21,24 +21,13 @@ returns-in_default-clause-depths c =
     let kept = kept-none s c.args.pattern.now c.args.program.now d refl c.requires.program hard in
     on_ok-any c.backs_up-in_default.result _ (c.in_ok-push.ensures s c.requires.depths (subst (λ (b : List ℕ). IsDepthOf s b d) (sym c.in_ok-from_str.ensures.ok) kept))
 
-pub returns-in-None-clause-finds : goal.returns-in-None-clause-finds
-returns-in-None-clause-finds c =
+pub returns-clause-finds : goal.returns-clause-finds
+returns-clause-finds c =
     let stands = subst (λ (o : Option Guide). IfSome o (λ g. StandsFor c.args.program.now g.program)) c.in-Some.is c.in_ok-guide.ensures.program in
     IfOk-weaker c.begins_marked.result _ _
     (λ b h. planned-here c.args.text.now c.args.program.now c.in-Some.guide.program c.args.place b c.begins_marked.new.search stands h) c.begins_marked.ensures.finds
 
-pub returns-in-None-clause-depths : goal.returns-in-None-clause-depths
-returns-in-None-clause-depths c =
-    let stands = subst (λ (o : Option Guide). IfSome o (λ g. StandsFor c.args.program.now g.program)) c.in-Some.is c.in_ok-guide.ensures.program in
-    c.begins_marked.ensures.depths c.args.program.now c.requires.program stands
-
-pub returns-clause-finds : goal.returns-clause-finds
-returns-clause-finds c =
-    let stands = subst (λ (o : Option Guide). IfSome o (λ g. StandsFor c.args.program.now g.program)) c.in-Some.is c.in_ok-guide.ensures.program in
-    IfOk-weaker c.begins_marked-2.result _ _
-    (λ b h. planned-here c.args.text.now c.args.program.now c.in-Some.guide.program c.args.place b c.begins_marked-2.new.search stands h) c.begins_marked-2.ensures.finds
-
 pub returns-clause-depths : goal.returns-clause-depths
 returns-clause-depths c =
     let stands = subst (λ (o : Option Guide). IfSome o (λ g. StandsFor c.args.program.now g.program)) c.in-Some.is c.in_ok-guide.ensures.program in
-    c.begins_marked-2.ensures.depths c.args.program.now c.requires.program stands
+    c.begins_marked.ensures.depths c.args.program.now c.requires.program stands
