@@ -3,6 +3,8 @@
 #![tactic(auto)]
 
 pub mod chain;
+pub mod here;
+pub mod hints;
 pub mod laws;
 pub mod level;
 pub mod memory;

@@ -3,6 +3,7 @@ ghost use Rattle.std.specs.Prelude.{◌≡◌, ◌<◌, List, ℕ, true};
 ghost use Rattle.syntect_winner.specs.Memory.{AreKnown, IsKnownAt, Remembers};
 ghost use Rattle.syntect_grammar.specs.declared.syntax_set.SyntaxSet.{SyntaxSet};
 
+use crate::hints::Hints;
 use std::alloc::Global;
 use std::marker::Model;
 use syntect_flats::flats::Origin;
@@ -64,10 +65,12 @@ impl Model for Memos {
     ghost view = { λ m. m.kept.items };
 }
 
-/// What is known of a line: of the patterns that were tried in it, and the plans of those that backed up too often.
+/// What is known of a line: of the patterns that were tried in it, of those that were searched in the place of others, and the
+/// plans of those that backed up too often.
 #[derive(Drop)]
 pub struct Memory {
     pub memos: Memos,
+    pub hints: Hints,
     pub depths: Depths,
 }
 
@@ -78,6 +81,7 @@ impl Memory {
     {
         Memory {
             memos: Memos::new(alloc),
+            hints: Hints::new(alloc),
             depths: Depths::new(alloc),
         }
     }
@@ -87,6 +91,7 @@ impl Memory {
         ensures { (set : SyntaxSet) (line : List ℕ) → Remembers set line self.new }
     {
         self.memos.forget();
+        self.hints.forget();
         self.depths.forget();
     }
 }

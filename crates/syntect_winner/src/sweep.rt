@@ -8,8 +8,6 @@ ghost use Rattle.syntect_flats.specs.Slims.{origin_of};
 ghost use Rattle.syntect_grammar.specs.Flats.{AreFlatsOf, pattern_at};
 ghost use Rattle.syntect_pattern.specs.Matches.{is_word_edge};
 ghost use Rattle.syntect_pattern_table.specs.Starts.{start_at};
-ghost use Rattle.syntect_regex.specs.Bounds.{pattern_is_linear, search_bound};
-ghost use Rattle.syntect_regex.specs.Region.{TriesAt};
 ghost use Rattle.syntect_word_ends.specs.Ends.{IsRunUpTo};
 ghost use Rattle.syntect_winner.specs.declared.sweep.Run.{Run as ARun};
 ghost use Rattle.syntect_winner.specs.Ahead.{AddsAll, AddsAt, AddsMember, AddsRun, AllAhead, AreAhead, AreAheadFrom, AreReplaced, BeginIn, FindsHere, IsAhead, IsBestAt, IsRuledOut, IsRun, Reaches, Sees, list_in, run_members};
@@ -24,6 +22,7 @@ ghost use Rattle.syntect_winner.specs.Steps.{AreWithin, IsWithin, place_steps, t
 ghost use Rattle.syntect_winner.specs.Turn.{Live, searched_text, winner};
 
 use crate::chain::Part;
+use crate::here::is_here;
 use crate::laws::dialect_finds_in_text;
 use crate::reader::LineReader;
 use crate::search::{
@@ -37,7 +36,6 @@ use syntect_grammar::syntax_set::SyntaxSet;
 use syntect_pattern::anchor::Anchor;
 use syntect_pattern_table::starts::{Places, either, is_in, nowhere, start_at};
 use syntect_regex::regex::Regex;
-use syntect_seek::prospect::Prospect;
 use syntect_ways::anchor::stands;
 use syntect_ways::text::is_boundary;
 use syntect_word_ends::ends::{is_blank_byte, is_word_byte, run_end};
@@ -290,56 +288,6 @@ fn with_searched<'s>(
         }
         None => Ok(best),
     }
-}
-
-/// Whether a match of what is searched for an entry begins at the place. What is known of a pattern that is searched as it
-/// stands, there, is asked first, and kept in mind.
-fn is_here(
-    reader: &LineReader<'_, '_>,
-    entry: &Entry<'_, '_>,
-    replaced: Option<&Regex>,
-    origin: Origin,
-    place: usize,
-    regions: &mut Regions,
-) -> Result<bool, AllocError>
-    requires known { Remembers reader.now.set.now reader.now.line.now regions.old.memory }
-    requires origin { origin_pattern reader.now.set.now origin ≡ Some entry.now.pattern.now }
-    ensures tries { IfOk result (λ b.
-        TriesAt (unwrap_or (option_copied replaced.entry) entry.now.pattern.now.regex)
-        reader.now.line.now place regions.old.searched b regions.new.searched) }
-    ensures best { regions.new.best ≡ regions.old.best }
-    ensures known { OnOk result
-        (Remembers reader.now.set.now reader.now.line.now regions.new.memory) }
-    ensures steps { pattern_is_linear
-        (unwrap_or (option_copied replaced.entry) entry.now.pattern.now.regex) ≡ true
-        → OnOk result (regions.new.steps.made ≤ regions.old.steps.made
-        + search_bound (unwrap_or (option_copied replaced.entry) entry.now.pattern.now.regex)
-        (length reader.now.line.now)) }
-{
-    if let Some(regex) = replaced {
-        return regex.match_at_known(
-            reader.line,
-            place,
-            &mut Prospect::new(),
-            &mut regions.memory.depths,
-            &mut regions.searched,
-            &mut regions.steps,
-        );
-    }
-    let known = regions.memory.memos.recall(origin);
-    let mut prospect = known;
-    let is_here = entry.pattern.regex.match_at_known(
-        reader.line,
-        place,
-        &mut prospect,
-        &mut regions.memory.depths,
-        &mut regions.searched,
-        &mut regions.steps,
-    )?;
-    if prospect.differs(&known) {
-        regions.memory.memos.keep(origin, prospect);
-    }
-    Ok(is_here)
 }
 
 /// A copy of what stands in a pattern's place.
