@@ -126,6 +126,8 @@ impl<'a> ClassedHTMLGenerator<'a> {
             (state_in self.old) (turns_in self.old) (turns_in self.new)) }
         ensures bound { turns_in self.new
             ≤ turns_in self.old + most_turns (set_in self.old) line.now (state_in self.old) }
+        ensures no_fewer { turns_in self.old ≤ turns_in self.new }
+        ensures no_fewer_steps { steps_in self.old ≤ steps_in self.new }
         ensures steps { UnlessMemory result (TakesSteps (set_in self.old) line.now
             (state_in self.old) (turns_in self.new - turns_in self.old)
             (steps_in self.old) (steps_in self.new)) }

@@ -166,6 +166,9 @@ impl<'a> HighlightLines<'a> {
         ensures bound { turns_made (reader_of self.new)
             ≤ turns_made (reader_of self.old)
             + most_turns syntax_set.now line.entry.now (standing (reader_of self.old)) }
+        ensures no_fewer { turns_made (reader_of self.old) ≤ turns_made (reader_of self.new) }
+        ensures no_fewer_steps { steps_made (reader_of self.old)
+            ≤ steps_made (reader_of self.new) }
         ensures steps { UnlessMemory result (TakesSteps syntax_set.now line.entry.now
             (standing (reader_of self.old))
             (turns_made (reader_of self.new) - turns_made (reader_of self.old))
