@@ -113,7 +113,7 @@ impl<'a> ClassedHTMLGenerator<'a> {
     /// Reads the next line, with its newline, and adds it to the text. A refusal changes nothing: that of the line's reading,
     /// or want of memory. The line is read once: the reader counts its turns and the steps of their searches, as
     /// `ParseState::parse_line` does, also where the line is refused.
-    #[tactic(auto, using(crate::proofs::ClassedLaws::line_refused, crate::proofs::ClassedLaws::operation_refused))]
+    #[tactic(auto, using(crate::proofs::ClassedLaws::line_refused, crate::proofs::ClassedLaws::operation_refused, crate::proofs::ClassedLaws::memory_refused))]
     pub fn parse_html_for_line_which_includes_newline(&mut self, line: &str) -> Result<(), Error>
         ensures accepted { OnOk result (AddsLine line.now self.old self.new) }
         ensures refused { IfErr result (RefusesLineOf self.old line.now) }

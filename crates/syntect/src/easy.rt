@@ -76,8 +76,8 @@ impl<'a> HighlightLines<'a> {
         ensures no_steps { IfOk result (λ h. steps_made (reader_of h) ≡ 0) }
         ensures refused { IfErr result (LacksStart syntax.now) }
     {
-        let highlighter = Highlighter::new(alloc, theme)?;
         let parse_state = ParseState::new(alloc, syntax)?;
+        let highlighter = Highlighter::new(alloc, theme)?;
         let highlight_state = HighlightState::new(&highlighter, ScopeStack::new(alloc));
         let spare = HighlightState::new(&highlighter, ScopeStack::new(alloc));
         Ok(HighlightLines {
