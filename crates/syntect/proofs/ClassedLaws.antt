@@ -39,7 +39,7 @@ closing_step n k whole text new l e h =
 
 -- a line is refused as its reading is
 pub line_refused : (g : ClassedHTMLGenerator) (line : List ℕ) (e : ParsingError) → MayRefuse dialect (set_in g) line (state_in g) e → RefusesLineOf g line (from_parsing e)
-line_refused g line parsing.Memory r = tt
+line_refused g line parsing.Memory r = r
 line_refused g line parsing.MissingMainContext r = r
 line_refused g line (parsing.MissingContext id) r = r
 line_refused g line (parsing.BadMatchIndex i) r = r
@@ -55,7 +55,7 @@ pub operation_refused : (g : ClassedHTMLGenerator) (line : List ℕ) (after : St
     → RefusesOperations (stack_in g) ops e → RefusesLineOf g line e
 operation_refused g line after ops (error.ScopeError e) a r =
     (λ can. false≢true (sym (none_refused (stack_in g) ops (a.means.apply (stack_in g) can).0) ∙ r), after, ops, a, r)
-operation_refused g line after ops error.Memory a r = tt
+operation_refused g line after ops error.Memory a r = a.reads.on_levels
 operation_refused g line after ops (error.ParsingError e) a r = absurd r
 operation_refused g line after ops (error.LoadingError e) a r = absurd r
 operation_refused g line after ops (error.Fmt e) a r = absurd r
@@ -64,6 +64,10 @@ operation_refused g line after ops error.NoSyntax a r = absurd r
 operation_refused g line after ops (error.ParseSyntax e) a r = absurd r
 operation_refused g line after ops (error.ParseScope e) a r = absurd r
 operation_refused g line after ops (error.Pattern e) a r = absurd r
+
+-- or memory runs out behind its reading
+pub memory_refused : (g : ClassedHTMLGenerator) (line : List ℕ) (after : Standing) (ops : List (ℕ × ScopeStackOp)) → Accepts dialect (set_in g) line (state_in g) after ops → RefusesLineOf g line error.Memory
+memory_refused g line after ops a = a.reads.on_levels
 
 -- ---- what is remembered ----
 

@@ -1,5 +1,5 @@
 -- Lines as spans with classes, and pages of them.
-use Rattle.std.specs.Prelude.{◌≡◌, ℕ, true, List, ◌++◌, length, flat_map, replicate, string_bytes}
+use Rattle.std.specs.Prelude.{◌≡◌, ◌≢◌, ℕ, true, List, [], ◌++◌, length, flat_map, replicate, string_bytes}
 use Rattle.syntect_scope.specs.declared.stack.ScopeStack.{ScopeStack}
 use Rattle.syntect_scope.specs.declared.stack.ScopeStackOp.{ScopeStackOp}
 use Rattle.syntect_classed.specs.Classes.{prefix_of, closing_tag}
@@ -81,7 +81,7 @@ abbrev pub CanRestore : ClassedHTMLGenerator → Type 0
 CanRestore g = Remembers (set_in g) (state_in g).levels (stack_in g)
 
 -- A line was refused: by its reading; or, only where too little is remembered, since one of the operations of its reading
--- restores and nothing is; or memory ran out.
+-- restores and nothing is; or memory ran out, but not where no level is open.
 abbrev pub RefusesLineOf : ClassedHTMLGenerator → List ℕ → Error → Type 0
 RefusesLineOf g line (error.ParsingError e) =
     (turns : ℕ) × RefusesLine dialect (set_in g) line (state_in g) e turns
@@ -89,7 +89,7 @@ RefusesLineOf g line (error.ScopeError e) =
     (¬ (CanRestore g)) × (after : Standing) × (ops : List (ℕ × ScopeStackOp))
     × Accepts dialect (set_in g) line (state_in g) after ops
     × (some_refused (stack_in g) ops ≡ true)
-RefusesLineOf g line error.Memory = Unit {0}
+RefusesLineOf g line error.Memory = (state_in g).levels ≢ []
 RefusesLineOf g line e = ⊥
 
 -- what closes so many spans

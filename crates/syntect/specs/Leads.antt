@@ -1,5 +1,5 @@
 -- What a highlighter of lines holds after a list of lines, and what it answers to the next one.
-use Rattle.std.specs.Prelude.{◌≡◌, ℕ, List, [], ◌∷◌, ◌++◌, Some, None, Result, Ok, Err}
+use Rattle.std.specs.Prelude.{◌≡◌, ◌≢◌, ℕ, List, [], ◌∷◌, ◌++◌, Some, None, Result, Ok, Err}
 use Rattle.std.specs.Borrow.{Bor}
 use Rattle.std.specs.Global.{Vec}
 use Rattle.syntect_style.specs.Pieces.{Joins, IsStyled, Keeps, path_of}
@@ -60,10 +60,10 @@ abbrev pub UnlessMemory : {X : Type 0} → Result X Error → Type 0 → Type 0
 UnlessMemory (Ok x) P = P
 UnlessMemory (Err e) P = UnlessWanting P e
 
--- the syntax has no `__start`, unless memory ran out
+-- the syntax has no `__start`; or it has one, and memory ran out
 abbrev pub LacksStart : SyntaxReference → Error → Type 0
 LacksStart syntax (error.ParsingError parsing.MissingMainContext) = start_of syntax ≡ None
-LacksStart syntax error.Memory = Unit {0}
+LacksStart syntax error.Memory = start_of syntax ≢ None
 LacksStart syntax e = ⊥
 
 -- The syntax's `__start` clears nothing, and has no `meta_scope` and at most one content scope in the set, as loaded

@@ -113,7 +113,7 @@ impl<'a> ClassedHTMLGenerator<'a> {
     /// Reads the next line, with its newline, and adds it to the text. A refusal changes nothing: that of the line's reading,
     /// or want of memory. The line is read once: the reader counts its turns and the steps of their searches, as
     /// `ParseState::parse_line` does, also where the line is refused.
-    #[tactic(auto, using(crate::proofs::ClassedLaws::line_refused, crate::proofs::ClassedLaws::operation_refused))]
+    #[tactic(auto, using(crate::proofs::ClassedLaws::line_refused, crate::proofs::ClassedLaws::operation_refused, crate::proofs::ClassedLaws::memory_refused))]
     pub fn parse_html_for_line_which_includes_newline(&mut self, line: &str) -> Result<(), Error>
         ensures accepted { OnOk result (AddsLine line.now self.old self.new) }
         ensures refused { IfErr result (RefusesLineOf self.old line.now) }
@@ -126,6 +126,8 @@ impl<'a> ClassedHTMLGenerator<'a> {
             (state_in self.old) (turns_in self.old) (turns_in self.new)) }
         ensures bound { turns_in self.new
             ≤ turns_in self.old + most_turns (set_in self.old) line.now (state_in self.old) }
+        ensures no_fewer { turns_in self.old ≤ turns_in self.new }
+        ensures no_fewer_steps { steps_in self.old ≤ steps_in self.new }
         ensures steps { UnlessMemory result (TakesSteps (set_in self.old) line.now
             (state_in self.old) (turns_in self.new - turns_in self.old)
             (steps_in self.old) (steps_in self.new)) }

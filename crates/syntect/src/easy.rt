@@ -76,8 +76,8 @@ impl<'a> HighlightLines<'a> {
         ensures no_steps { IfOk result (λ h. steps_made (reader_of h) ≡ 0) }
         ensures refused { IfErr result (LacksStart syntax.now) }
     {
-        let highlighter = Highlighter::new(alloc, theme)?;
         let parse_state = ParseState::new(alloc, syntax)?;
+        let highlighter = Highlighter::new(alloc, theme)?;
         let highlight_state = HighlightState::new(&highlighter, ScopeStack::new(alloc));
         let spare = HighlightState::new(&highlighter, ScopeStack::new(alloc));
         Ok(HighlightLines {
@@ -166,6 +166,9 @@ impl<'a> HighlightLines<'a> {
         ensures bound { turns_made (reader_of self.new)
             ≤ turns_made (reader_of self.old)
             + most_turns syntax_set.now line.entry.now (standing (reader_of self.old)) }
+        ensures no_fewer { turns_made (reader_of self.old) ≤ turns_made (reader_of self.new) }
+        ensures no_fewer_steps { steps_made (reader_of self.old)
+            ≤ steps_made (reader_of self.new) }
         ensures steps { UnlessMemory result (TakesSteps syntax_set.now line.entry.now
             (standing (reader_of self.old))
             (turns_made (reader_of self.new) - turns_made (reader_of self.old))

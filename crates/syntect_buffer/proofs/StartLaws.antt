@@ -1,14 +1,19 @@
 -- A buffer without lines.
-use Rattle.std.proofs.Common.{◌≡◌, List, [], length, map, sym, ap, subst, ◌∙◌, string_bytes, String, Global}
+use Rattle.std.proofs.Common.{◌≡◌, List, [], Some, None, length, map, sym, ap, subst, ◌∙◌, string_bytes, String, Global}
 use Rattle.syntect_theme.specs.declared.theme.Theme.{Theme}
 use Rattle.syntect_parsing.specs.States.{standing}
 use Rattle.syntect_contexts.specs.declared.syntax_reference.SyntaxReference.{SyntaxReference}
 use Rattle.syntect_grammar.specs.declared.syntax_set.SyntaxSet.{SyntaxSet}
-use Rattle.syntect.specs.Leads.{Leads, styles_of, reader_of}
+use Rattle.syntect_grammar.specs.declared.error.Error.TheVariants as error
+use Rattle.syntect.specs.Leads.{Leads, LacksStart, styles_of, reader_of}
 use Rattle.syntect.specs.declared.easy.HighlightLines.{HighlightLines}
 use Rattle.syntect_buffer.specs.Kept.{AreMarked, AreReadFrom, IsKept, lines_in}
 use Rattle.syntect_buffer.specs.declared.reading.Reading.{Reading}
 use Rattle.syntect_buffer.specs.declared.reading.Kept.{Kept}
+
+-- memory that is wanting for a buffer is wanting behind the start
+pub start_there : (set : SyntaxSet) (theme : Theme) (syntax : SyntaxReference) (h : HighlightLines) → Leads set theme syntax [] [] h → LacksStart syntax error.Memory
+start_there set theme syntax h leads = λ n. let k : Some leads.start ≡ None = sym leads.begins ∙ n in cc
 
 pub kept_none : (set : SyntaxSet) (theme : Theme) (syntax : SyntaxReference) (h : HighlightLines) (kept : Kept) → ((s : SyntaxSet) → Leads s theme syntax [] [] h)
     → kept.start.styles ≡ styles_of h → kept.start.reader ≡ reader_of h → kept.lines ≡ [] → kept.readings ≡ [] → IsKept set theme syntax kept

@@ -2,7 +2,7 @@
 use Rattle.std.proofs.Common.{◌≡◌, ℕ, List, [], ◌∷◌, ◌++◌, map, refl, sym, ap, subst, ◌∙◌, append_assoc, append-nil, inl, inr}
 use Rattle.std.specs.List.{concat}
 use Rattle.syntect_scope.specs.Stack.{plain}
-use Rattle.std.specs.Prelude.{Some}
+use Rattle.std.specs.Prelude.{Some, None}
 use Rattle.syntect_winner.specs.Engine.{dialect}
 use Rattle.syntect_parsing.specs.Laws.{AnswersMore}
 use Rattle.syntect_parsing.specs.Line.{Answer, Accepted, RefusedBy, AnswersAll, RefusesLine, none, one_more, refuses, start_of}
@@ -139,6 +139,12 @@ module _ (set : SyntaxSet) (syntax : SyntaxReference) (repository : List (List �
         run = subst (λ (xs : List Answer). AnswersAll dialect set (lines_in rows.rows ++ line ∷ []) b.start (xs ++ RefusedBy e ∷ []) (state_in g)) (sym rows.answers_are)
             (subst (λ (ls : List (List ℕ)). AnswersAll dialect set (ls ++ line ∷ []) b.start (map Accepted b.scopes ++ RefusedBy e ∷ []) (state_in g)) (sym rows.lines_are) run);
       }
+
+  -- memory that is wanting for the end of a page is wanting behind the start
+  pub wanting : (left : List ℕ) (g : ClassedHTMLGenerator) → GivenStands → ClassedSoFar set syntax repository style text left g → HasNoClassedPage set syntax text error.Memory
+  wanting left g stands s =
+      let b : StandsAfter set syntax s.lines g = stands set syntax repository style s.lines g s.given in
+      inl (λ n. let k : Some b.start ≡ None = sym b.begins ∙ n in cc)
 
   -- in a set whose syntax begins plain a line is refused by its reading alone
   pub no_page : (left line : List ℕ) (rest : List (List ℕ)) (g : ClassedHTMLGenerator) (e : Error) → AnswersMore → GivenStands → BeginsPlain set syntax

@@ -109,7 +109,7 @@ so_far-end {set} {line} {state} {p} {q} {old} {new} s t n =
 
 pub so_far-refused : {set : SyntaxSet} {line : List ℕ} {state : Standing} {p : Position} {ops : List (ℕ × ScopeStackOp)} {before made shown : ℕ}
     → ReadSoFar set line state p ops before made shown → (e : ParsingError) → RefusesTurn dialect set line p e → state.levels ≢ [] → MayRefuse dialect set line state e
-so_far-refused s error.Memory h n = tt
+so_far-refused s error.Memory h n = n
 so_far-refused s error.MissingMainContext h n = let r = s.refuses error.MissingMainContext 1 (now h) in (r.0, in_turn n r.1)
 so_far-refused s (error.MissingContext id) h n = let r = s.refuses (error.MissingContext id) 1 (now h) in (r.0, in_turn n r.1)
 so_far-refused s (error.BadMatchIndex i) h n = let r = s.refuses (error.BadMatchIndex i) 1 (now h) in (r.0, in_turn n r.1)

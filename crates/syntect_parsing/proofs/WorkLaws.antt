@@ -10,7 +10,7 @@ use Rattle.syntect_parsing.specs.Bound.{most_turns}
 use Rattle.syntect_parsing.specs.Line.{Goes, turn, Reaches, here, further, at_start}
 use Rattle.syntect_parsing.specs.Scopes.{Scopes}
 use Rattle.syntect_parsing.specs.Turn.{trimmed}
-use Rattle.syntect_parsing.specs.Work.{TakesSteps, TakesTurnSteps, UnlessWanting}
+use Rattle.syntect_parsing.specs.Work.{TakesSteps, TakesMostSteps, TakesTurnSteps, UnlessWanting, most_patterns}
 use Rattle.syntect_parsing.proofs.BoundLaws.{CountSoFar, count-bound}
 use Rattle.syntect_contexts.specs.declared.context.Context.{Context}
 use Rattle.syntect_grammar.specs.declared.syntax_set.SyntaxSet.{SyntaxSet}
@@ -77,3 +77,21 @@ few_since c then e = omega (arith, c.counted, count-bound c then e)
 -- one turn more was made since the line's start
 pub one_since : {set : SyntaxSet} {line : List ℕ} {old : Standing} {p : Position} {before made shown : ℕ} → CountSoFar set line old p before made shown → (then : ℕ) → then ≡ made + 1 → then - before ≡ (made - before) + 1
 one_since c then e = omega (arith, c.counted, e)
+
+-- turns were made, and none was taken back
+pub no_fewer_since : {set : SyntaxSet} {line : List ℕ} {old : Standing} {p : Position} {before made shown : ℕ} → CountSoFar set line old p before made shown → (then : ℕ) → then ≡ made + 1 → before ≤ then
+no_fewer_since c then e = omega (arith, c.counted, e)
+
+-- ---- steps that are counted from none, and added ----
+
+added : (before after begun made most : ℕ) → begun ≡ 0 → after ≡ before + made → made ≤ begun + most → after ≤ before + most
+added before after begun made most z e s = omega (arith, z, e, s)
+
+pub steps_since : (set : SyntaxSet) (line : List ℕ) (old : Standing) (turns before after begun made : ℕ) → begun ≡ 0 → after ≡ before + made
+    → TakesSteps set line old turns begun made → TakesSteps set line old turns before after
+steps_since set line old turns before after begun made z e s = λ patterns most h. added before after begun made (turns * turn_steps patterns most (length line)) z e (s patterns most h)
+
+pub most_since : (set : SyntaxSet) (line : List ℕ) (old : Standing) (before after begun made : ℕ) → begun ≡ 0 → after ≡ before + made
+    → TakesMostSteps set line old begun made → TakesMostSteps set line old before after
+most_since set line old before after begun made z e s = λ each most w a.
+    added before after begun made (most_turns set line old * turn_steps (most_patterns set line old each) most (length line)) z e (s each most w a)

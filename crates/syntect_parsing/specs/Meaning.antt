@@ -1,5 +1,5 @@
 -- What a call that reads a line promises.
-use Rattle.std.specs.Prelude.{◌≡◌, ℕ, false, List, ◌++◌, length, None}
+use Rattle.std.specs.Prelude.{◌≡◌, ◌≢◌, ℕ, false, List, [], ◌++◌, length, None}
 use Rattle.syntect_scope.specs.declared.stack.ScopeStackOp.{ScopeStackOp}
 use Rattle.syntect_parsing.specs.Stacks.{IsAt, Remembers}
 use Rattle.syntect_scope.specs.declared.stack.ScopeStack.{ScopeStack}
@@ -37,13 +37,13 @@ pub record Accepts (engine : Engine) (set : SyntaxSet) (line : List ℕ) (old ne
   pub reads : ReadsLine engine set line old bytes new turns
   pub means : Means engine set line old new bytes ops
 
--- want of memory, or the refusal that the reading comes to
+-- the refusal that the reading comes to; or want of memory, but not where no level is open, as no turn is made there
 abbrev pub MayRefuse : Engine → SyntaxSet → List ℕ → Standing → ParsingError → Type 0
-MayRefuse engine set line state error.Memory = Unit {0}
+MayRefuse engine set line state error.Memory = state.levels ≢ []
 MayRefuse engine set line state e = (turns : ℕ) × RefusesLine engine set line state e turns
 
--- want of memory, or the syntax has no `__start`
+-- the syntax has no `__start`; or it has one, and memory ran out
 abbrev pub MayLackStart : SyntaxReference → ParsingError → Type 0
-MayLackStart syntax error.Memory = Unit {0}
+MayLackStart syntax error.Memory = start_of syntax ≢ None
 MayLackStart syntax error.MissingMainContext = start_of syntax ≡ None
 MayLackStart syntax _ = ⊥

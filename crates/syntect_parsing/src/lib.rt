@@ -4,6 +4,7 @@
 #![tactic(auto)]
 
 mod captures;
+mod counts;
 mod emit;
 pub mod laws;
 mod levels;

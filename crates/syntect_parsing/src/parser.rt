@@ -11,6 +11,7 @@ ghost use Rattle.syntect_parsing.specs.States.{standing, turns_made, steps_made,
 ghost use Rattle.syntect_parsing.specs.Bound.{TakesTurns, TakesAll, TakesNoMore, IsTold, most_turns};
 ghost use Rattle.syntect_parsing.specs.Work.{TakesSteps, TakesMostSteps, UnlessMemory};
 
+use crate::counts::add;
 use crate::turn::turn;
 use std::alloc::{AllocError, AllocFailed, Global};
 pub use syntect_grammar::error::ParsingError;
@@ -106,6 +107,7 @@ impl ParseState {
     /// at are linear, they are at most `turns * patterns * 2 * most * (bytes + 1)`, unless memory was wanting: `patterns` is how
     /// many a turn looks at, and `most` how many steps a search of one takes (`steps`). Where all patterns of the set are linear
     /// and none uses back references, a formula of the set and the line's length bounds them (`most_steps`).
+    /// Neither number ever falls (`no_fewer`, `no_fewer_steps`).
     pub fn parse_line(
         &mut self,
         alloc: Global,
@@ -124,6 +126,8 @@ impl ParseState {
             (standing self.old) (turns_made self.old) (turns_made self.new)) }
         ensures bound { turns_made self.new
             ≤ turns_made self.old + most_turns syntax_set.now line.now (standing self.old) }
+        ensures no_fewer { turns_made self.old ≤ turns_made self.new }
+        ensures no_fewer_steps { steps_made self.old ≤ steps_made self.new }
         ensures steps { UnlessMemory result (TakesSteps syntax_set.now line.now
             (standing self.old) (turns_made self.new - turns_made self.old)
             (steps_made self.old) (steps_made self.new)) }
@@ -139,10 +143,15 @@ impl ParseState {
             steps,
         } = self;
         let mut regions = Regions::new(alloc);
-        regions.steps = steps.copy();
-        let read = read_line(alloc, syntax_set, line, standing, &mut regions, count);
-        *steps = regions.steps.copy();
-        let (left, ops, _) = match read {
+        let (left, ops) = match read_adding(
+            alloc,
+            syntax_set,
+            line,
+            standing,
+            &mut regions,
+            count,
+            steps,
+        ) {
             Ok(read) => read,
             Err(e) => return Err(e),
         };
@@ -153,8 +162,8 @@ impl ParseState {
     /// The state after the next line, and its operations, as `parse_line` leaves and answers them. This state stays where it
     /// stands, so it needn't be copied where it may be wanted again. It counts the turns and the steps as `parse_line` does,
     /// also where the line is refused, and the state after the line has the same numbers. The searches' memory can be kept
-    /// from line to line; what is in it before doesn't matter, and its count of steps begins as this state's. Refused as
-    /// `parse_line` is.
+    /// from line to line; what is in it before doesn't matter, and behind the line its count is that of the line's steps, which
+    /// are added to this state's (`added`). Refused as `parse_line` is.
     pub fn after_line(
         &mut self,
         alloc: Global,
@@ -174,12 +183,16 @@ impl ParseState {
             (standing self.old) (turns_made self.old) (turns_made self.new)) }
         ensures bound { turns_made self.new
             ≤ turns_made self.old + most_turns syntax_set.now line.now (standing self.old) }
+        ensures no_fewer { turns_made self.old ≤ turns_made self.new }
+        ensures no_fewer_steps { steps_made self.old ≤ steps_made self.new }
+        ensures added { steps_made self.new ≡ steps_made self.old + regions.new.steps.made }
         ensures steps { UnlessMemory result (TakesSteps syntax_set.now line.now
             (standing self.old) (turns_made self.new - turns_made self.old)
             (steps_made self.old) (steps_made self.new)) }
         ensures most_steps { UnlessMemory result (TakesMostSteps syntax_set.now line.now
             (standing self.old) (steps_made self.old) (steps_made self.new)) }
     {
+        regions.steps = TurnCount::none();
         if self.standing.levels.is_empty() {
             return Err(ParsingError::MissingMainContext);
         }
@@ -188,11 +201,8 @@ impl ParseState {
             count,
             steps,
         } = self;
-        regions.steps = steps.copy();
-        let read = read_line(alloc, syntax_set, line, standing, regions, count);
-        *steps = regions.steps.copy();
-        match read {
-            Ok((standing, ops, _)) => {
+        match read_adding(alloc, syntax_set, line, standing, regions, count, steps) {
+            Ok((standing, ops)) => {
                 let state = ParseState {
                     standing,
                     count: count.copy(),
@@ -299,6 +309,7 @@ fn read_line(
     ensures no_more { OnErr result
         (TakesNoMore dialect set.now line.now state.now count.old.made count.new.made) }
     ensures bound { count.new.made ≤ count.old.made + most_turns set.now line.now state.now }
+    ensures no_fewer { count.old.made ≤ count.new.made }
     ensures told { IfOk result (λ r. IsTold (count.new.made - count.old.made) r.2) }
     ensures steps { UnlessMemory result (TakesSteps set.now line.now state.now
         (count.new.made - count.old.made) regions.old.steps.made regions.new.steps.made) }
@@ -337,6 +348,40 @@ fn read_line(
         first_line: false,
     };
     Ok((left, ops, turns))
+}
+
+/// The line read so, its steps counted from none and added to those before it.
+fn read_adding(
+    alloc: Global,
+    set: &SyntaxSet,
+    line: &str,
+    state: &Standing,
+    regions: &mut Regions,
+    count: &mut TurnCount,
+    steps: &mut TurnCount,
+) -> Result<(Standing, Vec<(usize, ScopeStackOp)>), ParsingError>
+    requires { state.now.levels ≢ [] }
+    ensures accepted { IfOk result (λ r. Accepts dialect set.now line.now state.now r.0 r.1.items) }
+    ensures refused { IfErr result (MayRefuse dialect set.now line.now state.now) }
+    ensures taken { OnOk result
+        (TakesAll dialect set.now line.now state.now count.old.made count.new.made) }
+    ensures no_more { OnErr result
+        (TakesNoMore dialect set.now line.now state.now count.old.made count.new.made) }
+    ensures bound { count.new.made ≤ count.old.made + most_turns set.now line.now state.now }
+    ensures no_fewer { count.old.made ≤ count.new.made }
+    ensures added { steps.new.made ≡ steps.old.made + regions.new.steps.made }
+    ensures steps { UnlessMemory result (TakesSteps set.now line.now state.now
+        (count.new.made - count.old.made) steps.old.made steps.new.made) }
+    ensures most_steps { UnlessMemory result (TakesMostSteps set.now line.now state.now
+        steps.old.made steps.new.made) }
+{
+    regions.steps = TurnCount::none();
+    let read = read_line(alloc, set, line, state, regions, count);
+    add(steps, &regions.steps);
+    match read {
+        Ok((left, ops, _)) => Ok((left, ops)),
+        Err(e) => Err(e),
+    }
 }
 
 /// The same standing once more.

@@ -2,8 +2,6 @@
 //! small grammars, computed by their definitions.
 #![tactic(auto)]
 
-ghost use Rattle.std.specs.Prelude.{◌≡◌};
-ghost use Rattle.syntect_winner.specs.declared.position.TheConstants.{MOST_LEVELS, MOST_IDLE};
 ghost use Rattle.syntect_parsing.specs.Laws.{AnswersJoin, AnswersPart};
 ghost use Rattle.syntect_parsing.specs.Open.{StackHasVisible, OpenIsVisible};
 ghost use Rattle.syntect_reading_laws.specs.Laws.{ReadsOnce, RefusesOnce, AnswersOnce, CoversLine, EachLineEnds, PlacesAreBoundaries};
@@ -57,10 +55,4 @@ pub fn answers_join_and_part()
 pub fn stack_has_visible_scopes()
     ensures visible { StackHasVisible }
     ensures open { OpenIsVisible }
-{}
-
-/// A push is passed over once a hundred levels are open, and at one place a thousand empty pushes and sets are made at most.
-pub fn limits_of_reading()
-    ensures levels { MOST_LEVELS ≡ 100 }
-    ensures idle { MOST_IDLE ≡ 1000 }
 {}

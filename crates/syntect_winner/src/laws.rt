@@ -1,4 +1,6 @@
 //! What the search of a match rests on.
+ghost use Rattle.std.specs.Prelude.{◌≡◌};
+ghost use Rattle.syntect_winner.specs.declared.position.TheConstants.{MOST_LEVELS, MOST_IDLE};
 ghost use Rattle.syntect_winner.specs.Found.{FindsInText, FindsOnBoundaries};
 ghost use Rattle.syntect_winner.specs.Engine.{dialect};
 
@@ -15,3 +17,9 @@ pub fn dialect_finds_on_boundaries()
 {
     syntect_pattern_laws::pattern_matches_are_laid_out();
 }
+
+/// A push is passed over once a hundred levels are open, and at one place a thousand empty pushes and sets are made at most.
+pub fn limits_of_reading()
+    ensures levels { MOST_LEVELS ≡ 100 }
+    ensures idle { MOST_IDLE ≡ 1000 }
+{}

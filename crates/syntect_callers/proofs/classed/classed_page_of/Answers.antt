@@ -1,6 +1,6 @@
 use Rattle.std.proofs.Common.{rules}
 use Rattle.std.proofs.lemmas.Result.{err_from_is_err_and}
-use Rattle.syntect_callers.proofs.ClassedSoFar.{so_far_none, so_far_more, page_whole, page_plain, stops, no_page, no_start}
+use Rattle.syntect_callers.proofs.ClassedSoFar.{so_far_none, so_far_more, page_whole, page_plain, stops, wanting, no_page, no_start}
 use Rattle.syntect_callers.proofs.classed.classed_page_of.Goals as goal
 
 pub loop-line-init : goal.loop-line-init
@@ -41,3 +41,9 @@ pub returns-in_err-generator-clause-refused : goal.returns-in_err-generator-clau
 returns-in_err-generator-clause-refused c = λ definitions b.
     let p = err_from_is_err_and c.from_residual.result c.from_residual.ensures.1 in
     rw (p.1, p.2) (no_start c.args.set.now c.args.syntax.now c.args.text.now _ c.in_err-generator.ensures.refused)
+
+pub returns-in_err-finalize-clause-any_refused : goal.returns-in_err-finalize-clause-any_refused
+returns-in_err-finalize-clause-any_refused c =
+    let r = c.from_residual-in_err-finalize in
+    let p = err_from_is_err_and r.result r.ensures.1 in
+    rw (p.1, p.2) (wanting c.args.set.now c.args.syntax.now c.args.repository.now c.args.style c.args.text.now _ _ c.closed_texts_are_pages.ensures.stands c.loop-line.invariant)

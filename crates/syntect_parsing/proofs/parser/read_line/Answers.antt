@@ -4,7 +4,7 @@ use Rattle.syntect_winner.proofs.Finds.{finds_in_order}
 use Rattle.syntect_parsing.proofs.Falls.{goes_falls}
 use Rattle.syntect_parsing.proofs.BoundLaws.{count-end, count-refused, count-bound, count-told}
 use Rattle.syntect_parsing.proofs.PrototypeLaws.{takes_most}
-use Rattle.syntect_parsing.proofs.WorkLaws.{few_since, one_since, steps-end, steps-more, steps-start, unless_so}
+use Rattle.syntect_parsing.proofs.WorkLaws.{few_since, no_fewer_since, one_since, steps-end, steps-more, steps-start, unless_so}
 use Rattle.syntect_parsing.proofs.Runs.{so_far-start, so_far-more, so_far-end, so_far-refused}
 use Rattle.syntect_parsing.proofs.parser.read_line.Goals as goal
 
@@ -51,6 +51,12 @@ returns-in-Err-turn-clause-no_more c = count-refused c.loop-e.invariant.read.cou
 
 pub returns-in-Err-turn-clause-bound : goal.returns-in-Err-turn-clause-bound
 returns-in-Err-turn-clause-bound c = count-bound c.loop-e.invariant.read.count c.turn.new.count.made c.turn.ensures.counted
+
+pub returns-clause-no_fewer : goal.returns-clause-no_fewer
+returns-clause-no_fewer c = no_fewer_since c.loop-e.invariant.read.count c.turn.new.count.made c.turn.ensures.counted
+
+pub returns-in-Err-turn-clause-no_fewer : goal.returns-in-Err-turn-clause-no_fewer
+returns-in-Err-turn-clause-no_fewer c = no_fewer_since c.loop-e.invariant.read.count c.turn.new.count.made c.turn.ensures.counted
 
 pub returns-clause-told : goal.returns-clause-told
 returns-clause-told c = count-told c.loop-e.invariant.read.count c.turn.new.count.made c.turn.ensures.counted _ (search rules)
