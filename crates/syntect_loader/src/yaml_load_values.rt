@@ -185,11 +185,7 @@ fn leaving(alloc: Global, pattern: Yaml, captures: Option<&Yaml>) -> Result<Yaml
 }
 
 /// The items of the context that an `embed` pushes first.
-pub fn escape_items(
-    alloc: Global,
-    item: &Yaml,
-    escape: &Yaml,
-) -> Result<Vec<Yaml>, AllocError>
+pub fn escape_items(alloc: Global, item: &Yaml, escape: &Yaml) -> Result<Vec<Yaml>, AllocError>
     ensures { IfOk result (λ v. map view v.items
         ≡ values.escape_items (view item.now) (view escape.now)) }
 {
