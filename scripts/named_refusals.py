@@ -16,7 +16,7 @@ import sys
 
 HERE = os.path.dirname(os.path.dirname(os.path.abspath(__file__)))
 CRATES = (
-    "scope regex metadata theme theme_files style classed contexts loader grammar openings parsing buffer"
+    "scope regex metadata theme theme_files style classed contexts loader within grammar openings parsing buffer"
 ).split()
 # each error with the file that has it
 ERRORS = {
@@ -25,6 +25,7 @@ ERRORS = {
     "PatternError": "pattern/src/error.rt",
     "ParsingError": "contexts/src/error.rt",
     "ParseSyntaxError": "base/src/syntax.rt",
+    "LoadWithinError": "base/src/limits.rt",
     "ParseThemeError": "base/src/theme.rt",
     "LoadingError": "base/src/loading.rt",
     "MetadataError": "metadata/src/error.rt",

@@ -30,7 +30,7 @@ use syntect_yaml::read::read;
 use syntect_yaml::value::{Scalar, Yaml};
 
 /// How deep the maps and lists of a text nest.
-const DEEPEST: usize = 100;
+pub const DEEPEST: usize = 100;
 
 /// A context among the top ones: one that has a name and is a list.
 fn top_context(
@@ -241,7 +241,7 @@ fn add_variable(
 }
 
 /// The variables.
-fn variables_of(alloc: Global, value: &Yaml) -> Result<Table<Text, Text>, AllocError>
+pub fn variables_of(alloc: Global, value: &Yaml) -> Result<Table<Text, Text>, AllocError>
     ensures { IfOk result (λ variables. variables ≡ loading.variables_at (view value.now)) }
 {
     let mut variables = Table::new(alloc);
@@ -314,7 +314,7 @@ fn finish(
 
 /// The definition of a value.
 #[tactic(auto, using(crate::proofs::EndLaws::ends))]
-fn definition(
+pub fn definition(
     alloc: Global,
     value: &Yaml,
     lines_include_newline: bool,

@@ -49,7 +49,7 @@ fn cleared(map: &Yaml) -> Option<ClearAmount>
 }
 
 /// Whether an item sets something.
-fn is_setting(map: &Yaml) -> bool
+pub fn is_setting(map: &Yaml) -> bool
     ensures { result ≡ contexts.is_setting (view map.now) }
 {
     text_at(map, "meta_scope").is_some()

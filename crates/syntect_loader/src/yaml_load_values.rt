@@ -15,7 +15,7 @@ type Entries = Vec<(Scalar, Yaml)>;
 
 /// The values of a list.
 #[tactic(auto, using(crate::proofs::LoadingLaws::values_seen))]
-pub(crate) fn list_of(value: &Yaml) -> Option<&[Yaml]>
+pub fn list_of(value: &Yaml) -> Option<&[Yaml]>
     ensures { option_map (λ v. map view v.now) result ≡ list_in (view value.now) }
 {
     value.as_list()
@@ -23,14 +23,14 @@ pub(crate) fn list_of(value: &Yaml) -> Option<&[Yaml]>
 
 /// The entries of a map.
 #[tactic(auto, using(crate::proofs::LoadingLaws::pairs_seen))]
-pub(crate) fn map_of(value: &Yaml) -> Option<&[(Scalar, Yaml)]>
+pub fn map_of(value: &Yaml) -> Option<&[(Scalar, Yaml)]>
     ensures { option_map (λ v. map entry_view v.now) result ≡ map_in (view value.now) }
 {
     value.as_map()
 }
 
 /// The text at a key.
-pub(crate) fn text_at<'a>(value: &'a Yaml, key: &str) -> Option<&'a str>
+pub fn text_at<'a>(value: &'a Yaml, key: &str) -> Option<&'a str>
     ensures { option_map (λ t. t.now) result ≡ at text_in key.now (view value.now) }
 {
     match value.get(key) {
@@ -60,7 +60,7 @@ pub(crate) fn number_at(value: &Yaml, key: &str) -> Option<i64>
 }
 
 /// The values of the list at a key.
-pub(crate) fn list_at<'a>(value: &'a Yaml, key: &str) -> Option<&'a [Yaml]>
+pub fn list_at<'a>(value: &'a Yaml, key: &str) -> Option<&'a [Yaml]>
     ensures { option_map (λ v. map view v.now) result ≡ at list_in key.now (view value.now) }
 {
     match value.get(key) {
@@ -70,7 +70,7 @@ pub(crate) fn list_at<'a>(value: &'a Yaml, key: &str) -> Option<&'a [Yaml]>
 }
 
 /// The entries of the map at a key.
-pub(crate) fn map_at<'a>(value: &'a Yaml, key: &str) -> Option<&'a [(Scalar, Yaml)]>
+pub fn map_at<'a>(value: &'a Yaml, key: &str) -> Option<&'a [(Scalar, Yaml)]>
     ensures { option_map (λ v. map entry_view v.now) result ≡ at map_in key.now (view value.now) }
 {
     match value.get(key) {
@@ -110,7 +110,7 @@ fn is_empty_list(value: &Yaml) -> bool
 }
 
 /// Whether the value, which follows a push or a set, is a list of references.
-pub(crate) fn is_several(value: &Yaml) -> bool
+pub fn is_several(value: &Yaml) -> bool
     ensures { result ≡ values.is_several (view value.now) }
 {
     match list_of(value) {
@@ -123,7 +123,7 @@ pub(crate) fn is_several(value: &Yaml) -> bool
 }
 
 /// Whether the value, which follows a push or a set, begins with an empty list.
-pub(crate) fn is_none(value: &Yaml) -> bool
+pub fn is_none(value: &Yaml) -> bool
     ensures { result ≡ values.is_none (view value.now) }
 {
     match list_of(value) {
@@ -185,11 +185,7 @@ fn leaving(alloc: Global, pattern: Yaml, captures: Option<&Yaml>) -> Result<Yaml
 }
 
 /// The items of the context that an `embed` pushes first.
-pub(crate) fn escape_items(
-    alloc: Global,
-    item: &Yaml,
-    escape: &Yaml,
-) -> Result<Vec<Yaml>, AllocError>
+pub fn escape_items(alloc: Global, item: &Yaml, escape: &Yaml) -> Result<Vec<Yaml>, AllocError>
     ensures { IfOk result (λ v. map view v.items
         ≡ values.escape_items (view item.now) (view escape.now)) }
 {
@@ -203,7 +199,7 @@ pub(crate) fn escape_items(
 }
 
 /// The items of the context that leaves wherever the text of this pattern stands ahead.
-pub(crate) fn ahead_items(alloc: Global, text: &str) -> Result<Vec<Yaml>, AllocError>
+pub fn ahead_items(alloc: Global, text: &str) -> Result<Vec<Yaml>, AllocError>
     ensures { IfOk result (λ v. map view v.items ≡ values.ahead_items text.now) }
 {
     let pattern = format!(in alloc; "(?={text})")?;

@@ -9,3 +9,4 @@ pub mod VanishLaws
 pub mod TurnLaws
 pub mod Rows
 pub mod PlainLaws
+pub mod LengthLaws

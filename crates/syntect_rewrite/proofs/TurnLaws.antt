@@ -41,7 +41,7 @@ traced-last vs [] g t n none a e = sym (a.0 e) ∙ marked-none [] (without g.nam
 traced-last vs (f ∷ fs) g t n none a e = traced-last (without f.name vs) fs g t n none a.2 e
 
 -- more is written
-traced-more : (vs : Variables) (fs : List Frame) (t u : List ℕ) (n m : ℕ) → n < m → AreTraced vs fs t n → AreTraced vs fs u m
+pub traced-more : (vs : Variables) (fs : List Frame) (t u : List ℕ) (n m : ℕ) → n < m → AreTraced vs fs t n → AreTraced vs fs u m
 traced-more vs [] t u n m lt a = a
 traced-more vs (f ∷ fs) t u n m lt a =
     (λ e. absurd (omega (arith, e, a.1)), omega (arith, a.1), traced-more (without f.name vs) fs t u n m lt a.2)
@@ -124,7 +124,7 @@ close-pop fs gs g known later n e h vs t none a all =
 -- ---- the whole
 
 -- where nothing is left
-over : (vs : Variables) (fs : List Frame) (t : List ℕ) → length t ≡ 0 → length fs ≡ 0 → left [] vs fs t ≡ []
+pub over : (vs : Variables) (fs : List Frame) (t : List ℕ) → length t ≡ 0 → length fs ≡ 0 → left [] vs fs t ≡ []
 over vs [] t none last = marked-none [] vs t none
 over vs (f ∷ fs) t none last = absurd (omega arith)
 

@@ -7,3 +7,4 @@ pub mod Testing
 pub mod Rewriting
 pub mod Expanding
 pub mod Views
+pub mod Lengths

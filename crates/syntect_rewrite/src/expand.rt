@@ -17,7 +17,7 @@ use syntect_values::text::Text;
 
 /// A variable whose text is being read, what follows its use, and how much was written before it.
 #[derive(Drop)]
-struct Frame<'a> {
+pub(crate) struct Frame<'a> {
     name: Text,
     rest: &'a str,
     start: usize,
@@ -53,7 +53,7 @@ fn name_len(bytes: &[u8]) -> usize
 
 /// The name of the variable with whose use the text begins, and what follows that.
 #[tactic(auto, unfolding(crate::specs::Variables::is_use))]
-fn used(text: &str) -> Option<(&str, &str)>
+pub(crate) fn used(text: &str) -> Option<(&str, &str)>
     ensures cases { MatchOption result (uses.is_use text.now ≡ false)
         (λ p. uses.is_use text.now ≡ true) }
     ensures name { IfSome result (λ p. p.0.now ≡ uses.name text.now) }
@@ -103,7 +103,7 @@ fn vanishes(known: &Table<Text, bool>, name: &Text) -> bool
 
 /// Goes into the text of a variable, unless that is being read or its use is remembered to stand for nothing: what is to be
 /// read next.
-fn enter<'a>(
+pub(crate) fn enter<'a>(
     variables: &'a Table<Text, Text>,
     frames: &mut Vec<Frame<'a>>,
     known: &Table<Text, bool>,
@@ -161,7 +161,7 @@ fn settle(
 }
 
 /// Goes back to what follows the use of the variable whose text is over, if there is one.
-fn close<'a>(
+pub(crate) fn close<'a>(
     alloc: Global,
     frames: &mut Vec<Frame<'a>>,
     known: &mut Table<Text, bool>,

@@ -6,6 +6,7 @@
 
 mod classes;
 mod expand;
+pub mod lengths;
 mod newlines;
 pub mod references;
 mod replace;

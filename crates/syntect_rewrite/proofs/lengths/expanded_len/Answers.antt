@@ -1,0 +1,34 @@
+use Rattle.std.proofs.Common.{refl, ◌==◌, ◌∙◌, sym, ap, ◌≡◌, length, arith}
+use Rattle.std.proofs.lemmas.Grind.{common_steps}
+use Rattle.syntect_rewrite.specs.Variables.{expanded}
+use Rattle.syntect_rewrite.specs.Expanding.{inner}
+use Rattle.syntect_rewrite.proofs.LengthLaws.{start-counted, over-counted, counted, plain-counted}
+use Rattle.std.specs.List.{list_any}
+use Rattle.syntect_rewrite.proofs.PlainLaws.{Lacks, expanded_plain}
+use Rattle.syntect_rewrite.proofs.TurnLaws.{start-traced}
+use Rattle.syntect_rewrite.proofs.VanishLaws.{all-none}
+use Rattle.syntect_rewrite.proofs.lengths.expanded_len.Goals as goal
+
+pub parts-init : goal.parts-init
+parts-init c =
+    let vs = c.args.variables.now in
+    let fs = c.new-frames.result.items in (
+      c.utf8.text,
+      omega (arith, start-counted vs fs c.args.text.now c.new-frames.ensures.items),
+      start-traced vs fs c.args.text.now 0 c.new-frames.ensures.items,
+      all-none (inner vs fs) c.new-known.result c.new-known.ensures,
+      omega arith,
+    )
+
+pub returns : goal.returns
+returns c =
+    let none : length c.parts.rest.now ≡ 0 = grind (arith, common_steps) in
+    let last : length c.parts.frames.items ≡ 0 = grind (arith, common_steps) in
+    let nothing = over-counted c.args.variables.now c.parts.frames.items c.parts.rest.now none last in
+    let all : c.parts.count ≡ length (expanded c.args.variables.now c.args.text.now) = omega (arith, c.parts.invariant.1, nothing) in
+    counted c.parts.count c.args.most (expanded c.args.variables.now c.args.text.now) all c.parts.invariant.4
+
+pub returns-then-not-contains : goal.returns-then-not-contains
+returns-then-not-contains c =
+    let lacks : Lacks 123 c.args.text.now = ap (list_any (λ d. d == 123)) (sym c.as_bytes.ensures.value) ∙ sym c.contains.ensures.value ∙ c.if-not-contains.true in
+    plain-counted c.added.result _ c.args.most c.args.text.now (expanded c.args.variables.now c.args.text.now) (expanded_plain c.args.variables.now c.args.text.now lacks) refl c.added.ensures.sum c.added.ensures.within
