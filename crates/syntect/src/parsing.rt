@@ -1,6 +1,7 @@
 //! Scopes, grammars, sets of them and the reading of lines.
 pub mod metadata;
 
+pub use syntect_base::limits::{LimitReached, Limits, LoadWithinError, PatternPlace};
 pub use syntect_base::syntax::ParseSyntaxError;
 pub use syntect_metadata::error::MetadataError;
 pub use syntect_metadata::items::MetadataItems;
@@ -21,3 +22,4 @@ pub use syntect_scope::scope::{ATOM_LEN_BITS, Scope};
 pub use syntect_scope::stack::{
     BasicScopeStackOp, ClearAmount, ScopeError, ScopeStack, ScopeStackOp,
 };
+pub use syntect_within::within::load_from_str_within;
