@@ -9,15 +9,15 @@ use syntect_pattern_table::program::Program;
 /// A try of so few steps is not counted.
 const FEW: usize = 16;
 
-/// From where on no match of the pattern begins, how far what its matches need was met, and how many steps are left for its tries:
-/// once they are used up, it goes by its plan. It is of one pattern in one text.
+/// From where on no match of the pattern begins, how far what its matches need was met, and how many steps are left for its tries,
+/// or that its plan tells of the text. It is of one pattern in one text.
 #[derive(Clone, Copy)]
 pub struct Prospect {
     /// The first place of the stretch, and the one behind its last.
     from: usize,
     until: usize,
     met: Met,
-    /// The greatest number before such a try.
+    /// The greatest number before such a try, and 0 where the plan tells.
     left: usize,
 }
 
@@ -70,10 +70,18 @@ impl Prospect {
         false
     }
 
-    /// Whether the steps are used up.
+    /// Whether its plan has told of the text before.
     #[inline]
-    pub fn is_spent(&self) -> bool {
+    pub fn is_settled(&self) -> bool {
         self.left == 0
+    }
+
+    /// Its plan tells of the text from now on.
+    pub fn settle(&mut self)
+        ensures { (pattern text : List ℕ) → IsProspectOf pattern text self.old
+            → IsProspectOf pattern text self.new }
+    {
+        self.left = 0;
     }
 
     /// Tries have all steps again.
@@ -99,7 +107,7 @@ impl Prospect {
             → IsProspectOf pattern text self.new }
     {
         if steps > FEW {
-            self.left = self.left.min(all).saturating_sub(steps);
+            self.left = self.left.min(all).saturating_sub(steps).max(1);
         }
     }
 }

@@ -226,9 +226,37 @@ pub fn begins_known(
     ensures steps { OnOk result (IsWithinBound program.now (length pattern.now) (length text.now)
         count.old.made count.new.made) }
 {
-    if known.is_spent() {
-        return begins_after(search, program, pattern, text, place, known, depths, count);
+    if known.is_settled() {
+        return begins_settled(search, program, pattern, text, place, known, depths, count);
     }
+    begins_tried(search, program, pattern, text, place, known, depths, count)
+}
+
+/// The same by the marks. Where these were let go, since others came, tries have all steps again before they are made anew.
+fn begins_settled(
+    search: &mut Search,
+    program: &Program,
+    pattern: &str,
+    text: &str,
+    place: usize,
+    known: &mut Prospect,
+    depths: &mut Depths,
+    count: &mut TurnCount,
+) -> Result<bool, AllocError>
+    requires program { IsCompiled pattern.now program.now }
+    requires depths { AreDepthsIn text.now depths.old }
+    ensures finds { IfOk result (λ found.
+        FindsAt text.now program.now place (groups_of found search.new)) }
+    ensures known { IsProspectOf pattern.now text.now known.old
+        → IsProspectOf pattern.now text.now known.new }
+    ensures depths { OnOk result (AreDepthsIn text.now depths.new) }
+    ensures steps { OnOk result (IsWithinBound program.now (length pattern.now) (length text.now)
+        count.old.made count.new.made) }
+{
+    if let Some(found) = depths.begins_at(pattern, text, place, &mut search.groups, count)? {
+        return Ok(found);
+    }
+    known.renew();
     begins_tried(search, program, pattern, text, place, known, depths, count)
 }
 
@@ -295,6 +323,7 @@ fn begins_after(
         count.old.made count.new.made) }
 {
     if let Some(found) = depths.begins_at(pattern, text, place, &mut search.groups, count)? {
+        known.settle();
         return Ok(found);
     }
     begins_planned(search, program, pattern, text, place, known, depths, count)
@@ -334,6 +363,7 @@ fn begins_planned(
         })?;
         return backs_up(search, program, text, place, count);
     };
+    known.settle();
     begins_marked(search, guide, pattern, text, place, depths, count)
 }
 
