@@ -1,5 +1,5 @@
 //! What is known, while a line is read, of patterns that are searched in the place of others, with the texts of groups put in.
-ghost use Rattle.std.specs.Prelude.{◌≡◌, ◌<◌, List, ℕ, IfSome, length, slice_get, string_bytes, Some};
+ghost use Rattle.std.specs.Prelude.{◌≡◌, ◌<◌, List, ℕ, IfSome, length, slice_index_or, string_bytes};
 ghost use Rattle.syntect_seek.specs.Prospect.{IsProspectOf};
 ghost use Rattle.syntect_winner.specs.Memory.{AreHintsIn, IsHintOf};
 ghost use Rattle.syntect_winner.specs.declared.hints.Hint.{Hint as AHint};
@@ -89,16 +89,27 @@ impl Hints {
 
     /// Where the pattern's stands.
     fn place_of(&self, pattern: &str) -> Option<usize>
-        ensures { IfSome result (λ i. (h : AHint) → slice_get self.now i ≡ Some h
-            → string_bytes h.pattern ≡ pattern.now) }
+        ensures inside { IfSome result (λ i. i < length self.now) }
+        ensures same { IfSome result (λ i. (hint : AHint)
+            → string_bytes (slice_index_or self.now i hint).pattern ≡ pattern.now) }
     {
-        let hints = self.kept.as_slice();
-        for (place, hint) in hints.iter().enumerate() {
-            if hint.pattern.as_str() == pattern {
+        for place in 0..self.kept.len() {
+            if self.kept[place].pattern.as_str() == pattern {
                 return Some(place);
             }
         }
         None
+    }
+
+    /// What stands there is another prospect from now on.
+    fn put(&mut self, place: usize, prospect: Prospect)
+        requires { place < length self.old }
+        ensures { (line : List ℕ) → AreHintsIn line self.old
+            → ((hint : AHint) → IsProspectOf
+            (string_bytes (slice_index_or self.old place hint).pattern) line prospect)
+            → AreHintsIn line self.new }
+    {
+        self.kept[place].prospect = prospect;
     }
 
     /// Keeps in mind what is known of the pattern. Where there is no memory, nothing is kept.
@@ -107,9 +118,7 @@ impl Hints {
             → IsProspectOf pattern.now line prospect → AreHintsIn line self.new }
     {
         if let Some(place) = self.place_of(pattern) {
-            if place < self.kept.len() {
-                self.kept[place].prospect = prospect;
-            }
+            self.put(place, prospect);
             return;
         }
         self.make_room();
