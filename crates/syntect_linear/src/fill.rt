@@ -7,6 +7,7 @@ ghost use Rattle.syntect_linear.specs.Rows.{AreRows, AreSights};
 ghost use Rattle.syntect_linear.specs.Steps.{stops, unknown};
 
 use crate::ground::{Ground, Known};
+use crate::known::nothing_known;
 use crate::reach::reach;
 use std::alloc::{AllocError, Global};
 use syntect_pattern_table::program::Program;
@@ -15,17 +16,6 @@ use syntect_plan::plan::Plan;
 use syntect_turns::count::TurnCount;
 use syntect_values::seq::Seq;
 use syntect_ways::text::is_boundary;
-
-/// Nothing is known of so many cells.
-fn nothing_known(alloc: Global, count: usize) -> Result<Known, AllocError>
-    ensures { IfOk result (λ now. now.items ≡ replicate count None) }
-{
-    let mut now = Vec::with_capacity(alloc, count)?;
-    for _cell in 0..count {
-        now.push(None)?;
-    }
-    Ok(now)
-}
 
 /// What is known of a place before anything is.
 fn known_of(

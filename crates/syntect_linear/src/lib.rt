@@ -5,6 +5,7 @@ mod alike;
 mod fill;
 pub mod find;
 pub mod ground;
+mod known;
 mod lead;
 mod marking;
 pub mod marks;

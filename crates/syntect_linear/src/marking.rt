@@ -10,6 +10,7 @@ ghost use Rattle.syntect_linear.specs.Rows.{AreSights};
 use crate::alike::{Seen, is_loose};
 use crate::fill::rows_from;
 use crate::ground::Ground;
+use crate::known::{keep, nothing_known};
 use crate::lead::lead_by;
 use crate::marks::{Marks, marks_of};
 use std::alloc::{AllocError, Global};
@@ -19,26 +20,6 @@ use syntect_plan::plan::Plan;
 use syntect_turns::count::TurnCount;
 use syntect_values::seq::Seq;
 use syntect_ways::text::is_boundary;
-
-/// Nothing is known of so many cells.
-fn nothing_known(alloc: Global, count: usize) -> Result<Vec<Option<bool>>, AllocError>
-    ensures { IfOk result (λ here. here.items ≡ replicate count None) }
-{
-    let mut here = Vec::with_capacity(alloc, count)?;
-    for _cell in 0..count {
-        here.push(None)?;
-    }
-    Ok(here)
-}
-
-/// Keeps whether the cell leads on, if that is known.
-fn keep(here: &mut Vec<Option<bool>>, cell: usize, leads: Option<bool>)
-    ensures { here.new.items ≡ slice_set here.old.items cell leads }
-{
-    if cell < here.len() {
-        here[cell] = leads;
-    }
-}
 
 /// What is known of a place once each cell was asked, the lowest first.
 fn known_of(

@@ -48,24 +48,3 @@ pub fn end_from(
         None => None,
     }
 }
-
-/// What is known of the cell.
-#[inline]
-pub fn known_at(now: &[Option<Option<usize>>], cell: usize) -> Option<Option<usize>>
-    ensures { result ≡ slice_index_or now.now cell None }
-{
-    match now.get(cell) {
-        Some(known) => *known,
-        None => None,
-    }
-}
-
-/// Keeps what is known of the cell.
-#[inline]
-pub fn keep(now: &mut Vec<Option<Option<usize>>>, cell: usize, end: Option<usize>)
-    ensures { now.new.items ≡ slice_set now.old.items cell (Some end) }
-{
-    if cell < now.len() {
-        now[cell] = Some(end);
-    }
-}
