@@ -16,7 +16,7 @@ use Rattle.syntect_plan.proofs.CellLaws.{ends-end}
 use Rattle.syntect_linear.specs.Alike.{IsLoose, is_atomic, AreAlike, IsSpot, SeesAlike}
 use Rattle.syntect_linear.specs.Ground.{IsGround, IsIn, ends_at, height_of}
 use Rattle.syntect_linear.specs.Marks.{IsMarked}
-use Rattle.syntect_linear.specs.Rows.{row_flag}
+use Rattle.syntect_sights.specs.Sights.{row_flag}
 use Rattle.syntect_linear.specs.Step.{IsTreeAt}
 use Rattle.syntect_linear.specs.declared.alike.Spot.{Spot}
 use Rattle.syntect_linear.specs.declared.ground.Ground.{Ground}

@@ -17,7 +17,7 @@ use Rattle.syntect_plan.specs.declared.cells.Cell.{Cell}
 use Rattle.syntect_plan.proofs.TreeLaws.{and_left, and_right}
 use Rattle.syntect_linear.proofs.StepLaws.{step, free}
 use Rattle.syntect_linear.proofs.GroundLaws.{tree-on}
-use Rattle.syntect_linear.proofs.WalkLaws.{chosen-each}
+use Rattle.syntect_sights.proofs.ChosenLaws.{chosen-each}
 
 -- a walk goes on
 pub walks-on : (x : Ground) (k place : ℕ) (g : Groups) (end : ℕ) (h : Groups) → IsGround x place → Walks x k place g end h → (place ≤ end) × (end ≤ length x.text.now)

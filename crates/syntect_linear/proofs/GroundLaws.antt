@@ -13,7 +13,8 @@ use Rattle.syntect_plan.proofs.OnwardLaws.{moved-at, moved-past}
 use Rattle.syntect_pattern.specs.Trees.{Anchor, Tree, nothing, one_of, anchor, seq, alt, repeat, group, atomic, ahead, behind}
 use Rattle.syntect_pattern_table.specs.Program.{trees_of}
 use Rattle.syntect_plan.specs.Cells.{cell_at, parts_at}
-use Rattle.syntect_linear.specs.Rows.{row_end, row_flag, ends_here}
+use Rattle.syntect_linear.specs.Rows.{row_end}
+use Rattle.syntect_sights.specs.Sights.{row_flag, ends_here}
 use Rattle.syntect_linear.specs.Ground.{IsGround, IsReady, IsIn, Knows, ends_at, height_of}
 use Rattle.syntect_linear.specs.Step.{IsTreeAt}
 use Rattle.syntect_linear.specs.declared.ground.Ground.{Ground}

@@ -11,7 +11,7 @@ use Rattle.syntect_plan.specs.Cells.{cell_at}
 use Rattle.syntect_plan.specs.Onward.{prefer_end}
 use Rattle.syntect_linear.specs.Ground.{IsGround, IsIn, ends_at}
 use Rattle.syntect_linear.specs.Marks.{AreMarks, IsMarked, KnowsLeads}
-use Rattle.syntect_linear.specs.Rows.{row_flag}
+use Rattle.syntect_sights.specs.Sights.{row_flag}
 use Rattle.syntect_linear.specs.Step.{IsTreeAt}
 use Rattle.syntect_linear.specs.declared.ground.Ground.{Ground}
 use Rattle.syntect_linear.proofs.GroundLaws.{char-on, past-on, next-inside}

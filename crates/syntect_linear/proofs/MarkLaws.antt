@@ -10,7 +10,8 @@ use Rattle.syntect_pattern.specs.Trees.{Tree}
 use Rattle.syntect_plan.specs.Cells.{ends}
 use Rattle.syntect_linear.proofs.RowLaws.{rows-more}
 use Rattle.syntect_linear.specs.Marks.{AreMarks}
-use Rattle.syntect_linear.specs.Rows.{AreRows, row_end, row_flag}
+use Rattle.syntect_linear.specs.Rows.{AreRows, row_end}
+use Rattle.syntect_sights.specs.Sights.{row_flag}
 use Rattle.syntect_plan.specs.declared.cells.Cell.{Cell}
 
 -- one row more, of the place before

@@ -8,7 +8,7 @@ use Rattle.syntect_pattern_table.specs.Program.{trees_of}
 use Rattle.syntect_plan.specs.Cells.{cell_tree}
 use Rattle.syntect_linear.specs.Ground.{IsIn}
 use Rattle.syntect_linear.specs.Marks.{row_at}
-use Rattle.syntect_linear.specs.Rows.{row_flag}
+use Rattle.syntect_sights.specs.Sights.{row_flag}
 use Rattle.syntect_linear.specs.declared.alike.Spot.{Spot}
 use Rattle.syntect_linear.specs.declared.ground.Ground.{Ground}
 

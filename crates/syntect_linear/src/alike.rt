@@ -5,7 +5,7 @@ ghost use Rattle.syntect_linear.specs.Alike as spec;
 ghost use Rattle.syntect_linear.specs.Alike.{AreAlike, IsLoose, IsSpot, SeesAlike};
 ghost use Rattle.syntect_linear.specs.Ground.{IsGround, IsIn, ends_at};
 ghost use Rattle.syntect_linear.specs.Marks.{IsMarked};
-ghost use Rattle.syntect_linear.specs.Rows.{row_flag};
+ghost use Rattle.syntect_sights.specs.Sights.{row_flag};
 
 use crate::ground::Ground;
 use crate::marks::Marks;

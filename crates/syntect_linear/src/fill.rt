@@ -3,7 +3,8 @@ ghost use Rattle.std.specs.Prelude.{◌≡◌, ◌<◌, ◌≤◌, replicate, �
 ghost use Rattle.syntect_pattern_table.specs.Program.{trees_of};
 ghost use Rattle.syntect_linear.specs.Ground.{IsIn, IsReady, Knows, ends_at};
 ghost use Rattle.syntect_plan.specs.PlanOf.{IsPlanOf};
-ghost use Rattle.syntect_linear.specs.Rows.{AreRows, AreSights};
+ghost use Rattle.syntect_linear.specs.Rows.{AreRows};
+ghost use Rattle.syntect_sights.specs.Sights.{AreSights};
 ghost use Rattle.syntect_linear.specs.Steps.{stops, unknown};
 
 use crate::ground::{Ground, Known};

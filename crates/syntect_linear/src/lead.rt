@@ -6,7 +6,7 @@ ghost use Rattle.syntect_pattern_table.specs.Table.{is_text};
 ghost use Rattle.syntect_plan.specs.Onward.{end_if};
 ghost use Rattle.syntect_linear.specs.Ground.{IsGround, IsIn, ends_at};
 ghost use Rattle.syntect_linear.specs.Marks.{IsMarked, KnowsLeads};
-ghost use Rattle.syntect_linear.specs.Rows.{row_flag};
+ghost use Rattle.syntect_sights.specs.Sights.{row_flag};
 ghost use Rattle.syntect_linear.specs.Step.{IsLoopAt, IsNodeAt};
 
 use crate::ground::Ground;

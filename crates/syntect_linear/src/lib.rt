@@ -11,5 +11,4 @@ mod marking;
 pub mod marks;
 pub mod reach;
 pub mod rows;
-pub mod sight;
 pub mod walk;

@@ -5,7 +5,7 @@ ghost use Rattle.syntect_plan.specs.PlanOf.{IsPlanOf};
 ghost use Rattle.syntect_linear.specs.Alike.{IsLoose};
 ghost use Rattle.syntect_linear.specs.Ground.{IsIn, ends_at};
 ghost use Rattle.syntect_linear.specs.Marks.{AreMarks, IsMarked, KnowsLeads};
-ghost use Rattle.syntect_linear.specs.Rows.{AreSights};
+ghost use Rattle.syntect_sights.specs.Sights.{AreSights};
 
 use crate::alike::{Seen, is_loose};
 use crate::fill::rows_from;
@@ -103,6 +103,7 @@ fn mark_place(
     ensures there { IfOk result (λ told. told ≡ true → length marks.new ≡ length marks.old + 1) }
     ensures steps { OnOk result (count.new.made
         ≤ count.old.made + length ground.now.plan.now.cells) }
+    ensures rises { OnOk result (count.old.made ≤ count.new.made) }
 {
     if !is_boundary(ground.text, place) {
         marks.push(Seq::new(alloc))?;
@@ -139,6 +140,7 @@ fn marked_from(
         length marks + begin ≡ length text.now + 1)) }
     ensures steps { OnOk result (count.new.made
         ≤ count.old.made + length plan.now.cells * (length text.now + 1)) }
+    ensures rises { OnOk result (count.old.made ≤ count.new.made) }
 {
     let order = order_of(alloc, program, plan)?;
     let ground = Ground {
@@ -190,6 +192,7 @@ pub fn marks_from(
     ensures there { IfOk result (λ marks. length marks + begin ≡ length text.now + 1) }
     ensures steps { OnOk result (count.new.made
         ≤ count.old.made + 7 * length plan.now.cells * (length text.now + 1)) }
+    ensures rises { OnOk result (count.old.made ≤ count.new.made) }
 {
     if let Some(marks) = marked_from(alloc, program, plan, text, sights, begin, count)? {
         return Ok(marks);

@@ -1,7 +1,7 @@
 //! Which cells lead to the end of a match, at each place of a text from its end on. Equal rows are kept once.
 ghost use Rattle.std.specs.Prelude.{◌≡◌, ◌<◌, ◌≤◌, ◌++◌, ◌∷◌, [], ℕ, IfOk, OnOk, is_some, length, map, true};
 ghost use Rattle.syntect_linear.specs.Marks.{row_at};
-ghost use Rattle.syntect_linear.specs.Rows as spec;
+ghost use Rattle.syntect_sights.specs.Sights.{row_flag};
 
 use std::alloc::{AllocError, Global};
 use std::marker::Model;
@@ -133,7 +133,7 @@ impl Marks {
     /// Whether the cell leads on in the row.
     #[inline]
     pub fn leads(&self, row: usize, cell: usize) -> bool
-        ensures { result ≡ spec.row_flag self.now row cell }
+        ensures { result ≡ row_flag self.now row cell }
     {
         let Some(place) = self.places.get(row) else {
             return false;

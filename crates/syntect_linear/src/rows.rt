@@ -1,6 +1,7 @@
 //! Rows of ends and of flags.
 ghost use Rattle.std.specs.Prelude.{◌≡◌, ◌-◌, length, option_and_then, slice_index_or, slice_set, None, Some};
 ghost use Rattle.syntect_linear.specs.Rows as spec;
+ghost use Rattle.syntect_sights.specs.Sights.{row_flag};
 
 use syntect_values::seq::Seq;
 
@@ -21,7 +22,7 @@ pub fn end_at(rows: &[Seq<Option<usize>>], row: usize, cell: usize) -> Option<us
 /// The flag that the row has for the place.
 #[inline]
 pub fn flag_at(rows: &[Seq<bool>], row: usize, place: usize) -> bool
-    ensures { result ≡ spec.row_flag rows.now row place }
+    ensures { result ≡ row_flag rows.now row place }
 {
     let Some(flags) = rows.get(row) else {
         return false;

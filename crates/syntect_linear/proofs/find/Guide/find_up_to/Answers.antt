@@ -15,6 +15,7 @@ pub starts-preserved : goal.starts-preserved
 starts-preserved c = record {
   within = omega (arith, c.starts-test.true);
   paid = omega (arith, paid-none _ c.starts.count.made c.begins_here.new.count.made _ c.if-branch.false c.in_ok-begins_here.ensures.steps, c.starts.invariant.paid);
+  rises = omega (arith, c.starts.invariant.rises, c.in_ok-begins_here.ensures.rises);
   later = omega (arith, c.starts.invariant.later);
   same = λ tree h.
       let s = c.args.text.now in

@@ -7,7 +7,7 @@ ghost use Rattle.syntect_pattern_table.specs.Table.{AreSpelt, node_tree};
 ghost use Rattle.syntect_plan.specs.Facts.{AreFacts};
 ghost use Rattle.syntect_plan.specs.Onward.{plain};
 ghost use Rattle.syntect_plan.specs.PlanOf.{IsPlanOf};
-ghost use Rattle.syntect_linear.specs.Rows.{AreBounds, AreSights, IsImage, flag_of, is_single, marked, single_end};
+ghost use Rattle.syntect_sights.specs.Sights.{AreBounds, AreSights, IsImage, flag_of, is_single, marked, single_end};
 
 use std::alloc::{AllocError, Global};
 use syntect_pattern_table::node::Node;
