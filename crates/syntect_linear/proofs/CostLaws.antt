@@ -7,7 +7,7 @@ use Rattle.syntect_pattern_table.specs.Program.{trees_of}
 use Rattle.syntect_pattern_laws.proofs.TurnLaws.{matches-forward}
 use Rattle.syntect_plan.specs.Onward.{is_calm, is_free}
 use Rattle.syntect_plan.specs.Cells.{cell_at, parts_at, item_tree}
-use Rattle.syntect_plan.specs.Plan.{IsPart, IsSequence, IsTurn, TurnIs}
+use Rattle.syntect_plan.specs.Plan.{IsPart, IsSequence}
 use Rattle.syntect_linear.specs.Ground.{IsGround}
 use Rattle.syntect_linear.specs.Step.{IsTreeAt}
 use Rattle.syntect_linear.specs.Walk.{Walks}

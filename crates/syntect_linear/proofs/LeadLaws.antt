@@ -1,16 +1,15 @@
 -- Whether a cell leads on.
-use Rattle.std.proofs.Common.{◌≡◌, ℕ, zero, suc, ◌-◌, ◌<◌, ◌≤◌, Bool, true, false, List, [], ◌∷◌, length, get_or, set, replicate, Option, Some, None, refl, sym, ap, subst, ◌∙◌, arith}
+use Rattle.std.proofs.Common.{◌≡◌, ℕ, ◌-◌, ◌<◌, Bool, true, false, List, length, get_or, set, replicate, Option, Some, None, refl, sym, ap, ◌∙◌, arith}
 use Rattle.std.specs.Prelude.{IfSome, is_some, unwrap_or, option_map, option_and_then, IsCharBoundary}
 use Rattle.std.specs.Option.{option_or}
 use Rattle.syntect_pattern.specs.Text.{char_at}
 use Rattle.syntect_pattern.specs.Sets.{Set, holds}
 use Rattle.syntect_pattern.specs.Trees.{one_of}
-use Rattle.syntect_pattern_table.specs.Program.{trees_of}
 use Rattle.syntect_ways.specs.Steps.{after_char}
 use Rattle.syntect_plan.specs.Cells.{cell_at}
 use Rattle.syntect_plan.specs.Onward.{prefer_end}
-use Rattle.syntect_linear.specs.Ground.{IsGround, IsIn, ends_at}
-use Rattle.syntect_linear.specs.Marks.{AreMarks, IsMarked, KnowsLeads}
+use Rattle.syntect_linear.specs.Ground.{IsIn, ends_at}
+use Rattle.syntect_linear.specs.Marks.{IsMarked, KnowsLeads}
 use Rattle.syntect_sights.specs.Sights.{row_flag}
 use Rattle.syntect_linear.specs.Step.{IsTreeAt}
 use Rattle.syntect_linear.specs.declared.ground.Ground.{Ground}

@@ -1,9 +1,6 @@
 -- Rows of marks.
-use Rattle.std.proofs.Common.{◌≡◌, ℕ, suc, ◌+◌, ◌-◌, ◌<◌, Bool, false, List, [], ◌∷◌, ◌++◌, length, map, get_or, Option, Some, None, sym, refl, zero, ap, subst, ◌∙◌, arith, inl, inr, length-append}
+use Rattle.std.proofs.Common.{◌≡◌, ℕ, suc, ◌+◌, ◌-◌, ◌<◌, Bool, false, List, [], ◌∷◌, ◌++◌, length, map, get_or, Option, None, sym, refl, zero, ap, ◌∙◌, arith}
 use Rattle.std.specs.Prelude.{IsCharBoundary, is_some}
-use Rattle.std.proofs.lemmas.Bool.{cases_lt}
-use Rattle.std.proofs.lemmas.List.{get_or_append_left}
-use Rattle.std.proofs.Math.Seq.{get_or-append_seam}
 use Rattle.std.proofs.Math.ListN as math
 use Rattle.std.proofs.lemmas.List.{length-map}
 use Rattle.syntect_pattern.specs.Trees.{Tree}

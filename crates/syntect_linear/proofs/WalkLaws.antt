@@ -1,5 +1,5 @@
 -- Along the match, part by part.
-use Rattle.std.proofs.Common.{◌≡◌, ℕ, suc, ◌+◌, ◌*◌, ◌-◌, ◌<◌, ◌≤◌, List, [], ◌∷◌, length, Bool, true, false, Option, Some, None, refl, sym, ap, subst, ◌∙◌, arith, inl, inr, ◌⊎◌}
+use Rattle.std.proofs.Common.{◌≡◌, ℕ, suc, ◌+◌, ◌*◌, ◌-◌, ◌<◌, ◌≤◌, List, [], ◌∷◌, Bool, true, false, Option, Some, None, refl, sym, ap, subst, ◌∙◌, arith, inl, inr, ◌⊎◌}
 use Rattle.std.specs.Prelude.{if◌then◌else◌, ◌==◌, is_some, slice_set, option_map, option_and_then, unwrap_or, IsUtf8, IsCharBoundary}
 use Rattle.std.specs.Option.{option_or}
 use Rattle.syntect_pattern.specs.Text.{char_at}
@@ -7,7 +7,7 @@ use Rattle.syntect_pattern.specs.Sets.{Set, holds}
 use Rattle.syntect_pattern.specs.Trees.{Anchor, Tree, nothing, one_of, anchor, alt, repeat, group, atomic, ahead, behind}
 use Rattle.syntect_pattern.specs.Matches.{Groups, Member, only_if, look, close, matches}
 use Rattle.syntect_pattern_table.specs.Program.{trees_of}
-use Rattle.syntect_plan.specs.Onward.{Onward, chosen, reaches, moved, reads, onward, is_free, is_bare, end_if}
+use Rattle.syntect_plan.specs.Onward.{Onward, chosen, reaches, moved, reads, onward, is_free, is_bare}
 use Rattle.syntect_plan.specs.Cells.{cell_at, parts_at, item_tree, is_end, tree_size}
 use Rattle.syntect_linear.specs.Ground.{IsGround, IsIn, ends_at}
 use Rattle.syntect_linear.specs.Step.{IsTreeAt}

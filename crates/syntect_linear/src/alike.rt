@@ -1,9 +1,9 @@
 //! Places of a text that are alike for a plan: the same character stands at both, the rows after it are equal, and anchors and
 //! lookbehinds hold at both or at neither. Their rows are equal then, so that one of them is enough.
-ghost use Rattle.std.specs.Prelude.{◌≡◌, ◌<◌, ℕ, IfSome, false, is_some, length, slice_index_or, true};
+ghost use Rattle.std.specs.Prelude.{◌≡◌, ◌<◌, ℕ, IfSome, false, is_some, length, true};
 ghost use Rattle.syntect_linear.specs.Alike as spec;
 ghost use Rattle.syntect_linear.specs.Alike.{AreAlike, IsLoose, IsSpot, SeesAlike};
-ghost use Rattle.syntect_linear.specs.Ground.{IsGround, IsIn, ends_at};
+ghost use Rattle.syntect_linear.specs.Ground.{IsIn, ends_at};
 ghost use Rattle.syntect_linear.specs.Marks.{IsMarked};
 ghost use Rattle.syntect_sights.specs.Sights.{row_flag};
 

@@ -1,5 +1,5 @@
 //! The rows of a text, from its end on.
-ghost use Rattle.std.specs.Prelude.{◌≡◌, ◌<◌, ◌≤◌, replicate, ◌+◌, ◌-◌, ◌*◌, ℕ, None, IfOk, OnOk, IsCharBoundary, List, length, slice_index_or};
+ghost use Rattle.std.specs.Prelude.{◌≡◌, ◌<◌, ◌≤◌, ◌+◌, ◌-◌, ◌*◌, ℕ, None, IfOk, OnOk, length, slice_index_or};
 ghost use Rattle.syntect_pattern_table.specs.Program.{trees_of};
 ghost use Rattle.syntect_linear.specs.Ground.{IsIn, IsReady, Knows, ends_at};
 ghost use Rattle.syntect_plan.specs.PlanOf.{IsPlanOf};

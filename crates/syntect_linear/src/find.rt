@@ -4,7 +4,7 @@ ghost use Rattle.std.specs.Prelude.{◌≡◌, ◌≤◌, ◌+◌, ◌*◌, ◌<
 ghost use Rattle.syntect_linear.specs.Finds.{Covers, FindsAt, FindsUpTo, groups_of};
 ghost use Rattle.syntect_linear.specs.Guide.{IsGuideIn};
 ghost use Rattle.syntect_plan.specs.PlanOf.{IsPlanOf};
-ghost use Rattle.syntect_linear.specs.Steps.{look_cost, step_weight, walk_cost};
+ghost use Rattle.syntect_linear.specs.Steps.{look_cost, walk_cost};
 ghost use Rattle.syntect_pattern.specs.Trees.{nothing};
 ghost use Rattle.syntect_pattern_table.specs.Program.{trees_of};
 

@@ -1,5 +1,5 @@
 //! The marks of a text, from its end on.
-ghost use Rattle.std.specs.Prelude.{◌≡◌, ◌<◌, ◌≤◌, ◌+◌, ◌*◌, ℕ, IfOk, IfSome, OnOk, None, false, true, is_some, length, replicate, slice_index_or, slice_set, Some};
+ghost use Rattle.std.specs.Prelude.{◌≡◌, ◌<◌, ◌≤◌, ◌+◌, ◌*◌, ℕ, IfOk, IfSome, OnOk, None, false, true, is_some, length, slice_index_or, Some};
 ghost use Rattle.syntect_pattern_table.specs.Program.{trees_of};
 ghost use Rattle.syntect_plan.specs.PlanOf.{IsPlanOf};
 ghost use Rattle.syntect_linear.specs.Alike.{IsLoose};

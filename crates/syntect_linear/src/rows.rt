@@ -1,5 +1,5 @@
 //! Rows of ends and of flags.
-ghost use Rattle.std.specs.Prelude.{◌≡◌, ◌-◌, length, option_and_then, slice_index_or, slice_set, None, Some};
+ghost use Rattle.std.specs.Prelude.{◌≡◌, ◌-◌, length, option_and_then, None, Some};
 ghost use Rattle.syntect_linear.specs.Rows as spec;
 ghost use Rattle.syntect_sights.specs.Sights.{row_flag};
 

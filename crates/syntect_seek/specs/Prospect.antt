@@ -1,5 +1,5 @@
 -- What is known of a pattern in a text in which it is tried at place after place.
-use Rattle.std.specs.Prelude.{◌≡◌, ℕ, ◌+◌, ◌<◌, ◌≤◌, List}
+use Rattle.std.specs.Prelude.{◌≡◌, ℕ, ◌+◌, ◌-◌, ◌^◌, ◌<◌, ◌≤◌, List}
 use Rattle.syntect_pattern.specs.Pattern.{pattern_found}
 use Rattle.syntect_seek.specs.declared.prospect.Prospect.{Prospect}
 

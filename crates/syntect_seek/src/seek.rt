@@ -1,7 +1,7 @@
 //! Searches whose steps are bounded: one that backs up too often goes on by the pattern's plan, which doesn't back up at all. From
 //! the text's end on it is worked out which cells of the plan lead to the end of a match, which tells of each place whether one
 //! begins there.
-ghost use Rattle.std.specs.Prelude.{◌≡◌, ◌≤◌, ◌<◌, ◌+◌, ◌*◌, ℕ, List, IfNone, IfOk, IfSome, OnOk, false, true, length, min};
+ghost use Rattle.std.specs.Prelude.{◌≡◌, ◌≤◌, ◌<◌, ◌+◌, ◌*◌, IfNone, IfOk, IfSome, OnOk, false, true, length, min};
 ghost use Rattle.syntect_pattern_reader.specs.Compiled.{IsCompiled};
 ghost use Rattle.syntect_plan.specs.Linear.{is_linear, most_cells};
 ghost use Rattle.syntect_plan.specs.Plan.{plan_cells};

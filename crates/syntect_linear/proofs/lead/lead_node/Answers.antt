@@ -1,4 +1,4 @@
-use Rattle.std.proofs.Common.{◌≡◌, ℕ, Bool, true, List, Option, None, get_or, ap, sym, ◌∙◌}
+use Rattle.std.proofs.Common.{◌≡◌, Bool, get_or, ap, sym, ◌∙◌}
 use Rattle.std.specs.Prelude.{is_some, if◌then◌else◌, not}
 use Rattle.std.specs.Option.{option_or}
 use Rattle.syntect_pattern.specs.Anchors.{anchor_of}

@@ -1,4 +1,4 @@
-use Rattle.std.proofs.Common.{◌≡◌, ◌∙◌, ap, arith, length}
+use Rattle.std.proofs.Common.{◌∙◌, ap, arith, length}
 use Rattle.std.proofs.lemmas.List.{length-set}
 use Rattle.syntect_linear.proofs.LeadLaws.{knows-none, knows-set}
 use Rattle.syntect_linear.proofs.StepsLaws.{none-length}

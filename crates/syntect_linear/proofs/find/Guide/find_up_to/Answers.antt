@@ -1,5 +1,5 @@
 use Rattle.std.proofs.Common.{◌≡◌, sym, ◌∙◌, ap, arith, Some, None, add-one, suc}
-use Rattle.syntect_pattern.specs.Matches.{found, found_at}
+use Rattle.syntect_pattern.specs.Matches.{found_at}
 use Rattle.syntect_linear.specs.Finds.{groups_of}
 use Rattle.syntect_linear.proofs.FindLaws.{found-here, found-step, found-past, paid-none, paid-match}
 use Rattle.syntect_linear.proofs.find.Guide.find_up_to.Goals as goal
