@@ -1,11 +1,11 @@
 -- From places that are alike the same cells lead on.
-use Rattle.std.proofs.Common.{◌≡◌, ℕ, zero, suc, ◌+◌, ◌-◌, ◌<◌, ◌≤◌, List, [], length, get_or, Bool, true, false, Option, Some, None, refl, sym, ap, subst, ◌∙◌, arith, inl, inr, ◌∷◌}
+use Rattle.std.proofs.Common.{◌≡◌, ℕ, zero, suc, ◌+◌, ◌-◌, ◌<◌, List, [], length, get_or, Bool, true, false, Option, Some, None, refl, sym, ap, subst, ◌∙◌, arith, inl, inr, ◌∷◌}
 use Rattle.std.specs.Prelude.{if◌then◌else◌, ◌==◌, ◌&&◌, ◌||◌, not, is_some, option_and_then, IsCharBoundary}
 use Rattle.std.proofs.lemmas.Bool.{cases_lt}
 use Rattle.std.specs.Option.{option_or}
 use Rattle.std.specs.Char.{len_utf8}
 use Rattle.syntect_pattern.specs.Text.{char_at}
-use Rattle.syntect_pattern.specs.Sets.{Set, holds}
+use Rattle.syntect_pattern.specs.Sets.{holds}
 use Rattle.syntect_pattern.specs.Matches.{stands, is_newline}
 use Rattle.syntect_pattern.specs.Trees.{Anchor, line_start, line_end, text_start, text_end, last_line_end, word_edge, no_word_edge, Tree, nothing, one_of, anchor, same, seq, alt, repeat, group, atomic, ahead, behind}
 use Rattle.syntect_pattern_table.specs.Program.{trees_of}
@@ -16,7 +16,7 @@ use Rattle.syntect_plan.proofs.CellLaws.{ends-end}
 use Rattle.syntect_linear.specs.Alike.{IsLoose, is_atomic, AreAlike, IsSpot, SeesAlike}
 use Rattle.syntect_linear.specs.Ground.{IsGround, IsIn, ends_at, height_of}
 use Rattle.syntect_linear.specs.Marks.{IsMarked}
-use Rattle.syntect_linear.specs.Rows.{row_flag}
+use Rattle.syntect_sights.specs.Sights.{row_flag}
 use Rattle.syntect_linear.specs.Step.{IsTreeAt}
 use Rattle.syntect_linear.specs.declared.alike.Spot.{Spot}
 use Rattle.syntect_linear.specs.declared.ground.Ground.{Ground}

@@ -13,6 +13,7 @@ use Rattle.syntect_plan.specs.Onward.{Onward, reaches, chosen, moved, is_free, i
 use Rattle.syntect_plan.proofs.ReachLaws.{chosen-append, some-chosen, reaches-ends, reaches-flat_map, chosen-flat_map, chosen-alike}
 use Rattle.syntect_plan.proofs.TreeLaws.{and_left, ends-matches, behind-matches}
 use Rattle.syntect_plan.proofs.OnwardLaws.{moved-at, moved-past, moved-same, Ahead, following, then-moved, turn-moved, leads, same-place, other-place, onward-alike, turn-leads, turn-room}
+use Rattle.syntect_sights.proofs.ChosenLaws.{chosen-leads}
 
 -- the match is the one that is chosen of these
 abbrev pub Chooses : Onward → List Member → Member → Type 0
@@ -149,15 +150,6 @@ module _ (s : List ℕ) (u : IsUtf8 s) where
   while-some None turn F o i g e = ap is_some e
   while-some (Some zero) turn F o i g e = refl
   while-some (Some (suc n)) turn F o i g e = ap is_some e
-
-  -- a member that is chosen leads on
-  pub chosen-leads : (F : Onward) (ms : List Member) (m : Member) → chosen F ms ≡ Some m → is_some (F m.0) ≡ true
-  chosen-leads F [] m e = cc
-  chosen-leads F (x ∷ ms) m e = by (chosen-leads F ms m) (F x.0) refl e
-    where
-      by : (chosen F ms ≡ Some m → is_some (F m.0) ≡ true) → (o : Option ℕ) → F x.0 ≡ o → (if is_some o then Some x else chosen F ms) ≡ Some m → is_some (F m.0) ≡ true
-      by more None f e = more e
-      by more (Some v) f e = let same : x ≡ m = cc in ap is_some (ap (λ (y : Member). F y.0) (sym same) ∙ f)
 
   module _ (greedy : Bool) (least : ℕ) (most : Option ℕ) (a : Tree) (free : (is_free a && is_calm a) ≡ true) (f g : Onward) (i : ℕ) (h : Groups) (c : IsCharBoundary s i) where
     -- the loop behind a turn

@@ -7,7 +7,7 @@ use Rattle.syntect_pattern_table.specs.Program.{trees_of}
 use Rattle.syntect_pattern_laws.proofs.TurnLaws.{matches-forward}
 use Rattle.syntect_plan.specs.Onward.{is_calm, is_free}
 use Rattle.syntect_plan.specs.Cells.{cell_at, parts_at, item_tree}
-use Rattle.syntect_plan.specs.Plan.{IsPart, IsSequence, IsTurn, TurnIs}
+use Rattle.syntect_plan.specs.Plan.{IsPart, IsSequence}
 use Rattle.syntect_linear.specs.Ground.{IsGround}
 use Rattle.syntect_linear.specs.Step.{IsTreeAt}
 use Rattle.syntect_linear.specs.Walk.{Walks}
@@ -17,7 +17,7 @@ use Rattle.syntect_plan.specs.declared.cells.Cell.{Cell}
 use Rattle.syntect_plan.proofs.TreeLaws.{and_left, and_right}
 use Rattle.syntect_linear.proofs.StepLaws.{step, free}
 use Rattle.syntect_linear.proofs.GroundLaws.{tree-on}
-use Rattle.syntect_linear.proofs.WalkLaws.{chosen-each}
+use Rattle.syntect_sights.proofs.ChosenLaws.{chosen-each}
 
 -- a walk goes on
 pub walks-on : (x : Ground) (k place : ℕ) (g : Groups) (end : ℕ) (h : Groups) → IsGround x place → Walks x k place g end h → (place ≤ end) × (end ≤ length x.text.now)

@@ -6,7 +6,6 @@ use Rattle.syntect_pattern.specs.Text.{is_boundary}
 use Rattle.syntect_pattern.specs.Trees.{Tree, nothing, group}
 use Rattle.syntect_pattern.specs.Matches.{Groups, Member, matches, unset, found_at, found_within, found}
 use Rattle.syntect_pattern_table.specs.Program.{trees_of, IsProgramOf}
-use Rattle.syntect_pattern_table.specs.declared.program.Program.{Program}
 use Rattle.syntect_plan.specs.Onward.{reaches, chosen, moved, is_free, onward}
 use Rattle.syntect_plan.specs.Cells.{cell_at, item_tree, is_end}
 use Rattle.syntect_plan.specs.Plan.{IsPart}
@@ -20,7 +19,6 @@ use Rattle.syntect_linear.proofs.ChosenLaws.{reaches-any, chosen-forward}
 use Rattle.syntect_plan.proofs.CellLaws.{ends-part, ends-end}
 use Rattle.syntect_linear.specs.Steps.{stay_cost, read_cost, walk_cost, look_cost, Costs}
 use Rattle.syntect_linear.proofs.CostLaws.{walks-on, costs-of}
-use Rattle.syntect_linear.proofs.GroundLaws.{ground-of}
 use Rattle.syntect_linear.proofs.WalkLaws.{part-chosen}
 
 pub covers-filled : (x : Ground) (marks : List (List Bool)) (begin place : ℕ) → Covers x marks begin → begin ≤ place → IsCharBoundary x.text.now place → IsFilled x marks place

@@ -1,5 +1,5 @@
 -- What a search stands on.
-use Rattle.std.proofs.Common.{◌≡◌, ℕ, zero, suc, [], ◌∷◌, ◌+◌, ◌-◌, ◌<◌, List, length, Bool, true, false, Option, Some, None, refl, sym, ap, subst, ◌∙◌, arith, set, get_or}
+use Rattle.std.proofs.Common.{◌≡◌, ℕ, zero, suc, ◌+◌, ◌-◌, ◌<◌, List, length, Bool, true, false, Option, Some, None, refl, sym, ap, subst, ◌∙◌, arith, set, get_or}
 use Rattle.std.specs.Prelude.{if◌then◌else◌, ◌==◌, not, is_some, IfSome, option_and_then, IsCharBoundary}
 use Rattle.std.specs.Option.{option_or}
 use Rattle.std.specs.Char.{len_utf8}
@@ -13,12 +13,14 @@ use Rattle.syntect_plan.proofs.OnwardLaws.{moved-at, moved-past}
 use Rattle.syntect_pattern.specs.Trees.{Anchor, Tree, nothing, one_of, anchor, seq, alt, repeat, group, atomic, ahead, behind}
 use Rattle.syntect_pattern_table.specs.Program.{trees_of}
 use Rattle.syntect_plan.specs.Cells.{cell_at, parts_at}
-use Rattle.syntect_linear.specs.Rows.{row_end, row_flag, ends_here}
+use Rattle.syntect_linear.specs.Rows.{row_end}
+use Rattle.syntect_sights.specs.Sights.{row_flag, ends_here}
 use Rattle.syntect_linear.specs.Ground.{IsGround, IsReady, IsIn, Knows, ends_at, height_of}
 use Rattle.syntect_linear.specs.Step.{IsTreeAt}
 use Rattle.syntect_linear.specs.declared.ground.Ground.{Ground}
 use Rattle.syntect_plan.specs.declared.cells.Cell.{Cell}
 use Rattle.syntect_plan.specs.declared.cells.Parts.{Parts}
+use Rattle.syntect_linear.proofs.RowLaws.{set-cases}
 use Rattle.syntect_linear.proofs.StepLaws.{IsAt, Below, free, g-inside, at-nothing, at-anchor, at-one_of, at-seq, at-alt, at-group, at-atomic, atomic-ends, atomic-empty, at-ahead, at-behind, at-repeat}
 
 pub ground-of : (x : Ground) (place : ℕ) → IsReady x place → IsGround x place
@@ -49,18 +51,9 @@ pub lower-at : (x : Ground) (k n m : ℕ) → m ≡ n → Lower x k n → Lower 
 lower-at x k n m e l = subst (λ (j : ℕ). Lower x k j) (sym e) l
 
 -- one more is known
-set-cases : (l : List (Option (Option ℕ))) (n j : ℕ) (v p : Option ℕ) (P : ℕ → Option ℕ → Type 0) → P n v → (get_or l j None ≡ Some p → P j p) → get_or (set l n (Some v)) j None ≡ Some p → P j p
-set-cases [] n j v p P h a q = a q
-set-cases (y ∷ l) zero zero v p P h a q = let same : v ≡ p = cc in subst (λ (w : Option ℕ). P zero w) same h
-set-cases (y ∷ l) zero (suc j) v p P h a q = a q
-set-cases (y ∷ l) (suc n) zero v p P h a q = a q
-set-cases (y ∷ l) (suc n) (suc j) v p P h a q = set-cases l n j v p (λ i w. P (suc i) w) h a q
-
 pub known-set : (x : Ground) (place k : ℕ) (now new : List (Option (Option ℕ))) (o : Option ℕ) → new ≡ set now k (Some o) → o ≡ ends_at x k place → Knows x place now → Knows x place new
-known-set x place k now new o e h a j p q = known-one now k o h (λ i v r. a i v r) j p (ap (λ (l : List (Option (Option ℕ))). get_or l j None) (sym e) ∙ q)
-  where
-    known-one : (l : List (Option (Option ℕ))) (n : ℕ) (v : Option ℕ) → v ≡ ends_at x n place → Knows x place l → Knows x place (set l n (Some v))
-    known-one l n v h a j p q = set-cases l n j v p (λ i w. w ≡ ends_at x i place) h (λ z. a j p z) q
+known-set x place k now new o e h a j p q =
+    set-cases now k j (Some o) p (λ i w. w ≡ ends_at x i place) h (λ z. a j p z) (ap (λ (l : List (Option (Option ℕ))). get_or l j None) (sym e) ∙ q)
 
 -- Where the whole match ends from a cell, by what its parts were reached with.
 module _ (x : Ground) (place k : ℕ) (r : IsGround x place) where

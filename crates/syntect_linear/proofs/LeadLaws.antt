@@ -1,20 +1,21 @@
 -- Whether a cell leads on.
-use Rattle.std.proofs.Common.{◌≡◌, ℕ, zero, suc, ◌-◌, ◌<◌, ◌≤◌, Bool, true, false, List, [], ◌∷◌, length, get_or, set, replicate, Option, Some, None, refl, sym, ap, subst, ◌∙◌, arith}
+use Rattle.std.proofs.Common.{◌≡◌, ℕ, ◌-◌, ◌<◌, Bool, true, false, List, length, get_or, set, replicate, Option, Some, None, refl, sym, ap, ◌∙◌, arith}
 use Rattle.std.specs.Prelude.{IfSome, is_some, unwrap_or, option_map, option_and_then, IsCharBoundary}
 use Rattle.std.specs.Option.{option_or}
 use Rattle.syntect_pattern.specs.Text.{char_at}
 use Rattle.syntect_pattern.specs.Sets.{Set, holds}
 use Rattle.syntect_pattern.specs.Trees.{one_of}
-use Rattle.syntect_pattern_table.specs.Program.{trees_of}
 use Rattle.syntect_ways.specs.Steps.{after_char}
 use Rattle.syntect_plan.specs.Cells.{cell_at}
 use Rattle.syntect_plan.specs.Onward.{prefer_end}
-use Rattle.syntect_linear.specs.Ground.{IsGround, IsIn, ends_at}
-use Rattle.syntect_linear.specs.Marks.{AreMarks, IsMarked, KnowsLeads}
-use Rattle.syntect_linear.specs.Rows.{row_flag}
+use Rattle.syntect_linear.specs.Ground.{IsIn, ends_at}
+use Rattle.syntect_linear.specs.Marks.{IsMarked, KnowsLeads}
+use Rattle.syntect_sights.specs.Sights.{row_flag}
 use Rattle.syntect_linear.specs.Step.{IsTreeAt}
 use Rattle.syntect_linear.specs.declared.ground.Ground.{Ground}
 use Rattle.syntect_linear.proofs.GroundLaws.{char-on, past-on, next-inside}
+use Rattle.syntect_linear.proofs.RowLaws.{set-cases}
+use Rattle.syntect_linear.proofs.StepsLaws.{none-known}
 
 -- an answer to the same
 pub same-lead : (r : Option Bool) (a b : Bool) → a ≡ b → IfSome r (λ l. l ≡ a) → IfSome r (λ l. l ≡ b)
@@ -61,33 +62,12 @@ char-leads x marks place k r a h n o q e b = by o e b ∙ sym (ap is_some (char-
         r.marks_are j n (let l = r.later in let w = b.0 in omega (arith, past, l, w)) b (next-inside x place k r.ground (one_of a) h n q)
 
 -- one more is known
-set-cases : (l : List (Option Bool)) (n j : ℕ) (v : Option Bool) (p : Bool) (P : ℕ → Bool → Type 0) → IfSome v (λ b. P n b) → (get_or l j None ≡ Some p → P j p) → get_or (set l n v) j None ≡ Some p → P j p
-set-cases [] n j v p P h a q = a q
-set-cases (y ∷ l) zero zero None p P h a q = cc
-set-cases (y ∷ l) zero zero (Some b) p P h a q = let same : b ≡ p = cc in subst (λ (w : Bool). P zero w) same h
-set-cases (y ∷ l) zero (suc j) v p P h a q = a q
-set-cases (y ∷ l) (suc n) zero v p P h a q = a q
-set-cases (y ∷ l) (suc n) (suc j) v p P h a q = set-cases l n j v p (λ i w. P (suc i) w) h a q
-
 pub knows-set : (x : Ground) (place k : ℕ) (here new : List (Option Bool)) (o : Option Bool) → new ≡ set here k o → IfSome o (λ b. b ≡ is_some (ends_at x k place)) → KnowsLeads x place here → KnowsLeads x place new
 knows-set x place k here new o e h a j p q =
     set-cases here k j o p (λ i w. w ≡ is_some (ends_at x i place)) h (λ z. a j p z) (ap (λ (l : List (Option Bool)). get_or l j None) (sym e) ∙ q)
 
 pub knows-none : (x : Ground) (place : ℕ) (here : List (Option Bool)) (n : ℕ) → here ≡ replicate n None → KnowsLeads x place here
-knows-none x place here n e k b q = absurd (no n k (ap (λ (l : List (Option Bool)). get_or l k None) (sym e) ∙ q))
-  where
-    no : (n k : ℕ) → get_or (replicate n None) k None ≡ Some b → ⊥
-    no zero zero q = cc
-    no zero (suc k) q = cc
-    no (suc n) zero q = cc
-    no (suc n) (suc k) q = no n k q
-
-pub none-long : (here : List (Option Bool)) (n : ℕ) → here ≡ replicate n None → length here ≡ n
-none-long here n e = ap length e ∙ long n
-  where
-    long : (n : ℕ) → length (replicate {A = Option Bool} n None) ≡ n
-    long zero = refl
-    long (suc n) = ap suc (long n)
+knows-none x place here n e k b q = absurd (none-known here n e k b q)
 
 -- what is known of all cells is a row
 pub row-leads : (x : Ground) (place : ℕ) (here : List (Option Bool)) (made : Option (List Bool)) → KnowsLeads x place here → length here ≡ length x.plan.now.cells

@@ -5,7 +5,6 @@ pub mod RowLaws
 pub mod WalkLaws
 pub mod SequenceLaws
 pub mod LoopLaws
-pub mod SightLaws
 pub mod FindLaws
 pub mod StepsLaws
 pub mod LeadLaws

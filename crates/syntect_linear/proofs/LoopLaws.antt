@@ -13,10 +13,11 @@ use Rattle.syntect_linear.specs.declared.ground.Ground.{Ground}
 use Rattle.syntect_plan.specs.declared.cells.Cell.{Cell}
 use Rattle.syntect_plan.specs.Plan.{IsTurn, TurnIs}
 use Rattle.syntect_plan.proofs.OnwardLaws.{moved-past}
-use Rattle.syntect_linear.proofs.ChosenLaws.{chosen-leads, chosen-forward, chosen-turn, chosen-empty, chosen-more, chosen-leave, turned}
+use Rattle.syntect_linear.proofs.ChosenLaws.{chosen-forward, chosen-turn, chosen-empty, chosen-more, chosen-leave, turned}
 use Rattle.syntect_linear.proofs.StepLaws.{IsAt, free, step, following-is, at-repeat, turn-ends}
 use Rattle.syntect_linear.proofs.GroundLaws.{tree-on, turn-if}
-use Rattle.syntect_linear.proofs.WalkLaws.{size_of, if-some, ground-on, CanWalk, can-walk, size-is, part-chosen, ends-forward, walks-by}
+use Rattle.syntect_linear.proofs.WalkLaws.{size_of, ground-on, CanWalk, can-walk, size-is, part-chosen, ends-forward, walks-by}
+use Rattle.syntect_sights.proofs.ChosenLaws.{chosen-leads, if-some}
 
 module _ (x : Ground) (k place : ℕ) (g : Groups) (filled : IsGround x place) (greedy : Bool) (least : ℕ) (most : Option ℕ) (a : Tree) (here : IsTreeAt x k (repeat greedy least most a)) where
   abbrev ts : List Tree
@@ -163,7 +164,7 @@ module _ (x : Ground) (k place : ℕ) (g : Groups) (filled : IsGround x place) (
       let fill = ground-on x place end filled on.1 in
       let is : m ≡ st.more = q ∙ st.first_is.cell.next_is in
       let some : is_some (ends_at x st.more end) ≡ true =
-      sym (ap is_some (moved-past place end (E f) (E st.more) past)) ∙ chosen-leads x.text.now u (moved place (E f) (E st.more)) (matches x.text.now a place g) (end, h) c in
+      sym (ap is_some (moved-past place end (E f) (E st.more) past)) ∙ chosen-leads (moved place (E f) (E st.more)) (matches x.text.now a place g) (end, h) c in
       let tree : item_tree ts (cell_at cells st.more).item ≡ rest = ap (item_tree ts) st.more_is.cell.item_is ∙ st.more_is.tree in
       let P : ℕ → Type 0 = λ j. TurnsTo j end h in
       subst P (sym is) (record {

@@ -1,35 +1,21 @@
 -- Rows of marks.
-use Rattle.std.proofs.Common.{◌≡◌, ℕ, suc, ◌+◌, ◌-◌, ◌<◌, Bool, false, List, [], ◌∷◌, ◌++◌, length, map, get_or, Option, Some, None, sym, refl, zero, ap, subst, ◌∙◌, arith, inl, inr, length-append}
+use Rattle.std.proofs.Common.{◌≡◌, ℕ, suc, ◌+◌, ◌-◌, ◌<◌, Bool, false, List, [], ◌∷◌, ◌++◌, length, map, get_or, Option, None, sym, refl, zero, ap, ◌∙◌, arith}
 use Rattle.std.specs.Prelude.{IsCharBoundary, is_some}
-use Rattle.std.proofs.lemmas.Bool.{cases_lt}
-use Rattle.std.proofs.lemmas.List.{get_or_append_left}
-use Rattle.std.proofs.Math.Seq.{get_or-append_seam}
 use Rattle.std.proofs.Math.ListN as math
 use Rattle.std.proofs.lemmas.List.{length-map}
 use Rattle.syntect_pattern.specs.Trees.{Tree}
 use Rattle.syntect_plan.specs.Cells.{ends}
+use Rattle.syntect_linear.proofs.RowLaws.{rows-more}
 use Rattle.syntect_linear.specs.Marks.{AreMarks}
-use Rattle.syntect_linear.specs.Rows.{AreRows, row_end, row_flag}
+use Rattle.syntect_linear.specs.Rows.{AreRows, row_end}
+use Rattle.syntect_sights.specs.Sights.{row_flag}
 use Rattle.syntect_plan.specs.declared.cells.Cell.{Cell}
 
 -- one row more, of the place before
 pub marks-push : (s : List ℕ) (ts : List Tree) (cells : List Cell) (marks new : List (List Bool)) (row : List Bool) (place : ℕ) → new ≡ marks ++ row ∷ []
     → length marks + place ≡ length s → AreMarks s ts cells marks
     → (IsCharBoundary s place → (k : ℕ) → k < length cells → get_or row k false ≡ is_some (ends s ts cells k place)) → AreMarks s ts cells new
-marks-push s ts cells marks new row place e at h here q k l c i =
-    let grown : length new ≡ length marks + 1 = ap length e ∙ length-append marks (row ∷ []) ∙ omega arith in
-    let within = c.0 in
-    ap (λ (x : List (List Bool)). row_flag x (length s - q) k) e
-    ∙ elim (cases_lt (length s - q) (length marks)) [
-      | inl a ↦ ap (λ (x : List Bool). get_or x k false) (get_or_append_left marks (row ∷ []) [] (length s - q) a) ∙ h q k a c i
-      | inr a ↦
-          let same : length s - q ≡ length marks = omega (arith, a, l, grown) in
-          let is : q ≡ place = omega (arith, same, at, within) in
-          let P : ℕ → Type 0 = λ j. get_or row k false ≡ is_some (ends s ts cells k j) in
-          ap (λ (x : ℕ). row_flag (marks ++ row ∷ []) x k) same
-          ∙ ap (λ (x : List Bool). get_or x k false) (get_or-append_seam marks row [] [])
-          ∙ subst P (sym is) (here (subst (λ (j : ℕ). IsCharBoundary s j) is c) k i)
-    ]
+marks-push s ts cells = rows-more false s (length cells) (λ k q. is_some (ends s ts cells k q))
 
 -- the marks of rows of ends
 flag-of-end : (rows : List (List (Option ℕ))) (row k : ℕ) → row_flag (map (λ r. map (λ e. is_some e) r) rows) row k ≡ is_some (row_end rows row k)

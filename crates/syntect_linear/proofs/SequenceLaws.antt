@@ -15,10 +15,11 @@ use Rattle.syntect_plan.specs.Plan.{IsPart, IsSequence}
 use Rattle.syntect_plan.proofs.TreeLaws.{behind-matches, and_right}
 use Rattle.syntect_plan.proofs.CellLaws.{either-bool}
 use Rattle.syntect_plan.proofs.OnwardLaws.{moved-at, moved-past, following, at-or-past, same-place, other-place}
-use Rattle.syntect_linear.proofs.ChosenLaws.{chosen-reads, chosen-leads, chosen-forward, chosen-seq, chosen-past_place}
+use Rattle.syntect_linear.proofs.ChosenLaws.{chosen-reads, chosen-forward, chosen-seq, chosen-past_place}
 use Rattle.syntect_linear.proofs.StepLaws.{IsAt, free, step, following-is, at-seq}
 use Rattle.syntect_linear.proofs.GroundLaws.{tree-on}
-use Rattle.syntect_linear.proofs.WalkLaws.{size_of, chosen-each, ground-on, CanWalk, can-walk, size-is, part-chosen, ends-forward, walks-by}
+use Rattle.syntect_linear.proofs.WalkLaws.{size_of, ground-on, CanWalk, can-walk, size-is, part-chosen, ends-forward, walks-by}
+use Rattle.syntect_sights.proofs.ChosenLaws.{chosen-each, chosen-leads}
 
 -- A cell that goes on at a later place.
 pub record GoesTo (x : Ground) (k place : ℕ) (g : Groups) (b : Tree) (m mid : ℕ) (h : Groups) : Type 0 where
@@ -109,7 +110,7 @@ module _ (x : Ground) (k place : ℕ) (g : Groups) (filled : IsGround x place) (
   seq-second m mid h w q =
       let c = part-chosen x k place g filled first a st.at st.behind_it mid h st.first_is w in
       let on = ends-forward x k place g filled a (moved place (E st.at) (E st.behind_it)) (mid, h) c in
-      let leads_on : is_some (moved place (E st.at) (E st.behind_it) mid) ≡ true = chosen-leads x.text.now u (moved place (E st.at) (E st.behind_it)) (matches x.text.now a place g) (mid, h) c in
+      let leads_on : is_some (moved place (E st.at) (E st.behind_it) mid) ≡ true = chosen-leads (moved place (E st.at) (E st.behind_it)) (matches x.text.now a place g) (mid, h) c in
       let all = chosen-seq x.text.now u a b fb (E f) (E n) place g (mid, h) filled.boundary (followed (mid, h) c) in
       let fill = ground-on x place mid filled on.1 in
       elim (at-or-past place mid on.0) [

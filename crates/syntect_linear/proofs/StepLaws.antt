@@ -11,7 +11,7 @@ use Rattle.syntect_ways.specs.Steps.{after_char}
 use Rattle.syntect_plan.specs.Onward.{Onward, moved, reads, is_free, onward, prefer_end, turn_end, end_if}
 use Rattle.syntect_plan.specs.Cells.{cell_at, parts_at, item_tree, is_end, tree_size, ends, height}
 use Rattle.syntect_plan.specs.Plan.{IsPart, IsSequence, IsTurn, TurnIs, LooksFor, IsStep, IsPlanned}
-use Rattle.syntect_linear.specs.Rows.{ends_here}
+use Rattle.syntect_sights.specs.Sights.{ends_here}
 use Rattle.syntect_plan.specs.declared.cells.Cell.{Cell}
 use Rattle.syntect_plan.specs.declared.cells.Parts.{Parts}
 use Rattle.syntect_plan.proofs.TreeLaws.{and_right}

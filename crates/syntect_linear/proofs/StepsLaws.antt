@@ -78,17 +78,17 @@ rows-least s c n place m0 m1 m2 e h k =
     go true r h k = let e : c * (r + 1) ≡ c * r + c = grind arith in omega arith
     go false r h k = let e : c * (r + 0) ≡ c * r = grind arith in omega arith
 
-pub none-length : (l : List (Option (Option ℕ))) (n : ℕ) → l ≡ replicate n None → length l ≡ n
-none-length l n e = ap length e ∙ long n
+pub none-length : {A : Type 0} (l : List (Option A)) (n : ℕ) → l ≡ replicate n None → length l ≡ n
+none-length {A} l n e = ap length e ∙ long n
   where
-    long : (n : ℕ) → length (replicate {A = Option (Option ℕ)} n None) ≡ n
+    long : (n : ℕ) → length (replicate {A = Option A} n None) ≡ n
     long zero = refl
     long (suc n) = ap suc (long n)
 
-pub none-known : (l : List (Option (Option ℕ))) (n : ℕ) → l ≡ replicate n None → (k : ℕ) (o : Option ℕ) → get_or l k None ≡ Some o → ⊥
-none-known l n e k o q = no n k (ap (λ (x : List (Option (Option ℕ))). get_or x k None) (sym e) ∙ q)
+pub none-known : {A : Type 0} (l : List (Option A)) (n : ℕ) → l ≡ replicate n None → (k : ℕ) (o : A) → get_or l k None ≡ Some o → ⊥
+none-known {A} l n e k o q = no n k (ap (λ (x : List (Option A)). get_or x k None) (sym e) ∙ q)
   where
-    no : (n k : ℕ) → get_or (replicate n None) k None ≡ Some o → ⊥
+    no : (n k : ℕ) → get_or (replicate {A = Option A} n None) k None ≡ Some o → ⊥
     no zero zero q = cc
     no zero (suc k) q = cc
     no (suc n) zero q = cc

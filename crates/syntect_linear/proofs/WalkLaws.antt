@@ -1,5 +1,5 @@
 -- Along the match, part by part.
-use Rattle.std.proofs.Common.{◌≡◌, ℕ, suc, ◌+◌, ◌*◌, ◌-◌, ◌<◌, ◌≤◌, List, [], ◌∷◌, length, Bool, true, false, Option, Some, None, refl, sym, ap, subst, ◌∙◌, arith, inl, inr, ◌⊎◌}
+use Rattle.std.proofs.Common.{◌≡◌, ℕ, suc, ◌+◌, ◌*◌, ◌-◌, ◌<◌, ◌≤◌, List, [], ◌∷◌, Bool, true, false, Option, Some, None, refl, sym, ap, subst, ◌∙◌, arith, inl, inr, ◌⊎◌}
 use Rattle.std.specs.Prelude.{if◌then◌else◌, ◌==◌, is_some, slice_set, option_map, option_and_then, unwrap_or, IsUtf8, IsCharBoundary}
 use Rattle.std.specs.Option.{option_or}
 use Rattle.syntect_pattern.specs.Text.{char_at}
@@ -7,7 +7,7 @@ use Rattle.syntect_pattern.specs.Sets.{Set, holds}
 use Rattle.syntect_pattern.specs.Trees.{Anchor, Tree, nothing, one_of, anchor, alt, repeat, group, atomic, ahead, behind}
 use Rattle.syntect_pattern.specs.Matches.{Groups, Member, only_if, look, close, matches}
 use Rattle.syntect_pattern_table.specs.Program.{trees_of}
-use Rattle.syntect_plan.specs.Onward.{Onward, chosen, reaches, moved, reads, onward, is_free, is_bare, end_if}
+use Rattle.syntect_plan.specs.Onward.{Onward, chosen, reaches, moved, reads, onward, is_free, is_bare}
 use Rattle.syntect_plan.specs.Cells.{cell_at, parts_at, item_tree, is_end, tree_size}
 use Rattle.syntect_linear.specs.Ground.{IsGround, IsIn, ends_at}
 use Rattle.syntect_linear.specs.Step.{IsTreeAt}
@@ -28,6 +28,7 @@ use Rattle.syntect_linear.proofs.ChosenLaws.{reaches-any, chosen-reads, chosen-s
 use Rattle.syntect_plan.proofs.ReachLaws.{reaches-chosen}
 use Rattle.syntect_linear.proofs.StepLaws.{IsAt, goes, free, step, part-goes, region, zero-ends, at-one_of, at-alt, at-group, at-atomic, at-ahead}
 use Rattle.syntect_linear.proofs.GroundLaws.{tree-on}
+use Rattle.syntect_sights.proofs.ChosenLaws.{chosen-each, if-some}
 
 -- how large the tree of a cell's item is
 abbrev pub size_of : Ground → ℕ → ℕ
@@ -57,14 +58,6 @@ loop-is x m greedy least less most fewer a e f h =
     let Q : Option ℕ → Type 0 = λ o. IsTreeAt x m (repeat greedy (least - 1) o a) in
     subst P (sym e) (subst Q (sym f) h)
 
-pub chosen-each : (P : Member → Type 0) (F : Onward) (ms : List Member) (m : Member) → Each P ms → chosen F ms ≡ Some m → P m
-chosen-each P F [] m e q = absurd cc
-chosen-each P F (y ∷ ms) m e q = by (chosen-each P F ms m e.1) (is_some (F y.0)) q
-  where
-    by : (chosen F ms ≡ Some m → P m) → (b : Bool) → (if b then Some y else chosen F ms) ≡ Some m → P m
-    by more true q = let same : y ≡ m = cc in subst P same e.0
-    by more false q = more q
-
 pub ground-on : (x : Ground) (place q : ℕ) → IsGround x place → IsCharBoundary x.text.now q → IsGround x q
 ground-on x place q h c = record { utf8 = h.utf8; plan_is = h.plan_is; sights_are = h.sights_are; boundary = c }
 
@@ -75,10 +68,6 @@ filled-on x marks place q h l c = record { ground = c; marks_are = h.marks_are; 
 pub then-some : (F : Onward) (o : Option ℕ) → is_some (option_and_then F o) ≡ true → (j : ℕ) × (o ≡ Some j) × (is_some (F j) ≡ true)
 then-some F None e = absurd cc
 then-some F (Some j) e = (j, refl, e)
-
-pub if-some : (b : Bool) (o : Option ℕ) → is_some (end_if b o) ≡ true → (b ≡ true) × (is_some o ≡ true)
-if-some true o e = (refl, e)
-if-some false o e = absurd cc
 
 module _ (x : Ground) (k place : ℕ) (g : Groups) (filled : IsGround x place) where
   abbrev s : List ℕ

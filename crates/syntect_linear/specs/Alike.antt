@@ -1,5 +1,5 @@
 -- Places of a text from which the same cells of a plan lead on.
-use Rattle.std.specs.Prelude.{◌≡◌, ℕ, ◌+◌, ◌-◌, ◌<◌, Bool, true, false, List, [], length, Some, slice_index_or, IsCharBoundary}
+use Rattle.std.specs.Prelude.{◌≡◌, ℕ, ◌+◌, ◌-◌, ◌<◌, Bool, true, false, List, length, Some, IsCharBoundary}
 use Rattle.std.specs.Char.{len_utf8}
 use Rattle.syntect_pattern.specs.Matches.{stands}
 use Rattle.syntect_pattern.specs.Text.{char_at}
@@ -7,7 +7,8 @@ use Rattle.syntect_pattern.specs.Trees.{Anchor, word_edge, line_start, Tree, ato
 use Rattle.syntect_pattern_table.specs.Program.{trees_of}
 use Rattle.syntect_plan.specs.Cells.{cell_tree}
 use Rattle.syntect_linear.specs.Ground.{IsIn}
-use Rattle.syntect_linear.specs.Rows.{row_flag}
+use Rattle.syntect_linear.specs.Marks.{row_at}
+use Rattle.syntect_sights.specs.Sights.{row_flag}
 use Rattle.syntect_linear.specs.declared.alike.Spot.{Spot}
 use Rattle.syntect_linear.specs.declared.ground.Ground.{Ground}
 
@@ -15,24 +16,28 @@ abbrev pub is_atomic : Tree → Bool
 is_atomic (atomic a) = true
 is_atomic _ = false
 
--- no cell of the plan is an atomic group
+-- the cell is an atomic group
+abbrev pub is_atomic_at : Ground → ℕ → Bool
+is_atomic_at x k = is_atomic (cell_tree (trees_of x.program.now) x.plan.now.cells k)
+
+-- no cell of the plan is one
 abbrev pub IsLoose : Ground → Type 0
-IsLoose x = (k : ℕ) → IsIn x k
-    → is_atomic (cell_tree (trees_of x.program.now) x.plan.now.cells k) ≡ false
+IsLoose x = (k : ℕ) → IsIn x k → is_atomic_at x k ≡ false
 
 -- lookbehinds hold at both places or at neither
 abbrev pub SeesAlike : Ground → ℕ → ℕ → Type 0
 SeesAlike x p q = (i : ℕ) → row_flag x.sights.now i p ≡ row_flag x.sights.now i q
 
--- the same character stands at both places, the rows after it are equal, and anchors and lookbehinds hold at both or at neither
+-- the same character stands at both places, the rows of the places after it are equal, and anchors and lookbehinds hold at both
+-- or at neither
 pub record AreAlike (x : Ground) (marks : List (List Bool)) (p q : ℕ) : Type 0 where
   pub c : ℕ
   pub here : char_at x.text.now p ≡ Some c
   pub there : char_at x.text.now q ≡ Some c
   pub here_on : IsCharBoundary x.text.now (p + len_utf8 c)
   pub there_on : IsCharBoundary x.text.now (q + len_utf8 c)
-  pub rows : slice_index_or marks (length x.text.now - (p + len_utf8 c)) []
-      ≡ slice_index_or marks (length x.text.now - (q + len_utf8 c)) []
+  pub rows : row_at marks (length x.text.now - (p + len_utf8 c))
+      ≡ row_at marks (length x.text.now - (q + len_utf8 c))
   pub anchors : (a : Anchor) → stands x.text.now a p ≡ stands x.text.now a q
   pub sights : SeesAlike x p q
 

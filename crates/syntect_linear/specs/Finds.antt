@@ -6,7 +6,7 @@ use Rattle.syntect_pattern_table.specs.Program.{trees_of, IsProgramOf}
 use Rattle.syntect_pattern_table.specs.declared.program.Program.{Program}
 use Rattle.syntect_plan.specs.PlanOf.{IsPlanOf}
 use Rattle.syntect_linear.specs.Marks.{AreMarks}
-use Rattle.syntect_linear.specs.Rows.{AreSights}
+use Rattle.syntect_sights.specs.Sights.{AreSights}
 use Rattle.syntect_linear.specs.declared.ground.Ground.{Ground}
 
 -- the groups of the match that was found, if one was

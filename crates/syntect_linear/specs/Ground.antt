@@ -3,7 +3,8 @@ use Rattle.std.specs.Prelude.{ℕ, ◌-◌, ◌<◌, ◌≤◌, List, length, Op
 use Rattle.syntect_pattern_table.specs.Program.{trees_of}
 use Rattle.syntect_plan.specs.Cells as cells
 use Rattle.syntect_plan.specs.PlanOf.{IsPlanOf}
-use Rattle.syntect_linear.specs.Rows.{AreRows, AreKnown, AreSights}
+use Rattle.syntect_linear.specs.Rows.{AreRows, AreKnown}
+use Rattle.syntect_sights.specs.Sights.{AreSights}
 use Rattle.syntect_linear.specs.declared.ground.Ground.{Ground}
 
 -- the plan is the program's, where lookbehinds hold in the text is known, and the place is before a character or at the end

@@ -3,7 +3,7 @@ use Rattle.std.specs.Prelude.{ℕ, List}
 use Rattle.syntect_pattern_table.specs.Program.{trees_of}
 use Rattle.syntect_plan.specs.PlanOf.{IsPlanOf}
 use Rattle.syntect_linear.specs.Marks.{AreMarks}
-use Rattle.syntect_linear.specs.Rows.{AreSights}
+use Rattle.syntect_sights.specs.Sights.{AreSights}
 use Rattle.syntect_linear.specs.declared.find.Guide.{Guide}
 
 -- the plan is the program's, and lookbehinds and marks are those of the text

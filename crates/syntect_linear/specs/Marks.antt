@@ -1,12 +1,16 @@
 -- From which cells the whole match ends anywhere.
-use Rattle.std.specs.Prelude.{◌≡◌, ℕ, ◌-◌, ◌<◌, ◌≤◌, Bool, List, length, Option, Some, None, slice_index_or, is_some, IsCharBoundary}
+use Rattle.std.specs.Prelude.{◌≡◌, ℕ, ◌-◌, ◌<◌, ◌≤◌, Bool, List, [], length, Option, Some, None, slice_index_or, is_some, IsCharBoundary}
 use Rattle.syntect_pattern.specs.Trees.{Tree}
 use Rattle.syntect_pattern_table.specs.Program.{trees_of}
 use Rattle.syntect_plan.specs.Cells.{ends}
 use Rattle.syntect_plan.specs.declared.cells.Cell.{Cell}
 use Rattle.syntect_linear.specs.Ground.{IsGround, ends_at}
-use Rattle.syntect_linear.specs.Rows.{row_flag}
+use Rattle.syntect_sights.specs.Sights.{row_flag}
 use Rattle.syntect_linear.specs.declared.ground.Ground.{Ground}
+
+-- the row with the number
+abbrev pub row_at : List (List Bool) → ℕ → List Bool
+row_at rows row = slice_index_or rows row []
 
 -- the rows, from that of the text's end on, mark the cells from which the whole match ends anywhere
 abbrev pub AreMarks : List ℕ → List Tree → List Cell → List (List Bool) → Type 0

@@ -1,13 +1,11 @@
 //! Places of a text that are alike for a plan: the same character stands at both, the rows after it are equal, and anchors and
 //! lookbehinds hold at both or at neither. Their rows are equal then, so that one of them is enough.
-ghost use Rattle.std.specs.Prelude.{◌≡◌, ◌<◌, ℕ, IfSome, false, is_some, length, slice_index_or, true};
+ghost use Rattle.std.specs.Prelude.{◌≡◌, ◌<◌, ℕ, IfSome, false, is_some, length, true};
 ghost use Rattle.syntect_linear.specs.Alike as spec;
 ghost use Rattle.syntect_linear.specs.Alike.{AreAlike, IsLoose, IsSpot, SeesAlike};
-ghost use Rattle.syntect_pattern_table.specs.Program.{trees_of};
-ghost use Rattle.syntect_plan.specs.Cells.{cell_tree};
-ghost use Rattle.syntect_linear.specs.Ground.{IsGround, IsIn, ends_at};
+ghost use Rattle.syntect_linear.specs.Ground.{IsIn, ends_at};
 ghost use Rattle.syntect_linear.specs.Marks.{IsMarked};
-ghost use Rattle.syntect_linear.specs.Rows.{row_flag};
+ghost use Rattle.syntect_sights.specs.Sights.{row_flag};
 
 use crate::ground::Ground;
 use crate::marks::Marks;
@@ -143,7 +141,7 @@ impl Seen {
 
 /// Whether the cell is an atomic group.
 fn is_atomic(ground: &Ground, cell: usize) -> bool
-    ensures { result ≡ spec.is_atomic (cell_tree (trees_of ground.now.program.now) ground.now.plan.now.cells cell) }
+    ensures { result ≡ spec.is_atomic_at ground.now cell }
 {
     let Item::Node(node) = cell_at(ground.plan.cells.as_slice(), cell).item else {
         return false;

@@ -1,12 +1,14 @@
 //! The rows of a text, from its end on.
-ghost use Rattle.std.specs.Prelude.{◌≡◌, ◌<◌, ◌≤◌, replicate, ◌+◌, ◌-◌, ◌*◌, ℕ, None, IfOk, OnOk, IsCharBoundary, List, length, slice_index_or};
+ghost use Rattle.std.specs.Prelude.{◌≡◌, ◌<◌, ◌≤◌, ◌+◌, ◌-◌, ◌*◌, ℕ, None, IfOk, OnOk, length, slice_index_or};
 ghost use Rattle.syntect_pattern_table.specs.Program.{trees_of};
 ghost use Rattle.syntect_linear.specs.Ground.{IsIn, IsReady, Knows, ends_at};
 ghost use Rattle.syntect_plan.specs.PlanOf.{IsPlanOf};
-ghost use Rattle.syntect_linear.specs.Rows.{AreRows, AreSights};
+ghost use Rattle.syntect_linear.specs.Rows.{AreRows};
+ghost use Rattle.syntect_sights.specs.Sights.{AreSights};
 ghost use Rattle.syntect_linear.specs.Steps.{stops, unknown};
 
 use crate::ground::{Ground, Known};
+use crate::known::nothing_known;
 use crate::reach::reach;
 use std::alloc::{AllocError, Global};
 use syntect_pattern_table::program::Program;
@@ -15,17 +17,6 @@ use syntect_plan::plan::Plan;
 use syntect_turns::count::TurnCount;
 use syntect_values::seq::Seq;
 use syntect_ways::text::is_boundary;
-
-/// Nothing is known of so many cells.
-fn nothing_known(alloc: Global, count: usize) -> Result<Known, AllocError>
-    ensures { IfOk result (λ now. now.items ≡ replicate count None) }
-{
-    let mut now = Vec::with_capacity(alloc, count)?;
-    for _cell in 0..count {
-        now.push(None)?;
-    }
-    Ok(now)
-}
 
 /// What is known of a place before anything is.
 fn known_of(

@@ -4,18 +4,18 @@ ghost use Rattle.std.specs.Prelude.{◌≡◌, ◌≤◌, ◌+◌, ◌*◌, ◌<
 ghost use Rattle.syntect_linear.specs.Finds.{Covers, FindsAt, FindsUpTo, groups_of};
 ghost use Rattle.syntect_linear.specs.Guide.{IsGuideIn};
 ghost use Rattle.syntect_plan.specs.PlanOf.{IsPlanOf};
-ghost use Rattle.syntect_linear.specs.Steps.{look_cost, step_weight, walk_cost};
+ghost use Rattle.syntect_linear.specs.Steps.{look_cost, walk_cost};
 ghost use Rattle.syntect_pattern.specs.Trees.{nothing};
 ghost use Rattle.syntect_pattern_table.specs.Program.{trees_of};
 
 use crate::ground::Ground;
 use crate::marking::marks_from;
 use crate::marks::Marks;
-use crate::sight::sights_of;
 use crate::walk::{Span, leads, walk};
 use std::alloc::{AllocError, Global};
 use syntect_pattern_table::program::Program;
 use syntect_plan::plan::Plan;
+use syntect_sights::sight::sights_of;
 use syntect_turns::count::TurnCount;
 use syntect_values::seq::Seq;
 use syntect_ways::text::is_boundary;
@@ -54,6 +54,8 @@ fn begins_here(
         + look_cost
         (slice_index_or (trees_of ground.now.program.now) ground.now.program.now.root nothing))
         * (length ground.now.text.now + 1) else 0)) }
+    ensures rises { OnOk result (count.old.made ≤ count.new.made) }
+    ensures counted { IfOk result (λ found. found ≡ true → count.old.made < count.new.made) }
 {
     if !is_boundary(ground.text, place) {
         return Ok(false);
@@ -121,6 +123,7 @@ impl Guide {
         ensures plan { self.new.plan ≡ self.old.plan }
         ensures steps { OnOk result (count.new.made ≤ count.old.made
             + 7 * length self.old.plan.cells * (length text.now + 1)) }
+        ensures rises { OnOk result (count.old.made ≤ count.new.made) }
     {
         let alloc = *self.sights.allocator();
         let sights = self.sights.as_slice();
@@ -156,6 +159,8 @@ impl Guide {
             (slice_index_or (trees_of self.now.program) self.now.program.root nothing)
             + look_cost (slice_index_or (trees_of self.now.program) self.now.program.root nothing))
             * (length text.now + 1)) }
+        ensures rises { OnOk result (count.old.made ≤ count.new.made) }
+        ensures counted { IfOk result (λ found. found ≡ true → count.old.made < count.new.made) }
     {
         if place > text.len() {
             return Ok(false);
@@ -190,6 +195,8 @@ impl Guide {
             (slice_index_or (trees_of self.now.program) self.now.program.root nothing)
             + look_cost (slice_index_or (trees_of self.now.program) self.now.program.root nothing))
             * (length text.now + 1)) }
+        ensures rises { OnOk result (count.old.made ≤ count.new.made) }
+        ensures counted { IfOk result (λ found. found ≡ true → count.old.made < count.new.made) }
     {
         let ground = Ground {
             program: &self.program,

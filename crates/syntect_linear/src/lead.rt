@@ -1,14 +1,16 @@
 //! Whether the whole match ends anywhere from a cell at a place, by what is known of the cells that it goes on with: of those at
 //! the place, and of all at later places. Where a match ends is not asked, so that atomic groups can't be told.
-ghost use Rattle.std.specs.Prelude.{◌≡◌, ◌-◌, IfSome, None, false, true, is_some, length, option_map, slice_index_or, unwrap_or};
+ghost use Rattle.std.specs.Prelude.{◌≡◌, ◌-◌, IfSome, false, true, is_some, length, option_map, unwrap_or};
+ghost use Rattle.std.specs.Option.{option_or};
 ghost use Rattle.syntect_pattern_table.specs.Table.{is_text};
 ghost use Rattle.syntect_plan.specs.Onward.{end_if};
 ghost use Rattle.syntect_linear.specs.Ground.{IsGround, IsIn, ends_at};
 ghost use Rattle.syntect_linear.specs.Marks.{IsMarked, KnowsLeads};
-ghost use Rattle.syntect_linear.specs.Rows.{row_flag};
+ghost use Rattle.syntect_sights.specs.Sights.{row_flag};
 ghost use Rattle.syntect_linear.specs.Step.{IsLoopAt, IsNodeAt};
 
 use crate::ground::Ground;
+use crate::known::known_at;
 use crate::marks::Marks;
 use crate::reach::{looks, may_turn};
 use crate::rows::flag_at;
@@ -17,24 +19,13 @@ use syntect_plan::cells::{Item, cell_at, parts_at};
 use syntect_ways::anchor::stands;
 use syntect_ways::past::{past_char, past_class};
 
-/// Whether the cell leads on, as far as it is known.
-#[inline]
-fn known_in(here: &[Option<bool>], cell: usize) -> Option<bool>
-    ensures { result ≡ slice_index_or here.now cell None }
-{
-    match here.get(cell) {
-        Some(known) => *known,
-        None => None,
-    }
-}
-
 /// Whether the whole match ends anywhere, if the cell goes on at the place, as far as it is known.
 #[inline]
 fn lead(ground: &Ground, here: &[Option<bool>], place: usize, cell: usize) -> Option<bool>
     requires { KnowsLeads ground.now place here.now }
     ensures { IfSome result (λ b. b ≡ is_some (ends_at ground.now cell place)) }
 {
-    known_in(here, cell)
+    known_at(here, cell)
 }
 
 /// The same where the test holds, and else it doesn't.
@@ -54,6 +45,24 @@ fn lead_if(
     } else {
         Some(false)
     }
+}
+
+/// The same of either of two cells.
+fn lead_either(
+    ground: &Ground,
+    here: &[Option<bool>],
+    place: usize,
+    first: usize,
+    second: usize,
+) -> Option<bool>
+    requires { KnowsLeads ground.now place here.now }
+    ensures { IfSome result (λ b. b
+        ≡ is_some (option_or (ends_at ground.now first place) (ends_at ground.now second place))) }
+{
+    if lead(ground, here, place, first)? {
+        return Some(true);
+    }
+    lead(ground, here, place, second)
 }
 
 /// The same of a later place, if there is one.
@@ -129,13 +138,7 @@ fn lead_node(
             lead_if(ground, here, place, at.empty, holds)
         }
         Node::Sequence(_, _) => lead(ground, here, place, parts.first),
-        Node::Alternation(_, _) => {
-            let first = lead(ground, here, place, parts.first)?;
-            if first {
-                return Some(true);
-            }
-            lead(ground, here, place, parts.second)
-        }
+        Node::Alternation(_, _) => lead_either(ground, here, place, parts.first, parts.second),
         Node::Repeat {
             greedy,
             least,

@@ -1,15 +1,16 @@
 //! The marks of a text, from its end on.
-ghost use Rattle.std.specs.Prelude.{◌≡◌, ◌<◌, ◌≤◌, ◌+◌, ◌*◌, ℕ, IfOk, IfSome, OnOk, None, false, true, is_some, length, replicate, slice_index_or, slice_set, Some};
+ghost use Rattle.std.specs.Prelude.{◌≡◌, ◌<◌, ◌≤◌, ◌+◌, ◌*◌, ℕ, IfOk, IfSome, OnOk, None, false, true, is_some, length, slice_index_or, Some};
 ghost use Rattle.syntect_pattern_table.specs.Program.{trees_of};
 ghost use Rattle.syntect_plan.specs.PlanOf.{IsPlanOf};
 ghost use Rattle.syntect_linear.specs.Alike.{IsLoose};
 ghost use Rattle.syntect_linear.specs.Ground.{IsIn, ends_at};
 ghost use Rattle.syntect_linear.specs.Marks.{AreMarks, IsMarked, KnowsLeads};
-ghost use Rattle.syntect_linear.specs.Rows.{AreSights};
+ghost use Rattle.syntect_sights.specs.Sights.{AreSights};
 
 use crate::alike::{Seen, is_loose};
 use crate::fill::rows_from;
 use crate::ground::Ground;
+use crate::known::{keep, nothing_known};
 use crate::lead::lead_by;
 use crate::marks::{Marks, marks_of};
 use std::alloc::{AllocError, Global};
@@ -19,26 +20,6 @@ use syntect_plan::plan::Plan;
 use syntect_turns::count::TurnCount;
 use syntect_values::seq::Seq;
 use syntect_ways::text::is_boundary;
-
-/// Nothing is known of so many cells.
-fn nothing_known(alloc: Global, count: usize) -> Result<Vec<Option<bool>>, AllocError>
-    ensures { IfOk result (λ here. here.items ≡ replicate count None) }
-{
-    let mut here = Vec::with_capacity(alloc, count)?;
-    for _cell in 0..count {
-        here.push(None)?;
-    }
-    Ok(here)
-}
-
-/// Keeps whether the cell leads on, if that is known.
-fn keep(here: &mut Vec<Option<bool>>, cell: usize, leads: Option<bool>)
-    ensures { here.new.items ≡ slice_set here.old.items cell leads }
-{
-    if cell < here.len() {
-        here[cell] = leads;
-    }
-}
 
 /// What is known of a place once each cell was asked, the lowest first.
 fn known_of(
@@ -122,6 +103,7 @@ fn mark_place(
     ensures there { IfOk result (λ told. told ≡ true → length marks.new ≡ length marks.old + 1) }
     ensures steps { OnOk result (count.new.made
         ≤ count.old.made + length ground.now.plan.now.cells) }
+    ensures rises { OnOk result (count.old.made ≤ count.new.made) }
 {
     if !is_boundary(ground.text, place) {
         marks.push(Seq::new(alloc))?;
@@ -158,6 +140,7 @@ fn marked_from(
         length marks + begin ≡ length text.now + 1)) }
     ensures steps { OnOk result (count.new.made
         ≤ count.old.made + length plan.now.cells * (length text.now + 1)) }
+    ensures rises { OnOk result (count.old.made ≤ count.new.made) }
 {
     let order = order_of(alloc, program, plan)?;
     let ground = Ground {
@@ -209,6 +192,7 @@ pub fn marks_from(
     ensures there { IfOk result (λ marks. length marks + begin ≡ length text.now + 1) }
     ensures steps { OnOk result (count.new.made
         ≤ count.old.made + 7 * length plan.now.cells * (length text.now + 1)) }
+    ensures rises { OnOk result (count.old.made ≤ count.new.made) }
 {
     if let Some(marks) = marked_from(alloc, program, plan, text, sights, begin, count)? {
         return Ok(marks);

@@ -1,6 +1,7 @@
 //! Which cells lead to the end of a match, at each place of a text from its end on. Equal rows are kept once.
-ghost use Rattle.std.specs.Prelude.{◌≡◌, ◌<◌, ◌≤◌, ◌++◌, ◌∷◌, [], ℕ, IfOk, OnOk, is_some, length, map, slice_index_or, true};
-ghost use Rattle.syntect_linear.specs.Rows as spec;
+ghost use Rattle.std.specs.Prelude.{◌≡◌, ◌<◌, ◌≤◌, ◌++◌, ◌∷◌, [], ℕ, IfOk, OnOk, is_some, length, map, true};
+ghost use Rattle.syntect_linear.specs.Marks.{row_at};
+ghost use Rattle.syntect_sights.specs.Sights.{row_flag};
 
 use std::alloc::{AllocError, Global};
 use std::marker::Model;
@@ -31,11 +32,11 @@ fn slot_of(row: &[bool]) -> usize
 impl Rows {
     /// Where the row stands, as it is put in if it is not seen there.
     fn place_of(&mut self, row: Seq<bool>) -> Result<usize, AllocError>
-        ensures found { IfOk result (λ i. slice_index_or self.new.rows.items i [] ≡ row) }
+        ensures found { IfOk result (λ i. row_at self.new.rows.items i ≡ row) }
         ensures within { IfOk result (λ i. i < length self.new.rows.items) }
         ensures grows { length self.old.rows.items ≤ length self.new.rows.items }
         ensures stays { (i : ℕ) → i < length self.old.rows.items
-            → slice_index_or self.new.rows.items i [] ≡ slice_index_or self.old.rows.items i [] }
+            → row_at self.new.rows.items i ≡ row_at self.old.rows.items i }
     {
         let slot = slot_of(row.as_slice());
         let at = self.slots[slot];
@@ -60,12 +61,13 @@ pub struct Marks {
 }
 
 impl Model for Marks {
-    ghost use Rattle.std.specs.Prelude.{List, [], Bool, ◌<◌, length, map, slice_index_or, true};
+    ghost use Rattle.std.specs.Prelude.{List, Bool, ◌<◌, length, map};
+    ghost use Rattle.syntect_linear.specs.Marks.{row_at};
     ghost use Rattle.std.specs.List.{All};
 
     ghost Value = { List (List Bool) };
 
-    ghost view = { λ m. map (λ i. slice_index_or m.rows.rows.items i []) m.places.items };
+    ghost view = { λ m. map (λ i. row_at m.rows.rows.items i) m.places.items };
 
     ghost invariant = { λ m. All (λ i. i < length m.rows.rows.items) m.places.items };
 }
@@ -103,7 +105,7 @@ impl Marks {
     /// The row once more.
     pub fn repeat(&mut self, row: usize) -> Result<(), AllocError>
         requires { row < length self.old }
-        ensures { OnOk result (self.new ≡ self.old ++ slice_index_or self.old row [] ∷ []) }
+        ensures { OnOk result (self.new ≡ self.old ++ row_at self.old row ∷ []) }
     {
         let place = self.places[row];
         self.places.push(place)?;
@@ -120,7 +122,7 @@ impl Marks {
 
     /// Whether both rows are known to be equal.
     pub fn are_same(&self, row: usize, other: usize) -> bool
-        ensures { result ≡ true → slice_index_or self.now row [] ≡ slice_index_or self.now other [] }
+        ensures { result ≡ true → row_at self.now row ≡ row_at self.now other }
     {
         match (self.places.get(row), self.places.get(other)) {
             (Some(place), Some(there)) => place == there,
@@ -131,7 +133,7 @@ impl Marks {
     /// Whether the cell leads on in the row.
     #[inline]
     pub fn leads(&self, row: usize, cell: usize) -> bool
-        ensures { result ≡ spec.row_flag self.now row cell }
+        ensures { result ≡ row_flag self.now row cell }
     {
         let Some(place) = self.places.get(row) else {
             return false;

@@ -7,7 +7,8 @@ ghost use Rattle.syntect_linear.specs.Steps.{Takes};
 ghost use Rattle.syntect_linear.specs.Step.{IsLoopAt, IsNodeAt};
 
 use crate::ground::{Ground, Known};
-use crate::rows::{end_at, end_from, flag_at, keep, known_at};
+use crate::known::{keep, known_at};
+use crate::rows::{end_at, end_from, flag_at};
 use syntect_pattern_table::node::Node;
 use syntect_plan::cells::{Item, cell_at, parts_at};
 use syntect_turns::count::TurnCount;
@@ -39,7 +40,7 @@ pub fn reach(
         return known;
     }
     let end = reach_item(ground, now, count, place, cell);
-    keep(now, cell, end);
+    keep(now, cell, Some(end));
     end
 }
 

@@ -1,6 +1,7 @@
 //! Rows of ends and of flags.
-ghost use Rattle.std.specs.Prelude.{◌≡◌, ◌-◌, length, option_and_then, slice_index_or, slice_set, None, Some};
+ghost use Rattle.std.specs.Prelude.{◌≡◌, ◌-◌, length, option_and_then, None, Some};
 ghost use Rattle.syntect_linear.specs.Rows as spec;
+ghost use Rattle.syntect_sights.specs.Sights.{row_flag};
 
 use syntect_values::seq::Seq;
 
@@ -21,7 +22,7 @@ pub fn end_at(rows: &[Seq<Option<usize>>], row: usize, cell: usize) -> Option<us
 /// The flag that the row has for the place.
 #[inline]
 pub fn flag_at(rows: &[Seq<bool>], row: usize, place: usize) -> bool
-    ensures { result ≡ spec.row_flag rows.now row place }
+    ensures { result ≡ row_flag rows.now row place }
 {
     let Some(flags) = rows.get(row) else {
         return false;
@@ -46,26 +47,5 @@ pub fn end_from(
     match place {
         Some(place) => end_at(rows, text.len().saturating_sub(place), cell),
         None => None,
-    }
-}
-
-/// What is known of the cell.
-#[inline]
-pub fn known_at(now: &[Option<Option<usize>>], cell: usize) -> Option<Option<usize>>
-    ensures { result ≡ slice_index_or now.now cell None }
-{
-    match now.get(cell) {
-        Some(known) => *known,
-        None => None,
-    }
-}
-
-/// Keeps what is known of the cell.
-#[inline]
-pub fn keep(now: &mut Vec<Option<Option<usize>>>, cell: usize, end: Option<usize>)
-    ensures { now.new.items ≡ slice_set now.old.items cell (Some end) }
-{
-    if cell < now.len() {
-        now[cell] = Some(end);
     }
 }

@@ -1,5 +1,5 @@
 //! The match that the marks lead along, without a step back.
-ghost use Rattle.std.specs.Prelude.{◌≡◌, suc, ◌&&◌, ◌==◌, not, is_some, slice_set, Some, true, false, if◌then◌else◌};
+ghost use Rattle.std.specs.Prelude.{◌≡◌, ◌≤◌, ◌<◌, suc, ◌&&◌, ◌==◌, not, is_some, slice_set, Some, true, false, if◌then◌else◌};
 ghost use Rattle.syntect_pattern_table.specs.Table.{is_text};
 ghost use Rattle.syntect_linear.specs.Ground.{IsIn, ends_at};
 ghost use Rattle.syntect_plan.specs.Onward.{end_if, has_turn};
@@ -56,6 +56,7 @@ pub fn walk(
     requires found { is_some (ends_at ground.now cell place) ≡ true }
     ensures walks { Walks ground.now cell place groups.old.items result groups.new.items }
     ensures steps { Costs ground.now cell place count.old.made result count.new.made }
+    ensures counted { count.old.made < count.new.made }
 {
     count.tick();
     let at = cell_at(ground.plan.cells.as_slice(), cell);
@@ -93,6 +94,7 @@ fn walk_node(
     requires found { is_some (ends_at ground.now cell place) ≡ true }
     ensures walks { Walks ground.now cell place groups.old.items result groups.new.items }
     ensures steps { Costs ground.now cell place count.old.made result (suc count.new.made) }
+    ensures rises { count.old.made ≤ count.new.made }
 {
     let parts = parts_at(ground.plan.parts.as_slice(), cell);
     match node {
@@ -194,6 +196,7 @@ fn walk_turns(
     requires found { is_some (ends_at ground.now cell place) ≡ true }
     ensures walks { Walks ground.now cell place groups.old.items result groups.new.items }
     ensures steps { Costs ground.now cell place count.old.made result (suc count.new.made) }
+    ensures rises { count.old.made ≤ count.new.made }
 {
     let mut at = place;
     let mut turn = cell;

@@ -1,19 +1,17 @@
 -- Where no match of a pattern begins.
-use Rattle.std.proofs.Common.{◌≡◌, ◌<◌, ◌||◌, ℕ, ◌+◌, Bool, true, false, List, length, get_or, Option, Some, None, refl, sym, subst, ◌∙◌, ap, arith, add-one, inl, inr}
+use Rattle.std.proofs.Common.{◌≡◌, ◌||◌, ℕ, ◌+◌, Bool, true, false, List, get_or, Option, Some, None, refl, sym, subst, ◌∙◌, ap, arith}
 use Rattle.std.specs.Prelude.{slice_get, option_and_then, option_map, if◌then◌else◌}
-use Rattle.std.proofs.lemmas.Bool.{cases_lt}
 use Rattle.std.proofs.lemmas.Option.{slice_get_within, get_or_from_slice_get}
 use Rattle.syntect_pattern.specs.Text.{is_boundary}
 use Rattle.syntect_pattern.specs.Trees.{Tree, nothing, group}
 use Rattle.syntect_pattern.specs.Matches.{Member, found, found_at, is_word_edge, matches, unset}
-use Rattle.syntect_pattern.specs.Pattern.{pattern_tree, pattern_found}
+use Rattle.syntect_pattern.specs.Pattern.{pattern_tree}
 use Rattle.syntect_pattern_table.specs.Program.{trees_of}
 use Rattle.syntect_pattern_table.specs.Starts.{is_in, reads, start_at, stays}
 use Rattle.syntect_pattern_table.specs.declared.program.Program.{Program}
 use Rattle.syntect_pattern_table.specs.declared.starts.Places.{Places}
 use Rattle.syntect_pattern_table.proofs.BeginLaws.{start-bound}
 use Rattle.syntect_pattern_table.proofs.StartLaws.{found_at-nothing}
-use Rattle.syntect_engine.proofs.FindLaws.{found-past, found-step}
 use Rattle.syntect_seek.proofs.NextLaws.{found-next, pattern-next}
 use Rattle.syntect_pattern_reader.specs.Compiled.{Compiles, IsCompiled}
 use Rattle.syntect_regex.specs.Begins.{BeginsAtEdges, IsAtEdges, NoneBeginsBefore, NoneBeginsOutside}

@@ -10,7 +10,6 @@ use Rattle.syntect_pattern_table.specs.Table.{IsOrdered, node_tree, parts_before
 use Rattle.syntect_pattern_table.proofs.BuilderLaws.{length-trees}
 use Rattle.syntect_pattern_table.proofs.TableLaws.{get_or-trees}
 use Rattle.syntect_regex.specs.Looks.{AreLooks, NoGroupBefore, is_group, joined, looked_at, met_in, met_before, marked, passed_on, own_mark}
-use Rattle.syntect_pattern.specs.Sets.{from_to}
 use Rattle.syntect_letters.specs.Letters.{letters_of, letters_tree}
 use Rattle.syntect_pattern_table.specs.declared.node.Node.{Node}
 

@@ -1,5 +1,5 @@
 -- What is kept of a pattern.
-use Rattle.std.proofs.Common.{◌≡◌, ℕ, zero, suc, Bool, List, Option, Some, None, get_or, sym, ap, ◌∙◌}
+use Rattle.std.proofs.Common.{ℕ, zero, suc, Bool, List, Option, Some, sym, ap, ◌∙◌}
 use Rattle.std.specs.Prelude.{option_and_then}
 use Rattle.syntect_pattern.specs.Trees.{Tree, group_in_look}
 use Rattle.syntect_pattern_reader.specs.Compiled.{IsCompiled}

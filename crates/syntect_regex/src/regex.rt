@@ -1,5 +1,5 @@
 //! Patterns.
-ghost use Rattle.std.specs.Prelude.{◌≡◌, ℕ, ◌+◌, ◌≤◌, length, ◌==◌, ◌++◌, encode_utf8_all, OnOk, take, drop, string_bytes, IfOk, OnErr, IfSome, IfNone, IsCharBoundary, is_some, is_ok, unwrap_or, option_and_then, if◌then◌else◌, None, true, false};
+ghost use Rattle.std.specs.Prelude.{◌≡◌, ℕ, ◌+◌, ◌≤◌, ◌<◌, length, ◌==◌, ◌++◌, encode_utf8_all, OnOk, take, drop, string_bytes, IfOk, OnErr, IfSome, IfNone, IsCharBoundary, is_some, is_ok, unwrap_or, option_and_then, if◌then◌else◌, None, true, false};
 ghost use Rattle.std.specs.Option.{option_copied};
 ghost use Rattle.std.specs.Cmp.Lexicographic.{pointwise};
 ghost use Rattle.std.proofs.Common.{rules};
@@ -278,7 +278,8 @@ impl Regex {
     /// pattern and the length of what is searched. A step is one of the search that backs up, which may read a stretch of
     /// characters or letters in a row at once, or one at a cell of the pattern's plan. What is passed over before a place where
     /// a match may begin isn't counted, nor are a plan's passes over the pattern's nodes, the ordering of its cells, and its
-    /// passes over the text for what lookbehinds look for.
+    /// passes over the text for what lookbehinds look for. The count never falls, and a search that finds something has counted
+    /// a step at least.
     pub fn search_counted(
         &self,
         text: &str,
@@ -297,6 +298,8 @@ impl Regex {
         ensures err { OnErr result (region.new ≡ region.old) }
         ensures steps { pattern_is_linear self.now ≡ true
             → OnOk result (count.new.made ≤ count.old.made + search_bound self.now end) }
+        ensures rises { OnOk result (count.old.made ≤ count.new.made) }
+        ensures counted { IfOk result (λ found. found ≡ true → count.old.made < count.new.made) }
     {
         syntect_pattern_laws::pattern_matches_are_laid_out();
         let Some(program) = self.program()? else {
@@ -342,6 +345,8 @@ impl Regex {
         ensures steps { pattern_is_linear self.now ≡ true
             → OnOk result (count.new.made
             ≤ count.old.made + search_bound self.now (length text.now)) }
+        ensures rises { OnOk result (count.old.made ≤ count.new.made) }
+        ensures counted { IfOk result (λ found. found ≡ true → count.old.made < count.new.made) }
     {
         let Some(program) = self.program()? else {
             return Ok(false);
@@ -378,6 +383,8 @@ impl Regex {
         ensures steps { pattern_is_linear self.now ≡ true
             → OnOk result (count.new.made
             ≤ count.old.made + search_bound self.now (length text.now)) }
+        ensures rises { OnOk result (count.old.made ≤ count.new.made) }
+        ensures counted { IfOk result (λ found. found ≡ true → count.old.made < count.new.made) }
     {
         let alloc = *self.body.text.allocator();
         let mut depths = Depths::new(alloc);
@@ -413,6 +420,8 @@ impl Regex {
         ensures steps { pattern_is_linear self.now ≡ true
             → OnOk result (count.new.made
             ≤ count.old.made + search_bound self.now (length text.now)) }
+        ensures rises { OnOk result (count.old.made ≤ count.new.made) }
+        ensures counted { IfOk result (λ found. found ≡ true → count.old.made < count.new.made) }
     {
         if known.rules_out(place) {
             return Ok(false);

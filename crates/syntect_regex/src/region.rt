@@ -1,5 +1,5 @@
 //! Where the groups of a match stand.
-ghost use Rattle.std.specs.Prelude.{◌≡◌, ◌≤◌, ◌↔◌, ℕ, List, true, [], IfOk, OnErr, OnOk, None, length, slice_index_or};
+ghost use Rattle.std.specs.Prelude.{◌≡◌, ◌≤◌, ◌<◌, ◌↔◌, ℕ, List, true, [], IfOk, OnErr, OnOk, None, length, slice_index_or};
 ghost use Rattle.syntect_pattern.specs.Matches.{Groups};
 ghost use Rattle.syntect_seek.specs.Bounds.{IsWithinBound};
 ghost use Rattle.syntect_pattern_reader.specs.Compiled.{IsCompiled};
@@ -93,6 +93,8 @@ impl Region {
         ensures err { OnErr result (self.new ≡ self.old) }
         ensures steps { OnOk result (IsWithinBound program.now size (length text.now)
             count.old.made count.new.made) }
+        ensures rises { OnOk result (count.old.made ≤ count.new.made) }
+        ensures counted { IfOk result (λ found. found ≡ true → count.old.made < count.new.made) }
     {
         let found = find(&mut self.search, program, size, text, begin, count)?;
         if found {
@@ -117,6 +119,8 @@ impl Region {
         ensures err { OnErr result (self.new ≡ self.old) }
         ensures steps { OnOk result (IsWithinBound program.now size (length text.now)
             count.old.made count.new.made) }
+        ensures rises { OnOk result (count.old.made ≤ count.new.made) }
+        ensures counted { IfOk result (λ found. found ≡ true → count.old.made < count.new.made) }
     {
         let is_found = find_up_to(&mut self.search, program, size, text, begin, last, count)?;
         if is_found {
@@ -147,6 +151,8 @@ impl Region {
         ensures err { OnErr result (self.new ≡ self.old) }
         ensures steps { OnOk result (IsWithinBound program.now (length pattern.now)
             (length text.now) count.old.made count.new.made) }
+        ensures rises { OnOk result (count.old.made ≤ count.new.made) }
+        ensures counted { IfOk result (λ found. found ≡ true → count.old.made < count.new.made) }
     {
         let search = &mut self.search;
         let is_here = begins_known(search, program, pattern, text, place, known, depths, count)?;

@@ -1,7 +1,6 @@
 -- What is known of a pattern in a text.
-use Rattle.std.proofs.Common.{ℕ, ◌<◌, ◌≤◌, List, None, sym}
+use Rattle.std.proofs.Common.{ℕ, List}
 use Rattle.syntect_pattern_reader.specs.Compiled.{IsCompiled}
-use Rattle.syntect_linear.specs.Finds.{FindsAt}
 use Rattle.syntect_pattern_table.specs.Program.{CannotBeginFrom}
 use Rattle.syntect_pattern_table.specs.declared.program.Program.{Program}
 use Rattle.syntect_seek.specs.Prospect.{NoneBeginsIn}
@@ -11,9 +10,3 @@ use Rattle.syntect_seek.proofs.NextLaws.{found-next, pattern-next}
 pub none_from : (s pattern : List ℕ) (p : Program) → IsCompiled pattern p → (from until : ℕ) → CannotBeginFrom s p from → NoneBeginsIn pattern s from until
 none_from s pattern p is from until none k a b =
     pattern-next s pattern is.tree k is.reads (found-next s is.tree k (none k a is.tree is.program))
-
--- one whose program finds nothing in a stretch begins nowhere in it
-pub none_found : (s pattern : List ℕ) (p : Program) → IsCompiled pattern p → (from until : ℕ) → ((k : ℕ) → from ≤ k → k < until → FindsAt s p k None)
-    → NoneBeginsIn pattern s from until
-none_found s pattern p is from until none k a b =
-    pattern-next s pattern is.tree k is.reads (found-next s is.tree k (sym (none k a b is.tree is.program)))

@@ -1,5 +1,5 @@
 -- What is known of a pattern in a text in which it is tried at place after place.
-use Rattle.std.specs.Prelude.{◌≡◌, ℕ, ◌+◌, ◌<◌, ◌≤◌, List}
+use Rattle.std.specs.Prelude.{◌≡◌, ℕ, ◌+◌, ◌-◌, ◌^◌, ◌<◌, ◌≤◌, List}
 use Rattle.syntect_pattern.specs.Pattern.{pattern_found}
 use Rattle.syntect_seek.specs.declared.prospect.Prospect.{Prospect}
 
@@ -8,6 +8,6 @@ abbrev pub NoneBeginsIn : List ℕ → List ℕ → ℕ → ℕ → Type 0
 NoneBeginsIn pattern s from until = (place : ℕ) → from ≤ place → place < until
     → pattern_found pattern s place ≡ pattern_found pattern s (place + 1)
 
--- what is known is true of the pattern in the text
+-- what is known is true of the pattern in the text: none begins from a place on, where that isn't the last number that is kept
 abbrev pub IsProspectOf : List ℕ → List ℕ → Prospect → Type 0
-IsProspectOf pattern s p = NoneBeginsIn pattern s p.from p.until
+IsProspectOf pattern s p = NoneBeginsIn pattern s p.from (2 ^ 64 - 1)

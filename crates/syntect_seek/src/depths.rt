@@ -1,5 +1,5 @@
 //! What is kept of patterns that backed up too often, while a text is read: their plans, with the marks of the text.
-ghost use Rattle.std.specs.Prelude.{◌≡◌, ◌≤◌, ◌+◌, ◌*◌, ℕ, List, IfNone, IfOk, IfSome, OnOk, Some, false, true, length, string_bytes};
+ghost use Rattle.std.specs.Prelude.{◌≡◌, ◌≤◌, ◌<◌, ◌+◌, ◌*◌, ℕ, List, IfNone, IfOk, IfSome, OnOk, Some, false, true, length, string_bytes};
 ghost use Rattle.syntect_pattern.specs.Trees.{Tree, group};
 ghost use Rattle.syntect_pattern.specs.Pattern.{pattern_tree};
 ghost use Rattle.syntect_pattern_reader.specs.Compiled.{IsCompiled};
@@ -106,6 +106,9 @@ impl Depths {
         ensures finds { (p : Program) → IsCompiled pattern.now p → IfOk result (λ told.
             IfSome told (λ found. FindsAt text.now p place (groups_of found groups.new.items))) }
         ensures none { IfOk result (λ told. IfNone told (count.new.made ≡ count.old.made)) }
+        ensures rises { OnOk result (count.old.made ≤ count.new.made) }
+        ensures counted { IfOk result (λ told. told ≡ Some true
+            → count.old.made < count.new.made) }
         ensures steps { (p : Program) → IsCompiled pattern.now p → OnOk result (count.new.made
             ≤ count.old.made + (walk_cost (root_tree p) + look_cost (root_tree p))
             * (length text.now + 1)) }

@@ -13,9 +13,8 @@ const FEW: usize = 16;
 /// or that its plan tells of the text. It is of one pattern in one text.
 #[derive(Clone, Copy)]
 pub struct Prospect {
-    /// The first place of the stretch, and the one behind its last.
+    /// No match begins from here on to the text's end: the greatest number where nothing of that is known.
     from: usize,
-    until: usize,
     met: Met,
     /// The greatest number before such a try, and 0 where the plan tells.
     left: usize,
@@ -28,8 +27,7 @@ impl Prospect {
         ensures { (pattern text : List ℕ) → IsProspectOf pattern text result }
     {
         Prospect {
-            from: 0,
-            until: 0,
+            from: usize::MAX,
             met: Met::new(),
             left: usize::MAX,
         }
@@ -38,10 +36,7 @@ impl Prospect {
     /// Whether something else is known than there.
     #[inline]
     pub fn differs(&self, other: &Prospect) -> bool {
-        self.met.differs(&other.met)
-            || self.from != other.from
-            || self.until != other.until
-            || self.left != other.left
+        self.met.differs(&other.met) || self.from != other.from || self.left != other.left
     }
 
     /// Whether it is known that no match begins at the place.
@@ -50,7 +45,7 @@ impl Prospect {
         ensures { result ≡ true → (pattern text : List ℕ) → IsProspectOf pattern text self.now
             → NoneBeginsIn pattern text place (place + 1) }
     {
-        self.from <= place && place < self.until
+        self.from <= place && place < usize::MAX
     }
 
     /// Whether what matches need stands at the place or behind it, as far as is known. Where it doesn't, that is known from
@@ -66,7 +61,6 @@ impl Prospect {
             return true;
         }
         self.from = place;
-        self.until = usize::MAX;
         false
     }
 

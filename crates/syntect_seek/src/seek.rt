@@ -1,7 +1,7 @@
 //! Searches whose steps are bounded: one that backs up too often goes on by the pattern's plan, which doesn't back up at all. From
 //! the text's end on it is worked out which cells of the plan lead to the end of a match, which tells of each place whether one
 //! begins there.
-ghost use Rattle.std.specs.Prelude.{◌≡◌, ◌≤◌, ◌+◌, ◌*◌, ℕ, List, IfNone, IfOk, IfSome, OnOk, false, length, min};
+ghost use Rattle.std.specs.Prelude.{◌≡◌, ◌≤◌, ◌<◌, ◌+◌, ◌*◌, IfNone, IfOk, IfSome, OnOk, false, true, length, min};
 ghost use Rattle.syntect_pattern_reader.specs.Compiled.{IsCompiled};
 ghost use Rattle.syntect_plan.specs.Linear.{is_linear, most_cells};
 ghost use Rattle.syntect_plan.specs.Plan.{plan_cells};
@@ -35,7 +35,7 @@ const TRIED_A_BYTE: usize = 8;
 
 const TRIED: usize = 2048;
 
-/// In how many it may for each byte of the pattern, as a plan takes long to make.
+/// In how many it may for each byte of the pattern, as a plan takes long to make, but in no more than the text has bytes.
 const STEPS_A_PLAN: usize = 16;
 
 /// How many bytes of the pattern count at most: as many as a plan has cells at most.
@@ -44,20 +44,22 @@ const MOST: usize = 40000;
 /// In how many steps a search of the text may back up for a pattern of so many bytes.
 #[inline]
 fn steps_in(size: usize, text: &str) -> usize
-    ensures { result ≤ length text.now * 64 + min size most_cells * 16 + 16384 }
+    ensures { result
+        ≤ length text.now * 64 + min size most_cells * min (length text.now) 16 + 16384 }
 {
     let bytes = text.len().saturating_mul(STEPS_A_BYTE);
-    let plan = size.min(MOST).saturating_mul(STEPS_A_PLAN);
+    let plan = size.min(MOST).saturating_mul(text.len().min(STEPS_A_PLAN));
     bytes.saturating_add(plan).saturating_add(STEPS)
 }
 
 /// The same of tries at place after place.
 #[inline]
 fn tried_steps_in(size: usize, text: &str) -> usize
-    ensures { result ≤ length text.now * 64 + min size most_cells * 16 + 16384 }
+    ensures { result
+        ≤ length text.now * 64 + min size most_cells * min (length text.now) 16 + 16384 }
 {
     let bytes = text.len().saturating_mul(TRIED_A_BYTE);
-    let plan = size.min(MOST).saturating_mul(STEPS_A_PLAN);
+    let plan = size.min(MOST).saturating_mul(text.len().min(STEPS_A_PLAN));
     bytes.saturating_add(plan).saturating_add(TRIED)
 }
 
@@ -77,6 +79,7 @@ fn guide_of(
     ensures hard { IfOk result (λ made. IfNone made (is_linear (root_tree program.now) ≡ false)) }
     ensures steps { OnOk result (count.new.made
         ≤ count.old.made + plan_cells (root_tree program.now)) }
+    ensures rises { OnOk result (count.old.made ≤ count.new.made) }
 {
     let spelt = spelt(alloc, program)?;
     match Plan::new(alloc, &spelt, count)? {
@@ -100,6 +103,8 @@ pub fn find(
         FindsGroups text.now program.now begin (groups_of found search.new)) }
     ensures steps { OnOk result (IsWithinBound program.now size (length text.now)
         count.old.made count.new.made) }
+    ensures rises { OnOk result (count.old.made ≤ count.new.made) }
+    ensures counted { IfOk result (λ found. found ≡ true → count.old.made < count.new.made) }
 {
     search.left = steps_in(size, text);
     match search.find(program, text, begin, true, count)? {
@@ -121,6 +126,8 @@ fn find_planned(
         FindsGroups text.now program.now begin (groups_of found search.new)) }
     ensures steps { OnOk result (IsWithinPlan program.now (length text.now)
         count.old.made count.new.made) }
+    ensures rises { OnOk result (count.old.made ≤ count.new.made) }
+    ensures counted { IfOk result (λ found. found ≡ true → count.old.made < count.new.made) }
 {
     if begin > text.len() {
         return Ok(false);
@@ -144,6 +151,8 @@ pub fn find_up_to(
         FindsUpTo text.now program.now begin last (groups_of found search.new)) }
     ensures steps { OnOk result (IsWithinBound program.now size (length text.now)
         count.old.made count.new.made) }
+    ensures rises { OnOk result (count.old.made ≤ count.new.made) }
+    ensures counted { IfOk result (λ found. found ≡ true → count.old.made < count.new.made) }
 {
     search.left = steps_in(size, text);
     match search.find_up_to(program, text, begin, last, true, count)? {
@@ -167,6 +176,8 @@ fn find_up_to_planned(
         FindsUpTo text.now program.now begin last (groups_of found search.new)) }
     ensures steps { OnOk result (IsWithinPlan program.now (length text.now)
         count.old.made count.new.made) }
+    ensures rises { OnOk result (count.old.made ≤ count.new.made) }
+    ensures counted { IfOk result (λ found. found ≡ true → count.old.made < count.new.made) }
 {
     let alloc = *search.frames.allocator();
     let Some(guide) = guide_of(alloc, program, text, count)? else {
@@ -193,6 +204,8 @@ fn find_marked(
         (linear.groups_of found search.new.groups.items)) }
     ensures steps { OnOk result (count.new.made ≤ count.old.made
         + step_weight (length guide.plan.cells) (root_tree guide.program) * (length text.now + 1)) }
+    ensures rises { OnOk result (count.old.made ≤ count.new.made) }
+    ensures counted { IfOk result (λ found. found ≡ true → count.old.made < count.new.made) }
 {
     if begin > text.len() {
         return Ok(false);
@@ -225,6 +238,8 @@ pub fn begins_known(
     ensures depths { OnOk result (AreDepthsIn text.now depths.new) }
     ensures steps { OnOk result (IsWithinBound program.now (length pattern.now) (length text.now)
         count.old.made count.new.made) }
+    ensures rises { OnOk result (count.old.made ≤ count.new.made) }
+    ensures counted { IfOk result (λ found. found ≡ true → count.old.made < count.new.made) }
 {
     if known.is_settled() {
         return begins_settled(search, program, pattern, text, place, known, depths, count);
@@ -252,6 +267,8 @@ fn begins_settled(
     ensures depths { OnOk result (AreDepthsIn text.now depths.new) }
     ensures steps { OnOk result (IsWithinBound program.now (length pattern.now) (length text.now)
         count.old.made count.new.made) }
+    ensures rises { OnOk result (count.old.made ≤ count.new.made) }
+    ensures counted { IfOk result (λ found. found ≡ true → count.old.made < count.new.made) }
 {
     if let Some(found) = depths.begins_at(pattern, text, place, &mut search.groups, count)? {
         return Ok(found);
@@ -281,6 +298,8 @@ fn begins_tried(
     ensures depths { OnOk result (AreDepthsIn text.now depths.new) }
     ensures steps { OnOk result (IsWithinBound program.now (length pattern.now) (length text.now)
         count.old.made count.new.made) }
+    ensures rises { OnOk result (count.old.made ≤ count.new.made) }
+    ensures counted { IfOk result (λ found. found ≡ true → count.old.made < count.new.made) }
 {
     let all = tried_steps_in(pattern.len(), text);
     let allowed = known.allowed(all);
@@ -321,6 +340,8 @@ fn begins_after(
     ensures depths { OnOk result (AreDepthsIn text.now depths.new) }
     ensures steps { OnOk result (IsWithinPlan program.now (length text.now)
         count.old.made count.new.made) }
+    ensures rises { OnOk result (count.old.made ≤ count.new.made) }
+    ensures counted { IfOk result (λ found. found ≡ true → count.old.made < count.new.made) }
 {
     if let Some(found) = depths.begins_at(pattern, text, place, &mut search.groups, count)? {
         known.settle();
@@ -349,6 +370,8 @@ fn begins_planned(
     ensures depths { OnOk result (AreDepthsIn text.now depths.new) }
     ensures steps { OnOk result (IsWithinPlan program.now (length text.now)
         count.old.made count.new.made) }
+    ensures rises { OnOk result (count.old.made ≤ count.new.made) }
+    ensures counted { IfOk result (λ found. found ≡ true → count.old.made < count.new.made) }
 {
     if depths.is_hard(pattern) {
         known.renew();
@@ -375,8 +398,10 @@ fn backs_up(
     place: usize,
     count: &mut TurnCount,
 ) -> Result<bool, AllocError>
-    ensures { IfOk result (λ found.
+    ensures finds { IfOk result (λ found.
         FindsAt text.now program.now place (groups_of found search.new)) }
+    ensures rises { OnOk result (count.old.made ≤ count.new.made) }
+    ensures counted { IfOk result (λ found. found ≡ true → count.old.made < count.new.made) }
 {
     match search.begins_at(program, text, place, false, count)? {
         Some(found) => Ok(found),
@@ -397,11 +422,14 @@ fn begins_marked(
     requires guides { IsGuideIn text.now guide }
     requires depths { AreDepthsIn text.now depths.old }
     ensures finds { IfOk result (λ found.
-        linear.FindsAt text.now guide.program place (linear.groups_of found search.new.groups.items)) }
+        linear.FindsAt text.now guide.program place
+        (linear.groups_of found search.new.groups.items)) }
     ensures depths { (p : AProgram) → IsCompiled pattern.now p → StandsFor p guide.program
         → OnOk result (AreDepthsIn text.now depths.new) }
     ensures steps { OnOk result (count.new.made ≤ count.old.made
         + step_weight (length guide.plan.cells) (root_tree guide.program) * (length text.now + 1)) }
+    ensures rises { OnOk result (count.old.made ≤ count.new.made) }
+    ensures counted { IfOk result (λ found. found ≡ true → count.old.made < count.new.made) }
 {
     if place > text.len() {
         return Ok(false);

@@ -1,5 +1,5 @@
 use Rattle.std.proofs.Common.{◌≡◌, ◌<◌, ℕ}
-use Rattle.syntect_linear.specs.Rows.{row_flag}
+use Rattle.syntect_sights.specs.Sights.{row_flag}
 use Rattle.syntect_linear.proofs.alike.sees_alike.Given as goal
 
 abbrev pub invariant-loop-row : goal.invariant-loop-row

@@ -1,4 +1,4 @@
-use Rattle.std.proofs.Common.{◌≡◌, ap, sym, ◌∙◌}
+use Rattle.std.proofs.Common.{ap, sym, ◌∙◌}
 use Rattle.std.specs.Prelude.{is_some}
 use Rattle.syntect_pattern.specs.Trees.{nothing}
 use Rattle.syntect_pattern_table.specs.Program.{trees_of}

@@ -1,4 +1,4 @@
-use Rattle.std.proofs.Common.{◌≡◌, ℕ, Bool, ap, sym, ◌∙◌}
+use Rattle.std.proofs.Common.{◌≡◌, Bool, ap, sym, ◌∙◌}
 use Rattle.std.specs.Prelude.{◌==◌, is_some}
 use Rattle.syntect_plan.specs.Onward.{end_if, has_turn}
 use Rattle.syntect_linear.specs.Ground.{ends_at}

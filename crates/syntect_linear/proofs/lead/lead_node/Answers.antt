@@ -1,5 +1,6 @@
-use Rattle.std.proofs.Common.{◌≡◌, ℕ, Bool, true, List, Option, None, get_or, ap, sym, ◌∙◌}
+use Rattle.std.proofs.Common.{◌≡◌, Bool, get_or, ap, sym, ◌∙◌}
 use Rattle.std.specs.Prelude.{is_some, if◌then◌else◌, not}
+use Rattle.std.specs.Option.{option_or}
 use Rattle.syntect_pattern.specs.Anchors.{anchor_of}
 use Rattle.syntect_pattern.specs.Sets.{range}
 use Rattle.syntect_pattern.specs.Trees.{nothing}
@@ -8,7 +9,7 @@ use Rattle.syntect_pattern_table.specs.Table.{node_tree, set_of}
 use Rattle.syntect_plan.specs.Onward.{end_if}
 use Rattle.syntect_linear.specs.Ground.{ends_at}
 use Rattle.syntect_linear.proofs.GroundLaws.{nothing-goes, anchor-goes, seq-goes, alt-goes, group-goes, ahead-goes, behind-goes, first-is, second-is, empty-is, next-is, tree-more}
-use Rattle.syntect_linear.proofs.LeadLaws.{same-lead, either-first, either-last, char-leads}
+use Rattle.syntect_linear.proofs.LeadLaws.{same-lead, char-leads}
 use Rattle.syntect_linear.proofs.lead.lead_node.Goals as goal
 
 pub returns-in-Nothing : goal.returns-in-Nothing
@@ -64,29 +65,14 @@ returns-in-Sequence c =
     let g = seq-goes x c.args.place c.args.cell c.requires.marked.ground (get_or ts c.in-Sequence.field-0 nothing) (get_or ts c.in-Sequence.field-1 nothing) (tree-more x c.args.cell _ _ (ap (node_tree ts) c.in-Sequence.is) c.requires.node) c.parts_at-parts.result.first first in
     same-lead c.lead-in-Sequence.result (is_some (ends_at x c.parts_at-parts.result.first c.args.place)) _ (ap is_some (sym g.0)) c.lead-in-Sequence.ensures
 
-pub returns-then-first : goal.returns-then-first
-returns-then-first c =
+pub returns-in-Alternation : goal.returns-in-Alternation
+returns-in-Alternation c =
     let x = c.args.ground.now in
     let ts = trees_of x.program.now in
     let first = first-is _ _ c.parts_at-parts.result c.args.cell c.parts_at-parts.ensures c.as_slice-2.ensures in
     let second = second-is _ _ c.parts_at-parts.result c.args.cell c.parts_at-parts.ensures c.as_slice-2.ensures in
-    let empty = empty-is _ _ c.cell_at-at.result c.args.cell c.cell_at-at.ensures c.as_slice.ensures in
-    let next = next-is _ _ c.cell_at-at.result c.args.cell c.cell_at-at.ensures c.as_slice.ensures in
     let g = alt-goes x c.args.place c.args.cell c.requires.marked.ground (get_or ts c.in-Alternation.field-0 nothing) (get_or ts c.in-Alternation.field-1 nothing) (tree-more x c.args.cell _ _ (ap (node_tree ts) c.in-Alternation.is) c.requires.node) c.parts_at-parts.result.first c.parts_at-parts.result.second first second in
-    let found : c.in_ok-first-in-Alternation.first ≡ is_some (ends_at x c.parts_at-parts.result.first c.args.place) = c.in_ok-first-in-Alternation.ensures in
-    either-first (ends_at x c.parts_at-parts.result.first c.args.place) (ends_at x c.parts_at-parts.result.second c.args.place) (sym found ∙ c.if-first.true) ∙ ap is_some (sym g.0)
-
-pub returns-else-first : goal.returns-else-first
-returns-else-first c =
-    let x = c.args.ground.now in
-    let ts = trees_of x.program.now in
-    let first = first-is _ _ c.parts_at-parts.result c.args.cell c.parts_at-parts.ensures c.as_slice-2.ensures in
-    let second = second-is _ _ c.parts_at-parts.result c.args.cell c.parts_at-parts.ensures c.as_slice-2.ensures in
-    let empty = empty-is _ _ c.cell_at-at.result c.args.cell c.cell_at-at.ensures c.as_slice.ensures in
-    let next = next-is _ _ c.cell_at-at.result c.args.cell c.cell_at-at.ensures c.as_slice.ensures in
-    let g = alt-goes x c.args.place c.args.cell c.requires.marked.ground (get_or ts c.in-Alternation.field-0 nothing) (get_or ts c.in-Alternation.field-1 nothing) (tree-more x c.args.cell _ _ (ap (node_tree ts) c.in-Alternation.is) c.requires.node) c.parts_at-parts.result.first c.parts_at-parts.result.second first second in
-    let found : c.in_ok-first-in-Alternation.first ≡ is_some (ends_at x c.parts_at-parts.result.first c.args.place) = c.in_ok-first-in-Alternation.ensures in
-    same-lead c.lead-in-Alternation-2.result (is_some (ends_at x c.parts_at-parts.result.second c.args.place)) _ (either-last (ends_at x c.parts_at-parts.result.first c.args.place) (ends_at x c.parts_at-parts.result.second c.args.place) (sym found ∙ c.if-first.false) ∙ ap is_some (sym g.0)) c.lead-in-Alternation-2.ensures
+    same-lead c.lead_either.result (is_some (option_or (ends_at x c.parts_at-parts.result.first c.args.place) (ends_at x c.parts_at-parts.result.second c.args.place))) _ (ap is_some (sym g.0)) c.lead_either.ensures
 
 pub returns-in-Group : goal.returns-in-Group
 returns-in-Group c =

@@ -1,4 +1,4 @@
-use Rattle.std.proofs.Common.{◌≡◌, ◌∙◌, ap, sym, subst, ℕ, List, Bool, Option, None, Some, false, get_or, length, ◌<◌}
+use Rattle.std.proofs.Common.{◌≡◌, subst, ℕ, List, Bool, Option, None, Some, false, get_or, length, ◌<◌}
 use Rattle.std.specs.Prelude.{IfSome}
 use Rattle.std.proofs.lemmas.Result.{IfOk-weaker}
 use Rattle.syntect_linear.proofs.LeadLaws.{row-leads}

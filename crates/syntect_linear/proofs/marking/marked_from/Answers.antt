@@ -1,11 +1,4 @@
-use Rattle.std.proofs.Common.{◌≡◌, ◌≤◌, ◌*◌, ◌+◌, ◌-◌, ◌<◌, ℕ, length, get_or, Bool, Option, List, Some, ap, sym, subst, ◌∙◌, arith, ◌∷◌, [], length-append, true, false, mul-le-mul_left}
-use Rattle.std.specs.Prelude.{IsCharBoundary, IfSome, is_some}
-use Rattle.syntect_pattern_table.specs.Program.{trees_of}
-use Rattle.syntect_plan.specs.Cells.{ends}
-use Rattle.syntect_ways.proofs.BoundaryLaws.{true-boundary}
-use Rattle.syntect_turns.specs.declared.count.TurnCount.{TurnCount}
-use Rattle.syntect_linear.proofs.StepsLaws.{rows-cost}
-use Rattle.syntect_linear.proofs.MarkLaws.{marks-push}
+use Rattle.std.proofs.Common.{◌≤◌, ◌+◌, ◌-◌, length, arith, mul-le-mul_left}
 use Rattle.syntect_linear.proofs.marking.marked_from.Goals as goal
 
 pub returns-clause-steps : goal.returns-clause-steps

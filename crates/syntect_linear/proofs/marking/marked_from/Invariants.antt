@@ -8,6 +8,7 @@ invariant-places l = record {
   marks_are : AreMarks l.text (trees_of l.program) l.plan.cells l.marks;
   there : length l.marks + (l.begin + l.left) ≡ length l.text + 1;
   paid : l.count.made ≤ l.initial.count.made + length l.plan.cells * length l.marks;
+  rises : l.initial.count.made ≤ l.count.made;
 }
 
 abbrev pub decreases-places : goal.decreases-places

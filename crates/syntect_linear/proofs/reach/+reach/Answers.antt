@@ -362,7 +362,7 @@ reach_item-returns-in-End-clause-value t c =
 
 pub reach-returns-clause-known : goal.reach-returns-clause-known
 reach-returns-clause-known t c =
-    known-set c.args.ground.now c.args.place c.args.cell c.reach_item-end.new.now.items c.keep.new.now.items c.reach_item-end.result c.keep.ensures
+    known-set c.args.ground.now c.args.place c.args.cell c.reach_item-end.new.now.items c.keep.new.known.items c.reach_item-end.result c.keep.ensures
     c.reach_item-end.ensures.value c.reach_item-end.ensures.known
 
 pub reach_node-returns-in-Sequence-clause-steps : goal.reach_node-returns-in-Sequence-clause-steps
@@ -516,6 +516,6 @@ reach_item-returns-in-None-clause-steps t c =
 pub reach-returns-clause-steps : goal.reach-returns-clause-steps
 reach-returns-clause-steps t c =
     let x = c.args.ground.now in
-    takes-keep x c.args.cell c.args.now.now.items c.reach_item-end.new.now.items c.keep.new.now.items c.args.count.now.made c.tick.new.self.made c.reach_item-end.new.count.made c.reach_item-end.result
+    takes-keep x c.args.cell c.args.now.now.items c.reach_item-end.new.now.items c.keep.new.known.items c.args.count.now.made c.tick.new.self.made c.reach_item-end.new.count.made c.reach_item-end.result
     c.tick.ensures c.reach_item-end.ensures.steps
     (ap (λ (l : List (Option (Option ℕ))). get_or l c.args.cell None) (sym c.as_slice.ensures.value) ∙ sym c.known_at.ensures ∙ none-if c.known_at.result c.in_default.not-Some) (omega (arith, c.requires.cell, c.requires.long)) c.keep.ensures

@@ -280,6 +280,7 @@ walk_turns-turns-preserved t c =
     let v = subst (λ (l : ℕ). c.walk-end.new.count.made ≤ c.turns.count.made + (stay_cost i.goes.body + read_cost i.goes.body * (c.walk-end.result - c.turns.at) + l * (suc (length x.text.now)))) i.goes.calm u in
     record {
       filled = filled-on x c.args.marks.now c.turns.at c.walk-end.result i.filled (omega (arith, n.later)) n.filled_there;
+      rises = omega (arith, i.rises, c.walk-end.ensures.counted);
       goes = record {
         body = i.goes.body;
         is_loop = loop-is x c.follows-turn.result c.args.greedy c.turns.least c.saturating_sub-least.result c.turns.most c.one_less-most.result i.goes.body c.saturating_sub-least.ensures c.one_less-most.ensures n.is_loop;
@@ -482,6 +483,7 @@ walk_turns-turns-init t c =
     let x = c.args.ground.now in
     record {
       filled = c.requires.filled;
+      rises = omega arith;
       goes = record {
         body = c.requires.turns.body;
         is_loop = c.requires.turns.at;

@@ -4,7 +4,7 @@ use Rattle.syntect_pattern_table.specs.Program.{IsProgramOf}
 use Rattle.syntect_pattern_table.specs.declared.program.Program.{Program}
 use Rattle.syntect_linear.specs.Steps.{look_cost, walk_cost}
 use Rattle.syntect_linear.proofs.FindLaws.{found_at-between}
-use Rattle.syntect_linear.proofs.SightLaws.{false-bound}
+use Rattle.syntect_sights.proofs.SightLaws.{false-bound}
 use Rattle.syntect_seek.specs.Bounds.{root_tree}
 use Rattle.syntect_seek.specs.Depths.{IsDepthOf}
 use Rattle.syntect_seek.specs.declared.depths.Depth.{Depth}

@@ -1,6 +1,6 @@
 use Rattle.std.proofs.Common.{arith}
 use Rattle.syntect_linear.proofs.FindLaws.{found_at-between}
-use Rattle.syntect_linear.proofs.SightLaws.{false-bound}
+use Rattle.syntect_sights.proofs.SightLaws.{false-bound}
 use Rattle.syntect_linear.proofs.find.Guide.begins_at.Goals as goal
 
 pub returns-then-place-text-clause-finds : goal.returns-then-place-text-clause-finds

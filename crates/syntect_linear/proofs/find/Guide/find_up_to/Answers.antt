@@ -1,5 +1,5 @@
 use Rattle.std.proofs.Common.{◌≡◌, sym, ◌∙◌, ap, arith, Some, None, add-one, suc}
-use Rattle.syntect_pattern.specs.Matches.{found, found_at}
+use Rattle.syntect_pattern.specs.Matches.{found_at}
 use Rattle.syntect_linear.specs.Finds.{groups_of}
 use Rattle.syntect_linear.proofs.FindLaws.{found-here, found-step, found-past, paid-none, paid-match}
 use Rattle.syntect_linear.proofs.find.Guide.find_up_to.Goals as goal
@@ -15,6 +15,7 @@ pub starts-preserved : goal.starts-preserved
 starts-preserved c = record {
   within = omega (arith, c.starts-test.true);
   paid = omega (arith, paid-none _ c.starts.count.made c.begins_here.new.count.made _ c.if-branch.false c.in_ok-begins_here.ensures.steps, c.starts.invariant.paid);
+  rises = omega (arith, c.starts.invariant.rises, c.in_ok-begins_here.ensures.rises);
   later = omega (arith, c.starts.invariant.later);
   same = λ tree h.
       let s = c.args.text.now in

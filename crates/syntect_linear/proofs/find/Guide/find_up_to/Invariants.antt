@@ -8,6 +8,7 @@ abbrev pub invariant-starts : goal.invariant-starts
 invariant-starts l = record {
   within : l.place ≤ suc l.fn.last;
   paid : l.count.made ≤ l.initial.count.made;
+  rises : l.initial.count.made ≤ l.count.made;
   later : l.begin ≤ l.place;
   same : (tree : Tree) → IsProgramOf l.self.program tree → found l.text tree l.place ≡ found l.text tree l.begin;
 }

@@ -1,4 +1,4 @@
-use Rattle.std.proofs.Common.{◌≡◌, ◌∙◌, ◌++◌, ◌∷◌, [], List, ap, sym, subst}
+use Rattle.std.proofs.Common.{List, sym, subst}
 use Rattle.syntect_seek.specs.Depths.{AreDepthsIn}
 use Rattle.syntect_seek.specs.declared.depths.Depth.{Depth}
 use Rattle.syntect_seek.proofs.DepthLaws.{one-more}

@@ -15,12 +15,11 @@ use Rattle.std.proofs.lemmas.Str.{IsCharBoundary-start}
 use Rattle.syntect_ways.specs.Steps.{after_char}
 use Rattle.syntect_ways.proofs.BoundaryLaws.{boundary-true, true-boundary}
 use Rattle.syntect_plan.specs.Onward.{Onward, reaches, chosen, onward, end_if, is_free, plain}
-use Rattle.syntect_linear.specs.Rows.{only_at, leads_to, flag_of, row_flag, IsImage, AreBounds, marked, is_single, single_end, ends_here}
+use Rattle.syntect_sights.specs.Sights.{only_at, leads_to, flag_of, row_flag, IsImage, AreBounds, marked, is_single, single_end, ends_here}
 use Rattle.syntect_plan.proofs.ReachLaws.{chosen-some}
 use Rattle.syntect_plan.proofs.TreeLaws.{and_right, plain-free}
 use Rattle.syntect_plan.proofs.OnwardLaws.{onward-nothing, onward-one_of, onward-anchor, onward-alt, onward-then, first-ends}
-use Rattle.syntect_linear.proofs.ChosenLaws.{chosen-leads}
-use Rattle.syntect_linear.proofs.WalkLaws.{chosen-each, if-some}
+use Rattle.syntect_sights.proofs.ChosenLaws.{chosen-each, chosen-leads, if-some}
 
 -- -- Trees without parts
 
@@ -203,7 +202,7 @@ module _ (s : List ℕ) (u : IsUtf8 s) where
   unfolding leads_to onward
   leads-forward t q j c e =
       let m = chosen-some (only_at j) (matches s t q []) e in
-      let at = is-place m.0.0 j (chosen-leads s u (only_at j) (matches s t q []) m.0 m.1) in
+      let at = is-place m.0.0 j (chosen-leads (only_at j) (matches s t q []) m.0 m.1) in
       let P : ℕ → Type 0 = λ i. (q ≤ i) × IsCharBoundary s i in
       subst P at (chosen-each (λ y. (q ≤ y.0) × IsCharBoundary s y.0) (only_at j) (matches s t q []) m.0 (matches-forward s u t q [] c) m.1)
 
@@ -215,7 +214,7 @@ module _ (s : List ℕ) (u : IsUtf8 s) where
   seq-leads a b f q j c e =
       let r : is_some (reaches (onward s b (only_at j)) (matches s a q [])) ≡ true = ap is_some (sym (onward-then s u a b f (only_at j) q c)) ∙ e in
       let m = chosen-some (onward s b (only_at j)) (matches s a q []) r in
-      (m.0.0, member-reached (onward s b (only_at j)) (matches s a q []) m.0 m.1, chosen-leads s u (onward s b (only_at j)) (matches s a q []) m.0 m.1)
+      (m.0.0, member-reached (onward s b (only_at j)) (matches s a q []) m.0 m.1, chosen-leads (onward s b (only_at j)) (matches s a q []) m.0 m.1)
 
   seq-led : (a b : Tree) → is_free b ≡ true → (q m j : ℕ) → IsCharBoundary s q → leads_to s a q m ≡ true → leads_to s b m j ≡ true → leads_to s (seq a b) q j ≡ true
   unfolding leads_to onward

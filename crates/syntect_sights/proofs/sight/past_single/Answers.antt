@@ -1,7 +1,7 @@
 use Rattle.std.proofs.Common.{◌≡◌, length, subst, arith, ℕ}
 use Rattle.syntect_pattern_table.specs.Table.{node_tree}
-use Rattle.syntect_linear.proofs.SightLaws.{Spreads, spreads-more, spreads-image}
-use Rattle.syntect_linear.proofs.sight.past_single.Goals as goal
+use Rattle.syntect_sights.proofs.SightLaws.{Spreads, spreads-more, spreads-image}
+use Rattle.syntect_sights.proofs.sight.past_single.Goals as goal
 
 pub loop-place-preserved : goal.loop-place-preserved
 loop-place-preserved c = λ ts e.

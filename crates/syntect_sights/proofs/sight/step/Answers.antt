@@ -3,9 +3,9 @@ use Rattle.syntect_pattern.specs.Anchors.{anchor_of}
 use Rattle.syntect_pattern.specs.Sets.{range}
 use Rattle.syntect_pattern_table.specs.Table.{node_tree, set_of}
 use Rattle.syntect_pattern_table.specs.declared.node.Node.{Node}
-use Rattle.syntect_linear.specs.Rows.{single_end}
-use Rattle.syntect_linear.proofs.SightLaws.{single-nothing, single-char, single-anchor}
-use Rattle.syntect_linear.proofs.sight.step.Goals as goal
+use Rattle.syntect_sights.specs.Sights.{single_end}
+use Rattle.syntect_sights.proofs.SightLaws.{single-nothing, single-char, single-anchor}
+use Rattle.syntect_sights.proofs.sight.step.Goals as goal
 
 pub returns-in-Nothing : goal.returns-in-Nothing
 returns-in-Nothing c = λ ts e.

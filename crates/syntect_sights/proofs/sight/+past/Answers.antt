@@ -6,10 +6,10 @@ use Rattle.syntect_pattern_table.specs.declared.node.Node.{Node}
 use Rattle.syntect_ways.proofs.OkLaws.{if_ok_map}
 use Rattle.syntect_plan.specs.Onward.{plain}
 use Rattle.syntect_plan.specs.Cells.{tree_size}
-use Rattle.syntect_linear.specs.Rows.{IsImage, flag_of, is_single}
+use Rattle.syntect_sights.specs.Sights.{IsImage, flag_of, is_single}
 use Rattle.syntect_plan.proofs.TreeLaws.{and_right}
-use Rattle.syntect_linear.proofs.SightLaws.{image-of, image-seq, image-alt, image-bounds}
-use Rattle.syntect_linear.proofs.sight.+past.Goals as goal
+use Rattle.syntect_sights.proofs.SightLaws.{image-of, image-seq, image-alt, image-bounds}
+use Rattle.syntect_sights.proofs.sight.+past.Goals as goal
 
 pub past-requires-in-Some-Sequence : goal.past-requires-in-Some-Sequence
 past-requires-in-Some-Sequence t c =

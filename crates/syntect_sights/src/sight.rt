@@ -1,13 +1,12 @@
 //! Where matches end that begin in given places, of what lookbehinds look for.
-ghost use Rattle.std.specs.Prelude.{◌≡◌, ◌||◌, ℕ, IfOk, IsCharBoundary, IsUtf8, List, length, slice_index_or, true, if◌then◌else◌};
+ghost use Rattle.std.specs.Prelude.{◌≡◌, ◌||◌, ℕ, IfOk, IsCharBoundary, IsUtf8, List, slice_index_or, true, if◌then◌else◌};
 ghost use Rattle.syntect_pattern.specs.Trees.{Tree, nothing};
 ghost use Rattle.syntect_pattern.specs.Text as places;
 ghost use Rattle.syntect_pattern_table.specs.Program.{trees_of};
 ghost use Rattle.syntect_pattern_table.specs.Table.{AreSpelt, node_tree};
-ghost use Rattle.syntect_plan.specs.Facts.{AreFacts};
 ghost use Rattle.syntect_plan.specs.Onward.{plain};
 ghost use Rattle.syntect_plan.specs.PlanOf.{IsPlanOf};
-ghost use Rattle.syntect_linear.specs.Rows.{AreBounds, AreSights, IsImage, flag_of, is_single, marked, single_end};
+ghost use Rattle.syntect_sights.specs.Sights.{AreBounds, AreSights, IsImage, flag_of, is_single, marked, single_end};
 
 use std::alloc::{AllocError, Global};
 use syntect_pattern_table::node::Node;

@@ -1,6 +1,6 @@
 use Rattle.std.proofs.Common.{◌≡◌, ◌||◌, ◌<◌, ℕ, length}
-use Rattle.syntect_linear.specs.Rows.{flag_of}
-use Rattle.syntect_linear.proofs.sight.either.Given as goal
+use Rattle.syntect_sights.specs.Sights.{flag_of}
+use Rattle.syntect_sights.proofs.sight.either.Given as goal
 
 abbrev pub invariant-loop-place : goal.invariant-loop-place
 invariant-loop-place l = record {

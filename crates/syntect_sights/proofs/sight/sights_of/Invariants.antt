@@ -3,8 +3,8 @@ use Rattle.std.specs.Prelude.{IsCharBoundary}
 use Rattle.syntect_pattern.specs.Trees.{nothing}
 use Rattle.syntect_pattern_table.specs.Program.{trees_of}
 use Rattle.syntect_plan.specs.Onward.{plain}
-use Rattle.syntect_linear.specs.Rows.{row_flag, ends_here}
-use Rattle.syntect_linear.proofs.sight.sights_of.Given as goal
+use Rattle.syntect_sights.specs.Sights.{row_flag, ends_here}
+use Rattle.syntect_sights.proofs.sight.sights_of.Given as goal
 
 abbrev pub invariant-loop-node : goal.invariant-loop-node
 invariant-loop-node l = record {

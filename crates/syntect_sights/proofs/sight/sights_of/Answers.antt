@@ -3,12 +3,12 @@ use Rattle.syntect_pattern.specs.Trees.{Tree, nothing}
 use Rattle.syntect_pattern_table.specs.Program.{trees_of}
 use Rattle.syntect_plan.specs.Onward.{plain}
 use Rattle.syntect_plan.specs.Facts.{facts_at}
-use Rattle.syntect_linear.specs.Rows.{IsImage, flag_of, ends_here}
+use Rattle.syntect_sights.specs.Sights.{IsImage, flag_of, ends_here}
 use Rattle.syntect_plan.specs.declared.facts.Facts.{Facts}
 use Rattle.syntect_ways.proofs.BoundaryLaws.{boundary-true}
-use Rattle.syntect_linear.proofs.SightLaws.{sight-is, sights-more}
-use Rattle.syntect_linear.proofs.sight.sights_of.Goals as goal
-use Rattle.syntect_linear.proofs.sight.sights_of.Goals.{then-facts_at+in_ok-row, else-facts_at}
+use Rattle.syntect_sights.proofs.SightLaws.{sight-is, sights-more}
+use Rattle.syntect_sights.proofs.sight.sights_of.Goals as goal
+use Rattle.syntect_sights.proofs.sight.sights_of.Goals.{then-facts_at+in_ok-row, else-facts_at}
 
 pub past-requires-clause-bounds : goal.past-requires-clause-bounds
 past-requires-clause-bounds c = λ q e.

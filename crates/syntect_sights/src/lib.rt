@@ -1,0 +1,4 @@
+//! Where lookbehinds find what they look for.
+#![tactic(auto)]
+
+pub mod sight;
