@@ -43,7 +43,7 @@ no_steps set line p before most all = omega arith
 
 -- a turn with more patterns may take more
 more_patterns : (a n most long : ℕ) → a ≤ n → turn_steps a most long ≤ turn_steps n most long
-more_patterns a n most long l = more_room (a * (2 * most)) (n * (2 * most)) (long + 1) (more_room a n (2 * most) l)
+more_patterns a n most long l = more_room (a * most) (n * most) (long + 1) (more_room a n most l)
 
 -- ---- a line so far ----
 

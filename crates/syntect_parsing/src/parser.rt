@@ -104,7 +104,7 @@ impl ParseState {
     /// accepted line takes exactly those of its reading, a refused one no more, and neither more than
     /// `levels + (r + 1) * 1001 * (bytes + 1)`, with `r` the longest list of contexts that a match of the set opens, or 1.
     /// It counts the steps of their searches too, as `Regex::search_counted` does. Where the patterns that the line's turns look
-    /// at are linear, they are at most `turns * patterns * 2 * most * (bytes + 1)`, unless memory was wanting: `patterns` is how
+    /// at are linear, they are at most `turns * patterns * most * (bytes + 1)`, unless memory was wanting: `patterns` is how
     /// many a turn looks at, and `most` how many steps a search of one takes (`steps`). Where all patterns of the set are linear
     /// and none uses back references, a formula of the set and the line's length bounds them (`most_steps`).
     /// Neither number ever falls (`no_fewer`, `no_fewer_steps`).

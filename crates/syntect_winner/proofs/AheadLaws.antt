@@ -5,7 +5,7 @@ use Rattle.std.specs.List.{cons_option}
 use Rattle.syntect_pattern.specs.Pattern.{pattern_found}
 use Rattle.syntect_regex.specs.Region.{BeginsAt, TakesAt}
 use Rattle.syntect_contexts.specs.Substitution.{Groups}
-use Rattle.syntect_winner.specs.Ahead.{AddsMember, FindsHere, IsAhead, IsBestAt}
+use Rattle.syntect_winner.specs.Ahead.{AddsMember, IsAhead, IsBestAt}
 use Rattle.syntect_winner.specs.Best.{IsBest}
 use Rattle.syntect_winner.specs.Candidates.{text_of}
 use Rattle.syntect_winner.specs.Chain.{Member}
@@ -20,6 +20,10 @@ use Rattle.syntect_winner.specs.declared.reader.LineReader.{LineReader}
 use Rattle.syntect_winner.specs.declared.search.Best.{Best}
 use Rattle.syntect_winner.specs.declared.search.Candidate.{Candidate}
 
+-- a search of the member from the place on finds these groups, and there
+abbrev pub FindsHere : LineReader → ℕ → Member → Groups → Type 0
+FindsHere reader i m groups = (search_of reader i m ≡ Some groups) × BeginsAt groups i
+
 -- ---- one member ----
 
 module _ (reader : LineReader) (m : Member) where
@@ -30,16 +34,17 @@ module _ (reader : LineReader) (m : Member) where
   live_of = match_of reader m
 
   pub ahead_next : (lost : Bool) (i : ℕ) → IsAhead reader lost i m → search_of reader i m ≡ search_of reader (i + 1) m → IsAhead reader lost (i + 1) m
-  ahead_next lost i (inl e) f = inl (e ∙ f)
+  ahead_next lost i (inl e) f = inl (e.0, e.1 ∙ f)
   ahead_next lost i (inr h) f = inr h
 
-  -- what was ahead stays so when more is lost
-  pub ahead_still : (lost more : Bool) (i : ℕ) → (lost ≡ true → more ≡ true) → IsAhead reader lost i m → IsAhead reader more i m
-  ahead_still lost more i k (inl e) = inl e
-  ahead_still lost more i k (inr h) = inr (k h.0, h.1)
+  -- one that isn't out is ahead of the turn's place
+  pub ahead_first : (lost : Bool) → lost ≡ false → IsAhead reader lost reader.position.now.place m
+  ahead_first lost e = inl (e, refl)
 
-  pub ahead_first : (lost : Bool) → IsAhead reader lost reader.position.now.place m
-  ahead_first lost = inl refl
+  -- one that is out is ahead of each place
+  pub out_still : (lost : Bool) (i j : ℕ) → lost ≡ true → IsAhead reader lost i m → IsAhead reader lost j m
+  out_still lost i j e (inl k) = let f : true ≡ false = sym e ∙ k.0 in cc
+  out_still lost i j e (inr k) = inr k
 
   module _ (finds : FindsInText dialect) where
     starts : (i : ℕ) (o : Option Live) → IfEnds reader.line.now i o → IfSome o (λ k. i ≤ k.start)
@@ -49,7 +54,7 @@ module _ (reader : LineReader) (m : Member) where
     -- a match of a member that is ahead begins no earlier
     pub ahead_starts : (lost : Bool) (i : ℕ) → IsAhead reader lost i m → IfSome live_of (λ k. i ≤ k.start)
     ahead_starts lost i (inl e) =
-        rw e (starts i _ (matched_ends dialect finds reader.line.now reader.text (length reader.position.now.levels) i m text (search_of reader i m) (λ groups s x g k. finds text reader.line.now i s x groups reader.text g k)))
+        rw e.1 (starts i _ (matched_ends dialect finds reader.line.now reader.text (length reader.position.now.levels) i m text (search_of reader i m) (λ groups s x g k. finds text reader.line.now i s x groups reader.text g k)))
     ahead_starts lost i (inr h) = rw h.1 tt
 
     behind : (i : ℕ) (o : Option Live) → IfSome o (λ k. i + 1 ≤ k.start) → IfSome o (λ k. i < k.start)
@@ -65,38 +70,28 @@ module _ (reader : LineReader) (m : Member) where
   whole [] = refl
   whole (x ∷ xs) = refl
 
-  found_here : (lost : Bool) (i : ℕ) (g : Groups) → lost ≡ false → IsAhead reader lost i m → FindsHere reader i m g → search_of reader reader.position.now.place m ≡ Some g
-  found_here lost i g n (inl e) h = e ∙ h.0
-  found_here lost i g n (inr k) h = let f : false ≡ true = sym n ∙ k.0 in cc
+  found_here : (i : ℕ) (g : Groups) → IsAhead reader false i m → FindsHere reader i m g → search_of reader reader.position.now.place m ≡ Some g
+  found_here i g (inl e) h = e.1 ∙ h.0
+  found_here i g (inr k) h = let f : false ≡ true = k.0 in cc
 
   -- one that counts is what the turn has of the member
-  pub counted_here : (lost : Bool) (i : ℕ) (c : Candidate) (g : Groups) → lost ≡ false → IsAhead reader lost i m → FindsHere reader i m g → get_or g 0 None ≡ Some (c.start, c.end)
+  pub counted_here : (i : ℕ) (c : Candidate) (g : Groups) → IsAhead reader false i m → FindsHere reader i m g → get_or g 0 None ≡ Some (c.start, c.end)
       → counts (length reader.position.now.levels) m.pattern.operation c.start c.end ≡ true → c.pattern.now ≡ m.pattern → c.from_with_prototype ≡ m.from_with_prototype → text_of c ≡ text
       → (live_of ≡ Some (seen_by reader c)) × (g ≡ (seen_by reader c).groups) × (c.start ≡ i)
-  counted_here lost i c g n a h e f pattern from same =
-      let found : search_of reader reader.position.now.place m ≡ Some g = found_here lost i g n a h in
+  counted_here i c g a h e f pattern from same =
+      let found : search_of reader reader.position.now.place m ≡ Some g = found_here i g a h in
       let at : group_at g 0 ≡ Some (c.start, c.end) = sym (whole g) ∙ e in
       (rw (found, at, f, same, found, pattern, from) refl, rw (same, found) refl, h.1 c.start c.end e)
 
-  -- where a match begins here, and none that counts is found up to here, the member has none that counts
-  pub none_here : (lost : Bool) (i : ℕ) (g : Groups) → IsAhead reader lost i m → FindsHere reader i m g → IfSome live_of (λ k. i < k.start) → live_of ≡ None
-  none_here lost i g (inr k) h b = k.1
-  none_here lost i g (inl e) h b = by (get_or g 0 None) refl
-    where
-      found : search_of reader reader.position.now.place m ≡ Some g
-      found = e ∙ h.0
+  -- where the first doesn't count, it has none that does
+  pub none_whole : (i : ℕ) (g : Groups) → IsAhead reader false i m → FindsHere reader i m g → get_or g 0 None ≡ None → live_of ≡ None
+  none_whole i g a h e =
+      let found : search_of reader reader.position.now.place m ≡ Some g = found_here i g a h in
+      let at : group_at g 0 ≡ None = sym (whole g) ∙ e in
+      rw (found, at) refl
 
-      counted : (s x : ℕ) → get_or g 0 None ≡ Some (s, x) → (t : Bool) → counts (length reader.position.now.levels) m.pattern.operation s x ≡ t → live_of ≡ None
-      counted s x f true c =
-          let at : group_at g 0 ≡ Some (s, x) = sym (whole g) ∙ f in
-          let is : live_of ≡ Some (record { pattern = m.pattern; from_with_prototype = m.from_with_prototype; searched = text; groups = g; start = s; end = x }) = rw (found, at, c) refl in
-          let later : i < s = rw is at b in
-          absurd (omega (arith, later, h.1 s x f))
-      counted s x f false c = not_counted reader.line.now (length reader.position.now.levels) reader.position.now.place s x m text g refl found f c
-
-      by : (o : Option (ℕ × ℕ)) → get_or g 0 None ≡ o → live_of ≡ None
-      by None f = let at : group_at g 0 ≡ None = sym (whole g) ∙ f in rw (found, at) refl
-      by (Some (s, x)) f = counted s x f (counts (length reader.position.now.levels) m.pattern.operation s x) refl
+  pub none_counted : (i s x : ℕ) (g : Groups) → IsAhead reader false i m → FindsHere reader i m g → get_or g 0 None ≡ Some (s, x) → counts (length reader.position.now.levels) m.pattern.operation s x ≡ false → live_of ≡ None
+  none_counted i s x g a h e f = not_counted reader.line.now (length reader.position.now.levels) reader.position.now.place s x m text g refl (found_here i g a h) e f
 
 -- ---- the best with one member more ----
 
@@ -140,10 +135,10 @@ module _ (reader : LineReader) (i : ℕ) where
 
   module _ (m : Member) where
     -- nothing begins here
-    pub adds_none : FindsInText dialect → (lost : Bool) (b : Best) (ms : List Live) → IsAhead reader lost i m → IsBestAt reader i ms b
+    pub adds_none : FindsInText dialect → (lost : Bool) → lost ≡ false → (b : Best) (ms : List Live) → IsAhead reader false i m → IsBestAt reader i ms b
         → search_of reader i m ≡ search_of reader (i + 1) m → AddsMember reader i lost m ms b
-    adds_none finds lost b ms a h e =
-        let next : IsAhead reader lost (i + 1) m = ahead_next reader m lost i a e in
+    adds_none finds lost n b ms a h e =
+        let next : IsAhead reader lost (i + 1) m = ahead_next reader m lost i (subst (λ (t : Bool). IsAhead reader t i m) (sym n) a) e in
         record { best = best_passed_by b ms _ h (ahead_behind reader m finds lost i next); ahead = λ _. next }
 
     -- it has no match that counts
@@ -162,27 +157,14 @@ module _ (reader : LineReader) (i : ℕ) where
       ahead = λ f. absurd (let k : true ≡ false = sym is ∙ f in cc);
     }
 
-    pub adds_counted : (lost : Bool) (b : Best) (ms : List Live) (c : Candidate) (new : Best) (g : Groups) → reader.position.now.place ≤ i → lost ≡ false → IsAhead reader lost i m → FindsHere reader i m g
+    pub adds_counted : (lost : Bool) (b : Best) (ms : List Live) (c : Candidate) (new : Best) (g : Groups) → reader.position.now.place ≤ i → IsAhead reader false i m → FindsHere reader i m g
         → get_or g 0 None ≡ Some (c.start, c.end) → counts (length reader.position.now.levels) m.pattern.operation c.start c.end ≡ true → c.pattern.now ≡ m.pattern → c.from_with_prototype ≡ m.from_with_prototype
         → text_of c ≡ searched_text dialect m.pattern m.opening → IsBestAt reader i ms b → b.candidate ≡ None
         → new.start ≡ c.start → new.is_match ≡ true → new.candidate ≡ (if loops reader.position.now (seen_by reader c) then None else Some c) → AddsMember reader i lost m ms new
-    adds_counted lost b ms c new g l k a f at counted pattern from same h n s is d =
+    adds_counted lost b ms c new g l a f at counted pattern from same h n s is d =
         let here : (match_of reader m ≡ Some (seen_by reader c)) × (g ≡ (seen_by reader c).groups) × (c.start ≡ i) =
-        counted_here reader m lost i c g k a f at counted pattern from same in
+        counted_here reader m i c g a f at counted pattern from same in
         adds_taken lost b ms c new h n here.0 (omega (arith, l, here.2)) here.2 s is d
-
-    -- one that was searched from the turn's place on begins here,
-    pub adds_searched : FindsInText dialect → (b : Best) (ms : List Live) (c : Candidate) (new : Best) → reader.position.now.place ≤ i → IsAhead reader true i m → IsBestAt reader i ms b → b.candidate ≡ None
-        → match_of reader m ≡ Some (seen_by reader c) → c.start ≤ i
-        → new.start ≡ c.start → new.is_match ≡ true → new.candidate ≡ (if loops reader.position.now (seen_by reader c) then None else Some c) → AddsMember reader i true m ms new
-    adds_searched finds b ms c new l a h n e near s is d =
-        let from : i ≤ c.start = rw e at (ahead_starts reader m finds true i a) in
-        adds_taken true b ms c new h n e (omega (arith, l, from)) (omega (arith, near, from)) s is d
-
-    -- or it begins behind it, so that what begins here doesn't count
-    pub adds_unsearched : (b : Best) (ms : List Live) (g : Groups) → IsAhead reader true i m → FindsHere reader i m g → IfSome (match_of reader m) (λ k. i < k.start) → IsBestAt reader i ms b
-        → AddsMember reader i true m ms b
-    adds_unsearched b ms g a h l k = adds_lost true b ms refl (none_here reader m true i g a h l) k
 
 -- the groups of what leads are those that were kept
 pub groups_led : (reader : LineReader) (c : Candidate) (x : Option Candidate) (t : Bool) (g : Groups) → x ≡ (if t then None else Some c) → g ≡ (seen_by reader c).groups
@@ -192,9 +174,6 @@ groups_led reader c x false g e h m f = let n : Some c ≡ Some m = sym e ∙ f 
   where
     some_same : (a b : Candidate) → Some a ≡ Some b → a ≡ b
     some_same a b q = cc
-
-pub led_behind : (reader : LineReader) (i : ℕ) (o : Option Live) (c : Candidate) → o ≡ Some (seen_by reader c) → i < c.start → IfSome o (λ k. i < k.start)
-led_behind reader i o c e l = rw e l
 
 -- what a try at a place tells of the text that is searched
 pub none_from : (line : List ℕ) (i : ℕ) (text searched : List ℕ) (old new : Groups) (found : Bool) → searched ≡ text → TakesAt (pattern_found searched line) i old found new → found ≡ false
@@ -208,9 +187,9 @@ found_from line i text searched old new true e t f = (rw e at t.0, t.1)
 found_from line i text searched old new false e t f = cc
 
 -- where a match that counts begins here, the groups that were kept are those of what leads
-pub groups_counted : (reader : LineReader) (m : Member) (lost : Bool) (i : ℕ) (c : Candidate) (x : Option Candidate) (g kept : Groups) → x ≡ (if loops reader.position.now (seen_by reader c) then None else Some c) → kept ≡ g
-    → lost ≡ false → IsAhead reader lost i m → FindsHere reader i m g → get_or g 0 None ≡ Some (c.start, c.end) → counts (length reader.position.now.levels) m.pattern.operation c.start c.end ≡ true
+pub groups_counted : (reader : LineReader) (m : Member) (i : ℕ) (c : Candidate) (x : Option Candidate) (g kept : Groups) → x ≡ (if loops reader.position.now (seen_by reader c) then None else Some c) → kept ≡ g
+    → IsAhead reader false i m → FindsHere reader i m g → get_or g 0 None ≡ Some (c.start, c.end) → counts (length reader.position.now.levels) m.pattern.operation c.start c.end ≡ true
     → c.pattern.now ≡ m.pattern → c.from_with_prototype ≡ m.from_with_prototype → text_of c ≡ searched_text dialect m.pattern m.opening
     → (k : Candidate) → x ≡ Some k → kept ≡ (seen_by reader k).groups
-groups_counted reader m lost i c x g kept e same n a f at counted pattern from text k is =
-    groups_led reader c x (loops reader.position.now (seen_by reader c)) kept e (same ∙ (counted_here reader m lost i c g n a f at counted pattern from text).1) k is
+groups_counted reader m i c x g kept e same a f at counted pattern from text k is =
+    groups_led reader c x (loops reader.position.now (seen_by reader c)) kept e (same ∙ (counted_here reader m i c g a f at counted pattern from text).1) k is

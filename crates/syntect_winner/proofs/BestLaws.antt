@@ -11,7 +11,7 @@ use Rattle.syntect_pattern.specs.Pattern.{pattern_found}
 use Rattle.syntect_winner.specs.Chain.{Member}
 use Rattle.syntect_winner.specs.Engine.{dialect}
 use Rattle.syntect_winner.specs.Found.{FindsInText}
-use Rattle.syntect_winner.proofs.Places.{IfEnds, AllEnd, no_more, and_more, live_ends, matched_ends}
+use Rattle.syntect_winner.proofs.Places.{AllEnd, no_more, and_more, live_ends}
 use Rattle.syntect_contexts.specs.Substitution.{Groups}
 use Rattle.syntect_winner.specs.Turn.{counts, group_at, live, live_match, searched_text, Live, End, choice_of, is_least, loops, winner}
 use Rattle.syntect_winner.specs.Candidates.{seen}
@@ -205,19 +205,7 @@ none_left s n (m ∷ ms) l h i =
     let y : m.start ≤ n = grind (arith, nat_tests) in
     absurd (omega (arith, x, y, l))
 
--- ---- what a search up to a place finds ----
-
-behind : (line : List ℕ) (last : ℕ) (o : Option Live) → IfEnds line (last + 1) o → IfSome o (λ k. last < k.start)
-behind line last None h = tt
-behind line last (Some k) h = omega (arith, h.from)
-
--- where a search finds what one from behind the last place does, a match begins behind that
-pub far_match : FindsInText dialect → (line : List ℕ) → IsUtf8 line → (height place last : ℕ) (member : Member) (text : List ℕ) → text ≡ searched_text dialect member.pattern member.opening
-    → pattern_found text line place ≡ pattern_found text line (last + 1) → IfSome (live_match dialect height line place member) (λ k. last < k.start)
-far_match finds line u height place last member text t e =
-    let text' : List ℕ = searched_text dialect member.pattern member.opening in
-    let f : pattern_found text' line place ≡ pattern_found text' line (last + 1) = rw t at e in
-    rw f (behind line last _ (matched_ends dialect finds line u height (last + 1) member text' (pattern_found text' line (last + 1)) (λ groups s x g k. finds text' line (last + 1) s x groups u g k)))
+-- ---- what doesn't count ----
 
 -- a match that doesn't count is none
 pub not_counted : (line : List ℕ) (height place s x : ℕ) (member : Member) (text : List ℕ) (region : Groups) → text ≡ searched_text dialect member.pattern member.opening

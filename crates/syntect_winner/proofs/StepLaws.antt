@@ -42,13 +42,6 @@ tried m text long w before after e h s = by (search_bound text long) w bound k.1
     by : (x y : ℕ) → after ≤ before + x → nat_le x y ≡ true → after ≤ before + y
     by x y f g = let l : x ≤ y = grind (arith, nat_tests) in omega (arith, f, l)
 
--- one that is tried at a place, and perhaps searched once more
-pub tried_once : (w before after : ℕ) → after ≤ before + w → after ≤ before + 2 * w
-tried_once w before after h = omega (arith, h)
-
-pub tried_twice : (w before between after : ℕ) → between ≤ before + w → after ≤ between + w → after ≤ before + 2 * w
-tried_twice w before between after h s = omega (arith, h, s)
-
 -- ---- the patterns of a part ----
 
 mapped : {X Y : Type 0} (f : Y → Bool) (g : X → Y) (xs : List X) → list_all f (map g xs) ≡ list_all (λ x. f (g x)) xs
@@ -101,11 +94,11 @@ pub few_flats : (set : SyntaxSet) (run : Run) → IsRun set run → length (list
 few_flats set run r =
     omega (arith, r.flats.few, length-map (patterns_of set run.part.id) (λ m. part_member run.part m))
 
-pub run_spent : (set : SyntaxSet) (run : Run) (w old made left count : ℕ) → IsRun set run → count ≡ length (list_in run.flats) → made + left * (2 * w) ≤ old + count * (2 * w)
+pub run_spent : (set : SyntaxSet) (run : Run) (w old made left count : ℕ) → IsRun set run → count ≡ length (list_in run.flats) → made + left * w ≤ old + count * w
     → made ≤ old + place_steps (length (run_members set run)) w
 run_spent set run w old made left count r e h =
     let few : count ≤ length (run_members set run) = omega (arith, e, few_flats set run r) in
-    omega (arith, h, more_room count (length (run_members set run)) (2 * w) few)
+    omega (arith, h, more_room count (length (run_members set run)) w few)
 
 -- ---- the parts of a chain ----
 

@@ -1,5 +1,5 @@
 -- What a turn finds at a place in a part of the chain, and in all parts.
-use Rattle.std.proofs.Common.{◌≡◌, ℕ, zero, suc, ◌+◌, ◌-◌, ◌<◌, ◌≤◌, ◌⊎◌, ◌||◌, Bool, true, false, List, [], ◌∷◌, ◌++◌, get_or, length, map, take, Option, Some, None, refl, sym, ap, subst, ◌∙◌, arith, inl, inr}
+use Rattle.std.proofs.Common.{◌≡◌, ◌≢◌, ℕ, zero, suc, ◌+◌, ◌-◌, ◌<◌, ◌≤◌, ◌⊎◌, ◌||◌, Bool, true, false, List, [], ◌∷◌, ◌++◌, get_or, length, map, take, Option, Some, None, refl, sym, ap, subst, ◌∙◌, arith, inl, inr}
 use Rattle.std.specs.Prelude.{if◌then◌else◌, is_some}
 use Rattle.std.specs.List.{All, cons_option, flat_map}
 use Rattle.std.specs.Option.{option_copied}
@@ -20,14 +20,15 @@ use Rattle.syntect_flats.specs.declared.flats.Flat.{Flat}
 use Rattle.syntect_flats.specs.declared.flats.Outlook.{Outlook}
 use Rattle.syntect_pattern_table.specs.Starts.{is_in, start_at}
 use Rattle.syntect_word_ends.specs.Ends.{IsRunUpTo}
-use Rattle.syntect_winner.specs.Ahead.{AddsAll, AddsAt, AddsRun, AllAhead, AreAhead, AreAheadFrom, AreAheadUpTo, IsAhead, IsBestAt, IsQuiet, IsRuledOut, IsRun, Reaches, Sees, list_in, run_members}
+use Rattle.syntect_winner.specs.Ahead.{AddsAll, AddsAt, AddsMember, AddsRun, AllAhead, AreAhead, AreAheadFrom, AreAheadUpTo, IsAhead, IsBestAt, IsQuiet, IsRuledOut, IsRun, Reaches, Sees, list_in, run_members}
 use Rattle.syntect_winner.specs.Engine.{dialect}
 use Rattle.syntect_winner.specs.Found.{FindsInText}
+use Rattle.syntect_winner.specs.Losses.{LosesInPart, is_lost, marks_of}
 use Rattle.syntect_winner.specs.Parts.{flat_members, part_member, part_members}
 use Rattle.syntect_winner.specs.Best.{IsBest, choice_by}
 use Rattle.syntect_winner.specs.Reader.{match_of, matches_of}
 use Rattle.syntect_winner.specs.Turn.{Live, searched_text, winner}
-use Rattle.syntect_winner.proofs.AheadLaws.{ahead_behind, ahead_first, ahead_next, ahead_starts, ahead_still, best_kept, best_passed_by, no_match}
+use Rattle.syntect_winner.proofs.AheadLaws.{ahead_behind, ahead_first, ahead_next, ahead_starts, best_kept, best_passed_by, no_match, out_still}
 use Rattle.syntect_winner.proofs.BestLaws.{best_at_end, best_wins}
 use Rattle.syntect_winner.proofs.PartLaws.{flats_end, flats_more, live_more}
 use Rattle.syntect_winner.specs.declared.chain.Part.{Part}
@@ -159,77 +160,113 @@ module _ (finds : FindsInText dialect) (reader : LineReader) (i : ℕ) (run : Ru
         ahead_next reader (part_member run.part m) lost i (a m e) (rw same at (none_here (get_or flats k d) m.regex (begins.1, begins.2, begins.3, begins.4) out))
 
     -- those between two indexes that can't begin here change nothing,
-    pub skipped : (lost : Bool) (b : Best) (ms : List Live) (j k : ℕ) → j ≤ k
-        → ((q : ℕ) (d : Flat) → j ≤ q → q < k → q < length flats → IsRuledOut reader.line.now i (get_or flats q d)) → AreAheadFrom reader lost i run j
+    pub skipped : (marks : List Bool) (b : Best) (ms : List Live) (j k : ℕ) → j ≤ k
+        → ((q : ℕ) (d : Flat) → j ≤ q → q < k → q < length flats → IsRuledOut reader.line.now i (get_or flats q d)) → AreAheadFrom reader marks i run j
         → IsBestAt reader i (ms ++ found_in (take j flats)) b → IsBestAt reader i (ms ++ found_in (take k flats)) b
-    skipped lost b ms j k l out ahead h =
-        up_to b ms flats j k l h (λ q d a c z. passed b (get_or flats q d) lost (passes lost q d z (out q d a c z) (λ m e. ahead q d m a z e)))
+    skipped marks b ms j k l out ahead h =
+        up_to b ms flats j k l h (λ q d a c z. passed b (get_or flats q d) (is_lost marks q) (passes (is_lost marks q) q d z (out q d a c z) (λ m e. ahead q d m a z e)))
 
     -- and are ahead of this place too
-    pub skipped_ahead : (lost : Bool) (j k : ℕ)
-        → ((q : ℕ) (d : Flat) → j ≤ q → q < k → q < length flats → IsRuledOut reader.line.now i (get_or flats q d)) → AreAheadFrom reader lost i run j
-        → AreAheadUpTo reader lost (i + 1) run j → AreAheadUpTo reader lost (i + 1) run k
-    skipped_ahead lost j k out ahead before q d m l z e = elim (cases_lt q j) [
+    pub skipped_ahead : (marks : List Bool) (j k : ℕ)
+        → ((q : ℕ) (d : Flat) → j ≤ q → q < k → q < length flats → IsRuledOut reader.line.now i (get_or flats q d)) → AreAheadFrom reader marks i run j
+        → AreAheadUpTo reader marks (i + 1) run j → AreAheadUpTo reader marks (i + 1) run k
+    skipped_ahead marks j k out ahead before q d m l z e = elim (cases_lt q j) [
       | inl a ↦ before q d m a z e
-      | inr a ↦ passes lost q d z (out q d a l z) (λ n f. ahead q d n a z f) m e
+      | inr a ↦ passes (is_lost marks q) q d z (out q d a l z) (λ n f. ahead q d n a z f) m e
     ]
 
     -- the same of those before an index
-    pub begun : (lost : Bool) (b : Best) (ms : List Live) (k : ℕ)
-        → ((q : ℕ) (d : Flat) → 0 ≤ q → q < k → q < length flats → IsRuledOut reader.line.now i (get_or flats q d)) → AreAhead reader lost i run
+    pub begun : (marks : List Bool) (b : Best) (ms : List Live) (k : ℕ)
+        → ((q : ℕ) (d : Flat) → 0 ≤ q → q < k → q < length flats → IsRuledOut reader.line.now i (get_or flats q d)) → AreAhead reader marks i run
         → IsBestAt reader i ms b → IsBestAt reader i (ms ++ found_in (take k flats)) b
-    begun lost b ms k out ahead h = skipped lost b ms 0 k (omega arith) out ahead (subst (λ xs. IsBestAt reader i xs b) (sym (append-nil ms)) h)
+    begun marks b ms k out ahead h = skipped marks b ms 0 k (omega arith) out ahead (subst (λ xs. IsBestAt reader i xs b) (sym (append-nil ms)) h)
 
-    pub begun_ahead : (lost : Bool) (k : ℕ)
-        → ((q : ℕ) (d : Flat) → 0 ≤ q → q < k → q < length flats → IsRuledOut reader.line.now i (get_or flats q d)) → AreAhead reader lost i run
-        → AreAheadUpTo reader lost (i + 1) run k
-    begun_ahead lost k out ahead = skipped_ahead lost 0 k out ahead (λ q d m l. absurd (omega (arith, l)))
+    pub begun_ahead : (marks : List Bool) (k : ℕ)
+        → ((q : ℕ) (d : Flat) → 0 ≤ q → q < k → q < length flats → IsRuledOut reader.line.now i (get_or flats q d)) → AreAhead reader marks i run
+        → AreAheadUpTo reader marks (i + 1) run k
+    begun_ahead marks k out ahead = skipped_ahead marks 0 k out ahead (λ q d m l. absurd (omega (arith, l)))
 
   -- ---- the pattern at an index ----
 
-  pub stepped : (lost : Bool) (b : Best) (ms : List Live) (index : ℕ) → index < length flats → AddsAt reader i lost run index (ms ++ found_in (take index flats)) b
+  pub stepped : (marks : List Bool) (b : Best) (ms : List Live) (index : ℕ) → index < length flats → AddsAt reader i marks run index (ms ++ found_in (take index flats)) b
       → IsBestAt reader i (ms ++ found_in (take (index + 1) flats)) b
-  stepped lost b ms index l added = by flats refl l
+  stepped marks b ms index l added = by flats refl l
     where
       by : (xs : List Flat) → flats ≡ xs → index < length flats → IsBestAt reader i (ms ++ found_in (take (index + 1) flats)) b
       by [] s l = absurd (omega (arith, l, ap length s))
       by (x ∷ xs) s l = one_more b ms flats index x l (added.best x)
 
-  pub stepped_ahead : (lost : Bool) (b : Best) (ms : List Live) (index : ℕ) → AddsAt reader i lost run index ms b → b.is_match ≡ false
-      → AreAheadUpTo reader lost (i + 1) run index → AreAheadUpTo reader lost (i + 1) run (index + 1)
-  stepped_ahead lost b ms index added is before k d m l z e = elim (cases_lt k index) [
+  pub stepped_ahead : (marks : List Bool) (b : Best) (ms : List Live) (index : ℕ) → AddsAt reader i marks run index ms b → b.is_match ≡ false
+      → AreAheadUpTo reader marks (i + 1) run index → AreAheadUpTo reader marks (i + 1) run (index + 1)
+  stepped_ahead marks b ms index added is before k d m l z e = elim (cases_lt k index) [
     | inl a ↦ before k d m a z e
-    | inr a ↦ let same : k ≡ index = omega (arith, a, l) in added.ahead d m is (sym (ap (λ j. pattern_at reader.set.now (get_or flats j d)) same) ∙ e)
+    | inr a ↦
+        (let same : k ≡ index = omega (arith, a, l) in
+        subst (λ (j : ℕ). IsAhead reader (is_lost marks j) (i + 1) (part_member run.part m)) (sym same) (added.ahead d m is (sym (ap (λ j. pattern_at reader.set.now (get_or flats j d)) same) ∙ e)))
   ]
 
-  -- what was ahead stays so when more is lost
-  pub still_from : (lost more : Bool) (index : ℕ) → (lost ≡ true → more ≡ true) → AreAhead reader lost i run → AreAheadFrom reader more i run index
-  still_from lost more index h a k d m l z e = ahead_still reader (part_member run.part m) lost more i h (a k d m (omega arith) z e)
+  -- what was ahead stays so where of each pattern the same is known
+  pub still_from : (old new : List Bool) (from : ℕ) → ((k : ℕ) → from ≤ k → is_lost new k ≡ is_lost old k) → AreAhead reader old i run → AreAheadFrom reader new i run from
+  still_from old new from h a k d m l z e = subst (λ (t : Bool). IsAhead reader t i (part_member run.part m)) (sym (h k l)) (a k d m (omega arith) z e)
 
-  pub still_up_to : (lost more : Bool) (at index : ℕ) → (lost ≡ true → more ≡ true) → AreAheadUpTo reader lost at run index → AreAheadUpTo reader more at run index
-  still_up_to lost more at index h a k d m l z e = ahead_still reader (part_member run.part m) lost more at h (a k d m l z e)
+  pub still_up_to : (old new : List Bool) (at to : ℕ) → ((k : ℕ) → k ≢ to → is_lost new k ≡ is_lost old k) → AreAheadUpTo reader old at run to → AreAheadUpTo reader new at run to
+  still_up_to old new at to h a k d m l z e =
+      let other : k ≢ to = omega (arith, l) in
+      subst (λ (t : Bool). IsAhead reader t at (part_member run.part m)) (sym (h k other)) (a k d m l z e)
+
+  -- what is known of those behind an index stays where one at that index is out,
+  pub known_behind : (old now new : List Bool) (index next : ℕ) → index + 1 ≤ next → ((k : ℕ) → index ≤ k → is_lost now k ≡ is_lost old k) → ((k : ℕ) → k ≢ index → is_lost new k ≡ is_lost now k)
+      → (k : ℕ) → next ≤ k → is_lost new k ≡ is_lost old k
+  known_behind old now new index next n h g k l =
+      let other : k ≢ index = omega (arith, l, n) in
+      g k other ∙ h k (omega (arith, l, n))
+
+  -- a pattern that is out, or none at all, changes nothing
+  pub adds_nothing : (marks : List Bool) (b : Best) (ms : List Live) (index : ℕ) → ((d : Flat) (m : MatchPattern) → pattern_at reader.set.now (get_or flats index d) ≡ Some m → IsAhead reader (is_lost marks index) (i + 1) (part_member run.part m))
+      → IsBestAt reader i ms b → AddsAt reader i marks run index ms b
+  adds_nothing marks b ms index h k = record {
+    best = λ d. passed b (get_or flats index d) (is_lost marks index) (h d) ms k;
+    ahead = λ d m _ e. h d m e;
+  }
+
+  pub adds_out : (marks : List Bool) (b : Best) (ms : List Live) (index : ℕ) → index < length flats → is_lost marks index ≡ true → AreAheadFrom reader marks i run index → IsBestAt reader i ms b → AddsAt reader i marks run index ms b
+  adds_out marks b ms index l e a = adds_nothing marks b ms index (λ d m f. out_still reader (part_member run.part m) (is_lost marks index) i (i + 1) e (a index d m (omega arith) l f))
+
+  -- what is found with a pattern's member is found with the pattern
+  pub adds_member : (marks : List Bool) (lost : Bool) (b : Best) (ms : List Live) (index : ℕ) (m : MatchPattern) → is_lost marks index ≡ lost → ((d : Flat) → pattern_at reader.set.now (get_or flats index d) ≡ Some m)
+      → AddsMember reader i lost (part_member run.part m) ms b → AddsAt reader i marks run index ms b
+  adds_member marks lost b ms index m e at added = record {
+    best = λ d. rw (at d) added.best;
+    ahead = λ d n is f.
+        (let q : Some m ≡ Some n = sym (at d) ∙ f in
+        subst (λ (x : MatchPattern). IsAhead reader (is_lost marks index) (i + 1) (part_member run.part x)) (some_same m n q)
+        (subst (λ (t : Bool). IsAhead reader t (i + 1) (part_member run.part m)) (sym e) (added.ahead is)));
+  }
+    where
+      some_same : (x y : MatchPattern) → Some x ≡ Some y → x ≡ y
+      some_same x y q = cc
 
   -- ---- all patterns of a part ----
 
-  module _ (r : IsRun reader.set.now run) (lost : Bool) (b : Best) (ms : List Live) (index : ℕ) where
+  module _ (r : IsRun reader.set.now run) (marks : List Bool) (b : Best) (ms : List Live) (index : ℕ) where
     ended : IsBestAt reader i (ms ++ found_in flats) b → IsBestAt reader i (ms ++ matches_of reader (part_members reader.set.now run.part)) b
     ended h = record { best = flats_end finds reader.set.now reader.line.now reader.text reader.position.now run.part i b ms flats r.flats.finds h.best; here = h.here }
 
     -- the list was gone through, or one is found and all others begin no earlier
     pub run_done : IsBestAt reader i (ms ++ found_in (take index flats)) b → (length flats ≤ index) ⊎ ((c : Candidate) × (b.candidate ≡ Some c))
-        → AreAheadFrom reader lost i run index → IsBestAt reader i (ms ++ matches_of reader (part_members reader.set.now run.part)) b
+        → AreAheadFrom reader marks i run index → IsBestAt reader i (ms ++ matches_of reader (part_members reader.set.now run.part)) b
     run_done h (inl l) a = ended (subst (λ xs. IsBestAt reader i (ms ++ found_in xs) b) (take_all index flats l) h)
     run_done h (inr c) a = elim (cases_lt index (length flats)) [
       | inl l ↦ ended (subst (λ xs. IsBestAt reader i (ms ++ found_in xs) b) (take-length flats)
-          (up_to b ms flats index (length flats) (omega (arith, l)) h (λ q d j k z. kept b c.0 (get_or flats q d) lost c.1 (λ m e. a q d m j z e))))
+          (up_to b ms flats index (length flats) (omega (arith, l)) h (λ q d j k z. kept b c.0 (get_or flats q d) (is_lost marks q) c.1 (λ m e. a q d m j z e))))
       | inr l ↦ ended (subst (λ xs. IsBestAt reader i (ms ++ found_in xs) b) (take_all index flats l) h)
     ]
 
-    pub run_ended : IsBestAt reader i (ms ++ found_in (take index flats)) b → (b.is_match ≡ false → AreAheadUpTo reader lost (i + 1) run index)
-        → (length flats ≤ index) ⊎ ((c : Candidate) × (b.candidate ≡ Some c)) → AreAheadFrom reader lost i run index → AddsRun reader i lost run ms b
+    pub run_ended : IsBestAt reader i (ms ++ found_in (take index flats)) b → (b.is_match ≡ false → AreAheadUpTo reader marks (i + 1) run index)
+        → (length flats ≤ index) ⊎ ((c : Candidate) × (b.candidate ≡ Some c)) → AreAheadFrom reader marks i run index → AddsRun reader i marks run ms b
     run_ended h ahead o a = record { best = run_done h o a; ahead = by o }
       where
-        by : (length flats ≤ index) ⊎ ((c : Candidate) × (b.candidate ≡ Some c)) → b.is_match ≡ false → AreAhead reader lost (i + 1) run
+        by : (length flats ≤ index) ⊎ ((c : Candidate) × (b.candidate ≡ Some c)) → b.is_match ≡ false → AreAhead reader marks (i + 1) run
         by (inl l) is k d m z w e = ahead is k d m (omega (arith, l, w)) w e
         by (inr c) is k d m z w e = absurd (no_match reader i b (ms ++ found_in (take index flats)) c.0 h.best c.1 is)
 
@@ -245,30 +282,38 @@ one_held (Some c) e = (c, refl)
 
 module _ (reader : LineReader) (i : ℕ) where
   -- the first parts are ahead of a place
-  abbrev pub AheadUpTo : Bool → ℕ → List Run → ℕ → Type 0
-  AheadUpTo lost at runs to = (k : ℕ) (r : Run) → k < to → k < length runs → AreAhead reader lost at (get_or runs k r)
+  abbrev pub AheadUpTo : List (List Bool) → ℕ → List Run → ℕ → Type 0
+  AheadUpTo losses at runs to = (k : ℕ) (r : Run) → k < to → k < length runs → AreAhead reader (marks_of losses k) at (get_or runs k r)
 
-  pub runs_more : (lost : Bool) (b : Best) (runs : List Run) (j : ℕ) (x : Run) → j < length runs → x ≡ get_or runs j x → AddsRun reader i lost x (matches_of reader (flat_map (run_members reader.set.now) (take j runs))) b
+  pub runs_more : (marks : List Bool) (b : Best) (runs : List Run) (j : ℕ) (x : Run) → j < length runs → x ≡ get_or runs j x → AddsRun reader i marks x (matches_of reader (flat_map (run_members reader.set.now) (take j runs))) b
       → IsBestAt reader i (matches_of reader (flat_map (run_members reader.set.now) (take (j + 1) runs))) b
-  runs_more lost b runs j x l e added = subst (λ xs. IsBestAt reader i xs b) (live_more reader.line.now reader.position.now (run_members reader.set.now) runs j x l e) added.best
+  runs_more marks b runs j x l e added = subst (λ xs. IsBestAt reader i xs b) (live_more reader.line.now reader.position.now (run_members reader.set.now) runs j x l e) added.best
 
-  pub runs_ahead : (old lost : Bool) (b : Best) (ms : List Live) (runs : List Run) (j : ℕ) (x : Run) → j < length runs → x ≡ get_or runs j x → (old ≡ true → lost ≡ true) → AddsRun reader i lost x ms b → b.is_match ≡ false
-      → AheadUpTo old (i + 1) runs j → AheadUpTo lost (i + 1) runs (j + 1)
-  runs_ahead old lost b ms runs j x l e h added is before k r n z q d m f w g = elim (cases_lt k j) [
-    | inl a ↦ ahead_still reader (part_member (get_or runs k r).part m) old lost (i + 1) h (before k r a z q d m f w g)
+  pub runs_ahead : (old new : List (List Bool)) (b : Best) (ms : List Live) (runs : List Run) (j : ℕ) (x : Run) → j < length runs → x ≡ get_or runs j x → LosesInPart j old new → AddsRun reader i (marks_of new j) x ms b → b.is_match ≡ false
+      → AheadUpTo old (i + 1) runs j → AheadUpTo new (i + 1) runs (j + 1)
+  runs_ahead old new b ms runs j x l e h added is before k r n z = elim (cases_lt k j) [
+    | inl a ↦
+        (let other : k ≢ j = omega (arith, a) in
+        subst (λ (t : List Bool). AreAhead reader t (i + 1) (get_or runs k r)) (sym (h k other)) (before k r a z))
     | inr a ↦
-        let same : k ≡ j = omega (arith, a, n) in
+        (let same : k ≡ j = omega (arith, a, n) in
         let here : get_or runs k r ≡ x = ap (λ y. get_or runs y r) same ∙ get_or_default runs j r x l ∙ sym e in
-        (subst (λ y. AreAhead reader lost (i + 1) y) (sym here) (added.ahead is)) q d m f w g
+        subst (λ (y : Run). AreAhead reader (marks_of new k) (i + 1) y) (sym here) (subst (λ (q : ℕ). AreAhead reader (marks_of new q) (i + 1) x) (sym same) (added.ahead is)))
   ]
 
-  pub one_ahead : (lost more : Bool) (runs : List Run) (j : ℕ) (x : Run) → j < length runs → x ≡ get_or runs j x → (lost ≡ true → more ≡ true) → AllAhead reader lost i runs → AreAhead reader more i x
-  one_ahead lost more runs j x l e h a k d m f w g =
-      ahead_still reader (part_member x.part m) lost more i h ((subst (λ y. AreAhead reader lost i y) (sym e) (a j x l)) k d m f w g)
+  pub one_ahead : (old now : List (List Bool)) (runs : List Run) (j : ℕ) (x : Run) → j < length runs → x ≡ get_or runs j x → ((k : ℕ) → j ≤ k → marks_of now k ≡ marks_of old k) → AllAhead reader old i runs → AreAhead reader (marks_of now j) i x
+  one_ahead old now runs j x l e h a =
+      subst (λ (t : List Bool). AreAhead reader t i x) (sym (h j (omega arith))) (subst (λ (y : Run). AreAhead reader (marks_of old j) i y) (sym e) (a j x l))
 
-  pub runs_end : (lost : Bool) (b : Best) (runs : List Run) (j : ℕ) → length runs ≤ j → IsBestAt reader i (matches_of reader (flat_map (run_members reader.set.now) (take j runs))) b
-      → (b.is_match ≡ false → AheadUpTo lost (i + 1) runs j) → AddsAll reader i lost runs b
-  runs_end lost b runs j l h a = record {
+  -- the marks of later parts stay
+  pub marks_behind : (old now new : List (List Bool)) (j : ℕ) → ((k : ℕ) → j ≤ k → marks_of now k ≡ marks_of old k) → LosesInPart j now new → (k : ℕ) → j + 1 ≤ k → marks_of new k ≡ marks_of old k
+  marks_behind old now new j h g k l =
+      let other : k ≢ j = omega (arith, l) in
+      g k other ∙ h k (omega (arith, l))
+
+  pub runs_end : (losses : List (List Bool)) (b : Best) (runs : List Run) (j : ℕ) → length runs ≤ j → IsBestAt reader i (matches_of reader (flat_map (run_members reader.set.now) (take j runs))) b
+      → (b.is_match ≡ false → AheadUpTo losses (i + 1) runs j) → AddsAll reader i losses runs b
+  runs_end losses b runs j l h a = record {
     best = subst (λ rs. IsBestAt reader i (matches_of reader (flat_map (run_members reader.set.now) rs)) b) (take_all j runs l) h;
     ahead = λ is k r z. a is k r (omega (arith, z, l)) z;
   }
@@ -295,8 +340,8 @@ runs_members set runs parts e = by runs ∙ ap (flat_map (part_members set)) e
     by [] = refl
     by (r ∷ rs) = ap (λ l. part_members set r.part ++ l) (by rs)
 
-pub all_first : (reader : LineReader) (lost : Bool) (runs : List Run) → AllAhead reader lost reader.position.now.place runs
-all_first reader lost runs k r z q d m f w g = ahead_first reader (part_member (get_or runs k r).part m) lost
+pub all_first : (reader : LineReader) (losses : List (List Bool)) (runs : List Run) → losses ≡ [] → AllAhead reader losses reader.position.now.place runs
+all_first reader losses runs e k r z q d m f w g = ahead_first reader (part_member (get_or runs k r).part m) (is_lost (marks_of losses k) q) (ap (λ (l : List (List Bool)). is_lost (marks_of l k) q) e)
 
 -- ---- places where nothing can begin ----
 
@@ -322,24 +367,24 @@ begin_more begins any both runs j run here any-of is before x k r l e m n = elim
       subst (IsQuiet x) (sym at) quiet)
 ]
 
-module _ (finds : FindsInText dialect) (reader : LineReader) (runs : List Run) (all : All (IsRun reader.set.now) runs) (lost : Bool) where
-  pub passed_place : (i : ℕ) → All (IsQuiet (start_at reader.line.now i)) runs → AllAhead reader lost i runs → AllAhead reader lost (i + 1) runs
+module _ (finds : FindsInText dialect) (reader : LineReader) (runs : List Run) (all : All (IsRun reader.set.now) runs) (losses : List (List Bool)) where
+  pub passed_place : (i : ℕ) → All (IsQuiet (start_at reader.line.now i)) runs → AllAhead reader losses i runs → AllAhead reader losses (i + 1) runs
   passed_place i quiet ahead k r l q d m z w e =
       let run : Run = get_or runs k r in
-      begun_ahead finds reader i run (all k r l) lost (length (list_in run.flats)) (λ j f _ n _. inl (quiet k r l j f n)) (ahead k r l) q d m w w e
+      begun_ahead finds reader i run (all k r l) (marks_of losses k) (length (list_in run.flats)) (λ j f _ n _. inl (quiet k r l j f n)) (ahead k r l) q d m w w e
 
 -- ---- the winner of the chain ----
 
-module _ (reader : LineReader) (i : ℕ) (lost : Bool) (runs : List Run) (parts : List Part) (b : Best) where
-  of_parts : map (λ r. r.part) runs ≡ parts → AddsAll reader i lost runs b → IsBest reader.line.now reader.position.now i (matches_of reader (flat_map (part_members reader.set.now) parts)) b
+module _ (reader : LineReader) (i : ℕ) (losses : List (List Bool)) (runs : List Run) (parts : List Part) (b : Best) where
+  of_parts : map (λ r. r.part) runs ≡ parts → AddsAll reader i losses runs b → IsBest reader.line.now reader.position.now i (matches_of reader (flat_map (part_members reader.set.now) parts)) b
   of_parts e added = subst (λ ms. IsBest reader.line.now reader.position.now i (matches_of reader ms) b) (runs_members reader.set.now runs parts e) added.best.best
 
   -- where one begins at this place, it wins,
-  pub chain_won : map (λ r. r.part) runs ≡ parts → AddsAll reader i lost runs b → b.is_match ≡ true
+  pub chain_won : map (λ r. r.part) runs ≡ parts → AddsAll reader i losses runs b → b.is_match ≡ true
       → choice_by reader.line.now reader.position.now.place b ≡ winner reader.line.now reader.position.now (matches_of reader (flat_map (part_members reader.set.now) parts))
   chain_won e added is = best_wins reader.line.now reader.position.now i b (matches_of reader (flat_map (part_members reader.set.now) parts)) (of_parts e added) is
 
   -- and at the line's end there is none
-  pub chain_ended : FindsInText dialect → length reader.line.now ≤ i → map (λ r. r.part) runs ≡ parts → AddsAll reader i lost runs b → b.is_match ≡ false
+  pub chain_ended : FindsInText dialect → length reader.line.now ≤ i → map (λ r. r.part) runs ≡ parts → AddsAll reader i losses runs b → b.is_match ≡ false
       → choice_by reader.line.now reader.position.now.place b ≡ winner reader.line.now reader.position.now (matches_of reader (flat_map (part_members reader.set.now) parts))
   chain_ended finds l e added is = best_at_end finds reader.line.now reader.text reader.position.now (flat_map (part_members reader.set.now) parts) i b l (of_parts e added) is

@@ -4,7 +4,6 @@ use Rattle.std.specs.List.{All, cons_option, flat_map}
 use Rattle.std.specs.Option.{option_copied}
 use Rattle.syntect_pattern.specs.Matches.{is_word_edge}
 use Rattle.syntect_pattern_table.specs.Starts.{is_in, start_at}
-use Rattle.syntect_contexts.specs.Substitution.{Groups}
 use Rattle.syntect_contexts.specs.declared.context.MatchPattern.{MatchPattern}
 use Rattle.syntect_pattern_table.specs.declared.starts.Places.{Places}
 use Rattle.syntect_flats.specs.Rows.{behind_of}
@@ -12,11 +11,11 @@ use Rattle.syntect_flats.specs.declared.flats.Flat.{Flat}
 use Rattle.syntect_flats.specs.declared.flats.Outlook.{Outlook}
 use Rattle.syntect_grammar.specs.Flats.{AreFlatsOf, pattern_at}
 use Rattle.syntect_grammar.specs.declared.syntax_set.SyntaxSet.{SyntaxSet}
-use Rattle.syntect_regex.specs.Region.{BeginsAt}
 use Rattle.syntect_word_ends.specs.Ends.{IsRunUpTo}
 use Rattle.syntect_winner.specs.Best.{IsBest}
 use Rattle.syntect_winner.specs.Chain.{Member}
 use Rattle.syntect_winner.specs.Engine.{dialect}
+use Rattle.syntect_winner.specs.Losses.{is_lost, marks_of}
 use Rattle.syntect_winner.specs.Parts.{flat_members, part_member, part_members}
 use Rattle.syntect_winner.specs.Reader.{match_of, matches_of, search_of}
 use Rattle.syntect_winner.specs.Turn.{Live, searched_text}
@@ -45,35 +44,35 @@ pub record IsRun (set : SyntaxSet) (run : Run) : Type 0 where
   pub flats : AreFlatsOf set run.part.id (list_in run.flats)
   pub replaced : AreReplaced set run.part (list_in run.flats) run.replaced.items
 
--- A search of a member from the reader's place on finds what one from this place on finds; or matches were lost, since they
--- don't count, and the member has none that counts.
+-- A search of a member from the reader's place on finds what one from this place on finds; or its first match from there on
+-- doesn't count, so that it is out and has none that does.
 abbrev pub IsAhead : LineReader → Bool → ℕ → Member → Type 0
 IsAhead reader lost i m =
-    (search_of reader reader.position.now.place m ≡ search_of reader i m)
+    ((lost ≡ false) × (search_of reader reader.position.now.place m ≡ search_of reader i m))
     ⊎ ((lost ≡ true) × (match_of reader m ≡ None))
 
--- so it is with all patterns of a part from an index on,
-abbrev pub AreAheadFrom : LineReader → Bool → ℕ → Run → ℕ → Type 0
-AreAheadFrom reader lost i run from =
+-- so it is with all patterns of a part from an index on, by the marks of those that are out,
+abbrev pub AreAheadFrom : LineReader → List Bool → ℕ → Run → ℕ → Type 0
+AreAheadFrom reader marks i run from =
     (k : ℕ) (d : Flat) (m : MatchPattern) → from ≤ k → k < length (list_in run.flats)
     → pattern_at reader.set.now (slice_index_or (list_in run.flats) k d) ≡ Some m
-    → IsAhead reader lost i (part_member run.part m)
+    → IsAhead reader (is_lost marks k) i (part_member run.part m)
 
 -- with those before it,
-abbrev pub AreAheadUpTo : LineReader → Bool → ℕ → Run → ℕ → Type 0
-AreAheadUpTo reader lost i run to =
+abbrev pub AreAheadUpTo : LineReader → List Bool → ℕ → Run → ℕ → Type 0
+AreAheadUpTo reader marks i run to =
     (k : ℕ) (d : Flat) (m : MatchPattern) → k < to → k < length (list_in run.flats)
     → pattern_at reader.set.now (slice_index_or (list_in run.flats) k d) ≡ Some m
-    → IsAhead reader lost i (part_member run.part m)
+    → IsAhead reader (is_lost marks k) i (part_member run.part m)
 
 -- with all of them,
-abbrev pub AreAhead : LineReader → Bool → ℕ → Run → Type 0
-AreAhead reader lost i run = AreAheadFrom reader lost i run 0
+abbrev pub AreAhead : LineReader → List Bool → ℕ → Run → Type 0
+AreAhead reader marks i run = AreAheadFrom reader marks i run 0
 
 -- and with all parts of a chain
-abbrev pub AllAhead : LineReader → Bool → ℕ → List Run → Type 0
-AllAhead reader lost i runs =
-    (k : ℕ) (r : Run) → k < length runs → AreAhead reader lost i (slice_index_or runs k r)
+abbrev pub AllAhead : LineReader → List (List Bool) → ℕ → List Run → Type 0
+AllAhead reader losses i runs = (k : ℕ) (r : Run) → k < length runs
+    → AreAhead reader (marks_of losses k) i (slice_index_or runs k r)
 
 -- what is seen of a place of the line
 pub record Sees (o : Outlook) (line : List ℕ) (i : ℕ) : Type 0 where
@@ -116,10 +115,6 @@ BeginIn begins runs = (x : ℕ) → x < 130 → is_in begins x ≡ false → All
 abbrev pub run_members : SyntaxSet → Run → List Member
 run_members set run = part_members set run.part
 
--- a search of the member from the place on finds these groups, and there
-abbrev pub FindsHere : LineReader → ℕ → Member → Groups → Type 0
-FindsHere reader i m groups = (search_of reader i m ≡ Some groups) × BeginsAt groups i
-
 -- the best of these matches, where all that begin before this place were looked for and there are none
 pub record IsBestAt (reader : LineReader) (i : ℕ) (ms : List Live) (b : Best) : Type 0 where
   pub best : IsBest reader.line.now reader.position.now i ms b
@@ -132,23 +127,23 @@ pub record AddsMember (reader : LineReader) (i : ℕ) (lost : Bool) (m : Member)
   pub ahead : b.is_match ≡ false → IsAhead reader lost (i + 1) m
 
 -- the same of the pattern of a part at an index
-pub record AddsAt (reader : LineReader) (i : ℕ) (lost : Bool) (run : Run) (index : ℕ)
+pub record AddsAt (reader : LineReader) (i : ℕ) (marks : List Bool) (run : Run) (index : ℕ)
     (ms : List Live) (b : Best) : Type 0 where
   pub best : (d : Flat) → IsBestAt reader i (ms
       ++ matches_of reader (flat_members reader.set.now run.part
       (slice_index_or (list_in run.flats) index d ∷ []))) b
   pub ahead : (d : Flat) (m : MatchPattern) → b.is_match ≡ false
       → pattern_at reader.set.now (slice_index_or (list_in run.flats) index d) ≡ Some m
-      → IsAhead reader lost (i + 1) (part_member run.part m)
+      → IsAhead reader (is_lost marks index) (i + 1) (part_member run.part m)
 
 -- the same of a part's patterns
-pub record AddsRun (reader : LineReader) (i : ℕ) (lost : Bool) (run : Run) (ms : List Live)
-    (b : Best) : Type 0 where
+pub record AddsRun (reader : LineReader) (i : ℕ) (marks : List Bool) (run : Run)
+    (ms : List Live) (b : Best) : Type 0 where
   pub best : IsBestAt reader i (ms ++ matches_of reader (part_members reader.set.now run.part)) b
-  pub ahead : b.is_match ≡ false → AreAhead reader lost (i + 1) run
+  pub ahead : b.is_match ≡ false → AreAhead reader marks (i + 1) run
 
 -- the same of all parts of a chain
-pub record AddsAll (reader : LineReader) (i : ℕ) (lost : Bool) (runs : List Run)
+pub record AddsAll (reader : LineReader) (i : ℕ) (losses : List (List Bool)) (runs : List Run)
     (b : Best) : Type 0 where
   pub best : IsBestAt reader i (matches_of reader (flat_map (run_members reader.set.now) runs)) b
-  pub ahead : b.is_match ≡ false → AllAhead reader lost (i + 1) runs
+  pub ahead : b.is_match ≡ false → AllAhead reader losses (i + 1) runs

@@ -1,5 +1,5 @@
 -- What a turn has found while it goes through the chain.
-use Rattle.std.specs.Prelude.{◌≡◌, ℕ, suc, ◌+◌, ◌<◌, ◌≤◌, ◌==◌, ◌&&◌, nat_le, nat_lt, not, Bool, true, false, List, length, find, Option, Some, None, IfSome, if◌then◌else◌}
+use Rattle.std.specs.Prelude.{◌≡◌, ℕ, suc, ◌+◌, ◌≤◌, ◌==◌, ◌&&◌, nat_le, nat_lt, not, Bool, true, false, List, length, find, Option, Some, None, if◌then◌else◌}
 use Rattle.std.specs.List.{list_all, list_any}
 use Rattle.std.specs.Option.{option_map}
 use Rattle.syntect_winner.specs.Turn.{Live, Choice, Take, Skip, End, char_len, loops}
@@ -18,11 +18,6 @@ decided line place false None = End
 
 abbrev pub choice_by : List ℕ → ℕ → Best → Choice
 choice_by line place b = decided line place b.is_match (option_map (seen line place) b.candidate)
-
--- the match is this one, or it begins behind the last place, if there is one at all
-abbrev pub IsNear : Option Live → ℕ → Option Live → Type 0
-IsNear live last (Some m) = live ≡ Some m
-IsNear live last None = IfSome live (λ k. last < k.start)
 
 -- these are the groups of the match, if there is one
 abbrev pub AreGroupsOf : List ℕ → ℕ → Option Candidate → Groups → Type 0

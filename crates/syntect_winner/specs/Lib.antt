@@ -5,6 +5,7 @@ pub mod Found
 pub mod Candidates
 pub mod Parts
 pub mod Reader
+pub mod Losses
 pub mod Ahead
 pub mod Best
 pub mod Steps

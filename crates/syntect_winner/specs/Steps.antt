@@ -19,10 +19,9 @@ IsWithin long most m = is_within long most m ≡ true
 abbrev pub AreWithin : ℕ → ℕ → List Member → Type 0
 AreWithin long most ms = list_all (is_within long most) ms ≡ true
 
--- the most steps of so many patterns at a place: each is tried there, and where matches were passed over, since they don't
--- count, it is searched once more
+-- the most steps of so many patterns at a place: each is tried there at most once
 abbrev pub place_steps : ℕ → ℕ → ℕ
-place_steps patterns most = patterns * (2 * most)
+place_steps patterns most = patterns * most
 
 -- the most steps of a turn with a chain of so many patterns, in a line so long: it looks at each place, and at the line's end
 abbrev pub turn_steps : ℕ → ℕ → ℕ → ℕ

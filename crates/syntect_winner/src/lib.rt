@@ -7,6 +7,7 @@ pub mod here;
 pub mod hints;
 pub mod laws;
 pub mod level;
+pub mod losses;
 pub mod memory;
 pub mod position;
 pub mod reader;

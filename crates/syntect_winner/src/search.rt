@@ -1,14 +1,12 @@
 //! Which match a turn takes.
-ghost use Rattle.std.specs.Prelude.{◌≡◌, ◌≤◌, ◌+◌, ℕ, length, IfOk, OnOk, unwrap_or, if◌then◌else◌, true, false, Some, None};
-ghost use Rattle.std.specs.Option.{option_map, option_copied};
+ghost use Rattle.std.specs.Prelude.{◌≡◌, ◌+◌, IfOk, unwrap_or, if◌then◌else◌, true, false, Some, None};
+ghost use Rattle.std.specs.Option.{option_copied};
 ghost use Rattle.syntect_winner.specs.Engine.{dialect};
 ghost use Rattle.syntect_winner.specs.Turn.{searched_text, loops, counts, turns_back, char_len};
-ghost use Rattle.syntect_winner.specs.Best.{IsNear, choice_by};
-ghost use Rattle.syntect_winner.specs.Candidates.{SkipsTo, member_of, text_of, chosen};
-ghost use Rattle.syntect_winner.specs.Reader.{AreGroupsBy, match_of, seen_by};
-ghost use Rattle.syntect_winner.specs.Steps.{IsWithin};
+ghost use Rattle.syntect_winner.specs.Best.{choice_by};
+ghost use Rattle.syntect_winner.specs.Candidates.{SkipsTo, text_of, chosen};
+ghost use Rattle.syntect_winner.specs.Reader.{seen_by};
 
-use crate::laws::dialect_finds_in_text;
 use crate::memory::Memory;
 use crate::position::{MOST_IDLE, MOST_LEVELS, Position};
 use crate::reader::LineReader;
@@ -140,16 +138,6 @@ pub enum Choice<'m, 's> {
     End,
 }
 
-/// The pattern that is searched.
-fn searched<'r>(pattern: &'r MatchPattern, substituted: &'r Option<Regex>) -> &'r Regex
-    ensures { result.now ≡ unwrap_or substituted.now pattern.now.regex }
-{
-    match substituted {
-        Some(regex) => regex,
-        None => &pattern.regex,
-    }
-}
-
 impl<'s> Candidate<'s> {
     /// The pattern that was searched.
     pub fn regex(&self) -> &Regex
@@ -184,57 +172,6 @@ pub fn substituted(entry: &Entry<'_, '_>) -> Result<Option<Regex>, AllocError>
     };
     if entry.pattern.has_captures {
         Ok(Some(opening.substituted(entry.pattern)?))
-    } else {
-        Ok(None)
-    }
-}
-
-/// What is searched in a pattern's place, in a place of its own.
-fn owned(alloc: Global, substituted: Option<Regex>) -> Result<Option<OwnRegex>, AllocError>
-    ensures { IfOk result (λ own. own ≡ substituted) }
-{
-    match substituted {
-        Some(regex) => Ok(Some(OwnRegex::new(alloc, regex)?)),
-        None => Ok(None),
-    }
-}
-
-/// The match of a pattern of the chain from the reader's place on, if it has one that counts, unless it begins behind `last`.
-/// The steps of the search are counted.
-pub fn search_entry<'s>(
-    reader: &LineReader<'_, '_>,
-    entry: &Entry<'s, '_>,
-    last: usize,
-    region: &mut Region,
-    count: &mut TurnCount,
-) -> Result<Option<Candidate<'s>>, AllocError>
-    requires order { reader.now.position.now.place ≤ last }
-    ensures near { IfOk result (λ m. IsNear (match_of reader.now (member_of entry.now)) last
-        (option_map (seen_by reader.now) m)) }
-    ensures groups { IfOk result (λ m. AreGroupsBy reader.now m region.new) }
-    ensures steps { (w : ℕ) → IsWithin (length reader.now.line.now) w (member_of entry.now)
-        → OnOk result (count.new.made ≤ count.old.made + w) }
-{
-    dialect_finds_in_text();
-    let substituted = substituted(entry)?;
-    let regex = searched(entry.pattern, &substituted);
-    let place = reader.position.place;
-    if !regex.search_up_to_counted(reader.line, place, last, region, count)? {
-        return Ok(None);
-    }
-    let Some((start, end)) = region.pos(0) else {
-        return Ok(None);
-    };
-    let height = reader.position.levels.len();
-    if counts(height, &entry.pattern.operation, start, end) {
-        let substituted = owned(reader.alloc, substituted)?;
-        Ok(Some(Candidate {
-            pattern: entry.pattern,
-            substituted,
-            from_with_prototype: entry.from_with_prototype,
-            start,
-            end,
-        }))
     } else {
         Ok(None)
     }

@@ -1,6 +1,6 @@
 //! What a turn finds: it looks at place after place, and at each tries the patterns that can begin with what stands there, in
 //! the order of the chain.
-ghost use Rattle.std.specs.Prelude.{◌≡◌, ◌≤◌, ◌<◌, ◌+◌, ◌*◌, [], Bool, List, ℕ, length, map, IfOk, OnOk, Some, None, true, false, slice_index_or, unwrap_or};
+ghost use Rattle.std.specs.Prelude.{◌≡◌, ◌≤◌, ◌<◌, ◌+◌, ◌*◌, Bool, List, ℕ, length, map, IfOk, OnOk, Some, None, true, false, slice_index_or, unwrap_or};
 ghost use Rattle.std.specs.Option.{option_copied};
 ghost use Rattle.std.specs.List.{All, flat_map};
 ghost use Rattle.syntect_contexts.specs.declared.context.MatchPattern.{MatchPattern as APattern};
@@ -10,11 +10,11 @@ ghost use Rattle.syntect_pattern.specs.Matches.{is_word_edge};
 ghost use Rattle.syntect_pattern_table.specs.Starts.{start_at};
 ghost use Rattle.syntect_word_ends.specs.Ends.{IsRunUpTo};
 ghost use Rattle.syntect_winner.specs.declared.sweep.Run.{Run as ARun};
-ghost use Rattle.syntect_winner.specs.Ahead.{AddsAll, AddsAt, AddsMember, AddsRun, AllAhead, AreAhead, AreAheadFrom, AreReplaced, BeginIn, FindsHere, IsAhead, IsBestAt, IsRuledOut, IsRun, Reaches, Sees, list_in, run_members};
-ghost use Rattle.syntect_contexts.specs.Substitution.{Groups};
+ghost use Rattle.syntect_winner.specs.Ahead.{AddsAll, AddsAt, AddsMember, AddsRun, AllAhead, AreAhead, AreAheadFrom, AreReplaced, BeginIn, IsAhead, IsBestAt, IsRuledOut, IsRun, Reaches, Sees, list_in, run_members};
 ghost use Rattle.syntect_winner.specs.Best.{choice_by};
 ghost use Rattle.syntect_winner.specs.Candidates.{member_of};
 ghost use Rattle.syntect_winner.specs.Engine.{dialect};
+ghost use Rattle.syntect_winner.specs.Losses.{LosesAtMost, LosesInPart, marks_of};
 ghost use Rattle.syntect_winner.specs.Memory.{Remembers, origin_pattern};
 ghost use Rattle.syntect_winner.specs.Parts.{part_members};
 ghost use Rattle.syntect_winner.specs.Reader.{AreGroupsBy, matches_of};
@@ -24,10 +24,9 @@ ghost use Rattle.syntect_winner.specs.Turn.{Live, searched_text, winner};
 use crate::chain::Part;
 use crate::here::is_here;
 use crate::laws::dialect_finds_in_text;
+use crate::losses::Losses;
 use crate::reader::LineReader;
-use crate::search::{
-    Best, Candidate, Entry, OwnRegex, Regions, counts, led_by, search_entry, substituted,
-};
+use crate::search::{Best, Candidate, Entry, OwnRegex, Regions, counts, led_by, substituted};
 use std::alloc::{AllocError, Global};
 use syntect_flats::flats::{Flat, Origin, Outlook};
 use syntect_flats::list::FlatList;
@@ -235,9 +234,9 @@ fn next_place(reader: &LineReader<'_, '_>, begins: Places, place: usize) -> usiz
     requires { place ≤ length reader.now.line.now }
     ensures later { place ≤ result }
     ensures within { result ≤ length reader.now.line.now }
-    ensures ahead { (lost : Bool) (runs : List ARun) → BeginIn begins runs
+    ensures ahead { (losses : List (List Bool)) (runs : List ARun) → BeginIn begins runs
         → All (IsRun reader.now.set.now) runs
-        → AllAhead reader.now lost place runs → AllAhead reader.now lost result runs }
+        → AllAhead reader.now losses place runs → AllAhead reader.now losses result runs }
 {
     dialect_finds_in_text();
     let mut next = place;
@@ -245,49 +244,6 @@ fn next_place(reader: &LineReader<'_, '_>, begins: Places, place: usize) -> usiz
         next += 1;
     }
     next
-}
-
-/// What is found with a member of the chain more that is searched in this form, where a match of it was lost: it is searched
-/// from the turn's place on.
-fn with_searched<'s>(
-    reader: &LineReader<'_, '_>,
-    entry: &Entry<'s, '_>,
-    place: usize,
-    best: Best<'s>,
-    regions: &mut Regions,
-) -> Result<Best<'s>, AllocError>
-    requires { reader.now.position.now.place ≤ place }
-    ensures groups { IfOk result (λ b.
-        AreGroupsBy reader.now best.entry.candidate regions.old.best
-        → AreGroupsBy reader.now b.candidate regions.new.best) }
-    ensures grows { IfOk result (λ b. b.is_match ≡ false → best.entry.is_match ≡ false) }
-    ensures best { (ms : List Live) (g : Groups)
-        → IsAhead reader.now true place (member_of entry.now)
-        → FindsHere reader.now place (member_of entry.now) g → best.entry.candidate ≡ None
-        → IsBestAt reader.now place ms best.entry
-        → IfOk result (AddsMember reader.now place true (member_of entry.now) ms) }
-    ensures memory { regions.new.memory ≡ regions.old.memory }
-    ensures steps { (w : ℕ) → IsWithin (length reader.now.line.now) w (member_of entry.now)
-        → OnOk result (regions.new.steps.made ≤ regions.old.steps.made + w) }
-{
-    dialect_finds_in_text();
-    match search_entry(
-        reader,
-        entry,
-        place,
-        &mut regions.searched,
-        &mut regions.steps,
-    )? {
-        Some(m) => {
-            if m.start <= place {
-                regions.keep();
-                Ok(led_by(reader, m))
-            } else {
-                Ok(best)
-            }
-        }
-        None => Ok(best),
-    }
 }
 
 /// A copy of what stands in a pattern's place.
@@ -307,8 +263,8 @@ fn replaced_at<'r>(run: &'r Run<'_, '_>, index: usize) -> Option<&'r Regex>
     run.replaced.get(index)?.as_ref()
 }
 
-/// What is found with a member of the chain more, none of whose matches that count begins before the place. `lost` tells
-/// whether matches were passed over, since they don't count.
+/// What is found with a member of the chain more, none of whose matches begins before the place. `lost` tells then whether
+/// one begins there that doesn't count.
 fn with_entry<'s>(
     reader: &LineReader<'_, '_>,
     entry: &Entry<'s, '_>,
@@ -324,26 +280,23 @@ fn with_entry<'s>(
     requires order { reader.now.position.now.place ≤ place }
     requires text { unwrap_or (option_copied replaced) entry.now.pattern.now.regex
         ≡ searched_text dialect entry.now.pattern.now (option_copied entry.now.opening) }
-    ensures lost { lost.old ≡ true → lost.new ≡ true }
-    ensures groups { IsAhead reader.now lost.old place (member_of entry.now)
+    requires lost { lost.old ≡ false }
+    ensures groups { IsAhead reader.now false place (member_of entry.now)
         → IfOk result (λ b.
         AreGroupsBy reader.now best.entry.candidate regions.old.best
         → AreGroupsBy reader.now b.candidate regions.new.best) }
     ensures grows { IfOk result (λ b. b.is_match ≡ false → best.entry.is_match ≡ false) }
-    ensures best { (ms : List Live) → IsAhead reader.now lost.old place (member_of entry.now)
+    ensures best { (ms : List Live) → IsAhead reader.now false place (member_of entry.now)
         → best.entry.candidate ≡ None → IsBestAt reader.now place ms best.entry
         → IfOk result (AddsMember reader.now place lost.new (member_of entry.now) ms) }
     ensures known { OnOk result
         (Remembers reader.now.set.now reader.now.line.now regions.new.memory) }
     ensures steps { (w : ℕ) → IsWithin (length reader.now.line.now) w (member_of entry.now)
-        → OnOk result (regions.new.steps.made ≤ regions.old.steps.made + 2 * w) }
+        → OnOk result (regions.new.steps.made ≤ regions.old.steps.made + w) }
 {
     dialect_finds_in_text();
     if !is_here(reader, entry, replaced, origin, place, regions)? {
         return Ok(best);
-    }
-    if *lost {
-        return with_searched(reader, entry, place, best, regions);
     }
     let Some((start, end)) = regions.searched.pos(0) else {
         *lost = true;
@@ -368,35 +321,40 @@ fn with_entry<'s>(
     ))
 }
 
-/// What is found with the pattern of a part at an index more.
+/// What is found with the pattern of a part at an index more. One that is out for this turn isn't tried.
 fn with_pattern<'s>(
     reader: &LineReader<'s, '_>,
     run: &Run<'s, '_>,
+    part: usize,
     index: usize,
     place: usize,
     best: Best<'s>,
-    lost: &mut bool,
+    losses: &mut Losses,
     regions: &mut Regions,
 ) -> Result<Best<'s>, AllocError>
     requires known { Remembers reader.now.set.now reader.now.line.now regions.old.memory }
     requires order { reader.now.position.now.place ≤ place }
     requires run { IsRun reader.now.set.now run.now }
     requires inside { index < length (list_in run.now.flats) }
-    ensures lost { lost.old ≡ true → lost.new ≡ true }
-    ensures groups { AreAheadFrom reader.now lost.old place run.now index
+    ensures losses { OnOk result (LosesAtMost part index losses.old losses.new) }
+    ensures groups { AreAheadFrom reader.now (marks_of losses.old part) place run.now index
         → IfOk result (λ b.
         AreGroupsBy reader.now best.entry.candidate regions.old.best
         → AreGroupsBy reader.now b.candidate regions.new.best) }
     ensures grows { IfOk result (λ b. b.is_match ≡ false → best.entry.is_match ≡ false) }
-    ensures best { (ms : List Live) → AreAheadFrom reader.now lost.old place run.now index
+    ensures best { (ms : List Live)
+        → AreAheadFrom reader.now (marks_of losses.old part) place run.now index
         → best.entry.candidate ≡ None → IsBestAt reader.now place ms best.entry
-        → IfOk result (AddsAt reader.now place lost.new run.now index ms) }
+        → IfOk result (AddsAt reader.now place (marks_of losses.new part) run.now index ms) }
     ensures known { OnOk result
         (Remembers reader.now.set.now reader.now.line.now regions.new.memory) }
     ensures steps { (w : ℕ) → AreWithin (length reader.now.line.now) w
         (run_members reader.now.set.now run.now)
-        → OnOk result (regions.new.steps.made ≤ regions.old.steps.made + 2 * w) }
+        → OnOk result (regions.new.steps.made ≤ regions.old.steps.made + w) }
 {
+    if losses.has(part, index) {
+        return Ok(best);
+    }
     let origin = list_in(&run.flats).origin_at(index);
     let Some(pattern) = reader.set.pattern_at(origin) else {
         return Ok(best);
@@ -407,7 +365,14 @@ fn with_pattern<'s>(
         from_with_prototype: run.part.from_with_prototype,
     };
     let replaced = replaced_at(run, index);
-    with_entry(reader, &entry, replaced, origin, place, best, lost, regions)
+    let mut lost = false;
+    let best = with_entry(
+        reader, &entry, replaced, origin, place, best, &mut lost, regions,
+    )?;
+    if lost {
+        losses.add(part, index)?;
+    }
+    Ok(best)
 }
 
 /// What is found with the patterns of a part more, none of whose matches that count begins before the place, of which this is
@@ -415,10 +380,11 @@ fn with_pattern<'s>(
 fn with_run<'s>(
     reader: &LineReader<'s, '_>,
     run: &Run<'s, '_>,
+    part: usize,
     place: usize,
     outlook: Outlook,
     best: Best<'s>,
-    lost: &mut bool,
+    losses: &mut Losses,
     regions: &mut Regions,
 ) -> Result<Best<'s>, AllocError>
     requires known { Remembers reader.now.set.now reader.now.line.now regions.old.memory }
@@ -427,14 +393,16 @@ fn with_run<'s>(
     requires behind { outlook.behind < 130 }
     requires sees { Sees outlook reader.now.line.now place }
     requires run { IsRun reader.now.set.now run.now }
-    ensures lost { lost.old ≡ true → lost.new ≡ true }
-    ensures groups { AreAhead reader.now lost.old place run.now → IfOk result (λ b.
+    ensures losses { OnOk result (LosesInPart part losses.old losses.new) }
+    ensures groups { AreAhead reader.now (marks_of losses.old part) place run.now
+        → IfOk result (λ b.
         AreGroupsBy reader.now best.entry.candidate regions.old.best
         → AreGroupsBy reader.now b.candidate regions.new.best) }
     ensures grows { IfOk result (λ b. b.is_match ≡ false → best.entry.is_match ≡ false) }
-    ensures best { (ms : List Live) → AreAhead reader.now lost.old place run.now
+    ensures best { (ms : List Live)
+        → AreAhead reader.now (marks_of losses.old part) place run.now
         → IsBestAt reader.now place ms best.entry
-        → IfOk result (AddsRun reader.now place lost.new run.now ms) }
+        → IfOk result (AddsRun reader.now place (marks_of losses.new part) run.now ms) }
     ensures known { OnOk result
         (Remembers reader.now.set.now reader.now.line.now regions.new.memory) }
     ensures steps { (w : ℕ) → AreWithin (length reader.now.line.now) w
@@ -447,7 +415,7 @@ fn with_run<'s>(
     let mut best = best;
     let mut index = next_in(run, outlook, 0);
     while index < count && best.candidate.is_none() {
-        best = with_pattern(reader, run, index, place, best, lost, regions)?;
+        best = with_pattern(reader, run, part, index, place, best, losses, regions)?;
         index = next_in(run, outlook, index + 1);
     }
     Ok(best)
@@ -459,7 +427,7 @@ fn best_at<'s>(
     runs: &[Run<'s, '_>],
     place: usize,
     outlook: Outlook,
-    lost: &mut bool,
+    losses: &mut Losses,
     regions: &mut Regions,
 ) -> Result<Best<'s>, AllocError>
     requires known { Remembers reader.now.set.now reader.now.line.now regions.old.memory }
@@ -468,11 +436,10 @@ fn best_at<'s>(
     requires behind { outlook.behind < 130 }
     requires sees { Sees outlook reader.now.line.now place }
     requires runs { All (IsRun reader.now.set.now) runs.now }
-    ensures lost { lost.old ≡ true → lost.new ≡ true }
-    ensures groups { AllAhead reader.now lost.old place runs.now → IfOk result (λ b.
+    ensures groups { AllAhead reader.now losses.old place runs.now → IfOk result (λ b.
         AreGroupsBy reader.now b.candidate regions.new.best) }
-    ensures best { AllAhead reader.now lost.old place runs.now
-        → IfOk result (AddsAll reader.now place lost.new runs.now) }
+    ensures best { AllAhead reader.now losses.old place runs.now
+        → IfOk result (AddsAll reader.now place losses.new runs.now) }
     ensures known { OnOk result
         (Remembers reader.now.set.now reader.now.line.now regions.new.memory) }
     ensures steps { (w : ℕ) → AreWithin (length reader.now.line.now) w
@@ -485,8 +452,8 @@ fn best_at<'s>(
         is_match: false,
         candidate: None,
     };
-    for run in runs {
-        best = with_run(reader, run, place, outlook, best, lost, regions)?;
+    for (part, run) in runs.iter().enumerate() {
+        best = with_run(reader, run, part, place, outlook, best, losses, regions)?;
     }
     Ok(best)
 }
@@ -520,12 +487,12 @@ pub fn best_of_chain<'s>(
         end: 0,
         behind: 0,
     };
-    let mut lost = false;
+    let mut losses = Losses::new(reader.alloc);
     let mut place = reader.position.place;
     'places: loop {
         let next = next_place(reader, begins, place);
         let outlook = outlook_of(reader.line, next, asks, &mut reach);
-        let found = best_at(reader, runs.as_slice(), next, outlook, &mut lost, regions)?;
+        let found = best_at(reader, runs.as_slice(), next, outlook, &mut losses, regions)?;
         if found.is_match {
             return Ok(found);
         }

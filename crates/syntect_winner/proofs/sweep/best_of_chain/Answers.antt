@@ -1,4 +1,4 @@
-use Rattle.std.proofs.Common.{false, arith, length, ◌+◌}
+use Rattle.std.proofs.Common.{arith, length, ◌+◌}
 use Rattle.std.specs.List.{flat_map}
 use Rattle.syntect_winner.specs.Parts.{part_members}
 use Rattle.syntect_winner.specs.Steps.{place_steps}
@@ -11,7 +11,7 @@ places-init c = record {
   known = c.requires.known;
   near = omega arith;
   within = c.args.reader.now.boundary.0;
-  ahead = all_first c.args.reader.now false c.in_ok-runs.runs.items;
+  ahead = all_first c.args.reader.now c.new-losses.result c.in_ok-runs.runs.items c.new-losses.ensures;
   reach = λ l. absurd (omega (arith, l));
   steps = λ w all. places_begin c.args.regions.now.steps.made (length c.args.reader.now.line.now) c.args.reader.now.position.now.place (place_steps (length (flat_map (part_members c.args.reader.now.set.now) c.args.parts.now)) w);
 }
@@ -23,27 +23,27 @@ pub best_at-requires-clause-runs : goal.best_at-requires-clause-runs
 best_at-requires-clause-runs c = rw c.as_slice-in-places.ensures.value c.in_ok-runs.ensures.runs
 
 pub returns-then-found-clause-groups : goal.returns-then-found-clause-groups
-returns-then-found-clause-groups c = c.in_ok-found.ensures.groups (rw c.as_slice-in-places.ensures.value (c.next_place-next.ensures.ahead c.places.lost c.in_ok-runs.runs.items (rw c.as_slice.ensures.value at c.begins_of-begins.ensures) c.in_ok-runs.ensures.runs c.places.invariant.ahead))
+returns-then-found-clause-groups c = c.in_ok-found.ensures.groups (rw c.as_slice-in-places.ensures.value (c.next_place-next.ensures.ahead c.places.losses c.in_ok-runs.runs.items (rw c.as_slice.ensures.value at c.begins_of-begins.ensures) c.in_ok-runs.ensures.runs c.places.invariant.ahead))
 
 pub returns-then-found-clause-best : goal.returns-then-found-clause-best
 returns-then-found-clause-best c =
-    chain_won c.args.reader.now c.next_place-next.result c.best_at.new.lost c.as_slice-in-places.result.now c.args.parts.now c.in_ok-found.found
-    (rw c.as_slice-in-places.ensures.value c.in_ok-runs.ensures.parts) (c.in_ok-found.ensures.best (rw c.as_slice-in-places.ensures.value (c.next_place-next.ensures.ahead c.places.lost c.in_ok-runs.runs.items (rw c.as_slice.ensures.value at c.begins_of-begins.ensures) c.in_ok-runs.ensures.runs c.places.invariant.ahead))) c.if-found.true
+    chain_won c.args.reader.now c.next_place-next.result c.best_at.new.losses c.as_slice-in-places.result.now c.args.parts.now c.in_ok-found.found
+    (rw c.as_slice-in-places.ensures.value c.in_ok-runs.ensures.parts) (c.in_ok-found.ensures.best (rw c.as_slice-in-places.ensures.value (c.next_place-next.ensures.ahead c.places.losses c.in_ok-runs.runs.items (rw c.as_slice.ensures.value at c.begins_of-begins.ensures) c.in_ok-runs.ensures.runs c.places.invariant.ahead))) c.if-found.true
 
 pub returns-then-next-reader-clause-groups : goal.returns-then-next-reader-clause-groups
-returns-then-next-reader-clause-groups c = c.in_ok-found.ensures.groups (rw c.as_slice-in-places.ensures.value (c.next_place-next.ensures.ahead c.places.lost c.in_ok-runs.runs.items (rw c.as_slice.ensures.value at c.begins_of-begins.ensures) c.in_ok-runs.ensures.runs c.places.invariant.ahead))
+returns-then-next-reader-clause-groups c = c.in_ok-found.ensures.groups (rw c.as_slice-in-places.ensures.value (c.next_place-next.ensures.ahead c.places.losses c.in_ok-runs.runs.items (rw c.as_slice.ensures.value at c.begins_of-begins.ensures) c.in_ok-runs.ensures.runs c.places.invariant.ahead))
 
 pub returns-then-next-reader-clause-best : goal.returns-then-next-reader-clause-best
 returns-then-next-reader-clause-best c =
-    chain_ended c.args.reader.now c.next_place-next.result c.best_at.new.lost c.as_slice-in-places.result.now c.args.parts.now c.in_ok-found.found c.dialect_finds_in_text.ensures c.if-next-reader.true
-    (rw c.as_slice-in-places.ensures.value c.in_ok-runs.ensures.parts) (c.in_ok-found.ensures.best (rw c.as_slice-in-places.ensures.value (c.next_place-next.ensures.ahead c.places.lost c.in_ok-runs.runs.items (rw c.as_slice.ensures.value at c.begins_of-begins.ensures) c.in_ok-runs.ensures.runs c.places.invariant.ahead))) c.if-found.false
+    chain_ended c.args.reader.now c.next_place-next.result c.best_at.new.losses c.as_slice-in-places.result.now c.args.parts.now c.in_ok-found.found c.dialect_finds_in_text.ensures c.if-next-reader.true
+    (rw c.as_slice-in-places.ensures.value c.in_ok-runs.ensures.parts) (c.in_ok-found.ensures.best (rw c.as_slice-in-places.ensures.value (c.next_place-next.ensures.ahead c.places.losses c.in_ok-runs.runs.items (rw c.as_slice.ensures.value at c.begins_of-begins.ensures) c.in_ok-runs.ensures.runs c.places.invariant.ahead))) c.if-found.false
 
 pub places-preserved-else-next-reader : goal.places-preserved-else-next-reader
 places-preserved-else-next-reader c = record {
   known = c.in_ok-found.ensures.known;
   near = omega (arith, c.places.invariant.near, c.next_place-next.ensures.later);
   within = omega (arith, c.if-next-reader.false);
-  ahead = rw c.as_slice-in-places.ensures.value at (c.in_ok-found.ensures.best (rw c.as_slice-in-places.ensures.value (c.next_place-next.ensures.ahead c.places.lost c.in_ok-runs.runs.items (rw c.as_slice.ensures.value at c.begins_of-begins.ensures) c.in_ok-runs.ensures.runs c.places.invariant.ahead))).ahead c.if-found.false;
+  ahead = rw c.as_slice-in-places.ensures.value at (c.in_ok-found.ensures.best (rw c.as_slice-in-places.ensures.value (c.next_place-next.ensures.ahead c.places.losses c.in_ok-runs.runs.items (rw c.as_slice.ensures.value at c.begins_of-begins.ensures) c.in_ok-runs.ensures.runs c.places.invariant.ahead))).ahead c.if-found.false;
   reach = reaches_on c.args.reader.now.line.now c.next_place-next.result (c.next_place-next.result + 1) c.outlook_of-outlook.new.reach (omega arith) c.outlook_of-outlook.ensures.reach;
   steps = λ w all.
       spent c.places.regions.steps.made c.best_at.new.regions.steps.made c.args.regions.now.steps.made _ _ _ (place_steps (length (flat_map (part_members c.args.reader.now.set.now) c.args.parts.now)) w) (c.places.invariant.steps w all)
@@ -57,7 +57,7 @@ places-preserved-else-next-reader-2 c = record {
   known = c.in_ok-found.ensures.known;
   near = omega (arith, c.places.invariant.near, c.next_place-next.ensures.later);
   within = omega (arith, c.if-next-reader.false);
-  ahead = rw c.as_slice-in-places.ensures.value at (c.in_ok-found.ensures.best (rw c.as_slice-in-places.ensures.value (c.next_place-next.ensures.ahead c.places.lost c.in_ok-runs.runs.items (rw c.as_slice.ensures.value at c.begins_of-begins.ensures) c.in_ok-runs.ensures.runs c.places.invariant.ahead))).ahead c.if-found.false;
+  ahead = rw c.as_slice-in-places.ensures.value at (c.in_ok-found.ensures.best (rw c.as_slice-in-places.ensures.value (c.next_place-next.ensures.ahead c.places.losses c.in_ok-runs.runs.items (rw c.as_slice.ensures.value at c.begins_of-begins.ensures) c.in_ok-runs.ensures.runs c.places.invariant.ahead))).ahead c.if-found.false;
   reach = reaches_on c.args.reader.now.line.now c.next_place-next.result (c.next_place-next.result + 1) c.outlook_of-outlook.new.reach (omega arith) c.outlook_of-outlook.ensures.reach;
   steps = λ w all.
       spent c.places.regions.steps.made c.best_at.new.regions.steps.made c.args.regions.now.steps.made _ _ _ (place_steps (length (flat_map (part_members c.args.reader.now.set.now) c.args.parts.now)) w) (c.places.invariant.steps w all)
@@ -71,7 +71,7 @@ places-preserved c = record {
   known = c.in_ok-found.ensures.known;
   near = omega (arith, c.places.invariant.near, c.next_place-next.ensures.later);
   within = omega (arith, c.if-next-reader.false);
-  ahead = rw c.as_slice-in-places.ensures.value at (c.in_ok-found.ensures.best (rw c.as_slice-in-places.ensures.value (c.next_place-next.ensures.ahead c.places.lost c.in_ok-runs.runs.items (rw c.as_slice.ensures.value at c.begins_of-begins.ensures) c.in_ok-runs.ensures.runs c.places.invariant.ahead))).ahead c.if-found.false;
+  ahead = rw c.as_slice-in-places.ensures.value at (c.in_ok-found.ensures.best (rw c.as_slice-in-places.ensures.value (c.next_place-next.ensures.ahead c.places.losses c.in_ok-runs.runs.items (rw c.as_slice.ensures.value at c.begins_of-begins.ensures) c.in_ok-runs.ensures.runs c.places.invariant.ahead))).ahead c.if-found.false;
   reach = reaches_on c.args.reader.now.line.now c.next_place-next.result (c.next_place-next.result + 1) c.outlook_of-outlook.new.reach (omega arith) c.outlook_of-outlook.ensures.reach;
   steps = λ w all.
       spent c.places.regions.steps.made c.best_at.new.regions.steps.made c.args.regions.now.steps.made _ _ _ (place_steps (length (flat_map (part_members c.args.reader.now.set.now) c.args.parts.now)) w) (c.places.invariant.steps w all)

@@ -11,7 +11,7 @@ invariant-places l = record {
   known : Remembers l.reader.set.now l.reader.line.now l.regions.memory;
   near : l.reader.position.now.place ≤ l.place;
   within : l.place ≤ length l.reader.line.now;
-  ahead : AllAhead l.reader l.lost l.place l.runs.items;
+  ahead : AllAhead l.reader l.losses l.place l.runs.items;
   reach : Reaches l.reader.line.now l.place l.reach;
   steps : (w : ℕ) → AreWithin (length l.reader.line.now) w (flat_map (part_members l.reader.set.now) l.parts)
       → l.regions.steps.made + (length l.reader.line.now + 1 - l.place) * place_steps (length (flat_map (part_members l.reader.set.now) l.parts)) w

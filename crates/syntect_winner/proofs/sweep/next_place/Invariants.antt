@@ -8,7 +8,7 @@ abbrev pub invariant-loop-next : goal.invariant-loop-next
 invariant-loop-next l = record {
   later : l.place ≤ l.next;
   within : l.next ≤ length l.reader.line.now;
-  ahead : (lost : Bool) (runs : List Run) → BeginIn l.begins runs → All (IsRun l.reader.set.now) runs → AllAhead l.reader lost l.place runs → AllAhead l.reader lost l.next runs;
+  ahead : (losses : List (List Bool)) (runs : List Run) → BeginIn l.begins runs → All (IsRun l.reader.set.now) runs → AllAhead l.reader losses l.place runs → AllAhead l.reader losses l.next runs;
 }
 
 abbrev pub decreases-loop-next : goal.decreases-loop-next

@@ -1,4 +1,4 @@
-use Rattle.std.proofs.Common.{◌≡◌, ℕ, List, Option, false, length, get_or, ap, refl, sym, subst, ◌∙◌, arith}
+use Rattle.std.proofs.Common.{◌≡◌, ℕ, Bool, List, Option, false, length, get_or, ap, refl, sym, subst, ◌∙◌, arith}
 use Rattle.std.specs.Option.{option_copied}
 use Rattle.syntect_contexts.specs.declared.context.MatchPattern.{MatchPattern}
 use Rattle.syntect_flats.specs.Slims.{nothing, origin_of}
@@ -6,7 +6,8 @@ use Rattle.syntect_flats.specs.declared.flats.Flat.{Flat}
 use Rattle.syntect_flats.specs.declared.flats.Origin.{Origin}
 use Rattle.syntect_grammar.specs.Flats.{pattern_at}
 use Rattle.syntect_grammar.specs.declared.syntax_set.SyntaxSet.{SyntaxSet}
-use Rattle.syntect_winner.specs.Ahead.{list_in}
+use Rattle.syntect_winner.specs.Ahead.{IsAhead, list_in}
+use Rattle.syntect_winner.specs.Parts.{part_member}
 use Rattle.syntect_winner.proofs.StepLaws.{within_in}
 use Rattle.syntect_winner.proofs.sweep.with_pattern.Goals as goal
 
@@ -30,15 +31,16 @@ with_entry-requires-clause-text c =
 pub returns-clause-groups : goal.returns-clause-groups
 returns-clause-groups c = λ ahead.
     let flat : Flat = flat_of c.origin_at-origin.result in
-    c.with_entry.ensures.groups
+    c.in_ok-best.ensures.groups
+    (subst (λ (t : Bool). IsAhead c.args.reader.now t c.args.place (part_member c.args.run.now.part c.in-Some.pattern.now)) (sym c.if-has.ensures)
     (ahead c.args.index flat c.in-Some.pattern.now (omega arith) c.requires.inside
     (found_at c.args.reader.now.set.now c.list_in.result.now (list_in c.args.run.now.flats) c.args.index c.origin_at-origin.result (option_copied c.pattern_at.result) c.list_in.ensures c.origin_at-origin.ensures
-    c.pattern_at.ensures flat ∙ ap option_copied c.in-Some.is))
+    c.pattern_at.ensures flat ∙ ap option_copied c.in-Some.is)))
 
 pub returns-clause-steps : goal.returns-clause-steps
 returns-clause-steps c = λ w all.
     let flat : Flat = flat_of c.origin_at-origin.result in
-    c.with_entry.ensures.steps w
+    c.in_ok-best.ensures.steps w
     (within_in c.args.reader.now.set.now c.args.run.now c.requires.run (length c.args.reader.now.line.now) w all c.args.index flat c.in-Some.pattern.now c.requires.inside
     (found_at c.args.reader.now.set.now c.list_in.result.now (list_in c.args.run.now.flats) c.args.index c.origin_at-origin.result (option_copied c.pattern_at.result) c.list_in.ensures c.origin_at-origin.ensures
     c.pattern_at.ensures flat ∙ ap option_copied c.in-Some.is))

@@ -1,5 +1,6 @@
-use Rattle.std.proofs.Common.{◌≡◌, ℕ, ◌+◌, ◌*◌, ◌≤◌, ◌++◌, ◌-◌, List, length, take, true, false}
+use Rattle.std.proofs.Common.{◌≡◌, ℕ, ◌+◌, ◌*◌, ◌≤◌, ◌++◌, ◌-◌, List, length, take, false}
 use Rattle.syntect_winner.specs.Ahead.{AreAhead, AreAheadUpTo, IsBestAt, list_in, run_members}
+use Rattle.syntect_winner.specs.Losses.{LosesInPart, is_lost, marks_of}
 use Rattle.syntect_winner.specs.Memory.{Remembers}
 use Rattle.syntect_winner.specs.Parts.{flat_members}
 use Rattle.syntect_winner.specs.Reader.{AreGroupsBy, matches_of}
@@ -10,14 +11,15 @@ use Rattle.syntect_winner.proofs.sweep.with_run.Given as goal
 abbrev pub invariant-loop-index : goal.invariant-loop-index
 invariant-loop-index l = record {
   known : Remembers l.reader.set.now l.reader.line.now l.regions.memory;
-  lost : l.fn.lost ≡ true → l.lost ≡ true;
-  groups : AreAhead l.reader l.fn.lost l.place l.run → AreGroupsBy l.reader l.fn.best.candidate l.fn.regions.best → AreGroupsBy l.reader l.best.candidate l.regions.best;
+  parts : LosesInPart l.part l.fn.losses l.losses;
+  marks : (k : ℕ) → l.index ≤ k → is_lost (marks_of l.losses l.part) k ≡ is_lost (marks_of l.fn.losses l.part) k;
+  groups : AreAhead l.reader (marks_of l.fn.losses l.part) l.place l.run → AreGroupsBy l.reader l.fn.best.candidate l.fn.regions.best → AreGroupsBy l.reader l.best.candidate l.regions.best;
   grows : l.best.is_match ≡ false → l.fn.best.is_match ≡ false;
-  best : (ms : List Live) → AreAhead l.reader l.fn.lost l.place l.run → IsBestAt l.reader l.place ms l.fn.best
+  best : (ms : List Live) → AreAhead l.reader (marks_of l.fn.losses l.part) l.place l.run → IsBestAt l.reader l.place ms l.fn.best
       → IsBestAt l.reader l.place (ms ++ matches_of l.reader (flat_members l.reader.set.now l.run.part (take l.index (list_in l.run.flats)))) l.best;
-  ahead : (ms : List Live) → AreAhead l.reader l.fn.lost l.place l.run → IsBestAt l.reader l.place ms l.fn.best
-      → l.best.is_match ≡ false → AreAheadUpTo l.reader l.lost (l.place + 1) l.run l.index;
-  steps : (w : ℕ) → AreWithin (length l.reader.line.now) w (run_members l.reader.set.now l.run) → l.regions.steps.made + (l.count - l.index) * (2 * w) ≤ l.fn.regions.steps.made + l.count * (2 * w);
+  ahead : (ms : List Live) → AreAhead l.reader (marks_of l.fn.losses l.part) l.place l.run → IsBestAt l.reader l.place ms l.fn.best
+      → l.best.is_match ≡ false → AreAheadUpTo l.reader (marks_of l.losses l.part) (l.place + 1) l.run l.index;
+  steps : (w : ℕ) → AreWithin (length l.reader.line.now) w (run_members l.reader.set.now l.run) → l.regions.steps.made + (l.count - l.index) * w ≤ l.fn.regions.steps.made + l.count * w;
 }
 
 abbrev pub decreases-loop-index : goal.decreases-loop-index
