@@ -38,6 +38,17 @@ use Rattle.syntect_winner.specs.declared.search.Candidate.{Candidate}
 use Rattle.syntect_winner.specs.declared.sweep.Reach.{Reach}
 use Rattle.syntect_winner.specs.declared.sweep.Run.{Run}
 
+-- a run goes on with another one that begins at its end
+pub run_on : (line : List ℕ) (blank : Bool) (i j e : ℕ) → IsRunUpTo blank line i j → IsRunUpTo blank line j e → IsRunUpTo blank line i e
+run_on line blank i j e a b = record {
+  order = omega (arith, a.order, b.order);
+  within = b.within;
+  chars = λ k l m. elim (cases_lt k j) [
+    | inl n ↦ a.chars k l n
+    | inr n ↦ b.chars k n m
+  ];
+}
+
 -- what is known of a run is known of its later places
 pub reaches_on : (line : List ℕ) (i j : ℕ) (r : Reach) → i ≤ j → Reaches line i r → Reaches line j r
 reaches_on line i j r l h m =

@@ -39,6 +39,11 @@ use syntect_ways::anchor::stands;
 use syntect_ways::text::is_boundary;
 use syntect_word_ends::ends::{is_blank_byte, is_word_byte, run_end};
 
+/// From where on a turn looks farther ahead for the end of a run than a little way, and how many times as far as it went.
+const NEAR: usize = 32;
+
+const AHEAD: usize = 256;
+
 /// A flat list: one that the set keeps, or one of this turn alone.
 #[derive(Drop)]
 pub enum Kept<'s> {
@@ -154,8 +159,35 @@ pub struct Reach {
     pub behind: u8,
 }
 
+/// Up to where the characters from a place on are white space, or else those of a word. Of a run that goes on beyond `far` not all
+/// is looked at.
+fn run_as_far(line: &str, place: usize, blank: bool, far: usize) -> usize
+    requires { place ≤ length line.now }
+    ensures { IsRunUpTo blank line.now place result }
+{
+    let mut end = run_end(line, place, blank);
+    'runs: while end < far {
+        let next = run_end(line, end, blank);
+        if next == end {
+            return end;
+        }
+        end = next;
+    }
+    end
+}
+
+/// How far from a place the end of a run is looked for by a turn that went through these places before: only a little way at
+/// first, and the farther the longer it went, so that all the looking takes no longer than the going.
+fn far_from(place: usize, gone: usize) -> usize {
+    if gone < NEAR {
+        place
+    } else {
+        place.saturating_add(gone.saturating_mul(AHEAD))
+    }
+}
+
 /// How far what stands at the place goes on, white space, or else a word: as it is known, or else is looked for now.
-fn reach_at(line: &str, place: usize, here: u8, known: Reach) -> Reach
+fn reach_at(line: &str, place: usize, here: u8, known: Reach, gone: usize) -> Reach
     requires within { place ≤ length line.now }
     requires known { Reaches line.now place known }
     ensures run { IsRunUpTo result.blank line.now place result.end }
@@ -166,7 +198,7 @@ fn reach_at(line: &str, place: usize, here: u8, known: Reach) -> Reach
         return known;
     }
     let blank = is_blank_byte(here);
-    let end = run_end(line, place, blank);
+    let end = run_as_far(line, place, blank, far_from(place, gone));
     Reach {
         blank,
         end,
@@ -175,8 +207,8 @@ fn reach_at(line: &str, place: usize, here: u8, known: Reach) -> Reach
 }
 
 /// What is seen of a place; with `asks` what stands behind the white space or the word there too. That is looked for where
-/// it isn't known from an earlier place.
-fn outlook_of(line: &str, place: usize, asks: bool, reach: &mut Reach) -> Outlook
+/// it isn't known from an earlier place. The turn went through `gone` bytes before.
+fn outlook_of(line: &str, place: usize, asks: bool, reach: &mut Reach, gone: usize) -> Outlook
     requires within { place ≤ length line.now }
     requires reach { Reaches line.now place reach.old }
     ensures reach { Reaches line.now place reach.new }
@@ -194,7 +226,7 @@ fn outlook_of(line: &str, place: usize, asks: bool, reach: &mut Reach) -> Outloo
             off_edges,
         };
     }
-    let seen = reach_at(line, place, here, *reach);
+    let seen = reach_at(line, place, here, *reach, gone);
     *reach = seen;
     Outlook {
         here,
@@ -293,6 +325,7 @@ fn with_entry<'s>(
         (Remembers reader.now.set.now reader.now.line.now regions.new.memory) }
     ensures steps { (w : ℕ) → IsWithin (length reader.now.line.now) w (member_of entry.now)
         → OnOk result (regions.new.steps.made ≤ regions.old.steps.made + w) }
+    ensures rises { OnOk result (regions.old.steps.made ≤ regions.new.steps.made) }
 {
     dialect_finds_in_text();
     if !is_here(reader, entry, replaced, origin, place, regions)? {
@@ -351,6 +384,7 @@ fn with_pattern<'s>(
     ensures steps { (w : ℕ) → AreWithin (length reader.now.line.now) w
         (run_members reader.now.set.now run.now)
         → OnOk result (regions.new.steps.made ≤ regions.old.steps.made + w) }
+    ensures rises { OnOk result (regions.old.steps.made ≤ regions.new.steps.made) }
 {
     if losses.has(part, index) {
         return Ok(best);
@@ -409,6 +443,7 @@ fn with_run<'s>(
         (run_members reader.now.set.now run.now)
         → OnOk result (regions.new.steps.made ≤ regions.old.steps.made
         + place_steps (length (run_members reader.now.set.now run.now)) w) }
+    ensures rises { OnOk result (regions.old.steps.made ≤ regions.new.steps.made) }
 {
     dialect_finds_in_text();
     let count = list_in(&run.flats).len();
@@ -446,6 +481,7 @@ fn best_at<'s>(
         (flat_map (run_members reader.now.set.now) runs.now)
         → OnOk result (regions.new.steps.made ≤ regions.old.steps.made
         + place_steps (length (flat_map (run_members reader.now.set.now) runs.now)) w) }
+    ensures rises { OnOk result (regions.old.steps.made ≤ regions.new.steps.made) }
 {
     let mut best = Best {
         start: place + 1,
@@ -477,6 +513,7 @@ pub fn best_of_chain<'s>(
         → OnOk result (regions.new.steps.made ≤ regions.old.steps.made
         + turn_steps (length (flat_map (part_members reader.now.set.now) parts.now)) w
         (length reader.now.line.now)) }
+    ensures rises { OnOk result (regions.old.steps.made ≤ regions.new.steps.made) }
 {
     dialect_finds_in_text();
     let runs = runs_of(reader, parts)?;
@@ -491,7 +528,8 @@ pub fn best_of_chain<'s>(
     let mut place = reader.position.place;
     'places: loop {
         let next = next_place(reader, begins, place);
-        let outlook = outlook_of(reader.line, next, asks, &mut reach);
+        let gone = next.saturating_sub(reader.position.place);
+        let outlook = outlook_of(reader.line, next, asks, &mut reach, gone);
         let found = best_at(reader, runs.as_slice(), next, outlook, &mut losses, regions)?;
         if found.is_match {
             return Ok(found);

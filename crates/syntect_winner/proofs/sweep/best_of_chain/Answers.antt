@@ -13,6 +13,7 @@ places-init c = record {
   within = c.args.reader.now.boundary.0;
   ahead = all_first c.args.reader.now c.new-losses.result c.in_ok-runs.runs.items c.new-losses.ensures;
   reach = λ l. absurd (omega (arith, l));
+  rises = omega arith;
   steps = λ w all. places_begin c.args.regions.now.steps.made (length c.args.reader.now.line.now) c.args.reader.now.position.now.place (place_steps (length (flat_map (part_members c.args.reader.now.set.now) c.args.parts.now)) w);
 }
 
@@ -45,6 +46,7 @@ places-preserved-else-next-reader c = record {
   within = omega (arith, c.if-next-reader.false);
   ahead = rw c.as_slice-in-places.ensures.value at (c.in_ok-found.ensures.best (rw c.as_slice-in-places.ensures.value (c.next_place-next.ensures.ahead c.places.losses c.in_ok-runs.runs.items (rw c.as_slice.ensures.value at c.begins_of-begins.ensures) c.in_ok-runs.ensures.runs c.places.invariant.ahead))).ahead c.if-found.false;
   reach = reaches_on c.args.reader.now.line.now c.next_place-next.result (c.next_place-next.result + 1) c.outlook_of-outlook.new.reach (omega arith) c.outlook_of-outlook.ensures.reach;
+  rises = omega (arith, c.places.invariant.rises, c.in_ok-found.ensures.rises);
   steps = λ w all.
       spent c.places.regions.steps.made c.best_at.new.regions.steps.made c.args.regions.now.steps.made _ _ _ (place_steps (length (flat_map (part_members c.args.reader.now.set.now) c.args.parts.now)) w) (c.places.invariant.steps w all)
       (of_parts c.args.reader.now.set.now c.as_slice-in-places.result.now c.args.parts.now (length c.args.reader.now.line.now) w c.places.regions.steps.made c.best_at.new.regions.steps.made
@@ -59,6 +61,7 @@ places-preserved-else-next-reader-2 c = record {
   within = omega (arith, c.if-next-reader.false);
   ahead = rw c.as_slice-in-places.ensures.value at (c.in_ok-found.ensures.best (rw c.as_slice-in-places.ensures.value (c.next_place-next.ensures.ahead c.places.losses c.in_ok-runs.runs.items (rw c.as_slice.ensures.value at c.begins_of-begins.ensures) c.in_ok-runs.ensures.runs c.places.invariant.ahead))).ahead c.if-found.false;
   reach = reaches_on c.args.reader.now.line.now c.next_place-next.result (c.next_place-next.result + 1) c.outlook_of-outlook.new.reach (omega arith) c.outlook_of-outlook.ensures.reach;
+  rises = omega (arith, c.places.invariant.rises, c.in_ok-found.ensures.rises);
   steps = λ w all.
       spent c.places.regions.steps.made c.best_at.new.regions.steps.made c.args.regions.now.steps.made _ _ _ (place_steps (length (flat_map (part_members c.args.reader.now.set.now) c.args.parts.now)) w) (c.places.invariant.steps w all)
       (of_parts c.args.reader.now.set.now c.as_slice-in-places.result.now c.args.parts.now (length c.args.reader.now.line.now) w c.places.regions.steps.made c.best_at.new.regions.steps.made
@@ -73,6 +76,7 @@ places-preserved c = record {
   within = omega (arith, c.if-next-reader.false);
   ahead = rw c.as_slice-in-places.ensures.value at (c.in_ok-found.ensures.best (rw c.as_slice-in-places.ensures.value (c.next_place-next.ensures.ahead c.places.losses c.in_ok-runs.runs.items (rw c.as_slice.ensures.value at c.begins_of-begins.ensures) c.in_ok-runs.ensures.runs c.places.invariant.ahead))).ahead c.if-found.false;
   reach = reaches_on c.args.reader.now.line.now c.next_place-next.result (c.next_place-next.result + 1) c.outlook_of-outlook.new.reach (omega arith) c.outlook_of-outlook.ensures.reach;
+  rises = omega (arith, c.places.invariant.rises, c.in_ok-found.ensures.rises);
   steps = λ w all.
       spent c.places.regions.steps.made c.best_at.new.regions.steps.made c.args.regions.now.steps.made _ _ _ (place_steps (length (flat_map (part_members c.args.reader.now.set.now) c.args.parts.now)) w) (c.places.invariant.steps w all)
       (of_parts c.args.reader.now.set.now c.as_slice-in-places.result.now c.args.parts.now (length c.args.reader.now.line.now) w c.places.regions.steps.made c.best_at.new.regions.steps.made

@@ -13,6 +13,7 @@ invariant-places l = record {
   within : l.place ≤ length l.reader.line.now;
   ahead : AllAhead l.reader l.losses l.place l.runs.items;
   reach : Reaches l.reader.line.now l.place l.reach;
+  rises : l.fn.regions.steps.made ≤ l.regions.steps.made;
   steps : (w : ℕ) → AreWithin (length l.reader.line.now) w (flat_map (part_members l.reader.set.now) l.parts)
       → l.regions.steps.made + (length l.reader.line.now + 1 - l.place) * place_steps (length (flat_map (part_members l.reader.set.now) l.parts)) w
       ≤ l.fn.regions.steps.made + turn_steps (length (flat_map (part_members l.reader.set.now) l.parts)) w (length l.reader.line.now);
