@@ -315,6 +315,7 @@ fn read_line(
         (count.new.made - count.old.made) regions.old.steps.made regions.new.steps.made) }
     ensures most_steps { UnlessMemory result (TakesMostSteps set.now line.now state.now
         regions.old.steps.made regions.new.steps.made) }
+    ensures rises { UnlessMemory result (regions.old.steps.made ≤ regions.new.steps.made) }
 {
     dialect_finds_in_text();
     regions.memory.begin_line();

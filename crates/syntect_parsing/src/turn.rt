@@ -70,6 +70,7 @@ fn best_match<'s>(
         (Remembers reader.now.set.now reader.now.line.now regions.new.memory) }
     ensures steps { UnlessMemory result (TakesTurnSteps reader.now.set.now reader.now.line.now
         reader.now.position.now regions.old.steps.made regions.new.steps.made) }
+    ensures rises { UnlessMemory result (regions.old.steps.made ≤ regions.new.steps.made) }
 {
     let Some(top) = reader.position.levels.as_slice().last() else {
         return Ok(Best::none());
@@ -135,6 +136,7 @@ pub fn turn(
     ensures counted { count.new.made ≡ count.old.made + 1 }
     ensures steps { UnlessMemory result (TakesTurnSteps set.now line.now (trimmed p.old)
         regions.old.steps.made regions.new.steps.made) }
+    ensures rises { UnlessMemory result (regions.old.steps.made ≤ regions.new.steps.made) }
 {
     dialect_finds_in_text();
     dialect_finds_on_boundaries();

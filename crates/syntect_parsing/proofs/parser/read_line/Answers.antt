@@ -1,4 +1,4 @@
-use Rattle.std.proofs.Common.{false, rules}
+use Rattle.std.proofs.Common.{arith, false, rules}
 use Rattle.syntect_winner.specs.Engine.{dialect}
 use Rattle.syntect_winner.proofs.Finds.{finds_in_order}
 use Rattle.syntect_parsing.proofs.Falls.{goes_falls}
@@ -12,6 +12,7 @@ pub loop-e-init : goal.loop-e-init
 loop-e-init c = record {
   known = c.begin_line.ensures c.args.set.now c.args.line.now;
   read = rw (c.in-Ok-at_start.ensures, c.in-Ok.ensures) (so_far-start c.args.set.now c.args.line.now c.args.state.now c.args.count.now.made c.utf8.line);
+  rises = omega arith;
   steps = rw c.in-Ok-at_start.ensures (steps-start c.args.set.now c.args.line.now c.args.state.now _ c.args.regions.now.steps.made);
 }
 
@@ -32,6 +33,7 @@ loop-e-preserved c =
       read = so_far-more c.loop-e.invariant.read t
           (goes_falls dialect c.args.line.now (finds_in_order dialect c.dialect_finds_in_text.ensures c.args.line.now c.utf8.line) c.args.set.now c.loop-e.p c.turn.new.p t.bytes
           c.loop-e.invariant.read.within c.loop-e.invariant.read.few t.goes) c.turn.new.count.made c.turn.ensures.counted _ (search rules);
+      rises = omega (arith, c.loop-e.invariant.rises, c.in-Ok-true.ensures.rises);
       steps = steps-more c.loop-e.invariant.steps c.in-Ok-true.ensures.steps c.turn.new.p t.bytes t.goes _ (one_since c.loop-e.invariant.read.count c.turn.new.count.made c.turn.ensures.counted);
     }
 
@@ -82,3 +84,10 @@ returns-in-Err-turn-clause-most_steps c =
     (steps-end c.loop-e.invariant.steps t _ (one_since c.loop-e.invariant.read.count c.turn.new.count.made c.turn.ensures.counted))
     (few_since c.loop-e.invariant.read.count c.turn.new.count.made c.turn.ensures.counted))
     c.in-Err-turn.ensures.steps
+
+pub returns-clause-rises : goal.returns-clause-rises
+returns-clause-rises c = omega (arith, c.loop-e.invariant.rises, c.in-Ok-false.ensures.rises)
+
+pub returns-in-Err-turn-clause-rises : goal.returns-in-Err-turn-clause-rises
+returns-in-Err-turn-clause-rises c =
+    unless_so c.in-Err-turn.e _ _ (λ t. omega (arith, c.loop-e.invariant.rises, t)) c.in-Err-turn.ensures.rises

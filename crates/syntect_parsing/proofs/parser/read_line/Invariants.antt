@@ -1,4 +1,4 @@
-use Rattle.std.proofs.Common.{◌-◌}
+use Rattle.std.proofs.Common.{◌-◌, ◌≤◌}
 use Rattle.syntect_winner.specs.Memory.{Remembers}
 use Rattle.syntect_parsing.specs.Step.{turns_left}
 use Rattle.syntect_parsing.proofs.Runs.{ReadSoFar}
@@ -9,6 +9,7 @@ abbrev pub invariant-loop-e : goal.invariant-loop-e
 invariant-loop-e l = record {
   known : Remembers l.set l.line l.regions.memory;
   read : ReadSoFar l.set l.line l.state l.p l.ops.items l.fn.count.made l.count.made l.turns;
+  rises : l.fn.regions.steps.made ≤ l.regions.steps.made;
   steps : StepsSoFar l.set l.line l.state l.p (l.count.made - l.fn.count.made) l.fn.regions.steps.made l.regions.steps.made;
 }
 
