@@ -16,7 +16,7 @@ import sys
 
 HERE = os.path.dirname(os.path.dirname(os.path.abspath(__file__)))
 CRATES = (
-    "scope regex metadata theme theme_files style classed contexts loader within grammar openings parsing buffer"
+    "scope regex metadata theme theme_files style classed contexts loader within grammar folders openings parsing buffer"
 ).split()
 # each error with the file that has it
 ERRORS = {
@@ -26,6 +26,7 @@ ERRORS = {
     "ParsingError": "contexts/src/error.rt",
     "ParseSyntaxError": "base/src/syntax.rt",
     "LoadWithinError": "base/src/limits.rt",
+    "FolderWithinError": "folders/src/error.rt",
     "ParseThemeError": "base/src/theme.rt",
     "LoadingError": "base/src/loading.rt",
     "MetadataError": "metadata/src/error.rt",

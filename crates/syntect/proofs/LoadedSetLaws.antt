@@ -6,6 +6,7 @@ use Rattle.std.proofs.lemmas.List.Elements.{All-append, All-cons, All-nil}
 use Rattle.std.specs.Cmp.Lexicographic.{pointwise}
 use Rattle.std.specs.Path.{path_file_name, path_extension}
 use Rattle.std.specs.Str.{str_eq_ignore_ascii_case}
+use Rattle.syntect_folders.proofs.FolderLaws.{added_within}
 use Rattle.syntect_grammar.specs.Finding.{found_by_name, found_by_extension, found_by_token, found_by_file_name, found_by_first_line, last_fitting, has_extension, fits_line, without_mark}
 use Rattle.syntect_grammar.specs.Folders.{AddsSyntaxes, AddsFolder, AddsMetadata, entry_added, passed_over, no_more, other, grammar, metadata}
 use Rattle.syntect_grammar.specs.Link.{definitions_in, syntaxes_in, linked}
@@ -50,6 +51,9 @@ builders_hold = record {
   one = λ old new text newlines fallback repository left d h l e. holds_more old new d h (loaded_as text newlines fallback repository left d l) e;
   plain_text = λ old new before after h a. holds_more old new a.definition h (loaded_as _ _ _ _ _ _ a.loads) a.definitions;
   folder = λ newlines path before after old new h a. holds_files newlines a.files before after old new h a.adds;
+  folder_within = λ limits newlines path before after old new h a.
+      let b = added_within limits newlines path before old after new a in
+      holds_files newlines b.files before after old new h b.adds;
   built = λ builder set h e. (definitions_in builder, e, h);
 }
 

@@ -12,6 +12,9 @@ pub use Rattle.syntect_classed.specs.Marks
 pub use Rattle.syntect_classed_laws.specs.Laws
 pub use Rattle.syntect_classed_laws.specs.Page
 pub use Rattle.syntect_contexts.specs.declared.syntax_reference.SyntaxReference
+pub use Rattle.syntect_base.specs.declared.limits.Limits
+pub use Rattle.syntect_folders.specs.FilesWithin
+pub use Rattle.syntect_folders.specs.FoldersWithin
 pub use Rattle.syntect_grammar.specs.Finding
 pub use Rattle.syntect_grammar.specs.Folders
 pub use Rattle.syntect_grammar.specs.Link

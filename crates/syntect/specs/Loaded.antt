@@ -1,5 +1,7 @@
 -- Sets of grammars that were loaded, as programs build them, and what is found in them.
 use Rattle.std.specs.Prelude.{◌≡◌, ℕ, Bool, List, [], ◌∷◌, ◌++◌, Option, Some, All, Ok, slice_get}
+use Rattle.syntect_base.specs.declared.limits.Limits.{Limits}
+use Rattle.syntect_folders.specs.FoldersWithin.{AddsFolderWithin}
 use Rattle.syntect_grammar.specs.Link.{definitions_in, syntaxes_in, linked}
 use Rattle.syntect_grammar.specs.Finding.{found_by_scope, found_by_name, found_by_extension, found_by_token, found_by_first_line, found_for_file, found_plain_text}
 use Rattle.syntect_grammar.specs.Folders.{AddsFolder}
@@ -41,6 +43,10 @@ pub record BuildersHold : Type 0 where
   pub folder : (newlines : Bool) (path : List ℕ) (before after : List (List ℕ))
       (old new : SyntaxSetBuilder)
       → HoldsLoaded old → AddsFolder newlines path before old after new → HoldsLoaded new
+  pub folder_within : (limits : Limits) (newlines : Bool) (path : List ℕ)
+      (before after : List (List ℕ)) (old new : SyntaxSetBuilder)
+      → HoldsLoaded old → AddsFolderWithin limits newlines path before old after new
+      → HoldsLoaded new
   pub built : (builder : SyntaxSetBuilder) (set : SyntaxSet) → HoldsLoaded builder
       → syntaxes_in set ≡ linked (definitions_in builder) → IsOfLoaded set
 

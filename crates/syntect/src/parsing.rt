@@ -3,6 +3,8 @@ pub mod metadata;
 
 pub use syntect_base::limits::{LimitReached, Limits, LoadWithinError, PatternPlace};
 pub use syntect_base::syntax::ParseSyntaxError;
+pub use syntect_folders::error::FolderWithinError;
+pub use syntect_folders::folders::add_from_folder_within;
 pub use syntect_metadata::error::MetadataError;
 pub use syntect_metadata::items::MetadataItems;
 pub use syntect_metadata::metadata::Metadata;

@@ -1,9 +1,10 @@
 -- Sets of plain text and of the grammars in a folder.
-use Rattle.std.proofs.Common.{◌≡◌, ℕ, Bool, true, false, List, [], ◌∷◌, ◌++◌, length, refl, sym, ap, ◌∙◌, subst, All, Result, Ok, Err}
-use Rattle.std.specs.Prelude.{Option, None, IfOk}
+use Rattle.std.proofs.Common.{◌≡◌, ℕ, Bool, true, false, List, [], ◌∷◌, ◌++◌, refl, sym, ap, ◌∙◌, subst, All, Result, Ok, Err, String, inl, inr}
+use Rattle.std.specs.Prelude.{Option, None, IfOk, ◌⊎◌}
+use Rattle.std.specs.Global.{Global}
 use Rattle.std.proofs.lemmas.List.Elements.{All-append, All-cons, All-nil}
 use Rattle.syntect_theme.specs.declared.theme.Theme.{Theme}
-use Rattle.syntect_grammar.specs.Folders.{AddsSyntaxes, AddsFolder, no_more, other, grammar, metadata, entry_added, passed_over}
+use Rattle.syntect_grammar.specs.Folders.{AddsSyntaxes, no_more, other, grammar, metadata, entry_added, passed_over}
 use Rattle.syntect_grammar.specs.Folders.{no_definitions}
 use Rattle.syntect_grammar.specs.Link.{definitions_in, paths_in, syntaxes_in, set_paths, linked}
 use Rattle.syntect_grammar.specs.Metadata.{entries_in, kept_sets, metadata_in, IsMergedOf}
@@ -17,11 +18,18 @@ use Rattle.syntect_theme_files.specs.ThemeFiles.{IsThemeOf}
 use Rattle.syntect.specs.Files.{IsPageOfFile}
 use Rattle.syntect_grammar.specs.declared.error.Error.{Error}
 use Rattle.syntect_grammar.specs.declared.error.Error.TheVariants as error
-use Rattle.syntect_cat.specs.Faults.{fault_of}
-use Rattle.syntect_cat.specs.Shown.{IsSetOf, IsShown, IsAskedFor, ShowsFile}
+use Rattle.syntect_base.specs.Limiting.{usual}
+use Rattle.syntect_base.specs.declared.limits.Limits.{Limits}
+use Rattle.syntect_base.specs.declared.limits.LimitReached.{LimitReached}
+use Rattle.syntect_folders.specs.FoldersWithin.{AddsFolderWithin, RefusesFolderWithin}
+use Rattle.syntect_folders.specs.declared.error.FolderWithinError.TheVariants as folder_error
+use Rattle.syntect_folders.proofs.FolderLaws.{added_within}
+use Rattle.syntect_cat.specs.Faults.{fault_of, fault_line, plain_line, without_limit}
+use Rattle.syntect_cat.specs.Shown.{IsSetOf, PassesLimit, HasReason, HasReasonFor, IsShown, IsAskedFor, ShowsFile}
 use Rattle.syntect_cat.specs.Terminal.{IsTerminalTextOfFile}
-use Rattle.syntect_cat.specs.Words.{words_of}
-use Rattle.syntect_cat.specs.declared.fault.Fault.TheVariants.{Writing}
+use Rattle.syntect_cat.specs.Words.{words_for, words_of}
+use Rattle.syntect_cat.specs.declared.fault.Fault.{Fault}
+use Rattle.syntect_cat.specs.declared.fault.Fault.TheVariants as fault
 use Rattle.syntect_cat.specs.declared.job.Format.{Format}
 use Rattle.syntect_cat.specs.declared.job.Format.TheVariants.{Html, Terminal}
 use Rattle.syntect_cat.specs.declared.job.Job.{Job}
@@ -47,38 +55,143 @@ plain_more law newlines _ _ _ builder _ p (grammar {d = d} e l a) =
     plain_more law newlines _ _ _ _ _ (All-append IsPlain (definitions_in builder) (d ∷ []) p (one_plain d (law _ _ _ _ _ _ l.loads))) a
 
 pub set_built : LoadsPlain → (folder : List ℕ) (repository : List (List ℕ)) (set : SyntaxSet) → IsSetOf folder repository set → (definitions : List SyntaxDefinition) × IsBuilt set definitions
-set_built law folder repository set s = (
-  definitions_in s.all,
-  record {
-    links = s.syntaxes;
-    plain =
-        plain_more law true s.adds_folder.files s.left s.found s.plain s.all
-        (plain_first law no_definitions s.plain [] s.left s.adds_plain refl) s.adds_folder.adds;
-  },
-)
+set_built law folder repository set s =
+    let a = added_within usual true folder s.left s.plain s.found s.all s.adds_folder in (
+      definitions_in s.all,
+      record {
+        links = s.syntaxes;
+        plain =
+            plain_more law true a.files s.left s.found s.plain s.all
+            (plain_first law no_definitions s.plain [] s.left s.adds_plain refl) a.adds;
+      },
+    )
 
-pub set_of : (folder : List ℕ) (start plain all : SyntaxSetBuilder) (before left found after : List (List ℕ)) (set : SyntaxSet) → before ≡ [] → definitions_in start ≡ [] → paths_in start ≡ []
+plain_added : (start plain : SyntaxSetBuilder) (before left : List (List ℕ)) → before ≡ [] → definitions_in start ≡ [] → paths_in start ≡ [] → AddsPlainText start plain before left → AddsPlainText no_definitions plain [] left
+plain_added start plain before left e d p a = record {
+  definition = a.definition;
+  loads = ap (λ repo. loaded plain_text false None repo) (sym e) ∙ a.loads;
+  definitions = a.definitions ∙ ap (λ ds. ds ++ a.definition ∷ []) d;
+  paths = a.paths ∙ p;
+}
+
+pub set_of : (folder : List ℕ) (limits : Limits) (start plain all : SyntaxSetBuilder) (before left found after : List (List ℕ)) (set : SyntaxSet) → limits ≡ usual → before ≡ [] → definitions_in start ≡ [] → paths_in start ≡ []
     → entries_in start ≡ [] → kept_sets start ≡ [] → entries_in plain ≡ entries_in start → kept_sets plain ≡ kept_sets start
-    → AddsPlainText start plain before left → AddsFolder true folder left plain found all → syntaxes_in set ≡ linked (definitions_in all) → set_paths set ≡ paths_in all
+    → AddsPlainText start plain before left → AddsFolderWithin limits true folder left plain found all → syntaxes_in set ≡ linked (definitions_in all) → set_paths set ≡ paths_in all
     → IsMergedOf found all after (metadata_in set) → IsSetOf folder after set
-set_of folder start plain all before left found after set e d p es ks same_es same_ks a b f g m = record {
+set_of folder limits start plain all before left found after set u e d p es ks same_es same_ks a b f g m = record {
   plain = plain;
   all = all;
   left = left;
   found = found;
-  adds_plain = record {
-    definition = a.definition;
-    loads = ap (λ repo. loaded plain_text false None repo) (sym e) ∙ a.loads;
-    definitions = a.definitions ∙ ap (λ ds. ds ++ a.definition ∷ []) d;
-    paths = a.paths ∙ p;
-  };
+  adds_plain = plain_added start plain before left e d p a;
   no_entries = same_es ∙ es;
   nothing_kept = same_ks ∙ ks;
-  adds_folder = b;
+  adds_folder = subst (λ (l : Limits). AddsFolderWithin l true folder left plain found all) u b;
   syntaxes = f;
   paths = g;
   metadata = m;
 }
+
+-- ---- reasons of faults ----
+
+pub passes_limit : (folder : List ℕ) (limits : Limits) (start plain all : SyntaxSetBuilder) (before left found : List (List ℕ)) (r : LimitReached) (path : String Global) → limits ≡ usual → before ≡ [] → definitions_in start ≡ []
+    → paths_in start ≡ [] → AddsPlainText start plain before left → RefusesFolderWithin limits true folder left plain (folder_error.LimitReached r path) found all → HasReason folder (fault.Limit r path)
+passes_limit folder limits start plain all before left found r path u e d p a f s told same =
+    let same_limit : r ≡ s = cc in
+    let same_path : path ≡ told = cc in
+    subst (λ (t : String Global). PassesLimit folder s t) same_path
+    (subst (λ (l : LimitReached). PassesLimit folder l path) same_limit
+    (record {
+      plain = plain;
+      all = all;
+      left = left;
+      found = found;
+      adds_plain = plain_added start plain before left e d p a;
+      refuses = subst (λ (l : Limits). RefusesFolderWithin l true folder left plain (folder_error.LimitReached r path) found all) u f;
+    }))
+
+-- faults that name no limit need none
+pub no_syntaxes : (folder : List ℕ) → HasReason folder fault.Syntaxes
+no_syntaxes folder r path e = absurd (no_limit r path e)
+  where
+    no_limit : (r : LimitReached) (path : String Global) → fault.Syntaxes ≡ fault.Limit r path → ⊥
+    no_limit r path e = cc
+
+pub no_theme : (folder : List ℕ) (f : Fault) → f ≡ fault.Theme → HasReason folder f
+no_theme folder f t r path e = absurd (no_limit r path (sym t ∙ e))
+  where
+    no_limit : (r : LimitReached) (path : String Global) → fault.Theme ≡ fault.Limit r path → ⊥
+    no_limit r path e = cc
+
+pub not_written : (folder : List ℕ) → HasReason folder fault.Writing
+not_written folder r path e = absurd (no_limit r path e)
+  where
+    no_limit : (r : LimitReached) (path : String Global) → fault.Writing ≡ fault.Limit r path → ⊥
+    no_limit r path e = cc
+
+never_limit : (e : Error) (r : LimitReached) (path : String Global) → fault_of e ≡ fault.Limit r path → ⊥
+never_limit (error.Io x) r path h = cc
+never_limit (error.LoadingError x) r path h = cc
+never_limit (error.ParsingError x) r path h = cc
+never_limit (error.ScopeError x) r path h = cc
+never_limit (error.Fmt x) r path h = cc
+never_limit error.NoSyntax r path h = cc
+never_limit (error.ParseSyntax e) r path h = cc
+never_limit (error.ParseScope e) r path h = cc
+never_limit (error.Pattern e) r path h = cc
+never_limit error.Memory r path h = cc
+
+pub not_shown : (folder : List ℕ) (e : Error) (f : Fault) → f ≡ fault_of e → HasReason folder f
+not_shown folder e f same r path h = absurd (never_limit e r path (sym same ∙ h))
+
+pub plain_told : (f : Fault) → plain_line f ≡ fault_line (without_limit f)
+plain_told fault.Syntaxes = refl
+plain_told (fault.Limit s p) = refl
+plain_told fault.Theme = refl
+plain_told fault.File = refl
+plain_told fault.Highlighting = refl
+plain_told fault.Writing = refl
+
+without_is_none : (f : Fault) (r : LimitReached) (path : String Global) → without_limit f ≡ fault.Limit r path → ⊥
+without_is_none fault.Syntaxes r path e = cc
+without_is_none (fault.Limit s p) r path e = cc
+without_is_none fault.Theme r path e = cc
+without_is_none fault.File r path e = cc
+without_is_none fault.Highlighting r path e = cc
+without_is_none fault.Writing r path e = cc
+
+-- what is told of a fault is as true, and tells of writing where that is the fault
+pub told_of : (folder : List ℕ) (f told : Fault) → (told ≡ f) ⊎ (told ≡ without_limit f) → HasReason folder f → HasReason folder told
+told_of folder f told (inl e) h r path q = h r path (sym e ∙ q)
+told_of folder f told (inr e) h r path q = absurd (without_is_none f r path (sym e ∙ q))
+
+without_writing : (f : Fault) → without_limit f ≡ fault.Writing → f ≡ fault.Writing
+without_writing fault.Syntaxes e = absurd cc
+without_writing (fault.Limit s p) e = absurd cc
+without_writing fault.Theme e = absurd cc
+without_writing fault.File e = absurd cc
+without_writing fault.Highlighting e = absurd cc
+without_writing fault.Writing e = refl
+
+writing_without : (f : Fault) → f ≡ fault.Writing → without_limit f ≡ fault.Writing
+writing_without f e = ap without_limit e
+
+pub told_writing : (f told : Fault) → (told ≡ f) ⊎ (told ≡ without_limit f) → told ≡ fault.Writing → f ≡ fault.Writing
+told_writing f told (inl e) w = sym e ∙ w
+told_writing f told (inr e) w = without_writing f (sym e ∙ w)
+
+pub writing_told : (f told : Fault) → (told ≡ f) ⊎ (told ≡ without_limit f) → f ≡ fault.Writing → told ≡ fault.Writing
+writing_told f told (inl e) w = e ∙ w
+writing_told f told (inr e) w = e ∙ writing_without f w
+
+-- the words name the folder of the job
+pub reason_for : (words : List (List ℕ)) (job : Job) (f : Fault) → words ≡ words_of job → HasReason job.folder.now f → HasReasonFor words f
+reason_for words job f same h folder theme file format e =
+    let folders : job.folder.now ≡ folder = same_folder job.folder.now folder job.theme.now theme job.file.now file job.format format (sym same ∙ e) in
+    subst (λ (x : List ℕ). HasReason x f) folders h
+  where
+    same_folder : (a b c d m n : List ℕ) (p q : Format) → words_for a c p m ≡ words_for b d q n → a ≡ b
+    same_folder a b c d m n p q e = cc
 
 -- ---- the text of a format ----
 
@@ -105,7 +218,7 @@ pub asked_for : (words : List (List ℕ)) (job : Job) (text : List ℕ) → word
 asked_for words job text e s = (job.folder.now, job.theme.now, job.file.now, job.format, e, s)
 
 -- highlighting is not writing
-pub never_writing : (e : Error) → fault_of e ≡ Writing → ⊥
+pub never_writing : (e : Error) → fault_of e ≡ fault.Writing → ⊥
 never_writing (error.Io x) h = cc
 never_writing (error.LoadingError x) h = cc
 never_writing (error.ParsingError x) h = cc

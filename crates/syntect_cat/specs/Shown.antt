@@ -1,8 +1,12 @@
 -- The text that shows a file.
-use Rattle.std.specs.Prelude.{◌≡◌, ℕ, true, List, []}
+use Rattle.std.specs.Prelude.{◌≡◌, ℕ, true, List, [], String}
 use Rattle.syntect_theme_files.specs.ThemeFiles.{IsThemeOf}
 use Rattle.syntect_theme.specs.declared.theme.Theme.{Theme}
-use Rattle.syntect_grammar.specs.Folders.{AddsFolder}
+use Rattle.std.specs.Global.{Global}
+use Rattle.syntect_base.specs.Limiting.{usual}
+use Rattle.syntect_base.specs.declared.limits.LimitReached.{LimitReached as AReached}
+use Rattle.syntect_folders.specs.FoldersWithin.{AddsFolderWithin, RefusesFolderWithin}
+use Rattle.syntect_folders.specs.declared.error.FolderWithinError.TheVariants.{LimitReached}
 use Rattle.syntect_grammar.specs.Folders.{no_definitions}
 use Rattle.syntect_grammar.specs.Link.{definitions_in, paths_in, syntaxes_in, set_paths, linked}
 use Rattle.syntect_grammar.specs.Metadata.{entries_in, kept_sets, metadata_in, IsMergedOf}
@@ -12,10 +16,13 @@ use Rattle.syntect_grammar.specs.declared.syntax_set.SyntaxSetBuilder.{SyntaxSet
 use Rattle.syntect.specs.Files.{IsPageOfFile}
 use Rattle.syntect_cat.specs.Terminal.{IsTerminalTextOfFile}
 use Rattle.syntect_cat.specs.Words.{words_for}
+use Rattle.syntect_cat.specs.declared.fault.Fault.{Fault}
+use Rattle.syntect_cat.specs.declared.fault.Fault.TheVariants.{Limit}
 use Rattle.syntect_cat.specs.declared.job.Format.{Format}
 use Rattle.syntect_cat.specs.declared.job.Format.TheVariants.{Html, Terminal}
 
--- The set links the syntax of plain text and the grammars in a folder, read for lines with newlines, and has the metadata there.
+-- The set links the syntax of plain text and the grammars in a folder, read for lines with newlines and within the usual
+-- limits, and has the metadata there.
 -- All is read with a repository that was empty and has become this one.
 pub record IsSetOf (folder : List ℕ) (repository : List (List ℕ)) (set : SyntaxSet) : Type 0 where
   pub plain : SyntaxSetBuilder
@@ -25,10 +32,30 @@ pub record IsSetOf (folder : List ℕ) (repository : List (List ℕ)) (set : Syn
   pub adds_plain : AddsPlainText no_definitions plain [] left
   pub no_entries : entries_in plain ≡ []
   pub nothing_kept : kept_sets plain ≡ []
-  pub adds_folder : AddsFolder true folder left plain found all
+  pub adds_folder : AddsFolderWithin usual true folder left plain found all
   pub syntaxes : syntaxes_in set ≡ linked (definitions_in all)
   pub paths : set_paths set ≡ paths_in all
   pub metadata : IsMergedOf found all repository (metadata_in set)
+
+-- The grammar in the file of this path passes the limit: it is the first in the folder that gives no definition.
+pub record PassesLimit (folder : List ℕ) (r : AReached) (path : String Global) : Type 0 where
+  pub plain : SyntaxSetBuilder
+  pub all : SyntaxSetBuilder
+  pub left : List (List ℕ)
+  pub found : List (List ℕ)
+  pub adds_plain : AddsPlainText no_definitions plain [] left
+  pub refuses : RefusesFolderWithin usual true folder left plain (LimitReached r path) found all
+
+-- if the fault names a limit, a grammar in the folder passes it
+abbrev pub HasReason : List ℕ → Fault → Type 0
+HasReason folder fault =
+    (r : AReached) (path : String Global) → fault ≡ Limit r path → PassesLimit folder r path
+
+-- the same where the folder is the one that these words name
+abbrev pub HasReasonFor : List (List ℕ) → Fault → Type 0
+HasReasonFor words fault =
+    (folder theme file : List ℕ) (format : Format)
+    → words ≡ words_for folder theme format file → HasReason folder fault
 
 -- the text of a format shows what some file of this path holds
 abbrev pub ShowsFile : Format → SyntaxSet → Theme → List ℕ → List ℕ → Type 0

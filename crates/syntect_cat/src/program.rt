@@ -1,8 +1,8 @@
 //! The whole program.
-ghost use Rattle.std.specs.Prelude.{◌≡◌, ◌≢◌, ◌≤◌, ◌↔◌, ℕ, List, map, OnOk, IfErr, string_bytes};
+ghost use Rattle.std.specs.Prelude.{◌≡◌, ◌≢◌, ◌≤◌, ◌↔◌, ◌⊎◌, ℕ, List, map, OnOk, IfErr, string_bytes};
 ghost use Rattle.std.specs.Io.KnownBytes.{Appends};
-ghost use Rattle.syntect_cat.specs.Faults.{fault_line, usage_line};
-ghost use Rattle.syntect_cat.specs.Shown.{IsAskedFor, IsShown};
+ghost use Rattle.syntect_cat.specs.Faults.{fault_line, usage_line, without_limit};
+ghost use Rattle.syntect_cat.specs.Shown.{HasReason, HasReasonFor, IsAskedFor, IsShown};
 ghost use Rattle.syntect_cat.specs.Words.{AreWords, words_of};
 ghost use Rattle.syntect_cat.specs.Written.{Begins};
 ghost use Rattle.syntect_cat.specs.declared.fault.Fault.{Fault as AFault};
@@ -25,8 +25,11 @@ const FAILED: u8 = 1;
 /// Shows a file: the words are the folder of the grammars, the theme, `html` or `term`, and the file. Its text is written to
 /// `out` once it is whole, and the status is 0.
 ///
+/// The grammars are loaded within `Limits::default`.
+///
 /// Other words have the status 2, and any other fault has the status 1; `err` is given a line that tells of it, and `out` nothing,
-/// but that a text may be begun where it can't be written. What can't be written to `err` changes nothing.
+/// but that a text may be begun where it can't be written. The line of a grammar that would pass a limit names its file, the limit,
+/// and the context and the item where it is reached. What can't be written to `err` changes nothing.
 pub fn run<W: Write, E: Write>(
     files: &impl Files,
     alloc: Global,
@@ -48,6 +51,7 @@ pub fn run<W: Write, E: Write>(
         → (out.new ≡ out.old) × Begins (E.contents err.old) (E.contents err.new) usage_line }
     ensures failed { result ≡ 1
         → (fault : AFault) × Begins (E.contents err.old) (E.contents err.new) (fault_line fault)
+        × HasReasonFor (map string_bytes words.now) fault
         × (fault ≢ Writing → out.new ≡ out.old)
         × (fault ≡ Writing → (text : List ℕ) × IsAskedFor (map string_bytes words.now) text
         × Begins (W.contents out.old) (W.contents out.new) text) }
@@ -59,10 +63,21 @@ pub fn run<W: Write, E: Write>(
     match show(files, alloc, job, out) {
         Ok(()) => 0,
         Err(fault) => {
-            let _ = put(err, fault.line().as_bytes());
+            tell(alloc, &fault, err);
             FAILED
         }
     }
+}
+
+/// Writes the line of a fault; without memory for it, that of the fault without what a limit says.
+fn tell<E: Write>(alloc: Global, fault: &Fault, err: &mut E)
+    ensures { (told : AFault) × Begins (E.contents err.old) (E.contents err.new) (fault_line told)
+        × ((told ≡ fault.now) ⊎ (told ≡ without_limit fault.now)) }
+{
+    let _ = match fault.line(alloc) {
+        Ok(line) => put(err, line.as_bytes()),
+        Err(_) => put(err, fault.plain_line().as_bytes()),
+    };
 }
 
 /// Writes the text that a job asks for.
@@ -70,6 +85,7 @@ fn show<W: Write>(files: &impl Files, alloc: Global, job: Job<'_>, out: &mut W) 
     ensures shown { OnOk result
         ((text : List ℕ) × IsShown job.entry.folder.now job.entry.format job.entry.file.now text
         × Appends (W.contents out.old) (W.contents out.new) text) }
+    ensures reason { IfErr result (HasReason job.entry.folder.now) }
     ensures kept { IfErr result (λ fault. fault ≢ Writing → out.new ≡ out.old) }
     ensures begun { IfErr result (λ fault. fault ≡ Writing
         → (text : List ℕ) × IsShown job.entry.folder.now job.entry.format job.entry.file.now text

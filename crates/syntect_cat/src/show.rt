@@ -4,8 +4,8 @@ ghost use Rattle.syntect_theme_files.specs.ThemeFiles.{IsThemeOf};
 ghost use Rattle.syntect_loader.specs.declared.definition.SyntaxDefinition.{SyntaxDefinition as ADefinition};
 ghost use Rattle.syntect.specs.Built.{IsBuilt};
 ghost use Rattle.syntect.specs.Files.{HasNoPageOfFile};
-ghost use Rattle.syntect_cat.specs.Shown.{IsSetOf, ShowsFile, IsShown};
-ghost use Rattle.syntect_cat.specs.declared.fault.Fault.TheVariants.{Syntaxes, Writing};
+ghost use Rattle.syntect_cat.specs.Shown.{IsSetOf, HasReason, ShowsFile, IsShown};
+ghost use Rattle.syntect_cat.specs.declared.fault.Fault.TheVariants.{Writing};
 ghost use Rattle.syntect_cat.specs.declared.fault.Fault.TheVariants.{Theme as FaultOfTheme};
 
 use crate::fault::Fault;
@@ -17,12 +17,16 @@ use std::rt::Files;
 use syntect::Error;
 use syntect::html::highlighted_html_for_file;
 use syntect::laws::loaded_is_plain;
+use syntect_base::limits::Limits;
+use syntect_folders::error::FolderWithinError;
+use syntect_folders::folders::add_from_folder_within;
 use syntect_parsing::syntax_set::{SyntaxSet, SyntaxSetBuilder};
 use syntect_scope::repository::ScopeRepository;
 use syntect_theme::theme::Theme;
 use syntect_theme_files::theme_set::ThemeSet;
 
-/// Plain text and the grammars and metadata in a folder, linked, for lines with newlines.
+/// Plain text and the grammars and metadata in a folder, linked, for lines with newlines. The grammars are loaded within
+/// `Limits::default`.
 #[tactic(auto, using(crate::proofs::ShownLaws::set_of))]
 fn load_syntaxes(
     files: &impl Files,
@@ -31,15 +35,28 @@ fn load_syntaxes(
     repository: &mut ScopeRepository,
 ) -> Result<SyntaxSet, Fault>
     ensures ok { repository.old ≡ [] → IfOk result (IsSetOf folder.now repository.new) }
-    ensures err { IfErr result (λ fault. fault ≡ Syntaxes) }
+    ensures err { IfErr result (λ fault. fault ≢ Writing) }
+    ensures reason { repository.old ≡ [] → IfErr result (HasReason folder.now) }
 {
     let mut builder = SyntaxSetBuilder::new(alloc);
     if builder.add_plain_text_syntax(alloc, repository).is_err() {
         return Err(Fault::Syntaxes);
     }
     let folder = Path::new(folder);
-    match builder.add_from_folder(files, alloc, folder, true, repository) {
+    let limits = Limits::default();
+    match add_from_folder_within(
+        files,
+        alloc,
+        &mut builder,
+        folder,
+        true,
+        repository,
+        &limits,
+    ) {
         Ok(()) => {}
+        Err(FolderWithinError::LimitReached(reached, path)) => {
+            return Err(Fault::Limit(reached, path));
+        }
         Err(_) => return Err(Fault::Syntaxes),
     }
     match builder.build(alloc, repository) {
@@ -92,6 +109,7 @@ pub(crate) fn text_for(files: &impl Files, alloc: Global, job: Job<'_>) -> Resul
         (λ text. IsShown job.entry.folder.now job.entry.format job.entry.file.now
         (string_bytes text)) }
     ensures err { IfErr result (λ fault. fault ≢ Writing) }
+    ensures reason { IfErr result (HasReason job.entry.folder.now) }
 {
     loaded_is_plain();
     let mut repository = ScopeRepository::new(alloc);

@@ -72,7 +72,7 @@ impl Desk {
     }
 
     /// The path of a file in the folder.
-    fn path(&self, rt: &(impl AllocGlobal + Abort), name: &str) -> String {
+    pub fn path(&self, rt: &(impl AllocGlobal + Abort), name: &str) -> String {
         let folder = self.folder.as_str();
         format!(in rt.alloc(); "{folder}/{name}").expect(rt, "memory")
     }

@@ -95,6 +95,37 @@ fn files_that_hold_something_else(rt: HostRuntime) {
     desk.close(&rt);
 }
 
+/// A grammar whose variables stand for ten times as much in each step, ten million letters in the second item of `main`.
+const GROWING: &str = r"scope: source.h
+variables:
+  a: '{{b}}{{b}}{{b}}{{b}}{{b}}{{b}}{{b}}{{b}}{{b}}{{b}}'
+  b: '{{c}}{{c}}{{c}}{{c}}{{c}}{{c}}{{c}}{{c}}{{c}}{{c}}'
+  c: '{{d}}{{d}}{{d}}{{d}}{{d}}{{d}}{{d}}{{d}}{{d}}{{d}}'
+  d: '{{e}}{{e}}{{e}}{{e}}{{e}}{{e}}{{e}}{{e}}{{e}}{{e}}'
+  e: '{{f}}{{f}}{{f}}{{f}}{{f}}{{f}}{{f}}{{f}}{{f}}{{f}}'
+  f: '{{g}}{{g}}{{g}}{{g}}{{g}}{{g}}{{g}}{{g}}{{g}}{{g}}'
+  g: xxxxxxxxxx
+contexts:
+  main:
+    - match: '{{g}}'
+    - match: '{{a}}'
+";
+
+/// The line names the file, the limit, the item and the context.
+#[test]
+fn a_grammar_that_passes_a_limit(rt: HostRuntime) {
+    let desk = Desk::new(&rt, "syncat_limit");
+    desk.write(&rt, "grammars/U.sublime-syntax", GROWING.as_bytes());
+    let path = desk.path(&rt, "grammars/U.sublime-syntax");
+    let line = format!(in rt.alloc();
+        "syncat: cannot load syntaxes: {path}: too many bytes in a pattern of item 1 of context 'main'\n"
+    );
+    let line = line.expect(&rt, "memory");
+    let asked = ["grammars", "theme.tmTheme", "html", "a.t"];
+    words_fail(&rt, desk.words(&rt, asked).as_slice(), line.as_str());
+    desk.close(&rt);
+}
+
 /// A grammar that names a syntax which is not there.
 const LACKING: &str =
     "scope: source.u\nfile_extensions: [u]\ncontexts: {main: [{match: x, push: 'scope:source.none'}]}";

@@ -20,7 +20,7 @@ use syntect_scope::repository::ScopeRepository;
 use syntect_values::text::Text;
 
 /// Whether a file is a grammar's: its extension is `sublime-syntax`, in this case.
-fn is_grammar(path: &str) -> bool
+pub fn is_grammar(path: &str) -> bool
     ensures { result ≡ is_grammar_path path.now }
 {
     match Path::new(path).extension() {
@@ -30,7 +30,7 @@ fn is_grammar(path: &str) -> bool
 }
 
 /// Whether a file has metadata: its extension is `tmPreferences`, in this case.
-fn is_metadata(path: &str) -> bool
+pub fn is_metadata(path: &str) -> bool
     ensures { result ≡ is_metadata_path path.now }
 {
     let Some(extension) = Path::new(path).extension() else {
@@ -114,7 +114,7 @@ impl SyntaxSetBuilder {
 
     /// Adds the entry in a file of metadata, which is passed over where it gives none.
     #[tactic(auto, using(crate::proofs::FolderLaws::one_entry))]
-    fn add_metadata(
+    pub fn add_metadata(
         &mut self,
         files: &impl Files,
         alloc: Global,

@@ -7,7 +7,7 @@
 mod apart;
 pub mod error;
 mod finders;
-mod folders;
+pub mod folders;
 mod heads;
 pub mod includes;
 mod plain_text;

@@ -258,7 +258,7 @@ impl SyntaxSetBuilder {
 
     /// Puts a definition last that was loaded from the file of this path. Without memory for both the builder stays as it
     /// is.
-    pub(crate) fn add_loaded(
+    pub fn add_loaded(
         &mut self,
         syntax: SyntaxDefinition,
         path: Text,

@@ -4,6 +4,8 @@
 #[cfg(test)]
 mod files;
 #[cfg(test)]
+mod folders_within;
+#[cfg(test)]
 mod found;
 #[cfg(test)]
 mod loads;

@@ -10,3 +10,4 @@ pub mod TurnLaws
 pub mod Rows
 pub mod PlainLaws
 pub mod LengthLaws
+mod OpenLaws

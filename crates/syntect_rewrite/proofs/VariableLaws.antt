@@ -71,7 +71,7 @@ lookup-without gone name (v ∷ vs) = elim (cases (bytes_eq gone name)) [
   ]
 ]
 
-turned : (a b : List ℕ) → bytes_eq a b ≡ bytes_eq b a
+pub turned : (a b : List ℕ) → bytes_eq a b ≡ bytes_eq b a
 turned a b = elim (cases (bytes_eq a b)) [
   | inl e ↦ e ∙ sym ((bytes_eq-Decides b a).1 (sym (same_text a b e)))
   | inr e ↦ elim (cases (bytes_eq b a)) [

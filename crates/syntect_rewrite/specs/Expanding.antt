@@ -1,6 +1,6 @@
 -- What is left to write while variables are expanded.
-use Rattle.std.specs.Prelude.{◌≡◌, ℕ, zero, suc, ◌+◌, ◌*◌, ◌<◌, ◌≤◌, Bool, ⊤, List, [], ◌∷◌, ◌++◌, length, flat_map, bytes_eq, Option, Some, None}
-use Rattle.std.specs.List.{All}
+use Rattle.std.specs.Prelude.{◌≡◌, ℕ, zero, suc, ◌+◌, ◌*◌, ◌<◌, ◌≤◌, Bool, false, ⊤, List, [], ◌∷◌, ◌++◌, length, flat_map, bytes_eq, Option, Some, None, unwrap_or}
+use Rattle.std.specs.List.{All, list_any}
 use Rattle.std.specs.Map.{lookup, keys_of}
 use Rattle.syntect_rewrite.specs.Cutting.{parts}
 use Rattle.syntect_rewrite.specs.Variables.{Variables, Part, itself, use_of, part_len, part, without, value_by, expanded}
@@ -40,6 +40,24 @@ left mark variables (f ∷ fs) t =
 -- how many turns are left: each writes, or opens a frame, or closes one
 abbrev pub turns : Variables → List Frame → List ℕ → ℕ
 turns variables fs t = 2 * length (left (0 ∷ []) variables fs t) + length fs
+
+-- whether a name has a mark
+abbrev pub is_marked : List ℕ → List (List ℕ × Bool) → Bool
+is_marked name marks = unwrap_or (lookup (bytes_eq name) marks) false
+
+-- whether a frame was opened for the variable of this name
+abbrev pub is_among : List ℕ → List Frame → Bool
+is_among name fs = list_any (λ f. bytes_eq f.name name) fs
+
+-- each variable has one frame at most
+abbrev pub AreApart : List Frame → Type 0
+AreApart [] = ⊤
+AreApart (f ∷ fs) = (is_among f.name fs ≡ false) × AreApart fs
+
+-- the variables that have a frame are those whose names have a mark
+pub record AreOpen (marks : List (List ℕ × Bool)) (fs : List Frame) : Type 0 where
+  pub names : (name : List ℕ) → is_marked name marks ≡ is_among name fs
+  pub apart : AreApart fs
 
 -- what the use of a name stands for
 abbrev pub use_value : Variables → List ℕ → List ℕ

@@ -1,14 +1,15 @@
 //! Variables, expanded.
-ghost use Rattle.std.specs.Prelude.{◌≡◌, ◌<◌, ◌≤◌, ◌+◌, ◌++◌, ◌∷◌, [], IsTrue, IsOk, IfOk, IfSome, MatchOption, length, drop, option_map, string_bytes, true, false, None};
+ghost use Rattle.std.specs.Prelude.{◌≡◌, ◌<◌, ◌≤◌, ◌+◌, ◌++◌, ◌∷◌, [], List, IsTrue, IsOk, IfOk, IfSome, MatchOption, length, drop, option_map, string_bytes, true, false, None};
 ghost use Rattle.std.specs.Map.{lookup};
 ghost use Rattle.std.specs.BTreeMap.{insert_entry};
 ghost use Rattle.std.specs.Cmp.Lexicographic.{slice_cmp};
 ghost use Rattle.std.specs.Ordering.{nat_cmp};
 ghost use Rattle.std.specs.Str.{bytes_eq};
-ghost use Rattle.std.specs.List.{prefix_len, list_any};
+ghost use Rattle.std.specs.List.{prefix_len};
 ghost use Rattle.syntect_rewrite.specs.Variables as uses;
 ghost use Rattle.syntect_rewrite.specs.Variables.{Variables, without};
-ghost use Rattle.syntect_rewrite.specs.Expanding.{inner, left, turns, Vanishes, AllVanish, AreTraced, Enters, Closes};
+ghost use Rattle.syntect_rewrite.specs.Expanding.{inner, left, turns, is_marked, AreOpen, Vanishes, AllVanish, AreTraced, Enters, Closes};
+ghost use Rattle.syntect_rewrite.specs.declared.expand.Frame.{Frame as AFrame};
 
 use crate::signs::{byte_at, char_len, first, skip};
 use std::alloc::{AllocError, AllocFailed, Global};
@@ -73,25 +74,39 @@ pub(crate) fn used(text: &str) -> Option<(&str, &str)>
 }
 
 /// Whether the text of a variable is being read.
-fn is_open(frames: &[Frame<'_>], name: &Text) -> bool
-    ensures { result ≡ list_any (λ f. bytes_eq f.name name.now) frames.now }
+fn is_open(marks: &Table<Text, bool>, name: &Text) -> bool
+    ensures { result ≡ is_marked name.now marks.now }
 {
-    frames.iter().any(|frame| frame.name == *name)
+    match marks.get(name) {
+        Some(is_open) => *is_open,
+        None => false,
+    }
 }
 
 /// The text of a variable, unless that is being read.
 fn value_of<'a>(
     variables: &'a Table<Text, Text>,
-    frames: &[Frame<'_>],
+    marks: &Table<Text, bool>,
     name: &Text,
 ) -> Option<&'a Text>
-    ensures { option_map (λ v. v.now) result
-        ≡ lookup (bytes_eq name.now) (inner variables.now frames.now) }
+    ensures { (frames : List AFrame) → AreOpen marks.now frames
+        → option_map (λ v. v.now) result
+        ≡ lookup (bytes_eq name.now) (inner variables.now frames) }
 {
-    if is_open(frames, name) {
+    if is_open(marks, name) {
         return None;
     }
     variables.get(name)
+}
+
+/// Marks the name of a variable as one whose text is being read, or is not any more.
+fn mark(marks: &mut Table<Text, bool>, name: Text, is_open: bool) -> Result<(), AllocError>
+    ensures { IsOk result → marks.new ≡ insert_entry (slice_cmp nat_cmp) marks.old name is_open }
+{
+    match marks.insert(name, is_open) {
+        Ok(_) => Ok(()),
+        Err(AllocFailed { .. }) => Err(AllocError),
+    }
 }
 
 /// Whether the use of the name is remembered to stand for nothing.
@@ -106,20 +121,24 @@ fn vanishes(known: &Table<Text, bool>, name: &Text) -> bool
 pub(crate) fn enter<'a>(
     variables: &'a Table<Text, Text>,
     frames: &mut Vec<Frame<'a>>,
+    marks: &mut Table<Text, bool>,
     known: &Table<Text, bool>,
     written: usize,
     name: Text,
     after: &'a str,
 ) -> Result<&'a str, AllocError>
-    requires { AllVanish (inner variables.now frames.now.items) known.now }
+    requires vanish { AllVanish (inner variables.now frames.now.items) known.now }
+    requires marked { AreOpen marks.now frames.now.items }
     ensures kept { IfOk result (λ r. Enters variables.now frames.old.items known.now written name
         after.now frames.new.items r.now) }
+    ensures marked { IfOk result (λ r. AreOpen marks.new frames.new.items) }
 {
     if vanishes(known, &name) {
         return Ok(after);
     }
-    match value_of(variables, frames.as_slice(), &name) {
+    match value_of(variables, marks, &name) {
         Some(value) => {
+            mark(marks, name.clone()?, true)?;
             frames.push(Frame {
                 name,
                 rest: after,
@@ -164,19 +183,23 @@ fn settle(
 pub(crate) fn close<'a>(
     alloc: Global,
     frames: &mut Vec<Frame<'a>>,
+    marks: &mut Table<Text, bool>,
     known: &mut Table<Text, bool>,
     written: usize,
 ) -> Result<Option<&'a str>, AllocError>
+    requires { AreOpen marks.now frames.now.items }
     ensures none { IfOk result (λ r. r ≡ None → length frames.old.items ≡ 0) }
     ensures kept { IfOk result
         (λ o. IfSome o
         (λ r. Closes frames.old.items known.old written frames.new.items known.new r.now)) }
     ensures shallower { IfOk result
         (λ o. IfSome o (λ r. length frames.old.items ≡ length frames.new.items + 1)) }
+    ensures marked { IfOk result (λ o. IfSome o (λ r. AreOpen marks.new frames.new.items)) }
 {
     let Some(Frame { name, rest, start }) = frames.pop() else {
         return Ok(None);
     };
+    mark(marks, name.clone()?, false)?;
     settle(alloc, known, name, start == written)?;
     Ok(Some(rest))
 }
@@ -186,6 +209,7 @@ fn turn<'a>(
     alloc: Global,
     variables: &'a Table<Text, Text>,
     frames: &mut Vec<Frame<'a>>,
+    marks: &mut Table<Text, bool>,
     known: &mut Table<Text, bool>,
     out: &mut String,
     text: &'a str,
@@ -194,6 +218,7 @@ fn turn<'a>(
     requires traced { AreTraced variables.now frames.now.items text.now
         (length (string_bytes out.now)) }
     requires vanish { AllVanish (inner variables.now frames.now.items) known.now }
+    requires marked { AreOpen marks.now frames.now.items }
     ensures kept { IfOk result
         (λ r. string_bytes out.new ++ left [] variables.now frames.new.items r.now
         ≡ string_bytes out.old ++ left [] variables.now frames.old.items text.now) }
@@ -203,14 +228,15 @@ fn turn<'a>(
     ensures traced { IfOk result
         (λ r. AreTraced variables.now frames.new.items r.now (length (string_bytes out.new))) }
     ensures vanish { IfOk result (λ r. AllVanish (inner variables.now frames.new.items) known.new) }
+    ensures marked { IfOk result (λ r. AreOpen marks.new frames.new.items) }
 {
     if text.is_empty() {
-        let next = close(alloc, frames, known, out.len())?;
+        let next = close(alloc, frames, marks, known, out.len())?;
         return Ok(next.unwrap_or(text));
     }
     if let Some((name, after)) = used(text) {
         let name = Text::from_str(alloc, name)?;
-        let next = enter(variables, frames, known, out.len(), name, after)?;
+        let next = enter(variables, frames, marks, known, out.len(), name, after)?;
         return Ok(next);
     }
     let (c, after) = text.split_at(char_len(text));
@@ -235,10 +261,19 @@ pub(crate) fn expand(
     }
     let mut out = String::new(alloc);
     let mut frames: Vec<Frame<'_>> = Vec::new(alloc);
+    let mut marks: Table<Text, bool> = Table::new(alloc);
     let mut known: Table<Text, bool> = Table::new(alloc);
     let mut rest = text;
     'turns: while !rest.is_empty() || !frames.is_empty() {
-        rest = turn(alloc, variables, &mut frames, &mut known, &mut out, rest)?;
+        rest = turn(
+            alloc,
+            variables,
+            &mut frames,
+            &mut marks,
+            &mut known,
+            &mut out,
+            rest,
+        )?;
     }
     Ok(out)
 }

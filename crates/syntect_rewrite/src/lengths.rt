@@ -1,6 +1,6 @@
 //! How long texts are once their variables are expanded, counted without writing them.
 ghost use Rattle.std.specs.Prelude.{◌≡◌, ◌<◌, ◌≤◌, ◌+◌, [], IfOk, IfSome, MatchOption, length, None};
-ghost use Rattle.syntect_rewrite.specs.Expanding.{inner, left, turns, AllVanish, AreTraced};
+ghost use Rattle.syntect_rewrite.specs.Expanding.{inner, left, turns, AreOpen, AllVanish, AreTraced};
 ghost use Rattle.syntect_rewrite.specs.Lengths.{length_within};
 ghost use Rattle.syntect_rewrite.specs.Variables as uses;
 
@@ -28,6 +28,7 @@ fn count_part<'a>(
     alloc: Global,
     variables: &'a Table<Text, Text>,
     frames: &mut Vec<Frame<'a>>,
+    marks: &mut Table<Text, bool>,
     known: &mut Table<Text, bool>,
     count: &mut usize,
     most: usize,
@@ -37,6 +38,7 @@ fn count_part<'a>(
     requires within { count.now ≤ most }
     requires traced { AreTraced variables.now frames.now.items text.now count.now }
     requires vanish { AllVanish (inner variables.now frames.now.items) known.now }
+    requires marked { AreOpen marks.now frames.now.items }
     ensures passed { IfOk result (λ o. o ≡ None
         → most < count.old + length (left [] variables.now frames.old.items text.now)) }
     ensures kept { IfOk result (λ o. IfSome o
@@ -50,14 +52,15 @@ fn count_part<'a>(
         (λ r. AreTraced variables.now frames.new.items r.now count.new)) }
     ensures vanish { IfOk result (λ o. IfSome o
         (λ r. AllVanish (inner variables.now frames.new.items) known.new)) }
+    ensures marked { IfOk result (λ o. IfSome o (λ r. AreOpen marks.new frames.new.items)) }
 {
     if text.is_empty() {
-        let next = close(alloc, frames, known, *count)?;
+        let next = close(alloc, frames, marks, known, *count)?;
         return Ok(Some(next.unwrap_or(text)));
     }
     if let Some((name, after)) = used(text) {
         let name = Text::from_str(alloc, name)?;
-        let next = enter(variables, frames, known, *count, name, after)?;
+        let next = enter(variables, frames, marks, known, *count, name, after)?;
         return Ok(Some(next));
     }
     let (c, after) = text.split_at(char_len(text));
@@ -70,8 +73,8 @@ fn count_part<'a>(
 
 /// How many bytes a text has with its variables expanded, if those are at most so many.
 ///
-/// Nothing is written: no more memory is taken than the names and places of variables within one another take, and it ends
-/// at the first character that would pass the most.
+/// Nothing is written: no more memory is taken than the names of the variables that are gone into and the places of those
+/// within one another take, and it ends at the first character that would pass the most.
 pub fn expanded_len(
     alloc: Global,
     text: &str,
@@ -85,6 +88,7 @@ pub fn expanded_len(
         return Ok(added(0, text.len(), most));
     }
     let mut frames: Vec<Frame<'_>> = Vec::new(alloc);
+    let mut marks: Table<Text, bool> = Table::new(alloc);
     let mut known: Table<Text, bool> = Table::new(alloc);
     let mut count = 0;
     let mut rest = text;
@@ -93,6 +97,7 @@ pub fn expanded_len(
             alloc,
             variables,
             &mut frames,
+            &mut marks,
             &mut known,
             &mut count,
             most,

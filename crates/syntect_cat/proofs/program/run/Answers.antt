@@ -1,6 +1,6 @@
-use Rattle.std.proofs.Common.{refl, ◌∙◌, map, string_bytes}
-use Rattle.syntect_cat.specs.Faults.{fault_line, usage_line}
-use Rattle.syntect_cat.proofs.ShownLaws.{asked_for}
+use Rattle.std.proofs.Common.{refl, map, string_bytes}
+use Rattle.syntect_cat.specs.Faults.{usage_line}
+use Rattle.syntect_cat.proofs.ShownLaws.{asked_for, reason_for, told_of, told_writing, writing_told}
 use Rattle.syntect_cat.proofs.WriteLaws.{line_begun}
 use Rattle.syntect_cat.proofs.program.run.Goals as goal
 
@@ -9,12 +9,14 @@ returns-in_default-clause-usage g c = λ _.
     (refl, line_begun c.put.result (g.E.Write.contents c.args.err.now) (g.E.Write.contents c.put.new.writer) c.as_bytes.result.now usage_line c.as_bytes.ensures.value c.put.ensures.ok c.put.ensures.err)
 
 pub returns-in-Err-clause-failed : goal.returns-in-Err-clause-failed
-returns-in-Err-clause-failed g c = λ _. (
-  c.in-Err.fault,
-  line_begun c.put-in-Err.result (g.E.Write.contents c.args.err.now) (g.E.Write.contents c.put-in-Err.new.writer) c.as_bytes-in-Err.result.now (fault_line c.in-Err.fault)
-      (c.as_bytes-in-Err.ensures.value ∙ c.line.ensures) c.put-in-Err.ensures.ok c.put-in-Err.ensures.err,
-  c.in-Err.ensures.kept,
-  λ w.
-      let b = c.in-Err.ensures.begun w in
-      (b.0, asked_for (map string_bytes c.args.words.now) c.in-Some.job b.0 c.in-Some.ensures.some b.1, b.2),
-)
+returns-in-Err-clause-failed g c = λ _.
+    let told = c.tell.ensures in
+    let f = c.in-Err.fault in (
+      told.0,
+      told.1,
+      reason_for (map string_bytes c.args.words.now) c.in-Some.job told.0 c.in-Some.ensures.some (told_of c.in-Some.job.folder.now f told.0 told.2 c.in-Err.ensures.reason),
+      λ n. c.in-Err.ensures.kept (λ w. n (writing_told f told.0 told.2 w)),
+      λ w.
+          let b = c.in-Err.ensures.begun (told_writing f told.0 told.2 w) in
+          (b.0, asked_for (map string_bytes c.args.words.now) c.in-Some.job b.0 c.in-Some.ensures.some b.1, b.2),
+    )

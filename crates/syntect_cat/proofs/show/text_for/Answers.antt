@@ -1,5 +1,5 @@
 use Rattle.std.proofs.Common.{sym, ◌∙◌, string_bytes}
-use Rattle.syntect_cat.proofs.ShownLaws.{file_shown, never_writing}
+use Rattle.syntect_cat.proofs.ShownLaws.{file_shown, never_writing, not_shown}
 use Rattle.syntect_cat.proofs.show.text_for.Goals as goal
 
 pub returns-in-Ok-clause-shown : goal.returns-in-Ok-clause-shown
@@ -9,3 +9,6 @@ returns-in-Ok-clause-shown g c =
 
 pub returns-clause-err : goal.returns-clause-err
 returns-clause-err g c = λ h. never_writing c.in-Err.e (sym c.from.ensures ∙ h)
+
+pub returns-clause-reason : goal.returns-clause-reason
+returns-clause-reason g c = not_shown c.args.job.folder.now c.in-Err.e c.from.result c.from.ensures

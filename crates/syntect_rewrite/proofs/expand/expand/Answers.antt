@@ -2,6 +2,7 @@ use Rattle.std.proofs.Common.{◌≡◌, ◌==◌, ◌∙◌, length, string_byt
 use Rattle.std.proofs.lemmas.Grind.{common_steps}
 use Rattle.syntect_rewrite.specs.Expanding.{inner}
 use Rattle.syntect_rewrite.specs.Variables.{expanded}
+use Rattle.syntect_rewrite.proofs.OpenLaws.{open_first}
 use Rattle.syntect_rewrite.proofs.TurnLaws.{start, start-traced, finish}
 use Rattle.syntect_rewrite.proofs.VanishLaws.{all-none}
 use Rattle.std.specs.List.{list_any}
@@ -15,6 +16,7 @@ turns-init c =
       start c.args.variables.now fs c.args.text.now (string_bytes c.new-out.result) c.new-out.ensures.bytes c.new-frames.ensures.items,
       start-traced c.args.variables.now fs c.args.text.now (length (string_bytes c.new-out.result)) c.new-frames.ensures.items,
       all-none (inner c.args.variables.now fs) c.new-known.result c.new-known.ensures,
+      open_first c.new-marks.result fs c.new-marks.ensures c.new-frames.ensures.items,
     )
 
 pub returns : goal.returns

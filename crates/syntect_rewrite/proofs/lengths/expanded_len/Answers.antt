@@ -2,6 +2,7 @@ use Rattle.std.proofs.Common.{refl, ◌==◌, ◌∙◌, sym, ap, ◌≡◌, len
 use Rattle.std.proofs.lemmas.Grind.{common_steps}
 use Rattle.syntect_rewrite.specs.Variables.{expanded}
 use Rattle.syntect_rewrite.specs.Expanding.{inner}
+use Rattle.syntect_rewrite.proofs.OpenLaws.{open_first}
 use Rattle.syntect_rewrite.proofs.LengthLaws.{start-counted, over-counted, counted, plain-counted}
 use Rattle.std.specs.List.{list_any}
 use Rattle.syntect_rewrite.proofs.PlainLaws.{Lacks, expanded_plain}
@@ -18,6 +19,7 @@ parts-init c =
       start-traced vs fs c.args.text.now 0 c.new-frames.ensures.items,
       all-none (inner vs fs) c.new-known.result c.new-known.ensures,
       omega arith,
+      open_first c.new-marks.result fs c.new-marks.ensures c.new-frames.ensures.items,
     )
 
 pub returns : goal.returns

@@ -1,0 +1,13 @@
+use Rattle.std.specs.Path.{path_bytes}
+use Rattle.syntect_loader.specs.LoadingSteps.{Keeps}
+use Rattle.syntect_folders.proofs.FolderLaws.{Added}
+use Rattle.syntect_folders.proofs.folders.add_from_folder_within.Given as goal
+
+abbrev pub invariant-files : goal.invariant-files
+invariant-files g l = record {
+  added : Added l.loading.limits l.loading.lines_include_newline (path_bytes l.folder) l.fn.repository l.fn.builder l.walk l.repository l.builder;
+  kept : Keeps l.fn.repository l.repository;
+}
+
+abbrev pub decreases-files : goal.decreases-files
+decreases-files g l = l.walk.left

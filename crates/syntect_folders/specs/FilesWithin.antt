@@ -1,0 +1,41 @@
+-- Definitions from files, within limits.
+use Rattle.std.specs.Prelude.{◌≡◌, ℕ, Bool, List, IsUtf8, Ok, Err, String, string_bytes}
+use Rattle.std.specs.Global.{Global}
+use Rattle.std.specs.declared.io.Error.{Error}
+use Rattle.syntect_base.specs.declared.limits.Limits.{Limits}
+use Rattle.syntect_base.specs.declared.limits.LimitReached.{LimitReached as AReached}
+use Rattle.syntect_base.specs.declared.loading.LoadingError.{LoadingError}
+use Rattle.syntect_base.specs.declared.loading.LoadingError.TheVariants.{Io, Memory}
+use Rattle.syntect_loader.specs.Files.{IsSyntaxOf, RefusesSyntax}
+use Rattle.syntect_loader.specs.declared.definition.SyntaxDefinition.{SyntaxDefinition}
+use Rattle.syntect_within.specs.Limited.{left_of}
+use Rattle.syntect_folders.specs.declared.error.FolderWithinError.{FolderWithinError}
+use Rattle.syntect_folders.specs.declared.error.FolderWithinError.TheVariants.{Refused, LimitReached}
+
+-- the definition of the bytes of a file of this path, as without limits; and the bytes keep within them
+pub record IsSyntaxWithin (limits : Limits) (newlines : Bool) (path : List ℕ)
+    (old : List (List ℕ)) (bytes : List ℕ) (new : List (List ℕ)) (d : SyntaxDefinition)
+    : Type 0 where
+  pub syntax : IsSyntaxOf newlines path old bytes new d
+  pub left : ℕ
+  pub within : left_of limits bytes ≡ Ok left
+
+-- Why the bytes of a file of this path give no definition within limits: they keep within them and are refused as without
+-- them; or they pass the limit that is told with the path; or there was no memory.
+pub data RefusesSyntaxWithin (limits : Limits) (newlines : Bool) (path bytes : List ℕ)
+    (repo : List (List ℕ)) : FolderWithinError → Type 0 where
+  no_grammar : {left : ℕ} {e : LoadingError} → left_of limits bytes ≡ Ok left
+      → RefusesSyntax newlines path bytes repo e
+      → RefusesSyntaxWithin limits newlines path bytes repo (Refused e)
+  too_much : {r : AReached} {shown : String Global} → IsUtf8 bytes
+      → left_of limits bytes ≡ Err r → string_bytes shown ≡ path
+      → RefusesSyntaxWithin limits newlines path bytes repo (LimitReached r shown)
+  no_memory : RefusesSyntaxWithin limits newlines path bytes repo (Refused Memory)
+
+-- why a file gives no definition within limits: it is not read, or its bytes give none
+pub data RefusesReadWithin (limits : Limits) (newlines : Bool) (path : List ℕ)
+    (repo : List (List ℕ)) : FolderWithinError → Type 0 where
+  not_read : {e : Error} → RefusesReadWithin limits newlines path repo (Refused (Io e))
+  refused : {bytes : List ℕ} {e : FolderWithinError}
+      → RefusesSyntaxWithin limits newlines path bytes repo e
+      → RefusesReadWithin limits newlines path repo e

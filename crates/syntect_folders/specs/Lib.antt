@@ -1,0 +1,2 @@
+pub mod FilesWithin
+pub mod FoldersWithin

@@ -1,0 +1,26 @@
+//! Why the grammars of a folder were not added within limits.
+use std::fmt;
+use syntect_base::limits::LimitReached;
+use syntect_base::loading::LoadingError;
+use thiserror::Error;
+
+/// Why the grammars of a folder were not added within limits.
+#[derive(Drop, Error)]
+pub enum FolderWithinError {
+    /// What `add_from_folder` would have answered, or there was no memory.
+    #[error("{0}")]
+    Refused(LoadingError),
+    /// The grammar of a file, whose name stands second, would pass a limit.
+    #[error("{1}: {0}")]
+    LimitReached(LimitReached, String),
+}
+
+/// The message, with the cause where the message leaves it out: `main` shows it of an error that it answers.
+impl fmt::Debug for FolderWithinError {
+    fn fmt<W: fmt::Write>(&self, f: &mut fmt::Formatter<W>) -> fmt::Result {
+        match self {
+            FolderWithinError::Refused(e) => write!(f, "{e:?}"),
+            FolderWithinError::LimitReached(..) => write!(f, "{self}"),
+        }
+    }
+}

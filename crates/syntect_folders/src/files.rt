@@ -1,0 +1,136 @@
+//! Definitions from files, within limits.
+ghost use Rattle.std.specs.Prelude.{◌≡◌, ℕ, Bool, IsUtf8, List, IfOk, Err, IsOkAnd, IfErr, IsErrAnd, string_bytes};
+ghost use Rattle.std.specs.Path.{path_file_stem};
+ghost use Rattle.syntect_base.specs.Refusals.{IsReadFault};
+ghost use Rattle.syntect_base.specs.declared.limits.Limits.{Limits as ALimits};
+ghost use Rattle.syntect_folders.specs.FilesWithin.{IsSyntaxWithin, RefusesSyntaxWithin, RefusesReadWithin};
+ghost use Rattle.syntect_base.specs.declared.loading.LoadingError.TheVariants.{Memory as NoMemory};
+ghost use Rattle.syntect_base.specs.declared.syntax.ParseSyntaxError.TheVariants.{Memory};
+ghost use Rattle.syntect_loader.specs.Files.{RefusesSyntax};
+ghost use Rattle.syntect_loader.specs.Loading.{loaded};
+ghost use Rattle.syntect_loader.specs.LoadingSteps.{Fails, Keeps};
+ghost use Rattle.syntect_within.specs.Limited.{left_of, LoadsWithin};
+
+use crate::error::FolderWithinError;
+use std::alloc::Global;
+use std::path::Path;
+use std::rt::Files;
+use std::{fs, io};
+use syntect_base::limits::{Limits, LoadWithinError};
+use syntect_base::loading::LoadingError;
+use syntect_base::syntax::ParseSyntaxError;
+use syntect_loader::definition::SyntaxDefinition;
+use syntect_scope::repository::ScopeRepository;
+use syntect_within::within::load_from_str_within;
+
+/// The refusal of the text in a file that is no grammar, with the file's path. Want of memory is passed on as such.
+fn refused_text(alloc: Global, path: &str, e: ParseSyntaxError) -> LoadingError
+    ensures told { (newlines : Bool) (repo : List (List ℕ)) (bytes : List ℕ) → IsUtf8 bytes
+        → Fails (loaded bytes newlines (path_file_stem path.now) repo) e
+        → RefusesSyntax newlines path.now bytes repo result }
+    ensures memory { e ≡ Memory → result ≡ NoMemory }
+{
+    match e {
+        ParseSyntaxError::Memory => LoadingError::Memory,
+        e => match String::from_str(alloc, path) {
+            Ok(path) => LoadingError::ParseSyntax(e, path),
+            Err(_) => LoadingError::Memory,
+        },
+    }
+}
+
+/// The refusal of the text in a file within limits, with the file's path. Want of memory is passed on as such.
+fn refused_file(alloc: Global, path: &str, e: LoadWithinError) -> FolderWithinError
+    ensures { (limits : ALimits) (newlines : Bool) (old new : List (List ℕ)) (bytes : List ℕ)
+        → IsUtf8 bytes
+        → LoadsWithin (left_of limits bytes)
+        (loaded bytes newlines (path_file_stem path.now) old) (Err e) new
+        → RefusesSyntaxWithin limits newlines path.now bytes old result }
+{
+    match e {
+        LoadWithinError::Refused(e) => FolderWithinError::Refused(refused_text(alloc, path, e)),
+        LoadWithinError::LimitReached(r) => match String::from_str(alloc, path) {
+            Ok(path) => FolderWithinError::LimitReached(r, path),
+            Err(_) => FolderWithinError::Refused(LoadingError::Memory),
+        },
+    }
+}
+
+/// The definition of the text in a file. A syntax without a name has that of the file, without the extension.
+fn load_text(
+    alloc: Global,
+    path: &str,
+    text: &str,
+    lines_include_newline: bool,
+    repository: &mut ScopeRepository,
+    limits: &Limits,
+) -> Result<SyntaxDefinition, FolderWithinError>
+    ensures ok { IfOk result (IsSyntaxWithin limits.now lines_include_newline path.now
+        repository.old text.now repository.new) }
+    ensures err { IfErr result (RefusesSyntaxWithin limits.now lines_include_newline path.now
+        text.now repository.old) }
+    ensures kept { Keeps repository.old repository.new }
+{
+    match load_from_str_within(
+        alloc,
+        text,
+        lines_include_newline,
+        Path::new(path).file_stem(),
+        repository,
+        limits,
+    ) {
+        Ok(syntax) => Ok(syntax),
+        Err(e) => Err(refused_file(alloc, path, e)),
+    }
+}
+
+/// The definition of the text that was read from a file, unless reading has a fault.
+fn load_read(
+    alloc: Global,
+    path: &str,
+    read: Result<String, io::Error>,
+    lines_include_newline: bool,
+    repository: &mut ScopeRepository,
+    limits: &Limits,
+) -> Result<SyntaxDefinition, FolderWithinError>
+    ensures ok { IfOk result (λ d. (bytes : List ℕ) × IsSyntaxWithin limits.now
+        lines_include_newline path.now repository.old bytes repository.new d) }
+    ensures err { IfErr result
+        (RefusesReadWithin limits.now lines_include_newline path.now repository.old) }
+    ensures kept { Keeps repository.old repository.new }
+{
+    match read {
+        Ok(text) => load_text(
+            alloc,
+            path,
+            text.as_str(),
+            lines_include_newline,
+            repository,
+            limits,
+        ),
+        Err(e) => Err(FolderWithinError::Refused(LoadingError::from(e))),
+    }
+}
+
+/// The definition of the grammar in a file, within limits. One that cannot be read, or isn't UTF-8, is `Io`, one that is no
+/// grammar is `ParseSyntax` with its path, and one that would pass a limit is `LimitReached` with its path.
+pub(crate) fn load_file_within(
+    files: &impl Files,
+    alloc: Global,
+    path: &str,
+    lines_include_newline: bool,
+    repository: &mut ScopeRepository,
+    limits: &Limits,
+) -> Result<SyntaxDefinition, FolderWithinError>
+    ensures ok { IfOk result (λ d. (bytes : List ℕ) × IsSyntaxWithin limits.now
+        lines_include_newline path.now repository.old bytes repository.new d) }
+    ensures err { IfErr result
+        (RefusesReadWithin limits.now lines_include_newline path.now repository.old) }
+    ensures kept { Keeps repository.old repository.new }
+{
+    let read = match fs::open(files, path) {
+        Ok(file) => io::read_to_string(alloc, file),
+        Err(e) => Err(e),
+    };
+    load_read(alloc, path, read, lines_include_newline, repository, limits)
+}

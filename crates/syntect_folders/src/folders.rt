@@ -1,0 +1,131 @@
+//! Grammars and metadata from the files of folders, within limits.
+ghost use Rattle.std.specs.Prelude.{◌≡◌, [], ◌∷◌, OnOk, IfErr, OnErr, true};
+ghost use Rattle.std.specs.Path.{path_bytes};
+ghost use Rattle.syntect_folders.specs.FoldersWithin.{AddsWithin, StopsWithin, AddsFolderWithin, RefusesFolderWithin};
+ghost use Rattle.syntect_grammar.specs.Folders.{is_grammar_path};
+ghost use Rattle.syntect_loader.specs.LoadingSteps.{Keeps};
+
+use crate::error::FolderWithinError;
+use crate::files::load_file_within;
+use std::alloc::Global;
+use std::path::Path;
+use std::rt::Files;
+use syntect_base::limits::Limits;
+use syntect_base::loading::LoadingError;
+use syntect_base::utils::{Sought, Walk};
+use syntect_grammar::folders::{is_grammar, is_metadata};
+use syntect_grammar::syntax_set::SyntaxSetBuilder;
+use syntect_scope::repository::ScopeRepository;
+use syntect_values::text::Text;
+
+/// What grammars are loaded with.
+#[derive(Clone, Copy)]
+struct Loading {
+    lines_include_newline: bool,
+    limits: Limits,
+}
+
+/// Adds the grammar of a file to a builder.
+fn add_grammar(
+    files: &impl Files,
+    alloc: Global,
+    builder: &mut SyntaxSetBuilder,
+    path: &str,
+    loading: &Loading,
+    repository: &mut ScopeRepository,
+) -> Result<(), FolderWithinError>
+    requires { is_grammar_path path.now ≡ true }
+    ensures ok { OnOk result (AddsWithin loading.now.limits loading.now.lines_include_newline
+        (path.now ∷ []) repository.old builder.old repository.new builder.new) }
+    ensures err { OnErr result (builder.new ≡ builder.old) }
+    ensures refusal { IfErr result (StopsWithin loading.now.limits
+        loading.now.lines_include_newline path.now repository.old) }
+    ensures kept { Keeps repository.old repository.new }
+{
+    let syntax = match load_file_within(
+        files,
+        alloc,
+        path,
+        loading.lines_include_newline,
+        repository,
+        &loading.limits,
+    ) {
+        Ok(syntax) => syntax,
+        Err(e) => return Err(e),
+    };
+    let Ok(path) = Text::from_str(alloc, path) else {
+        return Err(FolderWithinError::Refused(LoadingError::Memory));
+    };
+    match builder.add_loaded(syntax, path) {
+        Ok(()) => Ok(()),
+        Err(_) => Err(FolderWithinError::Refused(LoadingError::Memory)),
+    }
+}
+
+/// Adds what is in a file, if it is a grammar's or has metadata.
+fn add_file(
+    files: &impl Files,
+    alloc: Global,
+    builder: &mut SyntaxSetBuilder,
+    path: &str,
+    loading: &Loading,
+    repository: &mut ScopeRepository,
+) -> Result<(), FolderWithinError>
+    ensures ok { OnOk result (AddsWithin loading.now.limits loading.now.lines_include_newline
+        (path.now ∷ []) repository.old builder.old repository.new builder.new) }
+    ensures err { OnErr result (builder.new ≡ builder.old) }
+    ensures refusal { IfErr result (StopsWithin loading.now.limits
+        loading.now.lines_include_newline path.now repository.old) }
+    ensures kept { Keeps repository.old repository.new }
+{
+    if is_grammar(path) {
+        return add_grammar(files, alloc, builder, path, loading, repository);
+    }
+    if !is_metadata(path) {
+        return Ok(());
+    }
+    match builder.add_metadata(files, alloc, path) {
+        Ok(()) => Ok(()),
+        Err(e) => Err(FolderWithinError::Refused(e)),
+    }
+}
+
+/// Adds the grammars and the metadata in a folder to a builder as its `add_from_folder` does, each grammar within limits.
+///
+/// A grammar that would pass one is `LimitReached` with the path of its file; any other refusal is that of
+/// `add_from_folder`. What is before the first fault stays added.
+pub fn add_from_folder_within(
+    files: &impl Files,
+    alloc: Global,
+    builder: &mut SyntaxSetBuilder,
+    folder: Path<'_>,
+    lines_include_newline: bool,
+    repository: &mut ScopeRepository,
+    limits: &Limits,
+) -> Result<(), FolderWithinError>
+    ensures ok { OnOk result (AddsFolderWithin limits.now lines_include_newline
+        (path_bytes folder.entry) repository.old builder.old repository.new builder.new) }
+    ensures err { IfErr result (λ e. RefusesFolderWithin limits.now lines_include_newline
+        (path_bytes folder.entry) repository.old builder.old e repository.new builder.new) }
+    ensures kept { Keeps repository.old repository.new }
+{
+    let loading = Loading {
+        lines_include_newline,
+        limits: *limits,
+    };
+    let mut walk = match Walk::new(files, alloc, folder, Sought::Grammars) {
+        Ok(walk) => walk,
+        Err(e) => return Err(FolderWithinError::Refused(e)),
+    };
+    'files: loop {
+        let path = match walk.next_file(files, alloc) {
+            Ok(Some(path)) => path,
+            Ok(None) => return Ok(()),
+            Err(e) => return Err(FolderWithinError::Refused(e)),
+        };
+        match add_file(files, alloc, builder, path.as_str(), &loading, repository) {
+            Ok(()) => {}
+            Err(e) => return Err(e),
+        }
+    }
+}
