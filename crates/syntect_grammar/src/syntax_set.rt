@@ -258,11 +258,7 @@ impl SyntaxSetBuilder {
 
     /// Puts a definition last that was loaded from the file of this path. Without memory for both the builder stays as it
     /// is.
-    pub fn add_loaded(
-        &mut self,
-        syntax: SyntaxDefinition,
-        path: Text,
-    ) -> Result<(), AllocError>
+    pub fn add_loaded(&mut self, syntax: SyntaxDefinition, path: Text) -> Result<(), AllocError>
         ensures ok { OnOk result
             (definitions_in self.new ≡ definitions_in self.old ++ syntax ∷ []) }
         ensures paths { OnOk result
