@@ -42,6 +42,16 @@ fn is_lost_there(program: &Program, text: &str, place: usize) -> bool
     is_dead(program, text, place, program.root)
 }
 
+/// So many steps more. Only contracts see the count, so nothing is done for it at run time.
+#[inline]
+fn count_more(count: &mut TurnCount, steps: usize)
+    ensures { count.new.made ≡ count.old.made + steps }
+{
+    for _step in 0..steps {
+        TurnCount::tick(count);
+    }
+}
+
 /// The search has found a match.
 #[inline]
 fn is_found(next: Next) -> bool
@@ -95,8 +105,9 @@ impl Search {
         }
     }
 
-    /// Takes steps until a match is found or nothing is left to try, at least one. None where the search is limited, and no
-    /// step is left before that: then it has taken all that were left.
+    /// Takes steps until a match is found or nothing is left to try, at least one. What stretches count beside a step each is
+    /// taken from those that are left as well. None where the search is limited, and no step is left before that: then it has
+    /// taken all that were left.
     fn run(
         &mut self,
         program: &Program,
@@ -119,14 +130,16 @@ impl Search {
         let mut next = start;
         let mut left = self.left;
         'steps: loop {
-            if limited && left == 0 {
-                self.left = left;
+            if limited && left <= self.worth {
+                count_more(count, left);
+                self.left = 0;
                 return Ok(None);
             }
             left = left.wrapping_sub(1);
             let found = is_found(next);
             let Some(after) = self.step(program, text, next, count)? else {
-                self.left = left;
+                self.left = left.saturating_sub(self.worth);
+                count_more(count, left - self.left);
                 return Ok(Some(found));
             };
             next = after;

@@ -15,6 +15,9 @@ use syntect_ways::anchor::stands;
 use syntect_ways::past::{past_char, past_class, past_letters};
 use syntect_ways::text::past_text;
 
+/// So many characters of stretches count as a step: they are gone through one by one, each much faster than a step is taken.
+const READ_A_STEP: usize = 8;
+
 /// The last place where a match of the node can begin that ends at the place, and at how many places, from that one backwards,
 /// one can.
 fn starts_before(program: &Program, place: usize, node: usize) -> (usize, usize)
@@ -372,6 +375,7 @@ impl Search {
             return Ok(false);
         };
         self.read = self.read.saturating_add(end.saturating_sub(self.place));
+        self.worth = self.read / READ_A_STEP;
         let frame = Frame::Stretch {
             list,
             count: (end.saturating_sub(self.place) + 1).saturating_sub(least as usize),

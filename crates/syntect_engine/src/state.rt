@@ -117,8 +117,10 @@ pub struct Search {
     pub place: usize,
     /// How many steps are left, where the search is limited.
     pub left: usize,
-    /// How many characters were read in stretches, each of which takes one step however long it is. Who asks sets it to 0 first.
+    /// How many characters were read in stretches since the search began. Who asks sets it to 0 first.
     pub read: usize,
+    /// As how many steps these count, beside one for each stretch.
+    pub worth: usize,
 }
 
 impl Search {
@@ -133,6 +135,7 @@ impl Search {
             place: 0,
             left: 0,
             read: 0,
+            worth: 0,
         }
     }
 
@@ -149,6 +152,8 @@ impl Search {
         self.groups.clear();
         self.groups.resize(groups, None)?;
         self.place = place;
+        self.read = 0;
+        self.worth = 0;
         Ok(())
     }
 

@@ -275,11 +275,11 @@ impl Regex {
     }
 
     /// Searches as `search_into` does, and counts its steps. Of a linear pattern they are within a bound that goes by the
-    /// pattern and the length of what is searched. A step is one of the search that backs up, which may read a stretch of
-    /// characters or letters in a row at once, or one at a cell of the pattern's plan. What is passed over before a place where
-    /// a match may begin isn't counted, nor are a plan's passes over the pattern's nodes, the ordering of its cells, and its
-    /// passes over the text for what lookbehinds look for. The count never falls, and a search that finds something has counted
-    /// a step at least.
+    /// pattern and the length of what is searched. A step is one of the search that backs up, which may read letters in a row at
+    /// once, or one at a cell of the pattern's plan; a stretch of characters counts one, and one more for each eight of them. What
+    /// is passed over before a place where a match may begin isn't counted, nor are a plan's passes over the pattern's nodes, the
+    /// ordering of its cells, and its passes over the text for what lookbehinds look for. The count never falls, and a search
+    /// that finds something has counted a step at least.
     pub fn search_counted(
         &self,
         text: &str,

@@ -28,6 +28,7 @@ fn is_replaced_here(
     ensures steps { pattern_is_linear regex.now ≡ true
         → OnOk result (regions.new.steps.made ≤ regions.old.steps.made
         + search_bound regex.now (length reader.now.line.now)) }
+    ensures rises { OnOk result (regions.old.steps.made ≤ regions.new.steps.made) }
 {
     let known = regions.memory.hints.recall(regex.regex_str());
     let mut prospect = known;
@@ -68,6 +69,7 @@ pub fn is_here(
         → OnOk result (regions.new.steps.made ≤ regions.old.steps.made
         + search_bound (unwrap_or (option_copied replaced.entry) entry.now.pattern.now.regex)
         (length reader.now.line.now)) }
+    ensures rises { OnOk result (regions.old.steps.made ≤ regions.new.steps.made) }
 {
     if let Some(regex) = replaced {
         return is_replaced_here(reader, regex, place, regions);

@@ -173,7 +173,7 @@ pub fn substituted(
     kept: &mut Substitutes,
 ) -> Result<Option<Substitute>, AllocError>
     ensures { IfOk result (λ r. unwrap_or r pattern.now.regex
-        ≡ searched_text dialect pattern.now (option_copied opening)) }
+        ≡ searched_text dialect pattern.now (option_copied opening.entry)) }
 {
     let Some(opening) = opening else {
         return Ok(None);

@@ -43,6 +43,13 @@ impl Drop for Substitutes {
     }
 }
 
+/// Whether the texts are the same.
+fn is_same_text(a: &str, b: &str) -> bool
+    ensures { result ≡ true → a.now ≡ b.now }
+{
+    a == b
+}
+
 impl Substitute {
     /// The pattern with this match's groups put in.
     pub fn new(
@@ -73,7 +80,7 @@ impl Substitute {
         ensures { result ≡ true → self.now
             ≡ substituted pattern.now.regex opening.now.region opening.now.line }
     {
-        self.pattern.as_str() == pattern.regex.regex_str() && self.opening == *opening
+        is_same_text(self.pattern.as_str(), pattern.regex.regex_str()) && self.opening == *opening
     }
 }
 

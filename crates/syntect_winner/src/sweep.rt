@@ -39,6 +39,11 @@ use syntect_ways::anchor::stands;
 use syntect_ways::text::is_boundary;
 use syntect_word_ends::ends::{is_blank_byte, is_word_byte, run_end};
 
+/// From where on a turn looks farther ahead for the end of a run than a little way, and how many times as far as it went.
+const NEAR: usize = 32;
+
+const AHEAD: usize = 256;
+
 /// A flat list: one that the set keeps, or one of this turn alone.
 #[derive(Drop)]
 pub enum Kept<'s> {
@@ -157,8 +162,35 @@ pub struct Reach {
     pub behind: u8,
 }
 
+/// Up to where the characters from a place on are white space, or else those of a word. Of a run that goes on beyond `far` not all
+/// is looked at.
+fn run_as_far(line: &str, place: usize, blank: bool, far: usize) -> usize
+    requires { place ≤ length line.now }
+    ensures { IsRunUpTo blank line.now place result }
+{
+    let mut end = run_end(line, place, blank);
+    'runs: while end < far {
+        let next = run_end(line, end, blank);
+        if next == end {
+            return end;
+        }
+        end = next;
+    }
+    end
+}
+
+/// How far from a place the end of a run is looked for by a turn that went through these places before: only a little way at
+/// first, and the farther the longer it went, so that all the looking takes no longer than the going.
+fn far_from(place: usize, gone: usize) -> usize {
+    if gone < NEAR {
+        place
+    } else {
+        place.saturating_add(gone.saturating_mul(AHEAD))
+    }
+}
+
 /// How far what stands at the place goes on, white space, or else a word: as it is known, or else is looked for now.
-fn reach_at(line: &str, place: usize, here: u8, known: Reach) -> Reach
+fn reach_at(line: &str, place: usize, here: u8, known: Reach, gone: usize) -> Reach
     requires within { place ≤ length line.now }
     requires known { Reaches line.now place known }
     ensures run { IsRunUpTo result.blank line.now place result.end }
@@ -169,7 +201,7 @@ fn reach_at(line: &str, place: usize, here: u8, known: Reach) -> Reach
         return known;
     }
     let blank = is_blank_byte(here);
-    let end = run_end(line, place, blank);
+    let end = run_as_far(line, place, blank, far_from(place, gone));
     Reach {
         blank,
         end,
@@ -178,8 +210,8 @@ fn reach_at(line: &str, place: usize, here: u8, known: Reach) -> Reach
 }
 
 /// What is seen of a place; with `asks` what stands behind the white space or the word there too. That is looked for where
-/// it isn't known from an earlier place.
-fn outlook_of(line: &str, place: usize, asks: bool, reach: &mut Reach) -> Outlook
+/// it isn't known from an earlier place. The turn went through `gone` bytes before.
+fn outlook_of(line: &str, place: usize, asks: bool, reach: &mut Reach, gone: usize) -> Outlook
     requires within { place ≤ length line.now }
     requires reach { Reaches line.now place reach.old }
     ensures reach { Reaches line.now place reach.new }
@@ -197,7 +229,7 @@ fn outlook_of(line: &str, place: usize, asks: bool, reach: &mut Reach) -> Outloo
             off_edges,
         };
     }
-    let seen = reach_at(line, place, here, *reach);
+    let seen = reach_at(line, place, here, *reach, gone);
     *reach = seen;
     Outlook {
         here,
@@ -296,6 +328,7 @@ fn with_entry<'s>(
         (Remembers reader.now.set.now reader.now.line.now regions.new.memory) }
     ensures steps { (w : ℕ) → IsWithin (length reader.now.line.now) w (member_of entry.now)
         → OnOk result (regions.new.steps.made ≤ regions.old.steps.made + w) }
+    ensures rises { OnOk result (regions.old.steps.made ≤ regions.new.steps.made) }
 {
     dialect_finds_in_text();
     if !is_here(reader, entry, replaced, origin, place, regions)? {
@@ -354,6 +387,7 @@ fn with_pattern<'s>(
     ensures steps { (w : ℕ) → AreWithin (length reader.now.line.now) w
         (run_members reader.now.set.now run.now)
         → OnOk result (regions.new.steps.made ≤ regions.old.steps.made + w) }
+    ensures rises { OnOk result (regions.old.steps.made ≤ regions.new.steps.made) }
 {
     if losses.has(part, index) {
         return Ok(best);
@@ -412,6 +446,7 @@ fn with_run<'s>(
         (run_members reader.now.set.now run.now)
         → OnOk result (regions.new.steps.made ≤ regions.old.steps.made
         + place_steps (length (run_members reader.now.set.now run.now)) w) }
+    ensures rises { OnOk result (regions.old.steps.made ≤ regions.new.steps.made) }
 {
     dialect_finds_in_text();
     let count = list_in(&run.flats).len();
@@ -449,6 +484,7 @@ fn best_at<'s>(
         (flat_map (run_members reader.now.set.now) runs.now)
         → OnOk result (regions.new.steps.made ≤ regions.old.steps.made
         + place_steps (length (flat_map (run_members reader.now.set.now) runs.now)) w) }
+    ensures rises { OnOk result (regions.old.steps.made ≤ regions.new.steps.made) }
 {
     let mut best = Best {
         start: place + 1,
@@ -461,27 +497,27 @@ fn best_at<'s>(
     Ok(best)
 }
 
-/// What runs of a chain have.
+/// What the runs of a chain have: the places are gone through from the turn's own on, up to the first where a match begins that
+/// counts.
 fn best_of_runs<'s>(
     reader: &LineReader<'s, '_>,
-    parts: &[Part<'_>],
     runs: &[Run<'s, '_>],
     regions: &mut Regions,
 ) -> Result<Best<'s>, AllocError>
-    requires parts { map (λ r. r.part) runs.now ≡ parts.now }
     requires runs { All (IsRun reader.now.set.now) runs.now }
     requires known { Remembers reader.now.set.now reader.now.line.now regions.old.memory }
     ensures groups { IfOk result (λ b. AreGroupsBy reader.now b.candidate regions.new.best) }
     ensures best { IfOk result (λ b. choice_by reader.now.line.now reader.now.position.now.place b
         ≡ winner reader.now.line.now reader.now.position.now
-        (matches_of reader.now (flat_map (part_members reader.now.set.now) parts.now))) }
+        (matches_of reader.now (flat_map (run_members reader.now.set.now) runs.now))) }
     ensures known { OnOk result
         (Remembers reader.now.set.now reader.now.line.now regions.new.memory) }
     ensures steps { (w : ℕ) → AreWithin (length reader.now.line.now) w
-        (flat_map (part_members reader.now.set.now) parts.now)
+        (flat_map (run_members reader.now.set.now) runs.now)
         → OnOk result (regions.new.steps.made ≤ regions.old.steps.made
-        + turn_steps (length (flat_map (part_members reader.now.set.now) parts.now)) w
+        + turn_steps (length (flat_map (run_members reader.now.set.now) runs.now)) w
         (length reader.now.line.now)) }
+    ensures rises { OnOk result (regions.old.steps.made ≤ regions.new.steps.made) }
 {
     dialect_finds_in_text();
     let begins = begins_of(runs);
@@ -495,7 +531,8 @@ fn best_of_runs<'s>(
     let mut place = reader.position.place;
     'places: loop {
         let next = next_place(reader, begins, place);
-        let outlook = outlook_of(reader.line, next, asks, &mut reach);
+        let gone = next.saturating_sub(reader.position.place);
+        let outlook = outlook_of(reader.line, next, asks, &mut reach, gone);
         let found = best_at(reader, runs, next, outlook, &mut losses, regions)?;
         if found.is_match {
             return Ok(found);
@@ -507,7 +544,7 @@ fn best_of_runs<'s>(
     }
 }
 
-/// Keeps what was searched in place of patterns for the next turns.
+/// Keeps what was searched in place of patterns for later turns.
 fn keep_replaced(runs: Vec<Run<'_, '_>>, kept: &mut Substitutes) {
     for run in runs {
         for replaced in run.replaced {
@@ -518,8 +555,8 @@ fn keep_replaced(runs: Vec<Run<'_, '_>>, kept: &mut Substitutes) {
     }
 }
 
-/// What a chain has: the places are gone through from the turn's own on, up to the first where a match begins that counts.
-/// Where what is searched for each of its patterns is linear, the steps of all searches are within a bound.
+/// What a chain has. What is searched in place of its patterns is kept for later turns. Where what is searched for each pattern
+/// is linear, the steps of all searches are within a bound.
 pub fn best_of_chain<'s>(
     reader: &LineReader<'s, '_>,
     parts: &[Part<'_>],
@@ -537,9 +574,10 @@ pub fn best_of_chain<'s>(
         → OnOk result (regions.new.steps.made ≤ regions.old.steps.made
         + turn_steps (length (flat_map (part_members reader.now.set.now) parts.now)) w
         (length reader.now.line.now)) }
+    ensures rises { OnOk result (regions.old.steps.made ≤ regions.new.steps.made) }
 {
     let runs = runs_of(reader, parts, &mut regions.substitutes)?;
-    let found = best_of_runs(reader, parts, runs.as_slice(), regions)?;
+    let found = best_of_runs(reader, runs.as_slice(), regions)?;
     keep_replaced(runs, &mut regions.substitutes);
     Ok(found)
 }

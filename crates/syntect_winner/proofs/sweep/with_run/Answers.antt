@@ -21,6 +21,7 @@ loop-index-init c = record {
   ahead = λ ms a h is.
       begun_ahead c.dialect_finds_in_text.ensures c.args.reader.now c.args.place c.args.run.now c.requires.run (marks_of c.args.losses.now c.args.part) c.next_in-index.result
       (c.next_in-index.ensures.passed c.args.reader.now.line.now c.args.place c.requires.sees) a;
+  rises = omega arith;
   steps = λ w all. omega (arith, more_room (c.len-count.result - c.next_in-index.result) (c.len-count.result) w (omega arith));
 }
 
@@ -60,6 +61,7 @@ loop-index-preserved c = record {
       is
       (still_up_to c.dialect_finds_in_text.ensures c.args.reader.now c.args.place c.args.run.now (marks_of c.loop-index.losses c.args.part) (marks_of c.with_pattern.new.losses c.args.part) (c.args.place + 1) c.loop-index.index c.in_ok-best.ensures.losses.others
       (c.loop-index.invariant.ahead ms a h (c.in_ok-best.ensures.grows is))));
+  rises = omega (arith, c.loop-index.invariant.rises, c.in_ok-best.ensures.rises);
   steps = λ w all.
       spent c.loop-index.regions.steps.made c.with_pattern.new.regions.steps.made c.args.regions.now.steps.made _ _ _ w (c.loop-index.invariant.steps w all) (c.in_ok-best.ensures.steps w all)
       (omega (arith, c.loop-index-test.true, c.next_in-index-in-loop-index.ensures.later));

@@ -1,4 +1,4 @@
-use Rattle.std.proofs.Common.{◌≡◌, ◌∷◌, ◌++◌, [], ap, ◌∙◌, arith, None, true, suc, ◌-◌}
+use Rattle.std.proofs.Common.{◌≡◌, ◌∷◌, ◌++◌, [], ap, ◌∙◌, arith, None, true, suc, ◌-◌, ◌/◌}
 use Rattle.syntect_pattern.specs.Trees.{repeat}
 use Rattle.syntect_pattern_table.specs.Program.{trees_of}
 use Rattle.syntect_engine.specs.declared.state.Frame.TheVariants as Frame
@@ -8,7 +8,7 @@ use Rattle.syntect_engine.proofs.state.Search.enter_stretch.Goals as goal
 
 pub returns-clause-goes : goal.returns-clause-goes
 returns-clause-goes c = λ yes node is.
-    let old : Search = record c.args.self.now { read = c.saturating_add-self.result } in
+    let old : Search = record c.args.self.now { read = c.saturating_add-self.result; worth = c.saturating_add-self.result / 8 } in
     let of_tree = c.in-Some.ensures in
     let count : c.saturating_sub-3.result ≡ suc (c.in-Some.end - old.place) - c.args.least = omega arith in
     let goes = goes_stretch c.args.text.now (trees_of c.args.program.now) old c.save.new.self node c.args.list c.args.least c.saturating_sub-3.result c.in-Some.end of_tree.set

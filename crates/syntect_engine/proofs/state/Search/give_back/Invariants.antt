@@ -9,6 +9,7 @@ invariant-frames l = record {
   place : l.self.place ≡ l.fn.self.place;
   left : l.self.left ≡ l.fn.self.left;
   read : l.self.read ≡ l.fn.self.read;
+  worth : l.self.worth ≡ l.fn.self.worth;
 }
 
 abbrev pub decreases-frames : goal.decreases-frames
