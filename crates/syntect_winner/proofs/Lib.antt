@@ -1,5 +1,6 @@
 pub mod ListLaws
 pub mod LossLaws
+pub mod SubstituteLaws
 pub mod DialectLaws
 pub mod Finds
 pub mod Places

@@ -20,7 +20,6 @@ use Rattle.syntect_winner.specs.Steps.{AreWithin, IsWithin, is_within, place_ste
 use Rattle.syntect_winner.specs.Turn.{searched_text}
 use Rattle.syntect_winner.specs.declared.chain.Part.{Part}
 use Rattle.syntect_winner.specs.declared.sweep.Run.{Run}
-use Rattle.syntect_winner.proofs.SweepLaws.{runs_members}
 
 -- ---- one pattern ----
 
@@ -141,11 +140,3 @@ pub places_begin : (old long place m : ℕ) → old + (long + 1 - place) * m ≤
 places_begin old long place m =
     let few : long + 1 - place ≤ long + 1 = omega arith in
     omega (arith, more_room (long + 1 - place) (long + 1) m few)
-
--- the members of the runs are those of the parts
-pub of_parts : (set : SyntaxSet) (runs : List Run) (parts : List Part) (long w made then : ℕ) → map (λ r. r.part) runs ≡ parts
-    → (AreWithin long w (flat_map (run_members set) runs) → then ≤ made + place_steps (length (flat_map (run_members set) runs)) w)
-    → AreWithin long w (flat_map (part_members set) parts) → then ≤ made + place_steps (length (flat_map (part_members set) parts)) w
-of_parts set runs parts long w made then e h all =
-    let same : flat_map (run_members set) runs ≡ flat_map (part_members set) parts = runs_members set runs parts e in
-    subst (λ (ms : List Member). then ≤ made + place_steps (length ms) w) same (h (subst (λ (ms : List Member). AreWithin long w ms) (sym same) all))

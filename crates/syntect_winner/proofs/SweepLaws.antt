@@ -25,7 +25,7 @@ use Rattle.syntect_winner.specs.Engine.{dialect}
 use Rattle.syntect_winner.specs.Found.{FindsInText}
 use Rattle.syntect_winner.specs.Losses.{LosesInPart, is_lost, marks_of}
 use Rattle.syntect_winner.specs.Parts.{flat_members, part_member, part_members}
-use Rattle.syntect_winner.specs.Best.{IsBest, choice_by}
+use Rattle.syntect_winner.specs.Best.{choice_by}
 use Rattle.syntect_winner.specs.Reader.{match_of, matches_of}
 use Rattle.syntect_winner.specs.Turn.{Live, searched_text, winner}
 use Rattle.syntect_winner.proofs.AheadLaws.{ahead_behind, ahead_first, ahead_next, ahead_starts, best_kept, best_passed_by, no_match, out_still}
@@ -386,16 +386,13 @@ module _ (finds : FindsInText dialect) (reader : LineReader) (runs : List Run) (
 
 -- ---- the winner of the chain ----
 
-module _ (reader : LineReader) (i : ℕ) (losses : List (List Bool)) (runs : List Run) (parts : List Part) (b : Best) where
-  of_parts : map (λ r. r.part) runs ≡ parts → AddsAll reader i losses runs b → IsBest reader.line.now reader.position.now i (matches_of reader (flat_map (part_members reader.set.now) parts)) b
-  of_parts e added = subst (λ ms. IsBest reader.line.now reader.position.now i (matches_of reader ms) b) (runs_members reader.set.now runs parts e) added.best.best
-
+module _ (reader : LineReader) (i : ℕ) (losses : List (List Bool)) (runs : List Run) (b : Best) where
   -- where one begins at this place, it wins,
-  pub chain_won : map (λ r. r.part) runs ≡ parts → AddsAll reader i losses runs b → b.is_match ≡ true
-      → choice_by reader.line.now reader.position.now.place b ≡ winner reader.line.now reader.position.now (matches_of reader (flat_map (part_members reader.set.now) parts))
-  chain_won e added is = best_wins reader.line.now reader.position.now i b (matches_of reader (flat_map (part_members reader.set.now) parts)) (of_parts e added) is
+  pub chain_won : AddsAll reader i losses runs b → b.is_match ≡ true
+      → choice_by reader.line.now reader.position.now.place b ≡ winner reader.line.now reader.position.now (matches_of reader (flat_map (run_members reader.set.now) runs))
+  chain_won added is = best_wins reader.line.now reader.position.now i b (matches_of reader (flat_map (run_members reader.set.now) runs)) added.best.best is
 
   -- and at the line's end there is none
-  pub chain_ended : FindsInText dialect → length reader.line.now ≤ i → map (λ r. r.part) runs ≡ parts → AddsAll reader i losses runs b → b.is_match ≡ false
-      → choice_by reader.line.now reader.position.now.place b ≡ winner reader.line.now reader.position.now (matches_of reader (flat_map (part_members reader.set.now) parts))
-  chain_ended finds l e added is = best_at_end finds reader.line.now reader.text reader.position.now (flat_map (part_members reader.set.now) parts) i b l (of_parts e added) is
+  pub chain_ended : FindsInText dialect → length reader.line.now ≤ i → AddsAll reader i losses runs b → b.is_match ≡ false
+      → choice_by reader.line.now reader.position.now.place b ≡ winner reader.line.now reader.position.now (matches_of reader (flat_map (run_members reader.set.now) runs))
+  chain_ended finds l added is = best_at_end finds reader.line.now reader.text reader.position.now (flat_map (run_members reader.set.now) runs) i b l added.best.best is

@@ -12,4 +12,5 @@ pub mod memory;
 pub mod position;
 pub mod reader;
 pub mod search;
+pub mod substitutes;
 pub mod sweep;

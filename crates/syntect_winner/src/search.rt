@@ -10,6 +10,7 @@ ghost use Rattle.syntect_winner.specs.Reader.{seen_by};
 use crate::memory::Memory;
 use crate::position::{MOST_IDLE, MOST_LEVELS, Position};
 use crate::reader::LineReader;
+use crate::substitutes::{Substitute, Substitutes};
 use std::alloc::{AllocError, Global};
 use std::marker::Model;
 use std::mem;
@@ -28,6 +29,7 @@ pub struct Regions {
     pub best: Region,
     pub steps: TurnCount,
     pub memory: Memory,
+    pub substitutes: Substitutes,
 }
 
 impl Regions {
@@ -40,6 +42,7 @@ impl Regions {
             best: Region::new(alloc),
             steps: TurnCount::none(),
             memory: Memory::new(alloc),
+            substitutes: Substitutes::new(alloc),
         }
     }
 
@@ -163,17 +166,24 @@ pub fn counts(height: usize, operation: &MatchOperation, start: usize, end: usiz
 }
 
 /// What is searched in place of the pattern where it uses back references and has an opening match.
-pub fn substituted(entry: &Entry<'_, '_>) -> Result<Option<Regex>, AllocError>
-    ensures { IfOk result (λ r. unwrap_or r entry.now.pattern.now.regex
-        ≡ searched_text dialect entry.now.pattern.now (option_copied entry.now.opening)) }
+pub fn substituted(
+    alloc: Global,
+    pattern: &MatchPattern,
+    opening: Option<&Opening>,
+    kept: &mut Substitutes,
+) -> Result<Option<Substitute>, AllocError>
+    ensures { IfOk result (λ r. unwrap_or r pattern.now.regex
+        ≡ searched_text dialect pattern.now (option_copied opening.entry)) }
 {
-    let Some(opening) = entry.opening else {
+    let Some(opening) = opening else {
         return Ok(None);
     };
-    if entry.pattern.has_captures {
-        Ok(Some(opening.substituted(entry.pattern)?))
-    } else {
-        Ok(None)
+    if !pattern.has_captures {
+        return Ok(None);
+    }
+    match kept.take(pattern, opening) {
+        Some(substitute) => Ok(Some(substitute)),
+        None => Ok(Some(Substitute::new(alloc, pattern, opening)?)),
     }
 }
 

@@ -27,11 +27,11 @@ use crate::laws::dialect_finds_in_text;
 use crate::losses::Losses;
 use crate::reader::LineReader;
 use crate::search::{Best, Candidate, Entry, OwnRegex, Regions, counts, led_by, substituted};
+use crate::substitutes::{Substitute, Substitutes};
 use std::alloc::{AllocError, Global};
 use syntect_flats::flats::{Flat, Origin, Outlook};
 use syntect_flats::list::FlatList;
 use syntect_grammar::syntax_definition::MatchPattern;
-use syntect_grammar::syntax_set::SyntaxSet;
 use syntect_pattern::anchor::Anchor;
 use syntect_pattern_table::starts::{Places, either, is_in, nowhere, start_at};
 use syntect_regex::regex::Regex;
@@ -57,7 +57,7 @@ pub struct Run<'s, 'p> {
     pub part: Part<'p>,
     pub flats: Kept<'s>,
     /// What is searched in place of each pattern; empty where each is searched as it stands.
-    pub replaced: Vec<Option<Regex>>,
+    pub replaced: Vec<Option<Substitute>>,
 }
 
 /// The list itself.
@@ -72,20 +72,17 @@ fn list_in<'k>(kept: &'k Kept<'_>) -> &'k FlatList
 
 /// What is searched in place of the pattern that stands at a place, if it uses back references.
 fn replacement(
-    set: &SyntaxSet,
+    reader: &LineReader<'_, '_>,
     part: &Part<'_>,
     origin: Origin,
-) -> Result<Option<Regex>, AllocError>
+    kept: &mut Substitutes,
+) -> Result<Option<Substitute>, AllocError>
     ensures { IfOk result (λ r. (flat : Flat) (m : APattern) → origin_of flat ≡ origin
-        → pattern_at set.now flat ≡ Some m
+        → pattern_at reader.now.set.now flat ≡ Some m
         → unwrap_or r m.regex ≡ searched_text dialect m (option_copied part.now.opening)) }
 {
-    match set.pattern_at(origin) {
-        Some(pattern) => substituted(&Entry {
-            pattern,
-            opening: part.opening,
-            from_with_prototype: part.from_with_prototype,
-        }),
+    match reader.set.pattern_at(origin) {
+        Some(pattern) => substituted(reader.alloc, pattern, part.opening, kept),
         None => Ok(None),
     }
 }
@@ -95,7 +92,8 @@ fn replaced_in(
     reader: &LineReader<'_, '_>,
     part: &Part<'_>,
     flats: &FlatList,
-) -> Result<Vec<Option<Regex>>, AllocError>
+    kept: &mut Substitutes,
+) -> Result<Vec<Option<Substitute>>, AllocError>
     requires { AreFlatsOf reader.now.set.now part.now.id flats.now }
     ensures { IfOk result (λ v. AreReplaced reader.now.set.now part.now flats.now v.items) }
 {
@@ -104,13 +102,17 @@ fn replaced_in(
         return Ok(replaced);
     }
     for index in 0..flats.len() {
-        replaced.push(replacement(reader.set, part, flats.origin_at(index))?)?;
+        replaced.push(replacement(reader, part, flats.origin_at(index), kept)?)?;
     }
     Ok(replaced)
 }
 
 /// A part with its patterns.
-fn run_of<'s, 'p>(reader: &LineReader<'s, '_>, part: &Part<'p>) -> Result<Run<'s, 'p>, AllocError>
+fn run_of<'s, 'p>(
+    reader: &LineReader<'s, '_>,
+    part: &Part<'p>,
+    kept: &mut Substitutes,
+) -> Result<Run<'s, 'p>, AllocError>
     ensures part { IfOk result (λ r. r.part ≡ part.now) }
     ensures run { IfOk result (IsRun reader.now.set.now) }
 {
@@ -121,7 +123,7 @@ fn run_of<'s, 'p>(reader: &LineReader<'s, '_>, part: &Part<'p>) -> Result<Run<'s
             Kept::Own(Box::new(reader.alloc, walked)?)
         }
     };
-    let replaced = replaced_in(reader, part, list_in(&flats))?;
+    let replaced = replaced_in(reader, part, list_in(&flats), kept)?;
     Ok(Run {
         part: *part,
         flats,
@@ -133,13 +135,14 @@ fn run_of<'s, 'p>(reader: &LineReader<'s, '_>, part: &Part<'p>) -> Result<Run<'s
 fn runs_of<'s, 'p>(
     reader: &LineReader<'s, '_>,
     parts: &[Part<'p>],
+    kept: &mut Substitutes,
 ) -> Result<Vec<Run<'s, 'p>>, AllocError>
     ensures parts { IfOk result (λ v. map (λ r. r.part) v.items ≡ parts.now) }
     ensures runs { IfOk result (λ v. All (IsRun reader.now.set.now) v.items) }
 {
     let mut runs = Vec::with_capacity(reader.alloc, parts.len())?;
     for part in parts {
-        runs.push(run_of(reader, part)?)?;
+        runs.push(run_of(reader, part, kept)?)?;
     }
     Ok(runs)
 }
@@ -292,7 +295,7 @@ fn copy_of(alloc: Global, replaced: Option<&Regex>) -> Result<Option<OwnRegex>, 
 fn replaced_at<'r>(run: &'r Run<'_, '_>, index: usize) -> Option<&'r Regex>
     ensures { option_copied result ≡ slice_index_or run.now.replaced.items index None }
 {
-    run.replaced.get(index)?.as_ref()
+    Some(run.replaced.get(index)?.as_ref()?.regex())
 }
 
 /// What is found with a member of the chain more, none of whose matches begins before the place. `lost` tells then whether
@@ -494,8 +497,66 @@ fn best_at<'s>(
     Ok(best)
 }
 
-/// What a chain has: the places are gone through from the turn's own on, up to the first where a match begins that counts.
-/// Where what is searched for each of its patterns is linear, the steps of all searches are within a bound.
+/// What the runs of a chain have: the places are gone through from the turn's own on, up to the first where a match begins that
+/// counts.
+fn best_of_runs<'s>(
+    reader: &LineReader<'s, '_>,
+    runs: &[Run<'s, '_>],
+    regions: &mut Regions,
+) -> Result<Best<'s>, AllocError>
+    requires runs { All (IsRun reader.now.set.now) runs.now }
+    requires known { Remembers reader.now.set.now reader.now.line.now regions.old.memory }
+    ensures groups { IfOk result (λ b. AreGroupsBy reader.now b.candidate regions.new.best) }
+    ensures best { IfOk result (λ b. choice_by reader.now.line.now reader.now.position.now.place b
+        ≡ winner reader.now.line.now reader.now.position.now
+        (matches_of reader.now (flat_map (run_members reader.now.set.now) runs.now))) }
+    ensures known { OnOk result
+        (Remembers reader.now.set.now reader.now.line.now regions.new.memory) }
+    ensures steps { (w : ℕ) → AreWithin (length reader.now.line.now) w
+        (flat_map (run_members reader.now.set.now) runs.now)
+        → OnOk result (regions.new.steps.made ≤ regions.old.steps.made
+        + turn_steps (length (flat_map (run_members reader.now.set.now) runs.now)) w
+        (length reader.now.line.now)) }
+    ensures rises { OnOk result (regions.old.steps.made ≤ regions.new.steps.made) }
+{
+    dialect_finds_in_text();
+    let begins = begins_of(runs);
+    let asks = runs.iter().any(|run| list_in(&run.flats).asks());
+    let mut reach = Reach {
+        blank: false,
+        end: 0,
+        behind: 0,
+    };
+    let mut losses = Losses::new(reader.alloc);
+    let mut place = reader.position.place;
+    'places: loop {
+        let next = next_place(reader, begins, place);
+        let gone = next.saturating_sub(reader.position.place);
+        let outlook = outlook_of(reader.line, next, asks, &mut reach, gone);
+        let found = best_at(reader, runs, next, outlook, &mut losses, regions)?;
+        if found.is_match {
+            return Ok(found);
+        }
+        if next >= reader.line.len() {
+            return Ok(found);
+        }
+        place = next + 1;
+    }
+}
+
+/// Keeps what was searched in place of patterns for later turns.
+fn keep_replaced(runs: Vec<Run<'_, '_>>, kept: &mut Substitutes) {
+    for run in runs {
+        for replaced in run.replaced {
+            if let Some(substitute) = replaced {
+                kept.put(substitute);
+            }
+        }
+    }
+}
+
+/// What a chain has. What is searched in place of its patterns is kept for later turns. Where what is searched for each pattern
+/// is linear, the steps of all searches are within a bound.
 pub fn best_of_chain<'s>(
     reader: &LineReader<'s, '_>,
     parts: &[Part<'_>],
@@ -515,28 +576,8 @@ pub fn best_of_chain<'s>(
         (length reader.now.line.now)) }
     ensures rises { OnOk result (regions.old.steps.made ≤ regions.new.steps.made) }
 {
-    dialect_finds_in_text();
-    let runs = runs_of(reader, parts)?;
-    let begins = begins_of(runs.as_slice());
-    let asks = runs.iter().any(|run| list_in(&run.flats).asks());
-    let mut reach = Reach {
-        blank: false,
-        end: 0,
-        behind: 0,
-    };
-    let mut losses = Losses::new(reader.alloc);
-    let mut place = reader.position.place;
-    'places: loop {
-        let next = next_place(reader, begins, place);
-        let gone = next.saturating_sub(reader.position.place);
-        let outlook = outlook_of(reader.line, next, asks, &mut reach, gone);
-        let found = best_at(reader, runs.as_slice(), next, outlook, &mut losses, regions)?;
-        if found.is_match {
-            return Ok(found);
-        }
-        if next >= reader.line.len() {
-            return Ok(found);
-        }
-        place = next + 1;
-    }
+    let runs = runs_of(reader, parts, &mut regions.substitutes)?;
+    let found = best_of_runs(reader, runs.as_slice(), regions)?;
+    keep_replaced(runs, &mut regions.substitutes);
+    Ok(found)
 }

@@ -1,99 +1,26 @@
-use Rattle.std.proofs.Common.{arith, length, ◌+◌}
+use Rattle.std.proofs.Common.{List, ◌≡◌, ◌≤◌, ◌+◌, ap, length, subst, sym, ◌∙◌}
 use Rattle.std.specs.List.{flat_map}
+use Rattle.syntect_winner.specs.Ahead.{run_members}
+use Rattle.syntect_winner.specs.Chain.{Member}
 use Rattle.syntect_winner.specs.Parts.{part_members}
-use Rattle.syntect_winner.specs.Steps.{place_steps}
-use Rattle.syntect_winner.proofs.SweepLaws.{all_first, chain_ended, chain_won, reaches_on}
-use Rattle.syntect_winner.proofs.StepLaws.{of_parts, places_begin, spent, spent_last}
+use Rattle.syntect_winner.specs.Reader.{matches_of}
+use Rattle.syntect_winner.specs.Steps.{AreWithin, turn_steps}
+use Rattle.syntect_winner.specs.Turn.{winner}
+use Rattle.syntect_winner.proofs.SweepLaws.{runs_members}
 use Rattle.syntect_winner.proofs.sweep.best_of_chain.Goals as goal
 
-pub places-init : goal.places-init
-places-init c = record {
-  known = c.requires.known;
-  near = omega arith;
-  within = c.args.reader.now.boundary.0;
-  ahead = all_first c.args.reader.now c.new-losses.result c.in_ok-runs.runs.items c.new-losses.ensures;
-  reach = λ l. absurd (omega (arith, l));
-  rises = omega arith;
-  steps = λ w all. places_begin c.args.regions.now.steps.made (length c.args.reader.now.line.now) c.args.reader.now.position.now.place (place_steps (length (flat_map (part_members c.args.reader.now.set.now) c.args.parts.now)) w);
-}
+pub best_of_runs-requires-clause-runs : goal.best_of_runs-requires-clause-runs
+best_of_runs-requires-clause-runs c = rw c.as_slice.ensures.value c.in_ok-runs.ensures.runs
 
-pub outlook_of-outlook-requires-clause-reach : goal.outlook_of-outlook-requires-clause-reach
-outlook_of-outlook-requires-clause-reach c = reaches_on c.args.reader.now.line.now c.places.place c.next_place-next.result c.places.reach c.next_place-next.ensures.later c.places.invariant.reach
+pub returns-clause-best : goal.returns-clause-best
+returns-clause-best c =
+    c.in_ok-found.ensures.best
+    ∙ ap (λ (ms : List Member). winner c.args.reader.now.line.now c.args.reader.now.position.now (matches_of c.args.reader.now ms))
+    (runs_members c.args.reader.now.set.now c.as_slice.result.now c.args.parts.now (rw c.as_slice.ensures.value c.in_ok-runs.ensures.parts))
 
-pub best_at-requires-clause-runs : goal.best_at-requires-clause-runs
-best_at-requires-clause-runs c = rw c.as_slice-in-places.ensures.value c.in_ok-runs.ensures.runs
-
-pub returns-then-found-clause-groups : goal.returns-then-found-clause-groups
-returns-then-found-clause-groups c = c.in_ok-found.ensures.groups (rw c.as_slice-in-places.ensures.value (c.next_place-next.ensures.ahead c.places.losses c.in_ok-runs.runs.items (rw c.as_slice.ensures.value at c.begins_of-begins.ensures) c.in_ok-runs.ensures.runs c.places.invariant.ahead))
-
-pub returns-then-found-clause-best : goal.returns-then-found-clause-best
-returns-then-found-clause-best c =
-    chain_won c.args.reader.now c.next_place-next.result c.best_at.new.losses c.as_slice-in-places.result.now c.args.parts.now c.in_ok-found.found
-    (rw c.as_slice-in-places.ensures.value c.in_ok-runs.ensures.parts) (c.in_ok-found.ensures.best (rw c.as_slice-in-places.ensures.value (c.next_place-next.ensures.ahead c.places.losses c.in_ok-runs.runs.items (rw c.as_slice.ensures.value at c.begins_of-begins.ensures) c.in_ok-runs.ensures.runs c.places.invariant.ahead))) c.if-found.true
-
-pub returns-then-next-reader-clause-groups : goal.returns-then-next-reader-clause-groups
-returns-then-next-reader-clause-groups c = c.in_ok-found.ensures.groups (rw c.as_slice-in-places.ensures.value (c.next_place-next.ensures.ahead c.places.losses c.in_ok-runs.runs.items (rw c.as_slice.ensures.value at c.begins_of-begins.ensures) c.in_ok-runs.ensures.runs c.places.invariant.ahead))
-
-pub returns-then-next-reader-clause-best : goal.returns-then-next-reader-clause-best
-returns-then-next-reader-clause-best c =
-    chain_ended c.args.reader.now c.next_place-next.result c.best_at.new.losses c.as_slice-in-places.result.now c.args.parts.now c.in_ok-found.found c.dialect_finds_in_text.ensures c.if-next-reader.true
-    (rw c.as_slice-in-places.ensures.value c.in_ok-runs.ensures.parts) (c.in_ok-found.ensures.best (rw c.as_slice-in-places.ensures.value (c.next_place-next.ensures.ahead c.places.losses c.in_ok-runs.runs.items (rw c.as_slice.ensures.value at c.begins_of-begins.ensures) c.in_ok-runs.ensures.runs c.places.invariant.ahead))) c.if-found.false
-
-pub places-preserved-else-next-reader : goal.places-preserved-else-next-reader
-places-preserved-else-next-reader c = record {
-  known = c.in_ok-found.ensures.known;
-  near = omega (arith, c.places.invariant.near, c.next_place-next.ensures.later);
-  within = omega (arith, c.if-next-reader.false);
-  ahead = rw c.as_slice-in-places.ensures.value at (c.in_ok-found.ensures.best (rw c.as_slice-in-places.ensures.value (c.next_place-next.ensures.ahead c.places.losses c.in_ok-runs.runs.items (rw c.as_slice.ensures.value at c.begins_of-begins.ensures) c.in_ok-runs.ensures.runs c.places.invariant.ahead))).ahead c.if-found.false;
-  reach = reaches_on c.args.reader.now.line.now c.next_place-next.result (c.next_place-next.result + 1) c.outlook_of-outlook.new.reach (omega arith) c.outlook_of-outlook.ensures.reach;
-  rises = omega (arith, c.places.invariant.rises, c.in_ok-found.ensures.rises);
-  steps = λ w all.
-      spent c.places.regions.steps.made c.best_at.new.regions.steps.made c.args.regions.now.steps.made _ _ _ (place_steps (length (flat_map (part_members c.args.reader.now.set.now) c.args.parts.now)) w) (c.places.invariant.steps w all)
-      (of_parts c.args.reader.now.set.now c.as_slice-in-places.result.now c.args.parts.now (length c.args.reader.now.line.now) w c.places.regions.steps.made c.best_at.new.regions.steps.made
-      (rw c.as_slice-in-places.ensures.value c.in_ok-runs.ensures.parts) (c.in_ok-found.ensures.steps w) all)
-      (omega (arith, c.next_place-next.ensures.later, c.if-next-reader.false));
-}
-
-pub places-preserved-else-next-reader-2 : goal.places-preserved-else-next-reader-2
-places-preserved-else-next-reader-2 c = record {
-  known = c.in_ok-found.ensures.known;
-  near = omega (arith, c.places.invariant.near, c.next_place-next.ensures.later);
-  within = omega (arith, c.if-next-reader.false);
-  ahead = rw c.as_slice-in-places.ensures.value at (c.in_ok-found.ensures.best (rw c.as_slice-in-places.ensures.value (c.next_place-next.ensures.ahead c.places.losses c.in_ok-runs.runs.items (rw c.as_slice.ensures.value at c.begins_of-begins.ensures) c.in_ok-runs.ensures.runs c.places.invariant.ahead))).ahead c.if-found.false;
-  reach = reaches_on c.args.reader.now.line.now c.next_place-next.result (c.next_place-next.result + 1) c.outlook_of-outlook.new.reach (omega arith) c.outlook_of-outlook.ensures.reach;
-  rises = omega (arith, c.places.invariant.rises, c.in_ok-found.ensures.rises);
-  steps = λ w all.
-      spent c.places.regions.steps.made c.best_at.new.regions.steps.made c.args.regions.now.steps.made _ _ _ (place_steps (length (flat_map (part_members c.args.reader.now.set.now) c.args.parts.now)) w) (c.places.invariant.steps w all)
-      (of_parts c.args.reader.now.set.now c.as_slice-in-places.result.now c.args.parts.now (length c.args.reader.now.line.now) w c.places.regions.steps.made c.best_at.new.regions.steps.made
-      (rw c.as_slice-in-places.ensures.value c.in_ok-runs.ensures.parts) (c.in_ok-found.ensures.steps w) all)
-      (omega (arith, c.next_place-next.ensures.later, c.if-next-reader.false));
-}
-
-pub places-preserved : goal.places-preserved
-places-preserved c = record {
-  known = c.in_ok-found.ensures.known;
-  near = omega (arith, c.places.invariant.near, c.next_place-next.ensures.later);
-  within = omega (arith, c.if-next-reader.false);
-  ahead = rw c.as_slice-in-places.ensures.value at (c.in_ok-found.ensures.best (rw c.as_slice-in-places.ensures.value (c.next_place-next.ensures.ahead c.places.losses c.in_ok-runs.runs.items (rw c.as_slice.ensures.value at c.begins_of-begins.ensures) c.in_ok-runs.ensures.runs c.places.invariant.ahead))).ahead c.if-found.false;
-  reach = reaches_on c.args.reader.now.line.now c.next_place-next.result (c.next_place-next.result + 1) c.outlook_of-outlook.new.reach (omega arith) c.outlook_of-outlook.ensures.reach;
-  rises = omega (arith, c.places.invariant.rises, c.in_ok-found.ensures.rises);
-  steps = λ w all.
-      spent c.places.regions.steps.made c.best_at.new.regions.steps.made c.args.regions.now.steps.made _ _ _ (place_steps (length (flat_map (part_members c.args.reader.now.set.now) c.args.parts.now)) w) (c.places.invariant.steps w all)
-      (of_parts c.args.reader.now.set.now c.as_slice-in-places.result.now c.args.parts.now (length c.args.reader.now.line.now) w c.places.regions.steps.made c.best_at.new.regions.steps.made
-      (rw c.as_slice-in-places.ensures.value c.in_ok-runs.ensures.parts) (c.in_ok-found.ensures.steps w) all)
-      (omega (arith, c.next_place-next.ensures.later, c.if-next-reader.false));
-}
-
-pub returns-then-found-clause-steps : goal.returns-then-found-clause-steps
-returns-then-found-clause-steps c = λ w all.
-    spent_last c.places.regions.steps.made c.best_at.new.regions.steps.made c.args.regions.now.steps.made _ _ (place_steps (length (flat_map (part_members c.args.reader.now.set.now) c.args.parts.now)) w) (c.places.invariant.steps w all)
-    (of_parts c.args.reader.now.set.now c.as_slice-in-places.result.now c.args.parts.now (length c.args.reader.now.line.now) w c.places.regions.steps.made c.best_at.new.regions.steps.made
-    (rw c.as_slice-in-places.ensures.value c.in_ok-runs.ensures.parts) (c.in_ok-found.ensures.steps w) all)
-    (omega (arith, c.places.invariant.within))
-
-pub returns-then-next-reader-clause-steps : goal.returns-then-next-reader-clause-steps
-returns-then-next-reader-clause-steps c = λ w all.
-    spent_last c.places.regions.steps.made c.best_at.new.regions.steps.made c.args.regions.now.steps.made _ _ (place_steps (length (flat_map (part_members c.args.reader.now.set.now) c.args.parts.now)) w) (c.places.invariant.steps w all)
-    (of_parts c.args.reader.now.set.now c.as_slice-in-places.result.now c.args.parts.now (length c.args.reader.now.line.now) w c.places.regions.steps.made c.best_at.new.regions.steps.made
-    (rw c.as_slice-in-places.ensures.value c.in_ok-runs.ensures.parts) (c.in_ok-found.ensures.steps w) all)
-    (omega (arith, c.places.invariant.within))
+pub returns-clause-steps : goal.returns-clause-steps
+returns-clause-steps c = λ w all.
+    let same : flat_map (run_members c.args.reader.now.set.now) c.as_slice.result.now ≡ flat_map (part_members c.args.reader.now.set.now) c.args.parts.now =
+    runs_members c.args.reader.now.set.now c.as_slice.result.now c.args.parts.now (rw c.as_slice.ensures.value c.in_ok-runs.ensures.parts) in
+    subst (λ (ms : List Member). c.best_of_runs.new.regions.steps.made ≤ c.args.regions.now.steps.made + turn_steps (length ms) w (length c.args.reader.now.line.now)) same
+    (c.in_ok-found.ensures.steps w (subst (λ (ms : List Member). AreWithin (length c.args.reader.now.line.now) w ms) (sym same) all))
