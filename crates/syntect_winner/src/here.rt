@@ -11,8 +11,7 @@ use std::alloc::AllocError;
 use syntect_flats::flats::Origin;
 use syntect_regex::regex::Regex;
 
-/// Whether a match of what is searched in a pattern's place begins at the place. What is known of it is asked first, and kept in
-/// mind.
+/// Whether a match of what is searched in a pattern's place begins here. What is known of it is asked first, and kept in mind.
 fn is_replaced_here(
     reader: &LineReader<'_, '_>,
     regex: &Regex,
@@ -46,8 +45,7 @@ fn is_replaced_here(
     Ok(is_here)
 }
 
-/// Whether a match of what is searched for an entry begins at the place. What is known of the pattern there is asked first, and
-/// kept in mind.
+/// Whether a match of what is searched for an entry begins at the place. What is known of it is asked first, and kept in mind.
 pub fn is_here(
     reader: &LineReader<'_, '_>,
     entry: &Entry<'_, '_>,

@@ -24,13 +24,11 @@ pub struct Memo {
 #[derive(Drop)]
 pub struct Memos {
     kept: Vec<Memo>,
-    /// Where the memo of a pattern may stand, by where the pattern does. What a slot says is looked at before it is believed,
-    /// so that slots needn't be wiped from line to line.
+    /// Where a pattern's memo may stand. A slot is looked at before it is believed, so that none need be wiped from line to line.
     slots: [u16; SLOTS],
 }
 
-/// The slot of the pattern that stands there. Hundreds of patterns may be tried in a line, and two that share one ask anew at each
-/// try, so there are many more slots.
+/// The slot of the pattern that stands there. Two that share one ask anew at each try, so there are many more than patterns.
 #[inline]
 fn slot_of(origin: Origin) -> usize
     ensures { result < 2048 }
@@ -65,8 +63,7 @@ impl Model for Memos {
     ghost view = { λ m. m.kept.items };
 }
 
-/// What is known of a line: of the patterns that were tried in it, of those that were searched in the place of others, and the
-/// plans of those that backed up too often.
+/// What is known of a line: of patterns tried in it, of those searched in others' places, and plans of those that backed up often.
 #[derive(Drop)]
 pub struct Memory {
     pub memos: Memos,
@@ -133,8 +130,7 @@ impl Memos {
         }
     }
 
-    /// Keeps in mind what is known of the pattern that stands there. What is known of another pattern of its slot is
-    /// forgotten. Where there is no room left, nothing is kept.
+    /// Keeps in mind what is known of the pattern that stands there, in place of another one of its slot, if there is room.
     pub fn keep(&mut self, origin: Origin, prospect: Prospect)
         ensures { (set : SyntaxSet) (line : List ℕ) → AreKnown set line self.old
             → IsKnownAt set line origin prospect → AreKnown set line self.new }

@@ -6,8 +6,7 @@ use crate::position::Position;
 use std::alloc::Global;
 use syntect_grammar::syntax_set::SyntaxSet;
 
-/// A line that is being read: the set that it is read with, and where its reader stands. That is in the line, before a
-/// character or at the end.
+/// A line that is being read, the set that it is read with, and where its reader stands: before a character or at the end.
 #[derive(Clone, Copy)]
 pub struct LineReader<'s, 't> {
     pub alloc: Global,

@@ -21,8 +21,8 @@ use syntect_regex::region::Region;
 use syntect_turns::count::TurnCount;
 use syntect_ways::text::char_at;
 
-/// Where searches put the groups of their matches, the groups of the best match so far, how many steps searches took, which
-/// contracts alone see, and what is known of the patterns that were tried in the line that is read.
+/// Where searches put the groups of their matches, those of the best match so far, how many steps searches took, which contracts
+/// alone see, what is known of the patterns in the line that is read, and patterns with the texts of groups put in.
 #[derive(Drop)]
 pub struct Regions {
     pub searched: Region,

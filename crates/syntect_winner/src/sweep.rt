@@ -1,5 +1,4 @@
-//! What a turn finds: it looks at place after place, and at each tries the patterns that can begin with what stands there, in
-//! the order of the chain.
+//! What a turn finds: it goes place by place, and tries at each the patterns that can begin there, in the order of the chain.
 ghost use Rattle.std.specs.Prelude.{◌≡◌, ◌≤◌, ◌<◌, ◌+◌, ◌*◌, Bool, List, ℕ, length, map, IfOk, OnOk, Some, None, true, false, slice_index_or, unwrap_or};
 ghost use Rattle.std.specs.Option.{option_copied};
 ghost use Rattle.std.specs.List.{All, flat_map};
@@ -162,8 +161,7 @@ pub struct Reach {
     pub behind: u8,
 }
 
-/// Up to where the characters from a place on are white space, or else those of a word. Of a run that goes on beyond `far` not all
-/// is looked at.
+/// Up to where the characters from a place on are white space, or a word's. Not all of a run that goes beyond `far` is looked at.
 fn run_as_far(line: &str, place: usize, blank: bool, far: usize) -> usize
     requires { place ≤ length line.now }
     ensures { IsRunUpTo blank line.now place result }
@@ -263,8 +261,7 @@ fn begins_of(runs: &[Run<'_, '_>]) -> Places
     begins
 }
 
-/// The first place, from this one on, with one of these there; the line's end at the latest. Where patterns begin with nothing
-/// else, none that was ahead has a match before it.
+/// The first place, from this one on, with one of these; the line's end at the latest. None that was ahead has a match before it.
 fn next_place(reader: &LineReader<'_, '_>, begins: Places, place: usize) -> usize
     requires { place ≤ length reader.now.line.now }
     ensures later { place ≤ result }
@@ -298,8 +295,7 @@ fn replaced_at<'r>(run: &'r Run<'_, '_>, index: usize) -> Option<&'r Regex>
     Some(run.replaced.get(index)?.as_ref()?.regex())
 }
 
-/// What is found with a member of the chain more, none of whose matches begins before the place. `lost` tells then whether
-/// one begins there that doesn't count.
+/// What is found with a member of the chain more, none of whose matches begins before the place. `lost`: one there doesn't count.
 fn with_entry<'s>(
     reader: &LineReader<'_, '_>,
     entry: &Entry<'s, '_>,
@@ -412,8 +408,7 @@ fn with_pattern<'s>(
     Ok(best)
 }
 
-/// What is found with the patterns of a part more, none of whose matches that count begins before the place, of which this is
-/// seen.
+/// What is found with a part's patterns more, none of whose matches that count begins before the place, of which this is seen.
 fn with_run<'s>(
     reader: &LineReader<'s, '_>,
     run: &Run<'s, '_>,
@@ -497,8 +492,7 @@ fn best_at<'s>(
     Ok(best)
 }
 
-/// What the runs of a chain have: the places are gone through from the turn's own on, up to the first where a match begins that
-/// counts.
+/// What the runs of a chain have: places are gone through from the turn's own on, up to the first where a match that counts begins.
 fn best_of_runs<'s>(
     reader: &LineReader<'s, '_>,
     runs: &[Run<'s, '_>],
@@ -555,8 +549,7 @@ fn keep_replaced(runs: Vec<Run<'_, '_>>, kept: &mut Substitutes) {
     }
 }
 
-/// What a chain has. What is searched in place of its patterns is kept for later turns. Where what is searched for each pattern
-/// is linear, the steps of all searches are within a bound.
+/// What a chain has. What is searched in its patterns' places is kept for later turns. Steps of linear patterns are within a bound.
 pub fn best_of_chain<'s>(
     reader: &LineReader<'s, '_>,
     parts: &[Part<'_>],
