@@ -1,5 +1,5 @@
 //! The search of a pattern: a machine whose choices stand in lists of its own.
-ghost use Rattle.std.specs.Prelude.{◌≡◌, ◌+◌, ◌<◌, ◌≤◌, IfOk, IfSome, IfNone, OnOk, slice_index_or, None, Some, IsCharBoundary, true, false};
+ghost use Rattle.std.specs.Prelude.{◌≡◌, ◌+◌, ◌<◌, ◌≤◌, IfOk, IfSome, IfNone, OnOk, replicate, slice_get, slice_index_or, None, Some, IsCharBoundary, true, false};
 ghost use Rattle.syntect_engine.specs.Machine.{FindsAt};
 ghost use Rattle.syntect_engine.specs.Ends.{is_found};
 
@@ -42,16 +42,6 @@ fn is_lost_there(program: &Program, text: &str, place: usize) -> bool
     is_dead(program, text, place, program.root)
 }
 
-/// So many steps more. Only contracts see the count, so nothing is done for it at run time.
-#[inline]
-fn count_more(count: &mut TurnCount, steps: usize)
-    ensures { count.new.made ≡ count.old.made + steps }
-{
-    for _step in 0..steps {
-        TurnCount::tick(count);
-    }
-}
-
 /// The search has found a match.
 #[inline]
 fn is_found(next: Next) -> bool
@@ -65,7 +55,6 @@ fn is_found(next: Next) -> bool
 
 impl Search {
     ghost use Rattle.syntect_pattern_table.specs.Program.{trees_of};
-    ghost use Rattle.std.specs.Prelude.{replicate, slice_get};
     ghost use Rattle.syntect_pattern.specs.Trees.{nothing};
     ghost use Rattle.syntect_pattern.specs.Matches.{matches};
     ghost use Rattle.syntect_engine.specs.Machine.{Fits, Goes, found_by, match_of, groups_of, FindsGroups, FindsUpTo};
@@ -105,9 +94,8 @@ impl Search {
         }
     }
 
-    /// Takes steps until a match is found or nothing is left to try, at least one. What stretches count beside a step each is
-    /// taken from those that are left as well. None where the search is limited, and no step is left before that: then it has
-    /// taken all that were left.
+    /// Takes steps until a match is found or nothing is left to try, at least one, and what stretches count beside. None where
+    /// the search is limited, and no step is left before that: then it has taken all that were left.
     fn run(
         &mut self,
         program: &Program,
@@ -131,15 +119,15 @@ impl Search {
         let mut left = self.left;
         'steps: loop {
             if limited && left <= self.worth {
-                count_more(count, left);
-                self.left = 0;
+                self.left = left.saturating_sub(self.worth);
+                count.add(left - self.left);
                 return Ok(None);
             }
             left = left.wrapping_sub(1);
             let found = is_found(next);
             let Some(after) = self.step(program, text, next, count)? else {
                 self.left = left.saturating_sub(self.worth);
-                count_more(count, left - self.left);
+                count.add(left - self.left);
                 return Ok(Some(found));
             };
             next = after;

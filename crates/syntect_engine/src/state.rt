@@ -117,7 +117,7 @@ pub struct Search {
     pub place: usize,
     /// How many steps are left, where the search is limited.
     pub left: usize,
-    /// How many characters were read in stretches since the search began. Who asks sets it to 0 first.
+    /// How many characters were read in stretches since `begin`. Who asks sets it to 0 first, as a try may end before that.
     pub read: usize,
     /// As how many steps these count, beside one for each stretch.
     pub worth: usize,

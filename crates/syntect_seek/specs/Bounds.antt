@@ -7,8 +7,8 @@ use Rattle.syntect_linear.specs.Linear.{planned_steps}
 use Rattle.syntect_plan.specs.Linear.{is_linear, most_cells}
 
 -- A search by a pattern of so many bytes, in a text so long, backs up in at most sixty-four steps for each byte of the text,
--- sixteen for each byte of the pattern, or one for each byte of a text that has fewer, and 16384 beside them; as many bytes of
--- the pattern count as a plan has cells at most. Where they don't suffice, it goes on by the tree's plan.
+-- for each byte of the pattern sixteen, or as many as the text has bytes where it has fewer, and 16384 beside them; as many
+-- bytes of the pattern count as a plan has cells at most. Where they don't suffice, it goes on by the tree's plan.
 abbrev pub tree_bound : Tree → ℕ → ℕ → ℕ
 tree_bound t size long =
     long * 64 + min size most_cells * min long 16 + 16384 + planned_steps t long

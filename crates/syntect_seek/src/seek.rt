@@ -307,7 +307,7 @@ fn begins_tried(
     search.read = 0;
     match search.begins_at(program, text, place, true, count)? {
         Some(found) => {
-            // A character of a stretch, which is gone through forth and back, counts as a step here
+            // A character of a stretch, which is gone through forth and back, counts as a step more here
             let steps = allowed.saturating_sub(search.left);
             known.spend(all, steps.saturating_add(search.read));
             Ok(found)

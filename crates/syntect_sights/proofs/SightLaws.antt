@@ -15,7 +15,7 @@ use Rattle.std.proofs.lemmas.Str.{IsCharBoundary-start}
 use Rattle.syntect_ways.specs.Steps.{after_char}
 use Rattle.syntect_ways.proofs.BoundaryLaws.{boundary-true, true-boundary}
 use Rattle.syntect_plan.specs.Onward.{Onward, reaches, chosen, onward, end_if, is_free, plain}
-use Rattle.syntect_sights.specs.Sights.{only_at, leads_to, flag_of, row_flag, IsImage, AreBounds, marked, is_single, single_end, ends_here}
+use Rattle.syntect_sights.specs.Sights.{only_at, leads_to, flag_of, row_flag, IsImage, AreBounds, with_place, is_single, single_end, ends_here}
 use Rattle.syntect_plan.proofs.ReachLaws.{chosen-some}
 use Rattle.syntect_plan.proofs.TreeLaws.{and_right, plain-free}
 use Rattle.syntect_plan.proofs.OnwardLaws.{onward-nothing, onward-one_of, onward-anchor, onward-alt, onward-then, first-ends}
@@ -92,7 +92,7 @@ module _ (s : List ℕ) where
   long-set (b ∷ row) (suc p) = ap suc (long-set row p)
 
   mark-spreads : (u : IsUtf8 s) (t : Tree) (before row : List Bool) (i : ℕ) (o : Option ℕ) → single_end s t i ≡ o → flag_of before i ≡ true → (IsCharBoundary s i)
-      → Spreads t before i row → Spreads t before (i + 1) (marked row o)
+      → Spreads t before i row → Spreads t before (i + 1) (with_place row o)
   unfolding single_end
   mark-spreads u t before row i None e f c h = record {
     long = h.long;
@@ -126,13 +126,13 @@ module _ (s : List ℕ) where
       at-most q i l = grind arith
 
   pub spreads-more : (u : IsUtf8 s) (t : Tree) (before row new : List Bool) (i : ℕ) → AreBounds s before
-      → new ≡ (if flag_of before i then marked row (single_end s t i) else row) → Spreads t before i row → Spreads t before (i + 1) new
+      → new ≡ (if flag_of before i then with_place row (single_end s t i) else row) → Spreads t before i row → Spreads t before (i + 1) new
   spreads-more u t before row new i bounds e h = by (flag_of before i) refl e
     where
       at-most : (q i : ℕ) → q < i + 1 → (q < i) ⊎ (q ≡ i)
       at-most q i l = grind arith
 
-      by : (b : Bool) → flag_of before i ≡ b → new ≡ (if b then marked row (single_end s t i) else row) → Spreads t before (i + 1) new
+      by : (b : Bool) → flag_of before i ≡ b → new ≡ (if b then with_place row (single_end s t i) else row) → Spreads t before (i + 1) new
       by true f e = subst (λ (r : List Bool). Spreads t before (i + 1) r) (sym e) (mark-spreads u t before row i (single_end s t i) refl f (bounds i f) h)
       by false f e = subst (λ (r : List Bool). Spreads t before (i + 1) r) (sym e) (record {
         long = h.long;

@@ -43,9 +43,9 @@ abbrev pub AreBounds : List ℕ → List Bool → Type 0
 AreBounds s row = (q : ℕ) → flag_of row q ≡ true → IsCharBoundary s q
 
 -- the row with one more place
-abbrev pub marked : List Bool → Option ℕ → List Bool
-marked row None = row
-marked row (Some p) = slice_set row p true
+abbrev pub with_place : List Bool → Option ℕ → List Bool
+with_place row None = row
+with_place row (Some p) = slice_set row p true
 
 -- the tree has at most one match from each place, and no parts
 abbrev pub is_single : Tree → Bool

@@ -6,7 +6,7 @@ ghost use Rattle.syntect_pattern_table.specs.Program.{trees_of};
 ghost use Rattle.syntect_pattern_table.specs.Table.{AreSpelt, node_tree};
 ghost use Rattle.syntect_plan.specs.Onward.{plain};
 ghost use Rattle.syntect_plan.specs.PlanOf.{IsPlanOf};
-ghost use Rattle.syntect_sights.specs.Sights.{AreBounds, AreSights, IsImage, flag_of, is_single, marked, single_end};
+ghost use Rattle.syntect_sights.specs.Sights.{AreBounds, AreSights, IsImage, flag_of, is_single, with_place, single_end};
 
 use std::alloc::{AllocError, Global};
 use syntect_pattern_table::node::Node;
@@ -27,7 +27,7 @@ fn is_in(row: &[bool], place: usize) -> bool
 
 /// One place more.
 fn mark(row: &mut Vec<bool>, place: Option<usize>)
-    ensures { row.new.items ≡ marked row.old.items place }
+    ensures { row.new.items ≡ with_place row.old.items place }
 {
     if let Some(place) = place {
         if place < row.len() {
@@ -62,7 +62,7 @@ fn advance(row: &mut Vec<bool>, text: &str, node: &Node, before: &[bool], place:
     requires { AreBounds text.now before.now }
     ensures { (ts : List Tree) → is_single (node_tree ts node.now) ≡ true
         → row.new.items ≡ (if flag_of before.now place
-        then marked row.old.items (single_end text.now (node_tree ts node.now) place)
+        then with_place row.old.items (single_end text.now (node_tree ts node.now) place)
         else row.old.items) }
 {
     if is_in(before, place) {

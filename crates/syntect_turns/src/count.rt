@@ -7,8 +7,8 @@ ghost use base.Fml.{ftrue};
 use std::alloc::AllocError;
 use std::marker::{Model, PhantomData};
 
-/// How many turns were made so far: a whole number without limit, which contracts alone see. It takes no bytes, nothing
-/// is done for it at run time, and only `tick` adds to it.
+/// How many turns were made so far: a whole number without limit, which contracts alone see. It takes no bytes, and nothing
+/// is done for it at run time.
 #[derive(Drop)]
 pub struct TurnCount {
     marker: PhantomData<()>,
@@ -56,6 +56,15 @@ impl TurnCount {
     pub fn tick(&mut self)
         ensures { self.new.made ≡ self.old.made + 1 }
     {}
+
+    /// So many more.
+    pub fn add(&mut self, more: usize)
+        ensures { self.new.made ≡ self.old.made + more }
+    {
+        for _step in 0..more {
+            self.tick();
+        }
+    }
 
     /// The same number once more.
     pub fn copy(&self) -> TurnCount
