@@ -34,23 +34,15 @@ limit_text (reached.Patterns place) =
 
 -- the line of a fault; that of a limit names the file of the grammar
 abbrev pub fault_line : Fault → List ℕ
-fault_line Syntaxes = plain_line Syntaxes
 fault_line (Limit r path) =
     codes "syncat: cannot load syntaxes: "
     ++ (string_bytes path ++ (codes ": " ++ (limit_text r ++ codes "\n")))
-fault_line Theme = plain_line Theme
-fault_line File = plain_line File
-fault_line Highlighting = plain_line Highlighting
-fault_line Writing = plain_line Writing
+fault_line fault = plain_line fault
 
 -- the fault that is told where there is no memory for the line
 abbrev pub without_limit : Fault → Fault
-without_limit Syntaxes = Syntaxes
 without_limit (Limit r path) = Syntaxes
-without_limit Theme = Theme
-without_limit File = File
-without_limit Highlighting = Highlighting
-without_limit Writing = Writing
+without_limit fault = fault
 
 -- the fault that a refusal to highlight is: that of the file where it was not read, or is no UTF-8
 abbrev pub fault_of : Error → Fault

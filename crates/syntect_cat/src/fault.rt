@@ -1,6 +1,6 @@
 //! What can go wrong.
 ghost use Rattle.std.specs.Prelude.{◌≡◌, IfOk, string_bytes};
-ghost use Rattle.syntect_cat.specs.Faults.{plain_line, fault_line, fault_of, limit_text, usage_line};
+ghost use Rattle.syntect_cat.specs.Faults.{plain_line, fault_line, fault_of, limit_text};
 
 use std::alloc::{AllocError, Global};
 use syntect::Error;

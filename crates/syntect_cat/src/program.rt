@@ -28,8 +28,8 @@ const FAILED: u8 = 1;
 /// The grammars are loaded within `Limits::default`.
 ///
 /// Other words have the status 2, and any other fault has the status 1; `err` is given a line that tells of it, and `out` nothing,
-/// but that a text may be begun where it can't be written. The line of a grammar that would pass a limit names its file, the limit,
-/// and the context and the item where it is reached. What can't be written to `err` changes nothing.
+/// but that a text may be begun where it can't be written. The line of a grammar that would pass a limit names its file and the
+/// limit, and of a pattern the context and the item. What can't be written to `err` changes nothing.
 pub fn run<W: Write, E: Write>(
     files: &impl Files,
     alloc: Global,

@@ -10,7 +10,7 @@ pub enum FolderWithinError {
     /// What `add_from_folder` would have answered, or there was no memory.
     #[error("{0}")]
     Refused(LoadingError),
-    /// The grammar of a file, whose name stands second, would pass a limit.
+    /// A file's grammar would pass a limit; its path stands after it.
     #[error("{1}: {0}")]
     LimitReached(LimitReached, String),
 }

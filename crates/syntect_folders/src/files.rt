@@ -1,7 +1,6 @@
 //! Definitions from files, within limits.
-ghost use Rattle.std.specs.Prelude.{◌≡◌, ℕ, Bool, IsUtf8, List, IfOk, Err, IsOkAnd, IfErr, IsErrAnd, string_bytes};
+ghost use Rattle.std.specs.Prelude.{◌≡◌, ℕ, Bool, IsUtf8, List, IfOk, Err, IfErr};
 ghost use Rattle.std.specs.Path.{path_file_stem};
-ghost use Rattle.syntect_base.specs.Refusals.{IsReadFault};
 ghost use Rattle.syntect_base.specs.declared.limits.Limits.{Limits as ALimits};
 ghost use Rattle.syntect_folders.specs.FilesWithin.{IsSyntaxWithin, RefusesSyntaxWithin, RefusesReadWithin};
 ghost use Rattle.syntect_base.specs.declared.loading.LoadingError.TheVariants.{Memory as NoMemory};

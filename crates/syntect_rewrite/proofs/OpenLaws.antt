@@ -14,7 +14,7 @@ use Rattle.std.specs.declared.cmp.Ordering.{Ordering}
 use Rattle.std.specs.declared.cmp.Ordering.TheVariants.{Less, Equal, Greater}
 use Rattle.syntect_rewrite.specs.Variables.{Variables}
 use Rattle.syntect_rewrite.specs.declared.expand.Frame.{Frame}
-use Rattle.syntect_rewrite.specs.Expanding.{inner, is_marked, is_among, AreApart, AreOpen}
+use Rattle.syntect_rewrite.specs.Expanding.{inner, is_open, is_among, AreApart, AreOpen}
 use Rattle.syntect_rewrite.proofs.VariableLaws.{cases, same_text, turned, open_none, lookup_by_order}
 
 -- ---- a mark that is set
@@ -49,13 +49,13 @@ module _ (name k : List ℕ) (v : Bool) where
   marked_by true o = refl
   marked_by false o = refl
 
-  set_mark : (es : List (List ℕ × Bool)) → is_marked name (insert_entry (slice_cmp nat_cmp) es k v) ≡ cond (bytes_eq name k) v (is_marked name es)
+  set_mark : (es : List (List ℕ × Bool)) → is_open name (insert_entry (slice_cmp nat_cmp) es k v) ≡ cond (bytes_eq name k) v (is_open name es)
   set_mark es = ap (λ (o : Option Bool). unwrap_or o false) (set_lookup es) ∙ marked_by (bytes_eq name k) (lookup (bytes_eq name) es)
 
-found_mark : (name : List ℕ) (marks : List (List ℕ × Bool)) (r : Option (Bor Bool)) → option_copied r ≡ lookup (is_at (slice_cmp nat_cmp name)) marks → unwrap_or (option_copied r) false ≡ is_marked name marks
+found_mark : (name : List ℕ) (marks : List (List ℕ × Bool)) (r : Option (Bor Bool)) → option_copied r ≡ lookup (is_at (slice_cmp nat_cmp name)) marks → unwrap_or (option_copied r) false ≡ is_open name marks
 found_mark name marks r e = ap (λ (o : Option Bool). unwrap_or o false) (e ∙ lookup_by_order name marks)
 
-pub mark_is : (name : List ℕ) (marks : List (List ℕ × Bool)) (r s : Option (Bor Bool)) → r ≡ s → option_copied r ≡ lookup (is_at (slice_cmp nat_cmp name)) marks → unwrap_or (option_copied s) false ≡ is_marked name marks
+pub mark_is : (name : List ℕ) (marks : List (List ℕ × Bool)) (r s : Option (Bor Bool)) → r ≡ s → option_copied r ≡ lookup (is_at (slice_cmp nat_cmp name)) marks → unwrap_or (option_copied s) false ≡ is_open name marks
 mark_is name marks r s q e = ap (λ (o : Option (Bor Bool)). unwrap_or (option_copied o) false) (sym q) ∙ found_mark name marks r e
 
 -- ---- frames
@@ -104,8 +104,8 @@ pub open_more : (marks later : List (List ℕ × Bool)) (fs gs : List Frame) (g 
     → gs ≡ fs ++ g ∷ [] → AreOpen later gs
 open_more marks later fs gs g name o e n l h = record {
   names = λ x.
-      ap (is_marked x) l ∙ set_mark x name true marks
-      ∙ ap (λ (b : Bool). cond b true (is_marked x marks)) (ap (bytes_eq x) n ∙ turned x g.name)
+      ap (is_open x) l ∙ set_mark x name true marks
+      ∙ ap (λ (b : Bool). cond b true (is_open x marks)) (ap (bytes_eq x) n ∙ turned x g.name)
       ∙ ap (λ (b : Bool). cond (bytes_eq g.name x) true b) (o.names x)
       ∙ opened_name (is_among x fs) (bytes_eq g.name x)
       ∙ sym (among_last x fs g) ∙ ap (is_among x) (sym h);
@@ -122,8 +122,8 @@ open_fewer marks later fs gs g name o h n l =
     let two = apart_fewer gs g (subst AreApart h o.apart) in
     record {
       names = λ x.
-          ap (is_marked x) l ∙ set_mark x name false marks
-          ∙ ap (λ (b : Bool). cond b false (is_marked x marks)) (ap (bytes_eq x) n ∙ turned x g.name)
+          ap (is_open x) l ∙ set_mark x name false marks
+          ∙ ap (λ (b : Bool). cond b false (is_open x marks)) (ap (bytes_eq x) n ∙ turned x g.name)
           ∙ ap (λ (b : Bool). cond (bytes_eq g.name x) false b) (o.names x ∙ ap (is_among x) h ∙ among_last x gs g)
           ∙ closed_name (is_among x gs) (bytes_eq g.name x) (λ b. ap (λ (y : List ℕ). is_among y gs) (sym (same_text g.name x b)) ∙ two.0);
       apart = two.1;

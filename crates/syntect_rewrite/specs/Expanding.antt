@@ -41,9 +41,9 @@ left mark variables (f ∷ fs) t =
 abbrev pub turns : Variables → List Frame → List ℕ → ℕ
 turns variables fs t = 2 * length (left (0 ∷ []) variables fs t) + length fs
 
--- whether a name has a mark
-abbrev pub is_marked : List ℕ → List (List ℕ × Bool) → Bool
-is_marked name marks = unwrap_or (lookup (bytes_eq name) marks) false
+-- whether the name is kept as that of a variable whose text is being read
+abbrev pub is_open : List ℕ → List (List ℕ × Bool) → Bool
+is_open name marks = unwrap_or (lookup (bytes_eq name) marks) false
 
 -- whether a frame was opened for the variable of this name
 abbrev pub is_among : List ℕ → List Frame → Bool
@@ -54,9 +54,9 @@ abbrev pub AreApart : List Frame → Type 0
 AreApart [] = ⊤
 AreApart (f ∷ fs) = (is_among f.name fs ≡ false) × AreApart fs
 
--- the variables that have a frame are those whose names have a mark
+-- the variables that have a frame are those whose names are kept so
 pub record AreOpen (marks : List (List ℕ × Bool)) (fs : List Frame) : Type 0 where
-  pub names : (name : List ℕ) → is_marked name marks ≡ is_among name fs
+  pub names : (name : List ℕ) → is_open name marks ≡ is_among name fs
   pub apart : AreApart fs
 
 -- what the use of a name stands for

@@ -1,5 +1,5 @@
 //! Variables, expanded.
-ghost use Rattle.std.specs.Prelude.{◌≡◌, ◌<◌, ◌≤◌, ◌+◌, ◌++◌, ◌∷◌, [], List, IsTrue, IsOk, IfOk, IfSome, MatchOption, length, drop, option_map, string_bytes, true, false, None};
+ghost use Rattle.std.specs.Prelude.{◌≡◌, ◌<◌, ◌≤◌, ◌+◌, ◌++◌, [], List, IsTrue, IsOk, IfOk, IfSome, MatchOption, length, drop, option_map, string_bytes, true, false, None};
 ghost use Rattle.std.specs.Map.{lookup};
 ghost use Rattle.std.specs.BTreeMap.{insert_entry};
 ghost use Rattle.std.specs.Cmp.Lexicographic.{slice_cmp};
@@ -8,7 +8,7 @@ ghost use Rattle.std.specs.Str.{bytes_eq};
 ghost use Rattle.std.specs.List.{prefix_len};
 ghost use Rattle.syntect_rewrite.specs.Variables as uses;
 ghost use Rattle.syntect_rewrite.specs.Variables.{Variables, without};
-ghost use Rattle.syntect_rewrite.specs.Expanding.{inner, left, turns, is_marked, AreOpen, Vanishes, AllVanish, AreTraced, Enters, Closes};
+ghost use Rattle.syntect_rewrite.specs.Expanding.{inner, left, turns, is_open, AreOpen, Vanishes, AllVanish, AreTraced, Enters, Closes};
 ghost use Rattle.syntect_rewrite.specs.declared.expand.Frame.{Frame as AFrame};
 
 use crate::signs::{byte_at, char_len, first, skip};
@@ -75,7 +75,7 @@ pub(crate) fn used(text: &str) -> Option<(&str, &str)>
 
 /// Whether the text of a variable is being read.
 fn is_open(marks: &Table<Text, bool>, name: &Text) -> bool
-    ensures { result ≡ is_marked name.now marks.now }
+    ensures { result ≡ is_open name.now marks.now }
 {
     match marks.get(name) {
         Some(is_open) => *is_open,

@@ -44,8 +44,8 @@ pub record IsRun (set : SyntaxSet) (run : Run) : Type 0 where
   pub flats : AreFlatsOf set run.part.id (list_in run.flats)
   pub replaced : AreReplaced set run.part (list_in run.flats) run.replaced.items
 
--- A search of a member from the reader's place on finds what one from this place on finds; or its first match from there on
--- doesn't count, so that it is out and has none that does.
+-- A search of a member from the reader's place on finds what one from this place on finds; or its first match from the reader's
+-- place on doesn't count, so that it is out and has none that does.
 abbrev pub IsAhead : LineReader → Bool → ℕ → Member → Type 0
 IsAhead reader lost i m =
     ((lost ≡ false) × (search_of reader reader.position.now.place m ≡ search_of reader i m))

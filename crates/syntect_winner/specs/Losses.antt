@@ -19,11 +19,11 @@ pub record LosesOf (part index : ℕ) (old new : List (List Bool)) : Type 0 wher
   pub here : LosesAt index (marks_of old part) (marks_of new part)
   pub others : (k : ℕ) → k ≢ part → marks_of new k ≡ marks_of old k
 
--- the marks of all parts but one stay
+-- nothing changes but the marks of one part
 abbrev pub LosesInPart : ℕ → List (List Bool) → List (List Bool) → Type 0
 LosesInPart part old new = (k : ℕ) → k ≢ part → marks_of new k ≡ marks_of old k
 
--- and in that one each pattern but the one at an index is out if it was before
+-- nothing changes but whether the pattern at an index of one part is out
 pub record LosesAtMost (part index : ℕ) (old new : List (List Bool)) : Type 0 where
   pub others : (k : ℕ) → k ≢ index → is_lost (marks_of new part) k ≡ is_lost (marks_of old part) k
   pub parts : LosesInPart part old new

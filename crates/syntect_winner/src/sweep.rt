@@ -38,10 +38,11 @@ use syntect_ways::anchor::stands;
 use syntect_ways::text::is_boundary;
 use syntect_word_ends::ends::{is_blank_byte, is_word_byte, run_end};
 
-/// From where on a turn looks farther ahead for the end of a run than a little way, and how many times as far as it went.
-const NEAR: usize = 32;
+/// After so many places that a turn looked at it looks farther ahead for the end of a run.
+const PLACES: usize = 32;
 
-const AHEAD: usize = 256;
+/// How many bytes farther each time.
+const FAR: usize = 8192;
 
 /// A flat list: one that the set keeps, or one of this turn alone.
 #[derive(Drop)]
@@ -177,18 +178,14 @@ fn run_as_far(line: &str, place: usize, blank: bool, far: usize) -> usize
     end
 }
 
-/// How far from a place the end of a run is looked for by a turn that went through these places before: only a little way at
-/// first, and the farther the longer it went, so that all the looking takes no longer than the going.
-fn far_from(place: usize, gone: usize) -> usize {
-    if gone < NEAR {
-        place
-    } else {
-        place.saturating_add(gone.saturating_mul(AHEAD))
-    }
+/// How far from a place the end of a run is looked for by a turn that looked at so many places: the more, the farther, so that all
+/// that looking takes no longer than trying patterns at those places did.
+fn far_from(place: usize, tried: usize) -> usize {
+    place.saturating_add((tried / PLACES).saturating_mul(FAR))
 }
 
 /// How far what stands at the place goes on, white space, or else a word: as it is known, or else is looked for now.
-fn reach_at(line: &str, place: usize, here: u8, known: Reach, gone: usize) -> Reach
+fn reach_at(line: &str, place: usize, here: u8, known: Reach, tried: usize) -> Reach
     requires within { place ≤ length line.now }
     requires known { Reaches line.now place known }
     ensures run { IsRunUpTo result.blank line.now place result.end }
@@ -199,7 +196,7 @@ fn reach_at(line: &str, place: usize, here: u8, known: Reach, gone: usize) -> Re
         return known;
     }
     let blank = is_blank_byte(here);
-    let end = run_as_far(line, place, blank, far_from(place, gone));
+    let end = run_as_far(line, place, blank, far_from(place, tried));
     Reach {
         blank,
         end,
@@ -208,8 +205,8 @@ fn reach_at(line: &str, place: usize, here: u8, known: Reach, gone: usize) -> Re
 }
 
 /// What is seen of a place; with `asks` what stands behind the white space or the word there too. That is looked for where
-/// it isn't known from an earlier place. The turn went through `gone` bytes before.
-fn outlook_of(line: &str, place: usize, asks: bool, reach: &mut Reach, gone: usize) -> Outlook
+/// it isn't known from an earlier place. The turn looked at `tried` places before.
+fn outlook_of(line: &str, place: usize, asks: bool, reach: &mut Reach, tried: usize) -> Outlook
     requires within { place ≤ length line.now }
     requires reach { Reaches line.now place reach.old }
     ensures reach { Reaches line.now place reach.new }
@@ -227,7 +224,7 @@ fn outlook_of(line: &str, place: usize, asks: bool, reach: &mut Reach, gone: usi
             off_edges,
         };
     }
-    let seen = reach_at(line, place, here, *reach, gone);
+    let seen = reach_at(line, place, here, *reach, tried);
     *reach = seen;
     Outlook {
         here,
@@ -523,10 +520,10 @@ fn best_of_runs<'s>(
     };
     let mut losses = Losses::new(reader.alloc);
     let mut place = reader.position.place;
+    let mut tried = 0;
     'places: loop {
         let next = next_place(reader, begins, place);
-        let gone = next.saturating_sub(reader.position.place);
-        let outlook = outlook_of(reader.line, next, asks, &mut reach, gone);
+        let outlook = outlook_of(reader.line, next, asks, &mut reach, tried);
         let found = best_at(reader, runs, next, outlook, &mut losses, regions)?;
         if found.is_match {
             return Ok(found);
@@ -535,6 +532,7 @@ fn best_of_runs<'s>(
             return Ok(found);
         }
         place = next + 1;
+        tried = tried.saturating_add(1);
     }
 }
 
