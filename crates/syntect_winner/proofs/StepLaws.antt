@@ -15,10 +15,9 @@ use Rattle.syntect_regex.specs.Bounds.{pattern_is_linear, search_bound}
 use Rattle.syntect_winner.specs.Ahead.{IsRun, list_in, run_members}
 use Rattle.syntect_winner.specs.Chain.{Member}
 use Rattle.syntect_winner.specs.Engine.{dialect}
-use Rattle.syntect_winner.specs.Parts.{part_member, part_members}
+use Rattle.syntect_winner.specs.Parts.{part_member}
 use Rattle.syntect_winner.specs.Steps.{AreWithin, IsWithin, is_within, place_steps}
 use Rattle.syntect_winner.specs.Turn.{searched_text}
-use Rattle.syntect_winner.specs.declared.chain.Part.{Part}
 use Rattle.syntect_winner.specs.declared.sweep.Run.{Run}
 
 -- ---- one pattern ----
