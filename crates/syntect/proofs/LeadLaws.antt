@@ -1,5 +1,6 @@
 -- One line more.
 use Rattle.std.proofs.Common.{◌≡◌, ℕ, List, [], ◌∷◌, ◌++◌, length, refl, sym, ap, subst, arith, append_assoc, ◌∙◌, Option, Some, None, Result, Ok, Err, Bor}
+use Rattle.std.specs.Prelude.{OnErr}
 use Rattle.std.specs.Global.{Vec}
 use Rattle.std.specs.List.{filter_map}
 use Rattle.std.specs.Option.{option_map}
@@ -34,6 +35,11 @@ use Rattle.syntect.specs.Built.{IsBuiltOf}
 use Rattle.syntect_grammar.specs.declared.error.Error.{Error}
 use Rattle.syntect_grammar.specs.declared.error.Error.TheVariants as error
 use Rattle.syntect.specs.declared.easy.HighlightLines.{HighlightLines}
+
+-- what is so anyhow is so of a refusal
+pub on_err-any : {V E : Type 0} (r : Result V E) (P : Type 0) → P → OnErr r P
+on_err-any (Ok v) P h = tt
+on_err-any (Err e) P h = h
 
 -- what `Continues` says, without the definitions
 abbrev pub LeadsOn : SyntaxSet → Theme → SyntaxReference → List (List ℕ) → List Answer → Bor (List ℕ) → HighlightLines → Result (Vec (Style × Bor (List ℕ))) Error → Type 0

@@ -1,9 +1,9 @@
 use Rattle.std.proofs.lemmas.Result.{err_from_is_err_and}
 use Rattle.syntect.proofs.BuiltLaws.{built_begins_plain}
-use Rattle.std.proofs.Common.{Ok, Err, refl}
+use Rattle.std.proofs.Common.{Ok, Err, arith, refl}
 use Rattle.syntect_grammar.specs.Passing.{from_parsing, from_scope}
 use Rattle.syntect_parsing.specs.States.{standing}
-use Rattle.syntect.proofs.LeadLaws.{lead_refused, lead_unshown, lead_accepted, continues}
+use Rattle.syntect.proofs.LeadLaws.{on_err-any, lead_refused, lead_unshown, lead_accepted, continues}
 use Rattle.syntect.proofs.ExactLaws.{exact_refused, exact_accepted, exact_unshown}
 use Rattle.syntect.proofs.easy.HighlightLines.highlight_line.Goals as goal
 
@@ -50,3 +50,9 @@ pub returns-clause-refused : goal.returns-clause-refused
 returns-clause-refused c = λ past h n s.
     exact_accepted (record { refuses = c.refuses_unresolved.ensures; links = c.links_closed.ensures; built = h.built; by_name = n; stays_in = s; leads = h.leads }) c.args.line.now c.never_both.ensures (standing c.in_ok-parse_state.parse_state) c.in_ok-parse_state.ops.items c.in_ok-pieces.pieces
     c.in_ok-parse_state.ensures.accepted
+
+pub returns-in_err-clone_from-clause-no_more : goal.returns-in_err-clone_from-clause-no_more
+returns-in_err-clone_from-clause-no_more c = on_err-any _ _ (λ turns t. omega (arith, c.in_ok-parse_state.ensures.taken turns t))
+
+pub returns-in_err-pieces-clause-no_more : goal.returns-in_err-pieces-clause-no_more
+returns-in_err-pieces-clause-no_more c = on_err-any _ _ (λ turns t. omega (arith, c.in_ok-parse_state.ensures.taken turns t))
