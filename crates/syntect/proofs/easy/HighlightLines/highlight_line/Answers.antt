@@ -2,7 +2,9 @@ use Rattle.std.proofs.lemmas.Result.{err_from_is_err_and}
 use Rattle.syntect.proofs.BuiltLaws.{built_begins_plain}
 use Rattle.std.proofs.Common.{Ok, Err, arith, refl}
 use Rattle.syntect_grammar.specs.Passing.{from_parsing, from_scope}
-use Rattle.syntect_parsing.specs.States.{standing}
+use Rattle.syntect_winner.specs.Engine.{dialect}
+use Rattle.syntect_parsing.specs.Bound.{TakesNoMore}
+use Rattle.syntect_parsing.specs.States.{standing, turns_made}
 use Rattle.syntect.proofs.LeadLaws.{on_err-any, lead_refused, lead_unshown, lead_accepted, continues}
 use Rattle.syntect.proofs.ExactLaws.{exact_refused, exact_accepted, exact_unshown}
 use Rattle.syntect.proofs.easy.HighlightLines.highlight_line.Goals as goal
@@ -52,7 +54,13 @@ returns-clause-refused c = λ past h n s.
     c.in_ok-parse_state.ensures.accepted
 
 pub returns-in_err-clone_from-clause-no_more : goal.returns-in_err-clone_from-clause-no_more
-returns-in_err-clone_from-clause-no_more c = on_err-any _ _ (λ turns t. omega (arith, c.in_ok-parse_state.ensures.taken turns t))
+returns-in_err-clone_from-clause-no_more c =
+    let no_more : TakesNoMore dialect c.args.syntax_set.now c.args.line.now (standing c.args.self.now.parse_state) (turns_made c.args.self.now.parse_state) (turns_made c.after_line.new.self) =
+    λ turns t. omega (arith, c.in_ok-parse_state.ensures.taken turns t) in
+    on_err-any _ _ no_more
 
 pub returns-in_err-pieces-clause-no_more : goal.returns-in_err-pieces-clause-no_more
-returns-in_err-pieces-clause-no_more c = on_err-any _ _ (λ turns t. omega (arith, c.in_ok-parse_state.ensures.taken turns t))
+returns-in_err-pieces-clause-no_more c =
+    let no_more : TakesNoMore dialect c.args.syntax_set.now c.args.line.now (standing c.args.self.now.parse_state) (turns_made c.args.self.now.parse_state) (turns_made c.after_line.new.self) =
+    λ turns t. omega (arith, c.in_ok-parse_state.ensures.taken turns t) in
+    on_err-any _ _ no_more
