@@ -30,5 +30,3 @@ mod themes;
 mod values;
 #[cfg(test)]
 mod writers;
-#[cfg(test)]
-mod yaml;
