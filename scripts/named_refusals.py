@@ -20,17 +20,19 @@ CRATES = (
 ).split()
 # each error with the file that has it
 ERRORS = {
-    "ParseScopeError": "scope/src/repository.rt",
-    "ScopeError": "scope/src/stack.rt",
-    "PatternError": "pattern/src/error.rt",
-    "ParsingError": "contexts/src/error.rt",
-    "ParseSyntaxError": "base/src/syntax.rt",
-    "LoadWithinError": "base/src/limits.rt",
-    "FolderWithinError": "folders/src/error.rt",
-    "ParseThemeError": "base/src/theme.rt",
-    "LoadingError": "base/src/loading.rt",
-    "MetadataError": "metadata/src/error.rt",
-    "Error": "grammar/src/error.rt",
+    "ParseScopeError": "syntect_scope/src/repository.rt",
+    "ScopeError": "syntect_scope/src/stack.rt",
+    "PatternError": "syntect_pattern/src/error.rt",
+    "ParsingError": "syntect_contexts/src/error.rt",
+    "ParseSyntaxError": "syntect_base/src/syntax.rt",
+    "LoadWithinError": "syntect_base/src/limits.rt",
+    "FolderWithinError": "syntect_folders/src/error.rt",
+    "ReadWithinError": "syntect_parsing/src/within.rt",
+    "HighlightWithinError": "syntect/src/within.rt",
+    "ParseThemeError": "syntect_base/src/theme.rt",
+    "LoadingError": "syntect_base/src/loading.rt",
+    "MetadataError": "syntect_metadata/src/error.rt",
+    "Error": "syntect_grammar/src/error.rt",
 }
 ITEM = re.compile(r"^(impl\b[^{;]*|(?:    )?(?:pub )?(?:const )?fn [^{;]*)", re.M)
 NAME = re.compile(r"\b(" + "|".join(ERRORS) + r")\b(?!::)")
@@ -43,7 +45,7 @@ def text_of(path):
 
 def refusals_of(error):
     """The variants of an error, but for want of memory."""
-    body = re.search(rf"pub enum {error} \{{(.*?)^\}}", text_of(f"crates/syntect_{ERRORS[error]}"), re.M | re.S).group(1)
+    body = re.search(rf"pub enum {error} \{{(.*?)^\}}", text_of(f"crates/{ERRORS[error]}"), re.M | re.S).group(1)
     return [name for name in re.findall(r"^    (\w+)", body, re.M) if name != "Memory"]
 
 

@@ -20,7 +20,7 @@ CRATES = (
 ).split()
 TRIALS = ["call", "copy", "set", "fault"]
 REFUSALS = re.compile(
-    r"\b(AllocError|ParseScopeError|ScopeError|ParsingError|ParseSyntaxError|LoadWithinError|FolderWithinError|ParseThemeError|LoadingError|MetadataError|"
+    r"\b(AllocError|ParseScopeError|ScopeError|ParsingError|ParseSyntaxError|LoadWithinError|FolderWithinError|ReadWithinError|HighlightWithinError|ParseThemeError|LoadingError|MetadataError|"
     r"PatternError|SettingsError|Error)\b"
 )
 ITEM = re.compile(r"^(?:impl\b[^{;]*|(?:    )?(?:pub )?(?:const )?fn [^{;]*|#\[derive\([^)]*\)\]\n(?:///.*\n)*pub (?:struct|enum) \w+)", re.M)

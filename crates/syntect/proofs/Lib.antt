@@ -3,6 +3,7 @@ pub mod ClassedLaws
 pub mod ClassedPageLaws
 pub mod LeadLaws
 pub mod ExactLaws
+pub mod WithinLaws
 pub mod PageLaws
 pub mod LoadedLaws
 pub mod StayLaws

@@ -7,6 +7,7 @@ pub mod Loaded
 pub mod Pages
 pub mod Promises
 pub mod Rows
+pub mod Within
 pub use Rattle.syntect_classed.specs.Classes
 pub use Rattle.syntect_classed.specs.Marks
 pub use Rattle.syntect_classed_laws.specs.Laws

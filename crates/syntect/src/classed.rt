@@ -2,6 +2,8 @@
 ghost use Rattle.std.specs.Prelude.{◌≡◌, ◌++◌, ◌+◌, ◌-◌, ◌≤◌, [], Some, length, string_bytes, pos, ◌-ℤ◌, IfOk, IfErr, OnOk, OnErr, false};
 ghost use Rattle.syntect.specs.Classed.{RefusesOperations, text_so_far, stack_in, state_in, set_in, repository_in, style_in, turns_in, steps_in, AddsLine, CanRestore, StaysAt, RefusesLineOf, closing_tags, closed_text};
 ghost use Rattle.syntect.specs.Leads.{BeginsPlain, LacksStart, UnlessMemory};
+ghost use Rattle.syntect.specs.Within.{ReachesLimit, unlimited_of};
+ghost use Rattle.syntect_base.specs.Limiting.{IsWithinLimit};
 ghost use Rattle.syntect_parsing.specs.Bound.{TakesAll, TakesNoMore, most_turns};
 ghost use Rattle.syntect_parsing.specs.Line.{start_of};
 ghost use Rattle.syntect_parsing.specs.Work.{TakesSteps, TakesMostSteps};
@@ -12,7 +14,9 @@ ghost use Rattle.syntect_winner.specs.Engine.{dialect};
 ghost use Rattle.syntect_scope.specs.Replay.{InOrder};
 
 use crate::memory::SearchMemory;
+use crate::within::{HighlightWithinError, refusal};
 use std::alloc::{AllocError, Global};
+use syntect_base::limits::Limits;
 use syntect_classed::spans;
 pub use syntect_classed::style::ClassStyle;
 use syntect_parsing::error::Error;
@@ -113,7 +117,6 @@ impl<'a> ClassedHTMLGenerator<'a> {
     /// Reads the next line, with its newline, and adds it to the text. A refusal changes nothing: that of the line's reading,
     /// or want of memory. The line is read once: the reader counts its turns and the steps of their searches, as
     /// `ParseState::parse_line` does, also where the line is refused.
-    #[tactic(auto, using(crate::proofs::ClassedLaws::line_refused, crate::proofs::ClassedLaws::operation_refused, crate::proofs::ClassedLaws::memory_refused))]
     pub fn parse_html_for_line_which_includes_newline(&mut self, line: &str) -> Result<(), Error>
         ensures accepted { OnOk result (AddsLine line.now self.old self.new) }
         ensures refused { IfErr result (RefusesLineOf self.old line.now) }
@@ -134,11 +137,51 @@ impl<'a> ClassedHTMLGenerator<'a> {
         ensures most_steps { UnlessMemory result (TakesMostSteps (set_in self.old) line.now
             (state_in self.old) (steps_in self.old) (steps_in self.new)) }
     {
+        match self.parse_html_for_line_which_includes_newline_within(line, &Limits::unlimited()) {
+            Ok(()) => Ok(()),
+            Err(e) => Err(refusal(e)),
+        }
+    }
+
+    /// Reads the next line, with its newline, within limits, and adds it to the text. Its answer is that of
+    /// `parse_html_for_line_which_includes_newline`, unless it makes more steps or turns than `limits` has: then it is
+    /// `LimitReached`, with the limit, and nothing changes, as after any refusal. No line makes more (`few_turns`, `few_steps`),
+    /// whatever its grammar's patterns are, and where a limit was reached the line had made as many (`reached`).
+    #[tactic(auto, using(crate::proofs::WithinLaws::line_stopped, crate::proofs::ClassedLaws::operation_refused, crate::proofs::ClassedLaws::memory_refused))]
+    pub fn parse_html_for_line_which_includes_newline_within(
+        &mut self,
+        line: &str,
+        limits: &Limits,
+    ) -> Result<(), HighlightWithinError>
+        ensures accepted { OnOk result (AddsLine line.now self.old self.new) }
+        ensures refused { IfErr (unlimited_of result) (RefusesLineOf self.old line.now) }
+        ensures restores { CanRestore self.old → CanRestore self.new }
+        ensures err { OnErr result (StaysAt self.old self.new) }
+        // how many turns and steps were made, by the numbers before and after
+        ensures taken { OnOk result (TakesAll dialect (set_in self.old) line.now
+            (state_in self.old) (turns_in self.old) (turns_in self.new)) }
+        ensures no_more { OnErr result (TakesNoMore dialect (set_in self.old) line.now
+            (state_in self.old) (turns_in self.old) (turns_in self.new)) }
+        ensures bound { turns_in self.new
+            ≤ turns_in self.old + most_turns (set_in self.old) line.now (state_in self.old) }
+        ensures no_fewer { turns_in self.old ≤ turns_in self.new }
+        ensures no_fewer_steps { steps_in self.old ≤ steps_in self.new }
+        ensures steps { UnlessMemory (unlimited_of result)
+            (TakesSteps (set_in self.old) line.now (state_in self.old)
+            (turns_in self.new - turns_in self.old) (steps_in self.old) (steps_in self.new)) }
+        ensures most_steps { UnlessMemory (unlimited_of result)
+            (TakesMostSteps (set_in self.old) line.now (state_in self.old)
+            (steps_in self.old) (steps_in self.new)) }
+        ensures few_turns { IsWithinLimit limits.now.turns (turns_in self.new - turns_in self.old) }
+        ensures few_steps { IsWithinLimit limits.now.steps (steps_in self.new - steps_in self.old) }
+        ensures reached { IfErr result (ReachesLimit limits.now
+            (turns_in self.new - turns_in self.old) (steps_in self.new - steps_in self.old)) }
+    {
         let alloc = *self.html.allocator();
         let regions = self.memory.lend();
         let (parse_state, ops) = self
             .parse_state
-            .after_line(alloc, line, self.syntax_set, regions)?;
+            .after_line_within(alloc, line, self.syntax_set, limits, regions)?;
         let mut scope_stack = self.scope_stack.clone()?;
         let (text, _) = line_tokens_to_classed_spans(
             alloc,

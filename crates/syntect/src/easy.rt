@@ -11,11 +11,14 @@ ghost use Rattle.syntect.specs.declared.easy.HighlightLines.{HighlightLines as A
 
 use crate::memory::SearchMemory;
 use crate::reading::first_line;
+pub use crate::within::HighlightWithinError;
+use crate::within::refusal;
 use std::alloc::{AllocError, Global};
 use std::io::{BufRead, BufReader, Read};
 use std::path::Path;
 use std::rt::Files;
 use std::{fs, mem};
+use syntect_base::limits::Limits;
 pub use syntect_operations::ranges::{ScopeRangeIterator, ScopeRegionIterator};
 use syntect_parsing::error::Error;
 use syntect_parsing::laws::{
@@ -57,6 +60,8 @@ impl<'a> Drop for HighlightLines<'a> {
 impl<'a> HighlightLines<'a> {
     ghost use Rattle.syntect.specs.Leads.{Past, IsPast, Continues, HoldsSame, LacksStart, RefusedExactly, UnlessMemory, reader_of, styles_of, theme_of};
     ghost use Rattle.syntect.specs.Built.{StaysInStart};
+    ghost use Rattle.syntect.specs.Within.{ReachesLimit, unlimited_of};
+    ghost use Rattle.syntect_base.specs.Limiting.{IsWithinLimit};
     ghost use Rattle.syntect_parsing.specs.Refusals.{AreByName};
     ghost use Rattle.syntect_parsing.specs.States.{standing, turns_made, steps_made};
     ghost use Rattle.syntect_parsing.specs.Bound.{TakesAll, TakesNoMore, most_turns};
@@ -177,6 +182,59 @@ impl<'a> HighlightLines<'a> {
             (standing (reader_of self.old))
             (steps_made (reader_of self.old)) (steps_made (reader_of self.new))) }
     {
+        match self.highlight_line_within(alloc, line, syntax_set, &Limits::unlimited()) {
+            Ok(answer) => Ok(answer),
+            Err(e) => Err(refusal(e)),
+        }
+    }
+
+    /// The styled pieces of the next line, read within limits. Its answer is that of `highlight_line`, unless it makes more steps
+    /// or turns than `limits` has: then it is `LimitReached`, with the limit, and nothing changes, as after any refusal. No line
+    /// makes more (`few_turns`, `few_steps`), whatever its grammar's patterns are, and where a limit was reached the line had made
+    /// as many (`reached`).
+    pub fn highlight_line_within<'b>(
+        &mut self,
+        alloc: Global,
+        line: &'b str,
+        syntax_set: &SyntaxSet,
+        limits: &Limits,
+    ) -> Result<Vec<(Style, &'b str)>, HighlightWithinError>
+        // as `highlight_line` says, of the answer without limits
+        ensures answered { (past : Past) → IsPast past syntax_set.now self.old
+            → Continues past syntax_set.now line.entry self.new (unlimited_of result) }
+        ensures joins { IfOk result (λ pieces. Joins line.entry.now pieces.items) }
+        ensures refused { (past : Past) → IsPast past syntax_set.now self.old
+            → AreByName past.definitions → StaysInStart syntax_set.now past.syntax
+            → RefusedExactly syntax_set.now line.entry.now self.old (unlimited_of result) }
+        ensures err { OnErr result (HoldsSame self.old self.new) }
+        // how many turns and steps were made, by the numbers before and after
+        ensures taken { OnOk result (TakesAll dialect syntax_set.now line.entry.now
+            (standing (reader_of self.old))
+            (turns_made (reader_of self.old)) (turns_made (reader_of self.new))) }
+        ensures no_more { OnErr result (TakesNoMore dialect syntax_set.now line.entry.now
+            (standing (reader_of self.old))
+            (turns_made (reader_of self.old)) (turns_made (reader_of self.new))) }
+        ensures bound { turns_made (reader_of self.new)
+            ≤ turns_made (reader_of self.old)
+            + most_turns syntax_set.now line.entry.now (standing (reader_of self.old)) }
+        ensures no_fewer { turns_made (reader_of self.old) ≤ turns_made (reader_of self.new) }
+        ensures no_fewer_steps { steps_made (reader_of self.old)
+            ≤ steps_made (reader_of self.new) }
+        ensures steps { UnlessMemory (unlimited_of result)
+            (TakesSteps syntax_set.now line.entry.now (standing (reader_of self.old))
+            (turns_made (reader_of self.new) - turns_made (reader_of self.old))
+            (steps_made (reader_of self.old)) (steps_made (reader_of self.new))) }
+        ensures most_steps { UnlessMemory (unlimited_of result)
+            (TakesMostSteps syntax_set.now line.entry.now (standing (reader_of self.old))
+            (steps_made (reader_of self.old)) (steps_made (reader_of self.new))) }
+        ensures few_turns { IsWithinLimit limits.now.turns
+            (turns_made (reader_of self.new) - turns_made (reader_of self.old)) }
+        ensures few_steps { IsWithinLimit limits.now.steps
+            (steps_made (reader_of self.new) - steps_made (reader_of self.old)) }
+        ensures reached { IfErr result (ReachesLimit limits.now
+            (turns_made (reader_of self.new) - turns_made (reader_of self.old))
+            (steps_made (reader_of self.new) - steps_made (reader_of self.old))) }
+    {
         answers_more();
         stack_is_open();
         never_both();
@@ -185,7 +243,7 @@ impl<'a> HighlightLines<'a> {
         let regions = self.memory.lend();
         let (parse_state, ops) = self
             .parse_state
-            .after_line(alloc, line, syntax_set, regions)?;
+            .after_line_within(alloc, line, syntax_set, limits, regions)?;
         self.spare.clone_from(&self.highlight_state)?;
         let pieces = collect_pieces(
             alloc,

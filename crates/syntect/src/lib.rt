@@ -15,6 +15,7 @@ mod memory;
 pub mod parsing;
 pub mod reading;
 pub mod util;
+mod within;
 
 pub use syntect_base::loading::LoadingError;
 pub use syntect_parsing::error::Error;

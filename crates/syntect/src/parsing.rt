@@ -15,6 +15,7 @@ pub use syntect_parsing::parser::{ParseState, ParsingError, Regions};
 pub use syntect_parsing::syntax_definition;
 pub use syntect_parsing::syntax_definition::SyntaxDefinition;
 pub use syntect_parsing::syntax_set::{SyntaxReference, SyntaxSet, SyntaxSetBuilder};
+pub use syntect_parsing::within::{LineLimit, ReadWithinError};
 pub use syntect_regex::error::PatternError;
 pub use syntect_regex::regex::{Regex, escape};
 pub use syntect_regex::region::Region;

@@ -8,17 +8,25 @@ use std::fmt;
 use syntect_values::text::Text;
 use thiserror::Error;
 
-/// How much a grammar may ask for. `usize::MAX` is no limit.
+/// How much a grammar may ask for, as it is loaded and as a line is read by it. `usize::MAX` is no limit.
 ///
 /// There may be more limits in later versions: `Limits { pattern: 4096, ..Limits::default() }` stays as it is then.
 #[derive(Clone, Copy, Debug, PartialEq, Eq)]
 pub struct Limits {
     /// How many bytes a grammar's text has at most.
     pub text: usize,
-    /// How many bytes a pattern has at most, with its variables expanded.
+    /// How many bytes a pattern has at most with its variables expanded, each use of a variable that is come to for that
+    /// counted as a byte more.
     pub pattern: usize,
-    /// How many bytes all patterns of a grammar have together at most, with their variables expanded.
+    /// How many bytes all patterns of a grammar have together at most, counted as those of one pattern are.
     pub patterns: usize,
+    /// How many bytes the texts of all grammars of a folder have together at most. A grammar that is loaded by itself is not
+    /// counted here.
+    pub folder: usize,
+    /// How many steps the searches of one line make together at most.
+    pub steps: usize,
+    /// How many turns one line takes at most.
+    pub turns: usize,
 }
 
 impl Limits {
@@ -30,11 +38,14 @@ impl Limits {
             text: usize::MAX,
             pattern: usize::MAX,
             patterns: usize::MAX,
+            folder: usize::MAX,
+            steps: usize::MAX,
+            turns: usize::MAX,
         }
     }
 }
 
-/// A hundred times what the greatest of 75 grammars in use asks for.
+/// A hundred times what the greatest of 75 grammars in use asks for, and for a folder what all of them do.
 impl Default for Limits {
     ghost is_default = { λ l. l ≡ usual };
 
@@ -43,6 +54,9 @@ impl Default for Limits {
             text: 12_500_000,
             pattern: 3_000_000,
             patterns: 10_000_000,
+            folder: 200_000_000,
+            steps: 30_000_000,
+            turns: 1_000_000,
         }
     }
 }
@@ -76,12 +90,16 @@ pub enum LimitReached {
     /// The grammar's text has more bytes than `Limits::text`.
     #[error("The text has too many bytes")]
     Text,
-    /// With its variables expanded this pattern has more bytes than `Limits::pattern`.
+    /// This pattern has more bytes than `Limits::pattern`, counted as is said there.
     #[error("Too many bytes in the pattern {0}")]
     Pattern(PatternPlace),
-    /// With their variables expanded the patterns up to this one have more bytes than `Limits::patterns`.
+    /// The patterns up to this one have more bytes together than `Limits::patterns`.
     #[error("Too many bytes in the patterns up to {0}")]
     Patterns(PatternPlace),
+    /// With this grammar's text those of the folder have more bytes together than `Limits::folder`. Only where a folder is
+    /// added.
+    #[error("Too many bytes in the grammars of the folder")]
+    Folder,
 }
 
 /// Why a grammar was not loaded within limits.

@@ -31,6 +31,7 @@ limit_text (reached.Pattern place) =
     codes "too many bytes in a pattern of item " ++ place_text place.item place.context
 limit_text (reached.Patterns place) =
     codes "too many bytes in the patterns up to item " ++ place_text place.item place.context
+limit_text reached.Folder = codes "too many bytes in the grammars of the folder"
 
 -- the line of a fault; that of a limit names the file of the grammar
 abbrev pub fault_line : Fault → List ℕ

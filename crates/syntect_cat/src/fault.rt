@@ -72,6 +72,9 @@ fn limit_text(alloc: Global, reached: &LimitReached) -> Result<String, AllocErro
                 "too many bytes in the patterns up to item {item} of context '{context}'"
             )
         }
+        LimitReached::Folder => {
+            String::from_str(alloc, "too many bytes in the grammars of the folder")
+        }
     }
 }
 

@@ -3,6 +3,7 @@ use crate::copies::show_copy;
 use std::alloc::{AllocError, Global};
 use syntect_call_trials::given::regex_of;
 use syntect_call_trials::marks::{TIMES, answer, begin, end, left};
+use syntect_meter::meter::Meter;
 use syntect_regex::regex::Regex;
 use syntect_regex::region::Region;
 use syntect_seek::depths::Depths;
@@ -19,8 +20,6 @@ const TEXT: &str = "-abcabc yy";
 enum Search {
     Into,
     IntoCounted,
-    UpTo,
-    UpToCounted,
     At,
     AtCounted,
     AtKnown,
@@ -38,14 +37,14 @@ fn found(
     match search {
         Search::Into => regex.search_into(TEXT, 0, 10, region),
         Search::IntoCounted => regex.search_counted(TEXT, 0, 10, region, &mut count),
-        Search::UpTo => regex.search_up_to(TEXT, 0, 3, region),
-        Search::UpToCounted => regex.search_up_to_counted(TEXT, 0, 3, region, &mut count),
         Search::At => regex.match_at(TEXT, 1, region),
         Search::AtCounted => regex.match_at_counted(TEXT, 1, region, &mut count),
         Search::AtKnown => {
             let mut known = Prospect::new();
             let mut depths = Depths::new(alloc);
-            regex.match_at_known(TEXT, 1, &mut known, &mut depths, region, &mut count)
+            let mut meter = Meter::within(1000);
+            let told = regex.match_at_known(TEXT, 1, &mut known, &mut depths, region, &mut meter);
+            told.map_err(|_| AllocError)
         }
         Search::Linear => regex.is_linear(alloc),
     }
@@ -82,11 +81,9 @@ fn region_clone(rt: &(impl Print + AllocGlobal)) {
 }
 
 /// The calls.
-pub const NAMES: [&str; 9] = [
+pub const NAMES: [&str; 7] = [
     "Regex::search_into",
     "Regex::search_counted",
-    "Regex::search_up_to",
-    "Regex::search_up_to_counted",
     "Regex::match_at",
     "Regex::match_at_counted",
     "Regex::match_at_known",
@@ -99,8 +96,6 @@ pub fn make(rt: &(impl Print + AllocGlobal), name: &str) {
     match name {
         "Regex::search_into" => searches(rt, Search::Into),
         "Regex::search_counted" => searches(rt, Search::IntoCounted),
-        "Regex::search_up_to" => searches(rt, Search::UpTo),
-        "Regex::search_up_to_counted" => searches(rt, Search::UpToCounted),
         "Regex::match_at" => searches(rt, Search::At),
         "Regex::match_at_counted" => searches(rt, Search::AtCounted),
         "Regex::match_at_known" => searches(rt, Search::AtKnown),

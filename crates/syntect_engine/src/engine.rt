@@ -57,7 +57,7 @@ impl Search {
     ghost use Rattle.syntect_pattern_table.specs.Program.{trees_of};
     ghost use Rattle.syntect_pattern.specs.Trees.{nothing};
     ghost use Rattle.syntect_pattern.specs.Matches.{matches};
-    ghost use Rattle.syntect_engine.specs.Machine.{Fits, Goes, found_by, match_of, groups_of, FindsGroups, FindsUpTo};
+    ghost use Rattle.syntect_engine.specs.Machine.{Fits, Goes, found_by, match_of, groups_of, FindsGroups};
 
     /// One step, which is counted: what comes next. None where the search is over.
     #[inline(always)]
@@ -251,55 +251,6 @@ impl Search {
                 return Ok(Some(false));
             }
             match self.begins_there(program, text, place, limited, count)? {
-                Some(true) => return Ok(Some(true)),
-                Some(false) => {}
-                None => return Ok(None),
-            }
-            place += 1;
-        }
-        Ok(Some(false))
-    }
-
-    /// Whether the program matches at the place or at a later one up to `last`, of which the least counts. Where it does,
-    /// the search's groups are the match's. None where it is limited, and the steps that are left don't suffice; they are all
-    /// taken then. Where it finds one it takes one step at least.
-    pub fn find_up_to(
-        &mut self,
-        program: &Program,
-        text: &str,
-        begin: usize,
-        last: usize,
-        limited: bool,
-        count: &mut TurnCount,
-    ) -> Result<Option<bool>, AllocError>
-        requires { begin ≤ last }
-        ensures finds { IfOk result (λ r. IfSome r (λ found.
-            FindsUpTo text.now program.now begin last (groups_of found self.new))) }
-        ensures short { IfOk result (λ r. r ≡ None → limited ≡ true) }
-        ensures spent { IfOk result (λ r. r ≡ None → self.new.left ≡ 0) }
-        ensures steps { limited ≡ true → OnOk result (count.new.made + self.new.left
-            ≡ count.old.made + self.old.left) }
-        ensures rises { OnOk result (count.old.made ≤ count.new.made) }
-        ensures counted { IfOk result (λ r. r ≡ Some true → count.old.made < count.new.made) }
-    {
-        let end = if last < text.len() {
-            last + 1
-        } else {
-            text.len()
-        };
-        let lines = is_at_lines(program);
-        let mut place = begin;
-        let mut met = Met::new();
-        while place <= last && place <= text.len() {
-            place = next_start(program, text, place, end, lines);
-            if place > last {
-                return Ok(Some(false));
-            }
-            if !met.stands_behind(program, text, place) {
-                return Ok(Some(false));
-            }
-            let begins = self.begins_there(program, text, place, limited, count)?;
-            match begins {
                 Some(true) => return Ok(Some(true)),
                 Some(false) => {}
                 None => return Ok(None),

@@ -1,6 +1,6 @@
 //! Calls that read lines.
 use crate::given::{LINE, state_of};
-use syntect::parsing::{ParseState, Regions, ScopeRepository, SyntaxSet};
+use syntect::parsing::{Limits, ParseState, Regions, ScopeRepository, SyntaxSet};
 use syntect_call_trials::marks::{TIMES, answer, begin, end, left};
 use syntect_copy_trials::copies::copy;
 use syntect_parsing::parser::turns_of_line;
@@ -21,14 +21,19 @@ fn parse_state_new(rt: &(impl Print + AllocGlobal)) {
     }
 }
 
-fn parse_line(rt: &(impl Print + AllocGlobal)) {
+/// Reads lines from the state before the first one, within limits or not.
+fn parse_line(rt: &(impl Print + AllocGlobal), within: bool) {
     let alloc = rt.alloc();
     let mut repository = ScopeRepository::new(alloc);
     let set = set_of(alloc, &mut repository);
     let Some(state) = state_of(alloc, &set) else {
         return;
     };
-    parse_lines(rt, &set, state);
+    if within {
+        parse_lines_within(rt, &set, state);
+    } else {
+        parse_lines(rt, &set, state);
+    }
 }
 
 /// Reads a line again and again. What is left of the state is whether it is as at first.
@@ -45,11 +50,26 @@ fn parse_lines(rt: &(impl Print + AllocGlobal), set: &SyntaxSet, mut state: Pars
     }
 }
 
+/// The same within limits that the line doesn't reach.
+fn parse_lines_within(rt: &(impl Print + AllocGlobal), set: &SyntaxSet, mut state: ParseState) {
+    let alloc = rt.alloc();
+    let Ok(before) = state.clone() else { return };
+    left(rt, true);
+    for _ in 0..TIMES {
+        begin(rt);
+        let read = state.parse_line_within(alloc, LINE, set, &Limits::default());
+        end(rt);
+        answer(rt, &read);
+        left(rt, state == before);
+    }
+}
+
 /// What is asked of a state that stays.
 #[derive(Clone, Copy)]
 enum Question {
     Copy,
     Line,
+    LineWithin,
     Turns,
 }
 
@@ -63,6 +83,7 @@ fn ask(rt: &(impl Print + AllocGlobal), question: Question) {
     match question {
         Question::Copy => copy(rt, &state),
         Question::Line => after_line(rt, &set, &mut state),
+        Question::LineWithin => after_line_within(rt, &set, &mut state),
         Question::Turns => count_turns(rt, &set, &state),
     }
 }
@@ -72,6 +93,20 @@ fn after_line(rt: &(impl Print + AllocGlobal), set: &SyntaxSet, state: &mut Pars
         let mut regions = Regions::new(rt.alloc());
         begin(rt);
         let after = state.after_line(rt.alloc(), LINE, set, &mut regions);
+        end(rt);
+        match &after {
+            Ok((_, operations)) => answer(rt, operations),
+            Err(e) => answer(rt, e),
+        }
+    }
+}
+
+fn after_line_within(rt: &(impl Print + AllocGlobal), set: &SyntaxSet, state: &mut ParseState) {
+    let limits = Limits::default();
+    for _ in 0..TIMES {
+        let mut regions = Regions::new(rt.alloc());
+        begin(rt);
+        let after = state.after_line_within(rt.alloc(), LINE, set, &limits, &mut regions);
         end(rt);
         match &after {
             Ok((_, operations)) => answer(rt, operations),
@@ -90,11 +125,13 @@ fn count_turns(rt: &(impl Print + AllocGlobal), set: &SyntaxSet, state: &ParseSt
 }
 
 /// The calls.
-pub const NAMES: [&str; 5] = [
+pub const NAMES: [&str; 7] = [
     "ParseState::new",
     "ParseState::parse_line",
+    "ParseState::parse_line_within",
     "ParseState::clone",
     "ParseState::after_line",
+    "ParseState::after_line_within",
     "turns_of_line",
 ];
 
@@ -102,9 +139,11 @@ pub const NAMES: [&str; 5] = [
 pub fn make(rt: &(impl Print + AllocGlobal), name: &str) {
     match name {
         "ParseState::new" => parse_state_new(rt),
-        "ParseState::parse_line" => parse_line(rt),
+        "ParseState::parse_line" => parse_line(rt, false),
+        "ParseState::parse_line_within" => parse_line(rt, true),
         "ParseState::clone" => ask(rt, Question::Copy),
         "ParseState::after_line" => ask(rt, Question::Line),
+        "ParseState::after_line_within" => ask(rt, Question::LineWithin),
         "turns_of_line" => ask(rt, Question::Turns),
         _ => {}
     }

@@ -6,7 +6,7 @@ use syntect::highlighting::Theme;
 use syntect::html::{
     ClassStyle, ClassedHTMLGenerator, highlighted_html_for_reader, highlighted_html_for_string,
 };
-use syntect::parsing::{ScopeRepository, SyntaxReference, SyntaxSet};
+use syntect::parsing::{Limits, ScopeRepository, SyntaxReference, SyntaxSet};
 use syntect_call_trials::given::theme_of;
 use syntect_call_trials::marks::{TIMES, answer, begin, end};
 use syntect_set_trials::given::set_of;
@@ -73,6 +73,20 @@ fn highlight_line(rt: &(impl Print + AllocGlobal), given: &Given, syntax: &Synta
         return;
     };
     read_lines(rt, given, &mut lines, LINE);
+}
+
+/// Reads a line a few times over within limits that it doesn't reach.
+fn highlight_line_within(rt: &(impl Print + AllocGlobal), given: &Given, syntax: &SyntaxReference) {
+    let Ok(mut lines) = HighlightLines::new(rt.alloc(), syntax, &given.theme) else {
+        return;
+    };
+    let limits = Limits::default();
+    for _ in 0..TIMES {
+        begin(rt);
+        let pieces = lines.highlight_line_within(rt.alloc(), LINE, &given.set, &limits);
+        end(rt);
+        answer(rt, &pieces);
+    }
 }
 
 /// A line that names a context which isn't there; behind it one that doesn't, as at the text's start.
@@ -151,6 +165,26 @@ fn generator_line(rt: &(impl Print + AllocGlobal), given: &Given, syntax: &Synta
     answer(rt, &text);
 }
 
+/// The same within limits that the line doesn't reach.
+fn generator_line_within(rt: &(impl Print + AllocGlobal), given: &Given, syntax: &SyntaxReference) {
+    let Some(mut generator) = generator(rt.alloc(), given, syntax) else {
+        return;
+    };
+    let limits = Limits::default();
+    let mut accepted = 0u32;
+    for _ in 0..TIMES {
+        if accepted < 2 {
+            begin(rt);
+            let read = generator.parse_html_for_line_which_includes_newline_within(LINE, &limits);
+            end(rt);
+            accepted = accepted.saturating_add(u32::from(read.is_ok()));
+            answer(rt, &read);
+        }
+    }
+    let text = generator.finalize();
+    answer(rt, &text);
+}
+
 fn generator_finalize(rt: &(impl Print + AllocGlobal), given: &Given, syntax: &SyntaxReference) {
     for _ in 0..TIMES {
         let Some(mut generator) = generator(rt.alloc(), given, syntax) else {
@@ -165,15 +199,17 @@ fn generator_finalize(rt: &(impl Print + AllocGlobal), given: &Given, syntax: &S
 }
 
 /// The calls.
-pub const NAMES: [&str; 9] = [
+pub const NAMES: [&str; 11] = [
     "HighlightLines::new",
     "HighlightLines::from_state",
     "HighlightLines::highlight_line",
     "HighlightLines::highlight_line(refused)",
+    "HighlightLines::highlight_line_within",
     "highlighted_html_for_string",
     "highlighted_html_for_reader",
     "ClassedHTMLGenerator::new_with_class_style",
     "ClassedHTMLGenerator::parse_html_for_line_which_includes_newline",
+    "ClassedHTMLGenerator::parse_html_for_line_which_includes_newline_within",
     "ClassedHTMLGenerator::finalize",
 ];
 
@@ -191,10 +227,14 @@ pub fn make(rt: &(impl Print + AllocGlobal), name: &str) {
         "HighlightLines::from_state" => lines_from_state(rt, &given, syntax),
         "HighlightLines::highlight_line" => highlight_line(rt, &given, syntax),
         "HighlightLines::highlight_line(refused)" => refused_line(rt, &given, syntax),
+        "HighlightLines::highlight_line_within" => highlight_line_within(rt, &given, syntax),
         "highlighted_html_for_string" => page_of_text(rt, &given, syntax),
         "highlighted_html_for_reader" => page_of_reader(rt, &given, syntax),
         "ClassedHTMLGenerator::new_with_class_style" => generator_new(rt, &given, syntax),
         "ClassedHTMLGenerator::finalize" => generator_finalize(rt, &given, syntax),
+        "ClassedHTMLGenerator::parse_html_for_line_which_includes_newline_within" => {
+            generator_line_within(rt, &given, syntax)
+        }
         _ => generator_line(rt, &given, syntax),
     }
 }

@@ -1,6 +1,6 @@
 -- Why a file gives no syntax within limits.
-use Rattle.std.proofs.Common.{◌≡◌, ◌≢◌, ℕ, Bool, List, [], IsUtf8, Some, refl, sym, ap, ◌∙◌, subst, string_bytes, String}
-use Rattle.std.specs.Prelude.{Result, Ok, Err, IfErr}
+use Rattle.std.proofs.Common.{◌≡◌, ◌≢◌, ℕ, Bool, List, length, IsUtf8, Some, refl, sym, ap, ◌∙◌, subst, string_bytes, String}
+use Rattle.std.specs.Prelude.{Result, Ok, Err, IfOk, IfErr}
 use Rattle.std.specs.Global.{Global}
 use Rattle.std.specs.Path.{path_file_stem}
 use Rattle.std.specs.declared.io.Error.{Error}
@@ -12,7 +12,7 @@ use Rattle.syntect_base.specs.declared.loading.LoadingError.{LoadingError}
 use Rattle.syntect_base.specs.declared.loading.LoadingError.TheVariants as loading
 use Rattle.syntect_base.specs.declared.syntax.ParseSyntaxError.{ParseSyntaxError}
 use Rattle.syntect_base.specs.declared.syntax.ParseSyntaxError.TheVariants as syntax
-use Rattle.syntect_folders.specs.FilesWithin.{IsSyntaxWithin, RefusesSyntaxWithin, RefusesReadWithin, no_grammar, too_much, no_memory, not_read, refused}
+use Rattle.syntect_folders.specs.FilesWithin.{room_after, IsSyntaxWithin, RefusesSyntaxWithin, IsReadWithin, RefusesReadWithin, no_grammar, too_much, no_memory, not_read, refused, no_room}
 use Rattle.syntect_folders.specs.declared.error.FolderWithinError.{FolderWithinError}
 use Rattle.syntect_folders.specs.declared.error.FolderWithinError.TheVariants as error
 use Rattle.syntect_loader.specs.Files.{RefusesSyntax}
@@ -76,9 +76,9 @@ module _ (limits : Limits) (newlines : Bool) (path bytes : List ℕ) (old new : 
 
 -- ---- files ----
 
-module _ (limits : Limits) (newlines : Bool) (path : List ℕ) (repo : List (List ℕ)) where
-  pub read_so : (e : Error) (r : LoadingError) → IsReadFault e r → RefusesReadWithin limits newlines path repo (error.Refused r)
-  read_so e loading.Memory f = refused {bytes = []} no_memory
+module _ (limits : Limits) (newlines : Bool) (path : List ℕ) (repo : List (List ℕ)) (room : ℕ) where
+  pub read_so : (e : Error) (r : LoadingError) → IsReadFault e r → RefusesReadWithin limits newlines path repo room (error.Refused r)
+  read_so e loading.Memory f = no_room
   read_so e (loading.Io x) f = not_read
   read_so e loading.WalkDir f = let q : loading.WalkDir ≡ loading.Io e = f.either (λ q. cc) in cc
   read_so e (loading.ParseSyntax x y) f = let q : loading.ParseSyntax x y ≡ loading.Io e = f.either (λ q. cc) in cc
@@ -87,6 +87,12 @@ module _ (limits : Limits) (newlines : Bool) (path : List ℕ) (repo : List (Lis
   read_so e (loading.ReadSettings x) f = let q : loading.ReadSettings x ≡ loading.Io e = f.either (λ q. cc) in cc
   read_so e loading.BadPath f = let q : loading.BadPath ≡ loading.Io e = f.either (λ q. cc) in cc
 
-  pub any_refused : {A : Type 0} (bytes : List ℕ) (r : Result A FolderWithinError) → IfErr r (RefusesSyntaxWithin limits newlines path bytes repo) → IfErr r (RefusesReadWithin limits newlines path repo)
-  any_refused bytes (Ok x) h = tt
-  any_refused bytes (Err e) h = refused {bytes = bytes} h
+  pub any_refused : {A : Type 0} (bytes : List ℕ) (left : ℕ) (r : Result A FolderWithinError) → room_after room (length bytes) ≡ Some left → IfErr r (RefusesSyntaxWithin limits newlines path bytes repo)
+      → IfErr r (RefusesReadWithin limits newlines path repo room)
+  any_refused bytes left (Ok x) l h = tt
+  any_refused bytes left (Err e) l h = refused {bytes = bytes} {left = left} l h
+
+  pub any_read : {E : Type 0} (bytes : List ℕ) (left : ℕ) (new : List (List ℕ)) (r : Result SyntaxDefinition E) → room_after room (length bytes) ≡ Some left → IfOk r (IsSyntaxWithin limits newlines path repo bytes new)
+      → IfOk r (IsReadWithin limits newlines path repo room new left)
+  any_read bytes left new (Ok d) l h = (bytes, l, h)
+  any_read bytes left new (Err e) l h = tt

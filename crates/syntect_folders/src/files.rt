@@ -1,8 +1,9 @@
 //! Definitions from files, within limits.
-ghost use Rattle.std.specs.Prelude.{◌≡◌, ℕ, Bool, IsUtf8, List, IfOk, Err, IfErr};
+ghost use Rattle.std.specs.Prelude.{◌≡◌, ℕ, Bool, IsUtf8, List, length, IfOk, Err, IfErr, None};
 ghost use Rattle.std.specs.Path.{path_file_stem};
 ghost use Rattle.syntect_base.specs.declared.limits.Limits.{Limits as ALimits};
-ghost use Rattle.syntect_folders.specs.FilesWithin.{IsSyntaxWithin, RefusesSyntaxWithin, RefusesReadWithin};
+ghost use Rattle.syntect_folders.specs.FilesWithin as files_within;
+ghost use Rattle.syntect_folders.specs.FilesWithin.{IsSyntaxWithin, RefusesSyntaxWithin, IsReadWithin, RefusesReadWithin};
 ghost use Rattle.syntect_base.specs.declared.loading.LoadingError.TheVariants.{Memory as NoMemory};
 ghost use Rattle.syntect_base.specs.declared.syntax.ParseSyntaxError.TheVariants.{Memory};
 ghost use Rattle.syntect_loader.specs.Files.{RefusesSyntax};
@@ -15,7 +16,7 @@ use std::alloc::Global;
 use std::path::Path;
 use std::rt::Files;
 use std::{fs, io};
-use syntect_base::limits::{Limits, LoadWithinError};
+use syntect_base::limits::{LimitReached, Limits, LoadWithinError};
 use syntect_base::loading::LoadingError;
 use syntect_base::syntax::ParseSyntaxError;
 use syntect_loader::definition::SyntaxDefinition;
@@ -83,6 +84,52 @@ fn load_text(
     }
 }
 
+/// How many bytes more the grammars of a folder may have after one of so many bytes, if they may have those.
+fn room_after(room: usize, len: usize) -> Option<usize>
+    ensures { result ≡ files_within.room_after room len }
+{
+    if room == usize::MAX {
+        return Some(room);
+    }
+    if len <= room { Some(room - len) } else { None }
+}
+
+/// The refusal of a file with which the grammars of its folder would have too many bytes.
+fn past_folder(alloc: Global, path: &str) -> FolderWithinError
+    ensures { (limits : ALimits) (newlines : Bool) (repo : List (List ℕ)) (room : ℕ)
+        (bytes : List ℕ) → IsUtf8 bytes
+        → files_within.room_after room (length bytes) ≡ None
+        → RefusesReadWithin limits newlines path.now repo room result }
+{
+    match String::from_str(alloc, path) {
+        Ok(path) => FolderWithinError::LimitReached(LimitReached::Folder, path),
+        Err(_) => FolderWithinError::Refused(LoadingError::Memory),
+    }
+}
+
+/// The definition of the text that was read from a file, where that leaves room.
+fn load_counted(
+    alloc: Global,
+    path: &str,
+    text: &str,
+    lines_include_newline: bool,
+    repository: &mut ScopeRepository,
+    limits: &Limits,
+    room: &mut usize,
+) -> Result<SyntaxDefinition, FolderWithinError>
+    ensures ok { IfOk result (IsReadWithin limits.now lines_include_newline path.now
+        repository.old room.old repository.new room.new) }
+    ensures err { IfErr result (RefusesReadWithin limits.now lines_include_newline path.now
+        repository.old room.old) }
+    ensures kept { Keeps repository.old repository.new }
+{
+    let Some(left) = room_after(*room, text.len()) else {
+        return Err(past_folder(alloc, path));
+    };
+    *room = left;
+    load_text(alloc, path, text, lines_include_newline, repository, limits)
+}
+
 /// The definition of the text that was read from a file, unless reading has a fault.
 fn load_read(
     alloc: Global,
@@ -91,28 +138,31 @@ fn load_read(
     lines_include_newline: bool,
     repository: &mut ScopeRepository,
     limits: &Limits,
+    room: &mut usize,
 ) -> Result<SyntaxDefinition, FolderWithinError>
-    ensures ok { IfOk result (λ d. (bytes : List ℕ) × IsSyntaxWithin limits.now
-        lines_include_newline path.now repository.old bytes repository.new d) }
-    ensures err { IfErr result
-        (RefusesReadWithin limits.now lines_include_newline path.now repository.old) }
+    ensures ok { IfOk result (IsReadWithin limits.now lines_include_newline path.now
+        repository.old room.old repository.new room.new) }
+    ensures err { IfErr result (RefusesReadWithin limits.now lines_include_newline path.now
+        repository.old room.old) }
     ensures kept { Keeps repository.old repository.new }
 {
     match read {
-        Ok(text) => load_text(
+        Ok(text) => load_counted(
             alloc,
             path,
             text.as_str(),
             lines_include_newline,
             repository,
             limits,
+            room,
         ),
         Err(e) => Err(FolderWithinError::Refused(LoadingError::from(e))),
     }
 }
 
-/// The definition of the grammar in a file, within limits. One that cannot be read, or isn't UTF-8, is `Io`, one that is no
-/// grammar is `ParseSyntax` with its path, and one that would pass a limit is `LimitReached` with its path.
+/// The definition of the grammar in a file, within limits, and how many bytes more the grammars of its folder may have
+/// then. One that cannot be read, or isn't UTF-8, is `Io`, one that is no grammar is `ParseSyntax` with its path, and one
+/// that would pass a limit is `LimitReached` with its path.
 pub(crate) fn load_file_within(
     files: &impl Files,
     alloc: Global,
@@ -120,16 +170,25 @@ pub(crate) fn load_file_within(
     lines_include_newline: bool,
     repository: &mut ScopeRepository,
     limits: &Limits,
+    room: &mut usize,
 ) -> Result<SyntaxDefinition, FolderWithinError>
-    ensures ok { IfOk result (λ d. (bytes : List ℕ) × IsSyntaxWithin limits.now
-        lines_include_newline path.now repository.old bytes repository.new d) }
-    ensures err { IfErr result
-        (RefusesReadWithin limits.now lines_include_newline path.now repository.old) }
+    ensures ok { IfOk result (IsReadWithin limits.now lines_include_newline path.now
+        repository.old room.old repository.new room.new) }
+    ensures err { IfErr result (RefusesReadWithin limits.now lines_include_newline path.now
+        repository.old room.old) }
     ensures kept { Keeps repository.old repository.new }
 {
     let read = match fs::open(files, path) {
         Ok(file) => io::read_to_string(alloc, file),
         Err(e) => Err(e),
     };
-    load_read(alloc, path, read, lines_include_newline, repository, limits)
+    load_read(
+        alloc,
+        path,
+        read,
+        lines_include_newline,
+        repository,
+        limits,
+        room,
+    )
 }

@@ -25,7 +25,7 @@ struct Loading {
     limits: Limits,
 }
 
-/// Adds the grammar of a file to a builder.
+/// Adds the grammar of a file to a builder, where its folder's grammars may have so many bytes more.
 fn add_grammar(
     files: &impl Files,
     alloc: Global,
@@ -33,13 +33,14 @@ fn add_grammar(
     path: &str,
     loading: &Loading,
     repository: &mut ScopeRepository,
+    room: &mut usize,
 ) -> Result<(), FolderWithinError>
     requires { is_grammar_path path.now ≡ true }
     ensures ok { OnOk result (AddsWithin loading.now.limits loading.now.lines_include_newline
-        (path.now ∷ []) repository.old builder.old repository.new builder.new) }
+        room.old (path.now ∷ []) repository.old builder.old room.new repository.new builder.new) }
     ensures err { OnErr result (builder.new ≡ builder.old) }
     ensures refusal { IfErr result (StopsWithin loading.now.limits
-        loading.now.lines_include_newline path.now repository.old) }
+        loading.now.lines_include_newline path.now repository.old room.old) }
     ensures kept { Keeps repository.old repository.new }
 {
     let syntax = match load_file_within(
@@ -49,6 +50,7 @@ fn add_grammar(
         loading.lines_include_newline,
         repository,
         &loading.limits,
+        room,
     ) {
         Ok(syntax) => syntax,
         Err(e) => return Err(e),
@@ -70,16 +72,17 @@ fn add_file(
     path: &str,
     loading: &Loading,
     repository: &mut ScopeRepository,
+    room: &mut usize,
 ) -> Result<(), FolderWithinError>
     ensures ok { OnOk result (AddsWithin loading.now.limits loading.now.lines_include_newline
-        (path.now ∷ []) repository.old builder.old repository.new builder.new) }
+        room.old (path.now ∷ []) repository.old builder.old room.new repository.new builder.new) }
     ensures err { OnErr result (builder.new ≡ builder.old) }
     ensures refusal { IfErr result (StopsWithin loading.now.limits
-        loading.now.lines_include_newline path.now repository.old) }
+        loading.now.lines_include_newline path.now repository.old room.old) }
     ensures kept { Keeps repository.old repository.new }
 {
     if is_grammar(path) {
-        return add_grammar(files, alloc, builder, path, loading, repository);
+        return add_grammar(files, alloc, builder, path, loading, repository, room);
     }
     if !is_metadata(path) {
         return Ok(());
@@ -90,10 +93,12 @@ fn add_file(
     }
 }
 
-/// Adds the grammars and the metadata in a folder to a builder as its `add_from_folder` does, each grammar within limits.
+/// Adds the grammars and the metadata in a folder to a builder as its `add_from_folder` does, each grammar within limits, and
+/// all of them within that of a folder.
 ///
 /// A grammar that would pass one is `LimitReached` with the path of its file; any other refusal is that of
-/// `add_from_folder`. What is before the first fault stays added.
+/// `add_from_folder`. The bytes of a file are counted with those of the grammars before it once it is read, and before it is
+/// parsed. What is before the first fault stays added.
 pub fn add_from_folder_within(
     files: &impl Files,
     alloc: Global,
@@ -113,6 +118,7 @@ pub fn add_from_folder_within(
         lines_include_newline,
         limits: *limits,
     };
+    let mut room = limits.folder;
     let mut walk = match Walk::new(files, alloc, folder, Sought::Grammars) {
         Ok(walk) => walk,
         Err(e) => return Err(FolderWithinError::Refused(e)),
@@ -123,7 +129,15 @@ pub fn add_from_folder_within(
             Ok(None) => return Ok(()),
             Err(e) => return Err(FolderWithinError::Refused(e)),
         };
-        match add_file(files, alloc, builder, path.as_str(), &loading, repository) {
+        match add_file(
+            files,
+            alloc,
+            builder,
+            path.as_str(),
+            &loading,
+            repository,
+            &mut room,
+        ) {
             Ok(()) => {}
             Err(e) => return Err(e),
         }

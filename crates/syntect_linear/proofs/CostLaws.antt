@@ -1,5 +1,5 @@
 -- The steps of a walk.
-use Rattle.std.proofs.Common.{◌≡◌, ℕ, suc, ◌+◌, ◌-◌, ◌*◌, ◌<◌, ◌≤◌, List, length, Bool, true, Option, refl, sym, ap, subst, ◌∙◌, arith, mul-le-mul_left}
+use Rattle.std.proofs.Common.{◌≡◌, ℕ, suc, ◌+◌, ◌*◌, ◌<◌, ◌≤◌, List, length, Bool, true, Option, refl, sym, ap, subst, ◌∙◌, arith, mul-le-mul_left}
 use Rattle.std.specs.Prelude.{if◌then◌else◌, IsCharBoundary}
 use Rattle.syntect_pattern.specs.Trees.{Tree, nothing, one_of, anchor, same, seq, alt, repeat, group, atomic, ahead, behind}
 use Rattle.syntect_pattern.specs.Matches.{Groups, Member, matches}
@@ -11,7 +11,7 @@ use Rattle.syntect_plan.specs.Plan.{IsPart, IsSequence}
 use Rattle.syntect_linear.specs.Ground.{IsGround}
 use Rattle.syntect_linear.specs.Step.{IsTreeAt}
 use Rattle.syntect_linear.specs.Walk.{Walks}
-use Rattle.syntect_linear.specs.Steps.{stay_cost, read_cost, walk_cost, look_cost, Within, Costs}
+use Rattle.syntect_linear.specs.Steps.{walk_cost, look_cost, Within, Costs}
 use Rattle.syntect_linear.specs.declared.ground.Ground.{Ground}
 use Rattle.syntect_plan.specs.declared.cells.Cell.{Cell}
 use Rattle.syntect_plan.proofs.TreeLaws.{and_left, and_right}
@@ -39,12 +39,6 @@ pub costs-of : (x : Ground) (k place before end after : ℕ) (t : Tree) → item
 costs-of x k place before end after t e h = let P : Tree → Type 0 = λ v. Within (length x.text.now) v place end before after in subst P e h.steps
 
 -- -- Numbers
-
-pub one-cost : (s r l n y b : ℕ) → 1 ≤ s → suc b ≤ b + (s + r * y + l * n)
-one-cost s r l n y b h = omega arith
-
-pub up-cost : (s r l n y b0 b1 : ℕ) → b1 ≤ b0 + (s + r * y + l * n) → suc b1 ≤ b0 + (suc s + r * y + l * n)
-up-cost s r l n y b0 b1 h = omega arith
 
 pub seq-cost : (s t r q l k n x y z b0 b1 b2 : ℕ) → y ≤ x → z ≤ x → b1 ≤ b0 + (s + r * y + l * n) → b2 ≤ b1 + (t + q * z + k * n)
     → suc b2 ≤ b0 + (suc (s + t) + (r + q) * x + (l + k) * n)
@@ -86,9 +80,6 @@ turn-cost s r n y z b0 b1 b2 p h k =
     let d : s * 1 ≡ s = grind arith in
     let f : (s + r) * (y + z) ≡ (s + r) * y + (s * z + r * z) = grind arith in
     omega arith
-
-pub turns-cost : (s r l n y b0 b1 : ℕ) → b1 ≤ b0 + (s + r) * y → suc b1 ≤ b0 + (suc s + (s + r) * y + l * n)
-turns-cost s r l n y b0 b1 h = omega arith
 
 pub last-cost : (s r l n y b0 b1 b2 : ℕ) → b1 ≤ b0 + (s + r) * y → b2 ≤ b1 + (s + r * 0 + 0 * n) → suc b2 ≤ b0 + (suc s + (s + r) * y + l * n)
 last-cost s r l n y b0 b1 b2 h k = let e : r * 0 ≡ 0 = grind arith in omega arith
@@ -135,46 +126,9 @@ module _ (x : Ground) (k place : ℕ) (r : IsGround x place) where
       let p : IsPart ts cells first a (cell_at cells k).empty (cell_at cells k).next × IsPart ts cells second b (cell_at cells k).empty (cell_at cells k).next = st (alt a b) h in
       (part-tree ts cells first a _ _ p.0, part-tree ts cells second b _ _ p.1)
 
-  pub group-tree : (n : ℕ) (a : Tree) → IsTreeAt x k (group n a) → tree_of first ≡ a
-  group-tree n a h = let p : IsPart ts cells first a (cell_at cells k).empty (cell_at cells k).next = st (group n a) h in part-tree ts cells first a _ _ p
-
-  pub atomic-tree : (a : Tree) → IsTreeAt x k (atomic a) → tree_of first ≡ a
-  atomic-tree a h = let p : IsPart ts cells first a 0 0 = st (atomic a) h in part-tree ts cells first a 0 0 p
-
   pub ahead-tree : (negated : Bool) (a : Tree) → IsTreeAt x k (ahead negated a) → tree_of first ≡ a
   ahead-tree negated a h = let p : IsPart ts cells first a 0 0 = st (ahead negated a) h in part-tree ts cells first a 0 0 p
 
   pub loop-calm : (greedy : Bool) (least : ℕ) (most : Option ℕ) (a : Tree) → IsTreeAt x k (repeat greedy least most a) → look_cost a ≡ 0
   loop-calm greedy least most a h =
       calm-look a (and_right (is_free a) (is_calm a) (free x.text.now ts cells x.plan.now.parts x.plan.now.behinds k (repeat greedy least most a) (tree-on x place k (repeat greedy least most a) r h)))
-
-cost-some : (t : Tree) → 1 ≤ stay_cost t
-cost-some nothing = omega arith
-cost-some (one_of a) = omega arith
-cost-some (anchor a) = omega arith
-cost-some (same fold n) = omega arith
-cost-some (seq a b) = omega arith
-cost-some (alt a b) = omega arith
-cost-some (repeat greedy least most a) = omega arith
-cost-some (group n a) = omega arith
-cost-some (atomic a) = omega arith
-cost-some (ahead negated a) = omega arith
-cost-some (behind negated a) = omega arith
-
--- one step
-pub costs-stay : (x : Ground) (k place before end : ℕ) → Costs x k place before end (suc before)
-costs-stay x k place before end =
-    let t : Tree = item_tree (trees_of x.program.now) (cell_at x.plan.now.cells k).item in
-    record { steps = one-cost (stay_cost t) (read_cost t) (look_cost t) (suc (length x.text.now)) (end - place) before (cost-some t) }
-
-pub costs-tick : (x : Ground) (k place m0 m1 end after : ℕ) → m1 ≡ m0 + 1 → Costs x k place m1 end (suc after) → Costs x k place m0 end after
-costs-tick x k place m0 m1 end after e h = record { steps = let s = h.steps in omega (arith, s, e) }
-
--- more of one part
-pub costs-up : (x : Ground) (k n place before end after : ℕ) (t a : Tree) → item_tree (trees_of x.program.now) (cell_at x.plan.now.cells k).item ≡ t
-    → item_tree (trees_of x.program.now) (cell_at x.plan.now.cells n).item ≡ a → stay_cost t ≡ suc (stay_cost a) → read_cost t ≡ read_cost a → look_cost t ≡ look_cost a
-    → Costs x n place before end after → Costs x k place before end (suc after)
-costs-up x k n place before end after t a e f c d l h =
-    let s = costs-of x n place before end after a f h in
-    let u = up-cost (stay_cost a) (read_cost a) (look_cost a) (suc (length x.text.now)) (end - place) before after s in
-    costs-is x k place before end (suc after) t e (rw (c, d, l) u)

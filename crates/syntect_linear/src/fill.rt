@@ -1,9 +1,10 @@
 //! The rows of a text, from its end on.
-ghost use Rattle.std.specs.Prelude.{◌≡◌, ◌<◌, ◌≤◌, ◌+◌, ◌-◌, ◌*◌, ℕ, None, IfOk, OnOk, length, slice_index_or};
+ghost use Rattle.std.specs.Prelude.{◌≡◌, ◌<◌, ◌≤◌, ◌+◌, ◌-◌, ◌*◌, ℕ, None, IfErr, IfOk, OnOk, length, slice_index_or};
 ghost use Rattle.syntect_pattern_table.specs.Program.{trees_of};
 ghost use Rattle.syntect_linear.specs.Ground.{IsIn, IsReady, Knows, ends_at};
 ghost use Rattle.syntect_plan.specs.PlanOf.{IsPlanOf};
 ghost use Rattle.syntect_linear.specs.Rows.{AreRows};
+ghost use Rattle.syntect_meter.specs.Meter.{Advances, StopsAt};
 ghost use Rattle.syntect_sights.specs.Sights.{AreSights};
 ghost use Rattle.syntect_linear.specs.Steps.{stops, unknown};
 
@@ -11,6 +12,8 @@ use crate::ground::{Ground, Known};
 use crate::known::nothing_known;
 use crate::reach::reach;
 use std::alloc::{AllocError, Global};
+use syntect_meter::meter::Meter;
+use syntect_meter::stop::Stop;
 use syntect_pattern_table::program::Program;
 use syntect_plan::order::{cell_in, order_of};
 use syntect_plan::plan::Plan;
@@ -68,7 +71,19 @@ fn row_of(
     Ok(Seq::from_vec(row))
 }
 
-/// The rows of the places from the text's end down to this one.
+/// Pays for the row of a place: six steps for each of so many cells.
+fn pay_row(meter: &mut Meter, cells: usize) -> Result<(), Stop>
+    ensures made { OnOk result (meter.new.made ≡ meter.old.made + 6 * cells) }
+    ensures advances { Advances meter.old meter.new }
+    ensures stops { IfErr result (StopsAt meter.new) }
+{
+    for _time in 0..6usize {
+        meter.spend(cells)?;
+    }
+    Ok(())
+}
+
+/// The rows of the places from the text's end down to this one, each paid for before it is worked out.
 pub fn rows_from(
     alloc: Global,
     program: &Program,
@@ -76,18 +91,20 @@ pub fn rows_from(
     text: &str,
     sights: &[Seq<bool>],
     begin: usize,
-    count: &mut TurnCount,
-) -> Result<Vec<Seq<Option<usize>>>, AllocError>
+    meter: &mut Meter,
+) -> Result<Vec<Seq<Option<usize>>>, Stop>
     requires plan { IsPlanOf program.now plan.now }
     requires sights { AreSights text.now (trees_of program.now) plan.now.behinds sights.now }
     requires begin { begin ≤ length text.now }
     ensures rows { IfOk result (λ rows. AreRows text.now (trees_of program.now) plan.now.cells
         rows.items) }
     ensures there { IfOk result (λ rows. length rows.items + begin ≡ length text.now + 1) }
-    ensures steps { OnOk result (count.new.made
-        ≤ count.old.made + 6 * length plan.now.cells * (length text.now + 1)) }
-    ensures counted { IfOk result (λ rows. count.old.made
-        + 2 * length plan.now.cells * stops text.now (length rows.items) ≤ count.new.made) }
+    ensures steps { OnOk result (meter.new.made
+        ≤ meter.old.made + 6 * length plan.now.cells * (length text.now + 1)) }
+    ensures counted { IfOk result (λ rows. meter.old.made
+        + 2 * length plan.now.cells * stops text.now (length rows.items) ≤ meter.new.made) }
+    ensures advances { Advances meter.old meter.new }
+    ensures stops { IfErr result (StopsAt meter.new) }
 {
     let order = order_of(alloc, program, plan)?;
     let mut left = text.len() - begin + 1;
@@ -103,11 +120,20 @@ pub fn rows_from(
         };
         let place = begin + left;
         let row = if is_boundary(text, place) {
-            row_of(alloc, &ground, order.as_slice(), count, place)?
+            pay_row(meter, plan.cells.len())?;
+            row_of(
+                alloc,
+                &ground,
+                order.as_slice(),
+                &mut TurnCount::none(),
+                place,
+            )?
         } else {
             Seq::new(alloc)
         };
-        rows.push(row)?;
+        let Ok(()) = rows.push(row) else {
+            return Err(Stop::Memory);
+        };
     }
     Ok(rows)
 }

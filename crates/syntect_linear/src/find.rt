@@ -1,10 +1,11 @@
 //! The search of a pattern, in steps that are bounded by the pattern times the text: by the marks of a text it is known of each
 //! place whether a match begins there, and the match is read along them.
-ghost use Rattle.std.specs.Prelude.{◌≡◌, ◌≤◌, ◌+◌, ◌*◌, ◌<◌, IfOk, OnOk, true, None, if◌then◌else◌, length, replicate, slice_index_or};
+ghost use Rattle.std.specs.Prelude.{◌≡◌, ◌≤◌, ◌+◌, ◌*◌, ◌<◌, IfErr, IfOk, OnErr, OnOk, true, None, if◌then◌else◌, length, replicate, slice_index_or};
 ghost use Rattle.syntect_linear.specs.Finds.{Covers, FindsAt, FindsUpTo, groups_of};
 ghost use Rattle.syntect_linear.specs.Guide.{IsGuideIn};
+ghost use Rattle.syntect_meter.specs.Meter.{Advances, StopsAt};
 ghost use Rattle.syntect_plan.specs.PlanOf.{IsPlanOf};
-ghost use Rattle.syntect_linear.specs.Steps.{look_cost, walk_cost};
+ghost use Rattle.syntect_linear.specs.Steps.{look_cost, stops, walk_cost};
 ghost use Rattle.syntect_pattern.specs.Trees.{nothing};
 ghost use Rattle.syntect_pattern_table.specs.Program.{trees_of};
 
@@ -13,10 +14,11 @@ use crate::marking::marks_from;
 use crate::marks::Marks;
 use crate::walk::{Span, leads, walk};
 use std::alloc::{AllocError, Global};
+use syntect_meter::meter::Meter;
+use syntect_meter::stop::Stop;
 use syntect_pattern_table::program::Program;
 use syntect_plan::plan::Plan;
 use syntect_sights::sight::sights_of;
-use syntect_turns::count::TurnCount;
 use syntect_values::seq::Seq;
 use syntect_ways::text::is_boundary;
 
@@ -42,20 +44,21 @@ fn begins_here(
     begin: usize,
     place: usize,
     groups: &mut Vec<Option<Span>>,
-    count: &mut TurnCount,
-) -> Result<bool, AllocError>
+    meter: &mut Meter,
+) -> Result<bool, Stop>
     requires covers { Covers ground.now marks.now begin }
     requires later { begin ≤ place }
     ensures finds { IfOk result (λ found. FindsAt ground.now.text.now ground.now.program.now place
         (groups_of found groups.new.items)) }
-    ensures steps { IfOk result (λ found. count.new.made ≤ count.old.made + (if found
+    ensures steps { IfOk result (λ found. meter.new.made ≤ meter.old.made + (if found
         then (walk_cost
         (slice_index_or (trees_of ground.now.program.now) ground.now.program.now.root nothing)
         + look_cost
         (slice_index_or (trees_of ground.now.program.now) ground.now.program.now.root nothing))
         * (length ground.now.text.now + 1) else 0)) }
-    ensures rises { OnOk result (count.old.made ≤ count.new.made) }
-    ensures counted { IfOk result (λ found. found ≡ true → count.old.made < count.new.made) }
+    ensures counted { IfOk result (λ found. found ≡ true → meter.old.made < meter.new.made) }
+    ensures advances { Advances meter.old meter.new }
+    ensures stops { IfErr result (StopsAt meter.new) }
 {
     if !is_boundary(ground.text, place) {
         return Ok(false);
@@ -64,7 +67,7 @@ fn begins_here(
         return Ok(false);
     }
     let mut unset = no_groups(alloc, ground.program.groups)?;
-    let _ = walk(ground, marks, place, WHOLE, &mut unset, count);
+    walk(ground, marks, place, WHOLE, &mut unset, meter)?;
     *groups = unset;
     Ok(true)
 }
@@ -108,26 +111,25 @@ impl Guide {
         })
     }
 
-    /// Marks the places from this one on.
-    pub fn mark(
-        &mut self,
-        text: &str,
-        begin: usize,
-        count: &mut TurnCount,
-    ) -> Result<(), AllocError>
+    /// Marks the places from this one on. A row is paid for before it is worked out; where it stops, what was marked stays.
+    pub fn mark(&mut self, text: &str, begin: usize, meter: &mut Meter) -> Result<(), Stop>
         requires guides { IsGuideIn text.now self.old }
         requires begin { begin ≤ length text.now }
         ensures guides { OnOk result (IsGuideIn text.now self.new) }
         ensures there { OnOk result (length text.now < length self.new.marks + begin) }
         ensures program { self.new.program ≡ self.old.program }
         ensures plan { self.new.plan ≡ self.old.plan }
-        ensures steps { OnOk result (count.new.made ≤ count.old.made
+        ensures kept { OnErr result (self.new ≡ self.old) }
+        ensures steps { OnOk result (meter.new.made ≤ meter.old.made
             + 7 * length self.old.plan.cells * (length text.now + 1)) }
-        ensures rises { OnOk result (count.old.made ≤ count.new.made) }
+        ensures counted { OnOk result (meter.old.made + stops text.now (length self.new.marks)
+            ≤ meter.new.made) }
+        ensures advances { Advances meter.old meter.new }
+        ensures stops { IfErr result (StopsAt meter.new) }
     {
         let alloc = *self.sights.allocator();
         let sights = self.sights.as_slice();
-        self.marks = marks_from(alloc, &self.program, &self.plan, text, sights, begin, count)?;
+        self.marks = marks_from(alloc, &self.program, &self.plan, text, sights, begin, meter)?;
         Ok(())
     }
 
@@ -143,24 +145,25 @@ impl Guide {
     }
 
     /// Whether a match begins at the place, which it does on boundaries of characters alone. Where one does, the groups are
-    /// the match's.
+    /// the match's. Stops where memory or steps run out.
     pub fn begins_at(
         &self,
         text: &str,
         place: usize,
         groups: &mut Vec<Option<Span>>,
-        count: &mut TurnCount,
-    ) -> Result<bool, AllocError>
+        meter: &mut Meter,
+    ) -> Result<bool, Stop>
         requires guides { IsGuideIn text.now self.now }
         requires there { length text.now < length self.now.marks + place }
         ensures finds { IfOk result (λ found. FindsAt text.now self.now.program place
             (groups_of found groups.new.items)) }
-        ensures steps { OnOk result (count.new.made ≤ count.old.made + (walk_cost
+        ensures steps { OnOk result (meter.new.made ≤ meter.old.made + (walk_cost
             (slice_index_or (trees_of self.now.program) self.now.program.root nothing)
             + look_cost (slice_index_or (trees_of self.now.program) self.now.program.root nothing))
             * (length text.now + 1)) }
-        ensures rises { OnOk result (count.old.made ≤ count.new.made) }
-        ensures counted { IfOk result (λ found. found ≡ true → count.old.made < count.new.made) }
+        ensures counted { IfOk result (λ found. found ≡ true → meter.old.made < meter.new.made) }
+        ensures advances { Advances meter.old meter.new }
+        ensures stops { IfErr result (StopsAt meter.new) }
     {
         if place > text.len() {
             return Ok(false);
@@ -173,30 +176,31 @@ impl Guide {
             rows: &[],
         };
         let alloc = *self.sights.allocator();
-        begins_here(alloc, &ground, &self.marks, place, place, groups, count)
+        begins_here(alloc, &ground, &self.marks, place, place, groups, meter)
     }
 
     /// Whether a match begins at the place or at a later one up to `last`, of which the least counts. Where one does, the
-    /// groups are the match's.
+    /// groups are the match's. Stops where memory or steps run out.
     pub fn find_up_to(
         &self,
         text: &str,
         begin: usize,
         last: usize,
         groups: &mut Vec<Option<Span>>,
-        count: &mut TurnCount,
-    ) -> Result<bool, AllocError>
+        meter: &mut Meter,
+    ) -> Result<bool, Stop>
         requires guides { IsGuideIn text.now self.now }
         requires there { length text.now < length self.now.marks + begin }
         requires order { begin ≤ last }
         ensures finds { IfOk result (λ found. FindsUpTo text.now self.now.program begin last
             (groups_of found groups.new.items)) }
-        ensures steps { OnOk result (count.new.made ≤ count.old.made + (walk_cost
+        ensures steps { OnOk result (meter.new.made ≤ meter.old.made + (walk_cost
             (slice_index_or (trees_of self.now.program) self.now.program.root nothing)
             + look_cost (slice_index_or (trees_of self.now.program) self.now.program.root nothing))
             * (length text.now + 1)) }
-        ensures rises { OnOk result (count.old.made ≤ count.new.made) }
-        ensures counted { IfOk result (λ found. found ≡ true → count.old.made < count.new.made) }
+        ensures counted { IfOk result (λ found. found ≡ true → meter.old.made < meter.new.made) }
+        ensures advances { Advances meter.old meter.new }
+        ensures stops { IfErr result (StopsAt meter.new) }
     {
         let ground = Ground {
             program: &self.program,
@@ -208,7 +212,7 @@ impl Guide {
         let alloc = *self.sights.allocator();
         let mut place = begin;
         'starts: while place <= last && place <= text.len() {
-            if begins_here(alloc, &ground, &self.marks, begin, place, groups, count)? {
+            if begins_here(alloc, &ground, &self.marks, begin, place, groups, meter)? {
                 return Ok(true);
             }
             place += 1;

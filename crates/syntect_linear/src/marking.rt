@@ -1,10 +1,13 @@
 //! The marks of a text, from its end on.
-ghost use Rattle.std.specs.Prelude.{◌≡◌, ◌<◌, ◌≤◌, ◌+◌, ◌*◌, ℕ, IfOk, IfSome, OnOk, None, false, true, is_some, length, slice_index_or, Some};
+ghost use Rattle.std.specs.Prelude.{◌≡◌, ◌<◌, ◌≤◌, ◌+◌, ◌*◌, ℕ, IfErr, IfOk, IfSome, OnOk, None, false, true, is_some, length, slice_index_or, Some, if◌then◌else◌};
+ghost use Rattle.syntect_pattern.specs.Text as spec;
 ghost use Rattle.syntect_pattern_table.specs.Program.{trees_of};
 ghost use Rattle.syntect_plan.specs.PlanOf.{IsPlanOf};
 ghost use Rattle.syntect_linear.specs.Alike.{IsLoose};
 ghost use Rattle.syntect_linear.specs.Ground.{IsIn, ends_at};
 ghost use Rattle.syntect_linear.specs.Marks.{AreMarks, IsMarked, KnowsLeads};
+ghost use Rattle.syntect_linear.specs.Steps.{stops};
+ghost use Rattle.syntect_meter.specs.Meter.{Advances, StopsAt};
 ghost use Rattle.syntect_sights.specs.Sights.{AreSights};
 
 use crate::alike::{Seen, is_loose};
@@ -14,10 +17,11 @@ use crate::known::{keep, nothing_known};
 use crate::lead::lead_by;
 use crate::marks::{Marks, marks_of};
 use std::alloc::{AllocError, Global};
+use syntect_meter::meter::Meter;
+use syntect_meter::stop::Stop;
 use syntect_pattern_table::program::Program;
 use syntect_plan::order::{cell_in, order_of};
 use syntect_plan::plan::Plan;
-use syntect_turns::count::TurnCount;
 use syntect_values::seq::Seq;
 use syntect_ways::text::is_boundary;
 
@@ -28,18 +32,14 @@ fn known_of(
     marks: &Marks,
     order: &[(usize, usize)],
     place: usize,
-    count: &mut TurnCount,
 ) -> Result<Vec<Option<bool>>, AllocError>
     requires { IsMarked ground.now marks.now place }
     ensures knows { IfOk result (λ here. KnowsLeads ground.now place here.items) }
     ensures long { IfOk result (λ here. length here.items ≡ length ground.now.plan.now.cells) }
-    ensures steps { OnOk result (count.new.made
-        ≡ count.old.made + length ground.now.plan.now.cells) }
 {
     let cells = ground.plan.cells.len();
     let mut here = nothing_known(alloc, cells)?;
     for late in 0..cells {
-        count.tick();
         let cell = cell_in(order, late).min(cells - 1);
         let leads = lead_by(ground, marks, here.as_slice(), place, cell);
         keep(&mut here, cell, leads);
@@ -62,26 +62,31 @@ fn row_of(alloc: Global, here: &[Option<bool>]) -> Result<Option<Seq<bool>>, All
     Ok(Some(Seq::from_vec(row)))
 }
 
-/// The row of a place, if it can be told without where matches end.
+/// The row of a place, if it can be told without where matches end. Each cell is a step, paid before it is asked.
 fn marked(
     alloc: Global,
     ground: &Ground,
     marks: &Marks,
     order: &[(usize, usize)],
     place: usize,
-    count: &mut TurnCount,
-) -> Result<Option<Seq<bool>>, AllocError>
+    meter: &mut Meter,
+) -> Result<Option<Seq<bool>>, Stop>
     requires { IsMarked ground.now marks.now place }
     ensures leads { IfOk result (λ made. IfSome made (λ row. (k : ℕ) → IsIn ground.now k
         → slice_index_or row k false ≡ is_some (ends_at ground.now k place))) }
-    ensures steps { OnOk result (count.new.made
-        ≡ count.old.made + length ground.now.plan.now.cells) }
+    ensures steps { OnOk result (meter.new.made
+        ≡ meter.old.made + length ground.now.plan.now.cells) }
+    ensures advances { Advances meter.old meter.new }
+    ensures stops { IfErr result (StopsAt meter.new) }
 {
-    let here = known_of(alloc, ground, marks, order, place, count)?;
-    row_of(alloc, here.as_slice())
+    meter.spend(ground.plan.cells.len())?;
+    let here = known_of(alloc, ground, marks, order, place)?;
+    let row = row_of(alloc, here.as_slice())?;
+    Ok(row)
 }
 
-/// Marks one place more, the one before those that are marked, if that can be told without where matches end.
+/// Marks one place more, the one before those that are marked, if that can be told without where matches end. The row of
+/// a place like one that was marked is a step.
 fn mark_place(
     alloc: Global,
     ground: &Ground,
@@ -89,8 +94,8 @@ fn mark_place(
     seen: &mut Seen,
     order: &[(usize, usize)],
     place: usize,
-    count: &mut TurnCount,
-) -> Result<bool, AllocError>
+    meter: &mut Meter,
+) -> Result<bool, Stop>
     requires plan { IsPlanOf ground.now.program.now ground.now.plan.now }
     requires sights { AreSights ground.now.text.now (trees_of ground.now.program.now)
         ground.now.plan.now.behinds ground.now.sights.now }
@@ -101,20 +106,23 @@ fn mark_place(
     ensures marks { IfOk result (λ told. told ≡ true → AreMarks ground.now.text.now
         (trees_of ground.now.program.now) ground.now.plan.now.cells marks.new) }
     ensures there { IfOk result (λ told. told ≡ true → length marks.new ≡ length marks.old + 1) }
-    ensures steps { OnOk result (count.new.made
-        ≤ count.old.made + length ground.now.plan.now.cells) }
-    ensures rises { OnOk result (count.old.made ≤ count.new.made) }
+    ensures steps { OnOk result (meter.new.made
+        ≤ meter.old.made + length ground.now.plan.now.cells) }
+    ensures counted { IfOk result (λ told. told ≡ true → meter.old.made
+        + (if spec.is_boundary ground.now.text.now place then 1 else 0) ≤ meter.new.made) }
+    ensures advances { Advances meter.old meter.new }
+    ensures stops { IfErr result (StopsAt meter.new) }
 {
     if !is_boundary(ground.text, place) {
         marks.push(Seq::new(alloc))?;
         return Ok(true);
     }
     if let Some(row) = seen.row_like(ground, marks, place) {
-        count.tick();
+        meter.spend(1)?;
         marks.repeat(row)?;
         return Ok(true);
     }
-    let Some(row) = marked(alloc, ground, marks, order, place, count)? else {
+    let Some(row) = marked(alloc, ground, marks, order, place, meter)? else {
         return Ok(false);
     };
     marks.push(row)?;
@@ -129,8 +137,8 @@ fn marked_from(
     text: &str,
     sights: &[Seq<bool>],
     begin: usize,
-    count: &mut TurnCount,
-) -> Result<Option<Marks>, AllocError>
+    meter: &mut Meter,
+) -> Result<Option<Marks>, Stop>
     requires plan { IsPlanOf program.now plan.now }
     requires sights { AreSights text.now (trees_of program.now) plan.now.behinds sights.now }
     requires begin { begin ≤ length text.now }
@@ -138,9 +146,12 @@ fn marked_from(
         (trees_of program.now) plan.now.cells marks)) }
     ensures there { IfOk result (λ made. IfSome made (λ marks.
         length marks + begin ≡ length text.now + 1)) }
-    ensures steps { OnOk result (count.new.made
-        ≤ count.old.made + length plan.now.cells * (length text.now + 1)) }
-    ensures rises { OnOk result (count.old.made ≤ count.new.made) }
+    ensures steps { OnOk result (meter.new.made
+        ≤ meter.old.made + length plan.now.cells * (length text.now + 1)) }
+    ensures counted { IfOk result (λ made. IfSome made (λ marks.
+        meter.old.made + stops text.now (length marks) ≤ meter.new.made)) }
+    ensures advances { Advances meter.old meter.new }
+    ensures stops { IfErr result (StopsAt meter.new) }
 {
     let order = order_of(alloc, program, plan)?;
     let ground = Ground {
@@ -166,7 +177,7 @@ fn marked_from(
             &mut seen,
             order.as_slice(),
             place,
-            count,
+            meter,
         )? {
             return Ok(None);
         }
@@ -175,6 +186,7 @@ fn marked_from(
 }
 
 /// The marks of the places from the text's end down to this one. With atomic groups where matches end is worked out first.
+/// A place where a character begins is a step at least.
 pub fn marks_from(
     alloc: Global,
     program: &Program,
@@ -182,21 +194,25 @@ pub fn marks_from(
     text: &str,
     sights: &[Seq<bool>],
     begin: usize,
-    count: &mut TurnCount,
-) -> Result<Marks, AllocError>
+    meter: &mut Meter,
+) -> Result<Marks, Stop>
     requires plan { IsPlanOf program.now plan.now }
     requires sights { AreSights text.now (trees_of program.now) plan.now.behinds sights.now }
     requires begin { begin ≤ length text.now }
     ensures marks { IfOk result (λ marks. AreMarks text.now (trees_of program.now) plan.now.cells
         marks) }
     ensures there { IfOk result (λ marks. length marks + begin ≡ length text.now + 1) }
-    ensures steps { OnOk result (count.new.made
-        ≤ count.old.made + 7 * length plan.now.cells * (length text.now + 1)) }
-    ensures rises { OnOk result (count.old.made ≤ count.new.made) }
+    ensures steps { OnOk result (meter.new.made
+        ≤ meter.old.made + 7 * length plan.now.cells * (length text.now + 1)) }
+    ensures counted { IfOk result (λ marks.
+        meter.old.made + stops text.now (length marks) ≤ meter.new.made) }
+    ensures advances { Advances meter.old meter.new }
+    ensures stops { IfErr result (StopsAt meter.new) }
 {
-    if let Some(marks) = marked_from(alloc, program, plan, text, sights, begin, count)? {
+    if let Some(marks) = marked_from(alloc, program, plan, text, sights, begin, meter)? {
         return Ok(marks);
     }
-    let rows = rows_from(alloc, program, plan, text, sights, begin, count)?;
-    marks_of(alloc, rows.as_slice())
+    let rows = rows_from(alloc, program, plan, text, sights, begin, meter)?;
+    let marks = marks_of(alloc, rows.as_slice())?;
+    Ok(marks)
 }

@@ -1,5 +1,6 @@
 //! The match that the marks lead along, without a step back.
-ghost use Rattle.std.specs.Prelude.{◌≡◌, ◌≤◌, ◌<◌, suc, ◌&&◌, ◌==◌, not, is_some, slice_set, Some, true, false, if◌then◌else◌};
+ghost use Rattle.std.specs.Prelude.{◌≡◌, ◌<◌, suc, ◌&&◌, ◌==◌, not, is_some, slice_set, IfErr, IfOk, OnOk, Some, true, false, if◌then◌else◌};
+ghost use Rattle.syntect_meter.specs.Meter.{Advances, StopsAt};
 ghost use Rattle.syntect_pattern_table.specs.Table.{is_text};
 ghost use Rattle.syntect_linear.specs.Ground.{IsIn, ends_at};
 ghost use Rattle.syntect_plan.specs.Onward.{end_if, has_turn};
@@ -11,11 +12,12 @@ ghost use Rattle.syntect_linear.specs.Walk.{IsFilled, Walks};
 use crate::ground::Ground;
 use crate::marks::Marks;
 use crate::reach::may_turn;
+use syntect_meter::meter::Meter;
+use syntect_meter::stop::Stop;
 use syntect_pattern_table::node::Node;
 use syntect_plan::cells::{Item, cell_at, parts_at};
 use syntect_plan::facts::facts_at;
 use syntect_plan::plan::one_less;
-use syntect_turns::count::TurnCount;
 use syntect_ways::past::{past_char, past_class};
 
 /// From one place to another.
@@ -40,7 +42,8 @@ fn close(groups: &mut Vec<Option<Span>>, group: usize, start: usize, end: usize)
     }
 }
 
-/// Goes through the cell's item from the place on, to where its match ends, and sets the groups.
+/// Goes through the cell's item from the place on, to where its match ends, and sets the groups. Each cell is a step, paid
+/// before it is entered.
 #[cycle(walk)]
 pub fn walk(
     ground: &Ground,
@@ -48,31 +51,35 @@ pub fn walk(
     place: usize,
     cell: usize,
     groups: &mut Vec<Option<Span>>,
-    count: &mut TurnCount,
-) -> usize
+    meter: &mut Meter,
+) -> Result<usize, Stop>
     requires filled { IsFilled ground.now marks.now place }
     requires cell { IsIn ground.now cell }
     requires real { spec.is_end (spec.cell_at ground.now.plan.now.cells cell).item ≡ false }
     requires found { is_some (ends_at ground.now cell place) ≡ true }
-    ensures walks { Walks ground.now cell place groups.old.items result groups.new.items }
-    ensures steps { Costs ground.now cell place count.old.made result count.new.made }
-    ensures counted { count.old.made < count.new.made }
+    ensures walks { IfOk result (λ end. Walks ground.now cell place groups.old.items end
+        groups.new.items) }
+    ensures steps { IfOk result (λ end. Costs ground.now cell place meter.old.made end
+        meter.new.made) }
+    ensures counted { OnOk result (meter.old.made < meter.new.made) }
+    ensures advances { Advances meter.old meter.new }
+    ensures stops { IfErr result (StopsAt meter.new) }
 {
-    count.tick();
+    meter.spend(1)?;
     let at = cell_at(ground.plan.cells.as_slice(), cell);
     match at.item {
-        Item::End => place,
+        Item::End => Ok(place),
         Item::Turns {
             greedy,
             least,
             most,
             body: _,
         } => walk_turns(
-            ground, marks, place, cell, groups, count, greedy, least, most,
+            ground, marks, place, cell, groups, meter, greedy, least, most,
         ),
         Item::Node(node) => match ground.program.node(node) {
-            Some(node) => walk_node(ground, marks, place, cell, groups, count, node),
-            None => place,
+            Some(node) => walk_node(ground, marks, place, cell, groups, meter, node),
+            None => Ok(place),
         },
     }
 }
@@ -85,31 +92,34 @@ fn walk_node(
     place: usize,
     cell: usize,
     groups: &mut Vec<Option<Span>>,
-    count: &mut TurnCount,
+    meter: &mut Meter,
     node: &Node,
-) -> usize
+) -> Result<usize, Stop>
     requires filled { IsFilled ground.now marks.now place }
     requires node { IsNodeAt ground.now cell node.now }
     requires spelt { is_text node.now ≡ false }
     requires found { is_some (ends_at ground.now cell place) ≡ true }
-    ensures walks { Walks ground.now cell place groups.old.items result groups.new.items }
-    ensures steps { Costs ground.now cell place count.old.made result (suc count.new.made) }
-    ensures rises { count.old.made ≤ count.new.made }
+    ensures walks { IfOk result (λ end. Walks ground.now cell place groups.old.items end
+        groups.new.items) }
+    ensures steps { IfOk result (λ end. Costs ground.now cell place meter.old.made end
+        (suc meter.new.made)) }
+    ensures advances { Advances meter.old meter.new }
+    ensures stops { IfErr result (StopsAt meter.new) }
 {
     let parts = parts_at(ground.plan.parts.as_slice(), cell);
     match node {
-        Node::Char(wanted) => past_char(ground.text, place, *wanted).unwrap_or(place),
-        Node::Class(class) => past_class(ground.text, place, class).unwrap_or(place),
+        Node::Char(wanted) => Ok(past_char(ground.text, place, *wanted).unwrap_or(place)),
+        Node::Class(class) => Ok(past_class(ground.text, place, class).unwrap_or(place)),
         Node::Sequence(_, _) => {
-            let middle = walk(ground, marks, place, parts.first, groups, count);
+            let middle = walk(ground, marks, place, parts.first, groups, meter)?;
             let second = follows(ground, parts.first, middle == place);
-            walk(ground, marks, middle, second, groups, count)
+            walk(ground, marks, middle, second, groups, meter)
         }
         Node::Alternation(_, _) => {
             if leads(ground, marks, place, parts.first) {
-                return walk(ground, marks, place, parts.first, groups, count);
+                return walk(ground, marks, place, parts.first, groups, meter);
             }
-            walk(ground, marks, place, parts.second, groups, count)
+            walk(ground, marks, place, parts.second, groups, meter)
         }
         Node::Repeat {
             greedy,
@@ -117,29 +127,29 @@ fn walk_node(
             most,
             body: _,
         } => walk_turns(
-            ground, marks, place, cell, groups, count, *greedy, *least, *most,
+            ground, marks, place, cell, groups, meter, *greedy, *least, *most,
         ),
         Node::Group { number, .. } => {
-            let end = walk(ground, marks, place, parts.first, groups, count);
+            let end = walk(ground, marks, place, parts.first, groups, meter)?;
             close(groups, *number, place, end);
-            end
+            Ok(end)
         }
-        Node::Atomic(_) => walk(ground, marks, place, parts.first, groups, count),
+        Node::Atomic(_) => walk(ground, marks, place, parts.first, groups, meter),
         Node::Ahead { negated, body } => {
             if *negated {
-                return place;
+                return Ok(place);
             }
             if facts_at(ground.plan.facts.as_slice(), *body).bare {
-                return place;
+                return Ok(place);
             }
-            let _ = walk(ground, marks, place, parts.first, groups, count);
-            place
+            walk(ground, marks, place, parts.first, groups, meter)?;
+            Ok(place)
         }
-        Node::Nothing => place,
-        Node::Anchor(_) => place,
-        Node::Same { .. } => place,
-        Node::Text { .. } => place,
-        Node::Behind { .. } => place,
+        Node::Nothing => Ok(place),
+        Node::Anchor(_) => Ok(place),
+        Node::Same { .. } => Ok(place),
+        Node::Text { .. } => Ok(place),
+        Node::Behind { .. } => Ok(place),
     }
 }
 
@@ -186,17 +196,20 @@ fn walk_turns(
     place: usize,
     cell: usize,
     groups: &mut Vec<Option<Span>>,
-    count: &mut TurnCount,
+    meter: &mut Meter,
     greedy: bool,
     least: u32,
     most: Option<u32>,
-) -> usize
+) -> Result<usize, Stop>
     requires filled { IsFilled ground.now marks.now place }
     requires turns { IsLoopAt ground.now cell greedy least most }
     requires found { is_some (ends_at ground.now cell place) ≡ true }
-    ensures walks { Walks ground.now cell place groups.old.items result groups.new.items }
-    ensures steps { Costs ground.now cell place count.old.made result (suc count.new.made) }
-    ensures rises { count.old.made ≤ count.new.made }
+    ensures walks { IfOk result (λ end. Walks ground.now cell place groups.old.items end
+        groups.new.items) }
+    ensures steps { IfOk result (λ end. Costs ground.now cell place meter.old.made end
+        (suc meter.new.made)) }
+    ensures advances { Advances meter.old meter.new }
+    ensures stops { IfErr result (StopsAt meter.new) }
 {
     let mut at = place;
     let mut turn = cell;
@@ -204,14 +217,14 @@ fn walk_turns(
     let mut most = most;
     'turns: while takes_turn(ground, marks, at, turn, greedy, least, most) {
         let first = parts_at(ground.plan.parts.as_slice(), turn).first;
-        let end = walk(ground, marks, at, first, groups, count);
+        let end = walk(ground, marks, at, first, groups, meter)?;
         if end == at {
-            return end;
+            return Ok(end);
         }
         turn = follows(ground, first, false);
         at = end;
         least = least.saturating_sub(1);
         most = one_less(most);
     }
-    at
+    Ok(at)
 }

@@ -1,2 +1,3 @@
 pub mod OpenLaws
 mod PlaceLaws
+mod SubstituteLaws

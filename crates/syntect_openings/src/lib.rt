@@ -7,4 +7,5 @@ mod match_iter;
 pub mod names;
 pub mod opening;
 pub mod references;
+pub mod substitutes;
 pub mod syntax_definition;

@@ -92,6 +92,11 @@ count-refused {set} {line} {old} {p} c on then one n t =
     let l : 1 ≤ k.0 = one_turn set line p k.0 k.2 in
     omega (arith, c.counted, k.1)
 
+-- the turns so far are some of them
+pub count-passed : {set : SyntaxSet} {line : List ℕ} {old : Standing} {p : Position} {before made shown : ℕ} → CountSoFar set line old p before made shown → old.levels ≢ []
+    → TakesNoMore dialect set line old before made
+count-passed {set} {line} {old} {p} c on n t = let k = c.left n (from_start set line old on n t) in omega (arith, c.counted, k.1)
+
 -- twice the same with one more on one side
 least_room : (r x : ℕ) → (r + 1) * x + 1 ≤ (r + 1) * (x + 1)
 least_room r x = omega arith

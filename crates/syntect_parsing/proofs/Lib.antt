@@ -29,3 +29,4 @@ pub mod StateLaws
 pub mod LinkedLaws
 pub mod WorkLaws
 pub mod PrototypeLaws
+pub mod WithinLaws

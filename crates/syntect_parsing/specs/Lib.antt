@@ -16,3 +16,4 @@ pub mod Step
 pub mod Bound
 pub mod Standing
 pub mod Work
+pub mod Within

@@ -4,13 +4,13 @@
 #![tactic(auto)]
 
 mod captures;
-mod counts;
 mod emit;
 pub mod laws;
 mod levels;
 pub mod parser;
 mod taken;
 mod turn;
+pub mod within;
 
 pub use syntect_grammar::{error, syntax_set, yaml_load};
 pub use syntect_openings::syntax_definition;

@@ -1,5 +1,5 @@
 //! Reading a line.
-ghost use Rattle.std.specs.Prelude.{◌≡◌, ◌≢◌, ◌↔◌, ◌+◌, ◌-◌, ◌≤◌, ℕ, [], take, Some, IfOk, IfErr, OnOk, OnErr, IsTrue};
+ghost use Rattle.std.specs.Prelude.{◌≡◌, ◌≢◌, ◌↔◌, ◌+◌, ◌-◌, ◌≤◌, ◌<◌, ◌^◌, ℕ, [], take, Some, IfOk, IfErr, IfSome, OnOk, OnErr, IsTrue, true, false};
 ghost use Rattle.std.specs.Option.{option_to_list, option_map_or};
 ghost use Rattle.syntect_scope.specs.Replay.{pushes};
 ghost use Rattle.syntect_grammar.specs.Contexts.{part_of};
@@ -10,13 +10,19 @@ ghost use Rattle.syntect_parsing.specs.Meaning.{MayLackStart, Accepts, MayRefuse
 ghost use Rattle.syntect_parsing.specs.States.{standing, turns_made, steps_made, CountsSame};
 ghost use Rattle.syntect_parsing.specs.Bound.{TakesTurns, TakesAll, TakesNoMore, IsTold, most_turns};
 ghost use Rattle.syntect_parsing.specs.Work.{TakesSteps, TakesMostSteps, UnlessMemory};
+ghost use Rattle.syntect_parsing.specs.Within.{MayRefuseWithin, ReachesHere, ReachesLimit, UnlessStopped, refusal_of};
+ghost use Rattle.syntect_base.specs.Limiting.{IsWithinLimit, limit_of};
+ghost use Rattle.syntect_meter.specs.Meter.{Advances};
 
-use crate::counts::add;
 use crate::turn::turn;
+use crate::within::{LineLimit, ReadWithinError};
 use std::alloc::{AllocError, AllocFailed, Global};
+use syntect_base::limits::Limits;
 pub use syntect_grammar::error::ParsingError;
 use syntect_grammar::syntax_definition::{ContextId, ContextReference};
 use syntect_grammar::syntax_set::{SyntaxReference, SyntaxSet};
+use syntect_meter::counts::add;
+use syntect_meter::meter::Meter;
 use syntect_scope::scope::Scope;
 use syntect_scope::stack::ScopeStackOp;
 use syntect_turns::count::TurnCount;
@@ -134,8 +140,51 @@ impl ParseState {
         ensures most_steps { UnlessMemory result (TakesMostSteps syntax_set.now line.now
             (standing self.old) (steps_made self.old) (steps_made self.new)) }
     {
+        match self.parse_line_within(alloc, line, syntax_set, &Limits::unlimited()) {
+            Ok(ops) => Ok(ops),
+            Err(e) => Err(refusal(e)),
+        }
+    }
+
+    /// Reads the next line within limits. Its answer is that of `parse_line`, unless it makes more steps or turns than `limits`
+    /// has: then it is `LimitReached`, with the limit, and the state stays, as after any refusal. No line makes more (`few_turns`,
+    /// `few_steps`), whatever its grammar's patterns are, and where a limit was reached the line had made as many (`reached`).
+    pub fn parse_line_within(
+        &mut self,
+        alloc: Global,
+        line: &str,
+        syntax_set: &SyntaxSet,
+        limits: &Limits,
+    ) -> Result<Vec<(usize, ScopeStackOp)>, ReadWithinError>
+        ensures accepted { IfOk result (λ ops.
+            Accepts dialect syntax_set.now line.now (standing self.old) (standing self.new)
+            ops.items) }
+        ensures refused { IfErr result (
+            MayRefuseWithin dialect syntax_set.now line.now (standing self.old)) }
+        ensures err { OnErr result (standing self.new ≡ standing self.old) }
+        ensures taken { OnOk result (TakesAll dialect syntax_set.now line.now (standing self.old)
+            (turns_made self.old) (turns_made self.new)) }
+        ensures no_more { OnErr result (TakesNoMore dialect syntax_set.now line.now
+            (standing self.old) (turns_made self.old) (turns_made self.new)) }
+        ensures bound { turns_made self.new
+            ≤ turns_made self.old + most_turns syntax_set.now line.now (standing self.old) }
+        ensures no_fewer { turns_made self.old ≤ turns_made self.new }
+        ensures no_fewer_steps { steps_made self.old ≤ steps_made self.new }
+        ensures steps { UnlessStopped result (TakesSteps syntax_set.now line.now
+            (standing self.old) (turns_made self.new - turns_made self.old)
+            (steps_made self.old) (steps_made self.new)) }
+        ensures most_steps { UnlessStopped result (TakesMostSteps syntax_set.now line.now
+            (standing self.old) (steps_made self.old) (steps_made self.new)) }
+        ensures few_turns { IsWithinLimit limits.now.turns
+            (turns_made self.new - turns_made self.old) }
+        ensures few_steps { IsWithinLimit limits.now.steps
+            (steps_made self.new - steps_made self.old) }
+        ensures reached { IfErr result (ReachesLimit limits.now
+            (turns_made self.new - turns_made self.old)
+            (steps_made self.new - steps_made self.old)) }
+    {
         if self.standing.levels.is_empty() {
-            return Err(ParsingError::MissingMainContext);
+            return Err(ReadWithinError::Refused(ParsingError::MissingMainContext));
         }
         let ParseState {
             standing,
@@ -148,6 +197,7 @@ impl ParseState {
             syntax_set,
             line,
             standing,
+            limits,
             &mut regions,
             count,
             steps,
@@ -192,16 +242,62 @@ impl ParseState {
         ensures most_steps { UnlessMemory result (TakesMostSteps syntax_set.now line.now
             (standing self.old) (steps_made self.old) (steps_made self.new)) }
     {
-        regions.steps = TurnCount::none();
+        match self.after_line_within(alloc, line, syntax_set, &Limits::unlimited(), regions) {
+            Ok(after) => Ok(after),
+            Err(e) => Err(refusal(e)),
+        }
+    }
+
+    /// The state after the next line, and its operations, as `after_line` answers them, read within limits as
+    /// `parse_line_within` reads it. Refused as that is.
+    pub fn after_line_within(
+        &mut self,
+        alloc: Global,
+        line: &str,
+        syntax_set: &SyntaxSet,
+        limits: &Limits,
+        regions: &mut Regions,
+    ) -> Result<(ParseState, Vec<(usize, ScopeStackOp)>), ReadWithinError>
+        ensures accepted { IfOk result (λ r. Accepts dialect syntax_set.now line.now
+            (standing self.old) (standing r.0) r.1.items) }
+        ensures refused { IfErr result (
+            MayRefuseWithin dialect syntax_set.now line.now (standing self.old)) }
+        ensures stays { standing self.new ≡ standing self.old }
+        ensures counts { IfOk result (λ r. CountsSame self.new r.0) }
+        ensures taken { OnOk result (TakesAll dialect syntax_set.now line.now (standing self.old)
+            (turns_made self.old) (turns_made self.new)) }
+        ensures no_more { OnErr result (TakesNoMore dialect syntax_set.now line.now
+            (standing self.old) (turns_made self.old) (turns_made self.new)) }
+        ensures bound { turns_made self.new
+            ≤ turns_made self.old + most_turns syntax_set.now line.now (standing self.old) }
+        ensures no_fewer { turns_made self.old ≤ turns_made self.new }
+        ensures no_fewer_steps { steps_made self.old ≤ steps_made self.new }
+        ensures added { steps_made self.new ≡ steps_made self.old + regions.new.steps.made }
+        ensures steps { UnlessStopped result (TakesSteps syntax_set.now line.now
+            (standing self.old) (turns_made self.new - turns_made self.old)
+            (steps_made self.old) (steps_made self.new)) }
+        ensures most_steps { UnlessStopped result (TakesMostSteps syntax_set.now line.now
+            (standing self.old) (steps_made self.old) (steps_made self.new)) }
+        ensures few_turns { IsWithinLimit limits.now.turns
+            (turns_made self.new - turns_made self.old) }
+        ensures few_steps { IsWithinLimit limits.now.steps
+            (steps_made self.new - steps_made self.old) }
+        ensures reached { IfErr result (ReachesLimit limits.now
+            (turns_made self.new - turns_made self.old)
+            (steps_made self.new - steps_made self.old)) }
+    {
+        regions.steps = Meter::unlimited();
         if self.standing.levels.is_empty() {
-            return Err(ParsingError::MissingMainContext);
+            return Err(ReadWithinError::Refused(ParsingError::MissingMainContext));
         }
         let ParseState {
             standing,
             count,
             steps,
         } = self;
-        match read_adding(alloc, syntax_set, line, standing, regions, count, steps) {
+        match read_adding(
+            alloc, syntax_set, line, standing, limits, regions, count, steps,
+        ) {
             Ok((standing, ops)) => {
                 let state = ParseState {
                     standing,
@@ -238,11 +334,12 @@ pub fn turns_of_line(
         syntax_set,
         line,
         &state.standing,
+        &Limits::unlimited(),
         &mut regions,
         &mut count,
     ) {
         Ok((_, _, turns)) => Ok(turns),
-        Err(e) => Err(e),
+        Err(e) => Err(refusal(e)),
     }
 }
 
@@ -292,18 +389,51 @@ fn at_start(state: &Standing) -> Result<Position, AllocError>
     })
 }
 
+/// Whether so many turns were made as the limit says, if it is one.
+fn has_all(turns: u64, limit: usize) -> bool
+    ensures all { result ≡ true → (limit_of limit ≡ Some limit) × (limit ≤ turns) }
+    ensures more { result ≡ false → IfSome (limit_of limit) (λ most. turns < most) }
+    ensures small { IfSome (limit_of limit) (λ most. most < 2 ^ 64) }
+{
+    limit != usize::MAX && turns >= limit as u64
+}
+
+/// The refusal of a line that is read without limits.
+fn refusal(e: ReadWithinError) -> ParsingError
+    ensures { result ≡ refusal_of e }
+{
+    match e {
+        ReadWithinError::Refused(e) => e,
+        // never, as nothing is limited
+        ReadWithinError::LimitReached(_) => ParsingError::Memory,
+    }
+}
+
+/// A meter of as many steps as the limit says, if it is one.
+fn meter_of(steps: usize) -> Meter
+    ensures made { result.made ≡ 0 }
+    ensures left { result.left ≡ limit_of steps }
+{
+    if steps == usize::MAX {
+        Meter::unlimited()
+    } else {
+        Meter::within(steps)
+    }
+}
+
 /// The state after a line that begins on some level, its operations, and how many turns it took, as far as that can be told.
 fn read_line(
     alloc: Global,
     set: &SyntaxSet,
     line: &str,
     state: &Standing,
+    limits: &Limits,
     regions: &mut Regions,
     count: &mut TurnCount,
-) -> Result<(Standing, Vec<(usize, ScopeStackOp)>, u64), ParsingError>
+) -> Result<(Standing, Vec<(usize, ScopeStackOp)>, u64), ReadWithinError>
     requires { state.now.levels ≢ [] }
     ensures accepted { IfOk result (λ r. Accepts dialect set.now line.now state.now r.0 r.1.items) }
-    ensures refused { IfErr result (MayRefuse dialect set.now line.now state.now) }
+    ensures refused { IfErr result (MayRefuseWithin dialect set.now line.now state.now) }
     ensures taken { OnOk result
         (TakesAll dialect set.now line.now state.now count.old.made count.new.made) }
     ensures no_more { OnErr result
@@ -311,24 +441,31 @@ fn read_line(
     ensures bound { count.new.made ≤ count.old.made + most_turns set.now line.now state.now }
     ensures no_fewer { count.old.made ≤ count.new.made }
     ensures told { IfOk result (λ r. IsTold (count.new.made - count.old.made) r.2) }
-    ensures steps { UnlessMemory result (TakesSteps set.now line.now state.now
+    ensures steps { UnlessStopped result (TakesSteps set.now line.now state.now
         (count.new.made - count.old.made) regions.old.steps.made regions.new.steps.made) }
-    ensures most_steps { UnlessMemory result (TakesMostSteps set.now line.now state.now
+    ensures most_steps { UnlessStopped result (TakesMostSteps set.now line.now state.now
         regions.old.steps.made regions.new.steps.made) }
-    ensures rises { UnlessMemory result (regions.old.steps.made ≤ regions.new.steps.made) }
+    ensures advances { Advances regions.old.steps regions.new.steps }
+    ensures few_turns { IsWithinLimit limits.now.turns (count.new.made - count.old.made) }
+    ensures reached { IfErr result (ReachesHere limits.now (count.new.made - count.old.made)
+        regions.new.steps) }
 {
     dialect_finds_in_text();
     regions.memory.begin_line();
     let mut ops = match first_operations(alloc, set, state) {
         Ok(ops) => ops,
-        Err(_) => return Err(ParsingError::Memory),
+        Err(_) => return Err(ReadWithinError::Refused(ParsingError::Memory)),
     };
     let mut p = match at_start(state) {
         Ok(p) => p,
-        Err(_) => return Err(ParsingError::Memory),
+        Err(_) => return Err(ReadWithinError::Refused(ParsingError::Memory)),
     };
     let mut turns = 0u64;
-    loop {
+    'each: loop {
+        if has_all(turns, limits.turns) {
+            let place = p.place;
+            return Err(ReadWithinError::LimitReached(LineLimit::Turns { place }));
+        }
         turns = turns.saturating_add(1);
         match turn(alloc, set, line, &mut p, regions, &mut ops, count) {
             Err(e) => return Err(e),
@@ -357,13 +494,14 @@ fn read_adding(
     set: &SyntaxSet,
     line: &str,
     state: &Standing,
+    limits: &Limits,
     regions: &mut Regions,
     count: &mut TurnCount,
     steps: &mut TurnCount,
-) -> Result<(Standing, Vec<(usize, ScopeStackOp)>), ParsingError>
+) -> Result<(Standing, Vec<(usize, ScopeStackOp)>), ReadWithinError>
     requires { state.now.levels ≢ [] }
     ensures accepted { IfOk result (λ r. Accepts dialect set.now line.now state.now r.0 r.1.items) }
-    ensures refused { IfErr result (MayRefuse dialect set.now line.now state.now) }
+    ensures refused { IfErr result (MayRefuseWithin dialect set.now line.now state.now) }
     ensures taken { OnOk result
         (TakesAll dialect set.now line.now state.now count.old.made count.new.made) }
     ensures no_more { OnErr result
@@ -371,14 +509,18 @@ fn read_adding(
     ensures bound { count.new.made ≤ count.old.made + most_turns set.now line.now state.now }
     ensures no_fewer { count.old.made ≤ count.new.made }
     ensures added { steps.new.made ≡ steps.old.made + regions.new.steps.made }
-    ensures steps { UnlessMemory result (TakesSteps set.now line.now state.now
+    ensures steps { UnlessStopped result (TakesSteps set.now line.now state.now
         (count.new.made - count.old.made) steps.old.made steps.new.made) }
-    ensures most_steps { UnlessMemory result (TakesMostSteps set.now line.now state.now
+    ensures most_steps { UnlessStopped result (TakesMostSteps set.now line.now state.now
         steps.old.made steps.new.made) }
+    ensures few_turns { IsWithinLimit limits.now.turns (count.new.made - count.old.made) }
+    ensures few_steps { IsWithinLimit limits.now.steps (steps.new.made - steps.old.made) }
+    ensures reached { IfErr result (ReachesLimit limits.now (count.new.made - count.old.made)
+        (steps.new.made - steps.old.made)) }
 {
-    regions.steps = TurnCount::none();
-    let read = read_line(alloc, set, line, state, regions, count);
-    add(steps, &regions.steps);
+    regions.steps = meter_of(limits.steps);
+    let read = read_line(alloc, set, line, state, limits, regions, count);
+    add(steps, regions.steps.count());
     match read {
         Ok((left, ops, _)) => Ok((left, ops)),
         Err(e) => Err(e),

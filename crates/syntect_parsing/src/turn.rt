@@ -1,5 +1,7 @@
 //! One turn of reading a line.
 ghost use Rattle.std.specs.Prelude.{◌≡◌, ◌≤◌, ◌+◌, ℕ, List, nat_lt, filter, IfOk, IfErr, OnOk, IsCharBoundary, true};
+ghost use Rattle.syntect_meter.specs.Meter.{Advances};
+ghost use Rattle.syntect_parsing.specs.Within.{IfRefused, StopsLineAt, UnlessStopped};
 ghost use Rattle.syntect_winner.specs.Engine.{dialect};
 ghost use Rattle.syntect_winner.specs.Chain.{last};
 ghost use Rattle.syntect_parsing.specs.Turn.{trimmed, skipped};
@@ -12,13 +14,14 @@ ghost use Rattle.syntect_winner.specs.Reader.{AreGroupsBy};
 ghost use Rattle.syntect_parsing.specs.Candidates.{IsTakenFrom, live_of};
 ghost use Rattle.syntect_parsing.specs.Orderly.{is_orderly};
 ghost use Rattle.syntect_parsing.specs.Step.{MakesStep, RefusesStep, Turns, RefusesTurn};
-ghost use Rattle.syntect_parsing.specs.Work.{TakesTurnSteps, UnlessMemory};
+ghost use Rattle.syntect_parsing.specs.Work.{TakesTurnSteps};
 
 use crate::emit::emit;
 use crate::laws::dialect_lays_groups_out;
 use crate::levels::apply;
 use crate::parser::ParsingError;
 use crate::taken::Taken;
+use crate::within::ReadWithinError;
 use std::alloc::Global;
 use std::mem;
 use syntect_grammar::syntax_set::SyntaxSet;
@@ -53,7 +56,7 @@ fn trim(alloc: Global, p: &mut Position)
 fn best_match<'s>(
     reader: &LineReader<'s, '_>,
     regions: &mut Regions,
-) -> Result<Best<'s>, ParsingError>
+) -> Result<Best<'s>, ReadWithinError>
     requires known { Remembers reader.now.set.now reader.now.line.now regions.old.memory }
     ensures groups { IfOk result (λ best. AreGroupsBy reader.now best.candidate regions.new.best) }
     ensures chosen { IfOk result (λ best. turn_on dialect reader.now.set.now reader.now.line.now
@@ -64,22 +67,23 @@ fn best_match<'s>(
         choice_by reader.now.line.now reader.now.position.now.place best
         ≡ winner reader.now.line.now reader.now.position.now
         (live_in dialect reader.now.set.now reader.now.line.now reader.now.position.now)) }
-    ensures refused { IfErr result (RefusesStep (turn_on dialect reader.now.set.now
-        reader.now.line.now reader.now.position.now (last reader.now.position.now.levels))) }
+    ensures refused { IfErr result (IfRefused (RefusesStep (turn_on dialect reader.now.set.now
+        reader.now.line.now reader.now.position.now (last reader.now.position.now.levels)))) }
     ensures known { OnOk result
         (Remembers reader.now.set.now reader.now.line.now regions.new.memory) }
-    ensures steps { UnlessMemory result (TakesTurnSteps reader.now.set.now reader.now.line.now
+    ensures steps { UnlessStopped result (TakesTurnSteps reader.now.set.now reader.now.line.now
         reader.now.position.now regions.old.steps.made regions.new.steps.made) }
-    ensures rises { UnlessMemory result (regions.old.steps.made ≤ regions.new.steps.made) }
+    ensures advances { Advances regions.old.steps regions.new.steps }
+    ensures stops { IfErr result (StopsLineAt regions.new.steps) }
 {
     let Some(top) = reader.position.levels.as_slice().last() else {
         return Ok(Best::none());
     };
     let Some(context) = reader.set.context_at(top.context) else {
-        return Err(ParsingError::MissingContext(top.context));
+        return Err(ReadWithinError::Refused(ParsingError::MissingContext(top.context)));
     };
     if let Some(id) = missing_prototype(reader, context) {
-        return Err(ParsingError::MissingContext(id));
+        return Err(ReadWithinError::Refused(ParsingError::MissingContext(id)));
     }
     let parts = parts_of(reader, top, context)?;
     Ok(best_of_chain(reader, parts.as_slice(), regions)?)
@@ -125,18 +129,19 @@ pub fn turn(
     regions: &mut Regions,
     ops: &mut Vec<(usize, ScopeStackOp)>,
     count: &mut TurnCount,
-) -> Result<bool, ParsingError>
+) -> Result<bool, ReadWithinError>
     requires known { Remembers set.now line.now regions.old.memory }
     requires boundary { IsCharBoundary line.now p.old.place }
     requires few { p.old.idle ≤ MOST_IDLE }
     ensures turns { IfOk result
         (Turns dialect set.now line.now p.old p.new ops.old.items ops.new.items) }
-    ensures refused { IfErr result (RefusesTurn dialect set.now line.now p.old) }
+    ensures refused { IfErr result (IfRefused (RefusesTurn dialect set.now line.now p.old)) }
     ensures known { OnOk result (Remembers set.now line.now regions.new.memory) }
     ensures counted { count.new.made ≡ count.old.made + 1 }
-    ensures steps { UnlessMemory result (TakesTurnSteps set.now line.now (trimmed p.old)
+    ensures steps { UnlessStopped result (TakesTurnSteps set.now line.now (trimmed p.old)
         regions.old.steps.made regions.new.steps.made) }
-    ensures rises { UnlessMemory result (regions.old.steps.made ≤ regions.new.steps.made) }
+    ensures advances { Advances regions.old.steps regions.new.steps }
+    ensures stops { IfErr result (StopsLineAt regions.new.steps) }
 {
     dialect_finds_in_text();
     dialect_finds_on_boundaries();
@@ -163,7 +168,7 @@ pub fn turn(
             };
             match take(&taken, p, ops) {
                 Ok(()) => Ok(true),
-                Err(e) => Err(e),
+                Err(e) => Err(ReadWithinError::Refused(e)),
             }
         }
         Choice::Skip(next) => {

@@ -12,7 +12,8 @@ use syntect::parsing::{
     add_from_folder_within,
 };
 
-/// Two grammars. The patterns of `main` of the second have 1 and 4 bytes with their variables expanded.
+/// Two grammars, of 47 and 89 bytes. The patterns of `main` of the second have 1 and 4 bytes with their variables expanded,
+/// and for the last one 2 variables are used: it counts as 132 bytes.
 const GRAMMARS: [File; 2] = [
     (
         "A.sublime-syntax",
@@ -75,11 +76,33 @@ fn is_second(refusal: Option<FolderWithinError>) -> bool {
 #[test]
 fn a_grammar_of_a_folder_past_a_limit(rt: HostRuntime) {
     let folder = written(&rt, "syntect_folder_limits", &GRAMMARS);
-    let (refusal, count) = added(&rt, folder.as_path(), &of_pattern(4));
+    let (refusal, count) = added(&rt, folder.as_path(), &of_pattern(132));
     holds(&rt, refusal.is_none());
     equal(&rt, count, 2);
-    let (refusal, count) = added(&rt, folder.as_path(), &of_pattern(3));
+    let (refusal, count) = added(&rt, folder.as_path(), &of_pattern(131));
     holds(&rt, is_second(refusal));
+    equal(&rt, count, 1);
+}
+
+/// The grammar with which those of the folder have too many bytes is refused.
+#[test]
+fn grammars_of_a_folder_together(rt: HostRuntime) {
+    let of_folder = |folder| Limits {
+        folder,
+        ..Limits::unlimited()
+    };
+    let folder = written(&rt, "syntect_folder_bytes", &GRAMMARS);
+    let (refusal, count) = added(&rt, folder.as_path(), &of_folder(136));
+    holds(&rt, refusal.is_none());
+    equal(&rt, count, 2);
+    let (refusal, count) = added(&rt, folder.as_path(), &of_folder(135));
+    let is_second = match &refusal {
+        Some(FolderWithinError::LimitReached(LimitReached::Folder, path)) => {
+            path.as_str().ends_with("B.sublime-syntax")
+        }
+        _ => false,
+    };
+    holds(&rt, is_second);
     equal(&rt, count, 1);
 }
 

@@ -17,3 +17,5 @@ mod refusals;
 mod states;
 #[cfg(test)]
 mod turns;
+#[cfg(test)]
+mod within;

@@ -5,14 +5,15 @@ use std::path::Path;
 use std::process::Abort;
 use std::rt::Files;
 use syntect::Error;
-use syntect::easy::{HighlightFile, HighlightLines};
+use syntect::easy::{HighlightFile, HighlightLines, HighlightWithinError};
 use syntect::highlighting::Theme;
 use syntect::html::{
     ClassStyle, ClassedHTMLGenerator, highlighted_html_for_file, highlighted_html_for_reader,
     highlighted_html_for_string, line_tokens_to_classed_spans,
 };
 use syntect::parsing::{
-    ParseSyntaxError, ScopeRepository, SyntaxDefinition, SyntaxSet, SyntaxSetBuilder,
+    Limits, ParseSyntaxError, ReadWithinError, ScopeRepository, SyntaxDefinition, SyntaxSet,
+    SyntaxSetBuilder,
 };
 use syntect_buffer::buffer::LineBuffer;
 use syntect_parsing::parser::{ParseState, ParsingError, Regions, turns_of_line};
@@ -78,6 +79,21 @@ fn is_refused_line<T: Drop>(rt: &impl Abort, found: Result<T, Error>, wanted: &P
     is_refused(rt, found.err().and_then(of_a_line), wanted);
 }
 
+/// The refusal of a line that is one without limits too.
+fn of_a_line_within(e: HighlightWithinError) -> Option<ParsingError> {
+    match e {
+        HighlightWithinError::Refused(e) => of_a_line(e),
+        HighlightWithinError::LimitReached(_) => None,
+    }
+}
+
+fn of_a_reading_within(e: ReadWithinError) -> Option<ParsingError> {
+    match e {
+        ReadWithinError::Refused(e) => Some(e),
+        ReadWithinError::LimitReached(_) => None,
+    }
+}
+
 /// A line of a set's first syntax, read with a set, behind lines that are accepted.
 #[derive(Clone, Copy)]
 struct Reading<'s> {
@@ -101,6 +117,11 @@ fn states_refuse(rt: &impl Abort, alloc: Global, read: Reading<'_>, wanted: &Par
     is_refused(rt, after.err(), wanted);
     let ops = state.parse_line(alloc, read.line, read.set);
     is_refused(rt, ops.err(), wanted);
+    let limits = Limits::default();
+    let after = state.after_line_within(alloc, read.line, read.set, &limits, &mut regions);
+    is_refused(rt, after.err().and_then(of_a_reading_within), wanted);
+    let ops = state.parse_line_within(alloc, read.line, read.set, &limits);
+    is_refused(rt, ops.err().and_then(of_a_reading_within), wanted);
 }
 
 /// A highlighter behind lines, and pages of the whole, are refused so.
@@ -115,6 +136,8 @@ fn pages_refuse(rt: &impl Abort, alloc: Global, read: Reading<'_>, wanted: &Pars
         );
     }
     is_refused_line(rt, lines.highlight_line(alloc, read.line, read.set), wanted);
+    let refused = lines.highlight_line_within(alloc, read.line, read.set, &Limits::default());
+    is_refused(rt, refused.err().and_then(of_a_line_within), wanted);
     let all = format!(in alloc; "{}{}", read.before, read.line).expect(rt, "memory");
     let page = highlighted_html_for_string(alloc, all.as_str(), read.set, syntax, &theme);
     is_refused_line(rt, page, wanted);
@@ -139,6 +162,9 @@ fn generators_refuse(rt: &impl Abort, alloc: Global, read: Reading<'_>, wanted: 
     }
     let refused = page.parse_html_for_line_which_includes_newline(read.line);
     is_refused_line(rt, refused, wanted);
+    let limits = Limits::default();
+    let refused = page.parse_html_for_line_which_includes_newline_within(read.line, &limits);
+    is_refused(rt, refused.err().and_then(of_a_line_within), wanted);
 }
 
 /// Each call that reads lines refuses the line so.

@@ -34,17 +34,6 @@ abbrev pub Takes : List ℕ → Program → ℕ → Groups → Bool → Groups �
 Takes s p from old answer new = (tree : Tree) → IsProgramOf p tree
     → TakesMatch (found s tree from) old answer new
 
--- The answer says whether a match begins at a place from this one to the last: then the new groups are the match's, and
--- else the old ones stay, and what is found from the place on is found from behind the last.
-abbrev pub TakesUpTo : (ℕ → Option Groups) → ℕ → ℕ → Groups → Bool → Groups → Type 0
-TakesUpTo match from last old true new = match from ≡ Some new
-TakesUpTo match from last old false new = (new ≡ old) × (match from ≡ match (last + 1))
-
--- the same of the program's matches
-abbrev pub TakesNear : List ℕ → Program → ℕ → ℕ → Groups → Bool → Groups → Type 0
-TakesNear s p from last old answer new = (tree : Tree) → IsProgramOf p tree
-    → TakesUpTo (found s tree) from last old answer new
-
 -- a match with these groups begins at the place
 abbrev pub BeginsAt : Groups → ℕ → Type 0
 BeginsAt groups place = (start end : ℕ) → slice_index_or groups 0 None ≡ Some (start, end)

@@ -1,5 +1,5 @@
 //! Patterns.
-ghost use Rattle.std.specs.Prelude.{◌≡◌, ℕ, ◌+◌, ◌≤◌, ◌<◌, length, ◌==◌, ◌++◌, encode_utf8_all, OnOk, take, drop, string_bytes, IfOk, OnErr, IfSome, IfNone, IsCharBoundary, is_some, is_ok, unwrap_or, option_and_then, if◌then◌else◌, None, true, false};
+ghost use Rattle.std.specs.Prelude.{◌≡◌, ℕ, ◌+◌, ◌≤◌, ◌<◌, length, ◌==◌, ◌++◌, encode_utf8_all, OnOk, take, string_bytes, IfErr, IfOk, OnErr, IfSome, IfNone, IsCharBoundary, is_some, is_ok, unwrap_or, option_and_then, if◌then◌else◌, None, true, false};
 ghost use Rattle.std.specs.Option.{option_copied};
 ghost use Rattle.std.specs.Cmp.Lexicographic.{pointwise};
 ghost use Rattle.std.proofs.Common.{rules};
@@ -14,8 +14,9 @@ ghost use Rattle.syntect_regex.specs.Bounds.{pattern_is_linear, search_bound};
 ghost use Rattle.syntect_regex.specs.Begins.{NoneBeginsBefore, NoneBeginsOutside, BeginsAtEdges};
 ghost use Rattle.syntect_seek.specs.Depths.{AreDepthsIn};
 ghost use Rattle.syntect_seek.specs.Prospect.{IsProspectOf};
+ghost use Rattle.syntect_meter.specs.Meter.{Advances, StopsAt};
 ghost use Rattle.syntect_regex.specs.Escape.{is_special, escaped_char, escaped};
-ghost use Rattle.syntect_regex.specs.Region.{TakesMatch, TakesUpTo, TriesAt, Leaves, pattern_begins};
+ghost use Rattle.syntect_regex.specs.Region.{TakesMatch, TriesAt, Leaves, pattern_begins};
 
 use crate::compiled::{Kept, program_in};
 use crate::details::Details;
@@ -26,6 +27,9 @@ use once_cell::race::OnceBox;
 use std::alloc::{AllocError, Global};
 use std::marker::Model;
 use syntect_engine::state::Search;
+use syntect_meter::counts::add;
+use syntect_meter::meter::Meter;
+use syntect_meter::stop::Stop;
 use syntect_pattern_reader::compiler::compile;
 use syntect_pattern_table::program::Program;
 use syntect_pattern_table::starts::Places;
@@ -306,53 +310,14 @@ impl Regex {
             return Ok(false);
         };
         let size = self.body.text.len();
-        region.find(program, size, text.split_at(end).0, begin, count)
-    }
-
-    /// Searches the text for a match that begins at a place from `begin` to `last`, both being byte positions. The least
-    /// place counts, and the first match at it. Where there is one, the region has its groups; else, and where memory is
-    /// wanting, the region stays, and a search from behind `last` on finds what one from `begin` on does.
-    pub fn search_up_to(
-        &self,
-        text: &str,
-        begin: usize,
-        last: usize,
-        region: &mut Region,
-    ) -> Result<bool, AllocError>
-        requires { begin ≤ last }
-        ensures ok { IfOk result
-            (λ found.
-            TakesUpTo
-            (pattern_found self.now text.now) begin last region.old found region.new) }
-        ensures err { OnErr result (region.new ≡ region.old) }
-    {
-        self.search_up_to_counted(text, begin, last, region, &mut TurnCount::none())
-    }
-
-    /// Searches as `search_up_to` does, and counts its steps as `search_counted` does.
-    pub fn search_up_to_counted(
-        &self,
-        text: &str,
-        begin: usize,
-        last: usize,
-        region: &mut Region,
-        count: &mut TurnCount,
-    ) -> Result<bool, AllocError>
-        requires { begin ≤ last }
-        ensures ok { IfOk result (λ found. TakesUpTo
-            (pattern_found self.now text.now) begin last region.old found region.new) }
-        ensures err { OnErr result (region.new ≡ region.old) }
-        ensures steps { pattern_is_linear self.now ≡ true
-            → OnOk result (count.new.made
-            ≤ count.old.made + search_bound self.now (length text.now)) }
-        ensures rises { OnOk result (count.old.made ≤ count.new.made) }
-        ensures counted { IfOk result (λ found. found ≡ true → count.old.made < count.new.made) }
-    {
-        let Some(program) = self.program()? else {
-            return Ok(false);
-        };
-        let size = self.body.text.len();
-        region.find_up_to(program, size, text, begin, last, count)
+        let mut meter = Meter::unlimited();
+        match region.find(program, size, text.split_at(end).0, begin, &mut meter) {
+            Ok(found) => {
+                add(count, meter.count());
+                Ok(found)
+            }
+            Err(_) => Err(AllocError),
+        }
     }
 
     /// Whether a match begins at the place, a byte position. Where one does, the region has the groups of the first one; else,
@@ -387,21 +352,23 @@ impl Regex {
         ensures counted { IfOk result (λ found. found ≡ true → count.old.made < count.new.made) }
     {
         let alloc = *self.body.text.allocator();
+        let mut known = Prospect::new();
         let mut depths = Depths::new(alloc);
-        self.match_at_known(
-            text,
-            place,
-            &mut Prospect::new(),
-            &mut depths,
-            region,
-            count,
-        )
+        let mut meter = Meter::unlimited();
+        match self.match_at_known(text, place, &mut known, &mut depths, region, &mut meter) {
+            Ok(found) => {
+                add(count, meter.count());
+                Ok(found)
+            }
+            Err(_) => Err(AllocError),
+        }
     }
 
     /// Tells as `match_at_counted` does, with what is known of the pattern in this text, of which more may be known after: no
     /// step is taken at a place where no match can begin by that. To try a pattern at place after place of one text, hand in
     /// what was left the last time. Patterns that backed up too often leave the plans that they go on by in `depths`, which may
-    /// be handed in for all patterns that are tried in the text.
+    /// be handed in for all patterns that are tried in the text. The steps are made by the meter: where it has too few left, the
+    /// search stops once it has made them, and the region stays.
     pub fn match_at_known(
         &self,
         text: &str,
@@ -409,8 +376,8 @@ impl Regex {
         known: &mut Prospect,
         depths: &mut Depths,
         region: &mut Region,
-        count: &mut TurnCount,
-    ) -> Result<bool, AllocError>
+        meter: &mut Meter,
+    ) -> Result<bool, Stop>
         requires known { IsProspectOf self.now text.now known.old }
         requires depths { AreDepthsIn text.now depths.old }
         ensures known { IsProspectOf self.now text.now known.new }
@@ -418,10 +385,11 @@ impl Regex {
         ensures ok { IfOk result (λ b. TriesAt self.now text.now place region.old b region.new) }
         ensures err { OnErr result (region.new ≡ region.old) }
         ensures steps { pattern_is_linear self.now ≡ true
-            → OnOk result (count.new.made
-            ≤ count.old.made + search_bound self.now (length text.now)) }
-        ensures rises { OnOk result (count.old.made ≤ count.new.made) }
-        ensures counted { IfOk result (λ found. found ≡ true → count.old.made < count.new.made) }
+            → OnOk result (meter.new.made
+            ≤ meter.old.made + search_bound self.now (length text.now)) }
+        ensures advances { Advances meter.old meter.new }
+        ensures stops { IfErr result (StopsAt meter.new) }
+        ensures counted { IfOk result (λ found. found ≡ true → meter.old.made < meter.new.made) }
     {
         if known.rules_out(place) {
             return Ok(false);
@@ -433,7 +401,7 @@ impl Regex {
             return Ok(false);
         }
         let pattern = self.body.text.as_str();
-        region.find_known(program, pattern, text, place, known, depths, count)
+        region.find_known(program, pattern, text, place, known, depths, meter)
     }
 
     /// Searches as `search_into` does, where a region is perhaps lent. Without one the memory of the search is let go.
@@ -475,8 +443,8 @@ impl Regex {
         let pattern = self.body.text.as_str();
         let mut known = Prospect::new();
         let mut depths = Depths::new(alloc);
-        let mut count = TurnCount::none();
-        begins_known(
+        let mut meter = Meter::unlimited();
+        match begins_known(
             &mut search,
             program,
             pattern,
@@ -484,8 +452,11 @@ impl Regex {
             0,
             &mut known,
             &mut depths,
-            &mut count,
-        )
+            &mut meter,
+        ) {
+            Ok(found) => Ok(found),
+            Err(_) => Err(AllocError),
+        }
     }
 }
 

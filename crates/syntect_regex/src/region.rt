@@ -1,22 +1,24 @@
 //! Where the groups of a match stand.
-ghost use Rattle.std.specs.Prelude.{◌≡◌, ◌≤◌, ◌<◌, ◌↔◌, ℕ, List, true, [], IfOk, OnErr, OnOk, None, length, slice_index_or};
+ghost use Rattle.std.specs.Prelude.{◌≡◌, ◌≤◌, ◌<◌, ◌↔◌, ℕ, List, true, [], IfErr, IfOk, OnErr, OnOk, None, length, slice_index_or};
 ghost use Rattle.syntect_pattern.specs.Matches.{Groups};
 ghost use Rattle.syntect_seek.specs.Bounds.{IsWithinBound};
 ghost use Rattle.syntect_pattern_reader.specs.Compiled.{IsCompiled};
 ghost use Rattle.syntect_seek.specs.Depths.{AreDepthsIn};
 ghost use Rattle.syntect_seek.specs.Prospect.{IsProspectOf};
-ghost use Rattle.syntect_regex.specs.Region.{Takes, TakesHere, TakesNear, same_groups, same_groups-equiv};
+ghost use Rattle.syntect_meter.specs.Meter.{Advances, StopsAt};
+ghost use Rattle.syntect_regex.specs.Region.{Takes, TakesHere, same_groups, same_groups-equiv};
 ghost use Rattle.std.specs.Cmp.{partial_equiv_from_equiv};
 
 use std::alloc::{AllocError, Global};
 use std::marker::Model;
 use std::mem;
 use syntect_engine::state::{Search, Span};
+use syntect_meter::meter::Meter;
+use syntect_meter::stop::Stop;
 use syntect_pattern_table::program::Program;
 use syntect_seek::depths::Depths;
 use syntect_seek::prospect::Prospect;
-use syntect_seek::seek::{begins_known, find, find_up_to};
-use syntect_turns::count::TurnCount;
+use syntect_seek::seek::{begins_known, find};
 
 /// Where each group of a match stands, from 0, which is the whole match. A region also keeps the memory of the last search
 /// for the next one: to search many times, hand in the same one.
@@ -87,46 +89,21 @@ impl Region {
         size: usize,
         text: &str,
         begin: usize,
-        count: &mut TurnCount,
-    ) -> Result<bool, AllocError>
+        meter: &mut Meter,
+    ) -> Result<bool, Stop>
         ensures found { IfOk result (λ b. Takes text.now program.now begin self.old b self.new) }
         ensures err { OnErr result (self.new ≡ self.old) }
         ensures steps { OnOk result (IsWithinBound program.now size (length text.now)
-            count.old.made count.new.made) }
-        ensures rises { OnOk result (count.old.made ≤ count.new.made) }
-        ensures counted { IfOk result (λ found. found ≡ true → count.old.made < count.new.made) }
+            meter.old.made meter.new.made) }
+        ensures advances { Advances meter.old meter.new }
+        ensures stops { IfErr result (StopsAt meter.new) }
+        ensures counted { IfOk result (λ found. found ≡ true → meter.old.made < meter.new.made) }
     {
-        let found = find(&mut self.search, program, size, text, begin, count)?;
+        let found = find(&mut self.search, program, size, text, begin, meter)?;
         if found {
             mem::swap(&mut self.positions, &mut self.search.groups);
         }
         Ok(found)
-    }
-
-    /// The same for the places from `begin` to `last` alone.
-    pub(crate) fn find_up_to(
-        &mut self,
-        program: &Program,
-        size: usize,
-        text: &str,
-        begin: usize,
-        last: usize,
-        count: &mut TurnCount,
-    ) -> Result<bool, AllocError>
-        requires { begin ≤ last }
-        ensures found { IfOk result
-            (λ b. TakesNear text.now program.now begin last self.old b self.new) }
-        ensures err { OnErr result (self.new ≡ self.old) }
-        ensures steps { OnOk result (IsWithinBound program.now size (length text.now)
-            count.old.made count.new.made) }
-        ensures rises { OnOk result (count.old.made ≤ count.new.made) }
-        ensures counted { IfOk result (λ found. found ≡ true → count.old.made < count.new.made) }
-    {
-        let is_found = find_up_to(&mut self.search, program, size, text, begin, last, count)?;
-        if is_found {
-            mem::swap(&mut self.positions, &mut self.search.groups);
-        }
-        Ok(is_found)
     }
 
     /// The same for this place alone of a text in which the pattern is tried at place after place, by what is known of it there,
@@ -139,8 +116,8 @@ impl Region {
         place: usize,
         known: &mut Prospect,
         depths: &mut Depths,
-        count: &mut TurnCount,
-    ) -> Result<bool, AllocError>
+        meter: &mut Meter,
+    ) -> Result<bool, Stop>
         requires program { IsCompiled pattern.now program.now }
         requires depths { AreDepthsIn text.now depths.old }
         ensures found { IfOk result
@@ -150,12 +127,13 @@ impl Region {
         ensures depths { OnOk result (AreDepthsIn text.now depths.new) }
         ensures err { OnErr result (self.new ≡ self.old) }
         ensures steps { OnOk result (IsWithinBound program.now (length pattern.now)
-            (length text.now) count.old.made count.new.made) }
-        ensures rises { OnOk result (count.old.made ≤ count.new.made) }
-        ensures counted { IfOk result (λ found. found ≡ true → count.old.made < count.new.made) }
+            (length text.now) meter.old.made meter.new.made) }
+        ensures advances { Advances meter.old meter.new }
+        ensures stops { IfErr result (StopsAt meter.new) }
+        ensures counted { IfOk result (λ found. found ≡ true → meter.old.made < meter.new.made) }
     {
         let search = &mut self.search;
-        let is_here = begins_known(search, program, pattern, text, place, known, depths, count)?;
+        let is_here = begins_known(search, program, pattern, text, place, known, depths, meter)?;
         if is_here {
             mem::swap(&mut self.positions, &mut self.search.groups);
         }

@@ -1,6 +1,8 @@
 //! Regions, copies of patterns, and searches whose steps are counted.
 use crate::found::{equal, holds};
 use std::process::Abort;
+use syntect_meter::meter::Meter;
+use syntect_meter::stop::Stop;
 use syntect_pattern_table::starts::is_in;
 use syntect_regex::regex::Regex;
 use syntect_regex::region::Region;
@@ -113,19 +115,6 @@ fn tells_where_a_match_begins(rt: HostRuntime) {
     equal(&rt, region.pos(0), Some((1, 2)));
 }
 
-/// Of the letters `b` in `abcb` those up to a place are looked for.
-#[test]
-fn searches_up_to_a_place(rt: HostRuntime) {
-    let text = String::from_str(rt.alloc(), "b").expect(&rt, "memory");
-    let regex = Regex::new(rt.alloc(), text).expect(&rt, "memory");
-    let mut region = Region::default(rt.alloc());
-    for (begin, last, wanted) in [(0, 1, true), (2, 2, false), (2, 3, true), (4, 4, false)] {
-        let found = regex.search_up_to("abcb", begin, last, &mut region);
-        equal(&rt, found.expect(&rt, "memory"), wanted);
-    }
-    equal(&rt, region.pos(0), Some((3, 4)));
-}
-
 /// A pattern of which each search is bounded, and the others.
 #[test]
 fn tells_which_patterns_are_linear(rt: HostRuntime) {
@@ -220,8 +209,6 @@ fn counts_the_steps_of_a_search(rt: HostRuntime) {
     let line = "aaaaaaaaaaaaaaaaaaaaaaaaaaaaaaaaaaaaaaaacb";
     let found = regex.search_counted(line, 0, 42, &mut region, &mut count);
     equal(&rt, found.expect(&rt, "memory"), false);
-    let found = regex.search_up_to_counted(line, 0, 5, &mut region, &mut count);
-    equal(&rt, found.expect(&rt, "memory"), false);
     let found = regex.match_at_counted(line, 0, &mut region, &mut count);
     equal(&rt, found.expect(&rt, "memory"), false);
     let found = regex.search_counted("aab", 1, 3, &mut region, &mut count);
@@ -236,21 +223,21 @@ fn tries_a_pattern_by_what_is_known(rt: HostRuntime) {
     let text = String::from_str(rt.alloc(), "a+b").expect(&rt, "memory");
     let regex = Regex::new(rt.alloc(), text).expect(&rt, "memory");
     let mut region = Region::default(rt.alloc());
-    let mut count = TurnCount::none();
+    let mut meter = Meter::unlimited();
     let mut known = Prospect::new();
     let mut depths = Depths::new(rt.alloc());
     let line = "aabaa";
-    let found = regex.match_at_known(line, 1, &mut known, &mut depths, &mut region, &mut count);
+    let found = regex.match_at_known(line, 1, &mut known, &mut depths, &mut region, &mut meter);
     equal(&rt, found.expect(&rt, "memory"), true);
-    let found = regex.match_at_known(line, 3, &mut known, &mut depths, &mut region, &mut count);
+    let found = regex.match_at_known(line, 3, &mut known, &mut depths, &mut region, &mut meter);
     equal(&rt, found.expect(&rt, "memory"), false);
-    let found = regex.match_at_known(line, 4, &mut known, &mut depths, &mut region, &mut count);
+    let found = regex.match_at_known(line, 4, &mut known, &mut depths, &mut region, &mut meter);
     equal(&rt, found.expect(&rt, "memory"), false);
     equal(&rt, region.pos(0), Some((1, 3)));
     // Of another text something else is known
     known = Prospect::new();
     depths.forget();
-    let found = regex.match_at_known("aaaab", 3, &mut known, &mut depths, &mut region, &mut count);
+    let found = regex.match_at_known("aaaab", 3, &mut known, &mut depths, &mut region, &mut meter);
     equal(&rt, found.expect(&rt, "memory"), true);
     equal(&rt, region.pos(0), Some((3, 5)));
 }
@@ -269,20 +256,20 @@ fn pattern_of(rt: &(impl Abort + AllocGlobal), text: &str) -> Regex {
 fn tries_a_pattern_by_a_plan_that_is_kept(rt: HostRuntime) {
     let regex = pattern_of(&rt, "(a+)+c");
     let mut region = Region::default(rt.alloc());
-    let mut count = TurnCount::none();
+    let mut meter = Meter::unlimited();
     let mut known = Prospect::new();
     let mut depths = Depths::new(rt.alloc());
-    let found = regex.match_at_known(TRAP, 0, &mut known, &mut depths, &mut region, &mut count);
+    let found = regex.match_at_known(TRAP, 0, &mut known, &mut depths, &mut region, &mut meter);
     equal(&rt, found.expect(&rt, "memory"), false);
-    let found = regex.match_at_known(TRAP, 39, &mut known, &mut depths, &mut region, &mut count);
+    let found = regex.match_at_known(TRAP, 39, &mut known, &mut depths, &mut region, &mut meter);
     equal(&rt, found.expect(&rt, "memory"), false);
-    let found = regex.match_at_known(TRAP, 41, &mut known, &mut depths, &mut region, &mut count);
+    let found = regex.match_at_known(TRAP, 41, &mut known, &mut depths, &mut region, &mut meter);
     equal(&rt, found.expect(&rt, "memory"), true);
     equal(&rt, region.pos(0), Some((41, 44)));
-    let found = regex.match_at_known(TRAP, 42, &mut known, &mut depths, &mut region, &mut count);
+    let found = regex.match_at_known(TRAP, 42, &mut known, &mut depths, &mut region, &mut meter);
     equal(&rt, found.expect(&rt, "memory"), true);
     equal(&rt, region.pos(1), Some((42, 43)));
-    let found = regex.match_at_known(TRAP, 43, &mut known, &mut depths, &mut region, &mut count);
+    let found = regex.match_at_known(TRAP, 43, &mut known, &mut depths, &mut region, &mut meter);
     equal(&rt, found.expect(&rt, "memory"), false);
 }
 
@@ -292,19 +279,52 @@ fn tries_each_pattern_by_its_own_plan(rt: HostRuntime) {
     let first = pattern_of(&rt, "(a+)+c");
     let second = pattern_of(&rt, "(a+)+b");
     let mut region = Region::default(rt.alloc());
-    let mut count = TurnCount::none();
+    let mut meter = Meter::unlimited();
     let mut known = Prospect::new();
     let mut other = Prospect::new();
     let mut depths = Depths::new(rt.alloc());
-    let found = first.match_at_known(TRAP, 0, &mut known, &mut depths, &mut region, &mut count);
+    let found = first.match_at_known(TRAP, 0, &mut known, &mut depths, &mut region, &mut meter);
     equal(&rt, found.expect(&rt, "memory"), false);
-    let found = second.match_at_known(TRAP, 0, &mut other, &mut depths, &mut region, &mut count);
+    let found = second.match_at_known(TRAP, 0, &mut other, &mut depths, &mut region, &mut meter);
     equal(&rt, found.expect(&rt, "memory"), false);
-    let found = second.match_at_known(TRAP, 41, &mut other, &mut depths, &mut region, &mut count);
+    let found = second.match_at_known(TRAP, 41, &mut other, &mut depths, &mut region, &mut meter);
     equal(&rt, found.expect(&rt, "memory"), false);
-    let found = first.match_at_known(TRAP, 41, &mut known, &mut depths, &mut region, &mut count);
+    let found = first.match_at_known(TRAP, 41, &mut known, &mut depths, &mut region, &mut meter);
     equal(&rt, found.expect(&rt, "memory"), true);
     equal(&rt, region.pos(0), Some((41, 44)));
+}
+
+/// A search stops where its steps are spent, also one of a pattern that has no plan, and leaves the region as it was.
+#[test]
+fn stops_where_no_step_is_left(rt: HostRuntime) {
+    let texts = ["(a+)+c", "(a+)+\\1c"];
+    for text in texts {
+        let regex = pattern_of(&rt, text);
+        let mut region = Region::default(rt.alloc());
+        let mut meter = Meter::within(100);
+        let mut known = Prospect::new();
+        let mut depths = Depths::new(rt.alloc());
+        let told = regex.match_at_known(TRAP, 0, &mut known, &mut depths, &mut region, &mut meter);
+        equal(&rt, told, Err(Stop::Spent));
+        equal(&rt, meter.left(), Some(0));
+        equal(&rt, region.pos(0), None);
+    }
+}
+
+/// With steps enough the answer is that of a search without a limit, and some are left.
+#[test]
+fn answers_within_its_steps(rt: HostRuntime) {
+    let regex = pattern_of(&rt, "(a+)+c");
+    let mut region = Region::default(rt.alloc());
+    let mut meter = Meter::within(1_000_000);
+    let mut known = Prospect::new();
+    let mut depths = Depths::new(rt.alloc());
+    let told = regex.match_at_known(TRAP, 0, &mut known, &mut depths, &mut region, &mut meter);
+    equal(&rt, told.expect(&rt, "an answer"), false);
+    let told = regex.match_at_known(TRAP, 41, &mut known, &mut depths, &mut region, &mut meter);
+    equal(&rt, told.expect(&rt, "an answer"), true);
+    equal(&rt, region.pos(0), Some((41, 44)));
+    holds(&rt, meter.left() != Some(0));
 }
 
 /// A plan of some 36000 cells, each of which goes on with the next where the line ends. What each comes to there is worked out

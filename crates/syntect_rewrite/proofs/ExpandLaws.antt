@@ -6,7 +6,8 @@ use Rattle.std.specs.Str.{bytes_eq}
 use Rattle.syntect_rewrite.specs.Cutting.{char_len, parts}
 use Rattle.syntect_rewrite.specs.Variables.{Variables, Part, itself, use_of, is_use, name_len, name, part_len, part, without, value_by, written_by, expanded_within, expanded}
 use Rattle.syntect_rewrite.specs.declared.expand.Frame.{Frame}
-use Rattle.syntect_rewrite.specs.Expanding.{marked_value, marked_part, marked_within, marked, inner, left}
+use Rattle.syntect_rewrite.specs.Marking.{marked_value, marked_part, marked_within, marked}
+use Rattle.syntect_rewrite.specs.Expanding.{inner, left}
 use Rattle.syntect_rewrite.proofs.CuttingLaws.{flat-cons, parts-none, char_some}
 use Rattle.syntect_rewrite.proofs.VariableLaws.{without-lt}
 

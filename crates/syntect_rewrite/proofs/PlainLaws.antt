@@ -8,9 +8,11 @@ use Rattle.syntect_rewrite.specs.Cutting.{parts}
 use Rattle.syntect_rewrite.specs.Replacing.{brackets, replaced, replacement, word_len}
 use Rattle.syntect_rewrite.specs.Newlines.{anchored, anchored_token}
 use Rattle.syntect_rewrite.specs.Tokens.{token, token_len}
-use Rattle.syntect_rewrite.specs.Variables.{Variables, expanded, expanded_within, is_use, part, part_len, written_by}
+use Rattle.syntect_rewrite.specs.Marking.{marked_part, marked_within, marked}
+use Rattle.syntect_rewrite.specs.Variables.{Variables, expanded, is_use, part, part_len}
 use Rattle.syntect_rewrite.specs.Views.{IsNoWord}
 use Rattle.syntect_rewrite.proofs.CuttingLaws.{char_some, first-take, flat-cons, parts-none}
+use Rattle.syntect_rewrite.proofs.ExpandLaws.{without_mark}
 use Rattle.syntect_rewrite.proofs.NewlineLaws.{anchored_is, token_some}
 
 -- the byte stands nowhere in the text
@@ -73,12 +75,15 @@ no_use : (t : List ℕ) → (get_or t 0 0 == 123) ≡ false → is_use t ≡ fal
 unfolding is_use
 no_use t e = rw e refl
 
-pub expanded_plain : (us : Variables) (t : List ℕ) → Lacks 123 t → expanded us t ≡ t
-unfolding expanded
-expanded_plain us t e =
-    stays 123 (written_by (expanded_within (length us)) us) part_len part
+pub marked_plain : (mark : List ℕ) (us : Variables) (t : List ℕ) → Lacks 123 t → marked mark us t ≡ t
+unfolding marked
+marked_plain mark us t e =
+    stays 123 (marked_part mark (marked_within mark (length us)) us) part_len part
     (λ s some f. let u = no_use s f in (rw u (char_some s some), rw u refl))
     (length t) t (omega arith) e
+
+pub expanded_plain : (us : Variables) (t : List ℕ) → Lacks 123 t → expanded us t ≡ t
+expanded_plain us t e = sym (without_mark us t) ∙ marked_plain [] us t e
 
 -- ---- the ends of lines ----
 

@@ -1,5 +1,5 @@
 -- What is left to write, and what is remembered, from turn to turn.
-use Rattle.std.proofs.Common.{◌≡◌, ℕ, ◌<◌, ◌≤◌, ◌+◌, Bool, true, false, List, [], ◌∷◌, ◌++◌, length, take, drop, Option, Some, None, refl, sym, ap, ◌∙◌, inl, inr, subst, arith, append-nil, length-append}
+use Rattle.std.proofs.Common.{◌≡◌, ℕ, ◌<◌, ◌≤◌, ◌+◌, Bool, true, false, List, [], ◌∷◌, ◌++◌, length, take, drop, Option, Some, None, MatchOption, refl, sym, ap, ◌∙◌, inl, inr, subst, arith, append-nil, length-append}
 use Rattle.std.proofs.lemmas.Bool.{true≢false}
 use Rattle.std.proofs.lemmas.Bool.Decides.{eqb_tells}
 use lib.Dec.{eqb}
@@ -8,7 +8,8 @@ use Rattle.std.specs.Str.{bytes_eq}
 use Rattle.syntect_rewrite.specs.Cutting.{char_len}
 use Rattle.syntect_rewrite.specs.Variables.{Variables, is_use, name_len, name, without, value_by, expanded}
 use Rattle.syntect_rewrite.specs.declared.expand.Frame.{Frame}
-use Rattle.syntect_rewrite.specs.Expanding.{marked_value, marked, inner, left, turns, Vanishes, AllVanish, AreTraced, Enters, Closes}
+use Rattle.syntect_rewrite.specs.Marking.{marked_value, marked}
+use Rattle.syntect_rewrite.specs.Expanding.{inner, left, turns, Vanishes, AllVanish, AreTraced, BeginsWithUse, GoesInto, Enters, Closes}
 use Rattle.syntect_rewrite.proofs.ExpandLaws.{without_mark, marked-use, marked-char, marked-none, left-write, left-open, left-close}
 use Rattle.syntect_rewrite.proofs.VanishLaws.{marked-value, all-fewer}
 
@@ -48,11 +49,11 @@ traced-more vs (f ∷ fs) t u n m lt a =
 
 -- ---- turns
 
-marked_some : (vs : Variables) (name : List ℕ) (o : Option (List ℕ)) → 0 < length (marked_value (0 ∷ []) (marked (0 ∷ [])) vs name o)
+pub marked_some : (vs : Variables) (name : List ℕ) (o : Option (List ℕ)) → 0 < length (marked_value (0 ∷ []) (marked (0 ∷ [])) vs name o)
 marked_some vs name None = omega arith
 marked_some vs name (Some text) = omega arith
 
-written_falls : (vs : Variables) (fs gs : List Frame) (t u x : List ℕ) → left (0 ∷ []) vs fs t ≡ x ++ left (0 ∷ []) vs gs u → 0 < length x → length gs ≤ length fs + 1 → turns vs gs u < turns vs fs t
+pub written_falls : (vs : Variables) (fs gs : List Frame) (t u x : List ℕ) → left (0 ∷ []) vs fs t ≡ x ++ left (0 ∷ []) vs gs u → 0 < length x → length gs ≤ length fs + 1 → turns vs gs u < turns vs fs t
 written_falls vs fs gs t u x e some deep =
     let more : length (left (0 ∷ []) vs fs t) ≡ length x + length (left (0 ∷ []) vs gs u) = ap length e ∙ length-append x (left (0 ∷ []) vs gs u) in
     omega arith
@@ -84,8 +85,27 @@ pub enter-push : (vs : Variables) (fs gs : List Frame) (known : List (List ℕ �
 enter-push vs fs gs known n g text next e l all s f =
     subst (λ hs. Enters vs fs known n g.name g.rest.now hs next) (sym e) (subst (Enters vs fs known n g.name g.rest.now (fs ++ g ∷ [])) (sym l) (enter-some vs fs known n g text all s f))
 
+-- ---- a use that is gone into
+
+pub into-none : (vs : Variables) (fs : List Frame) (name after : List ℕ) → lookup (bytes_eq name) (inner vs fs) ≡ None → GoesInto vs fs name after fs after
+into-none vs fs name after e t h mark =
+    let us = inner vs fs in
+    left-write mark mark vs fs t after (h mark us ∙ ap (λ o. marked_value mark (marked mark) us name o ++ marked mark us after) e)
+
+into-some : (vs : Variables) (fs : List Frame) (g : Frame) (text : List ℕ) → lookup (bytes_eq g.name) (inner vs fs) ≡ Some text → GoesInto vs fs g.name g.rest.now (fs ++ g ∷ []) text
+into-some vs fs g text e t h mark =
+    let us = inner vs fs in
+    left-open mark vs fs g t text (h mark us ∙ ap (λ o. marked_value mark (marked mark) us g.name o ++ marked mark us g.rest.now) e)
+
+pub into-push : (vs : Variables) (fs gs : List Frame) (g : Frame) (text next : List ℕ) → gs ≡ fs ++ g ∷ [] → next ≡ text → lookup (bytes_eq g.name) (inner vs fs) ≡ Some text → GoesInto vs fs g.name g.rest.now gs next
+into-push vs fs gs g text next e l f =
+    subst (λ hs. GoesInto vs fs g.name g.rest.now hs next) (sym e) (subst (GoesInto vs fs g.name g.rest.now (fs ++ g ∷ [])) (sym l) (into-some vs fs g text f))
+
+pub deeper-push : (fs gs : List Frame) (g : Frame) → gs ≡ fs ++ g ∷ [] → length gs ≤ length fs + 1
+deeper-push fs gs g e = omega (arith, ap length e, length-append fs (g ∷ []))
+
 -- the use at the front of a text
-pub is-use : (t name_now after : List ℕ) → 0 < length t → is_use t ≡ true → name_now ≡ name t → after ≡ drop (name_len t + 4) t → (mark : List ℕ) (us : Variables) → marked mark us t ≡ marked_value mark (marked mark) us name_now (lookup (bytes_eq name_now) us) ++ marked mark us after
+pub is-use : (t name_now after : List ℕ) → 0 < length t → is_use t ≡ true → name_now ≡ name t → after ≡ drop (name_len t + 4) t → BeginsWithUse name_now after t
 is-use t name_now after some e n a mark us =
     marked-use mark us t some e
     ∙ ap (λ (x : List ℕ). marked_value mark (marked mark) us x (lookup (bytes_eq x) us) ++ marked mark us (drop (name_len t + 4) t)) (sym n)
@@ -120,6 +140,9 @@ close-pop fs gs g known later n e h vs t none a all =
       traced-close vs gs g t n none traced,
       h (inner vs gs) (traced-last vs gs g t n none traced) vanish,
     )
+
+pub last-taken : (fs gs : List Frame) (o : Option Frame) (g : Frame) → o ≡ Some g → MatchOption o (length fs ≡ 0) (λ f. fs ≡ gs ++ f ∷ []) → fs ≡ gs ++ g ∷ []
+last-taken fs gs o g e h = subst (λ (x : Option Frame). MatchOption x (length fs ≡ 0) (λ f. fs ≡ gs ++ f ∷ [])) e h
 
 -- ---- the whole
 

@@ -13,7 +13,8 @@ use Rattle.std.specs.Ordering.{nat_cmp}
 use Rattle.std.specs.Str.{bytes_eq}
 use Rattle.syntect_rewrite.specs.Cutting.{parts}
 use Rattle.syntect_rewrite.specs.Variables.{Variables, Part, itself, use_of, part_len, part, without, value_by, written_by, expanded_within, expanded}
-use Rattle.syntect_rewrite.specs.Expanding.{marked_value, marked, Vanishes, AllVanish}
+use Rattle.syntect_rewrite.specs.Marking.{marked_value, marked}
+use Rattle.syntect_rewrite.specs.Expanding.{Vanishes, AllVanish}
 use Rattle.syntect_rewrite.proofs.VariableLaws.{cases, same_text, without-le, lookup-without, lookup_by_order}
 use Rattle.syntect_rewrite.proofs.ExpandLaws.{plain_within, without_mark, room}
 

@@ -1,30 +1,10 @@
 -- What is left to write while variables are expanded.
-use Rattle.std.specs.Prelude.{◌≡◌, ℕ, zero, suc, ◌+◌, ◌*◌, ◌<◌, ◌≤◌, Bool, false, ⊤, List, [], ◌∷◌, ◌++◌, length, flat_map, bytes_eq, Option, Some, None, unwrap_or}
+use Rattle.std.specs.Prelude.{◌≡◌, ℕ, ◌+◌, ◌*◌, ◌<◌, ◌≤◌, Bool, false, ⊤, List, [], ◌∷◌, ◌++◌, length, bytes_eq, unwrap_or}
 use Rattle.std.specs.List.{All, list_any}
 use Rattle.std.specs.Map.{lookup, keys_of}
-use Rattle.syntect_rewrite.specs.Cutting.{parts}
-use Rattle.syntect_rewrite.specs.Variables.{Variables, Part, itself, use_of, part_len, part, without, value_by, expanded}
+use Rattle.syntect_rewrite.specs.Marking.{marked_value, marked}
+use Rattle.syntect_rewrite.specs.Variables.{Variables, without, value_by, expanded}
 use Rattle.syntect_rewrite.specs.declared.expand.Frame.{Frame}
-
--- for the use of a variable a mark is written, and then its text
-abbrev pub marked_value : List ℕ → (Variables → List ℕ → List ℕ) → Variables → List ℕ
-    → Option (List ℕ) → List ℕ
-marked_value mark expand variables name None = mark
-marked_value mark expand variables name (Some text) = mark ++ expand (without name variables) text
-
-abbrev pub marked_part : List ℕ → (Variables → List ℕ → List ℕ) → Variables → Part → List ℕ
-marked_part mark expand variables (itself c) = c
-marked_part mark expand variables (use_of name) =
-    marked_value mark expand variables name (lookup (bytes_eq name) variables)
-
-abbrev pub marked_within : List ℕ → ℕ → Variables → List ℕ → List ℕ
-marked_within mark zero variables t = []
-marked_within mark (suc n) variables t =
-    flat_map (marked_part mark (marked_within mark n) variables) (parts part_len part t)
-
--- a text with its variables expanded, with a mark for each use
-unfoldable pub marked : List ℕ → Variables → List ℕ → List ℕ
-marked mark variables t = marked_within mark (suc (length variables)) variables t
 
 -- the variables that may be used in the text of the last frame's
 abbrev pub inner : Variables → List Frame → Variables
@@ -80,15 +60,28 @@ AreTraced variables (f ∷ fs) t written =
     (f.start ≡ written → left [] (without f.name variables) fs t ≡ use_value variables f.name)
     × (f.start ≤ written) × AreTraced (without f.name variables) fs t written
 
--- Behind the use of a variable the text `after` follows. From the frames fs a step is made to the frames gs and what is
--- read there, by which nothing is written, and which is one of the turns.
+-- the text t begins with the use of a variable of this name, behind which another follows
+abbrev pub BeginsWithUse : List ℕ → List ℕ → List ℕ → Type 0
+BeginsWithUse name after t =
+    (mark : List ℕ) (us : Variables)
+    → marked mark us t
+    ≡ marked_value mark (marked mark) us name (lookup (bytes_eq name) us) ++ marked mark us after
+
+-- Behind the use of a variable the text `after` follows. From the frames fs a step is made to the frames gs and what is read
+-- there, by which the use's mark alone is written.
+abbrev pub GoesInto : Variables → List Frame → List ℕ → List ℕ → List Frame → List ℕ → Type 0
+GoesInto variables fs name after gs next =
+    (t : List ℕ)
+    → BeginsWithUse name after t
+    → (mark : List ℕ) → left mark variables fs t ≡ mark ++ left mark variables gs next
+
+-- Behind the use of a variable the text `after` follows. From the frames fs a step is made to the frames gs and what is read
+-- there, by which nothing is written, and which is one of the turns.
 abbrev pub Enters : Variables → List Frame → List (List ℕ × Bool) → ℕ → List ℕ → List ℕ → List Frame
     → List ℕ → Type 0
 Enters variables fs known written name after gs next =
     (t : List ℕ)
-    → ((mark : List ℕ) (us : Variables)
-    → marked mark us t ≡ marked_value mark (marked mark) us name (lookup (bytes_eq name) us)
-    ++ marked mark us after)
+    → BeginsWithUse name after t
     → AreTraced variables fs t written
     → (left [] variables fs t ≡ left [] variables gs next)
     × (turns variables gs next < turns variables fs t) × AreTraced variables gs next written

@@ -5,6 +5,7 @@ pub mod Tokens
 pub mod Newlines
 pub mod Testing
 pub mod Rewriting
+pub mod Marking
 pub mod Expanding
 pub mod Views
 pub mod Lengths

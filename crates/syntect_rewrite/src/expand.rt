@@ -1,5 +1,5 @@
 //! Variables, expanded.
-ghost use Rattle.std.specs.Prelude.{◌≡◌, ◌<◌, ◌≤◌, ◌+◌, ◌++◌, [], List, IsTrue, IsOk, IfOk, IfSome, MatchOption, length, drop, option_map, string_bytes, true, false, None};
+ghost use Rattle.std.specs.Prelude.{◌≡◌, ℕ, Bool, ◌<◌, ◌≤◌, ◌+◌, ◌++◌, [], ◌∷◌, List, IsTrue, IsOk, IfOk, IfSome, MatchOption, length, drop, option_map, string_bytes, true, false, None};
 ghost use Rattle.std.specs.Map.{lookup};
 ghost use Rattle.std.specs.BTreeMap.{insert_entry};
 ghost use Rattle.std.specs.Cmp.Lexicographic.{slice_cmp};
@@ -8,7 +8,7 @@ ghost use Rattle.std.specs.Str.{bytes_eq};
 ghost use Rattle.std.specs.List.{prefix_len};
 ghost use Rattle.syntect_rewrite.specs.Variables as uses;
 ghost use Rattle.syntect_rewrite.specs.Variables.{Variables, without};
-ghost use Rattle.syntect_rewrite.specs.Expanding.{inner, left, turns, is_open, AreOpen, Vanishes, AllVanish, AreTraced, Enters, Closes};
+ghost use Rattle.syntect_rewrite.specs.Expanding.{inner, left, turns, is_open, AreOpen, Vanishes, AllVanish, AreTraced, GoesInto, Enters, Closes};
 ghost use Rattle.syntect_rewrite.specs.declared.expand.Frame.{Frame as AFrame};
 
 use crate::signs::{byte_at, char_len, first, skip};
@@ -20,7 +20,7 @@ use syntect_values::text::Text;
 #[derive(Drop)]
 pub(crate) struct Frame<'a> {
     name: Text,
-    rest: &'a str,
+    pub(crate) rest: &'a str,
     start: usize,
 }
 
@@ -116,9 +116,42 @@ fn vanishes(known: &Table<Text, bool>, name: &Text) -> bool
     known.get(name).is_some()
 }
 
+/// Goes into the text of a variable, unless that is being read: what is to be read next.
+pub(crate) fn go_into<'a>(
+    variables: &'a Table<Text, Text>,
+    frames: &mut Vec<Frame<'a>>,
+    marks: &mut Table<Text, bool>,
+    written: usize,
+    name: Text,
+    after: &'a str,
+) -> Result<&'a str, AllocError>
+    requires { AreOpen marks.now frames.now.items }
+    ensures kept { IfOk result
+        (λ r. GoesInto variables.now frames.old.items name after.now frames.new.items r.now) }
+    ensures deeper { IfOk result (λ r. length frames.new.items ≤ length frames.old.items + 1) }
+    ensures enters { IfOk result (λ r. (known : List (List ℕ × Bool))
+        → AllVanish (inner variables.now frames.old.items) known
+        → Enters variables.now frames.old.items known written name
+        after.now frames.new.items r.now) }
+    ensures marked { IfOk result (λ r. AreOpen marks.new frames.new.items) }
+{
+    match value_of(variables, marks, &name) {
+        Some(value) => {
+            mark(marks, name.clone()?, true)?;
+            frames.push(Frame {
+                name,
+                rest: after,
+                start: written,
+            })?;
+            Ok(value.as_str())
+        }
+        None => Ok(after),
+    }
+}
+
 /// Goes into the text of a variable, unless that is being read or its use is remembered to stand for nothing: what is to be
 /// read next.
-pub(crate) fn enter<'a>(
+fn enter<'a>(
     variables: &'a Table<Text, Text>,
     frames: &mut Vec<Frame<'a>>,
     marks: &mut Table<Text, bool>,
@@ -136,18 +169,7 @@ pub(crate) fn enter<'a>(
     if vanishes(known, &name) {
         return Ok(after);
     }
-    match value_of(variables, marks, &name) {
-        Some(value) => {
-            mark(marks, name.clone()?, true)?;
-            frames.push(Frame {
-                name,
-                rest: after,
-                start: written,
-            })?;
-            Ok(value.as_str())
-        }
-        None => Ok(after),
-    }
+    go_into(variables, frames, marks, written, name, after)
 }
 
 /// Remembers that the use of a name stands for nothing.
@@ -179,8 +201,25 @@ fn settle(
     Ok(())
 }
 
+/// Takes the last frame away, if there is one.
+pub(crate) fn leave<'a>(
+    frames: &mut Vec<Frame<'a>>,
+    marks: &mut Table<Text, bool>,
+) -> Result<Option<Frame<'a>>, AllocError>
+    requires { AreOpen marks.now frames.now.items }
+    ensures taken { IfOk result (λ o. MatchOption o (length frames.old.items ≡ 0)
+        (λ f. frames.old.items ≡ frames.new.items ++ f ∷ [])) }
+    ensures marked { IfOk result (λ o. IfSome o (λ r. AreOpen marks.new frames.new.items)) }
+{
+    let Some(frame) = frames.pop() else {
+        return Ok(None);
+    };
+    mark(marks, frame.name.clone()?, false)?;
+    Ok(Some(frame))
+}
+
 /// Goes back to what follows the use of the variable whose text is over, if there is one.
-pub(crate) fn close<'a>(
+fn close<'a>(
     alloc: Global,
     frames: &mut Vec<Frame<'a>>,
     marks: &mut Table<Text, bool>,
@@ -196,10 +235,9 @@ pub(crate) fn close<'a>(
         (λ o. IfSome o (λ r. length frames.old.items ≡ length frames.new.items + 1)) }
     ensures marked { IfOk result (λ o. IfSome o (λ r. AreOpen marks.new frames.new.items)) }
 {
-    let Some(Frame { name, rest, start }) = frames.pop() else {
+    let Some(Frame { name, rest, start }) = leave(frames, marks)? else {
         return Ok(None);
     };
-    mark(marks, name.clone()?, false)?;
     settle(alloc, known, name, start == written)?;
     Ok(Some(rest))
 }

@@ -1,12 +1,12 @@
 -- The repository grows at its end, and numbers stay.
-use Rattle.std.proofs.Common.{◌≡◌, ◌==◌, ℕ, zero, suc, ◌+◌, ◌≤◌, ◌<◌, Bool, true, false, List, [], ◌∷◌, ◌++◌, length, take, refl, ap, sym, ◌∙◌, ◌||◌, arith, Option, Some, None, is_some, if◌then◌else◌, length-append, append_assoc, map, drop, get_or, Bor}
+use Rattle.std.proofs.Common.{◌≡◌, ◌==◌, ℕ, zero, suc, ◌+◌, ◌≤◌, ◌<◌, Bool, true, false, List, [], ◌∷◌, ◌++◌, length, take, refl, ap, sym, ◌∙◌, ◌||◌, arith, Option, Some, None, is_some, if◌then◌else◌, not, length-append, append_assoc, map, drop, get_or, Bor}
 use Rattle.std.specs.Option.{option_map_or, option_map, unwrap_or}
 use Rattle.std.specs.Prelude.{Result, Ok, Err, IsErrOf}
 use Rattle.std.specs.List.{position_from, list_any, join_with_byte}
 use Rattle.std.proofs.lemmas.List.Folds.{list_any-append}
 use Rattle.std.proofs.lemmas.Slice.Eq.{bytes_eq-Decides}
 use Rattle.std.proofs.lemmas.Bool.Decides.{nat_tests, same_from_decides, Decides-like}
-use Rattle.std.proofs.lemmas.List.{append-nil, drop_all, length-take, take-append-le}
+use Rattle.std.proofs.lemmas.List.{append-nil, drop_all, length-take, take-append-le, take_more}
 use Rattle.std.specs.Str.{bytes_eq}
 use Rattle.syntect_scope.specs.declared.repository.ParseScopeError.TheVariants.{TooLong, TooManyAtoms}
 use Rattle.std.specs.Prelude.{nat_lt}
@@ -328,6 +328,89 @@ short_test text h = grind (arith, nat_tests)
 pub kept_more : (d : Bor (List ℕ)) {new : List (List ℕ)} (old self : List (List ℕ)) (parts : List (Bor (List ℕ))) (i : ℕ) → new ≡ with_atoms self (atom_texts (get_or parts i d).now)
     → take (length old) self ≡ old → take (length old) new ≡ old
 kept_more d {new} old self parts i e h = rw e (front_stays old self (atom_texts (get_or parts i d).now) h)
+
+-- ---- how many atoms there would be ----
+
+found_if : (b : Bool) (i : ℕ) (o : Option ℕ) (c : Bool) → is_some o ≡ c → is_some (if b then Some i else o) ≡ (b || c)
+found_if true i o c e = refl
+found_if false i o c e = e
+
+found_any : {X : Type 0} (p : X → Bool) (xs : List X) (i : ℕ) → is_some (position_from p i xs) ≡ list_any p xs
+found_any p [] i = refl
+found_any p (x ∷ xs) i = found_if (p x) i (position_from p (i + 1) xs) (list_any p xs) (found_any p xs (i + 1))
+
+or_turned : (a b c : Bool) → ((a || (b || false)) || c) ≡ (a || (b || c))
+or_turned true b c = refl
+or_turned false true c = refl
+or_turned false false c = refl
+
+or_none : (a : Bool) → (a || false) ≡ a
+or_none true = refl
+or_none false = refl
+
+or_some : (a : Bool) → (a || true) ≡ true
+or_some true = refl
+or_some false = refl
+
+-- a text is among those that stand there and the one that was taken up
+either : (t u : List ℕ) (r : List (List ℕ)) (b : Bool) → is_some (place_in r u) ≡ b → is_some (place_in (if b then r else r ++ u ∷ []) t) ≡ (is_some (place_in r t) || (bytes_eq t u || false))
+either t u r false e = found_any (bytes_eq t) (r ++ u ∷ []) 0 ∙ list_any-append (bytes_eq t) r (u ∷ []) ∙ ap (λ (b : Bool). b || (bytes_eq t u || false)) (sym (found_any (bytes_eq t) r 0))
+either t u r true e = by_case (bytes_eq t u) refl
+  where
+    by_case : (c : Bool) → bytes_eq t u ≡ c → is_some (place_in r t) ≡ (is_some (place_in r t) || (c || false))
+    by_case true s = ap (λ (x : List ℕ). is_some (place_in r x)) ((bytes_eq-Decides t u).0 s) ∙ e ∙ sym (or_some (is_some (place_in r t)))
+    by_case false s = sym (or_none (is_some (place_in r t)))
+
+stands : (t : List ℕ) (r ts : List (List ℕ)) → is_some (place_in (with_atoms r ts) t) ≡ (is_some (place_in r t) || list_any (bytes_eq t) ts)
+stands t r [] = sym (or_none (is_some (place_in r t)))
+stands t r (u ∷ ts) =
+    stands t (with_atom r u) ts
+    ∙ ap (λ (b : Bool). b || list_any (bytes_eq t) ts) (either t u r (is_some (place_in r u)) refl)
+    ∙ or_turned (is_some (place_in r t)) (bytes_eq t u) (list_any (bytes_eq t) ts)
+
+place_known : (o p : Option ℕ) (b : Bool) → o ≡ option_map (λ i. i + 1) p → is_some o ≡ b → is_some p ≡ b
+place_known o None b e h = sym (ap is_some e) ∙ h
+place_known o (Some i) b e h = sym (ap is_some e) ∙ h
+
+pub lacks_new : (r ts : List (List ℕ)) (t : List ℕ) (o : Option ℕ) → o ≡ option_map (λ i. i + 1) (place_in r t) → is_some o ≡ false → list_any (bytes_eq t) ts ≡ is_some (place_in (with_atoms r ts) t)
+lacks_new r ts t o e h = sym (stands t r ts ∙ ap (λ (b : Bool). b || list_any (bytes_eq t) ts) (place_known o (place_in r t) false e h))
+
+pub lacks_known : (r ts : List (List ℕ)) (t : List ℕ) (o : Option ℕ) → o ≡ option_map (λ i. i + 1) (place_in r t) → is_some o ≡ true → false ≡ not (is_some (place_in (with_atoms r ts) t))
+lacks_known r ts t o e h = sym (ap not (stands t r ts ∙ ap (λ (b : Bool). b || list_any (bytes_eq t) ts) (place_known o (place_in r t) true e h)))
+
+-- one more text
+with_last : (r xs : List (List ℕ)) (t : List ℕ) → with_atoms r (xs ++ t ∷ []) ≡ with_atom (with_atoms r xs) t
+with_last r [] t = refl
+with_last r (x ∷ xs) t = with_last (with_atom r x) xs t
+
+grown_if : (r : List (List ℕ)) (t : List ℕ) (b : Bool) → length (if b then r else r ++ t ∷ []) ≡ length r + (if not b then 1 else 0)
+grown_if r t true = omega arith
+grown_if r t false = length-append r (t ∷ [])
+
+grown_by : (d : List ℕ) (r texts : List (List ℕ)) (i : ℕ) → i < length texts
+    → length (with_atoms r (take (i + 1) texts)) ≡ length (with_atoms r (take i texts)) + (if not (is_some (place_in (with_atoms r (take i texts)) (get_or texts i d))) then 1 else 0)
+grown_by d r texts i l =
+    let all = with_atoms r (take i texts) in
+    let t = get_or texts i d in
+    ap (λ (ts : List (List ℕ)). length (with_atoms r ts)) (take_more texts i d l)
+    ∙ ap length (with_last r (take i texts) t)
+    ∙ grown_if all t (is_some (place_in all t))
+
+pub counted_more : (d : List ℕ) (r texts : List (List ℕ)) (i before count later : ℕ) (part : List ℕ) (lacks : Bool) → i < length texts → part ≡ get_or texts i d → before ≡ i
+    → count ≡ length (with_atoms r (take i texts)) → lacks ≡ not (is_some (place_in (with_atoms r (take before texts)) part)) → later ≡ count + (if lacks then 1 else 0) → later ≡ length (with_atoms r (take (i + 1) texts))
+counted_more d r texts i before count later part lacks l p b n k e =
+    e ∙ ap (λ (m : ℕ). m + (if lacks then 1 else 0)) n
+    ∙ ap (λ (c : Bool). length (with_atoms r (take i texts)) + (if c then 1 else 0)) (k ∙ ap (λ (m : ℕ). not (is_some (place_in (with_atoms r (take m texts)) part))) b ∙ ap (λ (t : List ℕ). not (is_some (place_in (with_atoms r (take i texts)) t))) p)
+    ∙ sym (grown_by d r texts i l)
+
+-- each text is one more at most
+one_most : (r : List (List ℕ)) (t : List ℕ) (b : Bool) → length (if b then r else r ++ t ∷ []) ≤ length r + 1
+one_most r t true = omega arith
+one_most r t false = omega (arith, length-append r (t ∷ []))
+
+pub grown_most : (r ts : List (List ℕ)) → length (with_atoms r ts) ≤ length r + length ts
+grown_most r [] = omega arith
+grown_most r (t ∷ ts) = omega (arith, grown_most (with_atom r t) ts, one_most r t (is_some (place_in r t)))
 
 -- ---- refusals of calls that answer different things ----
 

@@ -1,8 +1,8 @@
 //! The repository of atoms: their texts, each with its number.
-ghost use Rattle.std.specs.Prelude.{◌≡◌, ◌≢◌, ◌==◌, ◌<◌, ◌≤◌, ◌+◌, ◌-◌, ◌↔◌, [], ◌∷◌, ◌++◌, length, map, take, List, ℕ, IsTrue, IsErr, IfOk, OnOk, OnErr, IfErr, IsErrOf, IfSome, IfNone, string_bytes, None, Some, if◌then◌else◌, unwrap_or};
+ghost use Rattle.std.specs.Prelude.{◌≡◌, ◌≢◌, ◌==◌, ◌<◌, ◌≤◌, ◌+◌, ◌-◌, ◌↔◌, [], ◌∷◌, ◌++◌, length, map, take, List, ℕ, IsTrue, IsErr, IfOk, OnOk, OnErr, IfErr, IsErrOf, IfSome, IfNone, string_bytes, None, Some, if◌then◌else◌, unwrap_or, is_some, not, nat_lt};
 ghost use Rattle.std.specs.BTreeMap.{get_by_text};
 ghost use Rattle.std.specs.Option.{option_copied, option_map};
-ghost use Rattle.std.specs.List.{slice_split};
+ghost use Rattle.std.specs.List.{slice_split, list_any};
 ghost use Rattle.std.specs.Str.{bytes_eq, trim};
 ghost use Rattle.syntect_scope.specs.Repository.{between_dots, atom_in, atom_text, atom_texts, place_in, scope_in, scope_text, with_atom, with_atoms, with_scopes, first_refusal, MayRefuse, number_in, without_dots, IsRepository};
 ghost use Rattle.syntect_scope.specs.Stack.{plain};
@@ -23,7 +23,7 @@ pub enum ParseScopeError {
     /// It has more than eight atoms. This is tested before anything else.
     #[error("Too long scope. Scopes can be at most 8 atoms long.")]
     TooLong,
-    /// The repository is full, and the text has an atom that it lacks.
+    /// The repository has no room for all of the text's atoms that it lacks.
     #[error("Too many atoms. Max 2^16-2 atoms allowed.")]
     TooManyAtoms,
     /// There was no memory.
@@ -85,6 +85,13 @@ fn count_parts(s: &str) -> usize
     ensures { result ≡ length (between_dots s.now) }
 {
     s.split('.').count()
+}
+
+/// Whether one of a text's first parts between its dots, so many of them, is this one.
+fn stands_before(s: &str, count: usize, part: &str) -> bool
+    ensures { result ≡ list_any (bytes_eq part.now) (take count (between_dots s.now)) }
+{
+    s.split('.').take(count).any(|other| part == other)
 }
 
 /// The text without the dots at its end.
@@ -256,14 +263,55 @@ impl ScopeRepository {
         Ok(scope)
     }
 
+    /// Whether it would lack a part once it had taken up those before it, so many, in the same text.
+    fn lacks(&self, text: &str, before: usize, part: &str) -> bool
+        ensures { result ≡ not (is_some
+            (place_in (with_atoms self.now (take before (between_dots text.now))) part.now)) }
+    {
+        self.known(part).is_none() && !stands_before(text, before, part)
+    }
+
+    /// How many atoms it would have with a text's parts between its dots. Takes no memory.
+    fn count_with(&self, text: &str) -> usize
+        requires { length (between_dots text.now) ≤ 8 }
+        ensures { result ≡ length (with_atoms self.now (between_dots text.now)) }
+    {
+        self.is_whole();
+        let mut count = self.atoms.len();
+        let mut before = 0;
+        for part in text.split('.') {
+            if self.lacks(text, before, part) {
+                count += 1;
+            }
+            before += 1;
+        }
+        count
+    }
+
+    /// Why it does not take up a text's parts between its dots: they are too many, or else there was no memory.
+    fn refusal(&self, text: &str) -> ParseScopeError
+        requires { length (between_dots text.now) ≤ 8 }
+        ensures { result ≡ (if nat_lt 65534 (length (with_atoms self.now (between_dots text.now)))
+            then ParseScopeError.TooManyAtoms else ParseScopeError.Memory) }
+    {
+        if self.count_with(text) > MAX_ATOMS {
+            ParseScopeError::TooManyAtoms
+        } else {
+            ParseScopeError::Memory
+        }
+    }
+
     /// The scope of a text: its parts between dots are the atoms. Dots at the end are cut, empty parts before them
     /// are atoms, and the empty text names the scope of no atoms. Atoms that the repository lacks are taken up. A
-    /// text of more than eight atoms is `TooLong`, whatever else there is to say of it.
+    /// text of more than eight atoms is `TooLong`, whatever else there is to say of it, and one of which there is no room for all
+    /// atoms `TooManyAtoms`, also where there is no memory.
     pub fn build(&mut self, s: &str) -> Result<Scope, ParseScopeError>
         ensures atoms { OnOk result (self.new ≡ with_atoms self.old (atom_texts s.now)) }
         ensures scope { IfOk result (λ scope. scope ≡ scope_in self.new s.now) }
         ensures too_long { IsErrOf result ParseScopeError.TooLong ↔ (8 < length (atom_texts s.now)) }
-        ensures too_many { IsErrOf result ParseScopeError.TooManyAtoms → 65534 < length (with_atoms self.old (atom_texts s.now)) }
+        ensures too_many { IsErrOf result ParseScopeError.TooManyAtoms
+            ↔ ((length (atom_texts s.now) ≤ 8)
+            × (65534 < length (with_atoms self.old (atom_texts s.now)))) }
         ensures full { 65534 < length (with_atoms self.old (atom_texts s.now)) → IsErr result }
         ensures whole { IsRepository self.new }
         ensures err { OnErr result (self.new ≡ self.old) }
@@ -279,9 +327,9 @@ impl ScopeRepository {
         let held = self.atoms.len();
         match self.numbers(text) {
             Ok(scope) => Ok(scope),
-            Err(e) => {
+            Err(_) => {
                 self.forget(held);
-                Err(e)
+                Err(self.refusal(text))
             }
         }
     }
@@ -326,7 +374,9 @@ impl Scope {
         ensures atoms { OnOk result (repository.new ≡ with_atoms repository.old (atom_texts (trim s.now))) }
         ensures scope { IfOk result (λ scope. scope ≡ scope_in repository.new (trim s.now)) }
         ensures too_long { IsErrOf result ParseScopeError.TooLong ↔ (8 < length (atom_texts (trim s.now))) }
-        ensures too_many { IsErrOf result ParseScopeError.TooManyAtoms → 65534 < length (with_atoms repository.old (atom_texts (trim s.now))) }
+        ensures too_many { IsErrOf result ParseScopeError.TooManyAtoms
+            ↔ ((length (atom_texts (trim s.now)) ≤ 8)
+            × (65534 < length (with_atoms repository.old (atom_texts (trim s.now))))) }
         ensures full { 65534 < length (with_atoms repository.old (atom_texts (trim s.now))) → IsErr result }
         ensures whole { IsRepository repository.new }
         ensures err { OnErr result (repository.new ≡ repository.old) }

@@ -1,5 +1,6 @@
 //! What is kept of patterns that backed up too often, while a text is read: their plans, with the marks of the text.
-ghost use Rattle.std.specs.Prelude.{◌≡◌, ◌≤◌, ◌<◌, ◌+◌, ◌*◌, ℕ, List, IfNone, IfOk, IfSome, OnOk, Some, false, true, length, string_bytes};
+ghost use Rattle.std.specs.Prelude.{◌≡◌, ◌≤◌, ◌<◌, ◌+◌, ◌*◌, ℕ, List, IfErr, IfNone, IfOk, IfSome, OnOk, Some, false, true, length, string_bytes};
+ghost use Rattle.syntect_meter.specs.Meter.{Advances, StopsAt};
 ghost use Rattle.syntect_pattern.specs.Trees.{Tree, group};
 ghost use Rattle.syntect_pattern.specs.Pattern.{pattern_tree};
 ghost use Rattle.syntect_pattern_reader.specs.Compiled.{IsCompiled};
@@ -14,7 +15,8 @@ use std::alloc::{AllocError, Global};
 use std::marker::Model;
 use syntect_linear::find::Guide;
 use syntect_linear::walk::Span;
-use syntect_turns::count::TurnCount;
+use syntect_meter::meter::Meter;
+use syntect_meter::stop::Stop;
 
 /// So many places are marked of all that are kept, but for the last one's: with more all earlier ones are let go.
 const MOST: usize = 4_000_000;
@@ -100,17 +102,18 @@ impl Depths {
         text: &str,
         place: usize,
         groups: &mut Vec<Option<Span>>,
-        count: &mut TurnCount,
-    ) -> Result<Option<bool>, AllocError>
+        meter: &mut Meter,
+    ) -> Result<Option<bool>, Stop>
         requires { AreDepthsIn text.now self.now }
         ensures finds { (p : Program) → IsCompiled pattern.now p → IfOk result (λ told.
             IfSome told (λ found. FindsAt text.now p place (groups_of found groups.new.items))) }
-        ensures none { IfOk result (λ told. IfNone told (count.new.made ≡ count.old.made)) }
-        ensures rises { OnOk result (count.old.made ≤ count.new.made) }
+        ensures none { IfOk result (λ told. IfNone told (meter.new.made ≡ meter.old.made)) }
+        ensures advances { Advances meter.old meter.new }
+        ensures stops { IfErr result (StopsAt meter.new) }
         ensures counted { IfOk result (λ told. told ≡ Some true
-            → count.old.made < count.new.made) }
-        ensures steps { (p : Program) → IsCompiled pattern.now p → OnOk result (count.new.made
-            ≤ count.old.made + (walk_cost (root_tree p) + look_cost (root_tree p))
+            → meter.old.made < meter.new.made) }
+        ensures steps { (p : Program) → IsCompiled pattern.now p → OnOk result (meter.new.made
+            ≤ meter.old.made + (walk_cost (root_tree p) + look_cost (root_tree p))
             * (length text.now + 1)) }
     {
         let Some(depth) = self.of(pattern) else {
@@ -122,7 +125,7 @@ impl Depths {
         if !guide.tells(text, place) {
             return Ok(None);
         }
-        let found = guide.begins_at(text, place, groups, count)?;
+        let found = guide.begins_at(text, place, groups, meter)?;
         Ok(Some(found))
     }
 

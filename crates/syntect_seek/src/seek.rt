@@ -1,12 +1,13 @@
 //! Searches whose steps are bounded: one that backs up too often goes on by the pattern's plan, which doesn't back up at all. From
 //! the text's end on it is worked out which cells of the plan lead to the end of a match, which tells of each place whether one
 //! begins there.
-ghost use Rattle.std.specs.Prelude.{◌≡◌, ◌≤◌, ◌<◌, ◌+◌, ◌*◌, IfNone, IfOk, IfSome, OnOk, false, true, length, min};
+ghost use Rattle.std.specs.Prelude.{◌≡◌, ◌≤◌, ◌<◌, ◌+◌, ◌*◌, IfErr, IfNone, IfOk, IfSome, OnOk, None, Some, false, true, length, min};
+ghost use Rattle.syntect_meter.specs.Meter.{Advances, StopsAt};
 ghost use Rattle.syntect_pattern_reader.specs.Compiled.{IsCompiled};
 ghost use Rattle.syntect_plan.specs.Linear.{is_linear, most_cells};
 ghost use Rattle.syntect_plan.specs.Plan.{plan_cells};
 ghost use Rattle.syntect_pattern_table.specs.declared.program.Program.{Program as AProgram};
-ghost use Rattle.syntect_engine.specs.Machine.{FindsAt, FindsGroups, FindsUpTo, groups_of};
+ghost use Rattle.syntect_engine.specs.Machine.{FindsAt, FindsGroups, groups_of};
 ghost use Rattle.syntect_linear.specs.Finds as linear;
 ghost use Rattle.syntect_linear.specs.Guide.{IsGuideIn};
 ghost use Rattle.syntect_linear.specs.Steps.{step_weight};
@@ -16,9 +17,11 @@ ghost use Rattle.syntect_seek.specs.Prospect.{IsProspectOf};
 
 use crate::depths::{Depth, Depths};
 use crate::prospect::Prospect;
-use std::alloc::{AllocError, Global};
+use std::alloc::Global;
 use syntect_engine::state::Search;
 use syntect_linear::find::Guide;
+use syntect_meter::meter::Meter;
+use syntect_meter::stop::Stop;
 use syntect_pattern_table::program::Program;
 use syntect_plan::plan::Plan;
 use syntect_plan::spelt::spelt;
@@ -63,13 +66,13 @@ fn tried_steps_in(size: usize, text: &str) -> usize
     bytes.saturating_add(plan).saturating_add(TRIED)
 }
 
-/// The program's plan in the text, if the program is linear.
+/// The program's plan in the text, if the program is linear. It costs a step for each of its cells.
 fn guide_of(
     alloc: Global,
     program: &Program,
     text: &str,
-    count: &mut TurnCount,
-) -> Result<Option<Guide>, AllocError>
+    meter: &mut Meter,
+) -> Result<Option<Guide>, Stop>
     ensures guides { IfOk result (λ made. IfSome made (λ g. IsGuideIn text.now g)) }
     ensures program { IfOk result (λ made. IfSome made (λ g. StandsFor program.now g.program)) }
     ensures root { IfOk result (λ made. IfSome made (λ g.
@@ -77,15 +80,17 @@ fn guide_of(
     ensures cells { IfOk result (λ made. IfSome made (λ g.
         length g.plan.cells ≡ plan_cells (root_tree program.now))) }
     ensures hard { IfOk result (λ made. IfNone made (is_linear (root_tree program.now) ≡ false)) }
-    ensures steps { OnOk result (count.new.made
-        ≤ count.old.made + plan_cells (root_tree program.now)) }
-    ensures rises { OnOk result (count.old.made ≤ count.new.made) }
+    ensures steps { OnOk result (meter.new.made
+        ≤ meter.old.made + plan_cells (root_tree program.now)) }
+    ensures advances { Advances meter.old meter.new }
+    ensures stops { IfErr result (StopsAt meter.new) }
 {
     let spelt = spelt(alloc, program)?;
-    match Plan::new(alloc, &spelt, count)? {
-        Some(plan) => Ok(Some(Guide::new(alloc, spelt, plan, text)?)),
-        None => Ok(None),
-    }
+    let Some(plan) = Plan::new(alloc, &spelt, &mut TurnCount::none())? else {
+        return Ok(None);
+    };
+    meter.spend(plan.cells.len())?;
+    Ok(Some(Guide::new(alloc, spelt, plan, text)?))
 }
 
 /// Whether the program matches at the place or at a later one, of which the least counts. Where it does, the search's groups
@@ -97,19 +102,75 @@ pub fn find(
     size: usize,
     text: &str,
     begin: usize,
-    count: &mut TurnCount,
-) -> Result<bool, AllocError>
+    meter: &mut Meter,
+) -> Result<bool, Stop>
     ensures finds { IfOk result (λ found.
         FindsGroups text.now program.now begin (groups_of found search.new)) }
     ensures steps { OnOk result (IsWithinBound program.now size (length text.now)
-        count.old.made count.new.made) }
-    ensures rises { OnOk result (count.old.made ≤ count.new.made) }
-    ensures counted { IfOk result (λ found. found ≡ true → count.old.made < count.new.made) }
+        meter.old.made meter.new.made) }
+    ensures advances { Advances meter.old meter.new }
+    ensures stops { IfErr result (StopsAt meter.new) }
+    ensures counted { IfOk result (λ found. found ≡ true → meter.old.made < meter.new.made) }
 {
-    search.left = steps_in(size, text);
-    match search.find(program, text, begin, true, count)? {
+    match find_within(search, program, text, begin, steps_in(size, text), meter)? {
         Some(found) => Ok(found),
-        None => find_planned(search, program, text, begin, count),
+        None => find_planned(search, program, text, begin, meter),
+    }
+}
+
+/// The same by backing up in at most so many steps. None where they don't suffice.
+#[inline]
+fn find_within(
+    search: &mut Search,
+    program: &Program,
+    text: &str,
+    begin: usize,
+    steps: usize,
+    meter: &mut Meter,
+) -> Result<Option<bool>, Stop>
+    ensures finds { IfOk result (λ told. IfSome told (λ found.
+        FindsGroups text.now program.now begin (groups_of found search.new))) }
+    ensures steps { meter.new.made ≤ meter.old.made + steps }
+    ensures advances { Advances meter.old meter.new }
+    ensures stops { IfErr result (StopsAt meter.new) }
+    ensures spent { IfOk result (λ told. told ≡ None
+        → meter.old.left ≡ Some steps → meter.new.left ≡ Some 0) }
+    ensures counted { IfOk result (λ told. told ≡ Some true → meter.old.made < meter.new.made) }
+{
+    let allowed = meter.allowed(steps);
+    search.left = allowed;
+    let mut count = meter.count().copy();
+    let told = search.find(program, text, begin, true, &mut count)?;
+    meter.follow(&count, allowed - search.left);
+    if told.is_none() && allowed < steps {
+        return Err(Stop::Spent);
+    }
+    Ok(told)
+}
+
+/// The same by backing up to the end.
+fn find_backing_up(
+    search: &mut Search,
+    program: &Program,
+    text: &str,
+    begin: usize,
+    meter: &mut Meter,
+) -> Result<bool, Stop>
+    ensures finds { IfOk result (λ found.
+        FindsGroups text.now program.now begin (groups_of found search.new)) }
+    ensures advances { Advances meter.old meter.new }
+    ensures stops { IfErr result (StopsAt meter.new) }
+    ensures counted { IfOk result (λ found. found ≡ true → meter.old.made < meter.new.made) }
+{
+    let Some(left) = meter.left() else {
+        let mut count = TurnCount::none();
+        let told = search.find(program, text, begin, false, &mut count)?;
+        meter.add(&count);
+        return Ok(told.unwrap_or(false));
+    };
+    match find_within(search, program, text, begin, left, meter)? {
+        Some(found) => Ok(found),
+        None => Err(Stop::Spent),
     }
 }
 
@@ -120,73 +181,24 @@ fn find_planned(
     program: &Program,
     text: &str,
     begin: usize,
-    count: &mut TurnCount,
-) -> Result<bool, AllocError>
+    meter: &mut Meter,
+) -> Result<bool, Stop>
     ensures finds { IfOk result (λ found.
         FindsGroups text.now program.now begin (groups_of found search.new)) }
     ensures steps { OnOk result (IsWithinPlan program.now (length text.now)
-        count.old.made count.new.made) }
-    ensures rises { OnOk result (count.old.made ≤ count.new.made) }
-    ensures counted { IfOk result (λ found. found ≡ true → count.old.made < count.new.made) }
+        meter.old.made meter.new.made) }
+    ensures advances { Advances meter.old meter.new }
+    ensures stops { IfErr result (StopsAt meter.new) }
+    ensures counted { IfOk result (λ found. found ≡ true → meter.old.made < meter.new.made) }
 {
     if begin > text.len() {
         return Ok(false);
     }
-    find_up_to_planned(search, program, text, begin, text.len(), count)
-}
-
-/// The same for the places from `begin` to `last` alone.
-#[inline]
-pub fn find_up_to(
-    search: &mut Search,
-    program: &Program,
-    size: usize,
-    text: &str,
-    begin: usize,
-    last: usize,
-    count: &mut TurnCount,
-) -> Result<bool, AllocError>
-    requires { begin ≤ last }
-    ensures finds { IfOk result (λ found.
-        FindsUpTo text.now program.now begin last (groups_of found search.new)) }
-    ensures steps { OnOk result (IsWithinBound program.now size (length text.now)
-        count.old.made count.new.made) }
-    ensures rises { OnOk result (count.old.made ≤ count.new.made) }
-    ensures counted { IfOk result (λ found. found ≡ true → count.old.made < count.new.made) }
-{
-    search.left = steps_in(size, text);
-    match search.find_up_to(program, text, begin, last, true, count)? {
-        Some(found) => Ok(found),
-        None => find_up_to_planned(search, program, text, begin, last, count),
-    }
-}
-
-/// The same where those steps didn't suffice.
-#[inline(never)]
-fn find_up_to_planned(
-    search: &mut Search,
-    program: &Program,
-    text: &str,
-    begin: usize,
-    last: usize,
-    count: &mut TurnCount,
-) -> Result<bool, AllocError>
-    requires { begin ≤ last }
-    ensures finds { IfOk result (λ found.
-        FindsUpTo text.now program.now begin last (groups_of found search.new)) }
-    ensures steps { OnOk result (IsWithinPlan program.now (length text.now)
-        count.old.made count.new.made) }
-    ensures rises { OnOk result (count.old.made ≤ count.new.made) }
-    ensures counted { IfOk result (λ found. found ≡ true → count.old.made < count.new.made) }
-{
     let alloc = *search.frames.allocator();
-    let Some(guide) = guide_of(alloc, program, text, count)? else {
-        return match search.find_up_to(program, text, begin, last, false, count)? {
-            Some(found) => Ok(found),
-            None => Ok(false),
-        };
+    let Some(guide) = guide_of(alloc, program, text, meter)? else {
+        return find_backing_up(search, program, text, begin, meter);
     };
-    find_marked(search, guide, text, begin, last, count)
+    find_marked(search, guide, text, begin, text.len(), meter)
 }
 
 /// The same by the marks of the places from `begin` on.
@@ -196,23 +208,24 @@ fn find_marked(
     text: &str,
     begin: usize,
     last: usize,
-    count: &mut TurnCount,
-) -> Result<bool, AllocError>
+    meter: &mut Meter,
+) -> Result<bool, Stop>
     requires order { begin ≤ last }
     requires guides { IsGuideIn text.now guide }
     ensures finds { IfOk result (λ found. linear.FindsUpTo text.now guide.program begin last
         (linear.groups_of found search.new.groups.items)) }
-    ensures steps { OnOk result (count.new.made ≤ count.old.made
+    ensures steps { OnOk result (meter.new.made ≤ meter.old.made
         + step_weight (length guide.plan.cells) (root_tree guide.program) * (length text.now + 1)) }
-    ensures rises { OnOk result (count.old.made ≤ count.new.made) }
-    ensures counted { IfOk result (λ found. found ≡ true → count.old.made < count.new.made) }
+    ensures advances { Advances meter.old meter.new }
+    ensures stops { IfErr result (StopsAt meter.new) }
+    ensures counted { IfOk result (λ found. found ≡ true → meter.old.made < meter.new.made) }
 {
     if begin > text.len() {
         return Ok(false);
     }
     let mut guide = guide;
-    guide.mark(text, begin, count)?;
-    guide.find_up_to(text, begin, last, &mut search.groups, count)
+    guide.mark(text, begin, meter)?;
+    guide.find_up_to(text, begin, last, &mut search.groups, meter)
 }
 
 /// The same for this place alone of a text in which the pattern is tried at place after place, by what is known of it there, of
@@ -227,8 +240,8 @@ pub fn begins_known(
     place: usize,
     known: &mut Prospect,
     depths: &mut Depths,
-    count: &mut TurnCount,
-) -> Result<bool, AllocError>
+    meter: &mut Meter,
+) -> Result<bool, Stop>
     requires program { IsCompiled pattern.now program.now }
     requires depths { AreDepthsIn text.now depths.old }
     ensures finds { IfOk result (λ found.
@@ -237,14 +250,15 @@ pub fn begins_known(
         → IsProspectOf pattern.now text.now known.new }
     ensures depths { OnOk result (AreDepthsIn text.now depths.new) }
     ensures steps { OnOk result (IsWithinBound program.now (length pattern.now) (length text.now)
-        count.old.made count.new.made) }
-    ensures rises { OnOk result (count.old.made ≤ count.new.made) }
-    ensures counted { IfOk result (λ found. found ≡ true → count.old.made < count.new.made) }
+        meter.old.made meter.new.made) }
+    ensures advances { Advances meter.old meter.new }
+    ensures stops { IfErr result (StopsAt meter.new) }
+    ensures counted { IfOk result (λ found. found ≡ true → meter.old.made < meter.new.made) }
 {
     if known.is_settled() {
-        return begins_settled(search, program, pattern, text, place, known, depths, count);
+        return begins_settled(search, program, pattern, text, place, known, depths, meter);
     }
-    begins_tried(search, program, pattern, text, place, known, depths, count)
+    begins_tried(search, program, pattern, text, place, known, depths, meter)
 }
 
 /// The same by the marks. Where these were let go, since others came, tries have all steps again before they are made anew.
@@ -256,8 +270,8 @@ fn begins_settled(
     place: usize,
     known: &mut Prospect,
     depths: &mut Depths,
-    count: &mut TurnCount,
-) -> Result<bool, AllocError>
+    meter: &mut Meter,
+) -> Result<bool, Stop>
     requires program { IsCompiled pattern.now program.now }
     requires depths { AreDepthsIn text.now depths.old }
     ensures finds { IfOk result (λ found.
@@ -266,15 +280,16 @@ fn begins_settled(
         → IsProspectOf pattern.now text.now known.new }
     ensures depths { OnOk result (AreDepthsIn text.now depths.new) }
     ensures steps { OnOk result (IsWithinBound program.now (length pattern.now) (length text.now)
-        count.old.made count.new.made) }
-    ensures rises { OnOk result (count.old.made ≤ count.new.made) }
-    ensures counted { IfOk result (λ found. found ≡ true → count.old.made < count.new.made) }
+        meter.old.made meter.new.made) }
+    ensures advances { Advances meter.old meter.new }
+    ensures stops { IfErr result (StopsAt meter.new) }
+    ensures counted { IfOk result (λ found. found ≡ true → meter.old.made < meter.new.made) }
 {
-    if let Some(found) = depths.begins_at(pattern, text, place, &mut search.groups, count)? {
+    if let Some(found) = depths.begins_at(pattern, text, place, &mut search.groups, meter)? {
         return Ok(found);
     }
     known.renew();
-    begins_tried(search, program, pattern, text, place, known, depths, count)
+    begins_tried(search, program, pattern, text, place, known, depths, meter)
 }
 
 /// The same by backing up first.
@@ -287,8 +302,8 @@ fn begins_tried(
     place: usize,
     known: &mut Prospect,
     depths: &mut Depths,
-    count: &mut TurnCount,
-) -> Result<bool, AllocError>
+    meter: &mut Meter,
+) -> Result<bool, Stop>
     requires program { IsCompiled pattern.now program.now }
     requires depths { AreDepthsIn text.now depths.old }
     ensures finds { IfOk result (λ found.
@@ -297,15 +312,15 @@ fn begins_tried(
         → IsProspectOf pattern.now text.now known.new }
     ensures depths { OnOk result (AreDepthsIn text.now depths.new) }
     ensures steps { OnOk result (IsWithinBound program.now (length pattern.now) (length text.now)
-        count.old.made count.new.made) }
-    ensures rises { OnOk result (count.old.made ≤ count.new.made) }
-    ensures counted { IfOk result (λ found. found ≡ true → count.old.made < count.new.made) }
+        meter.old.made meter.new.made) }
+    ensures advances { Advances meter.old meter.new }
+    ensures stops { IfErr result (StopsAt meter.new) }
+    ensures counted { IfOk result (λ found. found ≡ true → meter.old.made < meter.new.made) }
 {
     let all = tried_steps_in(pattern.len(), text);
-    let allowed = known.allowed(all);
-    search.left = allowed;
-    search.read = 0;
-    match search.begins_at(program, text, place, true, count)? {
+    let granted = known.allowed(all);
+    let allowed = meter.allowed(granted);
+    match begins_within(search, program, text, place, granted, meter)? {
         Some(found) => {
             // A character of a stretch, which is gone through forth and back, counts as a step more here
             let steps = allowed.saturating_sub(search.left);
@@ -313,10 +328,41 @@ fn begins_tried(
             Ok(found)
         }
         None => {
-            known.spend(all, allowed);
-            begins_after(search, program, pattern, text, place, known, depths, count)
+            known.spend(all, granted);
+            begins_after(search, program, pattern, text, place, known, depths, meter)
         }
     }
+}
+
+/// The same by backing up in at most so many steps. None where they don't suffice.
+#[inline]
+fn begins_within(
+    search: &mut Search,
+    program: &Program,
+    text: &str,
+    place: usize,
+    steps: usize,
+    meter: &mut Meter,
+) -> Result<Option<bool>, Stop>
+    ensures finds { IfOk result (λ told. IfSome told (λ found.
+        FindsAt text.now program.now place (groups_of found search.new))) }
+    ensures steps { meter.new.made ≤ meter.old.made + steps }
+    ensures advances { Advances meter.old meter.new }
+    ensures stops { IfErr result (StopsAt meter.new) }
+    ensures spent { IfOk result (λ told. told ≡ None
+        → meter.old.left ≡ Some steps → meter.new.left ≡ Some 0) }
+    ensures counted { IfOk result (λ told. told ≡ Some true → meter.old.made < meter.new.made) }
+{
+    let allowed = meter.allowed(steps);
+    search.left = allowed;
+    search.read = 0;
+    let mut count = meter.count().copy();
+    let told = search.begins_at(program, text, place, true, &mut count)?;
+    meter.follow(&count, allowed - search.left);
+    if told.is_none() && allowed < steps {
+        return Err(Stop::Spent);
+    }
+    Ok(told)
 }
 
 /// The same where those steps didn't suffice.
@@ -329,8 +375,8 @@ fn begins_after(
     place: usize,
     known: &mut Prospect,
     depths: &mut Depths,
-    count: &mut TurnCount,
-) -> Result<bool, AllocError>
+    meter: &mut Meter,
+) -> Result<bool, Stop>
     requires program { IsCompiled pattern.now program.now }
     requires depths { AreDepthsIn text.now depths.old }
     ensures finds { IfOk result (λ found.
@@ -339,15 +385,16 @@ fn begins_after(
         → IsProspectOf pattern.now text.now known.new }
     ensures depths { OnOk result (AreDepthsIn text.now depths.new) }
     ensures steps { OnOk result (IsWithinPlan program.now (length text.now)
-        count.old.made count.new.made) }
-    ensures rises { OnOk result (count.old.made ≤ count.new.made) }
-    ensures counted { IfOk result (λ found. found ≡ true → count.old.made < count.new.made) }
+        meter.old.made meter.new.made) }
+    ensures advances { Advances meter.old meter.new }
+    ensures stops { IfErr result (StopsAt meter.new) }
+    ensures counted { IfOk result (λ found. found ≡ true → meter.old.made < meter.new.made) }
 {
-    if let Some(found) = depths.begins_at(pattern, text, place, &mut search.groups, count)? {
+    if let Some(found) = depths.begins_at(pattern, text, place, &mut search.groups, meter)? {
         known.settle();
         return Ok(found);
     }
-    begins_planned(search, program, pattern, text, place, known, depths, count)
+    begins_planned(search, program, pattern, text, place, known, depths, meter)
 }
 
 /// The same where nothing is kept of the pattern, or that it is not linear.
@@ -359,8 +406,8 @@ fn begins_planned(
     place: usize,
     known: &mut Prospect,
     depths: &mut Depths,
-    count: &mut TurnCount,
-) -> Result<bool, AllocError>
+    meter: &mut Meter,
+) -> Result<bool, Stop>
     requires program { IsCompiled pattern.now program.now }
     requires depths { AreDepthsIn text.now depths.old }
     ensures finds { IfOk result (λ found.
@@ -369,25 +416,26 @@ fn begins_planned(
         → IsProspectOf pattern.now text.now known.new }
     ensures depths { OnOk result (AreDepthsIn text.now depths.new) }
     ensures steps { OnOk result (IsWithinPlan program.now (length text.now)
-        count.old.made count.new.made) }
-    ensures rises { OnOk result (count.old.made ≤ count.new.made) }
-    ensures counted { IfOk result (λ found. found ≡ true → count.old.made < count.new.made) }
+        meter.old.made meter.new.made) }
+    ensures advances { Advances meter.old meter.new }
+    ensures stops { IfErr result (StopsAt meter.new) }
+    ensures counted { IfOk result (λ found. found ≡ true → meter.old.made < meter.new.made) }
 {
     if depths.is_hard(pattern) {
         known.renew();
-        return backs_up(search, program, text, place, count);
+        return backs_up(search, program, text, place, meter);
     }
     let alloc = *search.frames.allocator();
-    let Some(guide) = guide_of(alloc, program, text, count)? else {
+    let Some(guide) = guide_of(alloc, program, text, meter)? else {
         known.renew();
         depths.push(Depth {
             pattern: String::from_str(alloc, pattern)?,
             guide: None,
         })?;
-        return backs_up(search, program, text, place, count);
+        return backs_up(search, program, text, place, meter);
     };
     known.settle();
-    begins_marked(search, guide, pattern, text, place, depths, count)
+    begins_marked(search, guide, pattern, text, place, depths, meter)
 }
 
 /// The same where the pattern is not linear: it backs up to the end.
@@ -396,16 +444,23 @@ fn backs_up(
     program: &Program,
     text: &str,
     place: usize,
-    count: &mut TurnCount,
-) -> Result<bool, AllocError>
+    meter: &mut Meter,
+) -> Result<bool, Stop>
     ensures finds { IfOk result (λ found.
         FindsAt text.now program.now place (groups_of found search.new)) }
-    ensures rises { OnOk result (count.old.made ≤ count.new.made) }
-    ensures counted { IfOk result (λ found. found ≡ true → count.old.made < count.new.made) }
+    ensures advances { Advances meter.old meter.new }
+    ensures stops { IfErr result (StopsAt meter.new) }
+    ensures counted { IfOk result (λ found. found ≡ true → meter.old.made < meter.new.made) }
 {
-    match search.begins_at(program, text, place, false, count)? {
+    let Some(left) = meter.left() else {
+        let mut count = TurnCount::none();
+        let told = search.begins_at(program, text, place, false, &mut count)?;
+        meter.add(&count);
+        return Ok(told.unwrap_or(false));
+    };
+    match begins_within(search, program, text, place, left, meter)? {
         Some(found) => Ok(found),
-        None => Ok(false),
+        None => Err(Stop::Spent),
     }
 }
 
@@ -417,8 +472,8 @@ fn begins_marked(
     text: &str,
     place: usize,
     depths: &mut Depths,
-    count: &mut TurnCount,
-) -> Result<bool, AllocError>
+    meter: &mut Meter,
+) -> Result<bool, Stop>
     requires guides { IsGuideIn text.now guide }
     requires depths { AreDepthsIn text.now depths.old }
     ensures finds { IfOk result (λ found.
@@ -426,18 +481,19 @@ fn begins_marked(
         (linear.groups_of found search.new.groups.items)) }
     ensures depths { (p : AProgram) → IsCompiled pattern.now p → StandsFor p guide.program
         → OnOk result (AreDepthsIn text.now depths.new) }
-    ensures steps { OnOk result (count.new.made ≤ count.old.made
+    ensures steps { OnOk result (meter.new.made ≤ meter.old.made
         + step_weight (length guide.plan.cells) (root_tree guide.program) * (length text.now + 1)) }
-    ensures rises { OnOk result (count.old.made ≤ count.new.made) }
-    ensures counted { IfOk result (λ found. found ≡ true → count.old.made < count.new.made) }
+    ensures advances { Advances meter.old meter.new }
+    ensures stops { IfErr result (StopsAt meter.new) }
+    ensures counted { IfOk result (λ found. found ≡ true → meter.old.made < meter.new.made) }
 {
     if place > text.len() {
         return Ok(false);
     }
     let alloc = *search.frames.allocator();
     let mut guide = guide;
-    guide.mark(text, place, count)?;
-    let found = guide.begins_at(text, place, &mut search.groups, count)?;
+    guide.mark(text, place, meter)?;
+    let found = guide.begins_at(text, place, &mut search.groups, meter)?;
     depths.push(Depth {
         pattern: String::from_str(alloc, pattern)?,
         guide: Some(guide),

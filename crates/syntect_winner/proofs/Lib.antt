@@ -1,6 +1,5 @@
 pub mod ListLaws
 pub mod LossLaws
-pub mod SubstituteLaws
 pub mod DialectLaws
 pub mod Finds
 pub mod Places

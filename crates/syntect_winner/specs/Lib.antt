@@ -10,3 +10,4 @@ pub mod Ahead
 pub mod Best
 pub mod Steps
 pub mod Memory
+pub mod Halt

@@ -3,6 +3,7 @@
 #![tactic(auto)]
 
 pub mod chain;
+pub mod halt;
 pub mod here;
 pub mod hints;
 pub mod laws;
@@ -12,5 +13,4 @@ pub mod memory;
 pub mod position;
 pub mod reader;
 pub mod search;
-pub mod substitutes;
 pub mod sweep;

@@ -10,24 +10,23 @@ ghost use Rattle.syntect_winner.specs.Reader.{seen_by};
 use crate::memory::Memory;
 use crate::position::{MOST_IDLE, MOST_LEVELS, Position};
 use crate::reader::LineReader;
-use crate::substitutes::{Substitute, Substitutes};
 use std::alloc::{AllocError, Global};
 use std::marker::Model;
 use std::mem;
 use syntect_grammar::syntax_definition::{MatchOperation, MatchPattern};
+use syntect_meter::meter::Meter;
 use syntect_openings::opening::Opening;
+use syntect_openings::substitutes::{Substitute, Substitutes};
 use syntect_regex::regex::Regex;
 use syntect_regex::region::Region;
-use syntect_turns::count::TurnCount;
 use syntect_ways::text::char_at;
 
-/// Where searches put the groups of their matches, those of the best match so far, how many steps searches took, which contracts
-/// alone see, what is known of the patterns in the line that is read, and patterns with the texts of groups put in.
+/// Where searches put the groups of their matches, those of the best match so far, the meter of their steps, what is known of the patterns in the line that is read, and patterns with the texts of groups put in.
 #[derive(Drop)]
 pub struct Regions {
     pub searched: Region,
     pub best: Region,
-    pub steps: TurnCount,
+    pub steps: Meter,
     pub memory: Memory,
     pub substitutes: Substitutes,
 }
@@ -35,12 +34,13 @@ pub struct Regions {
 impl Regions {
     /// Two without groups, no step, and nothing known. Takes no memory.
     pub fn new(alloc: Global) -> Regions
-        ensures { result.steps.made ≡ 0 }
+        ensures made { result.steps.made ≡ 0 }
+        ensures left { result.steps.left ≡ None }
     {
         Regions {
             searched: Region::new(alloc),
             best: Region::new(alloc),
-            steps: TurnCount::none(),
+            steps: Meter::unlimited(),
             memory: Memory::new(alloc),
             substitutes: Substitutes::new(alloc),
         }

@@ -1,5 +1,5 @@
 //! What a turn finds: it goes place by place, and tries at each the patterns that can begin there, in the order of the chain.
-ghost use Rattle.std.specs.Prelude.{◌≡◌, ◌≤◌, ◌<◌, ◌+◌, ◌*◌, Bool, List, ℕ, length, map, IfOk, OnOk, Some, None, true, false, slice_index_or, unwrap_or};
+ghost use Rattle.std.specs.Prelude.{◌≡◌, ◌≤◌, ◌<◌, ◌+◌, ◌*◌, Bool, List, ℕ, length, map, IfErr, IfOk, OnOk, Some, None, true, false, slice_index_or, unwrap_or};
 ghost use Rattle.std.specs.Option.{option_copied};
 ghost use Rattle.std.specs.List.{All, flat_map};
 ghost use Rattle.syntect_contexts.specs.declared.context.MatchPattern.{MatchPattern as APattern};
@@ -13,6 +13,8 @@ ghost use Rattle.syntect_winner.specs.Ahead.{AddsAll, AddsAt, AddsMember, AddsRu
 ghost use Rattle.syntect_winner.specs.Best.{choice_by};
 ghost use Rattle.syntect_winner.specs.Candidates.{member_of};
 ghost use Rattle.syntect_winner.specs.Engine.{dialect};
+ghost use Rattle.syntect_meter.specs.Meter.{Advances};
+ghost use Rattle.syntect_winner.specs.Halt.{HaltsAt};
 ghost use Rattle.syntect_winner.specs.Losses.{LosesAtMost, LosesInPart, marks_of};
 ghost use Rattle.syntect_winner.specs.Memory.{Remembers, origin_pattern};
 ghost use Rattle.syntect_winner.specs.Parts.{part_members};
@@ -21,16 +23,17 @@ ghost use Rattle.syntect_winner.specs.Steps.{AreWithin, IsWithin, place_steps, t
 ghost use Rattle.syntect_winner.specs.Turn.{Live, searched_text, winner};
 
 use crate::chain::Part;
+use crate::halt::Halt;
 use crate::here::is_here;
 use crate::laws::dialect_finds_in_text;
 use crate::losses::Losses;
 use crate::reader::LineReader;
 use crate::search::{Best, Candidate, Entry, OwnRegex, Regions, counts, led_by, substituted};
-use crate::substitutes::{Substitute, Substitutes};
 use std::alloc::{AllocError, Global};
 use syntect_flats::flats::{Flat, Origin, Outlook};
 use syntect_flats::list::FlatList;
 use syntect_grammar::syntax_definition::MatchPattern;
+use syntect_openings::substitutes::{Substitute, Substitutes};
 use syntect_pattern::anchor::Anchor;
 use syntect_pattern_table::starts::{Places, either, is_in, nowhere, start_at};
 use syntect_regex::regex::Regex;
@@ -302,7 +305,7 @@ fn with_entry<'s>(
     best: Best<'s>,
     lost: &mut bool,
     regions: &mut Regions,
-) -> Result<Best<'s>, AllocError>
+) -> Result<Best<'s>, Halt>
     requires known { Remembers reader.now.set.now reader.now.line.now regions.old.memory }
     requires origin { origin_pattern reader.now.set.now origin ≡ Some entry.now.pattern.now }
     requires order { reader.now.position.now.place ≤ place }
@@ -321,7 +324,8 @@ fn with_entry<'s>(
         (Remembers reader.now.set.now reader.now.line.now regions.new.memory) }
     ensures steps { (w : ℕ) → IsWithin (length reader.now.line.now) w (member_of entry.now)
         → OnOk result (regions.new.steps.made ≤ regions.old.steps.made + w) }
-    ensures rises { OnOk result (regions.old.steps.made ≤ regions.new.steps.made) }
+    ensures advances { Advances regions.old.steps regions.new.steps }
+    ensures halts { IfErr result (HaltsAt regions.new.steps) }
 {
     dialect_finds_in_text();
     if !is_here(reader, entry, replaced, origin, place, regions)? {
@@ -360,7 +364,7 @@ fn with_pattern<'s>(
     best: Best<'s>,
     losses: &mut Losses,
     regions: &mut Regions,
-) -> Result<Best<'s>, AllocError>
+) -> Result<Best<'s>, Halt>
     requires known { Remembers reader.now.set.now reader.now.line.now regions.old.memory }
     requires order { reader.now.position.now.place ≤ place }
     requires run { IsRun reader.now.set.now run.now }
@@ -380,7 +384,8 @@ fn with_pattern<'s>(
     ensures steps { (w : ℕ) → AreWithin (length reader.now.line.now) w
         (run_members reader.now.set.now run.now)
         → OnOk result (regions.new.steps.made ≤ regions.old.steps.made + w) }
-    ensures rises { OnOk result (regions.old.steps.made ≤ regions.new.steps.made) }
+    ensures advances { Advances regions.old.steps regions.new.steps }
+    ensures halts { IfErr result (HaltsAt regions.new.steps) }
 {
     if losses.has(part, index) {
         return Ok(best);
@@ -415,7 +420,7 @@ fn with_run<'s>(
     best: Best<'s>,
     losses: &mut Losses,
     regions: &mut Regions,
-) -> Result<Best<'s>, AllocError>
+) -> Result<Best<'s>, Halt>
     requires known { Remembers reader.now.set.now reader.now.line.now regions.old.memory }
     requires order { reader.now.position.now.place ≤ place }
     requires here { outlook.here < 130 }
@@ -438,7 +443,8 @@ fn with_run<'s>(
         (run_members reader.now.set.now run.now)
         → OnOk result (regions.new.steps.made ≤ regions.old.steps.made
         + place_steps (length (run_members reader.now.set.now run.now)) w) }
-    ensures rises { OnOk result (regions.old.steps.made ≤ regions.new.steps.made) }
+    ensures advances { Advances regions.old.steps regions.new.steps }
+    ensures halts { IfErr result (HaltsAt regions.new.steps) }
 {
     dialect_finds_in_text();
     let count = list_in(&run.flats).len();
@@ -459,7 +465,7 @@ fn best_at<'s>(
     outlook: Outlook,
     losses: &mut Losses,
     regions: &mut Regions,
-) -> Result<Best<'s>, AllocError>
+) -> Result<Best<'s>, Halt>
     requires known { Remembers reader.now.set.now reader.now.line.now regions.old.memory }
     requires order { reader.now.position.now.place ≤ place }
     requires here { outlook.here < 130 }
@@ -476,7 +482,8 @@ fn best_at<'s>(
         (flat_map (run_members reader.now.set.now) runs.now)
         → OnOk result (regions.new.steps.made ≤ regions.old.steps.made
         + place_steps (length (flat_map (run_members reader.now.set.now) runs.now)) w) }
-    ensures rises { OnOk result (regions.old.steps.made ≤ regions.new.steps.made) }
+    ensures advances { Advances regions.old.steps regions.new.steps }
+    ensures halts { IfErr result (HaltsAt regions.new.steps) }
 {
     let mut best = Best {
         start: place + 1,
@@ -494,7 +501,7 @@ fn best_of_runs<'s>(
     reader: &LineReader<'s, '_>,
     runs: &[Run<'s, '_>],
     regions: &mut Regions,
-) -> Result<Best<'s>, AllocError>
+) -> Result<Best<'s>, Halt>
     requires runs { All (IsRun reader.now.set.now) runs.now }
     requires known { Remembers reader.now.set.now reader.now.line.now regions.old.memory }
     ensures groups { IfOk result (λ b. AreGroupsBy reader.now b.candidate regions.new.best) }
@@ -508,7 +515,8 @@ fn best_of_runs<'s>(
         → OnOk result (regions.new.steps.made ≤ regions.old.steps.made
         + turn_steps (length (flat_map (run_members reader.now.set.now) runs.now)) w
         (length reader.now.line.now)) }
-    ensures rises { OnOk result (regions.old.steps.made ≤ regions.new.steps.made) }
+    ensures advances { Advances regions.old.steps regions.new.steps }
+    ensures halts { IfErr result (HaltsAt regions.new.steps) }
 {
     dialect_finds_in_text();
     let begins = begins_of(runs);
@@ -552,7 +560,7 @@ pub fn best_of_chain<'s>(
     reader: &LineReader<'s, '_>,
     parts: &[Part<'_>],
     regions: &mut Regions,
-) -> Result<Best<'s>, AllocError>
+) -> Result<Best<'s>, Halt>
     requires known { Remembers reader.now.set.now reader.now.line.now regions.old.memory }
     ensures groups { IfOk result (λ b. AreGroupsBy reader.now b.candidate regions.new.best) }
     ensures best { IfOk result (λ b. choice_by reader.now.line.now reader.now.position.now.place b
@@ -565,7 +573,8 @@ pub fn best_of_chain<'s>(
         → OnOk result (regions.new.steps.made ≤ regions.old.steps.made
         + turn_steps (length (flat_map (part_members reader.now.set.now) parts.now)) w
         (length reader.now.line.now)) }
-    ensures rises { OnOk result (regions.old.steps.made ≤ regions.new.steps.made) }
+    ensures advances { Advances regions.old.steps regions.new.steps }
+    ensures halts { IfErr result (HaltsAt regions.new.steps) }
 {
     let runs = runs_of(reader, parts, &mut regions.substitutes)?;
     let found = best_of_runs(reader, runs.as_slice(), regions)?;

@@ -9,8 +9,8 @@ use Rattle.std.proofs.lemmas.Bool.Decides.{nat_tests}
 use Rattle.syntect_yaml.specs.Node.{Node, text_of}
 use Rattle.syntect_yaml.specs.Yaml.{deepest}
 use Rattle.syntect_yaml.specs.declared.value.Scalar.{Scalar}
-use Rattle.syntect_rewrite.specs.Variables.{Variables, expanded}
-use Rattle.syntect_rewrite.specs.Lengths.{length_within}
+use Rattle.syntect_rewrite.specs.Variables.{Variables}
+use Rattle.syntect_rewrite.specs.Lengths.{with_uses, length_within}
 use Rattle.syntect_base.specs.declared.limits.Limits.{Limits}
 use Rattle.syntect_base.specs.declared.limits.PatternPlace.{PatternPlace}
 use Rattle.syntect_base.specs.declared.limits.LimitReached.{LimitReached}
@@ -19,27 +19,29 @@ use Rattle.syntect_within.specs.Patterns.{of_item, of_context}
 use Rattle.syntect_loader.specs.Loading.{variables_at}
 use Rattle.syntect_loader.specs.LoadingValues.{list_in, map_in, at}
 use Rattle.syntect_within.specs.Limited.{Left, then_count, count_each, reached_at, left_after, count_pattern, count_item, count_items, count_context, count_entry}
-use Rattle.syntect_within.specs.Fitting.{of_top, of_top_entry, expanded_length, Fit, pattern_at, IsPassed, Passes, Tells, LimitsTell}
+use Rattle.syntect_within.specs.Fitting.{of_top, of_top_entry, counted_length, Fit, pattern_at, IsPassed, Passes, Tells, LimitsTell, BytesCounted}
+use Rattle.syntect_rewrite.proofs.LengthLaws.{longer}
 
 module _ (limits : Limits) (vs : Variables) where
-  sums : (ts us : List (List ℕ)) → sum_by (expanded_length vs) (ts ++ us) ≡ sum_by (expanded_length vs) ts + sum_by (expanded_length vs) us
-  sums ts us = sum_by-append (expanded_length vs) ts us
+  sums : (ts us : List (List ℕ)) → sum_by (counted_length vs) (ts ++ us) ≡ sum_by (counted_length vs) ts + sum_by (counted_length vs) us
+  sums ts us = sum_by-append (counted_length vs) ts us
 
-  fit-both : (most n : ℕ) (ts us : List (List ℕ)) → Fit limits vs most ts → sum_by (expanded_length vs) ts + n ≡ most → Fit limits vs n us → Fit limits vs most (ts ++ us)
+  fit-both : (most n : ℕ) (ts us : List (List ℕ)) → Fit limits vs most ts → sum_by (counted_length vs) ts + n ≡ most → Fit limits vs n us → Fit limits vs most (ts ++ us)
   fit-both most n ts us f e g = record {
-    each = All-append (λ t. expanded_length vs t ≤ limits.pattern) ts us f.each g.each;
+    each = All-append (λ t. counted_length vs t ≤ limits.pattern) ts us f.each g.each;
     together = omega (arith, sums ts us, e, g.together);
   }
 
-  passed-later : (most n : ℕ) (ts before : List (List ℕ)) (r : LimitReached) → sum_by (expanded_length vs) ts + n ≡ most → IsPassed limits vs n before r → IsPassed limits vs most (ts ++ before) r
+  passed-later : (most n : ℕ) (ts before : List (List ℕ)) (r : LimitReached) → sum_by (counted_length vs) ts + n ≡ most → IsPassed limits vs n before r → IsPassed limits vs most (ts ++ before) r
   passed-later most n ts before reached.Text e p = p
   passed-later most n ts before (reached.Pattern place) e p = p
   passed-later most n ts before (reached.Patterns place) e p =
-      let same : sum_by (expanded_length vs) ((ts ++ before) ++ place.pattern ∷ []) ≡ sum_by (expanded_length vs) ts + sum_by (expanded_length vs) (before ++ place.pattern ∷ []) =
-      ap (sum_by (expanded_length vs)) (append_assoc ts before (place.pattern ∷ [])) ∙ sums ts (before ++ place.pattern ∷ []) in
+      let same : sum_by (counted_length vs) ((ts ++ before) ++ place.pattern ∷ []) ≡ sum_by (counted_length vs) ts + sum_by (counted_length vs) (before ++ place.pattern ∷ []) =
+      ap (sum_by (counted_length vs)) (append_assoc ts before (place.pattern ∷ [])) ∙ sums ts (before ++ place.pattern ∷ []) in
       omega (arith, same, e, p)
+  passed-later most n ts before reached.Folder e p = p
 
-  passes-later : (most n : ℕ) (ts us : List (List ℕ)) (r : LimitReached) → Fit limits vs most ts → sum_by (expanded_length vs) ts + n ≡ most → Passes limits vs n us r → Passes limits vs most (ts ++ us) r
+  passes-later : (most n : ℕ) (ts us : List (List ℕ)) (r : LimitReached) → Fit limits vs most ts → sum_by (counted_length vs) ts + n ≡ most → Passes limits vs n us r → Passes limits vs most (ts ++ us) r
   passes-later most n ts us r f e p = record {
     before = ts ++ p.before;
     after = p.after;
@@ -57,7 +59,7 @@ module _ (limits : Limits) (vs : Variables) where
     passed = p.passed;
   }
 
-  tells-later : (most n : ℕ) (ts us : List (List ℕ)) (b : Left) → Fit limits vs most ts → sum_by (expanded_length vs) ts + n ≡ most → Tells limits vs n us b → Tells limits vs most (ts ++ us) b
+  tells-later : (most n : ℕ) (ts us : List (List ℕ)) (b : Left) → Fit limits vs most ts → sum_by (counted_length vs) ts + n ≡ most → Tells limits vs n us b → Tells limits vs most (ts ++ us) b
   tells-later most n ts us (Ok m) f e t = (fit-both most n ts us f e t.0, omega (arith, sums ts us, e, t.1))
   tells-later most n ts us (Err r) f e t = passes-later most n ts us r f e t
 
@@ -66,13 +68,13 @@ module _ (limits : Limits) (vs : Variables) where
   tells-both most ts us (Err r) f t h = passes-earlier most ts us r t
 
   fit-none : (most : ℕ) → Fit limits vs most []
-  fit-none most = record { each = All-nil (λ t. expanded_length vs t ≤ limits.pattern); together = omega arith }
+  fit-none most = record { each = All-nil (λ t. counted_length vs t ≤ limits.pattern); together = omega arith }
 
   tells-none : (most : ℕ) → Tells limits vs most [] (Ok most)
   tells-none most = (fit-none most, omega arith)
 
   -- one pattern
-  is-passed : (most : ℕ) (place : PatternPlace) (b : Bool) → nat_le limits.pattern most ≡ b → min limits.pattern most < expanded_length vs place.pattern → IsPassed limits vs most [] (reached_at b place)
+  is-passed : (most : ℕ) (place : PatternPlace) (b : Bool) → nat_le limits.pattern most ≡ b → min limits.pattern most < counted_length vs place.pattern → IsPassed limits vs most [] (reached_at b place)
   is-passed most place true e h = grind (arith, nat_tests, common_steps)
   is-passed most place false e h = grind (arith, nat_tests, common_steps)
 
@@ -80,13 +82,13 @@ module _ (limits : Limits) (vs : Variables) where
   at-place place true = refl
   at-place place false = refl
 
-  one-tells : (most : ℕ) (place : PatternPlace) (b : Bool) → nat_le (expanded_length vs place.pattern) (min limits.pattern most) ≡ b → Tells limits vs most (place.pattern ∷ []) (left_after (reached_at (nat_le limits.pattern most) place) most (length_within (min limits.pattern most) (expanded vs place.pattern)))
+  one-tells : (most : ℕ) (place : PatternPlace) (b : Bool) → nat_le (counted_length vs place.pattern) (min limits.pattern most) ≡ b → Tells limits vs most (place.pattern ∷ []) (left_after (reached_at (nat_le limits.pattern most) place) most (length_within (min limits.pattern most) (with_uses vs place.pattern)))
   one-tells most place true e =
-      let n : ℕ = expanded_length vs place.pattern in
+      let n : ℕ = counted_length vs place.pattern in
       let short : n ≤ min limits.pattern most = grind (arith, nat_tests, common_steps) in
-      rw e (record { each = All-cons (λ t. expanded_length vs t ≤ limits.pattern) place.pattern [] (omega (arith, short)) (All-nil (λ t. expanded_length vs t ≤ limits.pattern)); together = omega (arith, short) }, omega (arith, short))
+      rw e (record { each = All-cons (λ t. counted_length vs t ≤ limits.pattern) place.pattern [] (omega (arith, short)) (All-nil (λ t. counted_length vs t ≤ limits.pattern)); together = omega (arith, short) }, omega (arith, short))
   one-tells most place false e =
-      let n : ℕ = expanded_length vs place.pattern in
+      let n : ℕ = counted_length vs place.pattern in
       let long : min limits.pattern most < n = grind (arith, nat_tests, common_steps) in
       rw e (record {
         before = [];
@@ -97,7 +99,7 @@ module _ (limits : Limits) (vs : Variables) where
       })
 
   pattern-tells : (context : List ℕ) (item most : ℕ) (t : List ℕ) → Tells limits vs most (t ∷ []) (count_pattern limits vs context item most t)
-  pattern-tells context item most t = one-tells most (record { context = context; item = item; pattern = t }) (nat_le (expanded_length vs t) (min limits.pattern most)) refl
+  pattern-tells context item most t = one-tells most (record { context = context; item = item; pattern = t }) (nat_le (counted_length vs t) (min limits.pattern most)) refl
 
   each-tells : {A : Type 0} (f : ℕ → A → Left) (of : A → List (List ℕ)) → ((n : ℕ) (x : A) → Tells limits vs n (of x) (f n x)) → (most : ℕ) (xs : List A) → Tells limits vs most (flat_map of xs) (count_each f most xs)
   each-tells f of h most [] = tells-none most
@@ -129,3 +131,6 @@ module _ (limits : Limits) (vs : Variables) where
 
 pub limits_tell : LimitsTell
 limits_tell limits v e = rw e (entries-tell limits (variables_at v) limits.patterns (unwrap_or (at map_in (codes "contexts") v) []))
+
+pub bytes_counted : BytesCounted
+bytes_counted vs t = longer vs t

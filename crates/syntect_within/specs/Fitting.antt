@@ -1,10 +1,12 @@
--- What keeps within limits: how long the patterns of a grammar are with their variables expanded, and together.
+-- What keeps within limits: how long the patterns of a grammar are with their variables expanded and the uses of these
+-- counted, each and together.
 use Rattle.std.specs.Prelude.{◌≡◌, ℕ, ◌<◌, ◌≤◌, ◌+◌, false, List, [], ◌∷◌, ◌++◌, length, codes, flat_map, Option, Some, None, unwrap_or, Ok, Err}
 use Rattle.std.specs.List.{All, sum_by}
 use Rattle.syntect_yaml.specs.Node.{Node, text_of}
 use Rattle.syntect_yaml.specs.Yaml.{deepest}
 use Rattle.syntect_yaml.specs.declared.value.Scalar.{Scalar}
 use Rattle.syntect_rewrite.specs.Variables.{Variables, expanded}
+use Rattle.syntect_rewrite.specs.Lengths.{with_uses}
 use Rattle.syntect_base.specs.declared.limits.Limits.{Limits}
 use Rattle.syntect_base.specs.declared.limits.LimitReached.{LimitReached}
 use Rattle.syntect_base.specs.declared.limits.LimitReached.TheVariants as reached
@@ -30,30 +32,33 @@ patterns_of v = flat_map of_top_entry (unwrap_or (at map_in (codes "contexts") v
 
 -- ---- what fits ----
 
-abbrev pub expanded_length : Variables → List ℕ → ℕ
-expanded_length variables t = length (expanded variables t)
+-- how many bytes a text has with its variables expanded, and how many uses of variables are come to for that
+abbrev pub counted_length : Variables → List ℕ → ℕ
+counted_length variables t = length (with_uses variables t)
 
--- with their variables expanded these patterns have at most as many bytes each as the limit lets one have, and together at
--- most so many
+-- with their variables expanded, and their uses counted, these patterns have at most as many bytes each as the limit lets
+-- one have, and together at most so many
 pub record Fit
     (limits : Limits) (variables : Variables) (most : ℕ) (patterns : List (List ℕ))
     : Type 0 where
-  pub each : All (λ t. expanded_length variables t ≤ limits.pattern) patterns
-  pub together : sum_by (expanded_length variables) patterns ≤ most
+  pub each : All (λ t. counted_length variables t ≤ limits.pattern) patterns
+  pub together : sum_by (counted_length variables) patterns ≤ most
 
 -- the pattern at which a limit is reached
 abbrev pub pattern_at : LimitReached → List ℕ
 pattern_at reached.Text = []
 pattern_at (reached.Pattern place) = place.pattern
 pattern_at (reached.Patterns place) = place.pattern
+pattern_at reached.Folder = []
 
 -- the limit that is named is passed by the pattern there, behind these
 abbrev pub IsPassed : Limits → Variables → ℕ → List (List ℕ) → LimitReached → Type 0
 IsPassed limits variables most before reached.Text = ⊥
 IsPassed limits variables most before (reached.Pattern place) =
-    limits.pattern < expanded_length variables place.pattern
+    limits.pattern < counted_length variables place.pattern
 IsPassed limits variables most before (reached.Patterns place) =
-    most < sum_by (expanded_length variables) (before ++ place.pattern ∷ [])
+    most < sum_by (counted_length variables) (before ++ place.pattern ∷ [])
+IsPassed limits variables most before reached.Folder = ⊥
 
 -- of these patterns those before the one at which the limit is reached fit, and that one passes the limit
 pub record Passes
@@ -70,7 +75,7 @@ pub record Passes
 abbrev pub Tells : Limits → Variables → ℕ → List (List ℕ) → Left → Type 0
 Tells limits variables most patterns (Ok left) =
     Fit limits variables most patterns
-    × (sum_by (expanded_length variables) patterns + left ≡ most)
+    × (sum_by (counted_length variables) patterns + left ≡ most)
 Tells limits variables most patterns (Err r) = Passes limits variables most patterns r
 
 -- Under limits of patterns a grammar is refused exactly where the patterns pass one, at the first that does.
@@ -79,3 +84,9 @@ LimitsTell =
     (limits : Limits) (v : Node)
     → lets_all limits ≡ false
     → Tells limits (variables_at v) limits.patterns (patterns_of v) (left_of_value limits v)
+
+-- A text is counted with no fewer bytes than it has with its variables expanded.
+abbrev pub BytesCounted : Type 0
+BytesCounted =
+    (variables : Variables) (t : List ℕ)
+    → length (expanded variables t) ≤ counted_length variables t

@@ -1,11 +1,11 @@
 -- Where a limit is reached while a grammar's patterns are expanded, in order: what is left of the bytes of all patterns is
--- counted down.
+-- counted down. A use of a variable counts as a byte.
 use Rattle.std.specs.Prelude.{◌≡◌, ℕ, suc, ◌-◌, ◌^◌, ◌==◌, Bool, true, false, ◌&&◌, nat_le, nat_lt, min, if◌then◌else◌, List, [], ◌∷◌, length, codes, Option, Some, None, unwrap_or, Result, Ok, Err}
 use Rattle.syntect_yaml.specs.Node.{Node, text_of}
 use Rattle.syntect_yaml.specs.Yaml.{yaml_of, deepest}
 use Rattle.syntect_yaml.specs.declared.value.Scalar.{Scalar}
-use Rattle.syntect_rewrite.specs.Variables.{Variables, expanded}
-use Rattle.syntect_rewrite.specs.Lengths.{length_within}
+use Rattle.syntect_rewrite.specs.Variables.{Variables}
+use Rattle.syntect_rewrite.specs.Lengths.{with_uses, length_within}
 use Rattle.syntect_base.specs.declared.limits.Limits.{Limits}
 use Rattle.syntect_base.specs.declared.limits.PatternPlace.{PatternPlace}
 use Rattle.syntect_base.specs.declared.limits.LimitReached.{LimitReached}
@@ -44,13 +44,14 @@ left_after r left None = Err r
 
 -- over the limits and the variables
 module _ (limits : Limits) (variables : Variables) where
-  -- A pattern may have as many bytes as one may have, and as are left for all. Where it has more, the smaller is reached.
+  -- A pattern may have as many bytes, its uses of variables with them, as one may have, and as are left for all. Where it
+  -- has more, the smaller is reached.
   abbrev pub count_pattern : List ℕ → ℕ → ℕ → List ℕ → Left
   count_pattern context item left pattern =
       left_after
       (reached_at (nat_le limits.pattern left)
       (record { context = context; item = item; pattern = pattern }))
-      left (length_within (min limits.pattern left) (expanded variables pattern))
+      left (length_within (min limits.pattern left) (with_uses variables pattern))
 
   abbrev pub count_item : List ℕ → ℕ → ℕ → Node → Left
   count_item context item left v =

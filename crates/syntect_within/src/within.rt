@@ -13,7 +13,7 @@ use syntect_base::syntax::ParseSyntaxError;
 use syntect_loader::definition::SyntaxDefinition;
 use syntect_loader::yaml_load::{DEEPEST, definition, variables_of};
 use syntect_loader::yaml_load_values::{list_of, map_at};
-use syntect_rewrite::lengths::expanded_len;
+use syntect_rewrite::lengths::counted_len;
 use syntect_scope::repository::ScopeRepository;
 use syntect_values::seq::Seq;
 use syntect_values::table::Table;
@@ -65,7 +65,7 @@ fn count_pattern(
         context.now item left pattern.now) }
 {
     let most = counting.limits.pattern.min(left);
-    match expanded_len(alloc, pattern.as_str(), &counting.variables, most)? {
+    match counted_len(alloc, pattern.as_str(), &counting.variables, most)? {
         Some(n) => Ok(left - n),
         None => {
             let is_pattern = counting.limits.pattern <= left;

@@ -2,14 +2,16 @@ use Rattle.std.proofs.Common.{◌≡◌, ◌+◌, ◌≤◌, ◌*◌, length}
 use Rattle.syntect_pattern_table.specs.Program.{trees_of}
 use Rattle.syntect_linear.specs.Rows.{AreRows}
 use Rattle.syntect_linear.specs.Steps.{stops}
+use Rattle.syntect_meter.specs.Meter.{Advances}
 use Rattle.syntect_linear.proofs.fill.rows_from.Given as goal
 
 abbrev pub invariant-places : goal.invariant-places
 invariant-places l = record {
   rows_are : AreRows l.text (trees_of l.program) l.plan.cells l.rows.items;
   there : length l.rows.items + (l.begin + l.left) ≡ length l.text + 1;
-  paid : l.count.made ≤ l.initial.count.made + 6 * length l.plan.cells * length l.rows.items;
-  counted : l.initial.count.made + 2 * length l.plan.cells * stops l.text (length l.rows.items) ≤ l.count.made;
+  paid : l.meter.made ≤ l.initial.meter.made + 6 * length l.plan.cells * length l.rows.items;
+  counted : l.initial.meter.made + 2 * length l.plan.cells * stops l.text (length l.rows.items) ≤ l.meter.made;
+  advances : Advances l.initial.meter l.meter;
 }
 
 abbrev pub decreases-places : goal.decreases-places

@@ -18,11 +18,11 @@ pub returns-clause-finds : goal.returns-clause-finds
 returns-clause-finds c = λ tree h.
     let at = c.if-not-is_boundary.false in
     found-some c.args.ground.now c.args.place (covers-filled c.args.ground.now c.args.marks.now c.args.begin c.args.place c.requires.covers c.requires.later (c.is_boundary.ensures.boundary at)).ground
-    tree h (sym c.is_boundary.ensures.value ∙ at) c.walk.result c.walk.new.groups.items
-    (subst (λ (g : Groups). Walks c.args.ground.now 1 c.args.place g c.walk.result c.walk.new.groups.items) c.in_ok-unset.ensures c.walk.ensures.walks)
+    tree h (sym c.is_boundary.ensures.value ∙ at) c.in_ok-walk.field-0 c.walk.new.groups.items
+    (subst (λ (g : Groups). Walks c.args.ground.now 1 c.args.place g c.in_ok-walk.field-0 c.walk.new.groups.items) c.in_ok-unset.ensures c.in_ok-walk.ensures.walks)
 
 pub returns-clause-steps : goal.returns-clause-steps
 returns-clause-steps c =
     let at = c.if-not-is_boundary.false in
     let filled = covers-filled c.args.ground.now c.args.marks.now c.args.begin c.args.place c.requires.covers c.requires.later (c.is_boundary.ensures.boundary at) in
-    whole-cost c.args.ground.now c.args.place filled.ground c.args.count.now.made c.in_ok-unset.unset.items c.walk.result c.walk.new.groups.items c.walk.new.count.made c.walk.ensures.walks c.walk.ensures.steps
+    whole-cost c.args.ground.now c.args.place filled.ground c.args.meter.now.made c.in_ok-unset.unset.items c.in_ok-walk.field-0 c.walk.new.groups.items c.walk.new.meter.made c.in_ok-walk.ensures.walks c.in_ok-walk.ensures.steps

@@ -1,4 +1,4 @@
-use Rattle.std.proofs.Common.{◌≡◌, ℕ, [], get_or, Bool, Option, List, subst, true, false}
+use Rattle.std.proofs.Common.{◌≡◌, ℕ, [], get_or, Bool, Option, List, subst, false}
 use Rattle.std.specs.Prelude.{IfSome, is_some}
 use Rattle.syntect_pattern_table.specs.Program.{trees_of}
 use Rattle.syntect_ways.proofs.BoundaryLaws.{true-boundary}

@@ -1,4 +1,5 @@
-use Rattle.std.proofs.Common.{◌≤◌, ◌+◌, ◌*◌, ◌-◌, length}
+use Rattle.std.proofs.Common.{◌+◌, ◌*◌, ◌-◌, length}
+use Rattle.syntect_meter.specs.Meter.{Advances}
 use Rattle.syntect_linear.specs.Walk.{IsFilled}
 use Rattle.syntect_linear.proofs.WalkLaws.{size_of, Continues}
 use Rattle.syntect_linear.proofs.walk.+walk.Given as goal
@@ -15,8 +16,8 @@ decreases-walk_turns l = 3 * size_of l.ground.now l.cell
 abbrev pub invariant-walk_turns-turns : goal.invariant-walk_turns-turns
 invariant-walk_turns-turns l = record {
   filled : IsFilled l.ground l.marks l.at;
-  rises : l.initial.count.made ≤ l.count.made;
-  goes : Continues l.ground l.fn.cell l.fn.place l.initial.groups.items l.turn l.at l.groups.items l.greedy l.least l.most l.initial.count.made l.count.made;
+  advances : Advances l.initial.meter l.meter;
+  goes : Continues l.ground l.fn.cell l.fn.place l.initial.groups.items l.turn l.at l.groups.items l.greedy l.least l.most l.initial.meter.made l.meter.made;
 }
 
 abbrev pub decreases-walk_turns-turns : goal.decreases-walk_turns-turns

@@ -1,17 +1,20 @@
-use Rattle.std.proofs.Common.{◌-◌, ◌≤◌}
+use Rattle.std.proofs.Common.{◌-◌}
+use Rattle.syntect_base.specs.Limiting.{IsWithinLimit}
+use Rattle.syntect_meter.specs.Meter.{Advances}
 use Rattle.syntect_winner.specs.Memory.{Remembers}
 use Rattle.syntect_parsing.specs.Step.{turns_left}
 use Rattle.syntect_parsing.proofs.Runs.{ReadSoFar}
 use Rattle.syntect_parsing.proofs.WorkLaws.{StepsSoFar}
 use Rattle.syntect_parsing.proofs.parser.read_line.Given as goal
 
-abbrev pub invariant-loop-e : goal.invariant-loop-e
-invariant-loop-e l = record {
+abbrev pub invariant-each : goal.invariant-each
+invariant-each l = record {
   known : Remembers l.set l.line l.regions.memory;
   read : ReadSoFar l.set l.line l.state l.p l.ops.items l.fn.count.made l.count.made l.turns;
-  rises : l.fn.regions.steps.made ≤ l.regions.steps.made;
+  advances : Advances l.fn.regions.steps l.regions.steps;
+  few : IsWithinLimit l.limits.turns (l.count.made - l.fn.count.made);
   steps : StepsSoFar l.set l.line l.state l.p (l.count.made - l.fn.count.made) l.fn.regions.steps.made l.regions.steps.made;
 }
 
-abbrev pub decreases-loop-e : goal.decreases-loop-e
-decreases-loop-e l = turns_left l.set l.line l.p
+abbrev pub decreases-each : goal.decreases-each
+decreases-each l = turns_left l.set l.line l.p

@@ -7,14 +7,18 @@ use Rattle.syntect_winner.specs.Turn.{Live, Take, Skip}
 use Rattle.syntect_parsing.specs.Candidates.{live_with}
 use Rattle.syntect_parsing.specs.Line.{step, turn_on}
 use Rattle.syntect_parsing.specs.Orderly.{is_orderly}
+use Rattle.syntect_parsing.specs.Step.{RefusesStep, RefusesTurn}
 use Rattle.syntect_parsing.specs.Turn.{skipped}
 use Rattle.syntect_parsing.proofs.ChoiceLaws.{choice_stands, step_chosen, taken_orderly}
 use Rattle.syntect_parsing.proofs.TakenLaws.{groups_taken, on_boundaries, seen_with}
+use Rattle.syntect_parsing.proofs.WithinLaws.{if_refused}
 use Rattle.syntect_parsing.proofs.WholeTurnLaws.{turn_refused, turn_refused_by, turn_makes, turn_ends, skip_makes}
 use Rattle.syntect_parsing.proofs.turn.turn.Goals as goal
 
 pub returns-in-Err-clause-refused : goal.returns-in-Err-clause-refused
-returns-in-Err-clause-refused c = turn_refused c.args.set.now c.args.line.now c.args.p.now c.trim.new.p c.trim.ensures c.in-Err.e c.in-Err.ensures.refused
+returns-in-Err-clause-refused c =
+    if_refused (RefusesStep (turn_on dialect c.args.set.now c.args.line.now c.trim.new.p (last c.trim.new.p.levels))) (RefusesTurn dialect c.args.set.now c.args.line.now c.args.p.now)
+    (turn_refused c.args.set.now c.args.line.now c.args.p.now c.trim.new.p c.trim.ensures) c.in-Err.e c.in-Err.ensures.refused
 
 pub invariant_of-taken : goal.invariant_of-taken
 invariant_of-taken c =

@@ -28,7 +28,7 @@ returns-clause-depths c = λ p is stands.
 pub returns-clause-steps : goal.returns-clause-steps
 returns-clause-steps c =
     let t : Tree = root_tree c.args.guide.program in
-    let found = subst (λ (q : Program). c.begins_at.new.count.made ≤ c.mark.new.count.made + (walk_cost (root_tree q) + look_cost (root_tree q)) * (length c.args.text.now + 1))
+    let found = subst (λ (q : Program). c.begins_at.new.meter.made ≤ c.mark.new.meter.made + (walk_cost (root_tree q) + look_cost (root_tree q)) * (length c.args.text.now + 1))
     c.mark.ensures.program c.in_ok-found.ensures.steps in
-    weighed (length c.args.guide.plan.cells) (walk_cost t + look_cost t) (length c.args.text.now + 1) c.args.count.now.made c.mark.new.count.made c.begins_at.new.count.made
+    weighed (length c.args.guide.plan.cells) (walk_cost t + look_cost t) (length c.args.text.now + 1) c.args.meter.now.made c.mark.new.meter.made c.begins_at.new.meter.made
     c.in_ok-mark.ensures.steps found

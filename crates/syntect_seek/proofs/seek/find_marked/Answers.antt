@@ -16,7 +16,7 @@ pub returns-clause-steps : goal.returns-clause-steps
 returns-clause-steps c =
     let t : Tree = root_tree c.args.guide.program in
     on_ok-map c.find_up_to.result _ _
-    (λ h. weighed (length c.args.guide.plan.cells) (walk_cost t + look_cost t) (length c.args.text.now + 1) c.args.count.now.made c.mark.new.count.made c.find_up_to.new.count.made
+    (λ h. weighed (length c.args.guide.plan.cells) (walk_cost t + look_cost t) (length c.args.text.now + 1) c.args.meter.now.made c.mark.new.meter.made c.find_up_to.new.meter.made
     c.in_ok-mark.ensures.steps
-    (subst (λ (q : Program). c.find_up_to.new.count.made ≤ c.mark.new.count.made + (walk_cost (root_tree q) + look_cost (root_tree q)) * (length c.args.text.now + 1)) c.mark.ensures.program h))
+    (subst (λ (q : Program). c.find_up_to.new.meter.made ≤ c.mark.new.meter.made + (walk_cost (root_tree q) + look_cost (root_tree q)) * (length c.args.text.now + 1)) c.mark.ensures.program h))
     c.find_up_to.ensures.steps

@@ -1,5 +1,6 @@
 use Rattle.std.proofs.Common.{arith, length, subst, sym, take}
 use Rattle.std.specs.List.{flat_map}
+use Rattle.syntect_meter.proofs.MeterLaws.{advances-none, advances-on}
 use Rattle.syntect_winner.specs.Ahead.{IsRun, run_members}
 use Rattle.syntect_winner.specs.Losses.{marks_of}
 use Rattle.syntect_winner.specs.Reader.{matches_of}
@@ -29,7 +30,7 @@ loop-part-preserved c = record {
       (one_ahead c.args.reader.now c.args.place c.args.losses.now c.loop-part.losses c.args.runs.now c.loop-part.part c.index-runs-part.result c.loop-part-test.true c.index-runs-part.is c.loop-part.invariant.marks a)
       (c.loop-part.invariant.best a))
       is (c.loop-part.invariant.ahead a (c.in_ok-best.ensures.grows is));
-  rises = omega (arith, c.loop-part.invariant.rises, c.in_ok-best.ensures.rises);
+  advances = advances-on _ _ _ c.loop-part.invariant.advances c.with_run.ensures.advances;
   steps = λ w all.
       runs_spent c.args.reader.now.set.now c.args.runs.now w c.args.regions.now.steps.made c.loop-part.regions.steps.made c.with_run.new.regions.steps.made c.loop-part.part c.index-runs-part.result c.loop-part-test.true c.index-runs-part.is
       (c.loop-part.invariant.steps w all)

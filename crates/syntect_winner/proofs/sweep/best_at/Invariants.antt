@@ -1,5 +1,6 @@
 use Rattle.std.proofs.Common.{◌≡◌, ℕ, ◌+◌, ◌≤◌, length, take, false}
 use Rattle.std.specs.List.{flat_map}
+use Rattle.syntect_meter.specs.Meter.{Advances}
 use Rattle.syntect_winner.specs.Ahead.{AllAhead, IsBestAt, run_members}
 use Rattle.syntect_winner.specs.Losses.{marks_of}
 use Rattle.syntect_winner.specs.Memory.{Remembers}
@@ -15,7 +16,7 @@ invariant-loop-part l = record {
   groups : AllAhead l.reader l.fn.losses l.place l.runs → AreGroupsBy l.reader l.best.candidate l.regions.best;
   best : AllAhead l.reader l.fn.losses l.place l.runs → IsBestAt l.reader l.place (matches_of l.reader (flat_map (run_members l.reader.set.now) (take l.part l.runs))) l.best;
   ahead : AllAhead l.reader l.fn.losses l.place l.runs → l.best.is_match ≡ false → AheadUpTo l.reader l.place l.losses (l.place + 1) l.runs l.part;
-  rises : l.fn.regions.steps.made ≤ l.regions.steps.made;
+  advances : Advances l.fn.regions.steps l.regions.steps;
   steps : (w : ℕ) → AreWithin (length l.reader.line.now) w (flat_map (run_members l.reader.set.now) l.runs)
       → l.regions.steps.made ≤ l.fn.regions.steps.made + place_steps (length (flat_map (run_members l.reader.set.now) (take l.part l.runs))) w;
 }

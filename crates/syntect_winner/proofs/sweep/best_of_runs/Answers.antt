@@ -1,5 +1,6 @@
 use Rattle.std.proofs.Common.{arith, length, ◌+◌}
 use Rattle.std.specs.List.{flat_map}
+use Rattle.syntect_meter.proofs.MeterLaws.{advances-none, advances-on}
 use Rattle.syntect_winner.specs.Ahead.{run_members}
 use Rattle.syntect_winner.specs.Steps.{place_steps}
 use Rattle.syntect_winner.proofs.SweepLaws.{all_first, chain_ended, chain_won, reaches_on}
@@ -13,7 +14,7 @@ places-init c = record {
   within = c.args.reader.now.boundary.0;
   ahead = all_first c.args.reader.now c.new-losses.result c.args.runs.now c.new-losses.ensures;
   reach = λ l. absurd (omega (arith, l));
-  rises = omega arith;
+  advances = advances-none c.args.regions.now.steps;
   steps = λ w all. places_begin c.args.regions.now.steps.made (length c.args.reader.now.line.now) c.args.reader.now.position.now.place (place_steps (length (flat_map (run_members c.args.reader.now.set.now) c.args.runs.now)) w);
 }
 
@@ -46,7 +47,7 @@ places-preserved-else-next-reader c = record {
   within = omega (arith, c.if-next-reader.false);
   ahead = (c.in_ok-found.ensures.best (c.next_place-next.ensures.ahead c.places.losses c.args.runs.now c.begins_of-begins.ensures c.requires.runs c.places.invariant.ahead)).ahead c.if-found.false;
   reach = reaches_on c.args.reader.now.line.now c.next_place-next.result (c.next_place-next.result + 1) c.outlook_of-outlook.new.reach (omega arith) c.outlook_of-outlook.ensures.reach;
-  rises = omega (arith, c.places.invariant.rises, c.in_ok-found.ensures.rises);
+  advances = advances-on _ _ _ c.places.invariant.advances c.best_at.ensures.advances;
   steps = λ w all.
       spent c.places.regions.steps.made c.best_at.new.regions.steps.made c.args.regions.now.steps.made _ _ _ (place_steps (length (flat_map (run_members c.args.reader.now.set.now) c.args.runs.now)) w) (c.places.invariant.steps w all)
       (c.in_ok-found.ensures.steps w all)
@@ -60,7 +61,7 @@ places-preserved-else-next-reader-2 c = record {
   within = omega (arith, c.if-next-reader.false);
   ahead = (c.in_ok-found.ensures.best (c.next_place-next.ensures.ahead c.places.losses c.args.runs.now c.begins_of-begins.ensures c.requires.runs c.places.invariant.ahead)).ahead c.if-found.false;
   reach = reaches_on c.args.reader.now.line.now c.next_place-next.result (c.next_place-next.result + 1) c.outlook_of-outlook.new.reach (omega arith) c.outlook_of-outlook.ensures.reach;
-  rises = omega (arith, c.places.invariant.rises, c.in_ok-found.ensures.rises);
+  advances = advances-on _ _ _ c.places.invariant.advances c.best_at.ensures.advances;
   steps = λ w all.
       spent c.places.regions.steps.made c.best_at.new.regions.steps.made c.args.regions.now.steps.made _ _ _ (place_steps (length (flat_map (run_members c.args.reader.now.set.now) c.args.runs.now)) w) (c.places.invariant.steps w all)
       (c.in_ok-found.ensures.steps w all)
@@ -74,7 +75,7 @@ places-preserved c = record {
   within = omega (arith, c.if-next-reader.false);
   ahead = (c.in_ok-found.ensures.best (c.next_place-next.ensures.ahead c.places.losses c.args.runs.now c.begins_of-begins.ensures c.requires.runs c.places.invariant.ahead)).ahead c.if-found.false;
   reach = reaches_on c.args.reader.now.line.now c.next_place-next.result (c.next_place-next.result + 1) c.outlook_of-outlook.new.reach (omega arith) c.outlook_of-outlook.ensures.reach;
-  rises = omega (arith, c.places.invariant.rises, c.in_ok-found.ensures.rises);
+  advances = advances-on _ _ _ c.places.invariant.advances c.best_at.ensures.advances;
   steps = λ w all.
       spent c.places.regions.steps.made c.best_at.new.regions.steps.made c.args.regions.now.steps.made _ _ _ (place_steps (length (flat_map (run_members c.args.reader.now.set.now) c.args.runs.now)) w) (c.places.invariant.steps w all)
       (c.in_ok-found.ensures.steps w all)

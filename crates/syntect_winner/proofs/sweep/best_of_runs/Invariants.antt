@@ -1,5 +1,6 @@
 use Rattle.std.proofs.Common.{ℕ, ◌+◌, ◌*◌, ◌≤◌, ◌-◌, length}
 use Rattle.std.specs.List.{flat_map}
+use Rattle.syntect_meter.specs.Meter.{Advances}
 use Rattle.syntect_winner.specs.Ahead.{AllAhead, Reaches, run_members}
 use Rattle.syntect_winner.specs.Memory.{Remembers}
 use Rattle.syntect_winner.specs.Steps.{AreWithin, place_steps, turn_steps}
@@ -12,7 +13,7 @@ invariant-places l = record {
   within : l.place ≤ length l.reader.line.now;
   ahead : AllAhead l.reader l.losses l.place l.runs;
   reach : Reaches l.reader.line.now l.place l.reach;
-  rises : l.fn.regions.steps.made ≤ l.regions.steps.made;
+  advances : Advances l.fn.regions.steps l.regions.steps;
   steps : (w : ℕ) → AreWithin (length l.reader.line.now) w (flat_map (run_members l.reader.set.now) l.runs)
       → l.regions.steps.made + (length l.reader.line.now + 1 - l.place) * place_steps (length (flat_map (run_members l.reader.set.now) l.runs)) w
       ≤ l.fn.regions.steps.made + turn_steps (length (flat_map (run_members l.reader.set.now) l.runs)) w (length l.reader.line.now);

@@ -1,4 +1,5 @@
 use Rattle.std.proofs.Common.{◌∙◌, ◌+◌, ◌-◌, ◌++◌, ap, length, take, inl, inr, refl, arith}
+use Rattle.syntect_meter.proofs.MeterLaws.{advances-none, advances-on}
 use Rattle.syntect_winner.specs.Ahead.{list_in}
 use Rattle.syntect_winner.specs.Losses.{marks_of}
 use Rattle.syntect_winner.specs.Parts.{flat_members}
@@ -21,7 +22,7 @@ loop-index-init c = record {
   ahead = λ ms a h is.
       begun_ahead c.dialect_finds_in_text.ensures c.args.reader.now c.args.place c.args.run.now c.requires.run (marks_of c.args.losses.now c.args.part) c.next_in-index.result
       (c.next_in-index.ensures.passed c.args.reader.now.line.now c.args.place c.requires.sees) a;
-  rises = omega arith;
+  advances = advances-none c.args.regions.now.steps;
   steps = λ w all. omega (arith, more_room (c.len-count.result - c.next_in-index.result) (c.len-count.result) w (omega arith));
 }
 
@@ -61,7 +62,7 @@ loop-index-preserved c = record {
       is
       (still_up_to c.dialect_finds_in_text.ensures c.args.reader.now c.args.place c.args.run.now (marks_of c.loop-index.losses c.args.part) (marks_of c.with_pattern.new.losses c.args.part) (c.args.place + 1) c.loop-index.index c.in_ok-best.ensures.losses.others
       (c.loop-index.invariant.ahead ms a h (c.in_ok-best.ensures.grows is))));
-  rises = omega (arith, c.loop-index.invariant.rises, c.in_ok-best.ensures.rises);
+  advances = advances-on _ _ _ c.loop-index.invariant.advances c.with_pattern.ensures.advances;
   steps = λ w all.
       spent c.loop-index.regions.steps.made c.with_pattern.new.regions.steps.made c.args.regions.now.steps.made _ _ _ w (c.loop-index.invariant.steps w all) (c.in_ok-best.ensures.steps w all)
       (omega (arith, c.loop-index-test.true, c.next_in-index-in-loop-index.ensures.later));

@@ -1,4 +1,5 @@
 use Rattle.std.proofs.Common.{◌≡◌, ℕ, ◌+◌, ◌*◌, ◌≤◌, ◌++◌, ◌-◌, List, length, take, false}
+use Rattle.syntect_meter.specs.Meter.{Advances}
 use Rattle.syntect_winner.specs.Ahead.{AreAhead, AreAheadUpTo, IsBestAt, list_in, run_members}
 use Rattle.syntect_winner.specs.Losses.{LosesInPart, is_lost, marks_of}
 use Rattle.syntect_winner.specs.Memory.{Remembers}
@@ -19,7 +20,7 @@ invariant-loop-index l = record {
       → IsBestAt l.reader l.place (ms ++ matches_of l.reader (flat_members l.reader.set.now l.run.part (take l.index (list_in l.run.flats)))) l.best;
   ahead : (ms : List Live) → AreAhead l.reader (marks_of l.fn.losses l.part) l.place l.run → IsBestAt l.reader l.place ms l.fn.best
       → l.best.is_match ≡ false → AreAheadUpTo l.reader (marks_of l.losses l.part) (l.place + 1) l.run l.index;
-  rises : l.fn.regions.steps.made ≤ l.regions.steps.made;
+  advances : Advances l.fn.regions.steps l.regions.steps;
   steps : (w : ℕ) → AreWithin (length l.reader.line.now) w (run_members l.reader.set.now l.run) → l.regions.steps.made + (l.count - l.index) * w ≤ l.fn.regions.steps.made + l.count * w;
 }
 

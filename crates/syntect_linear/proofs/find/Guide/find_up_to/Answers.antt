@@ -2,6 +2,7 @@ use Rattle.std.proofs.Common.{◌≡◌, sym, ◌∙◌, ap, arith, Some, None, 
 use Rattle.syntect_pattern.specs.Matches.{found_at}
 use Rattle.syntect_linear.specs.Finds.{groups_of}
 use Rattle.syntect_linear.proofs.FindLaws.{found-here, found-step, found-past, paid-none, paid-match}
+use Rattle.syntect_meter.proofs.MeterLaws.{advances-on}
 use Rattle.syntect_linear.proofs.find.Guide.find_up_to.Goals as goal
 
 pub returns-then-branch-clause-finds : goal.returns-then-branch-clause-finds
@@ -14,8 +15,8 @@ returns-then-branch-clause-finds c = λ tree h.
 pub starts-preserved : goal.starts-preserved
 starts-preserved c = record {
   within = omega (arith, c.starts-test.true);
-  paid = omega (arith, paid-none _ c.starts.count.made c.begins_here.new.count.made _ c.if-branch.false c.in_ok-begins_here.ensures.steps, c.starts.invariant.paid);
-  rises = omega (arith, c.starts.invariant.rises, c.in_ok-begins_here.ensures.rises);
+  paid = omega (arith, paid-none _ c.starts.meter.made c.begins_here.new.meter.made _ c.if-branch.false c.in_ok-begins_here.ensures.steps, c.starts.invariant.paid);
+  advances = advances-on c.args.meter.now c.starts.meter c.begins_here.new.meter c.starts.invariant.advances c.begins_here.ensures.advances;
   later = omega (arith, c.starts.invariant.later);
   same = λ tree h.
       let s = c.args.text.now in
@@ -26,7 +27,7 @@ starts-preserved c = record {
 
 pub returns-then-branch-clause-steps : goal.returns-then-branch-clause-steps
 returns-then-branch-clause-steps c =
-    omega (arith, c.starts.invariant.paid, paid-match _ c.starts.count.made c.begins_here.new.count.made _ c.if-branch.true c.in_ok-begins_here.ensures.steps)
+    omega (arith, c.starts.invariant.paid, paid-match _ c.starts.meter.made c.begins_here.new.meter.made _ c.if-branch.true c.in_ok-begins_here.ensures.steps)
 
 pub returns-else-place-text-clause-finds : goal.returns-else-place-text-clause-finds
 returns-else-place-text-clause-finds c = λ tree h.

@@ -2,13 +2,14 @@ use Rattle.std.proofs.Common.{◌≡◌, ◌-◌, ◌≤◌, suc, length}
 use Rattle.syntect_pattern.specs.Trees.{Tree}
 use Rattle.syntect_pattern.specs.Matches.{found}
 use Rattle.syntect_pattern_table.specs.Program.{IsProgramOf}
+use Rattle.syntect_meter.specs.Meter.{Advances}
 use Rattle.syntect_linear.proofs.find.Guide.find_up_to.Given as goal
 
 abbrev pub invariant-starts : goal.invariant-starts
 invariant-starts l = record {
   within : l.place ≤ suc l.fn.last;
-  paid : l.count.made ≤ l.initial.count.made;
-  rises : l.initial.count.made ≤ l.count.made;
+  paid : l.meter.made ≤ l.initial.meter.made;
+  advances : Advances l.initial.meter l.meter;
   later : l.begin ≤ l.place;
   same : (tree : Tree) → IsProgramOf l.self.program tree → found l.text tree l.place ≡ found l.text tree l.begin;
 }

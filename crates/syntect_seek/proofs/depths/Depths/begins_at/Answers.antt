@@ -24,5 +24,5 @@ pub returns-clause-steps : goal.returns-clause-steps
 returns-clause-steps c = λ p is.
     let kept = c.in-Some.ensures c.args.text.now c.requires in
     let stands = subst (λ (o : Option Guide). IfSome o (λ g. (tree : Tree) → pattern_tree c.args.pattern.now ≡ Some tree → IsProgramOf g.program tree)) c.in-Some-guide.is kept.program in
-    subst (λ (t : Tree). c.begins_at.new.count.made ≤ c.args.count.now.made + (walk_cost t + look_cost t) * (length c.args.text.now + 1))
+    subst (λ (t : Tree). c.begins_at.new.meter.made ≤ c.args.meter.now.made + (walk_cost t + look_cost t) * (length c.args.text.now + 1))
     (root-by c.args.pattern.now p c.in-Some-guide.guide.program is stands) c.in_ok-found.ensures.steps

@@ -1,0 +1,206 @@
+//! Lines that are read within limits.
+use crate::found::{equal, holds};
+use std::alloc::Global;
+use std::process::Abort;
+use syntect::easy::{HighlightLines, HighlightWithinError};
+use syntect::highlighting::Theme;
+use syntect::html::{ClassStyle, ClassedHTMLGenerator};
+use syntect::parsing::{
+    Limits, LineLimit, ParseState, ReadWithinError, Regions, ScopeRepository, SyntaxDefinition,
+    SyntaxReference, SyntaxSet, SyntaxSetBuilder,
+};
+use syntect_parsing::syntax_definition::ContextId;
+
+/// Letters before a `b`, of which the last ones stand twice, and each `z`.
+const GRAMMAR: &str =
+    "name: T\nscope: source.t\ncontexts:\n  main:\n    - match: z\n      scope: keyword.z\n    - match: (a*)*\\1b\n      scope: keyword.b\n";
+
+/// Letters without a `b` next to them: the second pattern is tried in very many ways.
+const LETTERS: &str = "z aaaaaaaaaaaaaaaaaaaaaaaa b\n";
+
+/// More matches than three turns take.
+const MATCHES: &str = "zzzzz\n";
+
+/// A line with a match of each.
+const SHORT: &str = "zaab\n";
+
+fn set_of(rt: &impl Abort, alloc: Global) -> SyntaxSet {
+    let mut repository = ScopeRepository::new(alloc);
+    let definition = SyntaxDefinition::load_from_str(alloc, GRAMMAR, true, None, &mut repository);
+    let mut builder = SyntaxSetBuilder::new(alloc);
+    builder
+        .add(definition.expect(rt, "a grammar"))
+        .expect(rt, "memory");
+    builder.build(alloc, &mut repository).expect(rt, "a set")
+}
+
+fn syntax_of<'s>(rt: &impl Abort, set: &'s SyntaxSet) -> &'s SyntaxReference {
+    set.syntaxes().first().expect(rt, "a syntax")
+}
+
+/// A line that reaches a limit, and which one.
+#[derive(Clone, Copy)]
+struct Reached<'l> {
+    limits: Limits,
+    line: &'l str,
+    limit: LineLimit,
+}
+
+fn of_a_reading(e: ReadWithinError) -> Option<LineLimit> {
+    match e {
+        ReadWithinError::Refused(_) => None,
+        ReadWithinError::LimitReached(limit) => Some(limit),
+    }
+}
+
+fn of_a_line(e: HighlightWithinError) -> Option<LineLimit> {
+    match e {
+        HighlightWithinError::Refused(_) => None,
+        HighlightWithinError::LimitReached(limit) => Some(limit),
+    }
+}
+
+/// A state reaches the limit, and stays.
+fn states_reach(rt: &impl Abort, alloc: Global, set: &SyntaxSet, reached: Reached<'_>) {
+    let Reached {
+        limits,
+        line,
+        limit,
+    } = reached;
+    let mut state = ParseState::new(alloc, syntax_of(rt, set)).expect(rt, "a state");
+    let before = state.clone().expect(rt, "memory");
+    let mut regions = Regions::new(alloc);
+    let after = state.after_line_within(alloc, line, set, &limits, &mut regions);
+    equal(rt, after.err().and_then(of_a_reading), Some(limit));
+    let ops = state.parse_line_within(alloc, line, set, &limits);
+    equal(rt, ops.err().and_then(of_a_reading), Some(limit));
+    holds(rt, state == before);
+    holds(rt, state.parse_line(alloc, SHORT, set).is_ok());
+}
+
+/// A highlighter reaches the limit, and goes on as a new one begins.
+fn highlighters_reach(rt: &impl Abort, alloc: Global, set: &SyntaxSet, reached: Reached<'_>) {
+    let Reached {
+        limits,
+        line,
+        limit,
+    } = reached;
+    let theme = Theme::default(alloc);
+    let syntax = syntax_of(rt, set);
+    let mut lines = HighlightLines::new(alloc, syntax, &theme).expect(rt, "a highlighter");
+    let refused = lines.highlight_line_within(alloc, line, set, &limits);
+    equal(rt, refused.err().and_then(of_a_line), Some(limit));
+    let (styles, reader) = lines.state();
+    let new = HighlightLines::new(alloc, syntax, &theme).expect(rt, "a highlighter");
+    let (new_styles, new_reader) = new.state();
+    holds(rt, reader == new_reader);
+    holds(rt, styles == new_styles);
+}
+
+/// A generator of pages with classes reaches the limit, and its page has only the next line.
+fn generators_reach(rt: &impl Abort, alloc: Global, set: &SyntaxSet, reached: Reached<'_>) {
+    let Reached {
+        limits,
+        line,
+        limit,
+    } = reached;
+    let repository = ScopeRepository::new(alloc);
+    let syntax = syntax_of(rt, set);
+    let style = ClassStyle::Spaced;
+    let mut page = ClassedHTMLGenerator::new_with_class_style(
+        alloc,
+        syntax,
+        set,
+        &repository,
+        style,
+    ).expect(rt, "a generator");
+    let refused = page.parse_html_for_line_which_includes_newline_within(line, &limits);
+    equal(rt, refused.err().and_then(of_a_line), Some(limit));
+    let read = page.parse_html_for_line_which_includes_newline(SHORT);
+    holds(rt, read.is_ok());
+    let mut short = ClassedHTMLGenerator::new_with_class_style(
+        alloc,
+        syntax,
+        set,
+        &repository,
+        style,
+    ).expect(rt, "a generator");
+    let read = short.parse_html_for_line_which_includes_newline(SHORT);
+    holds(rt, read.is_ok());
+    let page = page.finalize().expect(rt, "a page");
+    let short = short.finalize().expect(rt, "a page");
+    equal(rt, page.as_str(), short.as_str());
+}
+
+/// Each call that reads within limits reaches this one, and changes nothing.
+fn all_reach(rt: &impl Abort, alloc: Global, set: &SyntaxSet, reached: Reached<'_>) {
+    states_reach(rt, alloc, set, reached);
+    highlighters_reach(rt, alloc, set, reached);
+    generators_reach(rt, alloc, set, reached);
+}
+
+/// The number of the syntax's context `main`.
+fn main_of(rt: &impl Abort, set: &SyntaxSet) -> ContextId {
+    syntax_of(rt, set)
+        .context_named("main")
+        .expect(rt, "a context")
+}
+
+/// The letters take more steps than the line has, at the first place behind the match.
+#[test]
+fn a_line_of_too_many_steps(rt: HostRuntime) {
+    let set = set_of(&rt, rt.alloc());
+    let reached = Reached {
+        limits: Limits {
+            steps: 2000,
+            ..Limits::default()
+        },
+        line: LETTERS,
+        limit: LineLimit::Steps {
+            context: main_of(&rt, &set),
+            index: 1,
+            place: 2,
+        },
+    };
+    all_reach(&rt, rt.alloc(), &set, reached);
+}
+
+/// The first turn leads into `main`, and the next ones take a match each.
+#[test]
+fn a_line_of_too_many_turns(rt: HostRuntime) {
+    let set = set_of(&rt, rt.alloc());
+    let reached = Reached {
+        limits: Limits {
+            turns: 3,
+            ..Limits::default()
+        },
+        line: MATCHES,
+        limit: LineLimit::Turns { place: 2 },
+    };
+    all_reach(&rt, rt.alloc(), &set, reached);
+}
+
+/// The usual limits leave the pieces as they are, and a page too.
+#[test]
+fn lines_of_usual_limits(rt: HostRuntime) {
+    let alloc = rt.alloc();
+    let set = set_of(&rt, alloc);
+    let limits = Limits::default();
+    let theme = Theme::default(alloc);
+    let syntax = syntax_of(&rt, &set);
+    let mut within = HighlightLines::new(alloc, syntax, &theme).expect(&rt, "a highlighter");
+    let mut lines = HighlightLines::new(alloc, syntax, &theme).expect(&rt, "a highlighter");
+    for line in [SHORT, MATCHES] {
+        let found = within.highlight_line_within(alloc, line, &set, &limits);
+        let wanted = lines.highlight_line(alloc, line, &set);
+        holds(
+            &rt,
+            found.expect(&rt, "pieces") == wanted.expect(&rt, "pieces"),
+        );
+    }
+    let mut state = ParseState::new(alloc, syntax).expect(&rt, "a state");
+    let found = state.parse_line_within(alloc, SHORT, &set, &limits);
+    let mut state = ParseState::new(alloc, syntax).expect(&rt, "a state");
+    let wanted = state.parse_line(alloc, SHORT, &set);
+    equal(&rt, found.ok(), wanted.ok());
+}

@@ -1,0 +1,24 @@
+//! Why a turn has no answer.
+
+use std::alloc::AllocError;
+use syntect_flats::flats::Origin;
+
+/// Why a turn has no answer.
+#[derive(Clone, Copy)]
+pub enum Halt {
+    /// There was no memory.
+    Memory,
+    /// No step was left, when this pattern was tried at this place of the line, a byte position.
+    Spent { pattern: Origin, place: usize },
+}
+
+impl From<AllocError> for Halt {
+    ghost use Rattle.std.specs.Prelude.{◌≡◌};
+    ghost use Rattle.syntect_winner.specs.declared.halt.Halt.TheVariants.{Memory};
+
+    ghost from_gives = { λ _ e. e ≡ Memory };
+
+    fn from(_e: AllocError) -> Halt {
+        Halt::Memory
+    }
+}
