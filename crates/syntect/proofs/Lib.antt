@@ -10,6 +10,7 @@ pub mod StayLaws
 pub mod OrderlyLaws
 pub mod ReaderLaws
 pub mod RowLaws
+pub mod PlainLaws
 pub mod NewlineLaws
 pub mod FileLaws
 pub mod LoadedSetLaws

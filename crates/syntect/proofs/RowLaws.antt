@@ -151,7 +151,7 @@ pub some_text : (had : Option (List ℕ)) → (text : List ℕ) × IsTextOf had 
 some_text None = ([], tt)
 some_text (Some x) = (x, refl)
 
-all_left : (had : Option (List ℕ)) (last : List ℕ) → last ≡ [] → IsLeft had had [] last
+pub all_left : (had : Option (List ℕ)) (last : List ℕ) → last ≡ [] → IsLeft had had [] last
 all_left None last e = tt
 all_left (Some x) last e = (x, refl, refl, λ h. absurd (let q : true ≡ false = sym (ap can_go_on e) ∙ h in cc))
 
@@ -165,7 +165,7 @@ less_left had left after done last bytes k g =
     (p.0, p.1, s.2 ∙ ap (λ xs. done ++ xs) p.2 ∙ sym (append_assoc done bytes p.0), p.3))
     k
 
-none_left : (had left after : Option (List ℕ)) (done last bytes : List ℕ) → IsLeft had left done last → GivesNext left last after bytes false → IsTextOf had done
+pub none_left : (had left after : Option (List ℕ)) (done last bytes : List ℕ) → IsLeft had left done last → GivesNext left last after bytes false → IsTextOf had done
 none_left had left after done last bytes k g =
     known_on had
     (λ text. (rest : List ℕ) × (left ≡ Some rest) × (text ≡ done ++ rest) × CanFollow last rest)

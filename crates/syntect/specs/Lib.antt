@@ -5,6 +5,7 @@ pub mod Files
 pub mod Leads
 pub mod Loaded
 pub mod Pages
+pub mod PlainLines
 pub mod Promises
 pub mod Rows
 pub mod Within

@@ -1,7 +1,7 @@
 //! Lines to styled pieces, of texts and of files.
 ghost use Rattle.std.specs.Io.Buffered.{reader_remaining};
 ghost use Rattle.std.specs.Io.KnownBytes.{Keeps};
-ghost use Rattle.std.specs.Prelude.{◌≡◌, ◌++◌, ◌∷◌, ◌+◌, ◌-◌, ◌≤◌, [], List, ℕ, IfOk, IfErr, OnOk, OnErr};
+ghost use Rattle.std.specs.Prelude.{◌≡◌, ◌++◌, ◌∷◌, ◌+◌, ◌-◌, ◌≤◌, [], List, ℕ, Err, IfOk, IfErr, OnOk, OnErr};
 ghost use Rattle.std.specs.Path.{path_bytes};
 ghost use Rattle.syntect.specs.Files.{IsSyntaxFor, IsToldSyntax, HasNoLines};
 ghost use Rattle.syntect.specs.Leads.{Leads};
@@ -26,6 +26,7 @@ use syntect_parsing::laws::{
 };
 use syntect_parsing::parser::ParseState;
 use syntect_parsing::syntax_set::{SyntaxReference, SyntaxSet};
+use syntect_parsing::within::LineLimit;
 use syntect_scope::stack::ScopeStack;
 use syntect_style::highlighter::Highlighter;
 use syntect_style::pieces::collect_pieces;
@@ -60,6 +61,7 @@ impl<'a> Drop for HighlightLines<'a> {
 impl<'a> HighlightLines<'a> {
     ghost use Rattle.syntect.specs.Leads.{Past, IsPast, Continues, HoldsSame, LacksStart, RefusedExactly, UnlessMemory, reader_of, styles_of, theme_of};
     ghost use Rattle.syntect.specs.Built.{StaysInStart};
+    ghost use Rattle.syntect.specs.PlainLines.{ArePlain, ContinuesWithin};
     ghost use Rattle.syntect.specs.Within.{ReachesLimit, unlimited_of};
     ghost use Rattle.syntect_base.specs.Limiting.{IsWithinLimit};
     ghost use Rattle.syntect_parsing.specs.Refusals.{AreByName};
@@ -254,6 +256,54 @@ impl<'a> HighlightLines<'a> {
         )?;
         self.parse_state = parse_state;
         mem::swap(&mut self.highlight_state, &mut self.spare);
+        Ok(pieces)
+    }
+
+    /// The styled pieces of the next line, read within limits, and `None`. Where the line reaches a limit, it is shown plain,
+    /// which is one piece in the theme's own style, and the limit is told; the next line is then read as if this one weren't
+    /// there. So a line that would cost much takes no colours from those after it. A refusal is one of `highlight_line`, and
+    /// changes nothing.
+    pub fn highlight_line_or_plain<'b>(
+        &mut self,
+        alloc: Global,
+        line: &'b str,
+        syntax_set: &SyntaxSet,
+        limits: &Limits,
+    ) -> Result<(Vec<(Style, &'b str)>, Option<LineLimit>), Error>
+        // as `highlight_line` says where no limit was reached; else the past stays, and the pieces are plain
+        ensures answered { (past : Past) → IsPast past syntax_set.now self.old
+            → IfOk result (λ r. ContinuesWithin limits.now past syntax_set.now line.entry
+            self.old self.new r.0 r.1) }
+        ensures joins { IfOk result (λ r. Joins line.entry.now r.0.items) }
+        ensures refused { (past : Past) → IsPast past syntax_set.now self.old
+            → IfErr result (λ e. Continues past syntax_set.now line.entry self.new (Err e)) }
+        ensures err { OnErr result (HoldsSame self.old self.new) }
+        ensures few_turns { IsWithinLimit limits.now.turns
+            (turns_made (reader_of self.new) - turns_made (reader_of self.old)) }
+        ensures few_steps { IsWithinLimit limits.now.steps
+            (steps_made (reader_of self.new) - steps_made (reader_of self.old)) }
+    {
+        match self.highlight_line_within(alloc, line, syntax_set, limits) {
+            Ok(pieces) => Ok((pieces, None)),
+            Err(HighlightWithinError::Refused(e)) => Err(e),
+            Err(HighlightWithinError::LimitReached(limit)) => {
+                Ok((self.plain(alloc, line)?, Some(limit)))
+            }
+        }
+    }
+
+    /// A line in the theme's own style: one piece, or none of a line without bytes.
+    fn plain<'b>(
+        &self,
+        alloc: Global,
+        line: &'b str,
+    ) -> Result<Vec<(Style, &'b str)>, AllocError>
+        ensures { IfOk result (λ pieces. ArePlain (theme_of self.now) line.now pieces.items) }
+    {
+        let mut pieces = Vec::new(alloc);
+        if !line.is_empty() {
+            pieces.push((self.highlighter.get_default(), line))?;
+        }
         Ok(pieces)
     }
 }

@@ -5,6 +5,7 @@ ghost use Rattle.syntect_parsing.specs.Refusals.{AreByName};
 ghost use Rattle.syntect.specs.Built.{IsPlain, IsLoaded};
 ghost use Rattle.syntect.specs.ClassedPages.{ClosedIsPage, GivenStands};
 ghost use Rattle.syntect.specs.Loaded.{BuildersHold, FindsOwn, LoadedSetsMeet};
+ghost use Rattle.syntect.specs.PlainLines.{LinesBegin, LinesGoOn, LinesEnd};
 ghost use Rattle.syntect.specs.Promises.{LoadedIsPlain, LoadedStay, NothingIsCleared, AllRunOrderly, PastsStay, StatesGoOn, LoadedGiveScopes, BuiltBeginPlain, OperationsApply};
 ghost use Rattle.syntect.specs.Rows.{RowsBegin, RowsGoOn, RowsEnd, RowsRefuse, RowsStop};
 
@@ -103,4 +104,12 @@ pub fn rows_of_readers()
     ensures all { RowsEnd }
     ensures refuse { RowsRefuse }
     ensures stop { RowsStop }
+{}
+
+/// The same of lines that are read within limits, by `HighlightLines::highlight_line_or_plain`: each line is one more, as it
+/// was read or plain, and the rows of those that were read stand as if the plain ones weren't there.
+pub fn lines_within_limits()
+    ensures begin { LinesBegin }
+    ensures more { LinesGoOn }
+    ensures all { LinesEnd }
 {}

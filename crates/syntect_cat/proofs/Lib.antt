@@ -1,3 +1,3 @@
 pub mod ShownLaws
-pub mod TerminalLaws
+pub mod TextLaws
 pub mod WriteLaws

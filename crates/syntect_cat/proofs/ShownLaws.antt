@@ -15,7 +15,6 @@ use Rattle.syntect_grammar.specs.declared.syntax_set.SyntaxSet.{SyntaxSet}
 use Rattle.syntect_grammar.specs.declared.syntax_set.SyntaxSetBuilder.{SyntaxSetBuilder}
 use Rattle.syntect.specs.Built.{IsPlain, IsBuilt}
 use Rattle.syntect_theme_files.specs.ThemeFiles.{IsThemeOf}
-use Rattle.syntect.specs.Files.{IsPageOfFile}
 use Rattle.syntect_grammar.specs.declared.error.Error.{Error}
 use Rattle.syntect_grammar.specs.declared.error.Error.TheVariants as error
 use Rattle.syntect_base.specs.Limiting.{usual}
@@ -25,13 +24,13 @@ use Rattle.syntect_folders.specs.FoldersWithin.{AddsFolderWithin, RefusesFolderW
 use Rattle.syntect_folders.specs.declared.error.FolderWithinError.TheVariants as folder_error
 use Rattle.syntect_folders.proofs.FolderLaws.{added_within}
 use Rattle.syntect_cat.specs.Faults.{fault_of, fault_line, plain_line, without_limit}
-use Rattle.syntect_cat.specs.Shown.{IsSetOf, PassesLimit, HasReason, HasReasonFor, IsShown, IsAskedFor, ShowsFile}
-use Rattle.syntect_cat.specs.Terminal.{IsTerminalTextOfFile}
+use Rattle.syntect_parsing.specs.declared.within.LineLimit.{LineLimit}
+use Rattle.syntect_cat.specs.Shown.{IsSetOf, PassesLimit, HasReason, HasReasonFor, IsShown, IsAskedFor}
+use Rattle.syntect_cat.specs.Texts.{ShowsFile}
 use Rattle.syntect_cat.specs.Words.{words_for, words_of}
 use Rattle.syntect_cat.specs.declared.fault.Fault.{Fault}
 use Rattle.syntect_cat.specs.declared.fault.Fault.TheVariants as fault
 use Rattle.syntect_cat.specs.declared.job.Format.{Format}
-use Rattle.syntect_cat.specs.declared.job.Format.TheVariants.{Html, Terminal}
 use Rattle.syntect_cat.specs.declared.job.Job.{Job}
 
 -- what is loaded is plain
@@ -193,29 +192,17 @@ reason_for words job f same h folder theme file format e =
     same_folder : (a b c d m n : List ℕ) (p q : Format) → words_for a c p m ≡ words_for b d q n → a ≡ b
     same_folder a b c d m n p q e = cc
 
--- ---- the text of a format ----
-
-pub page_shown : {A : Type 0} (view : A → List ℕ) (format : Format) (set : SyntaxSet) (theme : Theme) (told path : List ℕ) (result : Result A Error) → format ≡ Html → told ≡ path
-    → IfOk result (λ text. IsPageOfFile set theme told (view text)) → IfOk result (λ text. ShowsFile format set theme path (view text))
-page_shown view format set theme told path (Ok text) e f h = rw (e) (subst (λ p. IsPageOfFile set theme p (view text)) f h)
-page_shown view format set theme told path (Err x) e f h = tt
-
-pub terminal_shown : {A : Type 0} (view : A → List ℕ) (format : Format) (set : SyntaxSet) (theme : Theme) (told path : List ℕ) (result : Result A Error) → format ≡ Terminal → told ≡ path
-    → IfOk result (λ text. IsTerminalTextOfFile set theme told (view text)) → IfOk result (λ text. ShowsFile format set theme path (view text))
-terminal_shown view format set theme told path (Ok text) e f h = rw (e) (subst (λ p. IsTerminalTextOfFile set theme p (view text)) f h)
-terminal_shown view format set theme told path (Err x) e f h = tt
-
 -- ---- the text of a job ----
 
-pub file_shown : LoadsPlain → (folder : List ℕ) (format : Format) (file text : List ℕ) (repository after : List (List ℕ)) (set : SyntaxSet) (theme : Theme) → IsSetOf folder repository set
-    → (bytes : List ℕ) × IsThemeOf repository bytes after theme → ((definitions : List SyntaxDefinition) → IsBuilt set definitions → ShowsFile format set theme file text)
-    → IsShown folder format file text
-file_shown law folder format file text repository after set theme s t h =
+pub file_shown : LoadsPlain → (folder : List ℕ) (format : Format) (file text : List ℕ) (first : Option (ℕ × LineLimit)) (repository after : List (List ℕ)) (set : SyntaxSet) (theme : Theme) → IsSetOf folder repository set
+    → (bytes : List ℕ) × IsThemeOf repository bytes after theme → ((definitions : List SyntaxDefinition) → IsBuilt set definitions → ShowsFile format set theme file text first)
+    → IsShown folder format file text first
+file_shown law folder format file text first repository after set theme s t h =
     let b = set_built law folder repository set s in
     record { repository = repository; after = after; set = set; bytes = t.0; theme = theme; set_is = s; theme_is = t.1; shows = h b.0 b.1 }
 
-pub asked_for : (words : List (List ℕ)) (job : Job) (text : List ℕ) → words ≡ words_of job → IsShown job.folder.now job.format job.file.now text → IsAskedFor words text
-asked_for words job text e s = (job.folder.now, job.theme.now, job.file.now, job.format, e, s)
+pub asked_for : (words : List (List ℕ)) (job : Job) (text : List ℕ) (first : Option (ℕ × LineLimit)) → words ≡ words_of job → IsShown job.folder.now job.format job.file.now text first → IsAskedFor words text first
+asked_for words job text first e s = (job.folder.now, job.theme.now, job.file.now, job.format, e, s)
 
 -- highlighting is not writing
 pub never_writing : (e : Error) → fault_of e ≡ fault.Writing → ⊥

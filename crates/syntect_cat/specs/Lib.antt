@@ -1,5 +1,6 @@
 pub mod Faults
+pub mod Notes
 pub mod Shown
-pub mod Terminal
+pub mod Texts
 pub mod Words
 pub mod Written

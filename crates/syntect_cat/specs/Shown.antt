@@ -1,5 +1,5 @@
 -- The text that shows a file.
-use Rattle.std.specs.Prelude.{◌≡◌, ℕ, true, List, [], String}
+use Rattle.std.specs.Prelude.{◌≡◌, ℕ, true, List, [], Option, String}
 use Rattle.syntect_theme_files.specs.ThemeFiles.{IsThemeOf}
 use Rattle.syntect_theme.specs.declared.theme.Theme.{Theme}
 use Rattle.std.specs.Global.{Global}
@@ -13,13 +13,12 @@ use Rattle.syntect_grammar.specs.Metadata.{entries_in, kept_sets, metadata_in, I
 use Rattle.syntect_grammar.specs.PlainText.{AddsPlainText}
 use Rattle.syntect_grammar.specs.declared.syntax_set.SyntaxSet.{SyntaxSet}
 use Rattle.syntect_grammar.specs.declared.syntax_set.SyntaxSetBuilder.{SyntaxSetBuilder}
-use Rattle.syntect.specs.Files.{IsPageOfFile}
-use Rattle.syntect_cat.specs.Terminal.{IsTerminalTextOfFile}
+use Rattle.syntect_parsing.specs.declared.within.LineLimit.{LineLimit}
+use Rattle.syntect_cat.specs.Texts.{ShowsFile}
 use Rattle.syntect_cat.specs.Words.{words_for}
 use Rattle.syntect_cat.specs.declared.fault.Fault.{Fault}
 use Rattle.syntect_cat.specs.declared.fault.Fault.TheVariants.{Limit}
 use Rattle.syntect_cat.specs.declared.job.Format.{Format}
-use Rattle.syntect_cat.specs.declared.job.Format.TheVariants.{Html, Terminal}
 
 -- The set links the syntax of plain text and the grammars in a folder, read for lines with newlines and within the usual
 -- limits, and has the metadata there.
@@ -57,13 +56,9 @@ HasReasonFor words fault =
     (folder theme file : List ℕ) (format : Format)
     → words ≡ words_for folder theme format file → HasReason folder fault
 
--- the text of a format shows what some file of this path holds
-abbrev pub ShowsFile : Format → SyntaxSet → Theme → List ℕ → List ℕ → Type 0
-ShowsFile Html set theme path text = IsPageOfFile set theme path text
-ShowsFile Terminal set theme path text = IsTerminalTextOfFile set theme path text
-
--- The text shows a file by the grammars of a folder and the theme of some bytes.
-pub record IsShown (folder : List ℕ) (format : Format) (file text : List ℕ) : Type 0 where
+-- The text shows a file by the grammars of a folder and the theme of some bytes, and `first` is its first plain line.
+pub record IsShown (folder : List ℕ) (format : Format) (file text : List ℕ)
+    (first : Option (ℕ × LineLimit)) : Type 0 where
   pub repository : List (List ℕ)
   pub after : List (List ℕ)
   pub set : SyntaxSet
@@ -71,10 +66,10 @@ pub record IsShown (folder : List ℕ) (format : Format) (file text : List ℕ) 
   pub theme : Theme
   pub set_is : IsSetOf folder repository set
   pub theme_is : IsThemeOf repository bytes after theme
-  pub shows : ShowsFile format set theme file text
+  pub shows : ShowsFile format set theme file text first
 
--- the text is what these words ask for
-abbrev pub IsAskedFor : List (List ℕ) → List ℕ → Type 0
-IsAskedFor words text =
+-- the text is what these words ask for, and `first` is its first plain line
+abbrev pub IsAskedFor : List (List ℕ) → List ℕ → Option (ℕ × LineLimit) → Type 0
+IsAskedFor words text first =
     (folder theme file : List ℕ) × (format : Format) × (words ≡ words_for folder theme format file)
-    × IsShown folder format file text
+    × IsShown folder format file text first

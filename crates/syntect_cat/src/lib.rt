@@ -5,9 +5,11 @@
 
 pub mod fault;
 pub mod job;
+mod lines;
+mod note;
 mod program;
 mod put;
 mod show;
-mod terminal;
+mod writer;
 
 pub use crate::program::run;

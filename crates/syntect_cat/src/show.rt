@@ -1,21 +1,16 @@
 //! From files to the text that shows one.
 ghost use Rattle.std.specs.Prelude.{◌≡◌, ◌≢◌, ℕ, List, [], IfOk, IfErr, string_bytes};
 ghost use Rattle.syntect_theme_files.specs.ThemeFiles.{IsThemeOf};
-ghost use Rattle.syntect_loader.specs.declared.definition.SyntaxDefinition.{SyntaxDefinition as ADefinition};
-ghost use Rattle.syntect.specs.Built.{IsBuilt};
-ghost use Rattle.syntect.specs.Files.{HasNoPageOfFile};
-ghost use Rattle.syntect_cat.specs.Shown.{IsSetOf, HasReason, ShowsFile, IsShown};
+ghost use Rattle.syntect_cat.specs.Shown.{IsSetOf, HasReason, IsShown};
 ghost use Rattle.syntect_cat.specs.declared.fault.Fault.TheVariants.{Writing};
 ghost use Rattle.syntect_cat.specs.declared.fault.Fault.TheVariants.{Theme as FaultOfTheme};
 
 use crate::fault::Fault;
-use crate::job::{Format, Job};
-use crate::terminal::terminal_text_for_file;
+use crate::job::Job;
+use crate::lines::{PlainLine, text_of_file};
 use std::alloc::Global;
 use std::path::Path;
 use std::rt::Files;
-use syntect::Error;
-use syntect::html::highlighted_html_for_file;
 use syntect::laws::loaded_is_plain;
 use syntect_base::limits::Limits;
 use syntect_folders::error::FolderWithinError;
@@ -82,32 +77,16 @@ fn load_theme(
     }
 }
 
-/// A file's text by a set and a theme.
-fn highlighted(
+/// The text that a job asks for, and its first plain line. The grammars are loaded first, then the theme, and then the file is
+/// read and highlighted, each line within `Limits::default`; the first fault ends it.
+pub(crate) fn text_for(
     files: &impl Files,
     alloc: Global,
-    path: &str,
-    format: Format,
-    set: &SyntaxSet,
-    theme: &Theme,
-) -> Result<String, Error>
-    ensures shown { (definitions : List ADefinition) → IsBuilt set.now definitions
-        → IfOk result (λ text. ShowsFile format set.now theme.now path.now (string_bytes text)) }
-    ensures refused { (definitions : List ADefinition) → IsBuilt set.now definitions
-        → IfErr result (HasNoPageOfFile set.now path.now) }
-{
-    match format {
-        Format::Html => highlighted_html_for_file(files, alloc, Path::new(path), set, theme),
-        Format::Terminal => terminal_text_for_file(files, alloc, Path::new(path), set, theme),
-    }
-}
-
-/// The text that a job asks for. The grammars are loaded first, then the theme, and then the file is read and highlighted; the
-/// first fault ends it.
-pub(crate) fn text_for(files: &impl Files, alloc: Global, job: Job<'_>) -> Result<String, Fault>
+    job: Job<'_>,
+) -> Result<(String, Option<PlainLine>), Fault>
     ensures shown { IfOk result
-        (λ text. IsShown job.entry.folder.now job.entry.format job.entry.file.now
-        (string_bytes text)) }
+        (λ r. IsShown job.entry.folder.now job.entry.format job.entry.file.now
+        (string_bytes r.0) r.1) }
     ensures err { IfErr result (λ fault. fault ≢ Writing) }
     ensures reason { IfErr result (HasReason job.entry.folder.now) }
 {
@@ -115,8 +94,9 @@ pub(crate) fn text_for(files: &impl Files, alloc: Global, job: Job<'_>) -> Resul
     let mut repository = ScopeRepository::new(alloc);
     let set = load_syntaxes(files, alloc, job.folder, &mut repository)?;
     let theme = load_theme(files, alloc, job.theme, &mut repository)?;
-    match highlighted(files, alloc, job.file, job.format, &set, &theme) {
-        Ok(text) => Ok(text),
+    let path = Path::new(job.file);
+    match text_of_file(files, alloc, path, job.format, &set, &theme) {
+        Ok(shown) => Ok(shown),
         Err(e) => Err(Fault::from(e)),
     }
 }

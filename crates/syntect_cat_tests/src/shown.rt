@@ -100,3 +100,28 @@ fn a_script_is_told_by_its_first_line(rt: HostRuntime) {
     shows(&rt, &desk, asked, LINE_PAGE);
     desk.close(&rt);
 }
+
+/// A grammar with a pattern that tries each way to part a row of `x`, since it asks for a group's text again.
+const COSTLY: &str =
+    "scope: source.u\nfile_extensions: [u]\ncontexts: {main: [{match: '^(x+x+)+\\1y', scope: word}, {match: hello, scope: word}]}";
+
+/// A line that costs more than a line may, and one that doesn't.
+const ROWS: &str = "xxxxxxxxxxxxxxxxxxxxxxxxxxxxxxxxxxxxxxxxxxxxxxxxxxxxxxxxxxxx\nhello";
+
+/// What is shown of them: the first line plain, and the second one as if it stood alone.
+const ROWS_SHOWN: &str =
+    "<pre style=\"background-color:#020202;\">\n<span style=\"color:#010101;\">xxxxxxxxxxxxxxxxxxxxxxxxxxxxxxxxxxxxxxxxxxxxxxxxxxxxxxxxxxxx\n</span><span style=\"color:#030303;\">hello</span></pre>\n";
+
+/// A line that reaches a limit is told of once, by its number, and the others are highlighted.
+#[test]
+fn a_line_that_reaches_a_limit_is_plain(rt: HostRuntime) {
+    let desk = Desk::new(&rt, "syncat_spent");
+    desk.write(&rt, "grammars/U.sublime-syntax", COSTLY.as_bytes());
+    desk.write(&rt, "a.u", ROWS.as_bytes());
+    let outcome = desk.outcome(&rt, ["grammars", "theme.tmTheme", "html", "a.u"]);
+    equal(&rt, outcome.out.as_slice(), ROWS_SHOWN.as_bytes());
+    let note = "syncat: line 1 is shown plain: too many steps at byte 0\n";
+    equal(&rt, outcome.err.as_slice(), note.as_bytes());
+    holds(&rt, outcome.status == 0);
+    desk.close(&rt);
+}

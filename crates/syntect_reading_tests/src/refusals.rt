@@ -138,6 +138,8 @@ fn pages_refuse(rt: &impl Abort, alloc: Global, read: Reading<'_>, wanted: &Pars
     is_refused_line(rt, lines.highlight_line(alloc, read.line, read.set), wanted);
     let refused = lines.highlight_line_within(alloc, read.line, read.set, &Limits::default());
     is_refused(rt, refused.err().and_then(of_a_line_within), wanted);
+    let refused = lines.highlight_line_or_plain(alloc, read.line, read.set, &Limits::default());
+    is_refused_line(rt, refused, wanted);
     let all = format!(in alloc; "{}{}", read.before, read.line).expect(rt, "memory");
     let page = highlighted_html_for_string(alloc, all.as_str(), read.set, syntax, &theme);
     is_refused_line(rt, page, wanted);

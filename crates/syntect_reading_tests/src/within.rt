@@ -3,7 +3,7 @@ use crate::found::{equal, holds};
 use std::alloc::Global;
 use std::process::Abort;
 use syntect::easy::{HighlightLines, HighlightWithinError};
-use syntect::highlighting::Theme;
+use syntect::highlighting::{Highlighter, Style, Theme};
 use syntect::html::{ClassStyle, ClassedHTMLGenerator};
 use syntect::parsing::{
     Limits, LineLimit, ParseState, ReadWithinError, Regions, ScopeRepository, SyntaxDefinition,
@@ -78,7 +78,12 @@ fn states_reach(rt: &impl Abort, alloc: Global, set: &SyntaxSet, reached: Reache
     holds(rt, state.parse_line(alloc, SHORT, set).is_ok());
 }
 
-/// A highlighter reaches the limit, and goes on as a new one begins.
+/// The style of a theme where no rule gives one.
+fn own_style(rt: &impl Abort, alloc: Global, theme: &Theme) -> Style {
+    Highlighter::new(alloc, theme).expect(rt, "memory").get_default()
+}
+
+/// A highlighter reaches the limit, shows the line plain where that is asked, and goes on as a new one begins.
 fn highlighters_reach(rt: &impl Abort, alloc: Global, set: &SyntaxSet, reached: Reached<'_>) {
     let Reached {
         limits,
@@ -90,6 +95,10 @@ fn highlighters_reach(rt: &impl Abort, alloc: Global, set: &SyntaxSet, reached: 
     let mut lines = HighlightLines::new(alloc, syntax, &theme).expect(rt, "a highlighter");
     let refused = lines.highlight_line_within(alloc, line, set, &limits);
     equal(rt, refused.err().and_then(of_a_line), Some(limit));
+    let plain = lines.highlight_line_or_plain(alloc, line, set, &limits);
+    let (pieces, reached) = plain.expect(rt, "pieces");
+    equal(rt, reached, Some(limit));
+    equal(rt, pieces.as_slice(), [(own_style(rt, alloc, &theme), line)].as_slice());
     let (styles, reader) = lines.state();
     let new = HighlightLines::new(alloc, syntax, &theme).expect(rt, "a highlighter");
     let (new_styles, new_reader) = new.state();
@@ -190,13 +199,15 @@ fn lines_of_usual_limits(rt: HostRuntime) {
     let syntax = syntax_of(&rt, &set);
     let mut within = HighlightLines::new(alloc, syntax, &theme).expect(&rt, "a highlighter");
     let mut lines = HighlightLines::new(alloc, syntax, &theme).expect(&rt, "a highlighter");
+    let mut either = HighlightLines::new(alloc, syntax, &theme).expect(&rt, "a highlighter");
     for line in [SHORT, MATCHES] {
         let found = within.highlight_line_within(alloc, line, &set, &limits);
         let wanted = lines.highlight_line(alloc, line, &set);
-        holds(
-            &rt,
-            found.expect(&rt, "pieces") == wanted.expect(&rt, "pieces"),
-        );
+        let shown = either.highlight_line_or_plain(alloc, line, &set, &limits);
+        let wanted = wanted.expect(&rt, "pieces");
+        holds(&rt, found.expect(&rt, "pieces") == wanted);
+        let (pieces, reached) = shown.expect(&rt, "pieces");
+        holds(&rt, (pieces == wanted) & reached.is_none());
     }
     let mut state = ParseState::new(alloc, syntax).expect(&rt, "a state");
     let found = state.parse_line_within(alloc, SHORT, &set, &limits);

@@ -1,0 +1,16 @@
+use Rattle.std.proofs.Common.{◌≡◌, List, ℕ, string_bytes}
+use Rattle.std.specs.Prelude.{[]}
+use Rattle.syntect_loader.specs.declared.definition.SyntaxDefinition.{SyntaxDefinition}
+use Rattle.syntect_contexts.specs.declared.syntax_reference.SyntaxReference.{SyntaxReference}
+use Rattle.syntect.specs.Built.{IsBuiltOf}
+use Rattle.syntect.specs.Leads.{Leads}
+use Rattle.syntect_cat.specs.Texts.{ground_of}
+use Rattle.syntect_cat.proofs.TextLaws.{IsSoFar}
+use Rattle.syntect_cat.proofs.lines.text_of_lines.Given as goal
+
+-- the writer's ground is that of the format, and the text has the lines so far
+abbrev pub invariant-loop-before : goal.invariant-loop-before
+invariant-loop-before g l =
+    (l.writer.spans ≡ ground_of l.format l.theme)
+    × ((definitions : List SyntaxDefinition) (syntax : SyntaxReference) → IsBuiltOf l.set syntax definitions → Leads l.set l.theme syntax [] [] l.fn.highlighter
+    → IsSoFar l.limits l.format l.set l.theme syntax (g.R.Read.remaining l.fn.reader) (g.R.Read.remaining l.reader) l.bytes.items (string_bytes l.writer.text) l.before l.first l.highlighter)

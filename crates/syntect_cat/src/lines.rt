@@ -1,0 +1,98 @@
+//! The lines of a file, highlighted within limits.
+ghost use Rattle.std.specs.Prelude.{◌≡◌, ◌<◌, ◌-◌, ◌^◌, ℕ, List, [], IfOk, IsUtf8, string_bytes};
+ghost use Rattle.std.specs.Path.{path_bytes};
+ghost use Rattle.syntect_loader.specs.declared.definition.SyntaxDefinition.{SyntaxDefinition as ADefinition};
+ghost use Rattle.syntect_contexts.specs.declared.syntax_reference.SyntaxReference.{SyntaxReference as ASyntax};
+ghost use Rattle.syntect.specs.Built.{IsBuilt, IsBuiltOf};
+ghost use Rattle.syntect.specs.Leads.{Leads};
+ghost use Rattle.syntect.specs.Rows.{IsTextOf};
+ghost use Rattle.syntect_cat.specs.Texts.{IsWritten, ShowsFile, first_of};
+
+use crate::job::Format;
+use crate::writer::TextWriter;
+use std::alloc::Global;
+use std::io::{BufRead, Error as IoError, ErrorKind};
+use std::path::Path;
+use std::rt::Files;
+use syntect::Error;
+use syntect::easy::{HighlightFile, HighlightLines};
+use syntect::laws::lines_within_limits;
+use syntect::reading::{next_line, text_of};
+use syntect_base::limits::Limits;
+use syntect_parsing::syntax_set::SyntaxSet;
+use syntect_parsing::within::LineLimit;
+use syntect_theme::theme::Theme;
+
+/// The number of a line, from 1, and the limit that it reached, so that it is shown plain.
+pub(crate) type PlainLine = (u64, LineLimit);
+
+/// The first plain line, with the one more that comes after so many lines.
+fn first_of(
+    first: Option<PlainLine>,
+    before: u64,
+    limit: Option<LineLimit>,
+) -> Option<PlainLine>
+    requires { before < 2 ^ 64 - 1 }
+    ensures { result ≡ first_of first before limit }
+{
+    match (first, limit) {
+        (Some(line), _) => Some(line),
+        (None, Some(limit)) => Some((before + 1, limit)),
+        (None, None) => None,
+    }
+}
+
+/// A file's text in a format, with its first plain line. The syntax is that of the file, or else plain text.
+pub(crate) fn text_of_file(
+    files: &impl Files,
+    alloc: Global,
+    path: Path<'_>,
+    format: Format,
+    set: &SyntaxSet,
+    theme: &Theme,
+) -> Result<(String, Option<PlainLine>), Error>
+    ensures { (definitions : List ADefinition) → IsBuilt set.now definitions
+        → IfOk result (λ r. ShowsFile format set.now theme.now (path_bytes path.entry)
+        (string_bytes r.0) r.1) }
+{
+    let limits = Limits::default();
+    match HighlightFile::new(files, alloc, path, set, theme) {
+        Ok(file) => {
+            let lines = file.highlight_lines;
+            text_of_lines(alloc, file.reader, lines, format, set, theme, &limits)
+        }
+        Err(e) => Err(e),
+    }
+}
+
+/// What a reader gives, by a highlighter that has read nothing yet.
+fn text_of_lines<R: BufRead + Drop>(
+    alloc: Global,
+    mut reader: R,
+    mut highlighter: HighlightLines<'_>,
+    format: Format,
+    set: &SyntaxSet,
+    theme: &Theme,
+    limits: &Limits,
+) -> Result<(String, Option<PlainLine>), Error>
+    ensures { (definitions : List ADefinition) (syntax : ASyntax)
+        → IsBuiltOf set.now syntax definitions
+        → Leads set.now theme.now syntax [] [] highlighter.entry
+        → IfOk result (λ r. (text : List ℕ) × IsTextOf (R.remaining reader) text × IsUtf8 text
+        × IsWritten limits.now format set.now theme.now syntax text (string_bytes r.0) r.1) }
+{
+    lines_within_limits();
+    let mut writer = TextWriter::new(alloc, format, theme)?;
+    let mut bytes = Vec::new(alloc);
+    let mut first = None;
+    for before in 0..u64::MAX {
+        if !next_line(&mut reader, &mut bytes)? {
+            return Ok((writer.whole()?, first));
+        }
+        let line = text_of(bytes.as_slice())?;
+        let (pieces, limit) = highlighter.highlight_line_or_plain(alloc, line, set, limits)?;
+        writer.append(pieces.as_slice())?;
+        first = first_of(first, before, limit);
+    }
+    Err(Error::Io(IoError::new(ErrorKind::Other, "too many lines")))
+}
