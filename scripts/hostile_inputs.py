@@ -197,7 +197,8 @@ def run(name, words):
             said = told.read().strip().replace("\n", " ")[:120]
         size = os.path.getsize(os.path.join(room, "out"))
     spent = used.ru_utime + used.ru_stime
-    answer = f"page of {size} bytes" if code == 0 else "past its time" if spent > SECONDS - 0.5 else f"{code} {said}".strip()
+    plain = ", a line plain" if "is shown plain" in said else ""
+    answer = f"page of {size} bytes{plain}" if code == 0 else "past its time" if spent > SECONDS - 0.5 else f"{code} {said}".strip()
     return answer, code in (0, 1) and not re.search("memory", said), spent, used.ru_maxrss / 1024
 
 
@@ -227,4 +228,5 @@ def main():
     sys.exit(0 if good else 1)
 
 
-main()
+if __name__ == "__main__":
+    main()

@@ -15,7 +15,8 @@ use syntect_ways::anchor::stands;
 use syntect_ways::past::{past_char, past_class, past_letters};
 use syntect_ways::text::past_text;
 
-/// So many characters of stretches count as a step: they are gone through one by one, each much faster than a step is taken.
+/// So many characters of stretches, and of the texts of groups that are looked for again, count as a step: they are gone through
+/// one by one, each much faster than a step is taken.
 const READ_A_STEP: usize = 8;
 
 /// The last place where a match of the node can begin that ends at the place, and at how many places, from that one backwards,
@@ -45,7 +46,7 @@ fn look_bound(negated: bool) -> Bound
 }
 
 impl Search {
-    ghost use Rattle.syntect_pattern.specs.Trees.{alt, repeat, seq};
+    ghost use Rattle.syntect_pattern.specs.Trees.{alt, repeat, same, seq};
     ghost use Rattle.std.specs.Prelude.{slice_get};
     ghost use Rattle.syntect_pattern.specs.Matches.{Groups, same_text};
     ghost use Rattle.syntect_engine.specs.Machine.{Fits, FindsAlike, GroupsFit, Goes, EntersStretch};
@@ -151,8 +152,7 @@ impl Search {
                 }
             }
             Node::Same { fold, group } => {
-                let place = self.past_group(text, *fold, *group);
-                Ok(self.go_on(place, list))
+                Ok(self.enter_same(program, text, node, *fold, *group, list))
             }
             Node::Text { letters, rest } => {
                 let place = past_letters(text, self.place, letters);
@@ -193,6 +193,44 @@ impl Search {
                 self.enter_behind(look_bound(*negated), *body, from, count, list)
             }
         }
+    }
+
+    /// Counts so many characters that were gone through one by one, as those of a stretch are.
+    fn read_more(&mut self, count: usize)
+        ensures { self.new ≡ record self.old { read = self.new.read; worth = self.new.worth } }
+    {
+        self.read = self.read.saturating_add(count);
+        self.worth = self.read / READ_A_STEP;
+    }
+
+    /// How many bytes the text of the group has, which are compared at most.
+    fn group_len(&self, group: usize) -> usize {
+        match self.groups.get(group) {
+            Some(Some((from, to))) => to.saturating_sub(*from),
+            _ => 0,
+        }
+    }
+
+    /// Goes on behind the text of the group, where it stands again at the place. How long it is counts, whether it does or not:
+    /// a text may differ in its last character alone.
+    fn enter_same(
+        &mut self,
+        program: &Program,
+        text: &str,
+        node: usize,
+        fold: bool,
+        group: usize,
+        list: usize,
+    ) -> Next
+        requires fits { Fits text.now (Next.Enter node list) self.old }
+        requires is { slice_index_or (trees_of program.now) node nothing ≡ same fold group }
+        ensures { Goes text.now (trees_of program.now)
+            (Next.Enter node list) self.old result self.new }
+    {
+        let left = text.len().saturating_sub(self.place);
+        self.read_more(self.group_len(group).min(left));
+        let place = self.past_group(text, fold, group);
+        self.go_on(place, list)
     }
 
     /// The place behind the text of the group, where it stands again at the place.

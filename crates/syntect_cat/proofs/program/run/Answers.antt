@@ -18,5 +18,10 @@ returns-in-Err-clause-failed g c = λ _.
       λ n. c.in-Err.ensures.kept (λ w. n (writing_told f told.0 told.2 w)),
       λ w.
           let b = c.in-Err.ensures.begun (told_writing f told.0 told.2 w) in
-          (b.0, asked_for (map string_bytes c.args.words.now) c.in-Some.job b.0 c.in-Some.ensures.some b.1, b.2),
+          (b.0, b.1, asked_for (map string_bytes c.args.words.now) c.in-Some.job b.0 b.1 c.in-Some.ensures.some b.2, b.3),
     )
+
+pub returns-in-Ok-clause-shown : goal.returns-in-Ok-clause-shown
+returns-in-Ok-clause-shown g c = λ _.
+    let s = c.in-Ok.ensures.shown in
+    (s.0, c.in-Ok.first, asked_for (map string_bytes c.args.words.now) c.in-Some.job s.0 c.in-Ok.first c.in-Some.ensures.some s.1, s.2, c.tell_of_plain.ensures.quiet, c.tell_of_plain.ensures.told)
