@@ -3,7 +3,7 @@ use Rattle.syntect_pattern.specs.Sets.{range}
 use Rattle.syntect_pattern_table.specs.Table.{node_tree, set_of}
 use Rattle.syntect_pattern.specs.Anchors.{anchor_of}
 use Rattle.syntect_pattern_table.specs.Program.{trees_of}
-use Rattle.syntect_engine.proofs.EnterLaws.{goes_nothing, goes_past, goes_group, goes_anchor, goes_no_anchor, goes_same, atomic-ok, ahead-ok, behind-ok}
+use Rattle.syntect_engine.proofs.EnterLaws.{goes_nothing, goes_past, goes_group, goes_anchor, goes_no_anchor, atomic-ok, ahead-ok, behind-ok}
 use Rattle.syntect_engine.proofs.LetterLaws.{goes_text}
 use Rattle.syntect_engine.proofs.LookbehindLaws.{few-starts}
 use Rattle.syntect_engine.proofs.state.Search.enter.Goals as goal
@@ -49,13 +49,6 @@ returns-else-stands c =
     goes_no_anchor c.args.text.now (trees_of c.args.program.now) c.args.node c.args.list c.args.self.now (anchor_of c.in-Anchor.anchor)
     (c.in-Some.ensures.is ∙ ap (node_tree (trees_of c.args.program.now)) c.in-Anchor.is)
     c.requires (sym c.stands.ensures ∙ c.if-stands.false)
-
-pub returns-in-Same : goal.returns-in-Same
-returns-in-Same c =
-    goes_same c.args.text.now (trees_of c.args.program.now) c.args.node c.args.list c.args.self.now c.go_on-in-Same.new.self
-    c.in-Same.fold c.in-Same.group c.go_on-in-Same.result c.past_group-place.result
-    (c.in-Some.ensures.is ∙ ap (node_tree (trees_of c.args.program.now)) c.in-Same.is)
-    c.requires c.past_group-place.ensures.value c.past_group-place.ensures.boundary c.go_on-in-Same.ensures.some c.go_on-in-Same.ensures.none
 
 pub returns-in-Text : goal.returns-in-Text
 returns-in-Text c =
