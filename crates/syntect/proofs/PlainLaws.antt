@@ -87,35 +87,43 @@ lines_begin limits set theme syntax had last h l e = record {
 pub lines_go_on : LinesGoOn
 lines_go_on limits set definitions theme syntax had left after last bytes lines line h new pieces None s l g e u =
     let row : Row = record { line = line.now; scopes = l.0; pieces = pieces.items } in
-    let rows : rows_in (lines ++ read row ∷ []) ≡ rows_in lines ++ row ∷ [] = rows_last_read lines row in
-    (read row, refl, refl, record {
-      done = s.done ++ bytes;
-      valid = IsUtf8-append s.done bytes s.valid u;
-      leads = rw (rows, map_last (λ (r : Row). r.line) (rows_in lines) row, map_last (λ (r : Row). Accepted r.scopes) (rows_in lines) row) l.1.leads;
-      lines_are = λ rest can. texts_more s.done last bytes line.now rest lines (read row) refl s.lines_are g.0 g.1 g.2 e can;
-      shown = subst (AreShown set theme syntax) (sym rows) (shown_last set theme syntax (rows_in lines) row s.shown l.2 l.3);
-      plain = after_read limits set theme syntax [] lines row s.plain;
-      is_left = less_left had left after s.done last bytes s.is_left g;
-    })
+    let rows : rows_in (lines ++ read row ∷ []) ≡ rows_in lines ++ row ∷ [] = rows_last_read lines row in (
+      read row,
+      refl,
+      refl,
+      record {
+        done = s.done ++ bytes;
+        valid = IsUtf8-append s.done bytes s.valid u;
+        leads = rw (rows, map_last (λ (r : Row). r.line) (rows_in lines) row, map_last (λ (r : Row). Accepted r.scopes) (rows_in lines) row) l.1.leads;
+        lines_are = λ rest can. texts_more s.done last bytes line.now rest lines (read row) refl s.lines_are g.0 g.1 g.2 e can;
+        shown = subst (AreShown set theme syntax) (sym rows) (shown_last set theme syntax (rows_in lines) row s.shown l.2 l.3);
+        plain = after_read limits set theme syntax [] lines row s.plain;
+        is_left = less_left had left after s.done last bytes s.is_left g;
+      },
+    )
 lines_go_on limits set definitions theme syntax had left after last bytes lines line h new pieces (Some limit) s l g e u =
     let next : Shown = plain line.now pieces.items limit in
-    let rows : rows_in (lines ++ next ∷ []) ≡ rows_in lines = rows_last_plain lines line.now pieces.items limit in
-    (next, refl, refl, record {
-      done = s.done ++ bytes;
-      valid = IsUtf8-append s.done bytes s.valid u;
-      leads = rw (rows) l.0.leads;
-      lines_are = λ rest can. texts_more s.done last bytes line.now rest lines next refl s.lines_are g.0 g.1 g.2 e can;
-      shown = subst (AreShown set theme syntax) (sym rows) s.shown;
-      plain = after_plain limits set theme syntax [] lines line.now pieces.items limit s.plain (record {
-        start = s.leads.start;
-        state = standing (reader_of h);
-        begins = s.leads.begins;
-        run = s.leads.run;
-        reaches = l.2;
-        pieces_are = l.1;
-      });
-      is_left = less_left had left after s.done last bytes s.is_left g;
-    })
+    let rows : rows_in (lines ++ next ∷ []) ≡ rows_in lines = rows_last_plain lines line.now pieces.items limit in (
+      next,
+      refl,
+      refl,
+      record {
+        done = s.done ++ bytes;
+        valid = IsUtf8-append s.done bytes s.valid u;
+        leads = rw (rows) l.0.leads;
+        lines_are = λ rest can. texts_more s.done last bytes line.now rest lines next refl s.lines_are g.0 g.1 g.2 e can;
+        shown = subst (AreShown set theme syntax) (sym rows) s.shown;
+        plain = after_plain limits set theme syntax [] lines line.now pieces.items limit s.plain (record {
+          start = s.leads.start;
+          state = standing (reader_of h);
+          begins = s.leads.begins;
+          run = s.leads.run;
+          reaches = l.2;
+          pieces_are = l.1;
+        });
+        is_left = less_left had left after s.done last bytes s.is_left g;
+      },
+    )
 
 pub lines_end : LinesEnd
 unfolding lines_of

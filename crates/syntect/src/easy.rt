@@ -284,7 +284,7 @@ impl<'a> HighlightLines<'a> {
             (steps_made (reader_of self.new) - steps_made (reader_of self.old)) }
     {
         match self.highlight_line_within(alloc, line, syntax_set, limits) {
-            Ok(pieces) => Ok((pieces, None)),
+            Ok(read) => Ok((read, None)),
             Err(HighlightWithinError::Refused(e)) => Err(e),
             Err(HighlightWithinError::LimitReached(limit)) => {
                 Ok((self.plain(alloc, line)?, Some(limit)))
@@ -293,18 +293,14 @@ impl<'a> HighlightLines<'a> {
     }
 
     /// A line in the theme's own style: one piece, or none of a line without bytes.
-    fn plain<'b>(
-        &self,
-        alloc: Global,
-        line: &'b str,
-    ) -> Result<Vec<(Style, &'b str)>, AllocError>
+    fn plain<'b>(&self, alloc: Global, line: &'b str) -> Result<Vec<(Style, &'b str)>, AllocError>
         ensures { IfOk result (λ pieces. ArePlain (theme_of self.now) line.now pieces.items) }
     {
-        let mut pieces = Vec::new(alloc);
+        let mut plain = Vec::new(alloc);
         if !line.is_empty() {
-            pieces.push((self.highlighter.get_default(), line))?;
+            plain.push((self.highlighter.get_default(), line))?;
         }
-        Ok(pieces)
+        Ok(plain)
     }
 }
 

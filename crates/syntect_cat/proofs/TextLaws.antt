@@ -82,13 +82,17 @@ pub text_whole : LinesEnd → (limits : Limits) (format : Format) (set : SyntaxS
     (s : IsSoFar limits format set theme syntax had left last text before first h) → GivesNext left last after bytes false → whole ≡ text ++ end_of (ground_of format theme)
     → (all : List ℕ) × IsTextOf had all × IsUtf8 all × IsWritten limits format set theme syntax all whole first
 text_whole law limits format set theme syntax had left after last text whole bytes before first h s g f =
-    let t = law limits set theme syntax had left after last bytes s.lines h s.so_far g in
-    (t.0, t.1, t.2, record {
-      lines = s.lines;
-      are_lines = t.3;
-      written = f ∙ ap (λ (xs : List ℕ). xs ++ end_of (ground_of format theme)) s.written ∙ append_assoc (front_of format theme) (lines_text (ground_of format theme) s.lines) (end_of (ground_of format theme));
-      first_is = s.first_is;
-    })
+    let t = law limits set theme syntax had left after last bytes s.lines h s.so_far g in (
+      t.0,
+      t.1,
+      t.2,
+      record {
+        lines = s.lines;
+        are_lines = t.3;
+        written = f ∙ ap (λ (xs : List ℕ). xs ++ end_of (ground_of format theme)) s.written ∙ append_assoc (front_of format theme) (lines_text (ground_of format theme) s.lines) (end_of (ground_of format theme));
+        first_is = s.first_is;
+      },
+    )
 
 -- ---- files ----
 

@@ -27,11 +27,7 @@ use syntect_theme::theme::Theme;
 pub(crate) type PlainLine = (u64, LineLimit);
 
 /// The first plain line, with the one more that comes after so many lines.
-fn first_of(
-    first: Option<PlainLine>,
-    before: u64,
-    limit: Option<LineLimit>,
-) -> Option<PlainLine>
+fn first_of(first: Option<PlainLine>, before: u64, limit: Option<LineLimit>) -> Option<PlainLine>
     requires { before < 2 ^ 64 - 1 }
     ensures { result ≡ first_of first before limit }
 {

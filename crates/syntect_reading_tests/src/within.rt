@@ -80,7 +80,9 @@ fn states_reach(rt: &impl Abort, alloc: Global, set: &SyntaxSet, reached: Reache
 
 /// The style of a theme where no rule gives one.
 fn own_style(rt: &impl Abort, alloc: Global, theme: &Theme) -> Style {
-    Highlighter::new(alloc, theme).expect(rt, "memory").get_default()
+    Highlighter::new(alloc, theme)
+        .expect(rt, "memory")
+        .get_default()
 }
 
 /// A highlighter reaches the limit, shows the line plain where that is asked, and goes on as a new one begins.
@@ -98,7 +100,11 @@ fn highlighters_reach(rt: &impl Abort, alloc: Global, set: &SyntaxSet, reached: 
     let plain = lines.highlight_line_or_plain(alloc, line, set, &limits);
     let (pieces, reached) = plain.expect(rt, "pieces");
     equal(rt, reached, Some(limit));
-    equal(rt, pieces.as_slice(), [(own_style(rt, alloc, &theme), line)].as_slice());
+    equal(
+        rt,
+        pieces.as_slice(),
+        [(own_style(rt, alloc, &theme), line)].as_slice(),
+    );
     let (styles, reader) = lines.state();
     let new = HighlightLines::new(alloc, syntax, &theme).expect(rt, "a highlighter");
     let (new_styles, new_reader) = new.state();
