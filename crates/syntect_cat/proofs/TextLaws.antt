@@ -1,6 +1,6 @@
 -- The text of lines while it is written.
 use Rattle.std.proofs.Common.{◌≡◌, ℕ, ◌+◌, Bool, true, false, List, [], ◌∷◌, ◌++◌, length, refl, sym, ap, subst, ◌∙◌, append-nil, append_assoc, IsUtf8, Bor, Result, Ok, Err, arith}
-use Rattle.std.specs.Prelude.{Option, Some, None, IfOk}
+use Rattle.std.specs.Prelude.{Option, Some, None, IfOk, ◌⊎◌}
 use Rattle.std.specs.Global.{Vec}
 use Rattle.std.proofs.lemmas.Grind.{flat_map-append}
 use Rattle.std.proofs.lemmas.List.{length_push}
@@ -20,6 +20,8 @@ use Rattle.syntect.specs.Pages.{past_of}
 use Rattle.syntect.specs.PlainLines.{AreLinesSoFar, ContinuesWithin, LinesEnd, LinesGoOn, Shown, read, plain, first_plain, limit_in, pieces_in, rows_in}
 use Rattle.syntect.specs.Rows.{GivesNext, IsTextOf}
 use Rattle.syntect.specs.declared.easy.HighlightLines.{HighlightLines}
+use Rattle.syntect_cat.specs.Notes.{note_line, short_note}
+use Rattle.syntect_cat.specs.Written.{Begins}
 use Rattle.syntect_cat.specs.Texts.{IsWritten, ShowsFile, end_of, first_of, front_of, ground_of, line_of, lines_text}
 use Rattle.syntect_cat.specs.declared.job.Format.{Format}
 
@@ -65,6 +67,7 @@ pub line_more : LinesGoOn → (limits : Limits) (format : Format) (set : SyntaxS
     → IsSoFar limits format set theme syntax had after bytes more (before + 1) now new
 line_more law limits format set definitions theme syntax had left after last text more bytes before first now line h new pieces limit s l g e u f k =
     let next = law limits set definitions theme syntax had left after last bytes s.lines line h new pieces limit s.so_far l g e u in
+    let counted : before ≡ 0 + length s.lines = omega (arith, s.count) in
     record {
       lines = s.lines ++ next.0 ∷ [];
       so_far = next.3;
@@ -73,8 +76,8 @@ line_more law limits format set definitions theme syntax had left after last tex
       first_is =
           k
           ∙ ap (λ (o : Option (ℕ × LineLimit)). first_of o before limit) s.first_is
-          ∙ ap (λ (n : ℕ). first_of (first_plain 0 s.lines) n limit) s.count
-          ∙ ap (λ (o : Option LineLimit). first_of (first_plain 0 s.lines) (length s.lines) o) (sym next.2)
+          ∙ ap (λ (n : ℕ). first_of (first_plain 0 s.lines) n limit) counted
+          ∙ ap (λ (o : Option LineLimit). first_of (first_plain 0 s.lines) (0 + length s.lines) o) (sym next.2)
           ∙ sym (first_last 0 s.lines next.0);
     }
 
@@ -104,3 +107,17 @@ pub file_text : {A : Type 0} (view : A → List ℕ) (first : A → Option (ℕ 
     → IfOk result (λ r. ShowsFile format set theme path (view r) (first r))
 file_text view first limits format set theme path syntax P (Ok r) u s h = (syntax, s, h.0, h.2, subst (λ (l : Limits). IsWritten l format set theme syntax h.0 (view r) (first r)) u h.3)
 file_text view first limits format set theme path syntax P (Err e) u s h = tt
+
+-- ---- what is told ----
+
+pub never_some : (line : ℕ × LineLimit) → None ≡ Some line → ⊥
+never_some line e = cc
+
+pub never_none : (line : ℕ × LineLimit) → Some line ≡ None → ⊥
+never_none line e = cc
+
+-- what was told of a line was told of the same one
+pub told_of_line : (old new : Option (List ℕ)) (line other : ℕ × LineLimit) → Some line ≡ Some other → (Begins old new (note_line line)) ⊎ (Begins old new short_note) → (Begins old new (note_line other)) ⊎ (Begins old new short_note)
+told_of_line old new line other e told =
+    let same : line ≡ other = cc in
+    subst (λ (l : ℕ × LineLimit). (Begins old new (note_line l)) ⊎ (Begins old new short_note)) same told

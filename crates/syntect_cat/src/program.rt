@@ -72,8 +72,9 @@ pub fn run<W: Write, E: Write>(
         return WRONG_WORDS;
     };
     match show(files, alloc, job, out) {
-        Ok(first) => {
-            tell_of_plain(alloc, first, err);
+        Ok(None) => 0,
+        Ok(Some(line)) => {
+            tell_of_plain(alloc, line, err);
             0
         }
         Err(fault) => {

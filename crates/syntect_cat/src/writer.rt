@@ -63,7 +63,7 @@ impl TextWriter {
     /// The text, with what stands after its lines.
     pub(crate) fn whole(self) -> Result<String, Error>
         ensures { IfOk result (λ text. string_bytes text
-            ≡ string_bytes self.entry.text ++ end_of self.entry.spans) }
+            ≡ string_bytes self.text ++ end_of self.spans) }
     {
         let TextWriter { mut text, spans } = self;
         match spans {

@@ -26,7 +26,7 @@ returns-then-not-branch g c = λ definitions syntax b l.
     let after = g.R.Read.remaining c.next_line.new.reader in
     let last = c.loop-before.bytes.items in
     let bytes = c.next_line.new.line.items in
-    text_whole c.lines_within_limits.ensures.all c.args.limits.now c.args.format c.args.set.now c.args.theme.now syntax (g.R.Read.remaining c.args.reader) left after last (string_bytes c.loop-before.writer.text) (string_bytes c.in_ok-whole.result) bytes
+    text_whole c.lines_within_limits.ensures.all c.args.limits.now c.args.format c.args.set.now c.args.theme.now syntax (g.R.Read.remaining c.args.reader) left after last (string_bytes c.loop-before.writer.text) (string_bytes c.in_ok-whole.field-0) bytes
     c.loop-before.before c.loop-before.first c.loop-before.highlighter
     (c.loop-before.invariant.1 definitions syntax b l)
     (gives_nothing left after last bytes _ c.if-not-branch.true c.in_ok-next_line.ensures.next)
@@ -42,12 +42,12 @@ loop-before-preserved g c = (
       let bytes = c.next_line.new.line.items in
       let s = c.loop-before.invariant.1 definitions syntax b l in
       line_more c.lines_within_limits.ensures.more c.args.limits.now c.args.format c.args.set.now definitions c.args.theme.now syntax (g.R.Read.remaining c.args.reader) left after last (string_bytes c.loop-before.writer.text) (string_bytes c.append.new.self.text) bytes
-      c.loop-before.before c.loop-before.first c.first_of.result c.in_ok-line.line c.loop-before.highlighter c.highlight_line_or_plain.new.self c.in_ok-pieces.pieces c.in_ok-pieces.limit s
+      c.loop-before.before c.loop-before.first c.first_of-first.result c.in_ok-line.line c.loop-before.highlighter c.highlight_line_or_plain.new.self c.in_ok-pieces.pieces c.in_ok-pieces.limit s
       (c.in_ok-pieces.ensures.answered (past_of definitions c.args.theme.now syntax (rows_in s.lines)) (record { built = b; leads = s.so_far.leads }))
       (gives_more left after last bytes _ c.if-not-branch.false c.in_ok-next_line.ensures.next)
       (c.in_ok-line.ensures.ok.0 ∙ c.as_slice.ensures.value) (rw c.as_slice.ensures.value at c.in_ok-line.ensures.ok.1)
       (c.in_ok-append.ensures.text
-      ∙ ap (λ (o : Option IncludeBackground). string_bytes c.loop-before.writer.text ++ line_of o c.as_slice-pieces.result.now) c.loop-before.invariant.0
-      ∙ ap (λ (ps : List (Style × Bor (List ℕ))). string_bytes c.loop-before.writer.text ++ line_of (ground_of c.args.format c.args.theme.now) ps) c.as_slice-pieces.ensures.value)
-      c.first_of.ensures,
+      ∙ ap (λ (o : Option IncludeBackground). string_bytes c.loop-before.writer.text ++ line_of o c.as_slice-in-loop-before.result.now) c.loop-before.invariant.0
+      ∙ ap (λ (ps : List (Style × Bor (List ℕ))). string_bytes c.loop-before.writer.text ++ line_of (ground_of c.args.format c.args.theme.now) ps) c.as_slice-in-loop-before.ensures.value)
+      c.first_of-first.ensures,
 )

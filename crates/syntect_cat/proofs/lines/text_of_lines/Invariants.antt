@@ -11,6 +11,6 @@ use Rattle.syntect_cat.proofs.lines.text_of_lines.Given as goal
 -- the writer's ground is that of the format, and the text has the lines so far
 abbrev pub invariant-loop-before : goal.invariant-loop-before
 invariant-loop-before g l =
-    (l.writer.spans ≡ ground_of l.format l.theme)
+    (l.writer.spans ≡ ground_of l.fn.format l.theme)
     × ((definitions : List SyntaxDefinition) (syntax : SyntaxReference) → IsBuiltOf l.set syntax definitions → Leads l.set l.theme syntax [] [] l.fn.highlighter
-    → IsSoFar l.limits l.format l.set l.theme syntax (g.R.Read.remaining l.fn.reader) (g.R.Read.remaining l.reader) l.bytes.items (string_bytes l.writer.text) l.before l.first l.highlighter)
+    → IsSoFar l.limits l.fn.format l.set l.theme syntax (g.R.Read.remaining l.fn.reader) (g.R.Read.remaining l.reader) l.bytes.items (string_bytes l.writer.text) l.before l.first l.highlighter)

@@ -1,6 +1,9 @@
-use Rattle.std.proofs.Common.{refl, map, string_bytes}
+use Rattle.std.proofs.Common.{refl, map, string_bytes, subst}
+use Rattle.std.specs.Prelude.{Some, None}
+use Rattle.syntect_cat.specs.Shown.{IsShown}
 use Rattle.syntect_cat.specs.Faults.{usage_line}
 use Rattle.syntect_cat.proofs.ShownLaws.{asked_for, reason_for, told_of, told_writing, writing_told}
+use Rattle.syntect_cat.proofs.TextLaws.{never_none, never_some, told_of_line}
 use Rattle.syntect_cat.proofs.WriteLaws.{line_begun}
 use Rattle.syntect_cat.proofs.program.run.Goals as goal
 
@@ -21,7 +24,21 @@ returns-in-Err-clause-failed g c = λ _.
           (b.0, b.1, asked_for (map string_bytes c.args.words.now) c.in-Some.job b.0 b.1 c.in-Some.ensures.some b.2, b.3),
     )
 
-pub returns-in-Ok-clause-shown : goal.returns-in-Ok-clause-shown
-returns-in-Ok-clause-shown g c = λ _.
-    let s = c.in-Ok.ensures.shown in
-    (s.0, c.in-Ok.first, asked_for (map string_bytes c.args.words.now) c.in-Some.job s.0 c.in-Ok.first c.in-Some.ensures.some s.1, s.2, c.tell_of_plain.ensures.quiet, c.tell_of_plain.ensures.told)
+pub returns-in-Ok-None-clause-shown : goal.returns-in-Ok-None-clause-shown
+returns-in-Ok-None-clause-shown g c = λ _.
+    let s = c.in-Ok-None.ensures.shown in
+    let shown = subst (IsShown c.in-Some.job.folder.now c.in-Some.job.format c.in-Some.job.file.now s.0) c.in-Ok-None.field-0-is s.1 in
+    (s.0, None, asked_for (map string_bytes c.args.words.now) c.in-Some.job s.0 None c.in-Some.ensures.some shown, s.2, λ _. refl, λ line e. absurd (never_some line e))
+
+pub returns-in-Ok-Some-clause-shown : goal.returns-in-Ok-Some-clause-shown
+returns-in-Ok-Some-clause-shown g c = λ _.
+    let s = c.in-Ok-Some.ensures.shown in
+    let shown = subst (IsShown c.in-Some.job.folder.now c.in-Some.job.format c.in-Some.job.file.now s.0) c.in-Ok-Some.field-0-is s.1 in
+    let told = c.tell_of_plain.ensures in (
+      s.0,
+      Some c.in-Ok-Some.line,
+      asked_for (map string_bytes c.args.words.now) c.in-Some.job s.0 (Some c.in-Ok-Some.line) c.in-Some.ensures.some shown,
+      s.2,
+      λ e. absurd (never_none c.in-Ok-Some.line e),
+      λ line e. told_of_line (g.E.Write.contents c.args.err.now) (g.E.Write.contents c.tell_of_plain.new.err) c.in-Ok-Some.line line e told,
+    )
