@@ -1,6 +1,6 @@
 -- Sets of plain text and of the grammars in a folder.
-use Rattle.std.proofs.Common.{◌≡◌, ℕ, Bool, true, false, List, [], ◌∷◌, ◌++◌, refl, sym, ap, ◌∙◌, subst, All, Result, Ok, Err, String, inl, inr}
-use Rattle.std.specs.Prelude.{Option, None, IfOk, ◌⊎◌}
+use Rattle.std.proofs.Common.{◌≡◌, ℕ, Bool, true, false, List, [], ◌∷◌, ◌++◌, refl, sym, ap, ◌∙◌, subst, All, Ok, String, inl, inr}
+use Rattle.std.specs.Prelude.{Option, None, ◌⊎◌}
 use Rattle.std.specs.Global.{Global}
 use Rattle.std.proofs.lemmas.List.Elements.{All-append, All-cons, All-nil}
 use Rattle.syntect_theme.specs.declared.theme.Theme.{Theme}

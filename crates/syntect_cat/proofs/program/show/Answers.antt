@@ -1,4 +1,4 @@
-use Rattle.std.proofs.Common.{List, ℕ, ◌∙◌, ap, subst, string_bytes}
+use Rattle.std.proofs.Common.{subst, string_bytes}
 use Rattle.std.specs.Io.KnownBytes.{Appends}
 use Rattle.syntect_cat.proofs.WriteLaws.{appends_kept, begins_whole}
 use Rattle.syntect_cat.proofs.program.show.Goals as goal

@@ -1,4 +1,4 @@
-use Rattle.std.proofs.Common.{◌≡◌, ◌≤◌, ◌<◌, length, take, ap, sym, subst, arith}
+use Rattle.std.proofs.Common.{◌≤◌, length, take, sym, subst, arith}
 use Rattle.std.specs.Io.KnownBytes.{Appends}
 use Rattle.syntect_cat.proofs.WriteLaws.{appends_kept, part_more, within_more}
 use Rattle.syntect_cat.proofs.put.put.Goals.{in-Ok, in-Err+else-ne}
