@@ -52,7 +52,7 @@ module _ (definitions : List SyntaxDefinition) (set : SyntaxSet) (theme : Theme)
   led_to : (kept : Kept) (n : ℕ) → IsKept set theme syntax kept → IsBuiltOf set syntax definitions
       → Led (no_lines definitions theme syntax) set (given_in (seen syntax set theme kept) n) (ending kept.start (take n kept.readings))
   led_to kept n k b =
-      subst (λ (as : List LineAnswer). Led (no_lines definitions theme syntax) set (given_lines (take n (lines_in kept)) as) (ending kept.start (take n kept.readings)))
+      subst (λ (bs : List LineAnswer). Led (no_lines definitions theme syntax) set (given_lines (take n (lines_in kept)) bs) (ending kept.start (take n kept.readings)))
       (take_map (λ (r : Reading). r.answer) n kept.readings)
       (led theme set (no_lines definitions theme syntax) kept.start refl (k.starts definitions b) (take n (lines_in kept)) (take n kept.readings)
       (read_front theme set n kept.start (lines_in kept) kept.readings (k.read definitions b)))

@@ -121,10 +121,10 @@ past_none past =
     ap (λ (ls : List (List ℕ)). record past { lines = ls; answers = past.answers ++ [] }) (append-nil past.lines)
     ∙ ap (λ (xs : List Answer). record past { answers = xs }) (append-nil past.answers)
 
-past_more : (past : Past) (ls : List (List ℕ)) (as : List Answer) (others : List (List ℕ)) (more : List Answer) → and_all (and_all past ls as) others more ≡ and_all past (ls ++ others) (as ++ more)
-past_more past ls as others more =
-    ap (λ (xs : List (List ℕ)). record past { lines = xs; answers = (past.answers ++ as) ++ more }) (append_assoc past.lines ls others)
-    ∙ ap (λ (xs : List Answer). record past { lines = past.lines ++ (ls ++ others); answers = xs }) (append_assoc past.answers as more)
+past_more : (past : Past) (ls : List (List ℕ)) (bs : List Answer) (others : List (List ℕ)) (more : List Answer) → and_all (and_all past ls bs) others more ≡ and_all past (ls ++ others) (bs ++ more)
+past_more past ls bs others more =
+    ap (λ (xs : List (List ℕ)). record past { lines = xs; answers = (past.answers ++ bs) ++ more }) (append_assoc past.lines ls others)
+    ∙ ap (λ (xs : List Answer). record past { lines = past.lines ++ (ls ++ others); answers = xs }) (append_assoc past.answers bs more)
 
 -- a line's answer leads on, and leaves the line out where it reached a limit
 pub led_on : (past : Past) (set : SyntaxSet) (line : List ℕ) (a : LineAnswer) (after : LineStates) → GoesOn past set line a after → Led past set (given_line line a) after

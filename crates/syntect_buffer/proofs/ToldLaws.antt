@@ -79,20 +79,20 @@ lines_whole limits (l ∷ ls) (r ∷ rs) (suc n) h e t =
 -- ---- the lines that are given ----
 
 -- all of them, in two ways
-pub given_all : (ls : List (List ℕ)) (as : List LineAnswer) → given_lines (take (length ls) ls) (take (length ls) as) ≡ given_lines ls as
-given_all [] as = refl
+pub given_all : (ls : List (List ℕ)) (bs : List LineAnswer) → given_lines (take (length ls) ls) (take (length ls) bs) ≡ given_lines ls bs
+given_all [] bs = refl
 given_all (l ∷ ls) [] = refl
-given_all (l ∷ ls) (a ∷ as) = ap (λ (xs : List (List ℕ)). given_line l a ++ xs) (given_all ls as)
+given_all (l ∷ ls) (a ∷ bs) = ap (λ (xs : List (List ℕ)). given_line l a ++ xs) (given_all ls bs)
 
 given_none : (ls : List (List ℕ)) → given_lines ls [] ≡ []
 given_none [] = refl
 given_none (l ∷ ls) = refl
 
 -- those of the first lines, and of the others
-pub given_parted : (n : ℕ) (ls : List (List ℕ)) (as : List LineAnswer) → given_lines (take n ls) (take n as) ++ given_lines (drop n ls) (drop n as) ≡ given_lines ls as
-given_parted zero ls as = refl
-given_parted (suc n) [] as = refl
+pub given_parted : (n : ℕ) (ls : List (List ℕ)) (bs : List LineAnswer) → given_lines (take n ls) (take n bs) ++ given_lines (drop n ls) (drop n bs) ≡ given_lines ls bs
+given_parted zero ls bs = refl
+given_parted (suc n) [] bs = refl
 given_parted (suc n) (l ∷ ls) [] = given_none (drop n ls)
-given_parted (suc n) (l ∷ ls) (a ∷ as) =
-    append_assoc (given_line l a) (given_lines (take n ls) (take n as)) (given_lines (drop n ls) (drop n as))
-    ∙ ap (λ (xs : List (List ℕ)). given_line l a ++ xs) (given_parted n ls as)
+given_parted (suc n) (l ∷ ls) (a ∷ bs) =
+    append_assoc (given_line l a) (given_lines (take n ls) (take n bs)) (given_lines (drop n ls) (drop n bs))
+    ∙ ap (λ (xs : List (List ℕ)). given_line l a ++ xs) (given_parted n ls bs)

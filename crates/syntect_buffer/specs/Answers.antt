@@ -88,6 +88,6 @@ given_line line (answer.LimitReached l) = []
 
 -- the lines of answers but those that reached a limit
 abbrev pub given_lines : List (List ℕ) → List LineAnswer → List (List ℕ)
-given_lines [] as = []
+given_lines [] bs = []
 given_lines (l ∷ ls) [] = []
-given_lines (l ∷ ls) (a ∷ as) = given_line l a ++ given_lines ls as
+given_lines (l ∷ ls) (a ∷ bs) = given_line l a ++ given_lines ls bs
