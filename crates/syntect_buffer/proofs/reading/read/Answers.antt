@@ -23,7 +23,7 @@ returns-clause-read c =
       | in-Ok+in_ok-ranges_of-in-Ok w ↦ subst (λ (a : LineAnswer). IsReadFrom set theme before c.args.line.now (record { answer = a; after = after; ends_alike = false })) (sym w.answer-is)
           (accepted_line set theme before c.args.line c.in_ok-lines.lines c.highlight_line_within.new.self w.in-Ok.pieces w.in_ok-ranges_of-in-Ok.field-0 after resumed w.in-Ok.ensures.answered (rw w.as_slice.ensures.value at w.in_ok-ranges_of-in-Ok.ensures) (omega (arith, c.if-prove.false)) c.state-styles.ensures.highlight c.state-styles.ensures.parse)
       | in-Err-Refused-ParsingError+in_ok-answer-in-Err-Refused-ParsingError w ↦ subst (λ (a : LineAnswer). IsReadFrom set theme before c.args.line.now (record { answer = a; after = after; ends_alike = false })) (sym w.answer-is)
-          (refused_line set theme before c.args.line c.in_ok-lines.lines c.highlight_line_within.new.self w.in-Err-Refused-ParsingError.e w.in_ok-answer-in-Err-Refused-ParsingError.answer after resumed (rw w.in-Err-Refused-ParsingError.field-0-is at w.in-Err-Refused-ParsingError.ensures.answered) w.in_ok-answer-in-Err-Refused-ParsingError.ensures c.state-styles.ensures.highlight c.state-styles.ensures.parse)
+          (refused_line set theme before c.args.line c.in_ok-lines.lines c.highlight_line_within.new.self w.in-Err-Refused-ParsingError.e w.in_ok-answer-in-Err-Refused-ParsingError.answer after resumed (rw (w.in-Err-Refused-ParsingError.field-0-is, w.in-Err-Refused-ParsingError.field-0-0-is) at w.in-Err-Refused-ParsingError.ensures.answered) w.in_ok-answer-in-Err-Refused-ParsingError.ensures c.state-styles.ensures.highlight c.state-styles.ensures.parse)
       | in-Err-LimitReached w ↦ subst (λ (a : LineAnswer). IsReadFrom set theme before c.args.line.now (record { answer = a; after = after; ends_alike = false })) (sym w.answer-is)
           (limited_line set theme before c.args.line.now c.in_ok-lines.lines c.highlight_line_within.new.self w.in-Err-LimitReached.limit after
           (c.in_ok-lines.ensures.styles ∙ c.in_ok-styles.ensures ∙ ap (λ (s : LineStates). s.styles) c.states-states.ensures)
@@ -40,5 +40,5 @@ returns-clause-told c =
       | in-Err-Refused-ParsingError+in_ok-answer-in-Err-Refused-ParsingError w ↦ subst (λ (a : LineAnswer). TellsOf limits a) (sym w.answer-is)
           (refusal_told limits w.in-Err-Refused-ParsingError.e w.in_ok-answer-in-Err-Refused-ParsingError.answer w.in_ok-answer-in-Err-Refused-ParsingError.ensures)
       | in-Err-LimitReached w ↦ subst (λ (a : LineAnswer). TellsOf limits a) (sym w.answer-is)
-          (reached_told limits _ _ w.in-Err-LimitReached.limit w.in-Err-LimitReached.ensures.reached)
+          (reached_told limits _ _ w.in-Err-LimitReached.limit (rw w.in-Err-LimitReached.field-0-is at w.in-Err-LimitReached.ensures.reached))
     ]
