@@ -199,8 +199,7 @@ read_again theme set was past o n t u ho hn (l ∷ ls) (r ∷ rs) [] h on stops 
     read_from_same theme set was o n t ho (stops (omega arith)) (l ∷ ls) (r ∷ rs) h
 read_again theme set was past o n t u ho hn (l ∷ ls) (r ∷ rs) (m ∷ ns) h on stops =
     let c : Led was set (given_line l r.answer) r.after = led_on was set l r.answer r.after (h.0.continues was t ho) in
-    let d : Led past set (given_line l m.answer) m.after = led_on past set l m.answer m.after (on.1.continues past u hn) in
-    (
+    let d : Led past set (given_line l m.answer) m.after = led_on past set l m.answer m.after (on.1.continues past u hn) in (
       on.1,
       read_again theme set (and_all was (given_line l r.answer) c.answers) (and_all past (given_line l m.answer) d.answers) r.after m.after t u c.holds d.holds ls rs ns h.1 on.2 (λ lt. stops (omega (arith, lt))),
     )

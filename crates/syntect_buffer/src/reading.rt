@@ -119,7 +119,14 @@ pub(crate) fn read_again(
         if stand_same(states_at(&kept.start, &kept.readings, at), before) {
             break;
         }
-        let reading = read(alloc, set, theme, &kept.limits, before, kept.lines.get(at).as_str())?;
+        let reading = read(
+            alloc,
+            set,
+            theme,
+            &kept.limits,
+            before,
+            kept.lines.get(at).as_str(),
+        )?;
         again.push(reading)?;
     }
     Ok(again)

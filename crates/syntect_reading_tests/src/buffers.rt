@@ -41,7 +41,13 @@ fn limit_at(rt: &impl Abort, buffer: &LineBuffer<'_>, place: usize) -> Option<Li
 }
 
 /// The line at a place has the pieces that a new highlighter gives it as its first line.
-fn has_pieces(rt: &impl Abort, alloc: Global, set: &SyntaxSet, buffer: &LineBuffer<'_>, place: usize) {
+fn has_pieces(
+    rt: &impl Abort,
+    alloc: Global,
+    set: &SyntaxSet,
+    buffer: &LineBuffer<'_>,
+    place: usize,
+) {
     let theme = Theme::default(alloc);
     let new = HighlightLines::new(alloc, syntax_of(rt, set), &theme);
     let mut lines = new.expect(rt, "a highlighter");
