@@ -9,6 +9,9 @@ use syntect::parsing::{Limits, LineLimit, SyntaxSet};
 use syntect_buffer::answer::LineAnswer;
 use syntect_buffer::buffer::LineBuffer;
 
+/// A line that takes three turns: into the first context, for the match, and to its end.
+const MATCH: &str = "z\n";
+
 fn text(rt: &impl Abort, alloc: Global, line: &str) -> String {
     String::from_str(alloc, line).expect(rt, "memory")
 }
@@ -73,10 +76,10 @@ fn lines_reach(rt: &impl Abort, alloc: Global, limits: Limits, line: &str, limit
     let syntax = syntax_of(rt, &set);
     let made = LineBuffer::new_within(alloc, syntax, &set, &theme, limits);
     let mut buffer = made.expect(rt, "a buffer");
-    push_lines(rt, alloc, &mut buffer, &[line, SHORT]);
+    push_lines(rt, alloc, &mut buffer, &[line, MATCH]);
     equal(rt, limit_at(rt, &buffer, 0), Some(limit));
     has_pieces(rt, alloc, &set, &buffer, 1);
-    put_first(rt, alloc, &mut buffer, SHORT);
+    put_first(rt, alloc, &mut buffer, MATCH);
     has_pieces(rt, alloc, &set, &buffer, 0);
     put_first(rt, alloc, &mut buffer, line);
     equal(rt, limit_at(rt, &buffer, 0), Some(limit));
