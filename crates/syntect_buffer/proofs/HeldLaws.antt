@@ -17,7 +17,7 @@ use Rattle.syntect_grammar.specs.declared.syntax_set.SyntaxSet.{SyntaxSet}
 use Rattle.syntect.specs.Leads.{Past, RunsOrderly, and_then, styles_of, reader_of}
 use Rattle.syntect_buffer.specs.Answers.{given_line, given_lines}
 use Rattle.syntect_buffer.specs.States.{Holds, StandSame, and_all}
-use Rattle.syntect_buffer.specs.Kept.{Continues, GoesOn, IsAnswered, IsMarked, AreMarked, IsReadFrom, AreReadFrom, ReadsOn, answers_of, ending}
+use Rattle.syntect_buffer.specs.Kept.{GoesOn, IsMarked, AreMarked, IsReadFrom, AreReadFrom, ReadsOn, answers_of, ending}
 use Rattle.syntect_buffer.specs.declared.answer.LineAnswer.{LineAnswer}
 use Rattle.syntect_buffer.specs.declared.answer.LineAnswer.TheVariants as answer
 use Rattle.syntect_buffer.specs.declared.states.LineStates.{LineStates}

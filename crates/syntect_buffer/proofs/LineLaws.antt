@@ -13,7 +13,7 @@ use Rattle.syntect_contexts.specs.declared.error.ParsingError.{ParsingError}
 use Rattle.syntect_grammar.specs.declared.syntax_set.SyntaxSet.{SyntaxSet}
 use Rattle.syntect_grammar.specs.declared.error.Error.{Error}
 use Rattle.syntect_grammar.specs.declared.error.Error.TheVariants as error
-use Rattle.syntect.specs.Leads.{Past, HoldsSame, IsPast, RunsOrderly, styles_of, reader_of}
+use Rattle.syntect.specs.Leads.{Past, HoldsSame, IsPast, styles_of, reader_of}
 use Rattle.syntect.specs.Leads as leads
 use Rattle.syntect.specs.declared.easy.HighlightLines.{HighlightLines}
 use Rattle.syntect_buffer.specs.Answers.{Follow, IsRefusal, styles_in, total, ranges_from}

@@ -1,5 +1,5 @@
 -- Limits that are told, and the lines that are left out.
-use Rattle.std.proofs.Common.{◌≡◌, ℕ, ◌<◌, zero, suc, List, [], ◌∷◌, ◌++◌, length, take, drop, map, Some, refl, sym, ap, subst, ◌∙◌, arith, append_assoc}
+use Rattle.std.proofs.Common.{◌≡◌, ℕ, zero, suc, List, [], ◌∷◌, ◌++◌, length, take, drop, Some, refl, sym, ap, subst, ◌∙◌, arith, append_assoc}
 use Rattle.std.specs.List.{slice_get}
 use Rattle.syntect_base.specs.declared.limits.Limits.{Limits}
 use Rattle.syntect_parsing.specs.declared.within.LineLimit.{LineLimit}
