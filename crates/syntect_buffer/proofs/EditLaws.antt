@@ -58,7 +58,7 @@ drop_map f zero xs = refl
 drop_map f (suc n) [] = refl
 drop_map f (suc n) (x ∷ xs) = drop_map f n xs
 
-take_map : {X Y : Type 0} (f : X → Y) (n : ℕ) (xs : List X) → map f (take n xs) ≡ take n (map f xs)
+pub take_map : {X Y : Type 0} (f : X → Y) (n : ℕ) (xs : List X) → map f (take n xs) ≡ take n (map f xs)
 take_map f zero xs = refl
 take_map f (suc n) [] = refl
 take_map f (suc n) (x ∷ xs) = ap (λ ys. f x ∷ ys) (take_map f n xs)

@@ -15,8 +15,11 @@ use Rattle.syntect_parsing.specs.States.{standing}
 use Rattle.syntect_parsing.specs.declared.parser.Standing.{Standing}
 use Rattle.syntect_grammar.specs.declared.syntax_set.SyntaxSet.{SyntaxSet}
 use Rattle.syntect.specs.Leads.{Past, RunsOrderly, and_then, styles_of, reader_of}
+use Rattle.syntect_buffer.specs.Answers.{given_line, given_lines}
 use Rattle.syntect_buffer.specs.States.{Holds, StandSame, and_all}
-use Rattle.syntect_buffer.specs.Kept.{Continues, IsMarked, AreMarked, IsReadFrom, AreReadFrom, ReadsOn, ending}
+use Rattle.syntect_buffer.specs.Kept.{GoesOn, IsMarked, AreMarked, IsReadFrom, AreReadFrom, ReadsOn, answers_of, ending}
+use Rattle.syntect_buffer.specs.declared.answer.LineAnswer.{LineAnswer}
+use Rattle.syntect_buffer.specs.declared.answer.LineAnswer.TheVariants as answer
 use Rattle.syntect_buffer.specs.declared.states.LineStates.{LineStates}
 use Rattle.syntect_buffer.specs.declared.reading.Reading.{Reading}
 
@@ -79,6 +82,21 @@ read_from_same theme set was o n t ho same (l ∷ ls) (r ∷ rs) h =
     } in
     (first, h.1)
 
+-- a line's answer goes on to the states before it where those after it stand alike
+pub goes_on_same : (theme : Theme) (set : SyntaxSet) (past : Past) (before after : LineStates) (line : List ℕ) (a : LineAnswer) → past.theme ≡ theme → Holds past set before
+    → StandSame before after → GoesOn past set line a after → GoesOn past set line a before
+goes_on_same theme set past before after line (answer.LimitReached l) t k same c = k
+goes_on_same theme set past before after line (answer.Pieces ps) t k same c = record {
+  given = c.given;
+  holds = holds_same theme set past (and_then past line c.given) before after t t k c.holds same;
+  answer = c.answer;
+}
+goes_on_same theme set past before after line (answer.Refused e) t k same c = record {
+  given = c.given;
+  holds = holds_same theme set past (and_then past line c.given) before after t t k c.holds same;
+  answer = c.answer;
+}
+
 -- where lines are orderly, states of the same reader are the same
 pub stand_same : (theme : Theme) (set : SyntaxSet) (was past : Past) (o n : LineStates) → was.syntax ≡ past.syntax → Holds was set o → Holds past set n
     → RunsOrderly set was.syntax was.lines → RunsOrderly set past.syntax past.lines → standing o.reader ≡ standing n.reader → StandSame o n
@@ -103,21 +121,30 @@ past_none past =
     ap (λ (ls : List (List ℕ)). record past { lines = ls; answers = past.answers ++ [] }) (append-nil past.lines)
     ∙ ap (λ (xs : List Answer). record past { answers = xs }) (append-nil past.answers)
 
-past_more : (past : Past) (l : List ℕ) (a : Answer) (ls : List (List ℕ)) (more : List Answer) → and_all (and_then past l a) ls more ≡ and_all past (l ∷ ls) (a ∷ more)
-past_more past l a ls more =
-    ap (λ (xs : List (List ℕ)). record past { lines = xs; answers = (past.answers ++ a ∷ []) ++ more }) (append_assoc past.lines (l ∷ []) ls)
-    ∙ ap (λ (xs : List Answer). record past { lines = past.lines ++ (l ∷ ls); answers = xs }) (append_assoc past.answers (a ∷ []) more)
+past_more : (past : Past) (ls : List (List ℕ)) (bs : List Answer) (others : List (List ℕ)) (more : List Answer) → and_all (and_all past ls bs) others more ≡ and_all past (ls ++ others) (bs ++ more)
+past_more past ls bs others more =
+    ap (λ (xs : List (List ℕ)). record past { lines = xs; answers = (past.answers ++ bs) ++ more }) (append_assoc past.lines ls others)
+    ∙ ap (λ (xs : List Answer). record past { lines = past.lines ++ (ls ++ others); answers = xs }) (append_assoc past.answers bs more)
 
--- the states after lines are held behind the past with these lines
+-- a line's answer leads on, and leaves the line out where it reached a limit
+pub led_on : (past : Past) (set : SyntaxSet) (line : List ℕ) (a : LineAnswer) (after : LineStates) → GoesOn past set line a after → Led past set (given_line line a) after
+led_on past set line (answer.Pieces ps) after c = record { answers = c.given ∷ []; holds = c.holds }
+led_on past set line (answer.Refused e) after c = record { answers = c.given ∷ []; holds = c.holds }
+led_on past set line (answer.LimitReached l) after c = record { answers = []; holds = subst (λ (p : Past). Holds p set after) (sym (past_none past)) c }
+
+-- the states after lines are held after the past with those of these lines that reached no limit
 pub led : (theme : Theme) (set : SyntaxSet) (past : Past) (s : LineStates) → past.theme ≡ theme → Holds past set s
-    → (ls : List (List ℕ)) (rs : List Reading) → AreReadFrom set theme s ls rs → Led past set ls (ending s rs)
+    → (ls : List (List ℕ)) (rs : List Reading) → AreReadFrom set theme s ls rs → Led past set (given_lines ls (answers_of rs)) (ending s rs)
 led theme set past s t k [] [] h = record { answers = []; holds = subst (λ (p : Past). Holds p set s) (sym (past_none past)) k }
 led theme set past s t k [] (r ∷ rs) h = absurd h
 led theme set past s t k (l ∷ ls) [] h = absurd h
 led theme set past s t k (l ∷ ls) (r ∷ rs) h =
-    let c : Continues past set l r = h.0.continues past t k in
-    let d = led theme set (and_then past l c.given) r.after t c.holds ls rs h.1 in
-    record { answers = c.given ∷ d.answers; holds = subst (λ (p : Past). Holds p set (ending r.after rs)) (past_more past l c.given ls d.answers) d.holds }
+    let c : Led past set (given_line l r.answer) r.after = led_on past set l r.answer r.after (h.0.continues past t k) in
+    let d = led theme set (and_all past (given_line l r.answer) c.answers) r.after t c.holds ls rs h.1 in
+    record {
+      answers = c.answers ++ d.answers;
+      holds = subst (λ (p : Past). Holds p set (ending r.after rs)) (past_more past (given_line l r.answer) c.answers (given_lines ls (answers_of rs)) d.answers) d.holds;
+    }
 
 -- lines read one after another can be parted anywhere, and joined
 pub read_front : (theme : Theme) (set : SyntaxSet) (n : ℕ) (s : LineStates) (ls : List (List ℕ)) (rs : List Reading) → AreReadFrom set theme s ls rs → AreReadFrom set theme s (take n ls) (take n rs)
@@ -171,9 +198,11 @@ read_again theme set was past o n t u ho hn (l ∷ ls) [] ns h on stops = absurd
 read_again theme set was past o n t u ho hn (l ∷ ls) (r ∷ rs) [] h on stops =
     read_from_same theme set was o n t ho (stops (omega arith)) (l ∷ ls) (r ∷ rs) h
 read_again theme set was past o n t u ho hn (l ∷ ls) (r ∷ rs) (m ∷ ns) h on stops =
-    let c : Continues was set l r = h.0.continues was t ho in
-    let d : Continues past set l m = on.1.continues past u hn in
-    (on.1, read_again theme set (and_then was l c.given) (and_then past l d.given) r.after m.after t u c.holds d.holds ls rs ns h.1 on.2 (λ lt. stops (omega (arith, lt))))
+    let c : Led was set (given_line l r.answer) r.after = led_on was set l r.answer r.after (h.0.continues was t ho) in
+    let d : Led past set (given_line l m.answer) m.after = led_on past set l m.answer m.after (on.1.continues past u hn) in (
+      on.1,
+      read_again theme set (and_all was (given_line l r.answer) c.answers) (and_all past (given_line l m.answer) d.answers) r.after m.after t u c.holds d.holds ls rs ns h.1 on.2 (λ lt. stops (omega (arith, lt))),
+    )
 
 -- each of them starts from other states than before
 pub reads_apart : (theme : Theme) (set : SyntaxSet) (o n : LineStates) (ls : List (List ℕ)) (rs ns : List Reading) → ReadsOn set theme n o ls rs ns

@@ -1,5 +1,6 @@
 pub mod RangeLaws
 pub mod HeldLaws
+pub mod ToldLaws
 pub mod EditLaws
 pub mod FreshLaws
 pub mod LineLaws

@@ -8,21 +8,23 @@ use Rattle.syntect_theme.specs.declared.style.Style.{Style}
 use Rattle.syntect_theme.specs.declared.theme.Theme.{Theme}
 use Rattle.syntect_parsing.specs.Line.{Accepted, RefusedBy}
 use Rattle.syntect_parsing.specs.States.{standing}
+use Rattle.syntect_parsing.specs.declared.within.LineLimit.{LineLimit}
 use Rattle.syntect_contexts.specs.declared.error.ParsingError.{ParsingError}
 use Rattle.syntect_grammar.specs.declared.syntax_set.SyntaxSet.{SyntaxSet}
 use Rattle.syntect_grammar.specs.declared.error.Error.{Error}
 use Rattle.syntect_grammar.specs.declared.error.Error.TheVariants as error
-use Rattle.syntect.specs.Leads.{Past, IsPast, RunsOrderly, styles_of, reader_of}
+use Rattle.syntect.specs.Leads.{Past, HoldsSame, IsPast, styles_of, reader_of}
 use Rattle.syntect.specs.Leads as leads
 use Rattle.syntect.specs.declared.easy.HighlightLines.{HighlightLines}
 use Rattle.syntect_buffer.specs.Answers.{Follow, IsRefusal, styles_in, total, ranges_from}
 use Rattle.syntect_buffer.specs.States.{Holds, StandSame, IsLeft}
-use Rattle.syntect_buffer.specs.Kept.{IsReadFrom}
+use Rattle.syntect_buffer.specs.Kept.{GoesOn, IsReadFrom}
 use Rattle.syntect_buffer.specs.declared.answer.LineAnswer.{LineAnswer}
 use Rattle.syntect_buffer.specs.declared.answer.LineAnswer.TheVariants as answer
 use Rattle.syntect_buffer.specs.declared.states.LineStates.{LineStates}
-use Rattle.syntect_buffer.proofs.HeldLaws.{alike_here, holds_same}
+use Rattle.syntect_buffer.proofs.HeldLaws.{alike_here, goes_on_same}
 use Rattle.syntect_buffer.proofs.RangeLaws.{ranges_follow, ranges_styled}
+use Rattle.syntect_buffer.proofs.ToldLaws.{never_limit}
 
 -- a highlighter was resumed from the states at a line's start
 abbrev pub IsResumed : SyntaxSet → Theme → LineStates → HighlightLines → Type 0
@@ -54,16 +56,34 @@ accepted_line set theme before line h new pieces ranges after resumed given cut 
       };
 }
 
+-- a refusal goes on to states that are held after it
+goes_on : (set : SyntaxSet) (past : Past) (line : List ℕ) (e : ParsingError) (a : LineAnswer) (after : LineStates) → IsRefusal e a → Holds (leads.and_then past line (RefusedBy e)) set after → GoesOn past set line a after
+goes_on set past line e (answer.Pieces ps) after r h = record { given = RefusedBy e; holds = h; answer = r }
+goes_on set past line e (answer.Refused x) after r h = record { given = RefusedBy e; holds = h; answer = r }
+goes_on set past line e (answer.LimitReached l) after r h = absurd (never_limit e l r)
+
 -- a refused one
 pub refused_line : (set : SyntaxSet) (theme : Theme) (before : LineStates) (line : Bor (List ℕ)) (h new : HighlightLines) (e : ParsingError) (a : LineAnswer) (after : LineStates)
     → IsResumed set theme before h → IsGiven set h new line (Err (error.ParsingError e)) → IsRefusal e a
     → after.styles ≡ styles_of new → after.reader ≡ reader_of new → IsReadFrom set theme before line.now (record { answer = a; after = after; ends_alike = false })
 refused_line set theme before line h new e a after resumed given refusal s r = record {
   marked = λ m. absurd (false≢true m);
+  continues = λ past t k.
+      goes_on set past line.now e a after refusal
+      (record { holder = new; is_past = given past (resumed past k.holder t k.is_past k.styles k.reader); styles = sym s; reader = ap standing (sym r) });
+}
+
+-- one that reached a limit: what is held stays
+pub limited_line : (set : SyntaxSet) (theme : Theme) (before : LineStates) (line : List ℕ) (h new : HighlightLines) (l : LineLimit) (after : LineStates)
+    → styles_of h ≡ before.styles → standing (reader_of h) ≡ standing before.reader → HoldsSame h new
+    → after.styles ≡ styles_of new → after.reader ≡ reader_of new → IsReadFrom set theme before line (record { answer = answer.LimitReached l; after = after; ends_alike = false })
+limited_line set theme before line h new l after s r same x y = record {
+  marked = λ m. absurd (false≢true m);
   continues = λ past t k. record {
-    given = RefusedBy e;
-    holds = record { holder = new; is_past = given past (resumed past k.holder t k.is_past k.styles k.reader); styles = sym s; reader = ap standing (sym r) };
-    answer = refusal;
+    holder = k.holder;
+    is_past = k.is_past;
+    styles = k.styles ∙ sym s ∙ sym same.styles ∙ sym x;
+    reader = k.reader ∙ sym r ∙ sym same.reader ∙ sym (ap standing y);
   };
 }
 
@@ -73,22 +93,10 @@ pub left_read : (set : SyntaxSet) (theme : Theme) (before : LineStates) (line : 
     → IsReadFrom set theme before line (record { answer = a; after = left; ends_alike = alike })
 left_read set theme before line a after left alike h (inr e) = record {
   marked = λ m. absurd (false≢true (sym e.2 ∙ m));
-  continues = λ past t k.
-      let c = h.continues past t k in
-      record {
-        given = c.given;
-        holds = subst (λ (s : LineStates). Holds (leads.and_then past line c.given) set s) (sym e.0) c.holds;
-        answer = c.answer;
-      };
+  continues = λ past t k. subst (λ (s : LineStates). GoesOn past set line a s) (sym e.0) (h.continues past t k);
 }
 left_read set theme before line a after left alike h (inl same) = record {
   marked = λ m. subst (λ (s : LineStates). StandSame before s) (sym same.0) (alike_here before);
   continues = λ past t k.
-      let c = h.continues past t k in
-      record {
-        given = c.given;
-        holds = subst (λ (s : LineStates). Holds (leads.and_then past line c.given) set s) (sym same.0)
-            (holds_same theme set past (leads.and_then past line c.given) before after t t k c.holds same.1);
-        answer = c.answer;
-      };
+      subst (λ (s : LineStates). GoesOn past set line a s) (sym same.0) (goes_on_same theme set past before after line a t k same.1 (h.continues past t k));
 }

@@ -7,7 +7,7 @@ use Rattle.syntect_grammar.specs.declared.syntax_set.SyntaxSet.{SyntaxSet}
 use Rattle.syntect_grammar.specs.declared.error.Error.TheVariants as error
 use Rattle.syntect.specs.Leads.{Leads, LacksStart, styles_of, reader_of}
 use Rattle.syntect.specs.declared.easy.HighlightLines.{HighlightLines}
-use Rattle.syntect_buffer.specs.Kept.{AreMarked, AreReadFrom, IsKept, lines_in}
+use Rattle.syntect_buffer.specs.Kept.{AllTell, AreMarked, AreReadFrom, IsKept, lines_in}
 use Rattle.syntect_buffer.specs.declared.reading.Reading.{Reading}
 use Rattle.syntect_buffer.specs.declared.reading.Kept.{Kept}
 
@@ -20,6 +20,7 @@ pub kept_none : (set : SyntaxSet) (theme : Theme) (syntax : SyntaxReference) (h 
 kept_none set theme syntax h kept leads s r l n = record {
   count = ap (λ (xs : List (String Global)). length (map string_bytes xs)) l ∙ sym (ap length n);
   marked = subst (λ (rs : List Reading). AreMarked kept.start rs) (sym n) tt;
+  told = subst (λ (rs : List Reading). AllTell kept.limits rs) (sym n) tt;
   starts = λ definitions b. record {
     holder = h;
     is_past = record { built = b; leads = leads set };

@@ -1,12 +1,16 @@
 -- Answers to lines, as a buffer keeps them.
-use Rattle.std.specs.Prelude.{◌≡◌, ℕ, ◌+◌, ◌-◌, ◌<◌, List, [], ◌∷◌, length, map, replicate}
+use Rattle.std.specs.Prelude.{◌≡◌, ◌≢◌, ℕ, ◌+◌, ◌-◌, ◌<◌, List, [], ◌∷◌, ◌++◌, length, map, replicate, None}
 use Rattle.std.specs.Borrow.{Bor}
 use Rattle.std.specs.List.{flat_map}
 use Rattle.std.specs.declared.ops.Range.{Range}
+use Rattle.syntect_base.specs.Limiting.{limit_of}
+use Rattle.syntect_base.specs.declared.limits.Limits.{Limits}
 use Rattle.syntect_style.specs.Styling.{shown}
 use Rattle.syntect_theme.specs.declared.style.Style.{Style}
 use Rattle.syntect_theme.specs.declared.theme.Theme.{Theme}
 use Rattle.syntect_parsing.specs.Line.{Answer, Accepted, RefusedBy}
+use Rattle.syntect_parsing.specs.declared.within.LineLimit.{LineLimit}
+use Rattle.syntect_parsing.specs.declared.within.LineLimit.TheVariants.{Steps, Turns}
 use Rattle.syntect_contexts.specs.declared.error.ParsingError.{ParsingError}
 use Rattle.syntect_contexts.specs.declared.error.ParsingError.TheVariants as parsing
 use Rattle.syntect_grammar.specs.declared.error.Error.{Error}
@@ -50,4 +54,40 @@ abbrev pub IsAnswer : Type 0 → Theme → List ℕ → Answer → LineAnswer �
 IsAnswer orderly theme line (Accepted bytes) (answer.Pieces ps) =
     Follow 0 ps.items (length line) × (orderly → styles_in ps.items ≡ map (shown theme) bytes)
 IsAnswer orderly theme line (Accepted bytes) (answer.Refused e) = ⊥
+IsAnswer orderly theme line (Accepted bytes) (answer.LimitReached l) = ⊥
 IsAnswer orderly theme line (RefusedBy e) a = IsRefusal e a
+
+-- ---- limits ----
+
+-- this is one of the limits
+abbrev pub HasLimit : Limits → LineLimit → Type 0
+HasLimit limits (Steps context index place) = limit_of limits.steps ≢ None
+HasLimit limits (Turns place) = limit_of limits.turns ≢ None
+
+-- the limits have none for lines
+abbrev pub HasNoLimit : Limits → Type 0
+HasNoLimit limits = (limit_of limits.steps ≡ None) × (limit_of limits.turns ≡ None)
+
+-- a limit that an answer tells is one of these
+abbrev pub TellsOf : Limits → LineAnswer → Type 0
+TellsOf limits (answer.Pieces ps) = Unit {0}
+TellsOf limits (answer.Refused e) = Unit {0}
+TellsOf limits (answer.LimitReached l) = HasLimit limits l
+
+-- this holds, unless the answer is that a limit was reached
+abbrev pub UnlessLimit : LineAnswer → Type 0 → Type 0
+UnlessLimit (answer.Pieces ps) P = P
+UnlessLimit (answer.Refused e) P = P
+UnlessLimit (answer.LimitReached l) P = Unit {0}
+
+-- the line of an answer, which is left out where it reached a limit
+abbrev pub given_line : List ℕ → LineAnswer → List (List ℕ)
+given_line line (answer.Pieces ps) = line ∷ []
+given_line line (answer.Refused e) = line ∷ []
+given_line line (answer.LimitReached l) = []
+
+-- the lines of answers but those that reached a limit
+abbrev pub given_lines : List (List ℕ) → List LineAnswer → List (List ℕ)
+given_lines [] bs = []
+given_lines (l ∷ ls) [] = []
+given_lines (l ∷ ls) (a ∷ bs) = given_line l a ++ given_lines ls bs

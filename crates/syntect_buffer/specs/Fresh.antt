@@ -1,5 +1,6 @@
 -- A buffer against a fresh run over its lines.
 use Rattle.std.specs.Prelude.{◌≡◌, ◌≢◌, ℕ, ◌+◌, ◌<◌, ◌≤◌, List, [], ◌∷◌, ◌++◌, length, take, Some, slice_get}
+use Rattle.syntect_base.specs.declared.limits.Limits.{Limits}
 use Rattle.syntect_theme.specs.declared.theme.Theme.{Theme}
 use Rattle.syntect_winner.specs.Engine.{dialect}
 use Rattle.syntect_parsing.specs.Line.{Answer, AnswersAll, start_of}
@@ -7,7 +8,7 @@ use Rattle.syntect_parsing.specs.declared.parser.Standing.{Standing}
 use Rattle.syntect_contexts.specs.declared.syntax_reference.SyntaxReference.{SyntaxReference}
 use Rattle.syntect_grammar.specs.declared.syntax_set.SyntaxSet.{SyntaxSet}
 use Rattle.syntect.specs.Leads.{RunsOrderly}
-use Rattle.syntect_buffer.specs.Answers.{IsAnswer}
+use Rattle.syntect_buffer.specs.Answers.{IsAnswer, given_lines}
 use Rattle.syntect_buffer.specs.declared.answer.LineAnswer.{LineAnswer}
 
 -- What is seen of a buffer: what its lines are read with, the lines, and their answers.
@@ -15,20 +16,30 @@ pub record Buffer : Type 0 where
   pub syntax : SyntaxReference
   pub set : SyntaxSet
   pub theme : Theme
+  pub limits : Limits
   pub lines : List (List ℕ)
   pub answers : List LineAnswer
 
--- only lines and answers differ
+-- lines are read with these
 pub record IsReadWith (b : Buffer) (syntax : SyntaxReference) (set : SyntaxSet)
     (theme : Theme) : Type 0 where
   pub syntax_is : b.syntax ≡ syntax
   pub set_is : b.set ≡ set
   pub theme_is : b.theme ≡ theme
 
+-- so many of the first lines, without those of them that reached a limit
+abbrev pub given_in : Buffer → ℕ → List (List ℕ)
+given_in b count = given_lines (take count b.lines) (take count b.answers)
+
+-- no line is left out
+abbrev pub IsWhole : Buffer → Type 0
+IsWhole b = (count : ℕ) → given_in b count ≡ take count b.lines
+
 -- ---- answers ----
 
--- All lines up to this place, given in order to a new highlighter, come to this answer at the last.
-pub record IsAnswerAt (b : Buffer) (place : ℕ) (answer : LineAnswer) : Type 0 where
+-- These lines and then the one at this place, given in order to a new highlighter, come to this answer at the last.
+pub record IsAnswerAt (b : Buffer) (lines : List (List ℕ)) (place : ℕ)
+    (answer : LineAnswer) : Type 0 where
   pub start : Standing
   pub before : List Answer
   pub line : List ℕ
@@ -36,19 +47,19 @@ pub record IsAnswerAt (b : Buffer) (place : ℕ) (answer : LineAnswer) : Type 0 
   pub after : Standing
   pub begins : start_of b.syntax ≡ Some start
   pub line_is : slice_get b.lines place ≡ Some line
-  pub run : AnswersAll dialect b.set (take place b.lines ++ line ∷ []) start
-      (before ++ given ∷ []) after
+  pub run : AnswersAll dialect b.set (lines ++ line ∷ []) start (before ++ given ∷ []) after
   pub is_answer : IsAnswer
-      (RunsOrderly b.set b.syntax (take place b.lines ++ line ∷ [])) b.theme line given answer
+      (RunsOrderly b.set b.syntax (lines ++ line ∷ [])) b.theme line given answer
 
 -- ---- what an edit reads again ----
 
--- so many lines, read one after another from the start of the syntax, lead to this state
+-- so many lines, without those of them that reached a limit, read one after another from the start of the syntax, lead to
+-- this state
 pub record LeadTo (b : Buffer) (count : ℕ) (state : Standing) : Type 0 where
   pub start : Standing
   pub answers : List Answer
   pub begins : start_of b.syntax ≡ Some start
-  pub run : AnswersAll dialect b.set (take count b.lines) start answers state
+  pub run : AnswersAll dialect b.set (given_in b count) start answers state
 
 -- the line at one place before an edit and the one at another place after it start from the same state
 pub record StartsSame (before after : Buffer) (old new : ℕ) : Type 0 where
@@ -65,11 +76,12 @@ pub record StartsApart (before after : Buffer) (old new : ℕ) : Type 0 where
   pub apart : old_state ≢ new_state
 
 -- An edit left the lines unchanged that stood from `old` on, and now stand from `new` on. The first `count` of them start from
--- another state than before (where all lines are orderly, before and after), and the next one, if there is one, from the same.
+-- another state than before (where all lines but those that reached a limit are orderly, before and after), and the next one,
+-- if there is one, from the same.
 pub record StartApart (before after : Buffer) (old new count : ℕ) : Type 0 where
   pub within : new + count ≤ length after.lines
-  pub first : RunsOrderly before.set before.syntax before.lines
-      → RunsOrderly after.set after.syntax after.lines
+  pub first : RunsOrderly before.set before.syntax (given_in before (length before.lines))
+      → RunsOrderly after.set after.syntax (given_in after (length after.lines))
       → (k : ℕ) → k < count → StartsApart before after (old + k) (new + k)
   pub stops : new + count < length after.lines → StartsSame before after (old + count) (new + count)
 

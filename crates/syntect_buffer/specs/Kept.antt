@@ -1,5 +1,6 @@
 -- What a buffer keeps of its lines, and what is read again.
 use Rattle.std.specs.Prelude.{◌≡◌, true, ℕ, ◌+◌, ◌<◌, ◌≤◌, List, [], ◌∷◌, ◌++◌, length, take, drop, map, string_bytes}
+use Rattle.syntect_base.specs.declared.limits.Limits.{Limits}
 use Rattle.syntect_theme.specs.declared.theme.Theme.{Theme}
 use Rattle.syntect_parsing.specs.Line.{Answer}
 use Rattle.syntect_loader.specs.declared.definition.SyntaxDefinition.{SyntaxDefinition}
@@ -7,21 +8,34 @@ use Rattle.syntect_contexts.specs.declared.syntax_reference.SyntaxReference.{Syn
 use Rattle.syntect_grammar.specs.declared.syntax_set.SyntaxSet.{SyntaxSet}
 use Rattle.syntect.specs.Built.{IsBuiltOf}
 use Rattle.syntect.specs.Leads.{Past, RunsOrderly, and_then}
-use Rattle.syntect_buffer.specs.Answers.{IsAnswer}
+use Rattle.syntect_buffer.specs.Answers.{IsAnswer, TellsOf}
 use Rattle.syntect_buffer.specs.Fresh.{Buffer}
 use Rattle.syntect_buffer.specs.States.{Holds, StandSame, no_lines}
+use Rattle.syntect_buffer.specs.declared.answer.LineAnswer.{LineAnswer}
+use Rattle.syntect_buffer.specs.declared.answer.LineAnswer.TheVariants as answer
 use Rattle.syntect_buffer.specs.declared.states.LineStates.{LineStates}
 use Rattle.syntect_buffer.specs.declared.reading.Reading.{Reading}
 use Rattle.syntect_buffer.specs.declared.reading.Kept.{Kept}
 
 -- ---- one line ----
 
--- behind a past the line is answered so, and the states are those after it
-pub record Continues (past : Past) (set : SyntaxSet) (line : List ℕ) (r : Reading) : Type 0 where
+-- after a past the line is answered so, and these are the states then
+pub record IsAnswered (past : Past) (set : SyntaxSet) (line : List ℕ) (a : LineAnswer)
+    (after : LineStates) : Type 0 where
   pub given : Answer
-  pub holds : Holds (and_then past line given) set r.after
+  pub holds : Holds (and_then past line given) set after
   pub answer : IsAnswer (RunsOrderly set past.syntax
-      (past.lines ++ line ∷ [])) past.theme line given r.answer
+      (past.lines ++ line ∷ [])) past.theme line given a
+
+-- or it reached a limit, and the states are still those after the past
+abbrev pub GoesOn : Past → SyntaxSet → List ℕ → LineAnswer → LineStates → Type 0
+GoesOn past set line (answer.Pieces ps) after = IsAnswered past set line (answer.Pieces ps) after
+GoesOn past set line (answer.Refused e) after = IsAnswered past set line (answer.Refused e) after
+GoesOn past set line (answer.LimitReached l) after = Holds past set after
+
+-- the reading of a line after a past
+abbrev pub Continues : Past → SyntaxSet → List ℕ → Reading → Type 0
+Continues past set line r = GoesOn past set line r.answer r.after
 
 -- a reading that begins with these states ends alike where its mark says so
 abbrev pub IsMarked : LineStates → Reading → Type 0
@@ -53,9 +67,18 @@ abbrev pub AreMarked : LineStates → List Reading → Type 0
 AreMarked s [] = Unit {0}
 AreMarked s (r ∷ rs) = IsMarked s r × AreMarked r.after rs
 
+-- the limits that readings tell are some of these
+abbrev pub AllTell : Limits → List Reading → Type 0
+AllTell limits [] = Unit {0}
+AllTell limits (r ∷ rs) = TellsOf limits r.answer × AllTell limits rs
+
 -- the texts of the lines
 abbrev pub lines_in : Kept → List (List ℕ)
 lines_in k = map string_bytes k.lines
+
+-- the answers of readings
+abbrev pub answers_of : List Reading → List LineAnswer
+answers_of rs = map (λ r. r.answer) rs
 
 -- what is seen of a buffer
 abbrev pub seen : SyntaxReference → SyntaxSet → Theme → Kept → Buffer
@@ -64,16 +87,19 @@ seen syntax set theme k =
       syntax = syntax;
       set = set;
       theme = theme;
+      limits = k.limits;
       lines = lines_in k;
-      answers = map (λ r. r.answer) k.readings;
+      answers = answers_of k.readings;
     }
 
--- What a buffer keeps: there are as many readings as lines, their marks hold, and for all definitions that the set is built of, the first states are
--- those before a text, and each line was read from the states that the one before it left.
+-- What a buffer keeps: there are as many readings as lines, their marks hold, they tell the buffer's limits alone, and for all
+-- definitions that the set is built of, the first states are those before a text, and each line was read from the states that
+-- the one before it left.
 pub record IsKept (set : SyntaxSet) (theme : Theme) (syntax : SyntaxReference)
     (kept : Kept) : Type 0 where
   pub count : length (lines_in kept) ≡ length kept.readings
   pub marked : AreMarked kept.start kept.readings
+  pub told : AllTell kept.limits kept.readings
   pub starts : (definitions : List SyntaxDefinition) → IsBuiltOf set syntax definitions
       → Holds (no_lines definitions theme syntax) set kept.start
   pub read : (definitions : List SyntaxDefinition) → IsBuiltOf set syntax definitions
@@ -92,10 +118,11 @@ ReadsOn set theme now old (l ∷ ls) (r ∷ rs) (n ∷ ns) =
 ReadsOn set theme now old ls rs (n ∷ ns) = ⊥
 
 -- The lines are read again up to, and without, the first one that starts from the same states as before, or to the end.
-pub record AreReadAgain (set : SyntaxSet) (theme : Theme) (now old : LineStates)
-    (lines : List (List ℕ)) (readings again : List Reading) : Type 0 where
+pub record AreReadAgain (set : SyntaxSet) (theme : Theme) (limits : Limits)
+    (now old : LineStates) (lines : List (List ℕ)) (readings again : List Reading) : Type 0 where
   pub within : length again ≤ length lines
   pub on : ReadsOn set theme now old lines readings again
+  pub told : AllTell limits again
   pub stops : length again < length lines
       → StandSame (ending old (take (length again) readings)) (ending now again)
 
@@ -106,13 +133,15 @@ pub record IsEdited (set : SyntaxSet) (theme : Theme) (old new : Kept) (place be
     (own : List (List ℕ)) (number : ℕ) : Type 0 where
   pub readings : List Reading
   pub again : List Reading
+  pub limits_is : new.limits ≡ old.limits
   pub start_is : new.start ≡ old.start
   pub lines_are : lines_in new ≡ take place (lines_in old) ++ (own ++ drop behind (lines_in old))
   pub readings_are : new.readings
       ≡ take place old.readings
       ++ (readings ++ (again ++ drop (length again) (drop behind old.readings)))
   pub own_read : AreReadFrom set theme (ending old.start (take place old.readings)) own readings
-  pub read_again : AreReadAgain set theme
+  pub own_told : AllTell old.limits readings
+  pub read_again : AreReadAgain set theme old.limits
       (ending (ending old.start (take place old.readings)) readings)
       (ending old.start (take behind old.readings))
       (drop behind (lines_in old)) (drop behind old.readings) again

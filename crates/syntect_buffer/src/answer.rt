@@ -5,6 +5,7 @@ ghost use Rattle.syntect_buffer.specs.Answers.{IsRefusal, total, ranges_from};
 use std::alloc::{AllocError, Global};
 use std::ops::Range;
 use syntect_parsing::error::{Error, ParsingError};
+use syntect_parsing::within::LineLimit;
 use syntect_theme::style::Style;
 
 /// What a highlighter answers to a line.
@@ -15,6 +16,8 @@ pub enum LineAnswer {
     Pieces(Vec<(Style, Range<usize>)>),
     /// The line is refused, as it is by a new highlighter. That is never for want of memory.
     Refused(Error),
+    /// The line reached this limit of the buffer's. It leaves no trace: the next line is read as if this one were not there.
+    LimitReached(LineLimit),
 }
 
 /// The answer to a line that is refused so.

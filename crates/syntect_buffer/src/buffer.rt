@@ -1,9 +1,11 @@
 //! The lines of an editor's text.
-ghost use Rattle.std.specs.Prelude.{◌≡◌, ◌+◌, ◌<◌, ◌≤◌, List, [], insert, remove, length, slice_get, slice_set, string_bytes, Some, IfOk, IfErr, OnOk, OnErr};
+ghost use Rattle.std.specs.Prelude.{◌≡◌, ◌+◌, ◌<◌, ◌≤◌, List, [], insert, remove, take, length, slice_get, slice_set, string_bytes, Some, IfOk, IfErr, OnOk, OnErr};
+ghost use Rattle.syntect_base.specs.Limiting.{unlimited};
 ghost use Rattle.syntect.specs.Built.{IsBuiltOf};
 ghost use Rattle.syntect.specs.Leads.{LacksStart};
 ghost use Rattle.syntect_loader.specs.declared.definition.SyntaxDefinition.{SyntaxDefinition as ADefinition};
-ghost use Rattle.syntect_buffer.specs.Fresh.{IsReadWith, IsAnswerAt, ReadsAgain};
+ghost use Rattle.syntect_buffer.specs.Answers.{HasNoLimit, TellsOf, UnlessLimit};
+ghost use Rattle.syntect_buffer.specs.Fresh.{IsReadWith, IsAnswerAt, IsWhole, ReadsAgain, given_in};
 
 use crate::answer::LineAnswer;
 use crate::edits::{insert_at, remove_at, set_at};
@@ -12,6 +14,7 @@ use crate::states::{LineStates, SharedStates};
 use std::alloc::{AllocError, Global};
 use std::marker::Model;
 use syntect::easy::HighlightLines;
+use syntect_base::limits::Limits;
 use syntect_blocks::blocks::Blocks;
 use syntect_parsing::error::Error;
 use syntect_parsing::syntax_set::{SyntaxReference, SyntaxSet};
@@ -49,6 +52,24 @@ impl<'a> LineBuffer<'a> {
     ) -> Result<LineBuffer<'a>, Error>
         ensures made { IfOk result (λ b. IsReadWith b syntax.now syntax_set.now theme.now) }
         ensures lines { IfOk result (λ b. b.lines ≡ []) }
+        ensures limits { IfOk result (λ b. b.limits ≡ unlimited) }
+        ensures refused { IfErr result (LacksStart syntax.now) }
+    {
+        LineBuffer::new_within(alloc, syntax, syntax_set, theme, Limits::unlimited())
+    }
+
+    /// A buffer without lines, as `new` makes it, each of whose lines is read within the limits of steps and of turns. A line
+    /// that reaches one is answered by `LineAnswer::LimitReached`, and the lines after it are read as if it were not there.
+    pub fn new_within(
+        alloc: Global,
+        syntax: &'a SyntaxReference,
+        syntax_set: &'a SyntaxSet,
+        theme: &'a Theme,
+        limits: Limits,
+    ) -> Result<LineBuffer<'a>, Error>
+        ensures made { IfOk result (λ b. IsReadWith b syntax.now syntax_set.now theme.now) }
+        ensures lines { IfOk result (λ b. b.lines ≡ []) }
+        ensures limits { IfOk result (λ b. b.limits ≡ limits) }
         ensures refused { IfErr result (LacksStart syntax.now) }
     {
         let lines = match HighlightLines::new(alloc, syntax, theme) {
@@ -61,6 +82,7 @@ impl<'a> LineBuffer<'a> {
             syntax_set,
             theme,
             kept: Kept {
+                limits,
                 start: SharedStates::new(alloc, LineStates { styles, reader })?,
                 lines: Blocks::new(alloc),
                 readings: Blocks::new(alloc),
@@ -87,10 +109,19 @@ impl<'a> LineBuffer<'a> {
     pub fn answer(&self, place: usize) -> &LineAnswer
         requires { place < length self.now.lines }
         ensures kept { slice_get self.now.answers place ≡ Some result.now }
-        // in a set that was built of plain definitions it is the answer of a new highlighter that is given all lines in order
+        // in a set that was built of plain definitions it is the answer of a new highlighter that is given, in order, the lines
+        // up to this one but those that reached a limit; or this one reached a limit itself
         ensures fresh { (definitions : List ADefinition)
             → IsBuiltOf self.now.set self.now.syntax definitions
-            → IsAnswerAt self.now place result.now }
+            → UnlessLimit result.now
+            (IsAnswerAt self.now (given_in self.now place) place result.now) }
+        // without limits it is the answer of one that is given all lines in order
+        ensures all { (definitions : List ADefinition)
+            → IsBuiltOf self.now.set self.now.syntax definitions
+            → HasNoLimit self.now.limits
+            → IsAnswerAt self.now (take place self.now.lines) place result.now }
+        // a limit that it tells is one of the buffer's
+        ensures told { TellsOf self.now.limits result.now }
     {
         &self.kept.readings.get(place).answer
     }
@@ -107,6 +138,8 @@ impl<'a> LineBuffer<'a> {
         ensures lines { OnOk result
             (self.new.lines ≡ insert self.old.lines place (string_bytes line)) }
         ensures made { IsReadWith self.new self.old.syntax self.old.set self.old.theme }
+        ensures limits { self.new.limits ≡ self.old.limits }
+        ensures all { HasNoLimit self.old.limits → IsWhole self.old × IsWhole self.new }
         ensures number { IfOk result (λ number. (definitions : List ADefinition)
             → IsBuiltOf self.old.set self.old.syntax definitions
             → ReadsAgain self.old self.new 1 place (place + 1) number) }
@@ -134,6 +167,8 @@ impl<'a> LineBuffer<'a> {
         ensures lines { OnOk result
             (self.new.lines ≡ slice_set self.old.lines place (string_bytes line)) }
         ensures made { IsReadWith self.new self.old.syntax self.old.set self.old.theme }
+        ensures limits { self.new.limits ≡ self.old.limits }
+        ensures all { HasNoLimit self.old.limits → IsWhole self.old × IsWhole self.new }
         ensures number { IfOk result (λ number. (definitions : List ADefinition)
             → IsBuiltOf self.old.set self.old.syntax definitions
             → ReadsAgain self.old self.new 1 (place + 1) (place + 1) number) }
@@ -154,6 +189,8 @@ impl<'a> LineBuffer<'a> {
         requires { place < length self.old.lines }
         ensures lines { OnOk result (self.new.lines ≡ remove self.old.lines place) }
         ensures made { IsReadWith self.new self.old.syntax self.old.set self.old.theme }
+        ensures limits { self.new.limits ≡ self.old.limits }
+        ensures all { HasNoLimit self.old.limits → IsWhole self.old × IsWhole self.new }
         ensures number { IfOk result (λ number. (definitions : List ADefinition)
             → IsBuiltOf self.old.set self.old.syntax definitions
             → ReadsAgain self.old self.new 0 (place + 1) place number) }

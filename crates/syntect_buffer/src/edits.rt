@@ -44,7 +44,7 @@ pub(crate) fn insert_at(
     ensures err { OnErr result (kept.new ≡ kept.old) }
 {
     let before = states_at(&kept.start, &kept.readings, place);
-    let reading = read(alloc, set, theme, before, line.as_str())?;
+    let reading = read(alloc, set, theme, &kept.limits, before, line.as_str())?;
     let alike = reading.ends_alike;
     let again = read_again(alloc, set, theme, kept, place, &reading.after, alike)?;
     put_in(kept, place, line, reading)?;
@@ -74,7 +74,7 @@ pub(crate) fn set_at(
     let count = kept.lines.len();
     prove!(place < count);
     let before = states_at(&kept.start, &kept.readings, place);
-    let reading = read(alloc, set, theme, before, line.as_str())?;
+    let reading = read(alloc, set, theme, &kept.limits, before, line.as_str())?;
     let alike = reading.ends_alike && kept.readings.get(place).ends_alike;
     let again = read_again(alloc, set, theme, kept, place + 1, &reading.after, alike)?;
     let number = 1 + again.len();

@@ -1,13 +1,15 @@
 //! Readings of lines, one after another.
 ghost use Rattle.std.specs.Prelude.{◌≡◌, ◌+◌, ◌≤◌, true, length, take, drop, IfOk};
 ghost use Rattle.std.proofs.lemmas.List.Edits.{sets};
+ghost use Rattle.syntect_buffer.specs.Answers.{TellsOf};
 ghost use Rattle.syntect_buffer.specs.Kept.{IsReadFrom, AreReadAgain, ending, lines_in};
 ghost use Rattle.syntect_buffer.specs.States.{StandSame};
 
 use crate::answer::{LineAnswer, ranges_of, refusal};
 use crate::states::{LineStates, SharedStates, copied, left, stand_same};
 use std::alloc::{AllocError, Global};
-use syntect::easy::HighlightLines;
+use syntect::easy::{HighlightLines, HighlightWithinError};
+use syntect_base::limits::Limits;
 use syntect_blocks::blocks::Blocks;
 use syntect_parsing::error::Error;
 use syntect_parsing::syntax_set::SyntaxSet;
@@ -22,33 +24,37 @@ pub(crate) struct Reading {
     pub(crate) ends_alike: bool,
 }
 
-/// The lines of a buffer, their readings, and the states before the first one.
+/// The lines of a buffer, their readings, the states before the first one, and the limits that each is read within.
 #[derive(Drop)]
 pub(crate) struct Kept {
+    pub(crate) limits: Limits,
     pub(crate) start: SharedStates,
     pub(crate) lines: Blocks<String>,
     pub(crate) readings: Blocks<Reading>,
 }
 
-/// Reads a line from the states at its start.
+/// Reads a line from the states at its start, within limits. A line that reaches one leaves these states.
 pub(crate) fn read(
     alloc: Global,
     set: &SyntaxSet,
     theme: &Theme,
+    limits: &Limits,
     before: &SharedStates,
     line: &str,
 ) -> Result<Reading, AllocError>
-    ensures { IfOk result (λ r. IsReadFrom set.now theme.now before.now line.now r) }
+    ensures read { IfOk result (λ r. IsReadFrom set.now theme.now before.now line.now r) }
+    ensures told { IfOk result (λ r. TellsOf limits.now r.answer) }
 {
     prove!(line.len() <= usize::MAX);
     let states = before.states();
     let styles = states.styles.clone()?;
     let reader = copied(&states.reader)?;
     let mut lines = HighlightLines::from_state(alloc, theme, styles, reader)?;
-    let answer = match lines.highlight_line(alloc, line, set) {
+    let answer = match lines.highlight_line_within(alloc, line, set, limits) {
         Ok(pieces) => LineAnswer::Pieces(ranges_of(alloc, pieces.as_slice())?),
-        Err(Error::ParsingError(e)) => refusal(e)?,
-        Err(_) => return Err(AllocError),
+        Err(HighlightWithinError::Refused(Error::ParsingError(e))) => refusal(e)?,
+        Err(HighlightWithinError::Refused(_)) => return Err(AllocError),
+        Err(HighlightWithinError::LimitReached(limit)) => LineAnswer::LimitReached(limit),
     };
     let (styles, reader) = lines.state();
     let (after, ends_alike) = left(alloc, before, LineStates { styles, reader })?;
@@ -100,7 +106,7 @@ pub(crate) fn read_again(
     requires alike { alike ≡ true
         → StandSame (ending kept.now.start (take place kept.now.readings)) now.now }
     requires within { place ≤ length kept.now.readings }
-    ensures { IfOk result (λ again. AreReadAgain set.now theme.now now.now
+    ensures { IfOk result (λ again. AreReadAgain set.now theme.now kept.now.limits now.now
         (ending kept.now.start (take place kept.now.readings))
         (drop place (lines_in kept.now)) (drop place kept.now.readings) again.items) }
 {
@@ -113,7 +119,14 @@ pub(crate) fn read_again(
         if stand_same(states_at(&kept.start, &kept.readings, at), before) {
             break;
         }
-        let reading = read(alloc, set, theme, before, kept.lines.get(at).as_str())?;
+        let reading = read(
+            alloc,
+            set,
+            theme,
+            &kept.limits,
+            before,
+            kept.lines.get(at).as_str(),
+        )?;
         again.push(reading)?;
     }
     Ok(again)

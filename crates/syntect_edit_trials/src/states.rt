@@ -33,6 +33,7 @@ fn write_answer<W: fmt::Write>(f: &mut fmt::Formatter<W>, answer: &LineAnswer) -
             f.write_str(" unresolved")
         }
         LineAnswer::Refused(_) => f.write_str(" refused"),
+        LineAnswer::LimitReached(_) => f.write_str(" limited"),
     }
 }
 

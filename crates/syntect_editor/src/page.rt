@@ -25,7 +25,7 @@ fn pieces_of<'t>(
     Ok(pieces)
 }
 
-/// Puts a line last; a refused one without styles.
+/// Puts a line last; a refused one, or one that reached a limit, without styles.
 fn push_line(
     alloc: Global,
     line: &str,
@@ -38,7 +38,7 @@ fn push_line(
             let pieces = pieces_of(alloc, line, ranges.as_slice())?;
             append_highlighted_html_for_styled_line(pieces.as_slice(), behind, page)
         }
-        LineAnswer::Refused(_) => push_escaped(page, line),
+        LineAnswer::Refused(_) | LineAnswer::LimitReached(_) => push_escaped(page, line),
     }
 }
 

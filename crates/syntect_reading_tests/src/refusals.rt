@@ -233,6 +233,8 @@ fn a_syntax_without_a_start(rt: HostRuntime) {
     is_refused(&rt, ParseState::new(alloc, syntax).err(), &wanted);
     is_refused_line(&rt, HighlightLines::new(alloc, syntax, &theme), &wanted);
     is_refused_line(&rt, LineBuffer::new(alloc, syntax, &set, &theme), &wanted);
+    let within = LineBuffer::new_within(alloc, syntax, &set, &theme, Limits::default());
+    is_refused_line(&rt, within, &wanted);
     let page = highlighted_html_for_string(alloc, "", &set, syntax, &theme);
     is_refused_line(&rt, page, &wanted);
     let page = highlighted_html_for_reader(alloc, "".as_bytes(), &set, syntax, &theme);

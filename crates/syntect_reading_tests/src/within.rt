@@ -16,15 +16,15 @@ const GRAMMAR: &str =
     "name: T\nscope: source.t\ncontexts:\n  main:\n    - match: z\n      scope: keyword.z\n    - match: (a*)*\\1b\n      scope: keyword.b\n";
 
 /// Letters without a `b` next to them: the second pattern is tried in very many ways.
-const LETTERS: &str = "z aaaaaaaaaaaaaaaaaaaaaaaa b\n";
+pub const LETTERS: &str = "z aaaaaaaaaaaaaaaaaaaaaaaa b\n";
 
 /// More matches than three turns take.
-const MATCHES: &str = "zzzzz\n";
+pub const MATCHES: &str = "zzzzz\n";
 
 /// A line with a match of each.
-const SHORT: &str = "zaab\n";
+pub const SHORT: &str = "zaab\n";
 
-fn set_of(rt: &impl Abort, alloc: Global) -> SyntaxSet {
+pub fn set_of(rt: &impl Abort, alloc: Global) -> SyntaxSet {
     let mut repository = ScopeRepository::new(alloc);
     let definition = SyntaxDefinition::load_from_str(alloc, GRAMMAR, true, None, &mut repository);
     let mut builder = SyntaxSetBuilder::new(alloc);
@@ -34,7 +34,7 @@ fn set_of(rt: &impl Abort, alloc: Global) -> SyntaxSet {
     builder.build(alloc, &mut repository).expect(rt, "a set")
 }
 
-fn syntax_of<'s>(rt: &impl Abort, set: &'s SyntaxSet) -> &'s SyntaxReference {
+pub fn syntax_of<'s>(rt: &impl Abort, set: &'s SyntaxSet) -> &'s SyntaxReference {
     set.syntaxes().first().expect(rt, "a syntax")
 }
 
@@ -155,7 +155,7 @@ fn all_reach(rt: &impl Abort, alloc: Global, set: &SyntaxSet, reached: Reached<'
 }
 
 /// The number of the syntax's context `main`.
-fn main_of(rt: &impl Abort, set: &SyntaxSet) -> ContextId {
+pub fn main_of(rt: &impl Abort, set: &SyntaxSet) -> ContextId {
     syntax_of(rt, set)
         .context_named("main")
         .expect(rt, "a context")

@@ -15,10 +15,10 @@ returns-clause-ok c =
     let theme = c.args.theme.now in
     let old = c.args.kept.now in
     let again = c.in_ok-again.again.items in
-    let more = subst (λ (s : LineStates). AreReadAgain set theme s (ending old.start (take (c.args.place + 1) old.readings)) (drop (c.args.place + 1) (lines_in old)) (drop (c.args.place + 1) old.readings) again)
+    let more = subst (λ (s : LineStates). AreReadAgain set theme old.limits s (ending old.start (take (c.args.place + 1) old.readings)) (drop (c.args.place + 1) (lines_in old)) (drop (c.args.place + 1) old.readings) again)
     c.states_at-before.ensures c.in_ok-again.ensures in
     let e = removed set theme old (record old { lines = c.remove.new.self; readings = c.renew.new.readings }) c.args.place again c.requires.count c.requires.within
-    more refl c.remove.ensures.rest
+    more refl refl c.remove.ensures.rest
     (c.renew.ensures ∙ ap (λ (rs : List Reading). sets rs c.args.place again) c.remove-2.ensures.rest) in
     let n : length again ≡ c.len-number.result = omega (arith, c.in_ok-again.again.ok.0, c.len-number.ensures) in
     subst (λ (number : ℕ). IsEdited set theme old (record old { lines = c.remove.new.self; readings = c.renew.new.readings }) c.args.place (c.args.place + 1) [] number) n e

@@ -1,10 +1,11 @@
-use Rattle.std.proofs.Common.{◌≡◌, ℕ, List, sym, ◌∙◌, ap, subst, arith, take, drop, length, ◌-◌, length-drop, string_bytes}
+use Rattle.std.proofs.Common.{◌≡◌, ℕ, List, [], ◌∷◌, sym, ◌∙◌, ap, subst, arith, take, drop, length, ◌-◌, length-drop, string_bytes}
 use Rattle.std.proofs.lemmas.List.{length_push, length-map}
 use Rattle.syntect_buffer.specs.States.{StandSame}
-use Rattle.syntect_buffer.specs.Kept.{IsReadFrom, ReadsOn, ending, lines_in}
+use Rattle.syntect_buffer.specs.Kept.{AllTell, IsReadFrom, ReadsOn, ending, lines_in}
 use Rattle.syntect_buffer.specs.declared.states.LineStates.{LineStates}
 use Rattle.syntect_buffer.specs.declared.reading.Reading.{Reading}
 use Rattle.syntect_buffer.proofs.HeldLaws.{reads_more, ending-add, line_at, not_true, is_true}
+use Rattle.syntect_buffer.proofs.ToldLaws.{told_joined}
 use Rattle.syntect_buffer.proofs.reading.read_again.Goals as goal
 use Rattle.syntect_buffer.proofs.reading.read_again.Goals.{else-loop-at-test, then-loop-at-test+then-stand_same}
 
@@ -25,7 +26,7 @@ loop-at-preserved c =
     (subst (λ (x : LineStates). StandSame x c.states_after-before.result.now) (sym p) (subst (λ (x : LineStates). StandSame (ending o (take (length ns) rs)) x) (sym q) s)) in
     let read : IsReadFrom set theme (ending c.args.now.now ns) (string_bytes c.get.result.now) c.in_ok-reading.reading =
     subst (λ (x : LineStates). IsReadFrom set theme x (string_bytes c.get.result.now) c.in_ok-reading.reading) q
-    (subst (λ (l : List ℕ). IsReadFrom set theme c.states_after-before.result.now l c.in_ok-reading.reading) c.as_str.ensures.value c.in_ok-reading.ensures) in
+    (subst (λ (l : List ℕ). IsReadFrom set theme c.states_after-before.result.now l c.in_ok-reading.reading) c.as_str.ensures.value c.in_ok-reading.ensures.read) in
     record {
       count = omega (arith, ap length c.in_ok-push.ensures.items, length_push ns c.in_ok-reading.reading, c.loop-at.invariant.count);
       on = subst (λ (zs : List Reading). ReadsOn set theme c.args.now.now o ls rs zs) (sym c.in_ok-push.ensures.items)
@@ -33,6 +34,8 @@ loop-at-preserved c =
           (line_at string_bytes kept.lines c.args.place (length ns) c.loop-at.at c.get.result.now c.loop-at.invariant.count c.get.ensures)
           (omega (arith, c.requires.count, length-drop c.args.place (lines_in kept), length-drop c.args.place kept.readings, length-map kept.lines string_bytes))
           differs read);
+      told = subst (λ (zs : List Reading). AllTell kept.limits zs) (sym c.in_ok-push.ensures.items)
+          (told_joined kept.limits ns (c.in_ok-reading.reading ∷ []) c.loop-at.invariant.told (c.in_ok-reading.ensures.told, tt));
     }
 
 pub returns : goal.returns
@@ -47,6 +50,7 @@ returns c =
       | else-loop-at-test w ↦ record {
         within = omega (arith, n, c.loop-at.invariant.count);
         on = c.loop-at.invariant.on;
+        told = c.loop-at.invariant.told;
         stops = λ lt. absurd (omega (arith, n, c.loop-at.invariant.count));
       }
       | then-loop-at-test+then-stand_same w ↦
@@ -57,6 +61,7 @@ returns c =
           record {
             within = omega (arith, n, c.loop-at.invariant.count);
             on = c.loop-at.invariant.on;
+            told = c.loop-at.invariant.told;
             stops = λ lt. subst (λ (x : LineStates). StandSame (ending o (take (length ns) rs)) x) q (subst (λ (x : LineStates). StandSame x w.states_after-before.result.now) p same);
           }
     ]

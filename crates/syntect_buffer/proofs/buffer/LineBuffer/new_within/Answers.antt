@@ -2,7 +2,7 @@ use Rattle.std.proofs.Common.{ap, ◌∙◌}
 use Rattle.syntect_buffer.specs.declared.states.LineStates.{LineStates}
 use Rattle.std.proofs.lemmas.Result.{err_from_is_err_and}
 use Rattle.syntect_buffer.proofs.StartLaws.{kept_none, start_there}
-use Rattle.syntect_buffer.proofs.buffer.LineBuffer.new.Goals as goal
+use Rattle.syntect_buffer.proofs.buffer.LineBuffer.new_within.Goals as goal
 
 pub invariant_of-result : goal.invariant_of-result
 invariant_of-result c =
