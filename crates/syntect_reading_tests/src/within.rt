@@ -54,9 +54,9 @@ fn of_a_reading(e: ReadWithinError) -> Option<LineLimit> {
 }
 
 fn of_a_line(e: HighlightWithinError) -> Option<LineLimit> {
-    match e {
+    match &e {
         HighlightWithinError::Refused(_) => None,
-        HighlightWithinError::LimitReached(limit) => Some(limit),
+        HighlightWithinError::LimitReached(limit) => Some(*limit),
     }
 }
 
