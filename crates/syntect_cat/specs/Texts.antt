@@ -30,7 +30,7 @@ front_of Terminal theme = []
 
 -- a line: as spans, or each piece with its colours for a terminal
 abbrev pub line_of : Option IncludeBackground → List (Style × Bor (List ℕ)) → List ℕ
-line_of (Some ground) pieces = line_text ground pieces
+line_of (Some spans) pieces = line_text spans pieces
 line_of None pieces = terminal_text true pieces
 
 -- the terminal's own colours again, and a newline
@@ -39,11 +39,11 @@ reset = 27 ∷ codes "[0m\n"
 
 -- what stands after the lines
 abbrev pub end_of : Option IncludeBackground → List ℕ
-end_of (Some ground) = closing
+end_of (Some spans) = closing
 end_of None = reset
 
 abbrev pub lines_text : Option IncludeBackground → List Shown → List ℕ
-lines_text ground lines = flat_map (λ line. line_of ground (pieces_in line)) lines
+lines_text spans lines = flat_map (λ line. line_of spans (pieces_in line)) lines
 
 -- the first plain line of some, with one more that comes after so many lines
 abbrev pub first_of : Option (ℕ × LineLimit) → ℕ → Option LineLimit → Option (ℕ × LineLimit)

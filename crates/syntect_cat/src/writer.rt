@@ -28,7 +28,7 @@ pub(crate) struct TextWriter {
 impl TextWriter {
     /// A text without lines.
     pub(crate) fn new(alloc: Global, format: Format, theme: &Theme) -> Result<TextWriter, Error>
-        ensures ground { IfOk result (λ w. w.spans ≡ ground_of format theme.now) }
+        ensures spans { IfOk result (λ w. w.spans ≡ ground_of format theme.now) }
         ensures front { IfOk result (λ w. string_bytes w.text ≡ front_of format theme.now) }
     {
         match format {
@@ -49,7 +49,7 @@ impl TextWriter {
 
     /// Puts a line last, in styled pieces.
     pub(crate) fn append(&mut self, pieces: &[(Style, &str)]) -> Result<(), Error>
-        ensures ground { OnOk result (self.new.spans ≡ self.old.spans) }
+        ensures spans { OnOk result (self.new.spans ≡ self.old.spans) }
         ensures text { OnOk result (string_bytes self.new.text
             ≡ string_bytes self.old.text ++ line_of self.old.spans pieces.now) }
     {

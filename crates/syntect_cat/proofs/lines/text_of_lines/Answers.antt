@@ -10,7 +10,7 @@ use Rattle.syntect_cat.proofs.lines.text_of_lines.Goals as goal
 
 pub loop-before-init : goal.loop-before-init
 loop-before-init g c = (
-  c.in_ok-writer.ensures.ground,
+  c.in_ok-writer.ensures.spans,
   λ definitions syntax b l. record {
     lines = [];
     so_far = c.lines_within_limits.ensures.begin c.args.limits.now c.args.set.now c.args.theme.now syntax (g.R.Read.remaining c.args.reader) _ _ l c.new-bytes.ensures.items;
@@ -34,7 +34,7 @@ returns-then-not-branch g c = λ definitions syntax b l.
 
 pub loop-before-preserved : goal.loop-before-preserved
 loop-before-preserved g c = (
-  c.in_ok-append.ensures.ground ∙ c.loop-before.invariant.0,
+  c.in_ok-append.ensures.spans ∙ c.loop-before.invariant.0,
   λ definitions syntax b l.
       let left = g.R.Read.remaining c.loop-before.reader in
       let after = g.R.Read.remaining c.next_line.new.reader in
