@@ -32,8 +32,8 @@ pub record ArePlain (theme : Theme) (line : List ℕ) (pieces : List (Style × B
   pub joins : Joins line pieces
   pub styled : All (λ p. p.0 ≡ default_style theme) pieces
 
--- A reading of the line from this state was given up at the limit: after as many turns, or as many steps, as the limit has, and
--- after no more turns than the whole reading takes.
+-- The limit is one that the limits have; and where it is that of turns, the whole reading of the line from this state takes at
+-- least as many. What a line's searches take is no matter of definitions: of steps only the call that reads says it.
 pub record ReachesFrom (limits : Limits) (set : SyntaxSet) (line : List ℕ) (state : Standing)
     (limit : LineLimit) : Type 0 where
   pub turns : ℕ
@@ -56,10 +56,12 @@ pub data Shown : Type 0 where
   read : Row → Shown
   plain : List ℕ → List (Style × Bor (List ℕ)) → LineLimit → Shown
 
+-- its text
 abbrev pub line_in : Shown → List ℕ
 line_in (read row) = row.line
 line_in (plain line pieces limit) = line
 
+-- its pieces
 abbrev pub pieces_in : Shown → List (Style × Bor (List ℕ))
 pieces_in (read row) = row.pieces
 pieces_in (plain line pieces limit) = pieces
@@ -79,7 +81,7 @@ rows_in [] = []
 rows_in (read row ∷ lines) = row ∷ rows_in lines
 rows_in (plain line pieces limit ∷ lines) = rows_in lines
 
--- the first plain line, by its number from one, and its limit
+-- the first plain line of those that come after so many, by its number from one, and its limit
 abbrev pub first_plain : ℕ → List Shown → Option (ℕ × LineLimit)
 first_plain before [] = None
 first_plain before (read row ∷ lines) = first_plain (before + 1) lines

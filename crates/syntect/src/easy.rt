@@ -1,7 +1,7 @@
 //! Lines to styled pieces, of texts and of files.
 ghost use Rattle.std.specs.Io.Buffered.{reader_remaining};
 ghost use Rattle.std.specs.Io.KnownBytes.{Keeps};
-ghost use Rattle.std.specs.Prelude.{◌≡◌, ◌++◌, ◌∷◌, ◌+◌, ◌-◌, ◌≤◌, [], List, ℕ, Err, IfOk, IfErr, OnOk, OnErr};
+ghost use Rattle.std.specs.Prelude.{◌≡◌, ◌++◌, ◌∷◌, ◌+◌, ◌-◌, ◌≤◌, [], List, ℕ, Err, IfOk, IfErr, IfSome, OnOk, OnErr};
 ghost use Rattle.std.specs.Path.{path_bytes};
 ghost use Rattle.syntect.specs.Files.{IsSyntaxFor, IsToldSyntax, HasNoLines};
 ghost use Rattle.syntect.specs.Leads.{Leads};
@@ -63,6 +63,7 @@ impl<'a> HighlightLines<'a> {
     ghost use Rattle.syntect.specs.Built.{StaysInStart};
     ghost use Rattle.syntect.specs.PlainLines.{ArePlain, ContinuesWithin};
     ghost use Rattle.syntect.specs.Within.{ReachesLimit, unlimited_of};
+    ghost use Rattle.syntect.specs.declared.within.HighlightWithinError.TheVariants.{LimitReached};
     ghost use Rattle.syntect_base.specs.Limiting.{IsWithinLimit};
     ghost use Rattle.syntect_parsing.specs.Refusals.{AreByName};
     ghost use Rattle.syntect_parsing.specs.States.{standing, turns_made, steps_made};
@@ -278,10 +279,18 @@ impl<'a> HighlightLines<'a> {
         ensures refused { (past : Past) → IsPast past syntax_set.now self.old
             → IfErr result (λ e. Continues past syntax_set.now line.entry self.new (Err e)) }
         ensures err { OnErr result (HoldsSame self.old self.new) }
+        // how many turns and steps were made, by the numbers before and after; where a limit is told, as many as it has
+        ensures no_fewer { turns_made (reader_of self.old) ≤ turns_made (reader_of self.new) }
+        ensures no_fewer_steps { steps_made (reader_of self.old)
+            ≤ steps_made (reader_of self.new) }
         ensures few_turns { IsWithinLimit limits.now.turns
             (turns_made (reader_of self.new) - turns_made (reader_of self.old)) }
         ensures few_steps { IsWithinLimit limits.now.steps
             (steps_made (reader_of self.new) - steps_made (reader_of self.old)) }
+        ensures reached { IfOk result (λ r. IfSome r.1 (λ limit. ReachesLimit limits.now
+            (turns_made (reader_of self.new) - turns_made (reader_of self.old))
+            (steps_made (reader_of self.new) - steps_made (reader_of self.old))
+            (LimitReached limit))) }
     {
         match self.highlight_line_within(alloc, line, syntax_set, limits) {
             Ok(read) => Ok((read, None)),

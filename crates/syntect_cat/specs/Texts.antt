@@ -42,6 +42,7 @@ abbrev pub end_of : Option IncludeBackground → List ℕ
 end_of (Some spans) = closing
 end_of None = reset
 
+-- the text of lines
 abbrev pub lines_text : Option IncludeBackground → List Shown → List ℕ
 lines_text spans lines = flat_map (λ line. line_of spans (pieces_in line)) lines
 
