@@ -179,9 +179,8 @@ def write(folder, name, grammar, text):
         out.write(text)
 
 
-def run(name, words):
-    """What a run answers, whether it ends by itself, its seconds and its most memory in MB."""
-    grammar, text = INPUTS[name]()
+def run_on(grammar, text, words):
+    """How a run over a grammar and a text ends, what it tells, the bytes that it writes, its seconds and its most memory in MB."""
     with tempfile.TemporaryDirectory() as room:
         folder = os.path.join(room, "folder")
         os.mkdir(folder)
@@ -196,10 +195,15 @@ def run(name, words):
         with open(os.path.join(room, "told"), errors="replace") as told:
             said = told.read().strip().replace("\n", " ")[:120]
         size = os.path.getsize(os.path.join(room, "out"))
-    spent = used.ru_utime + used.ru_stime
+    return code, said, size, used.ru_utime + used.ru_stime, used.ru_maxrss / 1024
+
+
+def run(name, words):
+    """What a run answers, whether it ends by itself, its seconds and its most memory in MB."""
+    code, said, size, spent, memory = run_on(*INPUTS[name](), words)
     plain = ", a line plain" if "is shown plain" in said else ""
     answer = f"page of {size} bytes{plain}" if code == 0 else "past its time" if spent > SECONDS - 0.5 else f"{code} {said}".strip()
-    return answer, code in (0, 1) and not re.search("memory", said), spent, used.ru_maxrss / 1024
+    return answer, code in (0, 1) and not re.search("memory", said), spent, memory
 
 
 def main():

@@ -14,12 +14,10 @@ are counted by what they answer; the status is 1 if one was listed.
 import argparse
 import os
 import random
-import subprocess
 import sys
-import tempfile
 from collections import Counter
 
-from hostile_inputs import HEAD, THEME, limited, write
+from hostile_inputs import HEAD, run_on, write
 
 MOST_MEMORY = 200
 ATOMS = ["a", "b", "ab", "x", "[ab]", "[a-x]", "[^b]", ".", "\\w", "\\s", "\\b", "a?", "b?", "^", "$"]
@@ -86,27 +84,14 @@ def text(dice):
 
 def run(syncat, source, shown):
     """What a run answers, its seconds and its most memory in MB."""
-    with tempfile.TemporaryDirectory() as room:
-        folder = os.path.join(room, "folder")
-        os.mkdir(folder)
-        write(folder, "a", source, shown)
-        os.rename(os.path.join(folder, "a.t"), os.path.join(room, "text.t"))
-        with open(os.path.join(room, "theme.json"), "w") as out:
-            out.write(THEME)
-        words = [syncat, "folder", "theme.json", "html", "text.t"]
-        with open(os.path.join(room, "told"), "wb") as told:
-            child = subprocess.Popen(words, cwd=room, stdout=subprocess.DEVNULL, stderr=told, preexec_fn=limited)
-            _, status, used = os.wait4(child.pid, 0)
-        child.returncode = code = os.waitstatus_to_exitcode(status)
-        with open(os.path.join(room, "told"), errors="replace") as told:
-            said = told.read()
+    code, said, _, spent, memory = run_on(source, shown, [syncat, "folder", "theme.json", "html", "text.t"])
     if code < 0:
         answer = f"signal {-code}"
     elif code == 0:
         answer = "page with a plain line" if "is shown plain" in said else "page"
     else:
-        answer = said.strip().split("\n")[0][:60]
-    return answer, used.ru_utime + used.ru_stime, used.ru_maxrss / 1024
+        answer = said[:60]
+    return answer, spent, memory
 
 
 def main():
