@@ -75,17 +75,27 @@ run() {
     LD_PRELOAD="$folder/refuse.so" REFUSED_REQUEST=$refused "$program" "$@" > "$folder/run" 2> "$folder/told"
 }
 
-# the first request of an edit: those before it end the program
+# whether this request and the two after it may be refused and the program goes on, as with those of an edit; of the requests
+# before the first edit, which end the program, it can do without one here and there
+goes_on() {
+    from=$1
+    shift
+    run "$from" "$@" && run $((from + 1)) "$@" && run $((from + 2)) "$@"
+}
+
+# the first request of an edit, behind one that ends the program
 first_request() {
-    before=0
-    first=1
-    until run "$first" "$@"; do
-        before=$first
-        first=$((2 * first))
+    before=$1
+    shift
+    width=1
+    until goes_on $((before + width)) "$@"; do
+        before=$((before + width))
+        width=$((2 * width))
     done
+    first=$((before + width))
     while [ $((before + 1)) -lt "$first" ]; do
         middle=$(((before + first) / 2))
-        if run "$middle" "$@"; then first=$middle; else before=$middle; fi
+        if goes_on "$middle" "$@"; then first=$middle; else before=$middle; fi
     done
 }
 
@@ -93,10 +103,15 @@ status=0
 refuse_each() {
     : > "$folder/memory"
     "$program" "$@" > "$folder/whole"
-    first_request "$@"
+    first_request 0 "$@"
     request=$first
     while :; do
-        run "$request" "$@" || { echo "request $request: the program ends otherwise"; exit 1; }
+        if ! run "$request" "$@"; then
+            [ -s "$folder/memory" ] && { echo "request $request: the program ends otherwise"; exit 1; }
+            first_request "$request" "$@"
+            request=$first
+            continue
+        fi
         grep -q '^refused$' "$folder/told" || break
         awk -v request="$request" -v memory="$folder/memory" -f "$folder/compare.awk" \
             "$folder/whole" "$folder/run" || status=1
