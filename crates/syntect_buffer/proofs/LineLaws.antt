@@ -6,6 +6,7 @@ use Rattle.std.specs.Global.{Vec}
 use Rattle.std.specs.declared.ops.Range.{Range}
 use Rattle.syntect_theme.specs.declared.style.Style.{Style}
 use Rattle.syntect_theme.specs.declared.theme.Theme.{Theme}
+use Rattle.syntect_scope.specs.declared.stack.ScopeError.{ScopeError}
 use Rattle.syntect_parsing.specs.Line.{Accepted, RefusedBy}
 use Rattle.syntect_parsing.specs.States.{standing}
 use Rattle.syntect_parsing.specs.declared.within.LineLimit.{LineLimit}
@@ -71,6 +72,14 @@ refused_line set theme before line h new e a after resumed given refusal s r = r
   continues = λ past t k.
       goes_on set past line.now e a after refusal
       (record { holder = new; is_past = given past (resumed past k.holder t k.is_past k.styles k.reader); styles = sym s; reader = ap standing (sym r) });
+}
+
+-- one whose operations are refused, as no past has it
+pub unshown_line : (set : SyntaxSet) (theme : Theme) (before : LineStates) (line : Bor (List ℕ)) (h new : HighlightLines) (e : ScopeError) (a : LineAnswer) (after : LineStates)
+    → IsResumed set theme before h → IsGiven set h new line (Err (error.ScopeError e)) → IsReadFrom set theme before line.now (record { answer = a; after = after; ends_alike = false })
+unshown_line set theme before line h new e a after resumed given = record {
+  marked = λ m. absurd (false≢true m);
+  continues = λ past t k. absurd (given past (resumed past k.holder t k.is_past k.styles k.reader));
 }
 
 -- one that reached a limit: what is held stays

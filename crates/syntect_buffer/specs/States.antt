@@ -1,5 +1,5 @@
 -- The states at the start of a line, and pasts that lead there.
-use Rattle.std.specs.Prelude.{◌≡◌, ◌⊎◌, ℕ, Bool, true, false, List, [], ◌∷◌, ◌++◌}
+use Rattle.std.specs.Prelude.{◌≡◌, ◌⊎◌, ℕ, Bool, true, false, List, [], ◌++◌}
 use Rattle.syntect_style.specs.Pieces.{path_of}
 use Rattle.syntect_theme.specs.declared.theme.Theme.{Theme}
 use Rattle.syntect_parsing.specs.Line.{Answer}

@@ -1,11 +1,14 @@
 //! The answer to a line.
 ghost use Rattle.std.specs.Prelude.{◌≡◌, ◌<◌, ◌^◌, IfOk};
 ghost use Rattle.syntect_buffer.specs.Answers.{IsRefusal, total, ranges_from};
+ghost use Rattle.syntect_buffer.specs.declared.answer.LineAnswer.TheVariants.{Refused};
+ghost use Rattle.syntect_grammar.specs.declared.error.Error.TheVariants as AnError;
 
 use std::alloc::{AllocError, Global};
 use std::ops::Range;
 use syntect_parsing::error::{Error, ParsingError};
 use syntect_parsing::within::LineLimit;
+use syntect_scope::stack::ScopeError;
 use syntect_theme::style::Style;
 
 /// What a highlighter answers to a line.
@@ -27,6 +30,16 @@ pub(crate) fn refusal(e: ParsingError) -> Result<LineAnswer, AllocError>
     match e {
         ParsingError::Memory => Err(AllocError),
         e => Ok(LineAnswer::Refused(Error::ParsingError(e))),
+    }
+}
+
+/// The answer to a line of whose operations one is refused so, as only a definition made by hand has them.
+pub(crate) fn refused_operation(e: ScopeError) -> Result<LineAnswer, AllocError>
+    ensures { IfOk result (λ answer. answer ≡ Refused (AnError.ScopeError e)) }
+{
+    match e {
+        ScopeError::Memory => Err(AllocError),
+        e => Ok(LineAnswer::Refused(Error::ScopeError(e))),
     }
 }
 

@@ -5,7 +5,7 @@ ghost use Rattle.syntect_buffer.specs.Answers.{TellsOf};
 ghost use Rattle.syntect_buffer.specs.Kept.{IsReadFrom, AreReadAgain, ending, lines_in};
 ghost use Rattle.syntect_buffer.specs.States.{StandSame};
 
-use crate::answer::{LineAnswer, ranges_of, refusal};
+use crate::answer::{LineAnswer, ranges_of, refusal, refused_operation};
 use crate::states::{LineStates, SharedStates, copied, left, stand_same};
 use std::alloc::{AllocError, Global};
 use syntect::easy::{HighlightLines, HighlightWithinError};
@@ -53,6 +53,7 @@ pub(crate) fn read(
     let answer = match lines.highlight_line_within(alloc, line, set, limits) {
         Ok(pieces) => LineAnswer::Pieces(ranges_of(alloc, pieces.as_slice())?),
         Err(HighlightWithinError::Refused(Error::ParsingError(e))) => refusal(e)?,
+        Err(HighlightWithinError::Refused(Error::ScopeError(e))) => refused_operation(e)?,
         Err(HighlightWithinError::Refused(_)) => return Err(AllocError),
         Err(HighlightWithinError::LimitReached(limit)) => LineAnswer::LimitReached(limit),
     };

@@ -14,6 +14,8 @@ use syntect::html::{
     highlighted_html_for_string,
 };
 use syntect::parsing::{Limits, ScopeRepository, SyntaxReference, SyntaxSet};
+use syntect_buffer::answer::LineAnswer;
+use syntect_buffer::buffer::LineBuffer;
 
 /// The context that a text begins in here clears, so that `x`, which leaves it, restores. Files whose name is `cleared` are of
 /// this syntax.
@@ -109,4 +111,23 @@ fn pages_that_restore(rt: HostRuntime) {
         highlighted_html_for_file(&rt, alloc, file.as_path(), &set, &theme),
     );
     fs::remove_file(&rt, file.as_path()).expect(&rt, "a file");
+}
+
+/// The answer of a buffer to such a line is the refusal, and the line stands there.
+#[test]
+fn buffered_lines_that_restore(rt: HostRuntime) {
+    let alloc = rt.alloc();
+    let set = started_in_left(&rt, alloc, GRAMMAR);
+    let theme = Theme::default(alloc);
+    let new = LineBuffer::new(alloc, syntax_of(&rt, &set), &set, &theme);
+    let mut buffer = new.expect(&rt, "a buffer");
+    let line = String::from_str(alloc, "x\n").expect(&rt, "memory");
+    holds(&rt, buffer.insert_line(alloc, 0, line) == Ok(1));
+    let count = buffer.len();
+    assert!(rt; 0 < count);
+    let answer = buffer.answer(0);
+    holds(
+        &rt,
+        matches!(answer, LineAnswer::Refused(Error::ScopeError(_))),
+    );
 }
