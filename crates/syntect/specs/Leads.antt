@@ -1,5 +1,5 @@
 -- What a highlighter of lines holds after a list of lines, and what it answers to the next one.
-use Rattle.std.specs.Prelude.{◌≡◌, ◌≢◌, ℕ, List, [], ◌∷◌, ◌++◌, Some, None, Result, Ok, Err}
+use Rattle.std.specs.Prelude.{◌≡◌, ◌≢◌, ℕ, List, [], ◌∷◌, ◌++◌, Option, Some, None, Result, Ok, Err}
 use Rattle.std.specs.Borrow.{Bor}
 use Rattle.std.specs.Global.{Vec}
 use Rattle.syntect_style.specs.Pieces.{Joins, IsStyled, Keeps, path_of}
@@ -59,6 +59,12 @@ UnlessWanting P e = P
 abbrev pub UnlessMemory : {X : Type 0} → Result X Error → Type 0 → Type 0
 UnlessMemory (Ok x) P = P
 UnlessMemory (Err e) P = UnlessWanting P e
+
+-- the same of an answer that may tell a limit, where it tells none
+abbrev pub UnlessLimited : {X L : Type 0} → Result (X × Option L) Error → Type 0 → Type 0
+UnlessLimited (Ok (x, None)) P = P
+UnlessLimited (Ok (x, Some limit)) P = Unit {0}
+UnlessLimited (Err e) P = UnlessWanting P e
 
 -- the syntax has no `__start`; or it has one, and memory ran out
 abbrev pub LacksStart : SyntaxReference → Error → Type 0

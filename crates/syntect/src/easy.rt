@@ -1,7 +1,7 @@
 //! Lines to styled pieces, of texts and of files.
 ghost use Rattle.std.specs.Io.Buffered.{reader_remaining};
 ghost use Rattle.std.specs.Io.KnownBytes.{Keeps};
-ghost use Rattle.std.specs.Prelude.{◌≡◌, ◌++◌, ◌∷◌, ◌+◌, ◌-◌, ◌≤◌, [], List, ℕ, Err, IfOk, IfErr, IfSome, OnOk, OnErr};
+ghost use Rattle.std.specs.Prelude.{◌≡◌, ◌++◌, ◌∷◌, ◌+◌, ◌-◌, ◌≤◌, [], List, ℕ, None, Err, IfOk, IfErr, IfSome, OnOk, OnErr};
 ghost use Rattle.std.specs.Path.{path_bytes};
 ghost use Rattle.syntect.specs.Files.{IsSyntaxFor, IsToldSyntax, HasNoLines};
 ghost use Rattle.syntect.specs.Leads.{Leads};
@@ -59,7 +59,7 @@ impl<'a> Drop for HighlightLines<'a> {
 }
 
 impl<'a> HighlightLines<'a> {
-    ghost use Rattle.syntect.specs.Leads.{Past, IsPast, Continues, HoldsSame, LacksStart, RefusedExactly, UnlessMemory, reader_of, styles_of, theme_of};
+    ghost use Rattle.syntect.specs.Leads.{Past, IsPast, Continues, HoldsSame, LacksStart, RefusedExactly, UnlessLimited, UnlessMemory, reader_of, styles_of, theme_of};
     ghost use Rattle.syntect.specs.Built.{StaysInStart};
     ghost use Rattle.syntect.specs.PlainLines.{ArePlain, ContinuesWithin};
     ghost use Rattle.syntect.specs.Within.{ReachesLimit, unlimited_of};
@@ -279,7 +279,24 @@ impl<'a> HighlightLines<'a> {
         ensures refused { (past : Past) → IsPast past syntax_set.now self.old
             → IfErr result (λ e. Continues past syntax_set.now line.entry self.new (Err e)) }
         ensures err { OnErr result (HoldsSame self.old self.new) }
-        // how many turns and steps were made, by the numbers before and after; where a limit is told, as many as it has
+        // how many turns and steps were made, by the numbers before and after: by a line that was read all turns of its reading,
+        // else no more; where a limit is told, as many as it has
+        ensures taken { IfOk result (λ r. r.1 ≡ None
+            → TakesAll dialect syntax_set.now line.entry.now (standing (reader_of self.old))
+            (turns_made (reader_of self.old)) (turns_made (reader_of self.new))) }
+        ensures no_more { TakesNoMore dialect syntax_set.now line.entry.now
+            (standing (reader_of self.old))
+            (turns_made (reader_of self.old)) (turns_made (reader_of self.new)) }
+        ensures bound { turns_made (reader_of self.new)
+            ≤ turns_made (reader_of self.old)
+            + most_turns syntax_set.now line.entry.now (standing (reader_of self.old)) }
+        ensures steps { UnlessLimited result (TakesSteps syntax_set.now line.entry.now
+            (standing (reader_of self.old))
+            (turns_made (reader_of self.new) - turns_made (reader_of self.old))
+            (steps_made (reader_of self.old)) (steps_made (reader_of self.new))) }
+        ensures most_steps { UnlessLimited result (TakesMostSteps syntax_set.now line.entry.now
+            (standing (reader_of self.old))
+            (steps_made (reader_of self.old)) (steps_made (reader_of self.new))) }
         ensures no_fewer { turns_made (reader_of self.old) ≤ turns_made (reader_of self.new) }
         ensures no_fewer_steps { steps_made (reader_of self.old)
             ≤ steps_made (reader_of self.new) }
