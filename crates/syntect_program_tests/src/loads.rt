@@ -202,25 +202,6 @@ fn a_script_that_is_no_text(rt: HostRuntime) {
     holds(&rt, is_unread(unopened(&rt, path.as_path(), &set)));
 }
 
-/// A grammar whose `x` pushes a context that is not there, and a file with such a line.
-const LACKING: [File; 2] = [
-    (
-        "L.sublime-syntax",
-        "name: L\nscope: source.l\nfile_extensions: [l]\ncontexts: {main: [{match: x, push: none}]}\n",
-    ),
-    ("a.l", "a\nax\n"),
-];
-
-#[test]
-fn a_file_with_a_line_that_is_refused(rt: HostRuntime) {
-    let folder = written(&rt, "syntect_refused_line", &LACKING);
-    let set = grammars_of(&rt, &folder);
-    let theme = Theme::default(rt.alloc());
-    let path = within(&rt, &folder, "a.l");
-    let page = highlighted_html_for_file(&rt, rt.alloc(), path.as_path(), &set, &theme);
-    holds(&rt, matches!(&page, Err(Error::ParsingError(_))));
-}
-
 #[test]
 fn a_grammar_that_is_no_text(rt: HostRuntime) {
     let folder = written(&rt, "syntect_grammar_bytes", &SCRIPT);

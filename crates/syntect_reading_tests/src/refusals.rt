@@ -51,11 +51,10 @@ fn without_a_start(rt: &impl Abort, alloc: Global) -> SyntaxSet {
     set_of(rt, alloc, definition)
 }
 
-/// The set of a grammar with its context `left` as `__start`.
-pub fn started_in_left(rt: &impl Abort, alloc: Global, grammar: &str) -> SyntaxSet {
+/// The set of the grammar with the context that `x` leaves as `__start`.
+fn with_a_start_that_is_left(rt: &impl Abort, alloc: Global) -> SyntaxSet {
     let mut repository = ScopeRepository::new(alloc);
-    let read = SyntaxDefinition::load_from_str(alloc, grammar, true, None, &mut repository);
-    let mut definition = read.expect(rt, "a grammar");
+    let mut definition = loaded(rt, alloc, &mut repository);
     let left = definition.contexts.remove(&text(rt, alloc, "left"));
     definition
         .contexts
@@ -213,7 +212,7 @@ fn a_set_that_lacks_the_context(rt: HostRuntime) {
 #[test]
 fn a_text_that_left_its_start(rt: HostRuntime) {
     let alloc = rt.alloc();
-    let set = started_in_left(&rt, alloc, GRAMMAR);
+    let set = with_a_start_that_is_left(&rt, alloc);
     let read = Reading {
         syntaxes: &set,
         set: &set,
