@@ -69,6 +69,24 @@ def prototypes_at_each_push():
     return contexts(text), "a" * 120 + "b" * 4000 + "dc\n"
 
 
+def many(patterns, line):
+    rows = "".join(f"    - match: '{pattern}'\n      scope: word\n" for pattern in patterns)
+    return contexts("  main:\n" + rows), line
+
+
+def one_that_names_its_opening(count, line):
+    """A context of so many patterns of which one names what opened it."""
+    rows = "".join(f"        - match: y{n}\n" for n in range(count))
+    text = "  main:\n    - match: (a)\n      push:\n        - match: '\\1z'\n          pop: true\n"
+    return contexts(text + "        - match: x\n          scope: word\n" + rows), line
+
+
+def pushed_scopes(count, line):
+    scopes = " ".join(f"x{n}" for n in range(count))
+    text = f"  main:\n    - match: a\n      push:\n        - meta_scope: {scopes}\n"
+    return contexts(text + "        - match: b\n          pop: true\n"), line
+
+
 def hundred_levels_of_captures():
     rows = "".join(f"        {n}: word.c{n}\n" for n in range(1, 101))
     return contexts(f"  main:\n    - match: '{nested('(', 'a+', ')', 100)}'\n      captures:\n{rows}"), "a b " * 3000 + "\n"
@@ -157,6 +175,14 @@ INPUTS = {
     "a scope of 2100 atoms": long_scopes,
     "scopes cleared at each push": clear_scopes_round,
     # lines and texts
+    # many patterns, and what a turn makes
+    "a lookbehind in a count": lambda: cost("(?:(?<=a)a|(?:aa)+){999}(?:b|(?:aa)+b)", "a" * 300000 + "cb\n"),
+    "5000 patterns that all fail": lambda: many([f"[a-z]*Q{n % 10}" for n in range(5000)], "a," * 40000 + "\n"),
+    "10000 patterns that need what stands far off": lambda: many(
+        [f"a[a-z]*{n}z" for n in range(10000)], "a," * 3000 + " " + "".join(f"{n}z" for n in range(10000)) + "\n"
+    ),
+    "50000 patterns, one with a text put in, 500 turns": lambda: one_that_names_its_opening(50000, "a" + "x" * 500 + "\n"),
+    "20000 scopes pushed 1000 times": lambda: pushed_scopes(20000, "ab" * 1000 + "\n"),
     "a line of 1 MB of spaces, ended by a word": lambda: cost("\\s+$|\\s+x", " " * 1000000 + "y\n"),
     "a line of 1 MB, a quote that isn't closed": lambda: cost('"(?:[^"\\\\]|\\\\.)*"', '"' + "a\\" * 500000 + "\n"),
     "a line of 1 MB, any text and a word": lambda: cost("[\\w.+-]+@", "a" * 1000000 + " @\n"),

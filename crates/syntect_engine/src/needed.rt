@@ -19,6 +19,12 @@ pub struct Met {
     other: usize,
 }
 
+/// Up to where it was looked for a need: nowhere where nothing is known of it.
+#[inline]
+fn reached(behind: usize) -> usize {
+    if behind == usize::MAX { 0 } else { behind }
+}
+
 impl Met {
     /// Nothing was looked for yet.
     pub fn new() -> Met {
@@ -32,6 +38,12 @@ impl Met {
     #[inline]
     pub fn differs(&self, other: &Met) -> bool {
         self.rarest != other.rarest || self.other != other.other
+    }
+
+    /// Up to where it was looked for any of them, as far as it was met.
+    #[inline]
+    pub fn farthest(&self) -> usize {
+        reached(self.rarest).max(reached(self.other))
     }
 
     /// Whether what matches need stands at the place or behind it, as far as is known: where it doesn't, no match begins from

@@ -6,35 +6,67 @@ use Rattle.syntect_pattern_table.specs.Table.{node_tree, trees, trees_from}
 use Rattle.syntect_pattern_table.specs.declared.node.Node.{Node}
 use Rattle.syntect_plan.specs.Cells.{tree_size, cell_height, heights_from, height}
 use Rattle.syntect_plan.specs.Order.{capped, levels, AreSizes, AreCapped}
+use Rattle.syntect_plan.specs.Passes.{passes, ArePasses}
 use Rattle.syntect_plan.specs.declared.cells.Cell.{Cell}
 use Rattle.syntect_plan.proofs.FactLaws.{trees-take, length-trees}
 
+-- these are the numbers that the function gives of the trees, as far as 64 bits hold them
+AreGiven : (Tree → ℕ) → ℕ → List ℕ → List Tree → Type 0
+AreGiven f d ns ts = (n : ℕ) → get_or ns n d ≡ capped (f (get_or ts n nothing))
+
 -- one more of each of two lists
-sizes-push : (ns : List ℕ) (ts : List Tree) (n : ℕ) (t : Tree) → length ns ≡ length ts → AreSizes ns ts → n ≡ capped (tree_size t) → AreSizes (ns ++ n ∷ []) (ts ++ t ∷ [])
+given-push : (f : Tree → ℕ) (d : ℕ) → d ≡ capped (f nothing) → (ns : List ℕ) (ts : List Tree) (n : ℕ) (t : Tree) → length ns ≡ length ts → AreGiven f d ns ts → n ≡ capped (f t)
+    → AreGiven f d (ns ++ n ∷ []) (ts ++ t ∷ [])
+unfolding AreGiven
+given-push f d o [] [] n t l a e zero = e
+given-push f d o [] [] n t l a e (suc k) = o
+given-push f d o [] (u ∷ ts) n t l a e k = absurd (omega arith)
+given-push f d o (x ∷ ns) [] n t l a e k = absurd (omega arith)
+given-push f d o (x ∷ ns) (u ∷ ts) n t l a e zero = a zero
+given-push f d o (x ∷ ns) (u ∷ ts) n t l a e (suc k) = given-push f d o ns ts n t (omega arith) (λ j. a (suc j)) e k
+
+given-more : (f : Tree → ℕ) (d : ℕ) → d ≡ capped (f nothing) → (nodes : List Node) (ns new : List ℕ) (n i : ℕ) (x : Node) → new ≡ ns ++ n ∷ [] → length ns ≡ i → i < length nodes → x ≡ get_or nodes i x
+    → AreGiven f d ns (trees (take i nodes)) → n ≡ capped (f (node_tree (trees (take i nodes)) x)) → AreGiven f d new (trees (take (i + 1) nodes))
+given-more f d o nodes ns new n i x e l inside is a right =
+    let ts : List Tree = trees (take i nodes) in
+    let long : length ns ≡ length ts = l ∙ sym (length-trees (take i nodes) ∙ length-take-le i nodes (omega arith)) in
+    let here : n ≡ capped (f (node_tree ts (get_or nodes i x))) = right ∙ ap (λ (m : Node). capped (f (node_tree ts m))) is in
+    let pushed : AreGiven f d (ns ++ n ∷ []) (ts ++ node_tree ts (get_or nodes i x) ∷ []) = given-push f d o ns ts n (node_tree ts (get_or nodes i x)) long a here in
+    rw (e, trees-take nodes i x inside) pushed
+
+given-none : (f : Tree → ℕ) (d : ℕ) → d ≡ capped (f nothing) → (ns : List ℕ) → ns ≡ [] → AreGiven f d ns (trees [])
+unfolding AreGiven trees
+given-none f d o ns e n = rw e (none n)
+  where
+    none : (n : ℕ) → get_or [] n d ≡ capped (f (get_or (trees_from [] []) n nothing))
+    none zero = o
+    none (suc n) = o
+
+one-node : 1 ≡ capped (tree_size nothing)
 unfolding capped
-sizes-push [] [] n t l a e zero = e
-sizes-push [] [] n t l a e (suc k) = refl
-sizes-push [] (u ∷ ts) n t l a e k = absurd (omega arith)
-sizes-push (x ∷ ns) [] n t l a e k = absurd (omega arith)
-sizes-push (x ∷ ns) (u ∷ ts) n t l a e zero = a zero
-sizes-push (x ∷ ns) (u ∷ ts) n t l a e (suc k) = sizes-push ns ts n t (omega arith) (λ j. a (suc j)) e k
+one-node = refl
+
+no-pass : 0 ≡ capped (passes nothing)
+unfolding capped
+no-pass = refl
 
 pub sizes-more : (nodes : List Node) (ns new : List ℕ) (n i : ℕ) (x : Node) → new ≡ ns ++ n ∷ [] → length ns ≡ i → i < length nodes → x ≡ get_or nodes i x
     → AreSizes ns (trees (take i nodes)) → n ≡ capped (tree_size (node_tree (trees (take i nodes)) x)) → AreSizes new (trees (take (i + 1) nodes))
-sizes-more nodes ns new n i x e l inside is a right =
-    let ts : List Tree = trees (take i nodes) in
-    let long : length ns ≡ length ts = l ∙ sym (length-trees (take i nodes) ∙ length-take-le i nodes (omega arith)) in
-    let here : n ≡ capped (tree_size (node_tree ts (get_or nodes i x))) = right ∙ ap (λ (m : Node). capped (tree_size (node_tree ts m))) is in
-    let pushed : AreSizes (ns ++ n ∷ []) (ts ++ node_tree ts (get_or nodes i x) ∷ []) = sizes-push ns ts n (node_tree ts (get_or nodes i x)) long a here in
-    rw (e, trees-take nodes i x inside) pushed
+unfolding AreGiven
+sizes-more = given-more tree_size 1 one-node
 
 pub sizes-none : (ns : List ℕ) → ns ≡ [] → AreSizes ns (trees [])
-unfolding trees capped
-sizes-none ns e n = rw e (none n)
-  where
-    none : (n : ℕ) → get_or [] n 1 ≡ capped (tree_size (get_or (trees_from [] []) n nothing))
-    none zero = refl
-    none (suc n) = refl
+unfolding AreGiven
+sizes-none = given-none tree_size 1 one-node
+
+pub passes-more : (nodes : List Node) (ns new : List ℕ) (n i : ℕ) (x : Node) → new ≡ ns ++ n ∷ [] → length ns ≡ i → i < length nodes → x ≡ get_or nodes i x
+    → ArePasses ns (trees (take i nodes)) → n ≡ capped (passes (node_tree (trees (take i nodes)) x)) → ArePasses new (trees (take (i + 1) nodes))
+unfolding AreGiven
+passes-more = given-more passes 0 no-pass
+
+pub passes-none : (ns : List ℕ) → ns ≡ [] → ArePasses ns (trees [])
+unfolding AreGiven
+passes-none = given-none passes 0 no-pass
 
 -- the heights of one more cell
 heights-append : (ts : List Tree) (xs : List ℕ) (cs : List Cell) (c : Cell) → heights_from ts xs (cs ++ c ∷ []) ≡ heights_from ts xs cs ++ cell_height ts (heights_from ts xs cs) c ∷ []

@@ -7,3 +7,4 @@ pub mod Build
 pub mod Linear
 pub mod Spelt
 pub mod Order
+pub mod Passes

@@ -4,5 +4,6 @@
 pub mod cells;
 pub mod facts;
 pub mod order;
+pub mod passes;
 pub mod plan;
 pub mod spelt;

@@ -21,14 +21,14 @@ use syntect_pattern_table::node::Node;
 use syntect_pattern_table::program::Program;
 
 /// The number at the place.
-fn number_at(numbers: &[usize], place: usize) -> usize
+pub(crate) fn number_at(numbers: &[usize], place: usize) -> usize
     ensures { result ≡ slice_index_or numbers.now place 0 }
 {
     numbers.get(place).copied().unwrap_or(0)
 }
 
 /// The size of the node with the number.
-fn size_at(sizes: &[usize], node: usize) -> usize
+pub(crate) fn size_at(sizes: &[usize], node: usize) -> usize
     ensures { result ≡ slice_index_or sizes.now node 1 }
 {
     sizes.get(node).copied().unwrap_or(1)
@@ -52,7 +52,7 @@ fn larger(size: usize, more: usize) -> usize
 
 /// How many nodes a node has with those of its parts, and one more for a part that is matched on its own.
 #[tactic(auto, unfolding(crate::specs::Order::capped))]
-fn node_size(node: &Node, before: &[usize]) -> usize
+pub(crate) fn node_size(node: &Node, before: &[usize]) -> usize
     ensures { (ts : List Tree) → AreSizes before.now ts → is_text node.now ≡ false
         → result ≡ capped (tree_size (node_tree ts node.now)) }
 {

@@ -46,7 +46,7 @@ impl Plan {
     ghost use Rattle.syntect_plan.specs.Facts.{AreFacts};
     ghost use Rattle.syntect_plan.specs.Linear.{is_linear};
     ghost use Rattle.syntect_plan.specs.Onward.{is_free};
-    ghost use Rattle.syntect_plan.specs.Plan.{IsEasy, IsHard, IsPart, IsPlanned, cells_of, others_of, plan_cells};
+    ghost use Rattle.syntect_plan.specs.Plan.{IsEasy, IsHard, IsPart, IsPlanned, LooksFor, cells_of, others_of, plan_cells};
     ghost use Rattle.syntect_plan.specs.Build.{Adds, AddsMore, AreBuilt, Expands, IsSame, Makes, MakesBeside, MakesOwn, all_cells, tree_at};
     ghost use Rattle.syntect_plan.specs.PlanOf.{IsPlanOf};
 
@@ -205,6 +205,24 @@ impl Plan {
         Ok(Parts { first, second: 0 })
     }
 
+    /// The number of what a lookbehind looks for. In a loop that is spelt out it is the same for each turn.
+    fn look_for(&mut self, body: usize) -> Result<usize, AllocError>
+        ensures there { IfOk result (λ k. (ts : List Tree)
+            → LooksFor ts self.new.behinds k (tree_at ts body)) }
+        ensures kept { OnOk result ((ts : List Tree) (n : ℕ) (a : Tree)
+            → LooksFor ts self.old.behinds n a → LooksFor ts self.new.behinds n a) }
+        ensures others { self.new ≡ record self.old { behinds = self.new.behinds } }
+    {
+        for number in 0..self.behinds.len() {
+            if self.behinds.as_slice()[number] == body {
+                return Ok(number);
+            }
+        }
+        let number = self.behinds.len();
+        self.behinds.push(body)?;
+        Ok(number)
+    }
+
     /// The parts of a node, before the same at its place and behind it.
     fn own_node(&mut self, node: &Node, number: usize, next: usize) -> Result<Parts, AllocError>
         requires spelt { is_text node.now ≡ false }
@@ -226,8 +244,7 @@ impl Plan {
             Node::Atomic(body) => self.own_part(*body, 0),
             Node::Ahead { negated: _, body } => self.own_part(*body, 0),
             Node::Behind { negated: _, body } => {
-                let first = self.behinds.len();
-                self.behinds.push(*body)?;
+                let first = self.look_for(*body)?;
                 Ok(Parts { first, second: 0 })
             }
             _ => Ok(NO_PARTS),

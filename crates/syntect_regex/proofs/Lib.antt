@@ -3,3 +3,4 @@ pub mod BeginLaws
 pub mod HereLaws
 pub mod MarkLaws
 pub mod OutlineLaws
+pub mod TryLaws

@@ -1,17 +1,18 @@
 -- How many steps a search takes at most.
-use Rattle.std.specs.Prelude.{ℕ, Bool, true, List, Option, Some, None, length}
+use Rattle.std.specs.Prelude.{ℕ, ◌+◌, ◌*◌, Bool, true, List, Option, Some, None, length}
 use Rattle.syntect_pattern.specs.Trees.{Tree, group}
 use Rattle.syntect_pattern.specs.Pattern.{pattern_tree}
 use Rattle.syntect_plan.specs.Linear.{is_linear}
 use Rattle.syntect_seek.specs.Bounds.{tree_bound}
 
--- the whole match is group 0; what is no pattern is searched in no step
+-- the whole match is group 0
 abbrev pub is_linear_whole : Option Tree → Bool
 is_linear_whole None = true
 is_linear_whole (Some t) = is_linear (group 0 t)
 
+-- what is no pattern takes no step but those that each try counts
 abbrev pub whole_bound : Option Tree → ℕ → ℕ → ℕ
-whole_bound None size long = 0
+whole_bound None size long = long * 64 + 16384
 whole_bound (Some t) size long = tree_bound (group 0 t) size long
 
 -- Each search of the pattern takes steps in proportion to the text: it has no back reference, its lookbehinds look for nothing

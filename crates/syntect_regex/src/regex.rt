@@ -280,10 +280,10 @@ impl Regex {
 
     /// Searches as `search_into` does, and counts its steps. Of a linear pattern they are within a bound that goes by the
     /// pattern and the length of what is searched. A step is one of the search that backs up, which may read letters in a row at
-    /// once, or one at a cell of the pattern's plan; a stretch of characters counts one, and one more for each eight of them. What
-    /// is passed over before a place where a match may begin isn't counted, nor are a plan's passes over the pattern's nodes, the
-    /// ordering of its cells, and its passes over the text for what lookbehinds look for. The count never falls, and a search
-    /// that finds something has counted a step at least.
+    /// once, or one at a cell of the pattern's plan; a stretch of characters counts one, and one more for each eight of them, and
+    /// a plan's pass over the text for what lookbehinds look for one for each four bytes. What is passed over before a place
+    /// where a match may begin isn't counted, nor are a plan's passes over the pattern's nodes and the ordering of its cells. The
+    /// count never falls, and a search that finds something has counted a step at least.
     pub fn search_counted(
         &self,
         text: &str,
@@ -335,7 +335,7 @@ impl Regex {
         self.match_at_counted(text, place, region, &mut TurnCount::none())
     }
 
-    /// Tells as `match_at` does, and counts the steps as `search_counted` does.
+    /// Tells as `match_at` does, and counts the steps as `search_counted` does, and as `match_at_known` does those of a try.
     pub fn match_at_counted(
         &self,
         text: &str,
@@ -364,11 +364,14 @@ impl Regex {
         }
     }
 
-    /// Tells as `match_at_counted` does, with what is known of the pattern in this text, of which more may be known after: no
-    /// step is taken at a place where no match can begin by that. To try a pattern at place after place of one text, hand in
-    /// what was left the last time. Patterns that backed up too often leave the plans that they go on by in `depths`, which may
-    /// be handed in for all patterns that are tried in the text. The steps are made by the meter: where it has too few left, the
-    /// search stops once it has made them, and the region stays.
+    /// Tells as `match_at` does, with what is known of the pattern in this text, of which more may be known after: nothing is
+    /// searched at a place where no match can begin by that. To try a pattern at place after place of one text, hand in what was
+    /// left the last time. Patterns that backed up too often leave the plans that they go on by in `depths`, which may be handed
+    /// in for all patterns that are tried in the text.
+    ///
+    /// The steps are made by the meter: where it has too few left, the search stops once it has made them, and the region stays.
+    /// Each try is a step, whatever it finds; it counts one more for each 256 bytes of the pattern's text, as far as these are
+    /// 14000, and one for each 64 bytes of the text that are looked at for what matches need.
     pub fn match_at_known(
         &self,
         text: &str,
@@ -389,15 +392,19 @@ impl Regex {
             ≤ meter.old.made + search_bound self.now (length text.now)) }
         ensures advances { Advances meter.old meter.new }
         ensures stops { IfErr result (StopsAt meter.new) }
-        ensures counted { IfOk result (λ found. found ≡ true → meter.old.made < meter.new.made) }
+        ensures counted { OnOk result (meter.old.made < meter.new.made) }
     {
+        meter.spend(try_steps(self.body.text.len()))?;
         if known.rules_out(place) {
             return Ok(false);
         }
         let Some(program) = self.program()? else {
             return Ok(false);
         };
-        if !known.is_left(program, text, place) {
+        let before = *known;
+        let is_left = known.is_left(program, text, place);
+        meter.spend(known.look_steps(&before, text, place))?;
+        if !is_left {
             return Ok(false);
         }
         let pattern = self.body.text.as_str();
@@ -458,6 +465,21 @@ impl Regex {
             Err(_) => Err(AllocError),
         }
     }
+}
+
+/// At a try a pattern's text may be compared with that of its program, and with those of plans: so many bytes count as a step.
+const COMPARED_A_STEP: usize = 256;
+
+/// But no more steps than so many.
+const MOST_COMPARED: usize = 14000;
+
+/// As how many steps a try of a pattern of so many bytes counts, beside those of its search.
+#[inline]
+fn try_steps(size: usize) -> usize
+    ensures counted { 0 < result }
+    ensures bound { result ≤ 14001 }
+{
+    1 + (size / COMPARED_A_STEP).min(MOST_COMPARED)
 }
 
 /// The character can have a meaning of its own in a pattern.

@@ -1,7 +1,7 @@
 //! Where the groups of a match stand.
 ghost use Rattle.std.specs.Prelude.{◌≡◌, ◌≤◌, ◌<◌, ◌↔◌, ℕ, List, true, [], IfErr, IfOk, OnErr, OnOk, None, length, slice_index_or};
 ghost use Rattle.syntect_pattern.specs.Matches.{Groups};
-ghost use Rattle.syntect_seek.specs.Bounds.{IsWithinBound};
+ghost use Rattle.syntect_seek.specs.Bounds.{IsWithinBound, IsWithinTry};
 ghost use Rattle.syntect_pattern_reader.specs.Compiled.{IsCompiled};
 ghost use Rattle.syntect_seek.specs.Depths.{AreDepthsIn};
 ghost use Rattle.syntect_seek.specs.Prospect.{IsProspectOf};
@@ -126,7 +126,7 @@ impl Region {
             → IsProspectOf pattern.now text.now known.new }
         ensures depths { OnOk result (AreDepthsIn text.now depths.new) }
         ensures err { OnErr result (self.new ≡ self.old) }
-        ensures steps { OnOk result (IsWithinBound program.now (length pattern.now)
+        ensures steps { OnOk result (IsWithinTry program.now (length pattern.now)
             (length text.now) meter.old.made meter.new.made) }
         ensures advances { Advances meter.old meter.new }
         ensures stops { IfErr result (StopsAt meter.new) }

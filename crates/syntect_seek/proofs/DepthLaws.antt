@@ -1,5 +1,5 @@
 -- Plans that are kept.
-use Rattle.std.proofs.Common.{◌≡◌, ℕ, zero, suc, [], ◌∷◌, ◌++◌, ◌+◌, ◌*◌, ◌≤◌, List, Bool, true, false, Option, Some, None, refl, sym, ap, ◌∙◌, subst, arith}
+use Rattle.std.proofs.Common.{◌≡◌, ℕ, zero, suc, [], ◌∷◌, ◌++◌, ◌+◌, ◌*◌, ◌≤◌, List, Bool, true, false, Option, Some, None, refl, sym, ap, ◌∙◌, subst, arith, mul-le-mul_right}
 use Rattle.std.specs.Prelude.{IfSome, IfNone, OnOk, Result, Ok, Err, string_bytes}
 use Rattle.syntect_pattern.specs.Trees.{Tree, group}
 use Rattle.syntect_pattern.specs.Matches.{Groups, found_at}
@@ -13,7 +13,12 @@ use Rattle.syntect_engine.specs.Machine as engine
 use Rattle.syntect_engine.specs.declared.state.Search.{Search}
 use Rattle.syntect_linear.specs.Guide.{IsGuideIn}
 use Rattle.syntect_linear.specs.declared.find.Guide.{Guide}
+use Rattle.syntect_linear.specs.Linear.{planned_steps}
+use Rattle.syntect_linear.specs.Steps.{step_weight}
 use Rattle.syntect_plan.specs.Linear.{is_linear}
+use Rattle.syntect_plan.specs.Order.{capped}
+use Rattle.syntect_plan.specs.Passes.{passes}
+use Rattle.syntect_plan.specs.Plan.{plan_cells}
 use Rattle.syntect_seek.specs.Bounds.{root_tree}
 use Rattle.syntect_seek.specs.Depths.{AreDepthsIn, IsDepthOf, StandsFor}
 use Rattle.syntect_seek.specs.declared.depths.Depth.{Depth}
@@ -65,6 +70,26 @@ pub weighed : (cells walk long before marked after : ℕ) → marked ≤ before 
 weighed cells walk long before marked after m w =
     let d : (7 * cells + walk) * long ≡ 7 * cells * long + walk * long = grind arith in
     omega (arith, m, w, d)
+
+spread : (a b k : ℕ) → (a + b) * k ≡ a * k + b * k
+spread a b k = grind arith
+
+-- the plan, the passes for its lookbehinds, and the search by it together
+pub all-planned : (t u : Tree) (cells long before guided after : ℕ) → cells ≡ plan_cells t → u ≡ t → guided ≤ before + plan_cells t + passes t * (long + 1)
+    → after ≤ guided + step_weight cells u * (long + 1) → after ≤ before + planned_steps t long
+all-planned t u cells long before guided after e f g h =
+    let one : after ≤ guided + step_weight (plan_cells t) u * (long + 1) = subst (λ (n : ℕ). after ≤ guided + step_weight n u * (long + 1)) e h in
+    let both : after ≤ guided + step_weight (plan_cells t) t * (long + 1) = subst (λ (v : Tree). after ≤ guided + step_weight (plan_cells t) v * (long + 1)) f one in
+    let d = spread (step_weight (plan_cells t) t) (passes t) (long + 1) in
+    omega (arith, g, both, d)
+
+-- passes that are counted as far as 64 bits hold their number
+pub few-passes : (n m k steps : ℕ) → m ≡ capped n → steps ≤ m * k → steps ≤ n * k
+unfolding capped
+few-passes n m k steps e h =
+    let few : m ≤ n = omega (arith, e) in
+    let all = mul-le-mul_right k few in
+    omega (arith, h, all)
 
 -- what is so anyhow is so of an answer
 pub on_ok-any : {V E : Type 0} (r : Result V E) (P : Type 0) → P → OnOk r P

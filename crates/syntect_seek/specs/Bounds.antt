@@ -13,6 +13,11 @@ abbrev pub tree_bound : Tree → ℕ → ℕ → ℕ
 tree_bound t size long =
     long * 64 + min size most_cells * min long 16 + 16384 + planned_steps t long
 
+-- The same of a try, of many at place after place: it backs up in at most eight steps for each byte of the text, and 2048 beside
+-- them and those for the pattern.
+abbrev pub tried_bound : Tree → ℕ → ℕ → ℕ
+tried_bound t size long = long * 8 + min size most_cells * min long 16 + 2048 + planned_steps t long
+
 -- the tree of a program
 abbrev pub root_tree : Program → Tree
 root_tree p = slice_index_or (trees_of p) p.root nothing
@@ -21,6 +26,11 @@ root_tree p = slice_index_or (trees_of p) p.root nothing
 abbrev pub IsWithinBound : Program → ℕ → ℕ → ℕ → ℕ → Type 0
 IsWithinBound p size long before after = is_linear (root_tree p) ≡ true
     → after ≤ before + tree_bound (root_tree p) size long
+
+-- the same of a try
+abbrev pub IsWithinTry : Program → ℕ → ℕ → ℕ → ℕ → Type 0
+IsWithinTry p size long before after = is_linear (root_tree p) ≡ true
+    → after ≤ before + tried_bound (root_tree p) size long
 
 -- the same of the steps by its plan alone
 abbrev pub IsWithinPlan : Program → ℕ → ℕ → ℕ → Type 0

@@ -1,5 +1,5 @@
 //! What is known of a pattern in a text in which it is tried at place after place.
-ghost use Rattle.std.specs.Prelude.{◌≡◌, ◌≤◌, ◌+◌, List, ℕ, false, true};
+ghost use Rattle.std.specs.Prelude.{◌≡◌, ◌≤◌, ◌+◌, List, ℕ, false, length, true};
 ghost use Rattle.syntect_pattern_reader.specs.Compiled.{IsCompiled};
 ghost use Rattle.syntect_seek.specs.Prospect.{IsProspectOf, NoneBeginsIn};
 
@@ -8,6 +8,9 @@ use syntect_pattern_table::program::Program;
 
 /// A try of so few steps is not counted.
 const FEW: usize = 16;
+
+/// So many bytes of the text that are looked at for what matches need count as a step.
+const LOOKED_A_STEP: usize = 64;
 
 /// From where on no match of the pattern begins, how far what its matches need was met, and how many steps are left for its tries,
 /// or that its plan tells of the text. It is of one pattern in one text.
@@ -62,6 +65,19 @@ impl Prospect {
         }
         self.from = place;
         false
+    }
+
+    /// As how many steps it counts that what matches need was looked for from the place on, by what was known before.
+    #[inline]
+    pub fn look_steps(&self, before: &Prospect, text: &str, place: usize) -> usize
+        ensures { result ≤ length text.now }
+    {
+        let seen = if self.from <= place {
+            text.len()
+        } else {
+            self.met.farthest().min(text.len())
+        };
+        seen.saturating_sub(before.met.farthest().max(place)) / LOOKED_A_STEP
     }
 
     /// Whether its plan has told of the text before.

@@ -5,13 +5,15 @@ ghost use Rattle.std.specs.Prelude.{◌≡◌, ◌≤◌, ◌<◌, ◌+◌, ◌*
 ghost use Rattle.syntect_meter.specs.Meter.{Advances, StopsAt};
 ghost use Rattle.syntect_pattern_reader.specs.Compiled.{IsCompiled};
 ghost use Rattle.syntect_plan.specs.Linear.{is_linear, most_cells};
+ghost use Rattle.syntect_plan.specs.Order.{capped};
+ghost use Rattle.syntect_plan.specs.Passes.{passes};
 ghost use Rattle.syntect_plan.specs.Plan.{plan_cells};
 ghost use Rattle.syntect_pattern_table.specs.declared.program.Program.{Program as AProgram};
 ghost use Rattle.syntect_engine.specs.Machine.{FindsAt, FindsGroups, groups_of};
 ghost use Rattle.syntect_linear.specs.Finds as linear;
 ghost use Rattle.syntect_linear.specs.Guide.{IsGuideIn};
 ghost use Rattle.syntect_linear.specs.Steps.{step_weight};
-ghost use Rattle.syntect_seek.specs.Bounds.{IsWithinBound, IsWithinPlan, root_tree};
+ghost use Rattle.syntect_seek.specs.Bounds.{IsWithinBound, IsWithinPlan, IsWithinTry, root_tree};
 ghost use Rattle.syntect_seek.specs.Depths.{AreDepthsIn, StandsFor};
 ghost use Rattle.syntect_seek.specs.Prospect.{IsProspectOf};
 
@@ -23,6 +25,7 @@ use syntect_linear::find::Guide;
 use syntect_meter::meter::Meter;
 use syntect_meter::stop::Stop;
 use syntect_pattern_table::program::Program;
+use syntect_plan::passes::passes_of;
 use syntect_plan::plan::Plan;
 use syntect_plan::spelt::spelt;
 use syntect_turns::count::TurnCount;
@@ -59,14 +62,23 @@ fn steps_in(size: usize, text: &str) -> usize
 #[inline]
 fn tried_steps_in(size: usize, text: &str) -> usize
     ensures { result
-        ≤ length text.now * 64 + min size most_cells * min (length text.now) 16 + 16384 }
+        ≤ length text.now * 8 + min size most_cells * min (length text.now) 16 + 2048 }
 {
     let bytes = text.len().saturating_mul(TRIED_A_BYTE);
     let plan = size.min(MOST).saturating_mul(text.len().min(STEPS_A_PLAN));
     bytes.saturating_add(plan).saturating_add(TRIED)
 }
 
-/// The program's plan in the text, if the program is linear. It costs a step for each of its cells.
+/// As how many steps so many passes over the text for lookbehinds count: a step for each four bytes of each.
+fn pass_steps(passes: usize, text: &str) -> usize
+    ensures bound { result ≤ passes * (length text.now + 1) }
+    ensures counted { passes ≤ result }
+{
+    passes.saturating_mul(text.len() / 4 + 1)
+}
+
+/// The program's plan in the text, if the program is linear. It costs a step for each of its cells, and those of the passes over
+/// the text for lookbehinds, which are paid for before they are made.
 fn guide_of(
     alloc: Global,
     program: &Program,
@@ -80,8 +92,10 @@ fn guide_of(
     ensures cells { IfOk result (λ made. IfSome made (λ g.
         length g.plan.cells ≡ plan_cells (root_tree program.now))) }
     ensures hard { IfOk result (λ made. IfNone made (is_linear (root_tree program.now) ≡ false)) }
-    ensures steps { OnOk result (meter.new.made
-        ≤ meter.old.made + plan_cells (root_tree program.now)) }
+    ensures steps { OnOk result (meter.new.made ≤ meter.old.made + plan_cells (root_tree program.now)
+        + passes (root_tree program.now) * (length text.now + 1)) }
+    ensures counted { IfOk result (λ made. IfSome made (λ g. meter.old.made + length g.plan.cells
+        + capped (passes (root_tree program.now)) ≤ meter.new.made)) }
     ensures advances { Advances meter.old meter.new }
     ensures stops { IfErr result (StopsAt meter.new) }
 {
@@ -90,6 +104,8 @@ fn guide_of(
         return Ok(None);
     };
     meter.spend(plan.cells.len())?;
+    let passes = passes_of(alloc, &spelt)?;
+    meter.spend(pass_steps(passes, text))?;
     Ok(Some(Guide::new(alloc, spelt, plan, text)?))
 }
 
@@ -249,7 +265,7 @@ pub fn begins_known(
     ensures known { IsProspectOf pattern.now text.now known.old
         → IsProspectOf pattern.now text.now known.new }
     ensures depths { OnOk result (AreDepthsIn text.now depths.new) }
-    ensures steps { OnOk result (IsWithinBound program.now (length pattern.now) (length text.now)
+    ensures steps { OnOk result (IsWithinTry program.now (length pattern.now) (length text.now)
         meter.old.made meter.new.made) }
     ensures advances { Advances meter.old meter.new }
     ensures stops { IfErr result (StopsAt meter.new) }
@@ -279,7 +295,7 @@ fn begins_settled(
     ensures known { IsProspectOf pattern.now text.now known.old
         → IsProspectOf pattern.now text.now known.new }
     ensures depths { OnOk result (AreDepthsIn text.now depths.new) }
-    ensures steps { OnOk result (IsWithinBound program.now (length pattern.now) (length text.now)
+    ensures steps { OnOk result (IsWithinTry program.now (length pattern.now) (length text.now)
         meter.old.made meter.new.made) }
     ensures advances { Advances meter.old meter.new }
     ensures stops { IfErr result (StopsAt meter.new) }
@@ -311,7 +327,7 @@ fn begins_tried(
     ensures known { IsProspectOf pattern.now text.now known.old
         → IsProspectOf pattern.now text.now known.new }
     ensures depths { OnOk result (AreDepthsIn text.now depths.new) }
-    ensures steps { OnOk result (IsWithinBound program.now (length pattern.now) (length text.now)
+    ensures steps { OnOk result (IsWithinTry program.now (length pattern.now) (length text.now)
         meter.old.made meter.new.made) }
     ensures advances { Advances meter.old meter.new }
     ensures stops { IfErr result (StopsAt meter.new) }

@@ -1,6 +1,7 @@
 //! What is known, while a line is read, of the patterns that were tried in it.
-ghost use Rattle.std.specs.Prelude.{◌≡◌, ◌<◌, List, ℕ, true};
+ghost use Rattle.std.specs.Prelude.{◌≡◌, ◌<◌, IfSome, List, ℕ, length, slice_index_or, true};
 ghost use Rattle.syntect_winner.specs.Memory.{AreKnown, IsKnownAt, Remembers};
+ghost use Rattle.syntect_winner.specs.declared.memory.Memo.{Memo as AMemo};
 ghost use Rattle.syntect_grammar.specs.declared.syntax_set.SyntaxSet.{SyntaxSet};
 
 use crate::hints::Hints;
@@ -12,6 +13,10 @@ use syntect_seek::prospect::Prospect;
 
 /// How many patterns are kept in mind at most, and how many slots lead to them.
 const SLOTS: usize = 2048;
+
+/// In how many slots, from its own on, a pattern is looked for. One that finds no room asks anew at each try, which may take it
+/// to the line's end each time.
+const LOOKS: usize = 4;
 
 /// What is known of the pattern that stands there.
 #[derive(Clone, Copy)]
@@ -28,7 +33,7 @@ pub struct Memos {
     slots: [u16; SLOTS],
 }
 
-/// The slot of the pattern that stands there. Two that share one ask anew at each try, so there are many more than patterns.
+/// The slot of the pattern that stands there.
 #[inline]
 fn slot_of(origin: Origin) -> usize
     ensures { result < 2048 }
@@ -111,42 +116,82 @@ impl Memos {
         self.kept.clear();
     }
 
+    /// Where what is known of the pattern that stands there is kept.
+    #[inline]
+    fn place_of(&self, origin: Origin) -> Option<usize>
+        ensures inside { IfSome result (λ i. i < length self.now) }
+        ensures same { IfSome result (λ i. (memo : AMemo)
+            → (slice_index_or self.now i memo).origin ≡ origin) }
+    {
+        let slot = slot_of(origin);
+        for look in 0..LOOKS {
+            let number = self.slots[(slot + look) % SLOTS] as usize;
+            if number >= self.kept.len() {
+                return None;
+            }
+            if is_same(self.kept[number].origin, origin) {
+                return Some(number);
+            }
+        }
+        None
+    }
+
     /// What is known of the pattern that stands there.
     #[inline]
     pub fn recall(&self, origin: Origin) -> Prospect
         ensures { (set : SyntaxSet) (line : List ℕ) → AreKnown set line self.now
             → IsKnownAt set line origin result }
     {
-        let number = self.slots[slot_of(origin)] as usize;
-        match self.kept.get(number) {
-            Some(memo) => {
-                if is_same(memo.origin, origin) {
-                    memo.prospect
-                } else {
-                    Prospect::new()
-                }
-            }
+        match self.place_of(origin) {
+            Some(number) => self.kept[number].prospect,
             None => Prospect::new(),
         }
     }
 
-    /// Keeps in mind what is known of the pattern that stands there, in place of another one of its slot, if there is room.
+    /// Whether a memo of this line stands in the slot.
+    fn is_taken(&self, slot: usize) -> bool
+        requires { slot < 2048 }
+    {
+        let number = self.slots[slot] as usize;
+        if number >= self.kept.len() {
+            return false;
+        }
+        let own = slot_of(self.kept[number].origin);
+        (slot + SLOTS - own) % SLOTS < LOOKS
+    }
+
+    /// The slot for the pattern that stands there, in which no memo of this line stands if one of those is free.
+    fn room_for(&self, origin: Origin) -> usize
+        ensures { result < 2048 }
+    {
+        let slot = slot_of(origin);
+        for look in 0..LOOKS {
+            let next = (slot + look) % SLOTS;
+            if !self.is_taken(next) {
+                return next;
+            }
+        }
+        slot
+    }
+
+    /// Keeps in mind what is known of the pattern that stands there, in place of another one where there is no room.
     pub fn keep(&mut self, origin: Origin, prospect: Prospect)
         ensures { (set : SyntaxSet) (line : List ℕ) → AreKnown set line self.old
             → IsKnownAt set line origin prospect → AreKnown set line self.new }
     {
-        let slot = slot_of(origin);
-        let number = self.slots[slot] as usize;
         let memo = Memo { origin, prospect };
-        if number < self.kept.len() && slot_of(self.kept[number].origin) == slot {
+        if let Some(number) = self.place_of(origin) {
+            self.kept[number] = memo;
+            return;
+        }
+        let slot = self.room_for(origin);
+        let number = self.slots[slot] as usize;
+        if self.is_taken(slot) && number < self.kept.len() {
             self.kept[number] = memo;
             return;
         }
         let next = self.kept.len();
-        if next >= SLOTS {
-            return;
-        }
-        if self.kept.push(memo).is_ok() {
+        if next < SLOTS && self.kept.push(memo).is_ok() {
             self.slots[slot] = next as u16;
         }
     }

@@ -70,9 +70,9 @@ char-among f c e y = elim (or_cases (is_within 0x30 0x39 c) (is_within 0x41 0x5A
 ]
 
 blank-among : (f : ℕ → Bool) (c : ℕ) → is_blank c ≡ true → f c ≡ true → list_any f blanks ≡ true
-blank-among f c e y = elim (or_cases (is_within 0x09 0x0A c) (is_within 0x20 0x20 c) e) [
-  | inl p ↦ any-left f (numbers_from 0x09 2) (numbers_from 0x20 1) (within-among f 0x09 1 c p y)
-  | inr p ↦ any-right f (numbers_from 0x09 2) (numbers_from 0x20 1) (within-among f 0x20 0 c p y)
+blank-among f c e y = elim (or_cases (is_within 0x09 0x0D c) (is_within 0x20 0x20 c) e) [
+  | inl p ↦ any-left f (numbers_from 0x09 5) (numbers_from 0x20 1) (within-among f 0x09 4 c p y)
+  | inr p ↦ any-right f (numbers_from 0x09 5) (numbers_from 0x20 1) (within-among f 0x20 0 c p y)
 ]
 
 -- a set that holds a character of runs has one
@@ -100,8 +100,8 @@ word-near c e = elim (or_cases (is_within 0x30 0x39 c) (is_within 0x41 0x5A c ||
 ]
 
 blank-near : (c : ℕ) → is_blank c ≡ true → c < 128
-blank-near c e = elim (or_cases (is_within 0x09 0x0A c) (is_within 0x20 0x20 c) e) [
-  | inl p ↦ below 0x09 0x0A c (omega arith) p
+blank-near c e = elim (or_cases (is_within 0x09 0x0D c) (is_within 0x20 0x20 c) e) [
+  | inl p ↦ below 0x09 0x0D c (omega arith) p
   | inr p ↦ below 0x20 0x20 c (omega arith) p
 ]
 
@@ -127,7 +127,7 @@ two-rows f xs ys a b h k = list_any-append f xs ys ∙ ap (λ c. c || list_any f
 one_of_run : (blank : Bool) (w : ℕ) → is_of blank w ≡ has_one blank (range w w)
 unfolding has_one
 one_of_run true w =
-    sym (two-rows (is_within w w) (numbers_from 0x09 2) (numbers_from 0x20 1) (is_within 0x09 0x0A w) (is_within 0x20 0x20 w) (row-of w 1 0x09) (row-of w 0 0x20))
+    sym (two-rows (is_within w w) (numbers_from 0x09 5) (numbers_from 0x20 1) (is_within 0x09 0x0D w) (is_within 0x20 0x20 w) (row-of w 4 0x09) (row-of w 0 0x20))
 one_of_run false w =
     let f : ℕ → Bool = is_within w w in
     let last : list_any f (line ++ small) ≡ (is_within 0x5F 0x5F w || is_within 0x61 0x7A w) = two-rows f line small _ _ (row-of w 0 0x5F) (row-of w 25 0x61) in
@@ -166,8 +166,8 @@ alike false false e = refl
 pub word_bits : (x : ℕ) → x < 128 → (bit_at 0x07ff_fffe_87ff_fffe_03ff_0000_0000_0000 x == 1) ≡ is_of false x
 word_bits x l = alike _ _ (all_below-at (λ c. beq (bit_at 0x07ff_fffe_87ff_fffe_03ff_0000_0000_0000 c == 1) (is_word_char c)) 128 x refl l)
 
-pub blank_bits : (x : ℕ) → x < 128 → (bit_at 0x0000_0000_0000_0000_0000_0001_0000_0600 x == 1) ≡ is_of true x
-blank_bits x l = alike _ _ (all_below-at (λ c. beq (bit_at 0x0000_0000_0000_0000_0000_0001_0000_0600 c == 1) (is_blank c)) 128 x refl l)
+pub blank_bits : (x : ℕ) → x < 128 → (bit_at 0x0000_0000_0000_0000_0000_0001_0000_3e00 x == 1) ≡ is_of true x
+blank_bits x l = alike _ _ (all_below-at (λ c. beq (bit_at 0x0000_0000_0000_0000_0000_0001_0000_3e00 c == 1) (is_blank c)) 128 x refl l)
 
 -- one of some numbers, of which each passes the other test
 any-of : (f g : ℕ → Bool) (xs : List ℕ) → list_all g xs ≡ true → list_any f xs ≡ true → (c : ℕ) × ((f c ≡ true) × (g c ≡ true))

@@ -16,12 +16,12 @@ abbrev pub word_chars : List ℕ
 word_chars =
     numbers_from 0x30 10 ++ (numbers_from 0x41 26 ++ (numbers_from 0x5F 1 ++ numbers_from 0x61 26))
 
--- white space: a tab, a line feed or a space
+-- white space: what stands from a tab to a carriage return, and a space
 abbrev pub is_blank : ℕ → Bool
-is_blank c = is_within 0x09 0x0A c || is_within 0x20 0x20 c
+is_blank c = is_within 0x09 0x0D c || is_within 0x20 0x20 c
 
 abbrev pub blanks : List ℕ
-blanks = numbers_from 0x09 2 ++ numbers_from 0x20 1
+blanks = numbers_from 0x09 5 ++ numbers_from 0x20 1
 
 -- a character of white space, or else one of words
 abbrev pub is_of : Bool → ℕ → Bool

@@ -30,7 +30,7 @@ const MOST_NODES: usize = 4096;
 const WORD: u128 = 0x07ff_fffe_87ff_fffe_03ff_0000_0000_0000;
 
 /// White space, a bit for each character.
-const BLANK: u128 = 0x0000_0000_0000_0000_0000_0001_0000_0600;
+const BLANK: u128 = 0x0000_0000_0000_0000_0000_0001_0000_3e00;
 
 /// White space, or else the ASCII characters of words, a bit for each.
 #[tactic(auto, using(crate::proofs::WordLaws::blank_bits, crate::proofs::WordLaws::word_bits))]
@@ -206,7 +206,7 @@ pub fn is_word_byte(byte: u8) -> bool
 pub fn is_blank_byte(byte: u8) -> bool
     ensures { result ≡ is_blank byte }
 {
-    (b'\t' <= byte && byte <= b'\n') || (b' ' <= byte && byte <= b' ')
+    (b'\t' <= byte && byte <= b'\r') || (b' ' <= byte && byte <= b' ')
 }
 
 /// Whether the byte is white space, or else an ASCII character of words.

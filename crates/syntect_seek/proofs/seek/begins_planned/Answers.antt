@@ -1,10 +1,13 @@
-use Rattle.std.proofs.Common.{◌≡◌, ℕ, List, Option, None, true, false, refl, sym, subst, ◌∙◌}
+use Rattle.std.proofs.Common.{◌≡◌, ℕ, List, Option, None, true, false, length, refl, sym, subst, ◌∙◌}
 use Rattle.std.specs.Prelude.{IfSome}
 use Rattle.std.proofs.lemmas.Result.{IfOk-weaker}
 use Rattle.syntect_linear.specs.declared.find.Guide.{Guide}
+use Rattle.syntect_pattern.specs.Trees.{Tree}
+use Rattle.syntect_plan.specs.Plan.{plan_cells}
+use Rattle.syntect_seek.specs.Bounds.{root_tree}
 use Rattle.syntect_seek.specs.Depths.{IsDepthOf, StandsFor}
 use Rattle.syntect_seek.specs.declared.depths.Depth.{Depth}
-use Rattle.syntect_seek.proofs.DepthLaws.{kept-none, on_ok-any, if_none-is, unbounded, planned-here}
+use Rattle.syntect_seek.proofs.DepthLaws.{all-planned, kept-none, on_ok-any, on_ok-map, if_none-is, unbounded, planned-here}
 use Rattle.syntect_seek.proofs.seek.begins_planned.Goals as goal
 
 pub returns-then-is_hard-clause-steps : goal.returns-then-is_hard-clause-steps
@@ -31,3 +34,13 @@ pub returns-clause-depths : goal.returns-clause-depths
 returns-clause-depths c =
     let stands = subst (λ (o : Option Guide). IfSome o (λ g. StandsFor c.args.program.now g.program)) c.in-Some.is c.in_ok-guide.ensures.program in
     c.begins_marked.ensures.depths c.args.program.now c.requires.program stands
+
+pub returns-clause-steps : goal.returns-clause-steps
+returns-clause-steps c =
+    let t : Tree = root_tree c.args.program.now in
+    let cells = subst (λ (o : Option Guide). IfSome o (λ g. length g.plan.cells ≡ plan_cells t)) c.in-Some.is c.in_ok-guide.ensures.cells in
+    let root = subst (λ (o : Option Guide). IfSome o (λ g. root_tree g.program ≡ t)) c.in-Some.is c.in_ok-guide.ensures.root in
+    on_ok-map c.begins_marked.result _ _
+    (λ h easy. all-planned t (root_tree c.in-Some.guide.program) (length c.in-Some.guide.plan.cells) (length c.args.text.now) c.args.meter.now.made c.guide_of.new.meter.made c.begins_marked.new.meter.made
+    cells root c.in_ok-guide.ensures.steps h)
+    c.begins_marked.ensures.steps
