@@ -62,11 +62,11 @@ def popped_by_ref():
     return contexts(text), "ab" * 3000 + "dc\n"
 
 
-def prototypes_at_each_push():
-    text = (
-        "  main:\n    - match: a\n      push: main\n      with_prototype:\n        - match: '(b+)+c'\n          scope: word\n"
-    )
-    return contexts(text), "a" * 120 + "b" * 4000 + "dc\n"
+def put_in(count, letters, line):
+    """A context of so many patterns that name what opened it, which has so many letters, and a line in it."""
+    rows = "".join(f"        - match: '\\1z{n}'\n          pop: true\n" for n in range(count))
+    text = "  main:\n    - match: '(x+)y'\n      push:\n" + rows + "        - match: a\n          scope: word\n"
+    return contexts(text), "x" * letters + "y\n" + line
 
 
 def many(patterns, line):
@@ -77,14 +77,29 @@ def many(patterns, line):
 def one_that_names_its_opening(count, line):
     """A context of so many patterns of which one names what opened it."""
     rows = "".join(f"        - match: y{n}\n" for n in range(count))
-    text = "  main:\n    - match: (a)\n      push:\n        - match: '\\1z'\n          pop: true\n"
-    return contexts(text + "        - match: x\n          scope: word\n" + rows), line
+    return contexts("  main:\n    - match: (a)\n      push:\n        - match: '\\1z'\n          pop: true\n        - match: x\n          scope: word\n" + rows), line
 
 
 def pushed_scopes(count, line):
     scopes = " ".join(f"x{n}" for n in range(count))
-    text = f"  main:\n    - match: a\n      push:\n        - meta_scope: {scopes}\n"
-    return contexts(text + "        - match: b\n          pop: true\n"), line
+    return contexts(f"  main:\n    - match: a\n      push:\n        - meta_scope: {scopes}\n        - match: b\n          pop: true\n"), line
+
+
+def first_lines(pattern, line):
+    """Syntaxes that are looked for by a first line, since the text's extension tells none."""
+    return HEAD.replace("file_extensions: [t]", f"first_line_match: '{pattern}'") + "contexts:\n  main:\n    - match: a\n      scope: word\n", line
+
+
+def sets_that_leave_more_open(lines):
+    text = "  main:\n    - match: a\n      set: [main, main]\n    - match: b\n      scope: word\n"
+    return contexts(text), lines
+
+
+def prototypes_at_each_push():
+    text = (
+        "  main:\n    - match: a\n      push: main\n      with_prototype:\n        - match: '(b+)+c'\n          scope: word\n"
+    )
+    return contexts(text), "a" * 120 + "b" * 4000 + "dc\n"
 
 
 def hundred_levels_of_captures():
@@ -151,6 +166,21 @@ INPUTS = {
     "back references and three loops": lambda: cost("(a*)(a*)(a*)\\1\\2\\3b", "a" * 400 + "cb\n"),
     "a back reference within its loop": lambda: cost("(?:(a|b|ab)\\1?)+c", "ab" * 40 + "dc\n"),
     "a pop that names what pushed": popped_by_ref,
+    "a short text put in by 17 patterns in each turn": lambda: put_in(17, 5000, "a" * 4000 + "\n"),
+    "a text of 500 KB put in by 17 patterns": lambda: put_in(17, 500000, "a" * 20 + "\n"),
+    "a text of 900 KB put in once, and kept": lambda: put_in(1, 900000, "a" * 100000 + "\n"),
+    # many patterns, and what a turn makes
+    "a lookbehind in a count": lambda: cost("(?:(?<=a)a|(?:aa)+){999}(?:b|(?:aa)+b)", "a" * 300000 + "cb\n"),
+    "5000 patterns that all fail": lambda: many([f"[a-z]*Q{n % 10}" for n in range(5000)], "a," * 40000 + "\n"),
+    "10000 patterns that need what stands far off": lambda: many(
+        [f"a[a-z]*{n}z" for n in range(10000)], "a," * 3000 + " " + "".join(f"{n}z" for n in range(10000)) + "\n"
+    ),
+    "50000 patterns, one with a text put in, 500 turns": lambda: one_that_names_its_opening(50000, "a" + "x" * 500 + "\n"),
+    "20000 scopes pushed 1000 times": lambda: pushed_scopes(20000, "ab" * 1000 + "\n"),
+    # first lines
+    "a first line that asks for a loop's group": lambda: first_lines("((a+)+)\\1b", "a" * 40 + "cb\n"),
+    "a first line of a lookahead in a loop": lambda: first_lines("((?=(a+)+c)a)+c", "a" * 10000 + "bc\n"),
+    "a first line of counts in counts": lambda: first_lines("((a{1,30}){1,30}){1,30}b", "a" * 10000 + "cb\n"),
     # lookarounds
     "a lookahead in a loop": lambda: cost("((?=(a+)+c)a)+c", "a" * 40 + "bc\n"),
     "a lookahead in a loop, 10000 letters": lambda: cost("((?=(a+)+c)a)+c", "a" * 10000 + "bc\n"),
@@ -174,15 +204,12 @@ INPUTS = {
     "three pushes at each place": push_and_never_pop,
     "a scope of 2100 atoms": long_scopes,
     "scopes cleared at each push": clear_scopes_round,
+    "sets that leave more open, 100 lines": lambda: sets_that_leave_more_open(("a" * 1000 + "\n") * 100),
+    "1 MB with the most open contexts": lambda: sets_that_leave_more_open("a" * 190 + "\n" + "b" * 1000000 + "\n"),
+    "a pattern of 2.7 MB": lambda: (contexts(f"  main:\n    - match: '{'[a-c]?' * 450000}d'\n"), "abab\n"),
+    "three patterns of 2.7 MB": lambda: (contexts("  main:\n" + "".join(f"    - match: '{'[a-c]?' * 450000}{c}'\n" for c in "def")), "abab\n"),
+    "a pattern of 2 MB, tried at each place": lambda: cost("(?:ab(?#" + "-" * 2000000 + ")|ac)d", "ab" * 100000 + "\n"),
     # lines and texts
-    # many patterns, and what a turn makes
-    "a lookbehind in a count": lambda: cost("(?:(?<=a)a|(?:aa)+){999}(?:b|(?:aa)+b)", "a" * 300000 + "cb\n"),
-    "5000 patterns that all fail": lambda: many([f"[a-z]*Q{n % 10}" for n in range(5000)], "a," * 40000 + "\n"),
-    "10000 patterns that need what stands far off": lambda: many(
-        [f"a[a-z]*{n}z" for n in range(10000)], "a," * 3000 + " " + "".join(f"{n}z" for n in range(10000)) + "\n"
-    ),
-    "50000 patterns, one with a text put in, 500 turns": lambda: one_that_names_its_opening(50000, "a" + "x" * 500 + "\n"),
-    "20000 scopes pushed 1000 times": lambda: pushed_scopes(20000, "ab" * 1000 + "\n"),
     "a line of 1 MB of spaces, ended by a word": lambda: cost("\\s+$|\\s+x", " " * 1000000 + "y\n"),
     "a line of 1 MB, a quote that isn't closed": lambda: cost('"(?:[^"\\\\]|\\\\.)*"', '"' + "a\\" * 500000 + "\n"),
     "a line of 1 MB, any text and a word": lambda: cost("[\\w.+-]+@", "a" * 1000000 + " @\n"),

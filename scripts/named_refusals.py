@@ -16,7 +16,7 @@ import sys
 
 HERE = os.path.dirname(os.path.dirname(os.path.abspath(__file__)))
 CRATES = (
-    "scope regex metadata theme theme_files style classed contexts loader within grammar folders openings parsing buffer"
+    "scope regex metadata theme theme_files style classed contexts loader within grammar folders first_lines openings parsing buffer"
 ).split()
 # each error with the file that has it
 ERRORS = {
@@ -27,6 +27,7 @@ ERRORS = {
     "ParseSyntaxError": "syntect_base/src/syntax.rt",
     "LoadWithinError": "syntect_base/src/limits.rt",
     "FolderWithinError": "syntect_folders/src/error.rt",
+    "FindWithinError": "syntect_first_lines/src/error.rt",
     "ReadWithinError": "syntect_parsing/src/within.rt",
     "HighlightWithinError": "syntect/src/within.rt",
     "ParseThemeError": "syntect_base/src/theme.rt",

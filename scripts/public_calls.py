@@ -15,12 +15,12 @@ import sys
 
 HERE = os.path.dirname(os.path.dirname(os.path.abspath(__file__)))
 CRATES = (
-    "scope regex metadata theme theme_files style writers classed css pieces operations contexts loader within grammar folders openings parsing"
+    "scope regex metadata theme theme_files style writers classed css pieces operations contexts loader within grammar folders first_lines openings parsing"
     " buffer blocks"
 ).split()
 TRIALS = ["call", "copy", "set", "fault"]
 REFUSALS = re.compile(
-    r"\b(AllocError|ParseScopeError|ScopeError|ParsingError|ParseSyntaxError|LoadWithinError|FolderWithinError|ReadWithinError|HighlightWithinError|ParseThemeError|LoadingError|MetadataError|"
+    r"\b(AllocError|ParseScopeError|ScopeError|ParsingError|ParseSyntaxError|LoadWithinError|FolderWithinError|FindWithinError|ReadWithinError|HighlightWithinError|ParseThemeError|LoadingError|MetadataError|"
     r"PatternError|SettingsError|Error)\b"
 )
 ITEM = re.compile(r"^(?:impl\b[^{;]*|(?:    )?(?:pub )?(?:const )?fn [^{;]*|#\[derive\([^)]*\)\]\n(?:///.*\n)*pub (?:struct|enum) \w+)", re.M)

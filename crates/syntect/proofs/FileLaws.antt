@@ -1,5 +1,5 @@
 -- Syntaxes of files.
-use Rattle.std.proofs.Common.{◌≡◌, ℕ, suc, Bool, List, [], ◌∷◌, ◌++◌, length, refl, sym, ap, ◌∙◌, inl, inr, subst, Result, Ok, Err}
+use Rattle.std.proofs.Common.{◌≡◌, ◌≢◌, ℕ, suc, Bool, List, [], ◌∷◌, ◌++◌, length, refl, sym, ap, ◌∙◌, inl, inr, subst, Result, Ok, Err}
 use Rattle.std.specs.Io.{StartsWith}
 use Rattle.std.specs.Io.BufRead.{take_through}
 use Rattle.std.specs.Prelude.{Option, Some, None, IfSome, IfOk, IfErr, IsUtf8, slice_get, find, reverse, ◌⊎◌}
@@ -16,7 +16,13 @@ use Rattle.syntect_loader.specs.declared.definition.SyntaxDefinition.{SyntaxDefi
 use Rattle.syntect_grammar.specs.declared.error.Error.{Error}
 use Rattle.syntect_grammar.specs.declared.error.Error.TheVariants as error
 use Rattle.syntect.specs.Built.{IsBuilt, IsBuiltOf}
-use Rattle.syntect.specs.Files.{IsSyntaxFor, IsToldSyntax, IsFirstOf, IsAskedOf, HasNoLines, IsPageOfFile, HasNoPageOfFile}
+use Rattle.syntect_base.specs.Limiting.{limit_of, unlimited}
+use Rattle.syntect_base.specs.declared.limits.Limits.{Limits}
+use Rattle.syntect_first_lines.specs.Within.{ReachesSteps}
+use Rattle.syntect_first_lines.specs.declared.error.FindWithinError.{FindWithinError}
+use Rattle.syntect_first_lines.specs.declared.error.FindWithinError.TheVariants.{Refused, LimitReached}
+use Rattle.syntect_first_lines.specs.declared.error.FirstLineLimit.{FirstLineLimit}
+use Rattle.syntect.specs.Files.{IsSyntaxFor, IsSyntaxWithin, IsPlainInstead, IsToldSyntax, IsToldWithin, IsFirstOf, IsAskedOf, HasNoLines, HasNoLinesWithin, LacksInstead, IsPageOfFile, HasNoPageOfFile}
 use Rattle.syntect.specs.Leads.{LacksStart}
 use Rattle.syntect.specs.Pages.{IsPageOfBytes, IsStopped, IsReadFault}
 
@@ -157,10 +163,56 @@ no_start_for set path syntax (error.ParseSyntax e) s l = absurd l
 no_start_for set path syntax (error.ParseScope e) s l = absurd l
 no_start_for set path syntax (error.Pattern e) s l = absurd l
 
+-- ---- first lines within limits ----
+
+-- where the limit was reached
+pub plain_instead : (limits : Limits) (set : SyntaxSet) (path : List ℕ) (syntax : SyntaxReference) → limit_of limits.steps ≢ None → None ≡ found_by_file_name set path → Some syntax ≡ found_plain_text set → IsPlainInstead limits set path syntax
+plain_instead limits set path syntax n e f =
+    let p = place_found _ (syntaxes_in set) syntax (sym f) in
+    record { limited = n; unnamed = sym e; plain = sym f; place = p.0; among = p.1 }
+
+pub reached_is_set : (limits : Limits) (steps : ℕ) (w : FindWithinError) (l : FirstLineLimit) → w ≡ LimitReached l → ReachesSteps limits steps w → limit_of limits.steps ≢ None
+reached_is_set limits steps (Refused e) l same r = λ n. cc
+reached_is_set limits steps (LimitReached x) l same r = λ n. let q : None ≡ Some steps = sym n ∙ r in cc
+
+-- no limit is reached without limits
+none_reached : (limits : Limits) → limits ≡ unlimited → limit_of limits.steps ≢ None → ⊥
+none_reached limits e n = n (ap (λ (l : Limits). limit_of l.steps) e)
+
+pub told_unlimited : (limits : Limits) (set : SyntaxSet) (path : List ℕ) (left : Option (List ℕ)) (syntax : SyntaxReference) (o : Option FirstLineLimit) → limits ≡ unlimited → IsToldWithin limits set path left syntax o → IsToldSyntax set path left syntax
+told_unlimited limits set path left syntax None e h = h
+told_unlimited limits set path left syntax (Some l) e h = absurd (none_reached limits e h.limited)
+
+pub syntax_unlimited : (limits : Limits) (set : SyntaxSet) (path : List ℕ) (syntax : SyntaxReference) (o : Option FirstLineLimit) → limits ≡ unlimited → IsSyntaxWithin limits set path syntax o → IsSyntaxFor set path syntax
+syntax_unlimited limits set path syntax None e h = h
+syntax_unlimited limits set path syntax (Some l) e h = absurd (none_reached limits e h.limited)
+
+pub refused_unlimited : (limits : Limits) (set : SyntaxSet) (path : List ℕ) (e : Error) → limits ≡ unlimited → HasNoLinesWithin limits set path e → HasNoLines set path e
+refused_unlimited limits set path e same (inl h) = h
+refused_unlimited limits set path e same (inr h) = absurd (none_reached limits same h.limited)
+
+pub told_is_for : (limits : Limits) (set : SyntaxSet) (path : List ℕ) (left : Option (List ℕ)) (syntax : SyntaxReference) (o : Option FirstLineLimit) → IsToldWithin limits set path left syntax o → IsSyntaxWithin limits set path syntax o
+told_is_for limits set path left syntax None h = h.is_for
+told_is_for limits set path left syntax (Some l) h = h
+
+pub not_read_within : (limits : Limits) (set : SyntaxSet) (path : List ℕ) (e : Error) → IsReadFault e → HasNoLinesWithin limits set path e
+not_read_within limits set path e n = inl (not_read set path e n)
+
+pub no_plain_within : (limits : Limits) (set : SyntaxSet) (path : List ℕ) (e : Error) → limit_of limits.steps ≢ None → None ≡ found_by_file_name set path → None ≡ found_plain_text set → e ≡ error.NoSyntax → HasNoLinesWithin limits set path e
+no_plain_within limits set path e n f g same = inr (record { limited = n; unnamed = sym f; lacks = inl (sym g, same) })
+
+pub no_start_within : (limits : Limits) (set : SyntaxSet) (path : List ℕ) (syntax : SyntaxReference) (o : Option FirstLineLimit) (e : Error) → IsSyntaxWithin limits set path syntax o → LacksStart syntax e → HasNoLinesWithin limits set path e
+no_start_within limits set path syntax None e s l = inl (no_start_for set path syntax e s l)
+no_start_within limits set path syntax (Some x) e s l = inr (record { limited = s.limited; unnamed = s.unnamed; lacks = inr (syntax, s.plain, l) })
+
 -- ---- pages ----
 
 pub built_of : (set : SyntaxSet) (path : List ℕ) (syntax : SyntaxReference) (definitions : List SyntaxDefinition) → IsBuilt set definitions → IsSyntaxFor set path syntax → IsBuiltOf set syntax definitions
 built_of set path syntax definitions b s = record { links = b.links; place = s.place; among = s.among; plain = b.plain }
+
+pub built_within : (limits : Limits) (set : SyntaxSet) (path : List ℕ) (syntax : SyntaxReference) (o : Option FirstLineLimit) (definitions : List SyntaxDefinition) → IsBuilt set definitions → IsSyntaxWithin limits set path syntax o → IsBuiltOf set syntax definitions
+built_within limits set path syntax None definitions b s = built_of set path syntax definitions b s
+built_within limits set path syntax (Some l) definitions b s = record { links = b.links; place = s.place; among = s.among; plain = b.plain }
 
 pub page_of_file : {A : Type 0} (view : A → List ℕ) (set : SyntaxSet) (theme : Theme) (path : List ℕ) (syntax : SyntaxReference) (P : List ℕ → Type 0) (result : Result A Error) → IsSyntaxFor set path syntax
     → IfOk result (λ page. (text : List ℕ) × P text × IsPageOfBytes set theme syntax text (view page)) → IfOk result (λ page. IsPageOfFile set theme path (view page))

@@ -11,6 +11,7 @@ use Rattle.syntect_winner.specs.Engine.{dialect}
 use Rattle.syntect_parsing.specs.Bound.{TakesNoMore}
 use Rattle.syntect_parsing.specs.Line.{Accepted}
 use Rattle.syntect_parsing.specs.States.{standing}
+use Rattle.syntect_parsing.specs.Within.{IsThere}
 use Rattle.syntect_parsing.specs.declared.parser.Standing.{Standing}
 use Rattle.syntect_parsing.specs.declared.within.LineLimit.{LineLimit}
 use Rattle.syntect_contexts.specs.declared.syntax_reference.SyntaxReference.{SyntaxReference}
@@ -29,12 +30,13 @@ use Rattle.syntect.proofs.RowLaws.{all_left, less_left, lines_more, none_left}
 
 -- turns and steps that were counted on are as many from none
 pub reached_from : (limits : Limits) (set : SyntaxSet) (line : List ℕ) (state : Standing) (limit : LineLimit) (old new steps : ℕ) → TakesNoMore dialect set line state old new
-    → ReachesLimit limits (new - old) steps (LimitReached limit) → ReachesFrom limits set line state limit
-reached_from limits set line state limit old new steps no_more reaches = record {
+    → ReachesLimit limits (new - old) steps (LimitReached limit) → IsThere dialect set line state limit → ReachesFrom limits set line state limit
+reached_from limits set line state limit old new steps no_more reaches there = record {
   turns = new - old;
   steps = steps;
   no_more = λ turns t. omega (arith, no_more turns t);
   reaches = reaches;
+  there = there;
 }
 
 -- ---- one line more ----

@@ -17,7 +17,8 @@ use Rattle.syntect_grammar.specs.declared.syntax_set.SyntaxSet.{SyntaxSet}
 use Rattle.syntect_loader.specs.declared.definition.SyntaxDefinition.{SyntaxDefinition}
 use Rattle.syntect.specs.Classed.{RefusesLineOf, set_in, state_in}
 use Rattle.syntect.specs.Leads.{HoldsSame, Leads, RefusedExactly, reader_of}
-use Rattle.syntect.specs.Within.{ReachesLimit, from_reading, refusal_of}
+use Rattle.syntect_parsing.specs.declared.parser.Standing.{Standing}
+use Rattle.syntect.specs.Within.{ReachesLimit, TellsWhere, from_reading, refusal_of}
 use Rattle.syntect.proofs.ClassedLaws.{line_refused}
 use Rattle.syntect.proofs.ExactLaws.{Premises, exact_refused}
 use Rattle.syntect.proofs.LeadLaws.{LeadsOn, lead_refused}
@@ -39,9 +40,14 @@ exact_stopped p line (reading.LimitReached x) m = tt
 -- the same of a line of a page with classes
 pub line_stopped : (g : ClassedHTMLGenerator) (line : List ℕ) (w : ReadWithinError) → MayRefuseWithin dialect (set_in g) line (state_in g) w → RefusesLineOf g line (refusal_of (from_reading w))
 line_stopped g line (reading.Refused e) r = line_refused g line e r
-line_stopped g line (reading.LimitReached x) r = r
+line_stopped g line (reading.LimitReached x) r = r.0
 
 -- the limit that was reached is passed on
 pub limit_passed : (limits : Limits) (turns steps : ℕ) (w : ReadWithinError) → ReachesLineLimit limits turns steps w → ReachesLimit limits turns steps (from_reading w)
 limit_passed limits turns steps (reading.Refused e) h = tt
 limit_passed limits turns steps (reading.LimitReached x) h = h
+
+-- and so is its place
+pub limit_there : (set : SyntaxSet) (line : List ℕ) (state : Standing) (w : ReadWithinError) → MayRefuseWithin dialect set line state w → TellsWhere set line state (from_reading w)
+limit_there set line state (reading.Refused e) r = tt
+limit_there set line state (reading.LimitReached x) r = r.1

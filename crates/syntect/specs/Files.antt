@@ -1,8 +1,11 @@
 -- What is shown of a file. Of what a file holds nothing is known.
-use Rattle.std.specs.Prelude.{◌≡◌, ◌<◌, ◌+◌, ℕ, List, [], length, Option, Some, None, IfSome, IsUtf8, slice_get, ◌⊎◌}
+use Rattle.std.specs.Prelude.{◌≡◌, ◌≢◌, ◌<◌, ◌+◌, ℕ, List, [], length, Option, Some, None, IfSome, IsUtf8, slice_get, ◌⊎◌}
 use Rattle.std.specs.Io.{StartsWith}
 use Rattle.std.specs.Io.BufRead.{take_through}
 use Rattle.std.specs.Option.{option_or}
+use Rattle.syntect_base.specs.Limiting.{limit_of}
+use Rattle.syntect_base.specs.declared.limits.Limits.{Limits}
+use Rattle.syntect_first_lines.specs.declared.error.FirstLineLimit.{FirstLineLimit}
 use Rattle.syntect_theme.specs.declared.theme.Theme.{Theme}
 use Rattle.syntect_grammar.specs.Finding.{found_for_file, found_by_file_name, found_plain_text}
 use Rattle.syntect_grammar.specs.Link.{syntaxes_in}
@@ -44,6 +47,26 @@ pub record IsToldSyntax (set : SyntaxSet) (path : List ℕ) (left : Option (List
   pub front : IfSome left (λ xs. StartsWith (take_through 10 xs) is_for.line)
   pub asked : None ≡ found_by_file_name set path → IfSome left (λ xs. IsAskedOf xs is_for.line)
 
+-- It is the syntax of plain text, since the path tells nothing, and the searches of the first line reached the limit of steps.
+pub record IsPlainInstead (limits : Limits) (set : SyntaxSet) (path : List ℕ)
+    (syntax : SyntaxReference) : Type 0 where
+  pub limited : limit_of limits.steps ≢ None
+  pub unnamed : found_by_file_name set path ≡ None
+  pub plain : found_plain_text set ≡ Some syntax
+  pub place : ℕ
+  pub among : slice_get (syntaxes_in set) place ≡ Some syntax
+
+-- the syntax of a file whose first line is searched within limits, and the limit if it was reached
+abbrev pub IsSyntaxWithin : Limits → SyntaxSet → List ℕ → SyntaxReference → Option FirstLineLimit
+    → Type 0
+IsSyntaxWithin limits set path syntax None = IsSyntaxFor set path syntax
+IsSyntaxWithin limits set path syntax (Some limit) = IsPlainInstead limits set path syntax
+
+abbrev pub IsToldWithin : Limits → SyntaxSet → List ℕ → Option (List ℕ) → SyntaxReference
+    → Option FirstLineLimit → Type 0
+IsToldWithin limits set path left syntax None = IsToldSyntax set path left syntax
+IsToldWithin limits set path left syntax (Some limit) = IsPlainInstead limits set path syntax
+
 -- no line of a file is read: no syntax is there for it, or the syntax has no `__start`, or the file is not read, or there was
 -- no memory
 abbrev pub HasNoLines : SyntaxSet → List ℕ → Error → Type 0
@@ -54,6 +77,17 @@ HasNoLines set path (error.Io e) = Unit {0}
 HasNoLines set path e =
     OnlyParsing (λ e. (syntax : SyntaxReference) × IsSyntaxFor set path syntax
     × LacksStart syntax (error.ParsingError e)) e
+
+-- There is no plain text to stand in for the syntax of a file whose first line reached the limit, or it has no `__start`.
+pub record LacksInstead (limits : Limits) (set : SyntaxSet) (path : List ℕ) (e : Error) : Type 0 where
+  pub limited : limit_of limits.steps ≢ None
+  pub unnamed : found_by_file_name set path ≡ None
+  pub lacks : ((found_plain_text set ≡ None) × (e ≡ error.NoSyntax))
+      ⊎ ((syntax : SyntaxReference) × (found_plain_text set ≡ Some syntax) × LacksStart syntax e)
+
+-- the same where the first line is searched within limits
+abbrev pub HasNoLinesWithin : Limits → SyntaxSet → List ℕ → Error → Type 0
+HasNoLinesWithin limits set path e = HasNoLines set path e ⊎ LacksInstead limits set path e
 
 -- the page shows some text in the syntax of the file
 abbrev pub IsPageOfFile : SyntaxSet → Theme → List ℕ → List ℕ → Type 0

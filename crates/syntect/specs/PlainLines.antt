@@ -11,6 +11,7 @@ use Rattle.syntect_winner.specs.Engine.{dialect}
 use Rattle.syntect_parsing.specs.Bound.{TakesNoMore}
 use Rattle.syntect_parsing.specs.Line.{AnswersAll, start_of}
 use Rattle.syntect_parsing.specs.States.{standing}
+use Rattle.syntect_parsing.specs.Within.{IsThere}
 use Rattle.syntect_parsing.specs.declared.parser.Standing.{Standing}
 use Rattle.syntect_parsing.specs.declared.within.LineLimit.{LineLimit}
 use Rattle.syntect_contexts.specs.declared.syntax_reference.SyntaxReference.{SyntaxReference}
@@ -32,14 +33,16 @@ pub record ArePlain (theme : Theme) (line : List ℕ) (pieces : List (Style × B
   pub joins : Joins line pieces
   pub styled : All (λ p. p.0 ≡ default_style theme) pieces
 
--- The limit is one that the limits have; and where it is that of turns, the whole reading of the line from this state takes at
--- least as many. What a line's searches take is no matter of definitions: of steps only the call that reads says it.
+-- The limit is one that the limits have. Where it is that of turns, the whole reading of the line from this state takes at least as
+-- many; and where it is that of levels, that reading comes to a place with more open ones. What a line's searches take is no matter
+-- of definitions: of steps only the call that reads says it.
 pub record ReachesFrom (limits : Limits) (set : SyntaxSet) (line : List ℕ) (state : Standing)
     (limit : LineLimit) : Type 0 where
   pub turns : ℕ
   pub steps : ℕ
   pub no_more : TakesNoMore dialect set line state 0 turns
   pub reaches : ReachesLimit limits turns steps (LimitReached limit)
+  pub there : IsThere dialect set line state limit
 
 -- The line is answered after this past within limits: as without them; or it reaches one, is shown plain, and the past stays.
 abbrev pub ContinuesWithin : Limits → Past → SyntaxSet → Bor (List ℕ) → HighlightLines

@@ -1,10 +1,13 @@
 -- Lines that are highlighted within limits.
-use Rattle.std.specs.Prelude.{ℕ, Result, Ok, Err}
+use Rattle.std.specs.Prelude.{ℕ, List, Result, Ok, Err}
 use Rattle.syntect_base.specs.declared.limits.Limits.{Limits}
 use Rattle.syntect_grammar.specs.Passing.{from_parsing}
 use Rattle.syntect_grammar.specs.declared.error.Error.{Error}
 use Rattle.syntect_grammar.specs.declared.error.Error.TheVariants.{Memory}
-use Rattle.syntect_parsing.specs.Within.{ReachesLimit as ReachesLineLimit}
+use Rattle.syntect_grammar.specs.declared.syntax_set.SyntaxSet.{SyntaxSet}
+use Rattle.syntect_winner.specs.Engine.{dialect}
+use Rattle.syntect_parsing.specs.Within.{IsThere, ReachesLimit as ReachesLineLimit}
+use Rattle.syntect_parsing.specs.declared.parser.Standing.{Standing}
 use Rattle.syntect_parsing.specs.declared.within.ReadWithinError.{ReadWithinError}
 use Rattle.syntect_parsing.specs.declared.within.ReadWithinError.TheVariants as reading
 use Rattle.syntect.specs.declared.within.HighlightWithinError.{HighlightWithinError}
@@ -25,7 +28,12 @@ abbrev pub unlimited_of : {X : Type 0} → Result X HighlightWithinError → Res
 unlimited_of (Ok x) = Ok x
 unlimited_of (Err e) = Err (refusal_of e)
 
--- a limit that was reached is that of as many turns, or of as many steps, as were made
+-- where a limit is told, the line's reading comes to that place
+abbrev pub TellsWhere : SyntaxSet → List ℕ → Standing → HighlightWithinError → Type 0
+TellsWhere set line state (Refused e) = Unit {0}
+TellsWhere set line state (LimitReached l) = IsThere dialect set line state l
+
+-- a limit that was reached is that of as many turns, or of as many steps, as were made, or of fewer levels than were open
 abbrev pub ReachesLimit : Limits → ℕ → ℕ → HighlightWithinError → Type 0
 ReachesLimit limits turns steps (Refused e) = Unit {0}
 ReachesLimit limits turns steps (LimitReached l) =

@@ -2,7 +2,8 @@
 ghost use Rattle.std.specs.Prelude.{◌≡◌, ◌++◌, ◌+◌, ◌-◌, ◌≤◌, [], Some, length, string_bytes, pos, ◌-ℤ◌, IfOk, IfErr, OnOk, OnErr, false};
 ghost use Rattle.syntect.specs.Classed.{RefusesOperations, text_so_far, stack_in, state_in, set_in, repository_in, style_in, turns_in, steps_in, AddsLine, CanRestore, StaysAt, RefusesLineOf, closing_tags, closed_text};
 ghost use Rattle.syntect.specs.Leads.{BeginsPlain, LacksStart, UnlessMemory};
-ghost use Rattle.syntect.specs.Within.{ReachesLimit, unlimited_of};
+ghost use Rattle.syntect.specs.Within.{ReachesLimit, TellsWhere, unlimited_of};
+ghost use Rattle.syntect_parsing.specs.Within.{KeepsLevels};
 ghost use Rattle.syntect_base.specs.Limiting.{IsWithinLimit};
 ghost use Rattle.syntect_parsing.specs.Bound.{TakesAll, TakesNoMore, most_turns};
 ghost use Rattle.syntect_parsing.specs.Line.{start_of};
@@ -144,9 +145,10 @@ impl<'a> ClassedHTMLGenerator<'a> {
     }
 
     /// Reads the next line, with its newline, within limits, and adds it to the text. Its answer is that of
-    /// `parse_html_for_line_which_includes_newline`, unless it makes more steps or turns than `limits` has: then it is
-    /// `LimitReached`, with the limit, and nothing changes, as after any refusal. No line makes more (`few_turns`, `few_steps`),
-    /// whatever its grammar's patterns are, and where a limit was reached the line had made as many (`reached`).
+    /// `parse_html_for_line_which_includes_newline`, unless it makes more steps or turns than `limits` has, opens more contexts, or
+    /// has more operations: then it is `LimitReached`, with the limit, and nothing changes, as after any refusal. No line makes more
+    /// (`few_turns`, `few_steps`), whatever its grammar's patterns are, and none is read that opens more (`few_levels`); where a limit
+    /// was reached the line had made as many, or had more (`reached`, `there`).
     #[tactic(auto, using(crate::proofs::WithinLaws::line_stopped, crate::proofs::ClassedLaws::operation_refused, crate::proofs::ClassedLaws::memory_refused))]
     pub fn parse_html_for_line_which_includes_newline_within(
         &mut self,
@@ -174,6 +176,9 @@ impl<'a> ClassedHTMLGenerator<'a> {
             (steps_in self.old) (steps_in self.new)) }
         ensures few_turns { IsWithinLimit limits.now.turns (turns_in self.new - turns_in self.old) }
         ensures few_steps { IsWithinLimit limits.now.steps (steps_in self.new - steps_in self.old) }
+        ensures few_levels { OnOk result (KeepsLevels dialect (set_in self.old) line.now
+            (state_in self.old) limits.now.levels) }
+        ensures there { IfErr result (TellsWhere (set_in self.old) line.now (state_in self.old)) }
         ensures reached { IfErr result (ReachesLimit limits.now
             (turns_in self.new - turns_in self.old) (steps_in self.new - steps_in self.old)) }
     {

@@ -1,9 +1,11 @@
 //! Lines to styled pieces, of texts and of files.
 ghost use Rattle.std.specs.Io.Buffered.{reader_remaining};
 ghost use Rattle.std.specs.Io.KnownBytes.{Keeps};
-ghost use Rattle.std.specs.Prelude.{◌≡◌, ◌++◌, ◌∷◌, ◌+◌, ◌-◌, ◌≤◌, [], List, ℕ, None, Err, IfOk, IfErr, IfSome, OnOk, OnErr};
+ghost use Rattle.std.specs.Prelude.{◌≡◌, ◌++◌, ◌∷◌, ◌+◌, ◌-◌, ◌≤◌, [], List, ℕ, None, Some, Err, IfOk, IfErr, IfSome, OnOk, OnErr};
 ghost use Rattle.std.specs.Path.{path_bytes};
-ghost use Rattle.syntect.specs.Files.{IsSyntaxFor, IsToldSyntax, HasNoLines};
+ghost use Rattle.syntect.specs.Files.{IsSyntaxFor, IsSyntaxWithin, IsToldSyntax, IsToldWithin, HasNoLines, HasNoLinesWithin};
+ghost use Rattle.syntect_grammar.specs.Finding.{found_plain_text};
+ghost use Rattle.syntect_grammar.specs.declared.error.Error.TheVariants.{NoSyntax};
 ghost use Rattle.syntect.specs.Leads.{Leads};
 ghost use Rattle.syntect_contexts.specs.declared.syntax_reference.SyntaxReference.{SyntaxReference as ASyntax};
 ghost use Rattle.syntect_grammar.specs.declared.syntax_set.SyntaxSet.{SyntaxSet as ASet};
@@ -19,6 +21,8 @@ use std::path::Path;
 use std::rt::Files;
 use std::{fs, mem};
 use syntect_base::limits::Limits;
+use syntect_first_lines::error::{FindWithinError, FirstLineLimit};
+use syntect_first_lines::find::find_syntax_by_first_line_within;
 pub use syntect_operations::ranges::{ScopeRangeIterator, ScopeRegionIterator};
 use syntect_parsing::error::Error;
 use syntect_parsing::laws::{
@@ -33,6 +37,7 @@ use syntect_style::pieces::collect_pieces;
 use syntect_style::state::HighlightState;
 use syntect_theme::style::Style;
 use syntect_theme::theme::Theme;
+use syntect_turns::count::TurnCount;
 
 /// Highlights lines that are given one after another.
 pub struct HighlightLines<'a> {
@@ -62,7 +67,8 @@ impl<'a> HighlightLines<'a> {
     ghost use Rattle.syntect.specs.Leads.{Past, IsPast, Continues, HoldsSame, LacksStart, RefusedExactly, UnlessLimited, UnlessMemory, reader_of, styles_of, theme_of};
     ghost use Rattle.syntect.specs.Built.{StaysInStart};
     ghost use Rattle.syntect.specs.PlainLines.{ArePlain, ContinuesWithin};
-    ghost use Rattle.syntect.specs.Within.{ReachesLimit, unlimited_of};
+    ghost use Rattle.syntect.specs.Within.{ReachesLimit, TellsWhere, unlimited_of};
+    ghost use Rattle.syntect_parsing.specs.Within.{KeepsLevels};
     ghost use Rattle.syntect.specs.declared.within.HighlightWithinError.TheVariants.{LimitReached};
     ghost use Rattle.syntect_base.specs.Limiting.{IsWithinLimit};
     ghost use Rattle.syntect_parsing.specs.Refusals.{AreByName};
@@ -192,9 +198,9 @@ impl<'a> HighlightLines<'a> {
     }
 
     /// The styled pieces of the next line, read within limits. Its answer is that of `highlight_line`, unless it makes more steps
-    /// or turns than `limits` has: then it is `LimitReached`, with the limit, and nothing changes, as after any refusal. No line
-    /// makes more (`few_turns`, `few_steps`), whatever its grammar's patterns are, and where a limit was reached the line had made
-    /// as many (`reached`).
+    /// or turns than `limits` has, opens more contexts, or has more operations: then it is `LimitReached`, with the limit, and nothing
+    /// changes, as after any refusal. No line makes more (`few_turns`, `few_steps`), whatever its grammar's patterns are, and none is
+    /// read that opens more (`few_levels`); where a limit was reached the line had made as many, or had more (`reached`, `there`).
     pub fn highlight_line_within<'b>(
         &mut self,
         alloc: Global,
@@ -234,6 +240,10 @@ impl<'a> HighlightLines<'a> {
             (turns_made (reader_of self.new) - turns_made (reader_of self.old)) }
         ensures few_steps { IsWithinLimit limits.now.steps
             (steps_made (reader_of self.new) - steps_made (reader_of self.old)) }
+        ensures few_levels { OnOk result (KeepsLevels dialect syntax_set.now line.entry.now
+            (standing (reader_of self.old)) limits.now.levels) }
+        ensures there { IfErr result (TellsWhere syntax_set.now line.entry.now
+            (standing (reader_of self.old))) }
         ensures reached { IfErr result (ReachesLimit limits.now
             (turns_made (reader_of self.new) - turns_made (reader_of self.old))
             (steps_made (reader_of self.new) - steps_made (reader_of self.old))) }
@@ -318,6 +328,20 @@ impl<'a> HighlightLines<'a> {
         }
     }
 
+    /// Stands before the first line of a text in this syntax from now on, under the same theme: what was read before is forgotten.
+    /// So a program may go on after a line that was shown plain, in place of going on as if that line weren't there.
+    /// `MissingMainContext` where the syntax has no context `__start`; after a refusal nothing has changed.
+    pub fn begin_anew(&mut self, alloc: Global, syntax: &SyntaxReference) -> Result<(), Error>
+        ensures leads { (set : ASet)
+            → OnOk result (Leads set (theme_of self.old) syntax.now [] [] self.new) }
+        ensures refused { IfErr result (LacksStart syntax.now) }
+        ensures err { OnErr result (HoldsSame self.old self.new) }
+    {
+        self.parse_state = ParseState::new(alloc, syntax)?;
+        self.highlight_state = HighlightState::new(&self.highlighter, ScopeStack::new(alloc));
+        Ok(())
+    }
+
     /// A line in the theme's own style: one piece, or none of a line without bytes.
     fn plain<'b>(&self, alloc: Global, line: &'b str) -> Result<Vec<(Style, &'b str)>, AllocError>
         ensures { IfOk result (λ pieces. ArePlain (theme_of self.now) line.now pieces.items) }
@@ -345,7 +369,7 @@ impl<'a, F: Read + Drop> HighlightFile<'a, F> {
     ///
     /// `Io` where the file is not opened, or not read to find the syntax; `NoSyntax` where no syntax fits and the set has no
     /// `Plain Text`; `MissingMainContext` where the syntax has no context `__start`.
-    #[tactic(auto, using(crate::proofs::FileLaws::not_read, crate::proofs::FileLaws::no_start_for))]
+    #[tactic(auto, using(crate::proofs::FileLaws::told_unlimited, crate::proofs::FileLaws::refused_unlimited))]
     pub fn new<R: Files<File = F>>(
         files: &R,
         alloc: Global,
@@ -363,6 +387,35 @@ impl<'a, F: Read + Drop> HighlightFile<'a, F> {
             × Leads ss.now theme.now syntax [] [] file.highlight_lines) }
         ensures refused { IfErr result (HasNoLines ss.now (path_bytes path.entry)) }
     {
+        let limits = Limits::unlimited();
+        match HighlightFile::new_or_plain(files, alloc, path, ss, theme, &limits) {
+            Ok((file, _)) => Ok(file),
+            Err(e) => Err(e),
+        }
+    }
+
+    /// The same, but that the patterns which are looked for in the first line make no more steps together than `Limits::steps` of
+    /// `limits`. Where they would make more, the syntax is plain text, and the limit is told.
+    #[tactic(auto, using(crate::proofs::FileLaws::not_read_within, crate::proofs::FileLaws::no_start_within))]
+    pub fn new_or_plain<R: Files<File = F>>(
+        files: &R,
+        alloc: Global,
+        path: Path<'_>,
+        ss: &SyntaxSet,
+        theme: &'a Theme,
+        limits: &Limits,
+    ) -> Result<(HighlightFile<'a, F>, Option<FirstLineLimit>), Error>
+        ensures leads { IfOk result (λ r. (syntax : ASyntax)
+            × IsSyntaxWithin limits.now ss.now (path_bytes path.entry) syntax r.1
+            × Leads ss.now theme.now syntax [] [] r.0.highlight_lines) }
+        ensures unread { IfOk result (λ r. (opened : F) × (syntax : ASyntax)
+            × Keeps (F.remaining opened) (reader_remaining F.remaining r.0.reader)
+            × IsToldWithin limits.now ss.now (path_bytes path.entry) (F.remaining opened)
+            syntax r.1
+            × Leads ss.now theme.now syntax [] [] r.0.highlight_lines) }
+        ensures refused { IfErr result
+            (HasNoLinesWithin limits.now ss.now (path_bytes path.entry)) }
+    {
         let file = match fs::open(files, path) {
             Ok(file) => file,
             Err(e) => return Err(Error::from(e)),
@@ -371,34 +424,50 @@ impl<'a, F: Read + Drop> HighlightFile<'a, F> {
             Ok(reader) => reader,
             Err(e) => return Err(Error::from(e)),
         };
-        let syntax = match syntax_for(&mut reader, path, ss) {
-            Ok(syntax) => syntax,
+        let (syntax, limit) = match syntax_within(alloc, &mut reader, path, ss, limits) {
+            Ok(found) => found,
             Err(e) => return Err(e),
         };
         match HighlightLines::new(alloc, syntax, theme) {
-            Ok(highlight_lines) => Ok(HighlightFile {
-                reader,
-                highlight_lines,
-            }),
+            Ok(highlight_lines) => Ok((
+                HighlightFile {
+                    reader,
+                    highlight_lines,
+                },
+                limit,
+            )),
             Err(e) => Err(e),
         }
     }
 }
 
-/// The syntax of a file that a reader has opened, or else plain text. The reader's bytes stay.
-#[tactic(auto, using(crate::proofs::FileLaws::no_syntax, crate::proofs::FileLaws::not_read))]
-fn syntax_for<'s, R: BufRead>(
+/// The syntax of plain text.
+fn plain_text(ss: &SyntaxSet) -> Result<&SyntaxReference, Error>
+    ensures found { IfOk result (λ syntax. Some syntax.now ≡ found_plain_text ss.now) }
+    ensures refused { IfErr result (λ e. (e ≡ NoSyntax) × (None ≡ found_plain_text ss.now)) }
+{
+    match ss.find_syntax_plain_text() {
+        Some(syntax) => Ok(syntax),
+        None => Err(Error::NoSyntax),
+    }
+}
+
+/// The syntax of a file that a reader has opened, or else plain text, with the limit if the first line reaches it. The reader's
+/// bytes stay.
+fn syntax_within<'s, R: BufRead>(
+    alloc: Global,
     reader: &mut R,
     path: Path<'_>,
     ss: &'s SyntaxSet,
-) -> Result<&'s SyntaxReference, Error>
-    ensures found { IfOk result (λ syntax.
-        IsToldSyntax ss.now (path_bytes path.entry) (R.remaining reader.old) syntax.now) }
+    limits: &Limits,
+) -> Result<(&'s SyntaxReference, Option<FirstLineLimit>), Error>
+    ensures found { IfOk result (λ r. IsToldWithin limits.now ss.now (path_bytes path.entry)
+        (R.remaining reader.old) r.0.now r.1) }
     ensures keeps { Keeps (R.remaining reader.old) (R.remaining reader.new) }
-    ensures refused { IfErr result (HasNoLines ss.now (path_bytes path.entry)) }
+    ensures refused { IfErr result (HasNoLinesWithin limits.now ss.now (path_bytes path.entry)) }
 {
     if let Some(syntax) = ss.find_syntax_by_file_name(path) {
-        return Ok(syntax);
+        return Ok((syntax, None));
     }
     let bytes = match reader.fill_buf() {
         Ok(bytes) => bytes,
@@ -408,12 +477,17 @@ fn syntax_for<'s, R: BufRead>(
         Ok(line) => line,
         Err(e) => return Err(e),
     };
-    match ss.find_syntax_by_first_line(line) {
-        Ok(Some(syntax)) => Ok(syntax),
-        Ok(None) => match ss.find_syntax_plain_text() {
-            Some(syntax) => Ok(syntax),
-            None => Err(Error::NoSyntax),
+    let mut count = TurnCount::none();
+    match find_syntax_by_first_line_within(alloc, ss, line, limits, &mut count) {
+        Ok(Some(syntax)) => Ok((syntax, None)),
+        Ok(None) => match plain_text(ss) {
+            Ok(syntax) => Ok((syntax, None)),
+            Err(e) => Err(e),
         },
-        Err(_) => Err(Error::Memory),
+        Err(FindWithinError::LimitReached(limit)) => match plain_text(ss) {
+            Ok(syntax) => Ok((syntax, Some(limit))),
+            Err(e) => Err(e),
+        },
+        Err(FindWithinError::Refused(_)) => Err(Error::Memory),
     }
 }

@@ -3,6 +3,10 @@ pub mod metadata;
 
 pub use syntect_base::limits::{LimitReached, Limits, LoadWithinError, PatternPlace};
 pub use syntect_base::syntax::ParseSyntaxError;
+pub use syntect_first_lines::error::{FindWithinError, FirstLineLimit};
+pub use syntect_first_lines::find::{
+    find_syntax_by_first_line_within, find_syntax_for_file_within,
+};
 pub use syntect_folders::error::FolderWithinError;
 pub use syntect_folders::folders::add_from_folder_within;
 pub use syntect_metadata::error::MetadataError;
@@ -25,4 +29,5 @@ pub use syntect_scope::scope::{ATOM_LEN_BITS, Scope};
 pub use syntect_scope::stack::{
     BasicScopeStackOp, ClearAmount, ScopeError, ScopeStack, ScopeStackOp,
 };
+pub use syntect_turns::count::TurnCount;
 pub use syntect_within::within::load_from_str_within;

@@ -11,17 +11,22 @@ unlimited = record {
   folder = 2 ^ 64 - 1;
   steps = 2 ^ 64 - 1;
   turns = 2 ^ 64 - 1;
+  levels = 2 ^ 64 - 1;
+  operations = 2 ^ 64 - 1;
 }
 
--- a hundred times what the greatest of the grammars asks for that this is tried with, and for a folder what all of them do
+-- a hundred times what the greatest of the grammars asks for that this is tried with, and for a folder what all of them do; of all
+-- patterns forty times, and of open contexts seven
 abbrev pub usual : Limits
 usual = record {
   text = 12500000;
   pattern = 3000000;
-  patterns = 10000000;
+  patterns = 4000000;
   folder = 200000000;
   steps = 30000000;
   turns = 1000000;
+  levels = 200;
+  operations = 1000000;
 }
 
 -- the limit that a number stands for, of which the greatest is none

@@ -27,6 +27,10 @@ pub struct Limits {
     pub steps: usize,
     /// How many turns one line takes at most.
     pub turns: usize,
+    /// How many contexts are open at most, before each turn of a line and after its last.
+    pub levels: usize,
+    /// How many operations on the stack of scopes one line has at most, before each turn and after its last.
+    pub operations: usize,
 }
 
 impl Limits {
@@ -41,11 +45,14 @@ impl Limits {
             folder: usize::MAX,
             steps: usize::MAX,
             turns: usize::MAX,
+            levels: usize::MAX,
+            operations: usize::MAX,
         }
     }
 }
 
-/// A hundred times what the greatest of 75 grammars in use asks for, and for a folder what all of them do.
+/// A hundred times what the greatest of 75 grammars in use asks for, and for a folder what all of them do; of all patterns forty
+/// times, since one of their bytes may take fifty of memory, and of open contexts seven, since each turn goes through them.
 impl Default for Limits {
     ghost is_default = { λ l. l ≡ usual };
 
@@ -53,10 +60,12 @@ impl Default for Limits {
         Limits {
             text: 12_500_000,
             pattern: 3_000_000,
-            patterns: 10_000_000,
+            patterns: 4_000_000,
             folder: 200_000_000,
             steps: 30_000_000,
             turns: 1_000_000,
+            levels: 200,
+            operations: 1_000_000,
         }
     }
 }

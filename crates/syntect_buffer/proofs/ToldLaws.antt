@@ -3,7 +3,7 @@ use Rattle.std.proofs.Common.{◌≡◌, ℕ, zero, suc, List, [], ◌∷◌, �
 use Rattle.std.specs.List.{slice_get}
 use Rattle.syntect_base.specs.declared.limits.Limits.{Limits}
 use Rattle.syntect_parsing.specs.declared.within.LineLimit.{LineLimit}
-use Rattle.syntect_parsing.specs.declared.within.LineLimit.TheVariants.{Steps, Turns}
+use Rattle.syntect_parsing.specs.declared.within.LineLimit.TheVariants.{Steps, Turns, Levels, Operations}
 use Rattle.syntect_contexts.specs.declared.error.ParsingError.{ParsingError}
 use Rattle.syntect_contexts.specs.declared.error.ParsingError.TheVariants as parsing
 use Rattle.syntect.specs.Within.{ReachesLimit}
@@ -21,6 +21,8 @@ use Rattle.syntect_buffer.proofs.HeldLaws.{some_same, none_is_some}
 pub reached_told : (limits : Limits) (turns steps : ℕ) (l : LineLimit) → ReachesLimit limits turns steps (within.LimitReached l) → HasLimit limits l
 reached_told limits turns steps (Steps context index place) e = λ n. none_is_some (sym n ∙ e)
 reached_told limits turns steps (Turns place) e = λ n. none_is_some (sym n ∙ e)
+reached_told limits turns steps (Levels place levels) e = λ n. none_is_some (sym n ∙ e.0)
+reached_told limits turns steps (Operations place operations) e = λ n. none_is_some (sym n ∙ e.0)
 
 -- a refusal tells none
 pub never_limit : (e : ParsingError) (l : LineLimit) → IsRefusal e (answer.LimitReached l) → ⊥
@@ -39,6 +41,8 @@ refusal_told limits e (answer.LimitReached l) h = absurd (never_limit e l h)
 pub no_limit : (limits : Limits) (l : LineLimit) → HasNoLimit limits → HasLimit limits l → ⊥
 no_limit limits (Steps context index place) n t = t n.0
 no_limit limits (Turns place) n t = t n.1
+no_limit limits (Levels place levels) n t = t n.2
+no_limit limits (Operations place operations) n t = t n.3
 
 -- and no line is left out
 line_whole : (limits : Limits) (line : List ℕ) (a : LineAnswer) → HasNoLimit limits → TellsOf limits a → given_line line a ≡ line ∷ []

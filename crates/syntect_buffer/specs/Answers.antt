@@ -10,7 +10,7 @@ use Rattle.syntect_theme.specs.declared.style.Style.{Style}
 use Rattle.syntect_theme.specs.declared.theme.Theme.{Theme}
 use Rattle.syntect_parsing.specs.Line.{Answer, Accepted, RefusedBy}
 use Rattle.syntect_parsing.specs.declared.within.LineLimit.{LineLimit}
-use Rattle.syntect_parsing.specs.declared.within.LineLimit.TheVariants.{Steps, Turns}
+use Rattle.syntect_parsing.specs.declared.within.LineLimit.TheVariants.{Steps, Turns, Levels, Operations}
 use Rattle.syntect_contexts.specs.declared.error.ParsingError.{ParsingError}
 use Rattle.syntect_contexts.specs.declared.error.ParsingError.TheVariants as parsing
 use Rattle.syntect_grammar.specs.declared.error.Error.{Error}
@@ -63,10 +63,14 @@ IsAnswer orderly theme line (RefusedBy e) a = IsRefusal e a
 abbrev pub HasLimit : Limits → LineLimit → Type 0
 HasLimit limits (Steps context index place) = limit_of limits.steps ≢ None
 HasLimit limits (Turns place) = limit_of limits.turns ≢ None
+HasLimit limits (Levels place levels) = limit_of limits.levels ≢ None
+HasLimit limits (Operations place operations) = limit_of limits.operations ≢ None
 
 -- the limits have none for lines
 abbrev pub HasNoLimit : Limits → Type 0
-HasNoLimit limits = (limit_of limits.steps ≡ None) × (limit_of limits.turns ≡ None)
+HasNoLimit limits =
+    (limit_of limits.steps ≡ None) × (limit_of limits.turns ≡ None)
+    × (limit_of limits.levels ≡ None) × (limit_of limits.operations ≡ None)
 
 -- a limit that an answer tells is one of these
 abbrev pub TellsOf : Limits → LineAnswer → Type 0

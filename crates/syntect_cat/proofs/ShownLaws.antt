@@ -24,7 +24,7 @@ use Rattle.syntect_folders.specs.FoldersWithin.{AddsFolderWithin, RefusesFolderW
 use Rattle.syntect_folders.specs.declared.error.FolderWithinError.TheVariants as folder_error
 use Rattle.syntect_folders.proofs.FolderLaws.{added_within}
 use Rattle.syntect_cat.specs.Faults.{fault_of, fault_line, plain_line, without_limit}
-use Rattle.syntect_parsing.specs.declared.within.LineLimit.{LineLimit}
+use Rattle.syntect_cat.specs.declared.note.Note.{Note}
 use Rattle.syntect_cat.specs.Shown.{IsSetOf, PassesLimit, HasReason, HasReasonFor, IsShown, IsAskedFor}
 use Rattle.syntect_cat.specs.Texts.{ShowsFile}
 use Rattle.syntect_cat.specs.Words.{words_for, words_of}
@@ -194,15 +194,15 @@ reason_for words job f same h folder theme file format e =
 
 -- ---- the text of a job ----
 
-pub file_shown : LoadsPlain → (folder : List ℕ) (format : Format) (file text : List ℕ) (first : Option (ℕ × LineLimit)) (repository after : List (List ℕ)) (set : SyntaxSet) (theme : Theme) → IsSetOf folder repository set
-    → (bytes : List ℕ) × IsThemeOf repository bytes after theme → ((definitions : List SyntaxDefinition) → IsBuilt set definitions → ShowsFile format set theme file text first)
-    → IsShown folder format file text first
-file_shown law folder format file text first repository after set theme s t h =
+pub file_shown : LoadsPlain → (folder : List ℕ) (format : Format) (file text : List ℕ) (told : Option Note) (repository after : List (List ℕ)) (set : SyntaxSet) (theme : Theme) → IsSetOf folder repository set
+    → (bytes : List ℕ) × IsThemeOf repository bytes after theme → ((definitions : List SyntaxDefinition) → IsBuilt set definitions → ShowsFile format set theme file text told)
+    → IsShown folder format file text told
+file_shown law folder format file text told repository after set theme s t h =
     let b = set_built law folder repository set s in
     record { repository = repository; after = after; set = set; bytes = t.0; theme = theme; set_is = s; theme_is = t.1; shows = h b.0 b.1 }
 
-pub asked_for : (words : List (List ℕ)) (job : Job) (text : List ℕ) (first : Option (ℕ × LineLimit)) → words ≡ words_of job → IsShown job.folder.now job.format job.file.now text first → IsAskedFor words text first
-asked_for words job text first e s = (job.folder.now, job.theme.now, job.file.now, job.format, e, s)
+pub asked_for : (words : List (List ℕ)) (job : Job) (text : List ℕ) (told : Option Note) → words ≡ words_of job → IsShown job.folder.now job.format job.file.now text told → IsAskedFor words text told
+asked_for words job text told e s = (job.folder.now, job.theme.now, job.file.now, job.format, e, s)
 
 -- highlighting is not writing
 pub never_writing : (e : Error) → fault_of e ≡ fault.Writing → ⊥

@@ -15,13 +15,14 @@ use Rattle.syntect_loader.specs.declared.definition.SyntaxDefinition.{SyntaxDefi
 use Rattle.syntect_parsing.specs.declared.within.LineLimit.{LineLimit}
 use Rattle.syntect_writers.specs.declared.html.IncludeBackground.{IncludeBackground}
 use Rattle.syntect.specs.Built.{IsBuilt, IsBuiltOf}
-use Rattle.syntect.specs.Files.{IsSyntaxFor}
+use Rattle.syntect.specs.Files.{IsSyntaxWithin}
+use Rattle.syntect_first_lines.specs.declared.error.FirstLineLimit.{FirstLineLimit}
 use Rattle.syntect.specs.Pages.{past_of}
 use Rattle.syntect.specs.PlainLines.{AreLinesSoFar, ContinuesWithin, LinesEnd, LinesGoOn, Shown, read, plain, first_plain, limit_in, pieces_in, rows_in}
 use Rattle.syntect.specs.Rows.{GivesNext, IsTextOf}
 use Rattle.syntect.specs.declared.easy.HighlightLines.{HighlightLines}
-use Rattle.syntect_cat.specs.Notes.{note_line, short_note}
-use Rattle.syntect_cat.specs.Written.{Begins}
+use Rattle.syntect_cat.specs.Notes.{Tells, note_of}
+use Rattle.syntect_cat.specs.declared.note.Note.{Note}
 use Rattle.syntect_cat.specs.Texts.{IsWritten, ShowsFile, end_of, first_of, front_of, ground_of, line_of, lines_text}
 use Rattle.syntect_cat.specs.declared.job.Format.{Format}
 
@@ -99,25 +100,30 @@ text_whole law limits format set theme syntax had left after last text whole byt
 
 -- ---- files ----
 
-pub built_of : (set : SyntaxSet) (path : List ℕ) (syntax : SyntaxReference) (definitions : List SyntaxDefinition) → IsBuilt set definitions → IsSyntaxFor set path syntax → IsBuiltOf set syntax definitions
-built_of set path syntax definitions b s = record { links = b.links; place = s.place; among = s.among; plain = b.plain }
-
-pub file_text : {A : Type 0} (view : A → List ℕ) (first : A → Option (ℕ × LineLimit)) (limits : Limits) (format : Format) (set : SyntaxSet) (theme : Theme) (path : List ℕ) (syntax : SyntaxReference) (P : List ℕ → Type 0) (result : Result A Error)
-    → limits ≡ usual → IsSyntaxFor set path syntax → IfOk result (λ r. (text : List ℕ) × P text × IsUtf8 text × IsWritten limits format set theme syntax text (view r) (first r))
-    → IfOk result (λ r. ShowsFile format set theme path (view r) (first r))
-file_text view first limits format set theme path syntax P (Ok r) u s h = (syntax, s, h.0, h.2, subst (λ (l : Limits). IsWritten l format set theme syntax h.0 (view r) (first r)) u h.3)
-file_text view first limits format set theme path syntax P (Err e) u s h = tt
+pub file_text : (limits : Limits) (format : Format) (set : SyntaxSet) (theme : Theme) (path all : List ℕ) (syntax : SyntaxReference) (limit : Option FirstLineLimit) (first : Option (ℕ × LineLimit)) (told : Option Note) (P : List ℕ → Type 0)
+    → limits ≡ usual → IsSyntaxWithin limits set path syntax limit → told ≡ note_of limit first → (text : List ℕ) × P text × IsUtf8 text × IsWritten limits format set theme syntax text all first
+    → ShowsFile format set theme path all told
+file_text limits format set theme path all syntax limit first told P u s n h = (
+  syntax,
+  limit,
+  subst (λ (l : Limits). IsSyntaxWithin l set path syntax limit) u s,
+  first,
+  n,
+  h.0,
+  h.2,
+  subst (λ (l : Limits). IsWritten l format set theme syntax h.0 all first) u h.3,
+)
 
 -- ---- what is told ----
 
-pub never_some : (line : ℕ × LineLimit) → None ≡ Some line → ⊥
-never_some line e = cc
+pub never_some : (n : Note) → None ≡ Some n → ⊥
+never_some n e = cc
 
-pub never_none : (line : ℕ × LineLimit) → Some line ≡ None → ⊥
-never_none line e = cc
+pub never_none : (n : Note) → Some n ≡ None → ⊥
+never_none n e = cc
 
--- what was told of a line was told of the same one
-pub told_of_line : (old new : Option (List ℕ)) (line other : ℕ × LineLimit) → Some line ≡ Some other → (Begins old new (note_line line)) ⊎ (Begins old new short_note) → (Begins old new (note_line other)) ⊎ (Begins old new short_note)
-told_of_line old new line other e told =
-    let same : line ≡ other = cc in
-    subst (λ (l : ℕ × LineLimit). (Begins old new (note_line l)) ⊎ (Begins old new short_note)) same told
+-- what was told of limits was told of the same ones
+pub told_of_limits : (old new : Option (List ℕ)) (n other : Note) → Some n ≡ Some other → Tells old new n → Tells old new other
+told_of_limits old new n other e told =
+    let same : n ≡ other = cc in
+    subst (Tells old new) same told

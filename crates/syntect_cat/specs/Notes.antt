@@ -1,12 +1,19 @@
--- What is told of lines that are shown plain.
-use Rattle.std.specs.Prelude.{ℕ, List, ◌++◌, codes, decimal}
+-- What is told of a text that limits were reached in.
+use Rattle.std.specs.Prelude.{ℕ, List, ◌++◌, codes, decimal, Option, Some, None, ◌⊎◌}
+use Rattle.syntect_first_lines.specs.declared.error.FirstLineLimit.{FirstLineLimit}
+use Rattle.syntect_cat.specs.Written.{Begins}
+use Rattle.syntect_cat.specs.declared.note.Note.{Note}
+use Rattle.syntect_cat.specs.declared.note.Note.TheVariants.{Syntax, Line}
 use Rattle.syntect_parsing.specs.declared.within.LineLimit.{LineLimit}
-use Rattle.syntect_parsing.specs.declared.within.LineLimit.TheVariants.{Steps, Turns}
+use Rattle.syntect_parsing.specs.declared.within.LineLimit.TheVariants.{Steps, Turns, Levels, Operations}
 
 -- which limit a line reached, and at which byte of it
 abbrev pub reached_text : LineLimit → List ℕ
 reached_text (Steps context index place) = codes "too many steps at byte " ++ decimal place
 reached_text (Turns place) = codes "too many turns at byte " ++ decimal place
+reached_text (Levels place levels) = codes "too many open contexts at byte " ++ decimal place
+reached_text (Operations place operations) =
+    codes "too many operations at byte " ++ decimal place
 
 -- the line that tells of the first plain one, by its number
 abbrev pub note_line : ℕ × LineLimit → List ℕ
@@ -17,3 +24,18 @@ note_line line =
 -- what is told where there is no memory for more
 abbrev pub short_note : List ℕ
 short_note = codes "syncat: a line is shown plain\n"
+
+-- what is told where the syntax was not found within limits
+abbrev pub syntax_note : List ℕ
+syntax_note = codes "syncat: shown as plain text: too many steps for the first line\n"
+
+-- what is told of a text for whose syntax, or in whose first plain line, a limit was reached
+abbrev pub note_of : Option FirstLineLimit → Option (ℕ × LineLimit) → Option Note
+note_of (Some limit) line = Some Syntax
+note_of None (Some line) = Some (Line line)
+note_of None None = None
+
+-- it is told, or begun; of a line perhaps without its number, as there was no memory for it
+abbrev pub Tells : Option (List ℕ) → Option (List ℕ) → Note → Type 0
+Tells old new Syntax = Begins old new syntax_note
+Tells old new (Line line) = (Begins old new (note_line line)) ⊎ (Begins old new short_note)

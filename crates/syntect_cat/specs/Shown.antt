@@ -13,12 +13,12 @@ use Rattle.syntect_grammar.specs.Metadata.{entries_in, kept_sets, metadata_in, I
 use Rattle.syntect_grammar.specs.PlainText.{AddsPlainText}
 use Rattle.syntect_grammar.specs.declared.syntax_set.SyntaxSet.{SyntaxSet}
 use Rattle.syntect_grammar.specs.declared.syntax_set.SyntaxSetBuilder.{SyntaxSetBuilder}
-use Rattle.syntect_parsing.specs.declared.within.LineLimit.{LineLimit}
 use Rattle.syntect_cat.specs.Texts.{ShowsFile}
 use Rattle.syntect_cat.specs.Words.{words_for}
 use Rattle.syntect_cat.specs.declared.fault.Fault.{Fault}
 use Rattle.syntect_cat.specs.declared.fault.Fault.TheVariants.{Limit}
 use Rattle.syntect_cat.specs.declared.job.Format.{Format}
+use Rattle.syntect_cat.specs.declared.note.Note.{Note}
 
 -- The set links the syntax of plain text and the grammars in a folder, read for lines with newlines and within the usual
 -- limits, and has the metadata there.
@@ -56,9 +56,9 @@ HasReasonFor words fault =
     (folder theme file : List ℕ) (format : Format)
     → words ≡ words_for folder theme format file → HasReason folder fault
 
--- The text shows a file by the grammars of a folder and the theme of some bytes, and `first` is its first plain line.
+-- The text shows a file by the grammars of a folder and the theme of some bytes, and this is told of limits that were reached.
 pub record IsShown (folder : List ℕ) (format : Format) (file text : List ℕ)
-    (first : Option (ℕ × LineLimit)) : Type 0 where
+    (note : Option Note) : Type 0 where
   pub repository : List (List ℕ)
   pub after : List (List ℕ)
   pub set : SyntaxSet
@@ -66,10 +66,10 @@ pub record IsShown (folder : List ℕ) (format : Format) (file text : List ℕ)
   pub theme : Theme
   pub set_is : IsSetOf folder repository set
   pub theme_is : IsThemeOf repository bytes after theme
-  pub shows : ShowsFile format set theme file text first
+  pub shows : ShowsFile format set theme file text note
 
--- the text is what these words ask for, and `first` is its first plain line
-abbrev pub IsAskedFor : List (List ℕ) → List ℕ → Option (ℕ × LineLimit) → Type 0
-IsAskedFor words text first =
+-- the text is what these words ask for, and this is told of it
+abbrev pub IsAskedFor : List (List ℕ) → List ℕ → Option Note → Type 0
+IsAskedFor words text note =
     (folder theme file : List ℕ) × (format : Format) × (words ≡ words_for folder theme format file)
-    × IsShown folder format file text first
+    × IsShown folder format file text note

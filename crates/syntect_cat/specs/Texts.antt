@@ -13,7 +13,10 @@ use Rattle.syntect_writers.specs.Spans.{line_text, opening, closing, background_
 use Rattle.syntect_writers.specs.Terminal.{terminal_text}
 use Rattle.syntect_writers.specs.declared.html.IncludeBackground.{IncludeBackground}
 use Rattle.syntect_writers.specs.declared.html.IncludeBackground.TheVariants.{IfDifferent}
-use Rattle.syntect.specs.Files.{IsSyntaxFor}
+use Rattle.syntect.specs.Files.{IsSyntaxWithin}
+use Rattle.syntect_first_lines.specs.declared.error.FirstLineLimit.{FirstLineLimit}
+use Rattle.syntect_cat.specs.Notes.{note_of}
+use Rattle.syntect_cat.specs.declared.note.Note.{Note}
 use Rattle.syntect.specs.PlainLines.{AreLinesOf, Shown, first_plain, pieces_in}
 use Rattle.syntect_cat.specs.declared.job.Format.{Format}
 use Rattle.syntect_cat.specs.declared.job.Format.TheVariants.{Html, Terminal}
@@ -63,9 +66,11 @@ pub record IsWritten (limits : Limits) (format : Format) (set : SyntaxSet) (them
       ++ (lines_text (ground_of format theme) lines ++ end_of (ground_of format theme))
   pub first_is : first ≡ first_plain 0 lines
 
--- All shows some text in the syntax of the file, within the usual limits.
-abbrev pub ShowsFile : Format → SyntaxSet → Theme → List ℕ → List ℕ → Option (ℕ × LineLimit)
-    → Type 0
-ShowsFile format set theme path all first =
-    (syntax : SyntaxReference) × IsSyntaxFor set path syntax × (text : List ℕ) × IsUtf8 text
-    × IsWritten usual format set theme syntax text all first
+-- All shows some text in the syntax of the file, or as plain text where that was not found, within the usual limits, of which this
+-- is told.
+abbrev pub ShowsFile : Format → SyntaxSet → Theme → List ℕ → List ℕ → Option Note → Type 0
+ShowsFile format set theme path all note =
+    (syntax : SyntaxReference) × (limit : Option FirstLineLimit)
+    × IsSyntaxWithin usual set path syntax limit
+    × (first : Option (ℕ × LineLimit)) × (note ≡ note_of limit first)
+    × (text : List ℕ) × IsUtf8 text × IsWritten usual format set theme syntax text all first

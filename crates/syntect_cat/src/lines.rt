@@ -9,6 +9,7 @@ ghost use Rattle.syntect.specs.Rows.{IsTextOf};
 ghost use Rattle.syntect_cat.specs.Texts.{IsWritten, ShowsFile, first_of};
 
 use crate::job::Format;
+use crate::note::{Note, note_of};
 use crate::writer::TextWriter;
 use std::alloc::Global;
 use std::io::{BufRead, Error as IoError, ErrorKind};
@@ -38,7 +39,7 @@ fn first_of(first: Option<PlainLine>, before: u64, limit: Option<LineLimit>) -> 
     }
 }
 
-/// A file's text in a format, with its first plain line. The syntax is that of the file, or else plain text.
+/// A file's text in a format, with what is told of limits that were reached. The syntax is that of the file, or else plain text.
 pub(crate) fn text_of_file(
     files: &impl Files,
     alloc: Global,
@@ -46,19 +47,16 @@ pub(crate) fn text_of_file(
     format: Format,
     set: &SyntaxSet,
     theme: &Theme,
-) -> Result<(String, Option<PlainLine>), Error>
+) -> Result<(String, Option<Note>), Error>
     ensures { (definitions : List ADefinition) → IsBuilt set.now definitions
         → IfOk result (λ r. ShowsFile format set.now theme.now (path_bytes path.entry)
         (string_bytes r.0) r.1) }
 {
     let limits = Limits::default();
-    match HighlightFile::new(files, alloc, path, set, theme) {
-        Ok(file) => {
-            let lines = file.highlight_lines;
-            text_of_lines(alloc, file.reader, lines, format, set, theme, &limits)
-        }
-        Err(e) => Err(e),
-    }
+    let (file, limit) = HighlightFile::new_or_plain(files, alloc, path, set, theme, &limits)?;
+    let lines = file.highlight_lines;
+    let (text, first) = text_of_lines(alloc, file.reader, lines, format, set, theme, &limits)?;
+    Ok((text, note_of(limit, first)))
 }
 
 /// What a reader gives, by a highlighter that has read nothing yet.

@@ -2,18 +2,17 @@
 ghost use Rattle.std.specs.Prelude.{◌≡◌, ◌≢◌, ◌≤◌, ◌↔◌, ◌⊎◌, ℕ, List, Option as AnOption, None, Some, map, IfOk, IfErr, string_bytes};
 ghost use Rattle.std.specs.Io.KnownBytes.{Appends};
 ghost use Rattle.syntect_cat.specs.Faults.{fault_line, usage_line, without_limit};
-ghost use Rattle.syntect_cat.specs.Notes.{note_line, short_note};
+ghost use Rattle.syntect_cat.specs.Notes.{Tells};
+ghost use Rattle.syntect_cat.specs.declared.note.Note.{Note as ANote};
 ghost use Rattle.syntect_cat.specs.Shown.{HasReason, HasReasonFor, IsAskedFor, IsShown};
 ghost use Rattle.syntect_cat.specs.Words.{AreWords, words_of};
 ghost use Rattle.syntect_cat.specs.Written.{Begins};
 ghost use Rattle.syntect_cat.specs.declared.fault.Fault.{Fault as AFault};
 ghost use Rattle.syntect_cat.specs.declared.fault.Fault.TheVariants.{Writing};
-ghost use Rattle.syntect_parsing.specs.declared.within.LineLimit.{LineLimit as ALimit};
 
 use crate::fault::{Fault, USAGE};
 use crate::job::Job;
-use crate::lines::PlainLine;
-use crate::note::tell_of_plain;
+use crate::note::{Note, tell_note};
 use crate::put::put;
 use crate::show::text_for;
 use std::alloc::Global;
@@ -29,9 +28,10 @@ const FAILED: u8 = 1;
 /// Shows a file: the words are the folder of the grammars, the theme, `html` or `term`, and the file. Its text is written to
 /// `out` once it is whole, and the status is 0.
 ///
-/// The grammars are loaded, and each line is highlighted, within `Limits::default`. A line that reaches a limit is shown plain,
-/// in the theme's own style, and the next one is read as if it weren't there; `err` is given a line that tells of the first such
-/// one, once the text is written.
+/// The grammars are loaded, the syntax is looked for by the first line, and each line is highlighted, within `Limits::default`. A text
+/// for whose syntax the limit is reached is shown as plain text. A line that reaches a limit is shown plain, in the theme's own style,
+/// and the next one is read as if it weren't there. `err` is given a line that tells of the syntax, or else of the first such line,
+/// once the text is written.
 ///
 /// Other words have the status 2, and any other fault has the status 1; `err` is given a line that tells of it, and `out` nothing,
 /// but that a text may be begun where it can't be written. The line of a grammar that would pass a limit names its file and the
@@ -46,15 +46,13 @@ pub fn run<W: Write, E: Write>(
     ensures status { result ≤ 2 }
     ensures asked { AreWords (map string_bytes words.now) ↔ (result ≢ 2) }
 
-    // the text was written, whole; and a line tells of the first plain line, if there is one
+    // the text was written, whole; and a line tells of the foremost limit that was reached, if there is one
     ensures shown { result ≡ 0
-        → (text : List ℕ) × (first : AnOption (ℕ × ALimit))
-        × IsAskedFor (map string_bytes words.now) text first
+        → (text : List ℕ) × (note : AnOption ANote)
+        × IsAskedFor (map string_bytes words.now) text note
         × Appends (W.contents out.old) (W.contents out.new) text
-        × (first ≡ None → err.new ≡ err.old)
-        × ((line : ℕ × ALimit) → first ≡ Some line
-        → (Begins (E.contents err.old) (E.contents err.new) (note_line line))
-        ⊎ (Begins (E.contents err.old) (E.contents err.new) short_note)) }
+        × (note ≡ None → err.new ≡ err.old)
+        × ((n : ANote) → note ≡ Some n → Tells (E.contents err.old) (E.contents err.new) n) }
 
     // a line tells of the fault, and no text is begun but where it can't be written; what can't be written is begun
     ensures usage { result ≡ 2
@@ -63,8 +61,8 @@ pub fn run<W: Write, E: Write>(
         → (fault : AFault) × Begins (E.contents err.old) (E.contents err.new) (fault_line fault)
         × HasReasonFor (map string_bytes words.now) fault
         × (fault ≢ Writing → out.new ≡ out.old)
-        × (fault ≡ Writing → (text : List ℕ) × (first : AnOption (ℕ × ALimit))
-        × IsAskedFor (map string_bytes words.now) text first
+        × (fault ≡ Writing → (text : List ℕ) × (note : AnOption ANote)
+        × IsAskedFor (map string_bytes words.now) text note
         × Begins (W.contents out.old) (W.contents out.new) text) }
 {
     let Some(job) = Job::from_words(words) else {
@@ -73,8 +71,8 @@ pub fn run<W: Write, E: Write>(
     };
     match show(files, alloc, job, out) {
         Ok(None) => 0,
-        Ok(Some(line)) => {
-            tell_of_plain(alloc, line, err);
+        Ok(Some(note)) => {
+            tell_note(alloc, note, err);
             0
         }
         Err(fault) => {
@@ -95,24 +93,24 @@ fn tell<E: Write>(alloc: Global, fault: &Fault, err: &mut E)
     };
 }
 
-/// Writes the text that a job asks for, and answers its first plain line.
+/// Writes the text that a job asks for, and answers what is told of limits that were reached.
 fn show<W: Write>(
     files: &impl Files,
     alloc: Global,
     job: Job<'_>,
     out: &mut W,
-) -> Result<Option<PlainLine>, Fault>
-    ensures shown { IfOk result (λ first. (text : List ℕ)
-        × IsShown job.entry.folder.now job.entry.format job.entry.file.now text first
+) -> Result<Option<Note>, Fault>
+    ensures shown { IfOk result (λ note. (text : List ℕ)
+        × IsShown job.entry.folder.now job.entry.format job.entry.file.now text note
         × Appends (W.contents out.old) (W.contents out.new) text) }
     ensures reason { IfErr result (HasReason job.entry.folder.now) }
     ensures kept { IfErr result (λ fault. fault ≢ Writing → out.new ≡ out.old) }
     ensures begun { IfErr result (λ fault. fault ≡ Writing
-        → (text : List ℕ) × (first : AnOption (ℕ × ALimit))
-        × IsShown job.entry.folder.now job.entry.format job.entry.file.now text first
+        → (text : List ℕ) × (note : AnOption ANote)
+        × IsShown job.entry.folder.now job.entry.format job.entry.file.now text note
         × Begins (W.contents out.old) (W.contents out.new) text) }
 {
-    let (text, first) = match text_for(files, alloc, job) {
+    let (text, note) = match text_for(files, alloc, job) {
         Ok(shown) => shown,
         Err(fault) => return Err(fault),
     };
@@ -121,7 +119,7 @@ fn show<W: Write>(
         Err(_) => return Err(Fault::Writing),
     }
     match out.flush() {
-        Ok(()) => Ok(first),
+        Ok(()) => Ok(note),
         Err(_) => Err(Fault::Writing),
     }
 }

@@ -7,7 +7,8 @@ ghost use Rattle.syntect_cat.specs.declared.fault.Fault.TheVariants.{Theme as Fa
 
 use crate::fault::Fault;
 use crate::job::Job;
-use crate::lines::{PlainLine, text_of_file};
+use crate::lines::text_of_file;
+use crate::note::Note;
 use std::alloc::Global;
 use std::path::Path;
 use std::rt::Files;
@@ -77,13 +78,13 @@ fn load_theme(
     }
 }
 
-/// The text that a job asks for, and its first plain line. The grammars are loaded first, then the theme, and then the file is
+/// The text that a job asks for, and what is told of limits that were reached. The grammars are loaded first, then the theme, and then the file is
 /// read and highlighted, each line within `Limits::default`; the first fault ends it.
 pub(crate) fn text_for(
     files: &impl Files,
     alloc: Global,
     job: Job<'_>,
-) -> Result<(String, Option<PlainLine>), Fault>
+) -> Result<(String, Option<Note>), Fault>
     ensures shown { IfOk result
         (λ r. IsShown job.entry.folder.now job.entry.format job.entry.file.now
         (string_bytes r.0) r.1) }

@@ -125,3 +125,25 @@ fn a_line_that_reaches_a_limit_is_plain(rt: HostRuntime) {
     holds(&rt, outcome.status == 0);
     desk.close(&rt);
 }
+
+/// A grammar that has the same in its first-line pattern.
+const COSTLY_FIRST: &str =
+    "scope: source.v\nfirst_line_match: '^(x+x+)+\\1y'\ncontexts: {main: [{match: hello, scope: word}]}";
+
+/// The same lines as plain text.
+const ROWS_PLAIN: &str =
+    "<pre style=\"background-color:#020202;\">\n<span style=\"color:#010101;\">xxxxxxxxxxxxxxxxxxxxxxxxxxxxxxxxxxxxxxxxxxxxxxxxxxxxxxxxxxxx\n</span><span style=\"color:#010101;\">hello</span></pre>\n";
+
+/// A text for whose syntax the limit is reached is plain text, and that is told.
+#[test]
+fn a_first_line_that_reaches_the_limit(rt: HostRuntime) {
+    let desk = Desk::new(&rt, "syncat_first_spent");
+    desk.write(&rt, "grammars/V.sublime-syntax", COSTLY_FIRST.as_bytes());
+    desk.write(&rt, "rows", ROWS.as_bytes());
+    let outcome = desk.outcome(&rt, ["grammars", "theme.tmTheme", "html", "rows"]);
+    equal(&rt, outcome.out.as_slice(), ROWS_PLAIN.as_bytes());
+    let note = "syncat: shown as plain text: too many steps for the first line\n";
+    equal(&rt, outcome.err.as_slice(), note.as_bytes());
+    holds(&rt, outcome.status == 0);
+    desk.close(&rt);
+}

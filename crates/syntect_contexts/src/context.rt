@@ -2,7 +2,7 @@
 //!
 //! The rules are those of Sublime Text's syntax definitions. A context has patterns that are tried in order; a match
 //! may open further contexts, put others in the place of the top one, or leave it.
-ghost use Rattle.std.specs.Prelude.{◌≡◌, [], false, string_bytes, Option, Some, None, IfOk, IfErr};
+ghost use Rattle.std.specs.Prelude.{◌≡◌, ◌≤◌, ◌<◌, [], false, length, string_bytes, Option, Some, None, IfOk, IfErr, IfNone, IfSome};
 ghost use Rattle.std.specs.Option.{option_copied, option_and_then};
 ghost use Rattle.syntect_contexts.specs.Contexts.{target, match_of};
 ghost use Rattle.syntect_contexts.specs.Errors.{IsUnresolved, IsMissing, IsBadIndex};
@@ -283,8 +283,28 @@ impl MatchPattern {
         requires { AreOnBoundaries text.now region.now }
         ensures { IfOk result (λ r. r ≡ substituted self.now.regex region.now text.now) }
     {
+        match self.text_with_refs(region, text, usize::MAX)? {
+            Some(pattern) => Regex::ready(self.scope.allocator(), pattern),
+            // no text has more bytes
+            None => Err(AllocError),
+        }
+    }
+
+    /// The text of the same pattern, if it has at most so many bytes.
+    pub fn text_with_refs(
+        &self,
+        region: &Region,
+        text: &str,
+        most: usize,
+    ) -> Result<Option<String>, AllocError>
+        requires { AreOnBoundaries text.now region.now }
+        ensures some { IfOk result (λ o. IfSome o (λ s.
+            string_bytes s ≡ substituted self.now.regex region.now text.now)) }
+        ensures few { IfOk result (λ o. IfSome o (λ s. length (string_bytes s) ≤ most)) }
+        ensures none { IfOk result (λ o. IfNone o
+            (most < length (substituted self.now.regex region.now text.now))) }
+    {
         let alloc = self.scope.allocator();
-        let pattern = substituted(alloc, self.regex.regex_str(), region, text)?;
-        Regex::ready(alloc, pattern)
+        substituted(alloc, self.regex.regex_str(), region, text, most)
     }
 }

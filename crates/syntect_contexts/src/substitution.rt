@@ -1,5 +1,5 @@
 //! Patterns that refer to the groups of the match that opened their context.
-ghost use Rattle.std.specs.Prelude.{◌≡◌, ◌++◌, string_bytes, IfOk, OnOk};
+ghost use Rattle.std.specs.Prelude.{◌≡◌, ◌≤◌, ◌<◌, ◌++◌, length, string_bytes, IfNone, IfOk, IfSome, OnOk};
 ghost use Rattle.syntect_contexts.specs.Substitution.{AreOnBoundaries, group_text, replaced, substituted};
 
 use std::alloc::{AllocError, Global};
@@ -40,19 +40,28 @@ fn push_replaced(
 }
 
 /// The text of a pattern with each digit behind a backslash that isn't itself escaped, and that backslash, replaced by the
-/// escaped text of the group of that number, or by nothing where it was not set.
+/// escaped text of the group of that number, or by nothing where it was not set. None where it has more bytes than `most`, of
+/// which no more are written then, but for one group's.
 pub fn substituted(
     alloc: Global,
     pattern: &str,
     region: &Region,
     text: &str,
-) -> Result<String, AllocError>
+    most: usize,
+) -> Result<Option<String>, AllocError>
     requires { AreOnBoundaries text.now region.now }
-    ensures { IfOk result (λ s. string_bytes s ≡ substituted pattern.now region.now text.now) }
+    ensures some { IfOk result (λ o. IfSome o (λ s.
+        string_bytes s ≡ substituted pattern.now region.now text.now)) }
+    ensures few { IfOk result (λ o. IfSome o (λ s. length (string_bytes s) ≤ most)) }
+    ensures none { IfOk result (λ o. IfNone o
+        (most < length (substituted pattern.now region.now text.now))) }
 {
     let mut out = String::new(alloc);
     let mut behind = false;
     for c in pattern.chars() {
+        if out.len() > most {
+            return Ok(None);
+        }
         if behind {
             push_replaced(alloc, &mut out, c, region, text)?;
             behind = false;
@@ -65,5 +74,8 @@ pub fn substituted(
     if behind {
         out.push('\\')?;
     }
-    Ok(out)
+    if out.len() > most {
+        return Ok(None);
+    }
+    Ok(Some(out))
 }

@@ -393,8 +393,7 @@ impl Search {
         Ok(Next::Turn { turns, list })
     }
 
-    /// Reads what a greedy loop over one character can, if it is a stretch of ASCII characters, and keeps its ends for
-    /// later, the last one first.
+    /// Reads what a greedy loop over one character can, if it is a stretch of ASCII, and keeps its ends for later, the last one first.
     fn enter_stretch(
         &mut self,
         program: &Program,

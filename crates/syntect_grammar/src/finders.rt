@@ -30,7 +30,7 @@ fn has_extension(syntax: &SyntaxReference, extension: &str) -> bool
 }
 
 /// A line without the byte order mark that it may begin with.
-fn without_mark(line: &str) -> &str
+pub fn without_mark(line: &str) -> &str
     ensures { result.now ≡ without_mark line.now }
 {
     if line.as_bytes().starts_with(&[0xEF, 0xBB, 0xBF]) {
@@ -79,7 +79,7 @@ fn first_line_of<R: BufRead>(alloc: Global, reader: &mut R) -> Result<String, io
 }
 
 /// The first line of a file.
-fn first_line(files: &impl Files, alloc: Global, path: Path<'_>) -> Result<String, io::Error> {
+pub fn first_line(files: &impl Files, alloc: Global, path: Path<'_>) -> Result<String, io::Error> {
     let mut reader = BufReader::new(alloc, fs::open(files, path)?)?;
     first_line_of(alloc, &mut reader)
 }

@@ -6,7 +6,7 @@
 
 mod apart;
 pub mod error;
-mod finders;
+pub mod finders;
 pub mod folders;
 mod heads;
 pub mod includes;

@@ -1,5 +1,6 @@
 pub mod Names
-pub mod Opens
 pub mod Openings
+pub mod Opens
 pub mod Places
+pub mod Puts
 pub mod Walking

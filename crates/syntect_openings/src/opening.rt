@@ -1,5 +1,5 @@
 //! The match that opened a level.
-ghost use Rattle.std.specs.Prelude.{◌≡◌, IfOk};
+ghost use Rattle.std.specs.Prelude.{◌≡◌, ◌≤◌, ◌<◌, length, string_bytes, IfNone, IfOk, IfSome};
 ghost use Rattle.std.specs.Cmp.{partial_equiv_from_equiv};
 ghost use Rattle.syntect_contexts.specs.Substitution.{AreOnBoundaries, substituted};
 ghost use Rattle.syntect_openings.specs.Openings.{same_opening, same_opening-equiv};
@@ -7,7 +7,6 @@ ghost use Rattle.syntect_openings.specs.Openings.{same_opening, same_opening-equ
 use std::alloc::{AllocError, Global};
 use std::marker::Model;
 use syntect_grammar::syntax_definition::MatchPattern;
-use syntect_regex::regex::Regex;
 use syntect_regex::region::Region;
 use syntect_values::text::Text;
 
@@ -47,12 +46,26 @@ impl Opening {
         })
     }
 
-    /// A pattern with this match's groups for its back references.
-    pub fn substituted(&self, pattern: &MatchPattern) -> Result<Regex, AllocError>
-        ensures { IfOk result
-            (λ r. r ≡ substituted pattern.now.regex self.now.region self.now.line) }
+    /// How many bytes the match's line has.
+    pub fn line_len(&self) -> usize
+        ensures { result ≡ length self.now.line }
     {
-        pattern.regex_with_refs(&self.region, self.line.as_str())
+        self.line.len()
+    }
+
+    /// The text of a pattern with this match's groups for its back references, if it has at most so many bytes.
+    pub fn text_within(
+        &self,
+        pattern: &MatchPattern,
+        most: usize,
+    ) -> Result<Option<String>, AllocError>
+        ensures some { IfOk result (λ o. IfSome o (λ s.
+            string_bytes s ≡ substituted pattern.now.regex self.now.region self.now.line)) }
+        ensures few { IfOk result (λ o. IfSome o (λ s. length (string_bytes s) ≤ most)) }
+        ensures none { IfOk result (λ o. IfNone o
+            (most < length (substituted pattern.now.regex self.now.region self.now.line))) }
+    {
+        pattern.text_with_refs(&self.region, self.line.as_str(), most)
     }
 }
 

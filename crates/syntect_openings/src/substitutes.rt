@@ -1,15 +1,28 @@
 //! Patterns with the texts of groups put in, kept from turn to turn: such a pattern is compiled once while its context is open.
-ghost use Rattle.std.specs.Prelude.{◌≡◌, IfOk, IfSome, true};
-ghost use Rattle.syntect_contexts.specs.Substitution.{substituted};
+ghost use Rattle.std.specs.Prelude.{◌≡◌, ◌+◌, ◌≤◌, IfErr, IfOk, IfSome, OnOk, string_bytes, true};
+ghost use Rattle.syntect_meter.specs.Meter.{Advances, StopsAt};
+ghost use Rattle.syntect_openings.specs.Puts.{look_steps, make_steps, put_in, put_steps, use_steps};
 
 use crate::opening::Opening;
 use std::alloc::{AllocError, Global};
 use std::marker::Model;
 use syntect_grammar::syntax_definition::MatchPattern;
+use syntect_meter::meter::Meter;
+use syntect_meter::stop::Stop;
 use syntect_regex::regex::Regex;
 
 /// So many are kept: with one more all earlier ones are let go.
 const MOST: usize = 16;
+
+/// So many bytes that are compared, or copied, are a step.
+const READ_A_STEP: usize = 64;
+
+/// How many steps it takes at least to look for one of them, and to pass over a pattern without back references in a list where
+/// others have some.
+pub const LEAST_STEPS: usize = 8;
+
+/// How many steps a byte is that is written and made searchable, which takes as long as some of the others do.
+const STEPS_A_BYTE: usize = 4;
 
 /// A pattern with the groups of a match put in, and what it was made of. Seen as the pattern.
 #[derive(Drop)]
@@ -50,17 +63,64 @@ fn is_same_text(a: &str, b: &str) -> bool
     a == b
 }
 
+/// How many steps it takes to look whether a pattern with the groups of a match put in is kept.
+fn look_steps(pattern: &MatchPattern, opening: &Opening) -> usize
+    ensures { result ≡ look_steps pattern.now.regex opening.now }
+{
+    pattern.regex.regex_str().len() / READ_A_STEP + opening.line_len() / READ_A_STEP + LEAST_STEPS
+}
+
+/// All steps that are left are made, since they are too few.
+fn spent(meter: &mut Meter) -> Stop
+    ensures advances { Advances meter.old meter.new }
+    ensures stops { StopsAt meter.new result }
+{
+    match meter.spend(usize::MAX) {
+        Err(stop) => stop,
+        // without a limit: no memory has so many bytes
+        Ok(()) => Stop::Memory,
+    }
+}
+
+/// The text of a pattern with this match's groups put in, which is paid for. No more of it is written than can be paid for, but
+/// for one group's text.
+fn text_by_meter(
+    pattern: &MatchPattern,
+    opening: &Opening,
+    meter: &mut Meter,
+) -> Result<String, Stop>
+    ensures text { IfOk result (λ s. string_bytes s ≡ put_in pattern.now.regex opening.now) }
+    ensures made { OnOk result (meter.new.made
+        ≡ meter.old.made + make_steps (put_in pattern.now.regex opening.now)) }
+    ensures advances { Advances meter.old meter.new }
+    ensures stops { IfErr result (StopsAt meter.new) }
+{
+    let left = meter.left().unwrap_or(usize::MAX);
+    match opening.text_within(pattern, left / STEPS_A_BYTE)? {
+        Some(text) => {
+            meter.spend(text.len() * STEPS_A_BYTE)?;
+            Ok(text)
+        }
+        None => Err(spent(meter)),
+    }
+}
+
 impl Substitute {
-    /// The pattern with this match's groups put in.
+    /// The pattern with this match's groups put in. Its bytes are paid for before it is written and made searchable.
     pub fn new(
         alloc: Global,
         pattern: &MatchPattern,
         opening: &Opening,
-    ) -> Result<Substitute, AllocError>
-        ensures { IfOk result (λ s. s
-            ≡ substituted pattern.now.regex opening.now.region opening.now.line) }
+        meter: &mut Meter,
+    ) -> Result<Substitute, Stop>
+        ensures text { IfOk result (λ s. s ≡ put_in pattern.now.regex opening.now) }
+        ensures made { OnOk result (meter.new.made
+            ≡ meter.old.made + make_steps (put_in pattern.now.regex opening.now)) }
+        ensures advances { Advances meter.old meter.new }
+        ensures stops { IfErr result (StopsAt meter.new) }
     {
-        let regex = opening.substituted(pattern)?;
+        let text = text_by_meter(pattern, opening, meter)?;
+        let regex = Regex::ready(alloc, text)?;
         Ok(Substitute {
             pattern: String::from_str(alloc, pattern.regex.regex_str())?,
             opening: opening.clone(alloc)?,
@@ -78,7 +138,7 @@ impl Substitute {
     /// Whether it was made of these.
     fn is_of(&self, pattern: &MatchPattern, opening: &Opening) -> bool
         ensures { result ≡ true → self.now
-            ≡ substituted pattern.now.regex opening.now.region opening.now.line }
+            ≡ put_in pattern.now.regex opening.now }
     {
         is_same_text(self.pattern.as_str(), pattern.regex.regex_str()) && self.opening == *opening
     }
@@ -93,9 +153,9 @@ impl Substitutes {
     }
 
     /// Takes out the one that was made of these, if it is kept.
-    pub fn take(&mut self, pattern: &MatchPattern, opening: &Opening) -> Option<Substitute>
+    fn take(&mut self, pattern: &MatchPattern, opening: &Opening) -> Option<Substitute>
         ensures { IfSome result (λ s. s
-            ≡ substituted pattern.now.regex opening.now.region opening.now.line) }
+            ≡ put_in pattern.now.regex opening.now) }
     {
         for place in 0..self.kept.len() {
             if self.kept[place].is_of(pattern, opening) {
@@ -103,6 +163,33 @@ impl Substitutes {
             }
         }
         None
+    }
+
+    /// The pattern with this match's groups put in: the one that is kept, which is taken out, or else a new one. To look for it
+    /// is paid for, and so is to make it.
+    pub fn take_or_make(
+        &mut self,
+        alloc: Global,
+        pattern: &MatchPattern,
+        opening: &Opening,
+        meter: &mut Meter,
+    ) -> Result<Substitute, Stop>
+        ensures text { IfOk result (λ s. s ≡ put_in pattern.now.regex opening.now) }
+        ensures looks { OnOk result (meter.old.made + look_steps pattern.now.regex opening.now
+            + use_steps (put_in pattern.now.regex opening.now) ≤ meter.new.made) }
+        ensures steps { OnOk result (meter.new.made
+            ≤ meter.old.made + put_steps pattern.now.regex opening.now) }
+        ensures advances { Advances meter.old meter.new }
+        ensures stops { IfErr result (StopsAt meter.new) }
+    {
+        meter.spend(look_steps(pattern, opening))?;
+        match self.take(pattern, opening) {
+            Some(kept) => {
+                meter.spend(kept.regex.regex_str().len() / READ_A_STEP)?;
+                Ok(kept)
+            }
+            None => Substitute::new(alloc, pattern, opening, meter),
+        }
     }
 
     /// Keeps one more. Where there is no memory, it isn't kept. No contract says it: who keeps none is only slower.

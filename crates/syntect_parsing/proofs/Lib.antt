@@ -29,4 +29,5 @@ pub mod StateLaws
 pub mod LinkedLaws
 pub mod WorkLaws
 pub mod PrototypeLaws
+pub mod LimitLaws
 pub mod WithinLaws

@@ -11,7 +11,7 @@ use Rattle.syntect_grammar.specs.Contexts.{context_at, contexts_of}
 use Rattle.syntect_grammar.specs.Patterns.{entries, patterns_of}
 use Rattle.syntect_winner.specs.Chain.{Member, chain, in_sight, last, members, prototypes_in, chain_at}
 use Rattle.syntect_winner.specs.Engine.{dialect}
-use Rattle.syntect_winner.specs.Steps.{turn_steps, AreWithin, IsWithin}
+use Rattle.syntect_winner.specs.Steps.{turn_steps, turn_work, ArePutWithin, AreWithin, IsWithin, putting}
 use Rattle.syntect_winner.specs.Turn.{Live, Choice, Take, Skip, End, live, missing, refusal, searched_text, winner}
 use Rattle.syntect_winner.proofs.Finds.{FindsInOrder}
 use Rattle.syntect_winner.proofs.StepLaws.{more_room}
@@ -191,6 +191,10 @@ own_text m (Some x) e = rw e refl
 tested : (a b : ℕ) → a ≤ b → nat_le a b ≡ true
 tested a b l = grind (arith, nat_tests)
 
+plain_put : (m : MatchPattern) (o : Option Opening) → m.has_captures ≡ false → putting m o ≡ 0
+plain_put m None e = refl
+plain_put m (Some x) e = rw e refl
+
 module _ (set : SyntaxSet) (long most : ℕ) (all : AllWithin set long most) where
   member_within : (m : Member) → IsPlainWithin long most m.pattern → IsWithin long most m
   member_within m h =
@@ -218,12 +222,35 @@ module _ (set : SyntaxSet) (long most : ℕ) (all : AllWithin set long most) whe
   top_within p None = refl
   top_within p (Some top) = context_within p top (context_at set top.context)
 
+  -- nothing is put into plain patterns
+  all_put : (ms : List Member) → Each (OfMember (IsPlainWithin long most)) ms → ArePutWithin 0 ms
+  all_put [] h = refl
+  all_put (m ∷ ms) h = rw (plain_put m.pattern m.opening h.0.plain) (all_put ms h.1)
+
+  chain_put : (p : Position) (top : Level) (c : Context) → ArePutWithin 0 (chain set p top c)
+  chain_put p top c =
+      all_put (chain set p top c) (chain-each (IsPlainWithin long most) set p top c (λ id. patterns-each (IsPlainWithin long most) set id (λ x. own_within (entries set x) (all x))))
+
+  context_put : (p : Position) (top : Level) (o : Option Context) → ArePutWithin 0 (option_map_or (chain set p top) o [])
+  context_put p top None = refl
+  context_put p top (Some c) = chain_put p top c
+
+  pub top_put : (p : Position) (o : Option Level) → ArePutWithin 0 (option_map_or (λ top. option_map_or (chain set p top) (context_at set top.context) []) o [])
+  top_put p None = refl
+  top_put p (Some top) = context_put p top (context_at set top.context)
+
 -- ---- all searches of a line ----
+
+by_none : (turns x n : ℕ) → turns * (n * 0 + x) ≤ turns * x
+by_none turns x n = omega arith
 
 pub takes_most : (set : SyntaxSet) (line : List ℕ) → FindsInOrder dialect line → (state : Standing) (turns before after : ℕ) → TakesSteps set line state turns before after → turns ≤ most_turns set line state
     → TakesMostSteps set line state before after
 takes_most set line finds state turns before after t few each most walks all =
     let x : ℕ = turn_steps (most_patterns set line state each) most (length line) in
-    let h : after ≤ before + turns * x =
-    t (most_patterns set line state each) most (λ p r. (chains_within set each walks line finds state p r, top_within set (length line) most all (trimmed p) (last p.levels))) in
+    let n : ℕ = most_patterns set line state each in
+    let w : after ≤ before + turns * turn_work n most 0 (length line) =
+    t n most 0
+    (λ p r. (chains_within set each walks line finds state p r, top_within set (length line) most all (trimmed p) (last p.levels), top_put set (length line) most all (trimmed p) (last p.levels))) in
+    let h : after ≤ before + turns * x = omega (arith, w, by_none turns x n) in
     omega (arith, h, more_room turns (most_turns set line state) x few)

@@ -1,5 +1,5 @@
 -- Lines that are read within limits.
-use Rattle.std.proofs.Common.{◌≡◌, ◌≢◌, ℕ, ◌+◌, ◌-◌, ◌≤◌, ◌<◌, List, [], Option, Some, None, refl, sym, ap, ◌∙◌, arith}
+use Rattle.std.proofs.Common.{◌≡◌, ◌≢◌, ℕ, ◌+◌, ◌-◌, ◌≤◌, ◌<◌, List, [], length, Option, Some, None, refl, sym, ap, subst, ◌∙◌, arith}
 use Rattle.std.proofs.Common.{inl, inr}
 use Rattle.std.proofs.lemmas.Bool.{cases_lt}
 use Rattle.std.specs.Prelude.{IfSome}
@@ -15,15 +15,17 @@ use Rattle.syntect_winner.specs.declared.halt.Halt.{Halt}
 use Rattle.syntect_winner.specs.declared.halt.Halt.TheVariants as halt
 use Rattle.syntect_winner.specs.declared.position.Position.{Position}
 use Rattle.syntect_scope.specs.declared.stack.ScopeStackOp.{ScopeStackOp}
-use Rattle.syntect_parsing.specs.Line.{Step}
+use Rattle.syntect_parsing.specs.Line.{Step, Goes, Ends, turn, Reaches, here, further, at_start}
+use Rattle.syntect_parsing.specs.Scopes.{Scopes}
 use Rattle.syntect_parsing.specs.Meaning.{MayRefuse}
 use Rattle.syntect_parsing.specs.States.{Standing}
 use Rattle.syntect_parsing.specs.Step.{RefusesStep, RefusesTurn}
-use Rattle.syntect_parsing.specs.Within.{IfRefused, MayRefuseWithin, ReachesHere, ReachesLimit, StopsLineAt, UnlessStop, refusal_of, stop_of}
+use Rattle.syntect_parsing.specs.Within.{IfRefused, IsThere, KeepsLevels, MayRefuseWithin, ReachesHere, ReachesLimit, StandsAt, StopsLineAt, UnlessStop, refusal_of, stop_of}
 use Rattle.syntect_parsing.specs.Work.{UnlessWanting}
 use Rattle.syntect_parsing.specs.declared.within.ReadWithinError.{ReadWithinError}
 use Rattle.syntect_parsing.specs.declared.within.ReadWithinError.TheVariants.{Refused, LimitReached}
-use Rattle.syntect_parsing.specs.declared.within.LineLimit.TheVariants.{Steps, Turns}
+use Rattle.syntect_parsing.specs.declared.within.LineLimit.{LineLimit}
+use Rattle.syntect_parsing.specs.declared.within.LineLimit.TheVariants.{Steps, Turns, Levels, Operations}
 use Rattle.syntect_parsing.proofs.BoundLaws.{CountSoFar}
 use Rattle.syntect_parsing.proofs.Runs.{ReadSoFar, so_far-refused}
 use Rattle.syntect_parsing.proofs.WorkLaws.{unless_so}
@@ -45,9 +47,19 @@ halt-stops r (halt.Spent pattern place) e = e
 
 -- of the reading so far
 pub so_far-stopped : {set : SyntaxSet} {line : List ℕ} {state : Standing} {p : Position} {ops : List (ℕ × ScopeStackOp)} {before made shown : ℕ}
-    → ReadSoFar set line state p ops before made shown → (w : ReadWithinError) → IfRefused (RefusesTurn dialect set line p) w → state.levels ≢ [] → MayRefuseWithin dialect set line state w
-so_far-stopped s (Refused e) h n = so_far-refused s e h n
-so_far-stopped s (LimitReached l) h n = n
+    → ReadSoFar set line state p ops before made shown → (w : ReadWithinError) → IfRefused (RefusesTurn dialect set line p) w → (r : Reading) → StopsLineAt r w → state.levels ≢ [] → MayRefuseWithin dialect set line state w
+so_far-stopped s (Refused e) h r t n = so_far-refused s e h n
+so_far-stopped s (LimitReached (Steps context index place)) h r t n = (n, tt)
+so_far-stopped s (LimitReached (Turns place)) h r t n = absurd t
+so_far-stopped s (LimitReached (Levels place levels)) h r t n = absurd t
+so_far-stopped s (LimitReached (Operations place operations)) h r t n = absurd t
+
+-- where a line stands at a limit, its reading comes there
+pub stands-there : (set : SyntaxSet) (line : List ℕ) (state : Standing) (limits : Limits) (p : Position) (told many : ℕ) (l : LineLimit) → Reaches dialect set line (at_start state) p → StandsAt limits p told many l → IsThere dialect set line state l
+stands-there set line state limits p told many (Steps context index place) r s = absurd s
+stands-there set line state limits p told many (Turns place) r s = (length p.levels, record { position = p; reached = r; place_is = s.0; levels_are = refl })
+stands-there set line state limits p told many (Levels place levels) r s = record { position = p; reached = r; place_is = s.0; levels_are = s.1 }
+stands-there set line state limits p told many (Operations place operations) r s = (length p.levels, record { position = p; reached = r; place_is = s.0; levels_are = refl })
 
 pub unless_stopped : (w : ReadWithinError) (P Q : Type 0) → (P → Q) → UnlessStop P w → UnlessStop Q w
 unless_stopped (Refused e) P Q f h = unless_so e P Q f h
@@ -56,7 +68,7 @@ unless_stopped (LimitReached l) P Q f h = tt
 -- without limits
 pub may_refuse : (set : SyntaxSet) (line : List ℕ) (state : Standing) (w : ReadWithinError) → MayRefuseWithin dialect set line state w → MayRefuse dialect set line state (refusal_of w)
 may_refuse set line state (Refused e) h = h
-may_refuse set line state (LimitReached l) h = h
+may_refuse set line state (LimitReached l) h = h.0
 
 pub unless_memory : (w : ReadWithinError) (P : Type 0) → UnlessStop P w → UnlessWanting P (refusal_of w)
 unless_memory (Refused e) P h = h
@@ -91,12 +103,16 @@ pub stops-here : (limits : Limits) (turns : ℕ) (r : Reading) (w : ReadWithinEr
 stops-here limits turns r (Refused e) h = tt
 stops-here limits turns r (LimitReached (Steps context index place)) h = h
 stops-here limits turns r (LimitReached (Turns place)) h = absurd h
+stops-here limits turns r (LimitReached (Levels place levels)) h = absurd h
+stops-here limits turns r (LimitReached (Operations place operations)) h = absurd h
 
 pub reaches-limit : (limits : Limits) (turns : ℕ) (r q : Reading) (w : ReadWithinError) → r.made ≡ 0 → r.left ≡ limit_of limits.steps → Advances r q
     → ReachesHere limits turns q w → ReachesLimit limits turns q.made w
 reaches-limit limits turns r q (Refused e) z e' a h = tt
 reaches-limit limits turns r q (LimitReached (Steps context index place)) z e a h = all_steps (limit_of limits.steps) r q z e a h
 reaches-limit limits turns r q (LimitReached (Turns place)) z e a h = h
+reaches-limit limits turns r q (LimitReached (Levels place levels)) z e a h = h
+reaches-limit limits turns r q (LimitReached (Operations place operations)) z e a h = h
 
 few_room : (o : Option ℕ) (turns shown before then : ℕ) → IfSome o (λ most. shown < most) → IfSome o (λ most. most < 18446744073709551616) → (18446744073709551615 < turns → shown ≡ 18446744073709551615)
     → (turns ≤ 18446744073709551615 → shown ≡ turns) → then ≡ before + turns + 1 → IfSome o (λ most. then - before ≤ most)
@@ -130,3 +146,38 @@ few_nought (Some most) n = omega arith
 -- none before the first
 pub few_none : (limit n : ℕ) → IsWithinLimit limit (n - n)
 few_none limit n = few_nought (limit_of limit) n
+
+-- where a line stands at a limit it has reached that
+pub stands-here : {set : SyntaxSet} {line : List ℕ} {old : Standing} {p : Position} {before made shown : ℕ} → CountSoFar set line old p before made shown → (limits : Limits) (r : Reading) (many : ℕ) (l : LineLimit)
+    → IsWithinLimit limits.turns (made - before) → StandsAt limits p shown many l → ReachesHere limits (made - before) r (LimitReached l)
+stands-here c limits r many (Steps context index place) w s = absurd s
+stands-here c limits r many (Turns place) w s = all_turns c limits.turns s.1 s.2 w
+stands-here c limits r many (Levels place levels) w s = s.2
+stands-here c limits r many (Operations place operations) w s = s.2
+
+-- ---- levels ----
+
+-- where all positions that are left keep within a limit, all of the line do
+abbrev pub LevelsSoFar : SyntaxSet → List ℕ → Standing → ℕ → Position → Type 0
+LevelsSoFar set line state limit p = ((q : Position) → Reaches dialect set line p q → IsWithinLimit limit (length q.levels)) → KeepsLevels dialect set line state limit
+
+goes-on : (set : SyntaxSet) (line : List ℕ) (p q : Position) (b : List Scopes) (P : Position → Type 0) → turn dialect set line p ≡ Goes b q → P p → ((r : Position) → Reaches dialect set line q r → P r) → (r : Position) → Reaches dialect set line p r → P r
+goes-on set line p q b P e w h r here = w
+goes-on set line p q b P e w h r (further {q = z} {bytes = c} f k) =
+    let same : Goes c z ≡ Goes b q = sym f ∙ e in
+    let there : z ≡ q = cc in
+    h r (subst (λ (x : Position). Reaches dialect set line x r) there k)
+
+ends-there : (set : SyntaxSet) (line : List ℕ) (p : Position) (b : List Scopes) (after : Standing) (P : Position → Type 0) → turn dialect set line p ≡ Ends b after → P p → (r : Position) → Reaches dialect set line p r → P r
+ends-there set line p b after P e w r here = w
+ends-there set line p b after P e w r (further {q = z} {bytes = c} f k) = let no : Goes c z ≡ Ends b after = sym f ∙ e in cc
+
+pub levels-start : (set : SyntaxSet) (line : List ℕ) (state : Standing) (limit : ℕ) → LevelsSoFar set line state limit (at_start state)
+levels-start set line state limit h = h
+
+pub levels-more : (set : SyntaxSet) (line : List ℕ) (state : Standing) (limit : ℕ) (p q : Position) (b : List Scopes) → turn dialect set line p ≡ Goes b q → IsWithinLimit limit (length p.levels) → LevelsSoFar set line state limit p → LevelsSoFar set line state limit q
+levels-more set line state limit p q b e w s h = s (goes-on set line p q b (λ x. IsWithinLimit limit (length x.levels)) e w h)
+
+pub levels-end : (set : SyntaxSet) (line : List ℕ) (state : Standing) (limit : ℕ) (p : Position) (b : List Scopes) (after : Standing) → turn dialect set line p ≡ Ends b after → IsWithinLimit limit (length p.levels) → LevelsSoFar set line state limit p
+    → KeepsLevels dialect set line state limit
+levels-end set line state limit p b after e w s = s (ends-there set line p b after (λ x. IsWithinLimit limit (length x.levels)) e w)

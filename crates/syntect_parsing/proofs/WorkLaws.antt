@@ -4,7 +4,7 @@ use Rattle.std.specs.Option.{option_map_or}
 use Rattle.syntect_grammar.specs.Contexts.{context_at}
 use Rattle.syntect_winner.specs.Chain.{chain, chain_at, last}
 use Rattle.syntect_winner.specs.Engine.{dialect}
-use Rattle.syntect_winner.specs.Steps.{turn_steps, AreWithin}
+use Rattle.syntect_winner.specs.Steps.{turn_steps, turn_work, ArePutWithin, AreWithin}
 use Rattle.syntect_winner.proofs.StepLaws.{more_room}
 use Rattle.syntect_parsing.specs.Bound.{most_turns}
 use Rattle.syntect_parsing.specs.Line.{Goes, turn, Reaches, here, further, at_start}
@@ -39,11 +39,14 @@ chain_known set p top c e f =
     ∙ ap (λ (o : Option Context). option_map_or (chain set p top) o []) (sym f))
 
 pub no_steps : (set : SyntaxSet) (line : List ℕ) (p : Position) (before : ℕ) → TakesTurnSteps set line p before before
-no_steps set line p before most all = omega arith
+no_steps set line p before most put all few = omega arith
 
 -- a turn with more patterns may take more
-more_patterns : (a n most long : ℕ) → a ≤ n → turn_steps a most long ≤ turn_steps n most long
-more_patterns a n most long l = more_room (a * most) (n * most) (long + 1) (more_room a n most l)
+more_patterns : (a n most put long : ℕ) → a ≤ n → turn_work a most put long ≤ turn_work n most put long
+more_patterns a n most put long l =
+    let puts : a * put ≤ n * put = more_room a n put l in
+    let steps : turn_steps a most long ≤ turn_steps n most long = more_room (a * most) (n * most) (long + 1) (more_room a n most l) in
+    omega (arith, puts, steps)
 
 -- ---- a line so far ----
 
@@ -53,7 +56,10 @@ pub record StepsSoFar (set : SyntaxSet) (line : List ℕ) (old : Standing) (p : 
   pub took : TakesSteps set line old turns before made
 
 pub steps-start : (set : SyntaxSet) (line : List ℕ) (old : Standing) (turns before : ℕ) → StepsSoFar set line old (at_start old) turns before before
-steps-start set line old turns before = record { reached = λ q r. r; took = λ patterns most h. omega arith }
+steps-start set line old turns before = record { reached = λ q r. r; took = λ patterns most put h. omega arith }
+
+within : (made then own x : ℕ) → then ≤ made + own → own ≤ x → then ≤ made + x
+within made then own x h s = omega (arith, h, s)
 
 one_more : (turns before made then x : ℕ) → made ≤ before + turns * x → then ≤ made + x → then ≤ before + (turns + 1) * x
 one_more turns before made then x h s = omega (arith, h, s)
@@ -61,11 +67,13 @@ one_more turns before made then x h s = omega (arith, h, s)
 module _ {set : SyntaxSet} {line : List ℕ} {old : Standing} {p : Position} {turns before made then : ℕ} (s : StepsSoFar set line old p turns before made) (t : TakesTurnSteps set line (trimmed p) made then) where
   -- the searches of a turn more
   pub steps-end : (next : ℕ) → next ≡ turns + 1 → TakesSteps set line old next before then
-  steps-end next e patterns most h =
-      let x : ℕ = turn_steps patterns most (length line) in
-      let looks : (length (chain_at set (trimmed p)) ≤ patterns) × AreWithin (length line) most (chain_at set (trimmed p)) = h p (s.reached p here) in
-      let one : then ≤ made + x = omega (arith, t most looks.1, more_patterns (length (chain_at set (trimmed p))) patterns most (length line) looks.0) in
-      subst (λ (n : ℕ). then ≤ before + n * x) (sym e) (one_more turns before made then x (s.took patterns most h) one)
+  steps-end next e patterns most put h =
+      let x : ℕ = turn_work patterns most put (length line) in
+      let looks : (length (chain_at set (trimmed p)) ≤ patterns) × AreWithin (length line) most (chain_at set (trimmed p)) × ArePutWithin put (chain_at set (trimmed p)) = h p (s.reached p here) in
+      let own : then ≤ made + turn_work (length (chain_at set (trimmed p))) most put (length line) = t most put looks.1 looks.2 in
+      let room : turn_work (length (chain_at set (trimmed p))) most put (length line) ≤ x = more_patterns (length (chain_at set (trimmed p))) patterns most put (length line) looks.0 in
+      let one : then ≤ made + x = within made then _ x own room in
+      subst (λ (n : ℕ). then ≤ before + n * x) (sym e) (one_more turns before made then x (s.took patterns most put h) one)
 
   pub steps-more : (q : Position) (b : List Scopes) → turn dialect set line p ≡ Goes b q → (next : ℕ) → next ≡ turns + 1 → StepsSoFar set line old q next before then
   steps-more q b e next f = record { reached = λ r h. s.reached r (further e h); took = steps-end next f }
@@ -89,7 +97,7 @@ added before after begun made most z e s = omega (arith, z, e, s)
 
 pub steps_since : (set : SyntaxSet) (line : List ℕ) (old : Standing) (turns before after begun made : ℕ) → begun ≡ 0 → after ≡ before + made
     → TakesSteps set line old turns begun made → TakesSteps set line old turns before after
-steps_since set line old turns before after begun made z e s = λ patterns most h. added before after begun made (turns * turn_steps patterns most (length line)) z e (s patterns most h)
+steps_since set line old turns before after begun made z e s = λ patterns most put h. added before after begun made (turns * turn_work patterns most put (length line)) z e (s patterns most put h)
 
 pub most_since : (set : SyntaxSet) (line : List ℕ) (old : Standing) (before after begun made : ℕ) → begun ≡ 0 → after ≡ before + made
     → TakesMostSteps set line old begun made → TakesMostSteps set line old before after

@@ -5,7 +5,7 @@ use Rattle.syntect_grammar.specs.Patterns.{entries, patterns_of}
 use Rattle.syntect_regex.specs.Bounds.{pattern_is_linear, search_bound}
 use Rattle.syntect_winner.specs.Chain.{chain_at}
 use Rattle.syntect_winner.specs.Engine.{dialect}
-use Rattle.syntect_winner.specs.Steps.{AreWithin, turn_steps}
+use Rattle.syntect_winner.specs.Steps.{ArePutWithin, AreWithin, turn_steps, turn_work}
 use Rattle.syntect_parsing.specs.Bound.{most_turns}
 use Rattle.syntect_parsing.specs.Line.{Reaches, at_start}
 use Rattle.syntect_parsing.specs.Turn.{trimmed}
@@ -19,24 +19,26 @@ use Rattle.syntect_parsing.specs.States.{Standing}
 use Rattle.syntect_contexts.specs.declared.error.ParsingError.{ParsingError}
 use Rattle.syntect_contexts.specs.declared.error.ParsingError.TheVariants as error
 
--- Each turn of the line's reading looks at no more patterns than this; what is searched for each is linear, and a search of it
--- in the line takes no more steps than that.
-abbrev pub LooksWithin : SyntaxSet → List ℕ → Standing → ℕ → ℕ → Type 0
-LooksWithin set line state patterns most =
+-- Each turn of the line's reading looks at no more patterns than this; what is searched for each is linear, a search of it in
+-- the line takes no more steps than that, and to put the texts of groups into it no more than the last.
+abbrev pub LooksWithin : SyntaxSet → List ℕ → Standing → ℕ → ℕ → ℕ → Type 0
+LooksWithin set line state patterns most put =
     (p : Position) → Reaches dialect set line (at_start state) p
     → (length (chain_at set (trimmed p)) ≤ patterns)
     × AreWithin (length line) most (chain_at set (trimmed p))
+    × ArePutWithin put (chain_at set (trimmed p))
 
 -- from the number before the line to the one after it the searches of so many turns took at most those steps of each turn
 abbrev pub TakesSteps : SyntaxSet → List ℕ → Standing → ℕ → ℕ → ℕ → Type 0
-TakesSteps set line state turns before after = (patterns most : ℕ)
-    → LooksWithin set line state patterns most
-    → after ≤ before + turns * turn_steps patterns most (length line)
+TakesSteps set line state turns before after = (patterns most put : ℕ)
+    → LooksWithin set line state patterns most put
+    → after ≤ before + turns * turn_work patterns most put (length line)
 
 -- the same of the one turn from a position where cuts are dropped
 abbrev pub TakesTurnSteps : SyntaxSet → List ℕ → Position → ℕ → ℕ → Type 0
-TakesTurnSteps set line p before after = (most : ℕ) → AreWithin (length line) most (chain_at set p)
-    → after ≤ before + turn_steps (length (chain_at set p)) most (length line)
+TakesTurnSteps set line p before after = (most put : ℕ)
+    → AreWithin (length line) most (chain_at set p) → ArePutWithin put (chain_at set p)
+    → after ≤ before + turn_work (length (chain_at set p)) most put (length line)
 
 -- ---- a bound that the set and the line give ----
 

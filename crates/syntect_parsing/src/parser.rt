@@ -1,5 +1,5 @@
 //! Reading a line.
-ghost use Rattle.std.specs.Prelude.{◌≡◌, ◌≢◌, ◌↔◌, ◌+◌, ◌-◌, ◌≤◌, ◌<◌, ◌^◌, ℕ, [], take, Some, IfOk, IfErr, IfSome, OnOk, OnErr, IsTrue, true, false};
+ghost use Rattle.std.specs.Prelude.{◌≡◌, ◌≢◌, ◌↔◌, ◌+◌, ◌-◌, ◌≤◌, ◌<◌, ◌^◌, ℕ, [], take, Some, length, IfOk, IfErr, IfNone, IfSome, OnOk, OnErr, IsTrue, true, false};
 ghost use Rattle.std.specs.Option.{option_to_list, option_map_or};
 ghost use Rattle.syntect_scope.specs.Replay.{pushes};
 ghost use Rattle.syntect_grammar.specs.Contexts.{part_of};
@@ -10,7 +10,7 @@ ghost use Rattle.syntect_parsing.specs.Meaning.{MayLackStart, Accepts, MayRefuse
 ghost use Rattle.syntect_parsing.specs.States.{standing, turns_made, steps_made, CountsSame};
 ghost use Rattle.syntect_parsing.specs.Bound.{TakesTurns, TakesAll, TakesNoMore, IsTold, most_turns};
 ghost use Rattle.syntect_parsing.specs.Work.{TakesSteps, TakesMostSteps, UnlessMemory};
-ghost use Rattle.syntect_parsing.specs.Within.{MayRefuseWithin, ReachesHere, ReachesLimit, UnlessStopped, refusal_of};
+ghost use Rattle.syntect_parsing.specs.Within.{KeepsLevels, MayRefuseWithin, PassesLimit, ReachesHere, ReachesLimit, StandsAt, UnlessStopped, refusal_of};
 ghost use Rattle.syntect_base.specs.Limiting.{IsWithinLimit, limit_of};
 ghost use Rattle.syntect_meter.specs.Meter.{Advances};
 
@@ -147,8 +147,10 @@ impl ParseState {
     }
 
     /// Reads the next line within limits. Its answer is that of `parse_line`, unless it makes more steps or turns than `limits`
-    /// has: then it is `LimitReached`, with the limit, and the state stays, as after any refusal. No line makes more (`few_turns`,
-    /// `few_steps`), whatever its grammar's patterns are, and where a limit was reached the line had made as many (`reached`).
+    /// has, opens more contexts, or has more operations: then it is `LimitReached`, with the limit, and the state stays, as after
+    /// any refusal. No line makes more (`few_turns`, `few_steps`), whatever its grammar's patterns are, and none is accepted that
+    /// opens more or has more (`few_levels`, `few_operations`); where a limit was reached the line had made as many, or had more
+    /// (`reached`).
     pub fn parse_line_within(
         &mut self,
         alloc: Global,
@@ -179,6 +181,10 @@ impl ParseState {
             (turns_made self.new - turns_made self.old) }
         ensures few_steps { IsWithinLimit limits.now.steps
             (steps_made self.new - steps_made self.old) }
+        ensures few_levels { OnOk result (KeepsLevels dialect syntax_set.now line.now
+            (standing self.old) limits.now.levels) }
+        ensures few_operations { IfOk result (λ ops.
+            IsWithinLimit limits.now.operations (length ops.items)) }
         ensures reached { IfErr result (ReachesLimit limits.now
             (turns_made self.new - turns_made self.old)
             (steps_made self.new - steps_made self.old)) }
@@ -282,6 +288,10 @@ impl ParseState {
             (turns_made self.new - turns_made self.old) }
         ensures few_steps { IsWithinLimit limits.now.steps
             (steps_made self.new - steps_made self.old) }
+        ensures few_levels { OnOk result (KeepsLevels dialect syntax_set.now line.now
+            (standing self.old) limits.now.levels) }
+        ensures few_operations { IfOk result (λ r.
+            IsWithinLimit limits.now.operations (length r.1.items)) }
         ensures reached { IfErr result (ReachesLimit limits.now
             (turns_made self.new - turns_made self.old)
             (steps_made self.new - steps_made self.old)) }
@@ -398,6 +408,42 @@ fn has_all(turns: u64, limit: usize) -> bool
     limit != usize::MAX && turns >= limit as u64
 }
 
+/// Whether so many are more than the limit says.
+#[tactic(auto, using(crate::proofs::LimitLaws::limit_set, crate::proofs::LimitLaws::within_limit))]
+fn is_passed(many: usize, limit: usize) -> bool
+    ensures passed { result ≡ true → PassesLimit limit many }
+    ensures within { result ≡ false → IsWithinLimit limit many }
+{
+    many > limit
+}
+
+/// The limit that a line stands at after so many turns and operations, before its next turn, if it does at one.
+fn limit_at(p: &Position, turns: u64, operations: usize, limits: &Limits) -> Option<LineLimit>
+    ensures some { IfSome result (StandsAt limits.now p.now turns operations) }
+    ensures turns { IfNone result (IfSome (limit_of limits.now.turns) (λ most. turns < most)) }
+    ensures small { IfSome (limit_of limits.now.turns) (λ most. most < 2 ^ 64) }
+    ensures levels { IfNone result (IsWithinLimit limits.now.levels (length p.now.levels)) }
+    ensures operations { IfNone result (IsWithinLimit limits.now.operations operations) }
+{
+    let place = p.place;
+    let open_contexts = p.levels.len();
+    let are_made = has_all(turns, limits.turns);
+    if is_passed(operations, limits.operations) {
+        return Some(LineLimit::Operations { place, operations });
+    }
+    if is_passed(open_contexts, limits.levels) {
+        return Some(LineLimit::Levels {
+            place,
+            open_contexts,
+        });
+    }
+    if are_made {
+        Some(LineLimit::Turns { place })
+    } else {
+        None
+    }
+}
+
 /// The refusal of a line that is read without limits.
 fn refusal(e: ReadWithinError) -> ParsingError
     ensures { result ≡ refusal_of e }
@@ -447,6 +493,10 @@ fn read_line(
         regions.old.steps.made regions.new.steps.made) }
     ensures advances { Advances regions.old.steps regions.new.steps }
     ensures few_turns { IsWithinLimit limits.now.turns (count.new.made - count.old.made) }
+    ensures few_levels { OnOk result
+        (KeepsLevels dialect set.now line.now state.now limits.now.levels) }
+    ensures few_operations { IfOk result (λ r.
+        IsWithinLimit limits.now.operations (length r.1.items)) }
     ensures reached { IfErr result (ReachesHere limits.now (count.new.made - count.old.made)
         regions.new.steps) }
 {
@@ -462,9 +512,8 @@ fn read_line(
     };
     let mut turns = 0u64;
     'each: loop {
-        if has_all(turns, limits.turns) {
-            let place = p.place;
-            return Err(ReadWithinError::LimitReached(LineLimit::Turns { place }));
+        if let Some(limit) = limit_at(&p, turns, ops.len(), limits) {
+            return Err(ReadWithinError::LimitReached(limit));
         }
         turns = turns.saturating_add(1);
         match turn(alloc, set, line, &mut p, regions, &mut ops, count) {
@@ -514,6 +563,10 @@ fn read_adding(
     ensures most_steps { UnlessStopped result (TakesMostSteps set.now line.now state.now
         steps.old.made steps.new.made) }
     ensures few_turns { IsWithinLimit limits.now.turns (count.new.made - count.old.made) }
+    ensures few_levels { OnOk result
+        (KeepsLevels dialect set.now line.now state.now limits.now.levels) }
+    ensures few_operations { IfOk result (λ r.
+        IsWithinLimit limits.now.operations (length r.1.items)) }
     ensures few_steps { IsWithinLimit limits.now.steps (steps.new.made - steps.old.made) }
     ensures reached { IfErr result (ReachesLimit limits.now (count.new.made - count.old.made)
         (steps.new.made - steps.old.made)) }

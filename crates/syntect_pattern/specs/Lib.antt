@@ -11,3 +11,4 @@ pub mod Pattern
 pub mod Found
 pub mod Anchors
 pub mod NamedSets
+pub mod Folds

@@ -4,4 +4,5 @@
 pub mod anchor;
 pub mod character;
 pub mod error;
+pub mod folds;
 pub mod named;

@@ -9,9 +9,9 @@ ghost use Rattle.syntect_pattern.specs.NamedSets.{set_of_named};
 use crate::ascii::{ascii_bits, bits_of};
 use std::alloc::{AllocError, Global};
 use syntect_pattern::character::same_fold;
+use syntect_pattern::folds::pairs_of;
 use syntect_pattern::named::Named;
 use syntect_values::seq::Seq;
-use unicode::case::fold_pairs;
 
 fn is_within(low: char, high: char, c: char) -> bool
     ensures { result ≡ is_within low high c }
@@ -29,7 +29,7 @@ pub fn is_alike(low: char, high: char, c: char) -> bool
     if low == high {
         return same_fold(low, c);
     }
-    has_pair(fold_pairs(), low as u32, high as u32, c as u32)
+    has_pair(pairs_of(c), low as u32, high as u32, c as u32)
 }
 
 /// Whether a pair of the character has its other one from the first to the last.

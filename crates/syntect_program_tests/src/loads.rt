@@ -11,7 +11,10 @@ use std::rt::Files;
 use syntect::easy::HighlightFile;
 use syntect::highlighting::{Theme, ThemeSet};
 use syntect::html::highlighted_html_for_file;
-use syntect::parsing::{ParseSyntaxError, ScopeRepository, SyntaxSet};
+use syntect::parsing::{
+    FindWithinError, Limits, ParseSyntaxError, ScopeRepository, SyntaxSet, TurnCount,
+    find_syntax_for_file_within,
+};
 use syntect::{Error, LoadingError};
 
 const FILES: [File; 3] = [
@@ -202,6 +205,25 @@ fn a_script_that_is_no_text(rt: HostRuntime) {
     holds(&rt, is_unread(unopened(&rt, path.as_path(), &set)));
 }
 
+/// A grammar whose `x` pushes a context that is not there, and a file with such a line.
+const LACKING: [File; 2] = [
+    (
+        "L.sublime-syntax",
+        "name: L\nscope: source.l\nfile_extensions: [l]\ncontexts: {main: [{match: x, push: none}]}\n",
+    ),
+    ("a.l", "a\nax\n"),
+];
+
+#[test]
+fn a_file_with_a_line_that_is_refused(rt: HostRuntime) {
+    let folder = written(&rt, "syntect_refused_line", &LACKING);
+    let set = grammars_of(&rt, &folder);
+    let theme = Theme::default(rt.alloc());
+    let path = within(&rt, &folder, "a.l");
+    let page = highlighted_html_for_file(&rt, rt.alloc(), path.as_path(), &set, &theme);
+    holds(&rt, matches!(&page, Err(Error::ParsingError(_))));
+}
+
 #[test]
 fn a_grammar_that_is_no_text(rt: HostRuntime) {
     let folder = written(&rt, "syntect_grammar_bytes", &SCRIPT);
@@ -210,4 +232,40 @@ fn a_grammar_that_is_no_text(rt: HostRuntime) {
     let mut repository = ScopeRepository::new(rt.alloc());
     let set = SyntaxSet::load_from_folder(&rt, rt.alloc(), folder.as_path(), &mut repository);
     holds(&rt, matches!(set.err(), Some(LoadingError::Io(_))));
+}
+
+/// What is found for a file within the usual limits: whether there is a syntax, or whether it was not read.
+fn found_within(
+    rt: &(impl Files + AllocGlobal + Abort),
+    set: &SyntaxSet,
+    path: Path<'_>,
+    steps: usize,
+) -> Result<bool, bool> {
+    let alloc = rt.alloc();
+    let limits = Limits {
+        steps,
+        ..Limits::default()
+    };
+    let mut count = TurnCount::none();
+    match find_syntax_for_file_within(rt, alloc, set, path, &limits, &mut count) {
+        Ok(found) => Ok(found.is_some()),
+        Err(FindWithinError::Refused(e)) => Err(matches!(&e, Error::Io(_))),
+        Err(FindWithinError::LimitReached(_)) => Err(false),
+    }
+}
+
+/// A script that is told by its first line within limits, one whose first line takes more steps, and one that isn't there.
+#[test]
+fn a_script_within_limits(rt: HostRuntime) {
+    let folder = written(&rt, "syntect_script_within", &SCRIPT);
+    let set = grammars_of(&rt, &folder);
+    let path = within(&rt, &folder, "script");
+    equal(&rt, found_within(&rt, &set, path.as_path(), 1000), Ok(true));
+    equal(&rt, found_within(&rt, &set, path.as_path(), 1), Err(false));
+    let path = within(&rt, &folder, "none");
+    equal(
+        &rt,
+        found_within(&rt, &set, path.as_path(), 1000),
+        Err(true),
+    );
 }

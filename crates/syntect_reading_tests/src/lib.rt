@@ -16,6 +16,8 @@ mod pages;
 #[cfg(test)]
 mod refusals;
 #[cfg(test)]
+mod restores;
+#[cfg(test)]
 mod states;
 #[cfg(test)]
 mod turns;

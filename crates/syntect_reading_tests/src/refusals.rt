@@ -1,5 +1,6 @@
 //! Named refusals of reading, each through each call that can answer it.
 use crate::found::holds;
+use crate::within;
 use std::alloc::Global;
 use std::path::Path;
 use std::process::Abort;
@@ -51,10 +52,11 @@ fn without_a_start(rt: &impl Abort, alloc: Global) -> SyntaxSet {
     set_of(rt, alloc, definition)
 }
 
-/// The set of the grammar with the context that `x` leaves as `__start`.
-fn with_a_start_that_is_left(rt: &impl Abort, alloc: Global) -> SyntaxSet {
+/// The set of a grammar with its context `left` as `__start`.
+pub fn started_in_left(rt: &impl Abort, alloc: Global, grammar: &str) -> SyntaxSet {
     let mut repository = ScopeRepository::new(alloc);
-    let mut definition = loaded(rt, alloc, &mut repository);
+    let read = SyntaxDefinition::load_from_str(alloc, grammar, true, None, &mut repository);
+    let mut definition = read.expect(rt, "a grammar");
     let left = definition.contexts.remove(&text(rt, alloc, "left"));
     definition
         .contexts
@@ -212,7 +214,7 @@ fn a_set_that_lacks_the_context(rt: HostRuntime) {
 #[test]
 fn a_text_that_left_its_start(rt: HostRuntime) {
     let alloc = rt.alloc();
-    let set = with_a_start_that_is_left(&rt, alloc);
+    let set = started_in_left(&rt, alloc, GRAMMAR);
     let read = Reading {
         syntaxes: &set,
         set: &set,
@@ -233,6 +235,10 @@ fn a_syntax_without_a_start(rt: HostRuntime) {
     is_refused(&rt, ParseState::new(alloc, syntax).err(), &wanted);
     is_refused_line(&rt, HighlightLines::new(alloc, syntax, &theme), &wanted);
     is_refused_line(&rt, LineBuffer::new(alloc, syntax, &set, &theme), &wanted);
+    let whole = within::set_of(&rt, alloc);
+    let start = within::syntax_of(&rt, &whole);
+    let mut lines = HighlightLines::new(alloc, start, &theme).expect(&rt, "a highlighter");
+    is_refused_line(&rt, lines.begin_anew(alloc, syntax), &wanted);
     let within = LineBuffer::new_within(alloc, syntax, &set, &theme, Limits::default());
     is_refused_line(&rt, within, &wanted);
     let page = highlighted_html_for_string(alloc, "", &set, syntax, &theme);

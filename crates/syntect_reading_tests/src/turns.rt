@@ -6,6 +6,7 @@ use syntect_parsing::parser::{ParseState, turns_of_line};
 use syntect_parsing::syntax_definition::SyntaxDefinition;
 use syntect_parsing::syntax_set::{SyntaxSet, SyntaxSetBuilder};
 use syntect_scope::repository::ScopeRepository;
+use syntect_scope::stack::ScopeStackOp;
 
 /// The set of a grammar that stands alone, or beside plain text.
 fn set_of(rt: &impl Abort, alloc: Global, grammar: &str, plain_text: bool) -> SyntaxSet {
@@ -62,6 +63,10 @@ const IDLE: &str =
 const EMBED: &str =
     "name: T\nscope: source.t\ncontexts:\n  main:\n    - match: x\n      embed: scope:none\n      escape: y\n";
 
+/// A context whose sets bring the same two patterns once more each time.
+const REPEATED: &str =
+    "name: T\nscope: source.t\ncontexts:\n  main:\n    - match: <\n      push: inside\n  inside:\n    - meta_scope: meta.inside.t\n    - match: '>'\n      set: inside\n      with_prototype:\n        - match: x\n          scope: word.x.t\n        - match: ';'\n          pop: true\n";
+
 #[test]
 fn turns_of_words(rt: HostRuntime) {
     let line = " Aaaabxxx";
@@ -86,4 +91,45 @@ fn turns_of_idle_sets(rt: HostRuntime) {
 fn turns_of_an_embedded_text(rt: HostRuntime) {
     let turns = turns_of_two(&rt, rt.alloc(), EMBED, true, ("xay", ""));
     equal(&rt, turns.0, 5);
+}
+
+/// How many scopes an operation takes off, or none where it puts one on.
+fn taken(op: &ScopeStackOp) -> Option<usize> {
+    match op {
+        ScopeStackOp::Pop(count) => Some(*count),
+        _ => None,
+    }
+}
+
+/// The patterns that are there once more change nothing: the operations are the crate's.
+#[test]
+fn prototypes_that_repeat(rt: HostRuntime) {
+    let alloc = rt.alloc();
+    let set = set_of(&rt, alloc, REPEATED, false);
+    let syntax = set.find_syntax_by_name("T").expect(&rt, "a syntax");
+    let mut state = ParseState::new(alloc, syntax).expect(&rt, "an answer");
+    let ops = state
+        .parse_line(alloc, "<>>>xy;;x", &set)
+        .expect(&rt, "an answer");
+    let mut found = Vec::new(alloc);
+    for (place, op) in ops.as_slice() {
+        found.push((*place, taken(op))).expect(&rt, "memory");
+    }
+    let wanted = [
+        (0, None),
+        (0, None),
+        (1, None),
+        (2, Some(2)),
+        (2, None),
+        (2, None),
+        (3, Some(2)),
+        (3, None),
+        (3, None),
+        (4, Some(2)),
+        (4, None),
+        (4, None),
+        (5, Some(1)),
+        (7, Some(1)),
+    ];
+    equal(&rt, found.as_slice(), wanted.as_slice());
 }

@@ -6,20 +6,24 @@ use syntect::easy::{HighlightLines, HighlightWithinError};
 use syntect::highlighting::{Highlighter, Style, Theme};
 use syntect::html::{ClassStyle, ClassedHTMLGenerator};
 use syntect::parsing::{
-    Limits, LineLimit, ParseState, ReadWithinError, Regions, ScopeRepository, SyntaxDefinition,
-    SyntaxReference, SyntaxSet, SyntaxSetBuilder,
+    FindWithinError, FirstLineLimit, Limits, LineLimit, ParseState, ReadWithinError, Regions,
+    ScopeRepository, SyntaxDefinition, SyntaxReference, SyntaxSet, SyntaxSetBuilder, TurnCount,
+    find_syntax_by_first_line_within,
 };
 use syntect_parsing::syntax_definition::ContextId;
 
-/// Letters before a `b`, of which the last ones stand twice, and each `z`.
+/// Letters before a `b`, of which the last ones stand twice, and each `z`; each `x` leaves one context more open, and so does `q`.
 const GRAMMAR: &str =
-    "name: T\nscope: source.t\ncontexts:\n  main:\n    - match: z\n      scope: keyword.z\n    - match: (a*)*\\1b\n      scope: keyword.b\n";
+    "name: T\nscope: source.t\nfirst_line_match: (a*)*\\1b\ncontexts:\n  main:\n    - match: z\n      scope: keyword.z\n    - match: (a*)*\\1b\n      scope: keyword.b\n    - match: x\n      set: [main, main]\n    - match: q\n      push: main\n";
 
 /// Letters without a `b` next to them: the second pattern is tried in very many ways.
 pub const LETTERS: &str = "z aaaaaaaaaaaaaaaaaaaaaaaa b\n";
 
 /// More matches than three turns take.
 pub const MATCHES: &str = "zzzzz\n";
+
+/// Four contexts more, beside the two that the first turn leaves open.
+const SETS: &str = "xxxx\n";
 
 /// A line with a match of each.
 pub const SHORT: &str = "zaab\n";
@@ -193,6 +197,107 @@ fn a_line_of_too_many_turns(rt: HostRuntime) {
         limit: LineLimit::Turns { place: 2 },
     };
     all_reach(&rt, rt.alloc(), &set, reached);
+}
+
+/// With the second match four contexts are open.
+#[test]
+fn a_line_of_too_many_open_contexts(rt: HostRuntime) {
+    let set = set_of(&rt, rt.alloc());
+    let reached = Reached {
+        limits: Limits {
+            levels: 3,
+            ..Limits::default()
+        },
+        line: SETS,
+        limit: LineLimit::Levels {
+            place: 2,
+            open_contexts: 4,
+        },
+    };
+    all_reach(&rt, rt.alloc(), &set, reached);
+}
+
+/// The first turn makes an operation, and each match two.
+#[test]
+fn a_line_of_too_many_operations(rt: HostRuntime) {
+    let set = set_of(&rt, rt.alloc());
+    let reached = Reached {
+        limits: Limits {
+            operations: 4,
+            ..Limits::default()
+        },
+        line: MATCHES,
+        limit: LineLimit::Operations {
+            place: 2,
+            operations: 5,
+        },
+    };
+    all_reach(&rt, rt.alloc(), &set, reached);
+}
+
+/// The reader's state after a line that opens a context, and one that is shown plain; with `anew` it begins anew then.
+fn state_after_plain(rt: &impl Abort, alloc: Global, set: &SyntaxSet, anew: bool) -> ParseState {
+    let limits = Limits {
+        steps: 2000,
+        ..Limits::default()
+    };
+    let theme = Theme::default(alloc);
+    let syntax = syntax_of(rt, set);
+    let mut lines = HighlightLines::new(alloc, syntax, &theme).expect(rt, "a highlighter");
+    let read = lines.highlight_line_or_plain(alloc, "q\n", set, &limits);
+    holds(rt, read.expect(rt, "pieces").1.is_none());
+    let plain = lines.highlight_line_or_plain(alloc, LETTERS, set, &limits);
+    holds(rt, plain.expect(rt, "pieces").1.is_some());
+    if anew {
+        lines.begin_anew(alloc, syntax).expect(rt, "a start");
+    }
+    lines.state().1
+}
+
+/// After a plain line a program goes on from the state before it, or from the syntax's start.
+#[test]
+fn after_a_plain_line(rt: HostRuntime) {
+    let alloc = rt.alloc();
+    let set = set_of(&rt, alloc);
+    let mut state = ParseState::new(alloc, syntax_of(&rt, &set)).expect(&rt, "a state");
+    holds(&rt, state_after_plain(&rt, alloc, &set, true) == state);
+    let read = state.parse_line(alloc, "q\n", &set);
+    holds(&rt, read.is_ok());
+    holds(&rt, state_after_plain(&rt, alloc, &set, false) == state);
+}
+
+/// What is found by a first line within so many steps: a name, or the index of the syntax whose pattern reached the limit.
+fn found_by_line(
+    rt: &impl Abort,
+    alloc: Global,
+    line: &str,
+    steps: usize,
+) -> Result<bool, Option<FirstLineLimit>> {
+    let set = set_of(rt, alloc);
+    let limits = Limits {
+        steps,
+        ..Limits::default()
+    };
+    let mut count = TurnCount::none();
+    match find_syntax_by_first_line_within(alloc, &set, line, &limits, &mut count) {
+        Ok(found) => Ok(found.is_some()),
+        Err(FindWithinError::LimitReached(limit)) => Err(Some(limit)),
+        Err(FindWithinError::Refused(_)) => Err(None),
+    }
+}
+
+/// The letters of a first line take more steps than they may.
+#[test]
+fn a_first_line_of_too_many_steps(rt: HostRuntime) {
+    let alloc = rt.alloc();
+    let limit = FirstLineLimit { syntax: 0 };
+    equal(
+        &rt,
+        found_by_line(&rt, alloc, LETTERS, 2000),
+        Err(Some(limit)),
+    );
+    equal(&rt, found_by_line(&rt, alloc, SHORT, 2000), Ok(true));
+    equal(&rt, found_by_line(&rt, alloc, MATCHES, 2000), Ok(false));
 }
 
 /// The usual limits leave the pieces as they are, and a page too.

@@ -40,10 +40,14 @@ use syntect_seek::prospect::Prospect;
 use syntect_seek::seek::begins_known;
 use syntect_turns::count::TurnCount;
 
+/// A pattern of more bytes than this is compiled for searches when it is made, since each search would compare its text.
+const LONG: usize = 4096;
+
 /// A pattern. It is its text: equal texts are equal patterns.
 ///
 /// A text is compiled when the pattern is made, for what is asked of patterns that aren't searched, and again when it is first
-/// searched, for its program, which is kept from then on. So patterns that are never searched take little memory.
+/// searched, for its program, which is kept from then on. So patterns that are never searched take little memory. Of those of more
+/// than 4096 bytes the program is kept when they are made.
 pub struct Regex {
     body: Box<RegexBody>,
 }
@@ -128,6 +132,9 @@ impl Regex {
         // Texts that grew as they were read have up to twice the room that they need, and patterns of grammars are kept long
         let mut text = text;
         text.shrink_to_fit();
+        if text.len() > LONG {
+            return Regex::ready(alloc, text);
+        }
         let program = compile(alloc, text.as_str())?;
         let outline = Outline::new(alloc, &program)?;
         let parts = RegexBody::new(text, Kept::Late(OnceBox::new(alloc)), outline);
@@ -305,19 +312,46 @@ impl Regex {
         ensures rises { OnOk result (count.old.made ≤ count.new.made) }
         ensures counted { IfOk result (λ found. found ≡ true → count.old.made < count.new.made) }
     {
-        syntect_pattern_laws::pattern_matches_are_laid_out();
-        let Some(program) = self.program()? else {
-            return Ok(false);
-        };
-        let size = self.body.text.len();
         let mut meter = Meter::unlimited();
-        match region.find(program, size, text.split_at(end).0, begin, &mut meter) {
+        match self.search_by_meter(text, begin, end, region, &mut meter) {
             Ok(found) => {
                 add(count, meter.count());
                 Ok(found)
             }
             Err(_) => Err(AllocError),
         }
+    }
+
+    /// Searches as `search_counted` does, its steps made by the meter: where it has too few left, the search stops once it has
+    /// made them, and the region stays.
+    pub fn search_by_meter(
+        &self,
+        text: &str,
+        begin: usize,
+        end: usize,
+        region: &mut Region,
+        meter: &mut Meter,
+    ) -> Result<bool, Stop>
+        requires order { begin ≤ end }
+        requires begin_boundary { IsCharBoundary text.now begin }
+        requires end_boundary { IsCharBoundary text.now end }
+        ensures ok { IfOk result (λ found. TakesMatch
+            (pattern_found self.now (take end text.now) begin) region.old found region.new) }
+        ensures is_match { IfOk result (λ found. found ≡ true
+            → IsPatternMatch self.now (take end text.now) begin region.new) }
+        ensures err { OnErr result (region.new ≡ region.old) }
+        ensures steps { pattern_is_linear self.now ≡ true
+            → OnOk result (meter.new.made ≤ meter.old.made + search_bound self.now end) }
+        ensures advances { Advances meter.old meter.new }
+        ensures stops { IfErr result (StopsAt meter.new) }
+        ensures counted { IfOk result (λ found. found ≡ true → meter.old.made < meter.new.made) }
+    {
+        syntect_pattern_laws::pattern_matches_are_laid_out();
+        let Some(program) = self.program()? else {
+            return Ok(false);
+        };
+        let size = self.body.text.len();
+        region.find(program, size, text.split_at(end).0, begin, meter)
     }
 
     /// Whether a match begins at the place, a byte position. Where one does, the region has the groups of the first one; else,

@@ -92,7 +92,8 @@ fn guide_of(
     ensures cells { IfOk result (λ made. IfSome made (λ g.
         length g.plan.cells ≡ plan_cells (root_tree program.now))) }
     ensures hard { IfOk result (λ made. IfNone made (is_linear (root_tree program.now) ≡ false)) }
-    ensures steps { OnOk result (meter.new.made ≤ meter.old.made + plan_cells (root_tree program.now)
+    ensures steps { OnOk result (meter.new.made
+        ≤ meter.old.made + plan_cells (root_tree program.now)
         + passes (root_tree program.now) * (length text.now + 1)) }
     ensures counted { IfOk result (λ made. IfSome made (λ g. meter.old.made + length g.plan.cells
         + capped (passes (root_tree program.now)) ≤ meter.new.made)) }

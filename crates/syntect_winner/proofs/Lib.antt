@@ -1,5 +1,4 @@
 pub mod ListLaws
-pub mod LossLaws
 pub mod DialectLaws
 pub mod Finds
 pub mod Places
@@ -9,3 +8,4 @@ pub mod RunLaws
 pub mod AheadLaws
 pub mod SweepLaws
 pub mod StepLaws
+pub mod ShorterLaws

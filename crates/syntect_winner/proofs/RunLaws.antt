@@ -13,7 +13,7 @@ use Rattle.syntect_winner.specs.Ahead.{IsRun}
 use Rattle.syntect_winner.specs.Engine.{dialect}
 use Rattle.syntect_winner.specs.Turn.{searched_text}
 use Rattle.syntect_winner.specs.declared.chain.Part.{Part}
-use Rattle.syntect_winner.specs.declared.sweep.Run.{Run}
+use Rattle.syntect_winner.specs.declared.runs.Run.{Run}
 use Rattle.syntect_winner.proofs.ListLaws.{drop_at}
 
 module _ (set : SyntaxSet) (part : Part) where

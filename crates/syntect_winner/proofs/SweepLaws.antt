@@ -23,7 +23,7 @@ use Rattle.syntect_word_ends.specs.Ends.{IsRunUpTo}
 use Rattle.syntect_winner.specs.Ahead.{AddsAll, AddsAt, AddsMember, AddsRun, AllAhead, AreAhead, AreAheadFrom, AreAheadUpTo, IsAhead, IsBestAt, IsQuiet, IsRuledOut, IsRun, Reaches, Sees, list_in, run_members}
 use Rattle.syntect_winner.specs.Engine.{dialect}
 use Rattle.syntect_winner.specs.Found.{FindsInText}
-use Rattle.syntect_winner.specs.Losses.{LosesInPart, is_lost, marks_of}
+use Rattle.syntect_memory.specs.Losses.{LosesInPart, is_lost, marks_of}
 use Rattle.syntect_winner.specs.Parts.{flat_members, part_member, part_members}
 use Rattle.syntect_winner.specs.Best.{choice_by}
 use Rattle.syntect_winner.specs.Reader.{match_of, matches_of}
@@ -36,7 +36,7 @@ use Rattle.syntect_winner.specs.declared.reader.LineReader.{LineReader}
 use Rattle.syntect_winner.specs.declared.search.Best.{Best}
 use Rattle.syntect_winner.specs.declared.search.Candidate.{Candidate}
 use Rattle.syntect_winner.specs.declared.sweep.Reach.{Reach}
-use Rattle.syntect_winner.specs.declared.sweep.Run.{Run}
+use Rattle.syntect_winner.specs.declared.runs.Run.{Run}
 
 -- a run goes on with another one that begins at its end
 pub run_on : (line : List ℕ) (blank : Bool) (i j e : ℕ) → IsRunUpTo blank line i j → IsRunUpTo blank line j e → IsRunUpTo blank line i e

@@ -15,17 +15,17 @@ use Rattle.syntect_word_ends.specs.Ends.{IsRunUpTo}
 use Rattle.syntect_winner.specs.Best.{IsBest}
 use Rattle.syntect_winner.specs.Chain.{Member}
 use Rattle.syntect_winner.specs.Engine.{dialect}
-use Rattle.syntect_winner.specs.Losses.{is_lost, marks_of}
+use Rattle.syntect_memory.specs.Losses.{is_lost, marks_of}
 use Rattle.syntect_winner.specs.Parts.{flat_members, part_member, part_members}
 use Rattle.syntect_winner.specs.Reader.{match_of, matches_of, search_of}
 use Rattle.syntect_winner.specs.Turn.{Live, searched_text}
 use Rattle.syntect_winner.specs.declared.chain.Part.{Part}
 use Rattle.syntect_winner.specs.declared.reader.LineReader.{LineReader}
 use Rattle.syntect_winner.specs.declared.search.Best.{Best}
-use Rattle.syntect_winner.specs.declared.sweep.Kept.{Kept}
-use Rattle.syntect_winner.specs.declared.sweep.Kept.TheVariants as kept
+use Rattle.syntect_winner.specs.declared.runs.Kept.{Kept}
+use Rattle.syntect_winner.specs.declared.runs.Kept.TheVariants as kept
 use Rattle.syntect_winner.specs.declared.sweep.Reach.{Reach}
-use Rattle.syntect_winner.specs.declared.sweep.Run.{Run}
+use Rattle.syntect_winner.specs.declared.runs.Run.{Run}
 
 -- the patterns of a flat list, wherever it is kept
 abbrev pub list_in : Kept → List Flat

@@ -4,10 +4,10 @@ pub mod Turn
 pub mod Found
 pub mod Candidates
 pub mod Parts
+pub mod Shorter
 pub mod Reader
-pub mod Losses
 pub mod Ahead
 pub mod Best
-pub mod Steps
 pub mod Memory
+pub mod Steps
 pub mod Halt

@@ -1,6 +1,9 @@
 -- How many steps the searches of a turn take at most.
-use Rattle.std.specs.Prelude.{◌≡◌, ℕ, ◌+◌, ◌*◌, nat_le, Bool, true, ◌&&◌, List}
+use Rattle.std.specs.Prelude.{◌≡◌, ℕ, ◌+◌, ◌*◌, nat_le, Bool, true, ◌&&◌, List, Option, Some, None, if◌then◌else◌}
 use Rattle.std.specs.List.{list_all}
+use Rattle.syntect_contexts.specs.Substitution.{Opening}
+use Rattle.syntect_contexts.specs.declared.context.MatchPattern.{MatchPattern}
+use Rattle.syntect_openings.specs.Puts.{put_steps}
 use Rattle.syntect_regex.specs.Bounds.{pattern_is_linear, search_bound}
 use Rattle.syntect_winner.specs.Chain.{Member}
 use Rattle.syntect_winner.specs.Engine.{dialect}
@@ -26,3 +29,16 @@ place_steps patterns most = patterns * most
 -- the most steps of a turn with a chain of so many patterns, in a line so long: it looks at each place, and at the line's end
 abbrev pub turn_steps : ℕ → ℕ → ℕ → ℕ
 turn_steps patterns most long = place_steps patterns most * (long + 1)
+
+-- the most steps that it takes to put the texts of an opening match into a pattern: none where it has no back references
+abbrev pub putting : MatchPattern → Option Opening → ℕ
+putting m None = 0
+putting m (Some o) = if m.has_captures then put_steps m.regex o else 0
+
+-- to put the texts in takes no more for each of these
+abbrev pub ArePutWithin : ℕ → List Member → Type 0
+ArePutWithin put ms = list_all (λ m. nat_le (putting m.pattern m.opening) put) ms ≡ true
+
+-- the most steps of a turn with a chain of so many patterns, with those of the texts that are put in before it looks at a place
+abbrev pub turn_work : ℕ → ℕ → ℕ → ℕ → ℕ
+turn_work patterns most put long = patterns * put + turn_steps patterns most long

@@ -5,7 +5,7 @@ ghost use Rattle.syntect_regex.specs.Bounds.{pattern_is_linear, search_bound};
 ghost use Rattle.syntect_regex.specs.Region.{TriesAt};
 ghost use Rattle.syntect_meter.specs.Meter.{Advances, Reading, StopsAt};
 ghost use Rattle.syntect_winner.specs.Halt.{HaltsAt};
-ghost use Rattle.syntect_winner.specs.Memory.{Remembers, origin_pattern};
+ghost use Rattle.syntect_memory.specs.Memory.{Remembers, origin_pattern};
 
 use crate::halt::Halt;
 use crate::reader::LineReader;
@@ -14,8 +14,8 @@ use syntect_flats::flats::Origin;
 use syntect_meter::stop::Stop;
 use syntect_regex::regex::Regex;
 
-/// The turn halts as a search stops, in which the pattern that stands there was tried at the place.
-fn halt_at(stop: Stop, pattern: Origin, place: usize) -> Halt
+/// The turn halts as a search stops, or as a text is put in, for the pattern that stands there and at the place.
+pub fn halt_at(stop: Stop, pattern: Origin, place: usize) -> Halt
     ensures { (r : Reading) → StopsAt r stop → HaltsAt r result }
 {
     match stop {

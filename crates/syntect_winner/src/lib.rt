@@ -5,12 +5,10 @@
 pub mod chain;
 pub mod halt;
 pub mod here;
-pub mod hints;
 pub mod laws;
 pub mod level;
-pub mod losses;
-pub mod memory;
 pub mod position;
 pub mod reader;
+pub mod runs;
 pub mod search;
 pub mod sweep;

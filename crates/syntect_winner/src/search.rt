@@ -1,20 +1,24 @@
 //! Which match a turn takes.
-ghost use Rattle.std.specs.Prelude.{◌≡◌, ◌+◌, IfOk, unwrap_or, if◌then◌else◌, true, false, Some, None};
+ghost use Rattle.std.specs.Prelude.{◌≡◌, ◌+◌, ◌≤◌, IfErr, IfNone, IfOk, IfSome, OnOk, unwrap_or, if◌then◌else◌, true, false, Some, None};
 ghost use Rattle.std.specs.Option.{option_copied};
 ghost use Rattle.syntect_winner.specs.Engine.{dialect};
 ghost use Rattle.syntect_winner.specs.Turn.{searched_text, loops, counts, turns_back, char_len};
 ghost use Rattle.syntect_winner.specs.Best.{choice_by};
 ghost use Rattle.syntect_winner.specs.Candidates.{SkipsTo, text_of, chosen};
 ghost use Rattle.syntect_winner.specs.Reader.{seen_by};
+ghost use Rattle.syntect_winner.specs.Steps.{putting};
+ghost use Rattle.syntect_meter.specs.Meter.{Advances, StopsAt};
+ghost use Rattle.syntect_openings.specs.Puts.{least_steps};
 
-use crate::memory::Memory;
 use crate::position::{MOST_IDLE, MOST_LEVELS, Position};
 use crate::reader::LineReader;
 use std::alloc::{AllocError, Global};
 use std::marker::Model;
 use std::mem;
 use syntect_grammar::syntax_definition::{MatchOperation, MatchPattern};
+use syntect_memory::memory::Memory;
 use syntect_meter::meter::Meter;
+use syntect_meter::stop::Stop;
 use syntect_openings::opening::Opening;
 use syntect_openings::substitutes::{Substitute, Substitutes};
 use syntect_regex::regex::Regex;
@@ -165,15 +169,23 @@ pub fn counts(height: usize, operation: &MatchOperation, start: usize, end: usiz
     }
 }
 
-/// What is searched in place of the pattern where it uses back references and has an opening match.
+/// What is searched in place of the pattern where it uses back references and has an opening match, which is paid for.
 pub fn substituted(
     alloc: Global,
     pattern: &MatchPattern,
     opening: Option<&Opening>,
     kept: &mut Substitutes,
-) -> Result<Option<Substitute>, AllocError>
-    ensures { IfOk result (λ r. unwrap_or r pattern.now.regex
+    meter: &mut Meter,
+) -> Result<Option<Substitute>, Stop>
+    ensures text { IfOk result (λ r. unwrap_or r pattern.now.regex
         ≡ searched_text dialect pattern.now (option_copied opening.entry)) }
+    ensures steps { OnOk result (meter.new.made
+        ≤ meter.old.made + putting pattern.now (option_copied opening.entry)) }
+    ensures least { IfOk result (λ r. IfSome r (λ _.
+        meter.old.made + least_steps ≤ meter.new.made)) }
+    ensures none { IfOk result (λ r. IfNone r (meter.new.made ≡ meter.old.made)) }
+    ensures advances { Advances meter.old meter.new }
+    ensures stops { IfErr result (StopsAt meter.new) }
 {
     let Some(opening) = opening else {
         return Ok(None);
@@ -181,9 +193,9 @@ pub fn substituted(
     if !pattern.has_captures {
         return Ok(None);
     }
-    match kept.take(pattern, opening) {
-        Some(substitute) => Ok(Some(substitute)),
-        None => Ok(Some(Substitute::new(alloc, pattern, opening)?)),
+    match kept.take_or_make(alloc, pattern, opening, meter) {
+        Ok(substitute) => Ok(Some(substitute)),
+        Err(stop) => Err(stop),
     }
 }
 

@@ -1,39 +1,34 @@
 //! What a turn finds: it goes place by place, and tries at each the patterns that can begin there, in the order of the chain.
-ghost use Rattle.std.specs.Prelude.{◌≡◌, ◌≤◌, ◌<◌, ◌+◌, ◌*◌, Bool, List, ℕ, length, map, IfErr, IfOk, OnOk, Some, None, true, false, slice_index_or, unwrap_or};
+ghost use Rattle.std.specs.Prelude.{◌≡◌, ◌≤◌, ◌<◌, ◌+◌, ◌*◌, Bool, List, ℕ, length, IfErr, IfOk, OnOk, Some, None, true, false, slice_index_or, unwrap_or};
 ghost use Rattle.std.specs.Option.{option_copied};
 ghost use Rattle.std.specs.List.{All, flat_map};
-ghost use Rattle.syntect_contexts.specs.declared.context.MatchPattern.{MatchPattern as APattern};
-ghost use Rattle.syntect_flats.specs.Slims.{origin_of};
-ghost use Rattle.syntect_grammar.specs.Flats.{AreFlatsOf, pattern_at};
 ghost use Rattle.syntect_pattern.specs.Matches.{is_word_edge};
 ghost use Rattle.syntect_pattern_table.specs.Starts.{start_at};
 ghost use Rattle.syntect_word_ends.specs.Ends.{IsRunUpTo};
-ghost use Rattle.syntect_winner.specs.declared.sweep.Run.{Run as ARun};
-ghost use Rattle.syntect_winner.specs.Ahead.{AddsAll, AddsAt, AddsMember, AddsRun, AllAhead, AreAhead, AreAheadFrom, AreReplaced, BeginIn, IsAhead, IsBestAt, IsRuledOut, IsRun, Reaches, Sees, list_in, run_members};
+ghost use Rattle.syntect_winner.specs.declared.runs.Run.{Run as ARun};
+ghost use Rattle.syntect_winner.specs.Ahead.{AddsAll, AddsAt, AddsMember, AddsRun, AllAhead, AreAhead, AreAheadFrom, BeginIn, IsAhead, IsBestAt, IsRuledOut, IsRun, Reaches, Sees, list_in, run_members};
 ghost use Rattle.syntect_winner.specs.Best.{choice_by};
 ghost use Rattle.syntect_winner.specs.Candidates.{member_of};
 ghost use Rattle.syntect_winner.specs.Engine.{dialect};
 ghost use Rattle.syntect_meter.specs.Meter.{Advances};
 ghost use Rattle.syntect_winner.specs.Halt.{HaltsAt};
-ghost use Rattle.syntect_winner.specs.Losses.{LosesAtMost, LosesInPart, marks_of};
-ghost use Rattle.syntect_winner.specs.Memory.{Remembers, origin_pattern};
+ghost use Rattle.syntect_memory.specs.Losses.{LosesAtMost, LosesInPart, marks_of};
+ghost use Rattle.syntect_memory.specs.Memory.{Remembers, origin_pattern};
 ghost use Rattle.syntect_winner.specs.Parts.{part_members};
 ghost use Rattle.syntect_winner.specs.Reader.{AreGroupsBy, matches_of};
-ghost use Rattle.syntect_winner.specs.Steps.{AreWithin, IsWithin, place_steps, turn_steps};
+ghost use Rattle.syntect_winner.specs.Steps.{ArePutWithin, AreWithin, IsWithin, place_steps, turn_steps, turn_work};
 ghost use Rattle.syntect_winner.specs.Turn.{Live, searched_text, winner};
 
 use crate::chain::Part;
 use crate::halt::Halt;
 use crate::here::is_here;
 use crate::laws::dialect_finds_in_text;
-use crate::losses::Losses;
 use crate::reader::LineReader;
-use crate::search::{Best, Candidate, Entry, OwnRegex, Regions, counts, led_by, substituted};
+use crate::runs::{Run, keep_replaced, list_in, runs_of};
+use crate::search::{Best, Candidate, Entry, OwnRegex, Regions, counts, led_by};
 use std::alloc::{AllocError, Global};
 use syntect_flats::flats::{Flat, Origin, Outlook};
-use syntect_flats::list::FlatList;
-use syntect_grammar::syntax_definition::MatchPattern;
-use syntect_openings::substitutes::{Substitute, Substitutes};
+use syntect_memory::losses::Losses;
 use syntect_pattern::anchor::Anchor;
 use syntect_pattern_table::starts::{Places, either, is_in, nowhere, start_at};
 use syntect_regex::regex::Regex;
@@ -46,109 +41,6 @@ const PLACES: usize = 32;
 
 /// How many bytes farther each time.
 const FAR: usize = 8192;
-
-/// A flat list: one that the set keeps, or one of this turn alone.
-#[derive(Drop)]
-pub enum Kept<'s> {
-    Lent(&'s FlatList),
-    Own(Box<FlatList>),
-}
-
-/// A part of the chain with the patterns that it stands for.
-#[derive(Drop)]
-pub struct Run<'s, 'p> {
-    pub part: Part<'p>,
-    pub flats: Kept<'s>,
-    /// What is searched in place of each pattern; empty where each is searched as it stands.
-    pub replaced: Vec<Option<Substitute>>,
-}
-
-/// The list itself.
-fn list_in<'k>(kept: &'k Kept<'_>) -> &'k FlatList
-    ensures { result.now ≡ list_in kept.now }
-{
-    match kept {
-        Kept::Lent(flats) => flats,
-        Kept::Own(flats) => &**flats,
-    }
-}
-
-/// What is searched in place of the pattern that stands at a place, if it uses back references.
-fn replacement(
-    reader: &LineReader<'_, '_>,
-    part: &Part<'_>,
-    origin: Origin,
-    kept: &mut Substitutes,
-) -> Result<Option<Substitute>, AllocError>
-    ensures { IfOk result (λ r. (flat : Flat) (m : APattern) → origin_of flat ≡ origin
-        → pattern_at reader.now.set.now flat ≡ Some m
-        → unwrap_or r m.regex ≡ searched_text dialect m (option_copied part.now.opening)) }
-{
-    match reader.set.pattern_at(origin) {
-        Some(pattern) => substituted(reader.alloc, pattern, part.opening, kept),
-        None => Ok(None),
-    }
-}
-
-/// What is searched in place of each pattern of a part; nothing where each is searched as it stands.
-fn replaced_in(
-    reader: &LineReader<'_, '_>,
-    part: &Part<'_>,
-    flats: &FlatList,
-    kept: &mut Substitutes,
-) -> Result<Vec<Option<Substitute>>, AllocError>
-    requires { AreFlatsOf reader.now.set.now part.now.id flats.now }
-    ensures { IfOk result (λ v. AreReplaced reader.now.set.now part.now flats.now v.items) }
-{
-    let mut replaced = Vec::new(reader.alloc);
-    if part.opening.is_none() || !flats.has_captures() {
-        return Ok(replaced);
-    }
-    for index in 0..flats.len() {
-        replaced.push(replacement(reader, part, flats.origin_at(index), kept)?)?;
-    }
-    Ok(replaced)
-}
-
-/// A part with its patterns.
-fn run_of<'s, 'p>(
-    reader: &LineReader<'s, '_>,
-    part: &Part<'p>,
-    kept: &mut Substitutes,
-) -> Result<Run<'s, 'p>, AllocError>
-    ensures part { IfOk result (λ r. r.part ≡ part.now) }
-    ensures run { IfOk result (IsRun reader.now.set.now) }
-{
-    let flats = match reader.set.flats_of(part.id) {
-        Some(flats) => Kept::Lent(flats),
-        None => {
-            let walked = reader.set.flats_walked(reader.alloc, part.id)?;
-            Kept::Own(Box::new(reader.alloc, walked)?)
-        }
-    };
-    let replaced = replaced_in(reader, part, list_in(&flats), kept)?;
-    Ok(Run {
-        part: *part,
-        flats,
-        replaced,
-    })
-}
-
-/// The parts of a chain with their patterns.
-fn runs_of<'s, 'p>(
-    reader: &LineReader<'s, '_>,
-    parts: &[Part<'p>],
-    kept: &mut Substitutes,
-) -> Result<Vec<Run<'s, 'p>>, AllocError>
-    ensures parts { IfOk result (λ v. map (λ r. r.part) v.items ≡ parts.now) }
-    ensures runs { IfOk result (λ v. All (IsRun reader.now.set.now) v.items) }
-{
-    let mut runs = Vec::with_capacity(reader.alloc, parts.len())?;
-    for part in parts {
-        runs.push(run_of(reader, part, kept)?)?;
-    }
-    Ok(runs)
-}
 
 /// Whether no word begins or ends at the place.
 fn is_off_edges(line: &str, place: usize) -> bool
@@ -544,18 +436,8 @@ fn best_of_runs<'s>(
     }
 }
 
-/// Keeps what was searched in place of patterns for later turns.
-fn keep_replaced(runs: Vec<Run<'_, '_>>, kept: &mut Substitutes) {
-    for run in runs {
-        for replaced in run.replaced {
-            if let Some(substitute) = replaced {
-                kept.put(substitute);
-            }
-        }
-    }
-}
-
-/// What a chain has. What is searched in its patterns' places is kept for later turns. Steps of linear patterns are within a bound.
+/// What a chain has. What is searched in its patterns' places is paid for, and kept for later turns. Steps of linear patterns are
+/// within a bound.
 pub fn best_of_chain<'s>(
     reader: &LineReader<'s, '_>,
     parts: &[Part<'_>],
@@ -568,15 +450,16 @@ pub fn best_of_chain<'s>(
         (matches_of reader.now (flat_map (part_members reader.now.set.now) parts.now))) }
     ensures known { OnOk result
         (Remembers reader.now.set.now reader.now.line.now regions.new.memory) }
-    ensures steps { (w : ℕ) → AreWithin (length reader.now.line.now) w
+    ensures steps { (w put : ℕ) → AreWithin (length reader.now.line.now) w
         (flat_map (part_members reader.now.set.now) parts.now)
+        → ArePutWithin put (flat_map (part_members reader.now.set.now) parts.now)
         → OnOk result (regions.new.steps.made ≤ regions.old.steps.made
-        + turn_steps (length (flat_map (part_members reader.now.set.now) parts.now)) w
+        + turn_work (length (flat_map (part_members reader.now.set.now) parts.now)) w put
         (length reader.now.line.now)) }
     ensures advances { Advances regions.old.steps regions.new.steps }
     ensures halts { IfErr result (HaltsAt regions.new.steps) }
 {
-    let runs = runs_of(reader, parts, &mut regions.substitutes)?;
+    let runs = runs_of(reader, parts, &mut regions.substitutes, &mut regions.steps)?;
     let found = best_of_runs(reader, runs.as_slice(), regions)?;
     keep_replaced(runs, &mut regions.substitutes);
     Ok(found)

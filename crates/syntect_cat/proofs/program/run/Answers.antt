@@ -3,7 +3,7 @@ use Rattle.std.specs.Prelude.{Some, None}
 use Rattle.syntect_cat.specs.Shown.{IsShown}
 use Rattle.syntect_cat.specs.Faults.{usage_line}
 use Rattle.syntect_cat.proofs.ShownLaws.{asked_for, reason_for, told_of, told_writing, writing_told}
-use Rattle.syntect_cat.proofs.TextLaws.{never_none, never_some, told_of_line}
+use Rattle.syntect_cat.proofs.TextLaws.{never_none, never_some, told_of_limits}
 use Rattle.syntect_cat.proofs.WriteLaws.{line_begun}
 use Rattle.syntect_cat.proofs.program.run.Goals as goal
 
@@ -33,12 +33,11 @@ returns-in-Ok-None-clause-shown g c = λ _.
 pub returns-in-Ok-Some-clause-shown : goal.returns-in-Ok-Some-clause-shown
 returns-in-Ok-Some-clause-shown g c = λ _.
     let s = c.in-Ok-Some.ensures.shown in
-    let shown = subst (IsShown c.in-Some.job.folder.now c.in-Some.job.format c.in-Some.job.file.now s.0) c.in-Ok-Some.field-0-is s.1 in
-    let told = c.tell_of_plain.ensures in (
+    let shown = subst (IsShown c.in-Some.job.folder.now c.in-Some.job.format c.in-Some.job.file.now s.0) c.in-Ok-Some.field-0-is s.1 in (
       s.0,
-      Some c.in-Ok-Some.line,
-      asked_for (map string_bytes c.args.words.now) c.in-Some.job s.0 (Some c.in-Ok-Some.line) c.in-Some.ensures.some shown,
+      Some c.in-Ok-Some.note,
+      asked_for (map string_bytes c.args.words.now) c.in-Some.job s.0 (Some c.in-Ok-Some.note) c.in-Some.ensures.some shown,
       s.2,
-      λ e. absurd (never_none c.in-Ok-Some.line e),
-      λ line e. told_of_line (g.E.Write.contents c.args.err.now) (g.E.Write.contents c.tell_of_plain.new.err) c.in-Ok-Some.line line e told,
+      λ e. absurd (never_none c.in-Ok-Some.note e),
+      λ n e. told_of_limits (g.E.Write.contents c.args.err.now) (g.E.Write.contents c.tell_note.new.err) c.in-Ok-Some.note n e c.tell_note.ensures,
     )

@@ -1,13 +1,14 @@
-use Rattle.std.proofs.Common.{◌+◌, arith, false, refl, rules}
+use Rattle.std.proofs.Common.{◌≡◌, ◌+◌, arith, false, length, refl, rules}
 use Rattle.syntect_meter.proofs.MeterLaws.{advances-none, advances-on}
 use Rattle.syntect_winner.specs.Engine.{dialect}
 use Rattle.syntect_winner.proofs.Finds.{finds_in_order}
+use Rattle.syntect_parsing.specs.Line.{here}
 use Rattle.syntect_parsing.proofs.Falls.{goes_falls}
 use Rattle.syntect_parsing.proofs.BoundLaws.{count-end, count-passed, count-refused, count-bound, count-told}
 use Rattle.syntect_parsing.proofs.PrototypeLaws.{takes_most}
 use Rattle.syntect_parsing.proofs.WorkLaws.{few_since, no_fewer_since, one_since, steps-end, steps-more, steps-start}
 use Rattle.syntect_parsing.proofs.Runs.{so_far-start, so_far-more, so_far-end}
-use Rattle.syntect_parsing.proofs.WithinLaws.{all_turns, few_more, few_none, so_far-stopped, stops-here, unless_stopped}
+use Rattle.syntect_parsing.proofs.WithinLaws.{few_more, few_none, levels-end, levels-more, levels-start, so_far-stopped, stands-here, stands-there, stops-here, unless_stopped}
 use Rattle.syntect_parsing.proofs.parser.read_line.Goals as goal
 
 pub each-init : goal.each-init
@@ -17,10 +18,11 @@ each-init c = record {
   advances = advances-none c.args.regions.now.steps;
   few = few_none c.args.limits.now.turns c.args.count.now.made;
   steps = rw c.in-Ok-at_start.ensures (steps-start c.args.set.now c.args.line.now c.args.state.now _ c.args.regions.now.steps.made);
+  levels = rw c.in-Ok-at_start.ensures (levels-start c.args.set.now c.args.line.now c.args.state.now c.args.limits.now.levels);
 }
 
 pub returns-in-Err-turn-clause-refused : goal.returns-in-Err-turn-clause-refused
-returns-in-Err-turn-clause-refused c = so_far-stopped c.each.invariant.read c.in-Err-turn.e c.in-Err-turn.ensures.refused c.requires
+returns-in-Err-turn-clause-refused c = so_far-stopped c.each.invariant.read c.in-Err-turn.e c.in-Err-turn.ensures.refused c.turn.new.regions.steps c.in-Err-turn.ensures.stops c.requires
 
 pub each-smaller : goal.each-smaller
 each-smaller c =
@@ -37,8 +39,9 @@ each-preserved c =
           (goes_falls dialect c.args.line.now (finds_in_order dialect c.dialect_finds_in_text.ensures c.args.line.now c.utf8.line) c.args.set.now c.each.p c.turn.new.p t.bytes
           c.each.invariant.read.within c.each.invariant.read.few t.goes) c.turn.new.count.made c.turn.ensures.counted _ (search rules);
       advances = advances-on _ _ _ c.each.invariant.advances c.turn.ensures.advances;
-      few = few_more c.each.invariant.read.count c.args.limits.now.turns (c.has_all.ensures.more c.if-has_all.false) c.has_all.ensures.small c.turn.new.count.made c.turn.ensures.counted;
+      few = few_more c.each.invariant.read.count c.args.limits.now.turns (rw c.in_default.is at c.limit_at.ensures.turns) c.limit_at.ensures.small c.turn.new.count.made c.turn.ensures.counted;
       steps = steps-more c.each.invariant.steps c.in-Ok-true.ensures.steps c.turn.new.p t.bytes t.goes _ (one_since c.each.invariant.read.count c.turn.new.count.made c.turn.ensures.counted);
+      levels = levels-more c.args.set.now c.args.line.now c.args.state.now c.args.limits.now.levels c.each.p c.turn.new.p t.bytes t.goes (rw c.in_default.is at c.limit_at.ensures.levels) c.each.invariant.levels;
     }
 
 pub returns-clause-accepted : goal.returns-clause-accepted
@@ -97,28 +100,40 @@ returns-in-Err-turn-clause-advances c = advances-on _ _ _ c.each.invariant.advan
 
 pub returns-clause-few_turns : goal.returns-clause-few_turns
 returns-clause-few_turns c =
-    few_more c.each.invariant.read.count c.args.limits.now.turns (c.has_all.ensures.more c.if-has_all.false) c.has_all.ensures.small c.turn.new.count.made c.turn.ensures.counted
+    few_more c.each.invariant.read.count c.args.limits.now.turns (rw c.in_default.is at c.limit_at.ensures.turns) c.limit_at.ensures.small c.turn.new.count.made c.turn.ensures.counted
 
 pub returns-in-Err-turn-clause-few_turns : goal.returns-in-Err-turn-clause-few_turns
 returns-in-Err-turn-clause-few_turns c =
-    few_more c.each.invariant.read.count c.args.limits.now.turns (c.has_all.ensures.more c.if-has_all.false) c.has_all.ensures.small c.turn.new.count.made c.turn.ensures.counted
+    few_more c.each.invariant.read.count c.args.limits.now.turns (rw c.in_default.is at c.limit_at.ensures.turns) c.limit_at.ensures.small c.turn.new.count.made c.turn.ensures.counted
 
 pub returns-in-Err-turn-clause-reached : goal.returns-in-Err-turn-clause-reached
 returns-in-Err-turn-clause-reached c = stops-here c.args.limits.now _ c.turn.new.regions.steps c.in-Err-turn.e c.in-Err-turn.ensures.stops
 
-pub returns-then-has_all-clause-refused : goal.returns-then-has_all-clause-refused
-returns-then-has_all-clause-refused c = c.requires
+pub returns-clause-few_levels : goal.returns-clause-few_levels
+returns-clause-few_levels c =
+    let t = rw c.in-Ok-false.field-0-test at c.in-Ok-false.ensures.turns in
+    levels-end c.args.set.now c.args.line.now c.args.state.now c.args.limits.now.levels c.each.p t.bytes (record { levels = c.turn.new.p.levels; cuts = c.turn.new.p.cuts; first_line = false }) t.ends (rw c.in_default.is at c.limit_at.ensures.levels) c.each.invariant.levels
 
-pub returns-then-has_all-clause-no_more : goal.returns-then-has_all-clause-no_more
-returns-then-has_all-clause-no_more c = count-passed c.each.invariant.read.count c.requires
+pub returns-in-Some-clause-refused : goal.returns-in-Some-clause-refused
+returns-in-Some-clause-refused c = (
+  c.requires,
+  stands-there c.args.set.now c.args.line.now c.args.state.now c.args.limits.now c.each.p c.each.turns _ c.in-Some.limit (c.each.invariant.steps.reached c.each.p here) c.in-Some.ensures.some,
+)
 
-pub returns-then-has_all-clause-bound : goal.returns-then-has_all-clause-bound
-returns-then-has_all-clause-bound c = let b = count-bound c.each.invariant.read.count (c.each.count.made + 1) refl in omega (arith, b)
+pub returns-in-Some-clause-no_more : goal.returns-in-Some-clause-no_more
+returns-in-Some-clause-no_more c = count-passed c.each.invariant.read.count c.requires
 
-pub returns-then-has_all-clause-no_fewer : goal.returns-then-has_all-clause-no_fewer
-returns-then-has_all-clause-no_fewer c = omega (arith, c.each.invariant.read.count.counted)
+pub returns-in-Some-clause-bound : goal.returns-in-Some-clause-bound
+returns-in-Some-clause-bound c = let b = count-bound c.each.invariant.read.count (c.each.count.made + 1) refl in omega (arith, b)
 
-pub returns-then-has_all-clause-reached : goal.returns-then-has_all-clause-reached
-returns-then-has_all-clause-reached c =
-    let a = c.has_all.ensures.all c.if-has_all.true in
-    all_turns c.each.invariant.read.count c.args.limits.now.turns a.0 a.1 c.each.invariant.few
+pub returns-in-Some-clause-no_fewer : goal.returns-in-Some-clause-no_fewer
+returns-in-Some-clause-no_fewer c = omega (arith, c.each.invariant.read.count.counted)
+
+pub returns-in-Some-clause-reached : goal.returns-in-Some-clause-reached
+returns-in-Some-clause-reached c = stands-here c.each.invariant.read.count c.args.limits.now c.each.regions.steps _ c.in-Some.limit c.each.invariant.few c.in-Some.ensures.some
+
+pub returns-clause-few_operations : goal.returns-clause-few_operations
+returns-clause-few_operations c =
+    let t = rw c.in-Ok-false.field-0-test at c.in-Ok-false.ensures.turns in
+    let n : c.len.result ≡ length c.each.ops.items = search rules in
+    rw t.unchanged (rw (c.in_default.is, n) at c.limit_at.ensures.operations)

@@ -4,6 +4,7 @@ use Rattle.syntect_meter.specs.Meter.{Advances}
 use Rattle.syntect_winner.specs.Memory.{Remembers}
 use Rattle.syntect_parsing.specs.Step.{turns_left}
 use Rattle.syntect_parsing.proofs.Runs.{ReadSoFar}
+use Rattle.syntect_parsing.proofs.WithinLaws.{LevelsSoFar}
 use Rattle.syntect_parsing.proofs.WorkLaws.{StepsSoFar}
 use Rattle.syntect_parsing.proofs.parser.read_line.Given as goal
 
@@ -14,6 +15,7 @@ invariant-each l = record {
   advances : Advances l.fn.regions.steps l.regions.steps;
   few : IsWithinLimit l.limits.turns (l.count.made - l.fn.count.made);
   steps : StepsSoFar l.set l.line l.state l.p (l.count.made - l.fn.count.made) l.fn.regions.steps.made l.regions.steps.made;
+  levels : LevelsSoFar l.set l.line l.state l.limits.levels l.p;
 }
 
 abbrev pub decreases-each : goal.decreases-each

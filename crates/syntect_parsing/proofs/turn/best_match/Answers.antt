@@ -2,7 +2,7 @@ use Rattle.std.proofs.Common.{rules, ◌≡◌, sym, ◌+◌, ◌≤◌, List, l
 use Rattle.std.specs.List.{flat_map}
 use Rattle.syntect_winner.specs.Chain.{Member, chain_at}
 use Rattle.syntect_winner.specs.Parts.{seen_part, part_members}
-use Rattle.syntect_winner.specs.Steps.{AreWithin, turn_steps}
+use Rattle.syntect_winner.specs.Steps.{ArePutWithin, AreWithin, turn_work}
 use Rattle.syntect_winner.proofs.PartLaws.{parts_make_chain}
 use Rattle.syntect_parsing.proofs.ChainLaws.{chain_wins, chain_steps}
 use Rattle.syntect_parsing.proofs.WorkLaws.{chain_known}
@@ -23,10 +23,11 @@ returns-clause-wins c =
     (ap (map seen_part) c.as_slice-2.ensures.value ∙ c.in_ok-parts.ensures))) c.in_ok-best_of_chain.ensures.best
 
 pub returns-clause-steps : goal.returns-clause-steps
-returns-clause-steps c = λ most all.
+returns-clause-steps c = λ most put all few.
     let same : flat_map (part_members c.args.reader.now.set.now) c.as_slice-2.result.now ≡ chain_at c.args.reader.now.set.now c.args.reader.now.position.now =
     parts_make_chain c.args.reader.now.set.now c.args.reader.now.position.now c.in-Some.top.now c.in-Some-context_at.context.now c.as_slice-2.result.now
     (ap (map seen_part) c.as_slice-2.ensures.value ∙ c.in_ok-parts.ensures)
     ∙ chain_known c.args.reader.now.set.now c.args.reader.now.position.now c.in-Some.top.now c.in-Some-context_at.context.now (search rules) (search rules) in
-    subst (λ (ms : List Member). c.best_of_chain.new.regions.steps.made ≤ c.args.regions.now.steps.made + turn_steps (length ms) most (length c.args.reader.now.line.now)) same
-    (c.in_ok-best_of_chain.ensures.steps most (subst (λ (ms : List Member). AreWithin (length c.args.reader.now.line.now) most ms) (sym same) all))
+    subst (λ (ms : List Member). c.best_of_chain.new.regions.steps.made ≤ c.args.regions.now.steps.made + turn_work (length ms) most put (length c.args.reader.now.line.now)) same
+    (c.in_ok-best_of_chain.ensures.steps most put (subst (λ (ms : List Member). AreWithin (length c.args.reader.now.line.now) most ms) (sym same) all)
+    (subst (λ (ms : List Member). ArePutWithin put ms) (sym same) few))

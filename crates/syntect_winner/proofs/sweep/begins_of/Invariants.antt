@@ -1,7 +1,7 @@
 use Rattle.std.proofs.Common.{◌≡◌, ◌<◌, ℕ, get_or, length, false}
 use Rattle.syntect_pattern_table.specs.Starts.{is_in}
 use Rattle.syntect_winner.specs.Ahead.{IsQuiet}
-use Rattle.syntect_winner.specs.declared.sweep.Run.{Run}
+use Rattle.syntect_winner.specs.declared.runs.Run.{Run}
 use Rattle.syntect_winner.proofs.sweep.begins_of.Given as goal
 
 abbrev pub invariant-loop-run : goal.invariant-loop-run

@@ -1,8 +1,8 @@
-use Rattle.std.proofs.Common.{arith, length, subst, sym, take}
+use Rattle.std.proofs.Common.{length, subst, sym, take}
 use Rattle.std.specs.List.{flat_map}
-use Rattle.syntect_meter.proofs.MeterLaws.{advances-none, advances-on}
+use Rattle.syntect_meter.proofs.MeterLaws.{advances-on}
 use Rattle.syntect_winner.specs.Ahead.{IsRun, run_members}
-use Rattle.syntect_winner.specs.Losses.{marks_of}
+use Rattle.syntect_memory.specs.Losses.{marks_of}
 use Rattle.syntect_winner.specs.Reader.{matches_of}
 use Rattle.syntect_winner.proofs.SweepLaws.{marks_behind, one_ahead, runs_ahead, runs_more}
 use Rattle.syntect_winner.proofs.StepLaws.{runs_done, runs_spent, within_run}

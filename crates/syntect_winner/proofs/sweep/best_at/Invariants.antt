@@ -2,8 +2,8 @@ use Rattle.std.proofs.Common.{◌≡◌, ℕ, ◌+◌, ◌≤◌, length, take, 
 use Rattle.std.specs.List.{flat_map}
 use Rattle.syntect_meter.specs.Meter.{Advances}
 use Rattle.syntect_winner.specs.Ahead.{AllAhead, IsBestAt, run_members}
-use Rattle.syntect_winner.specs.Losses.{marks_of}
-use Rattle.syntect_winner.specs.Memory.{Remembers}
+use Rattle.syntect_memory.specs.Losses.{marks_of}
+use Rattle.syntect_memory.specs.Memory.{Remembers}
 use Rattle.syntect_winner.specs.Reader.{AreGroupsBy, matches_of}
 use Rattle.syntect_winner.specs.Steps.{AreWithin, place_steps}
 use Rattle.syntect_winner.proofs.SweepLaws.{AheadUpTo}

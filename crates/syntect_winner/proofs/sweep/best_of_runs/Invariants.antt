@@ -2,7 +2,7 @@ use Rattle.std.proofs.Common.{ℕ, ◌+◌, ◌*◌, ◌≤◌, ◌-◌, length}
 use Rattle.std.specs.List.{flat_map}
 use Rattle.syntect_meter.specs.Meter.{Advances}
 use Rattle.syntect_winner.specs.Ahead.{AllAhead, Reaches, run_members}
-use Rattle.syntect_winner.specs.Memory.{Remembers}
+use Rattle.syntect_memory.specs.Memory.{Remembers}
 use Rattle.syntect_winner.specs.Steps.{AreWithin, place_steps, turn_steps}
 use Rattle.syntect_winner.proofs.sweep.best_of_runs.Given as goal
 

@@ -1,7 +1,7 @@
 use Rattle.std.proofs.Common.{◌≤◌, ◌-◌, Bool, List, length}
 use Rattle.std.specs.List.{All}
 use Rattle.syntect_winner.specs.Ahead.{AllAhead, BeginIn, IsRun}
-use Rattle.syntect_winner.specs.declared.sweep.Run.{Run}
+use Rattle.syntect_winner.specs.declared.runs.Run.{Run}
 use Rattle.syntect_winner.proofs.sweep.next_place.Given as goal
 
 abbrev pub invariant-loop-next : goal.invariant-loop-next

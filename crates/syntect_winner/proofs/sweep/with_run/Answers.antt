@@ -1,7 +1,7 @@
 use Rattle.std.proofs.Common.{◌∙◌, ◌+◌, ◌-◌, ◌++◌, ap, length, take, inl, inr, refl, arith}
 use Rattle.syntect_meter.proofs.MeterLaws.{advances-none, advances-on}
 use Rattle.syntect_winner.specs.Ahead.{list_in}
-use Rattle.syntect_winner.specs.Losses.{marks_of}
+use Rattle.syntect_memory.specs.Losses.{marks_of}
 use Rattle.syntect_winner.specs.Parts.{flat_members}
 use Rattle.syntect_winner.specs.Reader.{matches_of}
 use Rattle.syntect_winner.proofs.SweepLaws.{begun, begun_ahead, known_behind, none_held, one_held, run_ended, skipped, skipped_ahead, stepped, stepped_ahead, still_from, still_up_to}

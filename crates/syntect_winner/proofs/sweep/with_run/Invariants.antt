@@ -1,8 +1,8 @@
 use Rattle.std.proofs.Common.{◌≡◌, ℕ, ◌+◌, ◌*◌, ◌≤◌, ◌++◌, ◌-◌, List, length, take, false}
 use Rattle.syntect_meter.specs.Meter.{Advances}
 use Rattle.syntect_winner.specs.Ahead.{AreAhead, AreAheadUpTo, IsBestAt, list_in, run_members}
-use Rattle.syntect_winner.specs.Losses.{LosesInPart, is_lost, marks_of}
-use Rattle.syntect_winner.specs.Memory.{Remembers}
+use Rattle.syntect_memory.specs.Losses.{LosesInPart, is_lost, marks_of}
+use Rattle.syntect_memory.specs.Memory.{Remembers}
 use Rattle.syntect_winner.specs.Parts.{flat_members}
 use Rattle.syntect_winner.specs.Reader.{AreGroupsBy, matches_of}
 use Rattle.syntect_winner.specs.Steps.{AreWithin}

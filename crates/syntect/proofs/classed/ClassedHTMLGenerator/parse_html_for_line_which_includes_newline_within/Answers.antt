@@ -6,6 +6,7 @@ use Rattle.syntect_parsing.specs.States.{standing, turns_made}
 use Rattle.syntect.specs.Classed.{set_in, state_in, stack_in, turns_in}
 use Rattle.syntect.proofs.ClassedLaws.{operation_refused, remembers_on}
 use Rattle.syntect.proofs.LeadLaws.{on_err-any}
+use Rattle.syntect.proofs.WithinLaws.{limit_there}
 use Rattle.syntect.proofs.classed.ClassedHTMLGenerator.parse_html_for_line_which_includes_newline_within.Goals as goal
 
 pub returns-clause-restores : goal.returns-clause-restores
@@ -36,3 +37,8 @@ returns-in_err-push_str-clause-no_more c =
     let no_more : TakesNoMore dialect (set_in c.args.self.now) c.args.line.now (state_in c.args.self.now) (turns_in c.args.self.now) (turns_made c.after_line_within.new.self) =
     λ turns t. omega (arith, c.in_ok-parse_state.ensures.taken turns t) in
     on_err-any _ _ no_more
+
+pub returns-in_err-parse_state-clause-there : goal.returns-in_err-parse_state-clause-there
+returns-in_err-parse_state-clause-there c =
+    let p = err_from_is_err_and c.from_residual.result c.from_residual.ensures.1 in
+    rw (p.1, p.2) (limit_there (set_in c.args.self.now) c.args.line.now (state_in c.args.self.now) c.in_err-parse_state.field-0.0 c.in_err-parse_state.ensures.refused)

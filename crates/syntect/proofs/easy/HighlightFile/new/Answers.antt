@@ -1,11 +1,13 @@
-use Rattle.std.proofs.Common.{rules, ◌≡◌}
-use Rattle.std.specs.Io.Buffered.{reader_remaining}
+use Rattle.std.specs.Path.{path_bytes}
+use Rattle.syntect.proofs.FileLaws.{told_unlimited}
 use Rattle.syntect.proofs.easy.HighlightFile.new.Goals as goal
 
-pub returns-in-Ok-new-2-clause-unread : goal.returns-in-Ok-new-2-clause-unread
-returns-in-Ok-new-2-clause-unread g c =
-    let e : reader_remaining g.F.Read.remaining c.in-Ok-new.reader ≡ g.F.Read.remaining c.in-Ok.file = search rules in
-    (c.in-Ok.file, c.in-Ok-syntax_for.syntax.now, search rules, rw e at c.in-Ok-syntax_for.ensures.found, c.in-Ok-new-2.ensures.leads c.args.ss.now)
-
-pub returns-in-Ok-new-2-clause-leads : goal.returns-in-Ok-new-2-clause-leads
-returns-in-Ok-new-2-clause-leads g c = (c.in-Ok-syntax_for.syntax.now, c.in-Ok-syntax_for.ensures.found.is_for, c.in-Ok-new-2.ensures.leads c.args.ss.now)
+pub returns-in-Ok-clause-unread : goal.returns-in-Ok-clause-unread
+returns-in-Ok-clause-unread g c =
+    let u = c.in-Ok.ensures.unread in (
+      u.0,
+      u.1,
+      u.2,
+      told_unlimited c.unlimited-limits.result c.args.ss.now (path_bytes c.args.path) (g.F.Read.remaining u.0) u.1 c.in-Ok.field-0-1 c.unlimited-limits.ensures u.3,
+      u.4,
+    )

@@ -4,7 +4,7 @@ use Rattle.syntect_theme.specs.declared.theme.Theme.{Theme}
 use Rattle.syntect_grammar.specs.declared.error.Error.{Error}
 use Rattle.syntect.specs.Leads.{Continues, reader_of}
 use Rattle.syntect.specs.PlainLines.{ArePlain}
-use Rattle.syntect.specs.Within.{ReachesLimit, refusal_of}
+use Rattle.syntect.specs.Within.{ReachesLimit, TellsWhere, refusal_of}
 use Rattle.syntect.specs.declared.within.HighlightWithinError.{HighlightWithinError}
 use Rattle.syntect.proofs.LeadLaws.{pasts_stay}
 use Rattle.syntect.proofs.PlainLaws.{reached_from}
@@ -22,5 +22,6 @@ returns-in_ok-plain-in-Err-LimitReached-clause-answered c = λ past h.
       subst (λ (theme : Theme). ArePlain theme c.args.line.now c.in_ok-plain-in-Err-LimitReached.field-0.items) (same.theme ∙ h.leads.theme_is) c.in_ok-plain-in-Err-LimitReached.ensures,
       reached_from c.args.limits.now c.args.syntax_set.now c.args.line.now (standing (reader_of c.args.self.now)) c.in-Err-LimitReached.limit
           (turns_made (reader_of c.args.self.now)) (turns_made (reader_of new)) (steps_made (reader_of new) - steps_made (reader_of c.args.self.now)) c.in-Err-LimitReached.ensures.no_more
-          (subst (λ (w : HighlightWithinError). ReachesLimit c.args.limits.now (turns_made (reader_of new) - turns_made (reader_of c.args.self.now)) (steps_made (reader_of new) - steps_made (reader_of c.args.self.now)) w) c.in-Err-LimitReached.field-0-is c.in-Err-LimitReached.ensures.reached),
+          (subst (λ (w : HighlightWithinError). ReachesLimit c.args.limits.now (turns_made (reader_of new) - turns_made (reader_of c.args.self.now)) (steps_made (reader_of new) - steps_made (reader_of c.args.self.now)) w) c.in-Err-LimitReached.field-0-is c.in-Err-LimitReached.ensures.reached)
+          (subst (λ (w : HighlightWithinError). TellsWhere c.args.syntax_set.now c.args.line.now (standing (reader_of c.args.self.now)) w) c.in-Err-LimitReached.field-0-is c.in-Err-LimitReached.ensures.there),
     )

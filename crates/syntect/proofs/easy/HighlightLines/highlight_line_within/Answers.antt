@@ -6,7 +6,8 @@ use Rattle.syntect_winner.specs.Engine.{dialect}
 use Rattle.syntect_parsing.specs.Bound.{TakesNoMore}
 use Rattle.syntect_parsing.specs.States.{standing, turns_made}
 use Rattle.syntect.specs.Within.{from_reading, refusal_of}
-use Rattle.syntect.proofs.WithinLaws.{exact_stopped, lead_stopped}
+use Rattle.syntect.specs.Leads.{reader_of}
+use Rattle.syntect.proofs.WithinLaws.{exact_stopped, lead_stopped, limit_there}
 use Rattle.syntect.proofs.LeadLaws.{on_err-any, lead_unshown, lead_accepted, continues}
 use Rattle.syntect.proofs.ExactLaws.{exact_accepted, exact_unshown}
 use Rattle.syntect.proofs.easy.HighlightLines.highlight_line_within.Goals as goal
@@ -66,3 +67,8 @@ returns-in_err-pieces-clause-no_more c =
     let no_more : TakesNoMore dialect c.args.syntax_set.now c.args.line.now (standing c.args.self.now.parse_state) (turns_made c.args.self.now.parse_state) (turns_made c.after_line_within.new.self) =
     λ turns t. omega (arith, c.in_ok-parse_state.ensures.taken turns t) in
     on_err-any _ _ no_more
+
+pub returns-in_err-parse_state-clause-there : goal.returns-in_err-parse_state-clause-there
+returns-in_err-parse_state-clause-there c =
+    let p = err_from_is_err_and c.from_residual.result c.from_residual.ensures.1 in
+    rw (p.1, p.2) (limit_there c.args.syntax_set.now c.args.line.now (standing (reader_of c.args.self.now)) c.in_err-parse_state.field-0.0 c.in_err-parse_state.ensures.refused)
