@@ -42,8 +42,14 @@ def headings(name):
     return found
 
 
+def is_line(path, anchor):
+    """An anchor of a file's line, as L12, that is there."""
+    number = re.fullmatch(r"L(\d+)", anchor)
+    return number and 0 < int(number[1]) <= text_of(path).count("\n")
+
+
 def try_links(name):
-    """Links to files of the repository, and to headings in them."""
+    """Links to files of the repository, and to headings or lines in them."""
     text = text_of(name)
     plain = re.sub(r"```.*?```|`[^`\n]*`", lambda it: "x" * len(it[0]), text, flags=re.S)
     for link in re.finditer(r"\]\(([^)\s]+)\)|(?:src|srcset)=\"([^\"]+)\"", plain):
@@ -54,8 +60,8 @@ def try_links(name):
         path = ((TOP / name).parent / file).resolve() if file else TOP / name
         if not path.exists():
             fault(name, link.start(), f"{target} leads nowhere")
-        elif anchor and anchor not in headings(path.relative_to(TOP)):
-            fault(name, link.start(), f"{file or name} has no heading #{anchor}")
+        elif anchor and not is_line(path, anchor) and anchor not in headings(path.relative_to(TOP)):
+            fault(name, link.start(), f"{file or name} has no heading or line #{anchor}")
 
 
 def try_paths(name):
