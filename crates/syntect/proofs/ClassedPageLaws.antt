@@ -24,9 +24,9 @@ use Rattle.syntect.proofs.ClassedLaws.{replay_stack, new_restores, line_restores
 use Rattle.syntect.proofs.LeadLaws.{orderly_before, starts_empty}
 use Rattle.syntect.proofs.PageLaws.{map_last}
 
--- ---- stacks behind lines ----
+-- ---- stacks after lines ----
 
--- the stack behind lines
+-- the stack after lines
 abbrev pub behind : ScopeStack → List Line → ScopeStack
 behind stack [] = stack
 behind stack (l ∷ ls) = behind (stack_after stack l.1) ls
@@ -47,7 +47,7 @@ order_last : (ls : List Line) (l : Line) → AreInOrder ls → AreInOrder (l ∷
 order_last [] l h k = k
 order_last (m ∷ ls) l h k = (h.0, order_last ls l h.1 k)
 
--- lists joined, and one more behind them
+-- lists joined, and one more after them
 abbrev all_of : {X : Type 0} → List (List X) → List X
 all_of xss = flat_map (λ xs. xs) xss
 

@@ -65,7 +65,7 @@ pub record StaysAt (g h : ClassedHTMLGenerator) : Type 0 where
   pub goes_on : GoesOn g h
 
 -- A line was accepted: the text has grown by what the line's operations, which mean its reading, write; the spans of the
--- scopes on the stack behind them are open; and it stands behind the line.
+-- scopes on the stack after them are open; and it stands after the line.
 pub record AddsLine (line : List ℕ) (before after : ClassedHTMLGenerator) : Type 0 where
   pub ops : List (ℕ × ScopeStackOp)
   pub accepted : Accepts dialect (set_in before) line (state_in before) (state_in after) ops
@@ -96,6 +96,6 @@ RefusesLineOf g line e = ⊥
 abbrev pub closing_tags : ℕ → List ℕ
 closing_tags n = flat_map (λ tag. tag) (replicate n closing_tag)
 
--- its text, behind which all spans are closed that are open
+-- its text, after which all open spans are closed
 abbrev pub closed_text : ClassedHTMLGenerator → List ℕ
 closed_text g = text_so_far g ++ closing_tags (length (stack_in g).scopes)

@@ -122,7 +122,7 @@ abbrev pub and_then : Past → List ℕ → Answer → Past
 and_then past line answer =
     record past { lines = past.lines ++ line ∷ []; answers = past.answers ++ answer ∷ [] }
 
--- The line is answered behind this past, and h is what is held then: an accepted line gives pieces that are not empty
+-- The line is answered after this past, and h is what is held then: an accepted line gives pieces that are not empty
 -- and join to it, and where the lines so far and this one are orderly, each byte has the theme's style for its scopes; a
 -- refused one has the refusal of its reading, unless memory ran out.
 abbrev pub Continues : Past → SyntaxSet → Bor (List ℕ) → HighlightLines

@@ -96,7 +96,7 @@ HasNoPage set syntax text =
 
 -- ---- the text of a reader ----
 
--- a fault of reading, or want of memory
+-- a fault of reading, or lack of memory
 abbrev pub IsReadFault : Error → Type 0
 IsReadFault (error.Io e) = Unit {0}
 IsReadFault error.Memory = Unit {0}
@@ -128,7 +128,7 @@ pub record IsReadUpTo (set : SyntaxSet) (syntax : SyntaxReference) (text : List 
   pub valid : AreUtf8 (lines_in rows)
 
 -- There is no page: a line is refused before one that is not UTF-8 and before a fault of the reader, or such a fault comes
--- behind lines none of which is refused, or there was no memory.
+-- after lines none of which is refused, or there was no memory.
 abbrev pub IsStopped : SyntaxSet → SyntaxReference → List ℕ → Error → Type 0
 IsStopped set syntax text (error.Io e) = IsReadUpTo set syntax text
 IsStopped set syntax text e = OnlyParsing (IsRefusedAtALineOfBytes set syntax text) e

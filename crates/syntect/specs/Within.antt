@@ -18,7 +18,7 @@ abbrev pub from_reading : ReadWithinError → HighlightWithinError
 from_reading (reading.Refused e) = Refused (from_parsing e)
 from_reading (reading.LimitReached l) = LimitReached l
 
--- the refusal of a line without limits, where a limit that was reached counts as want of memory
+-- the refusal of a line without limits, where a limit that was reached counts as lack of memory
 abbrev pub refusal_of : HighlightWithinError → Error
 refusal_of (Refused e) = e
 refusal_of (LimitReached l) = Memory

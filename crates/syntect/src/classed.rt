@@ -27,8 +27,8 @@ use syntect_scope::repository::ScopeRepository;
 use syntect_scope::stack::{ScopeStack, ScopeStackOp};
 
 /// A line as spans with classes, as its operations, which are in order, open and close them on a stack, and by how many
-/// spans more are open behind it. A refusal leaves the stack: `ScopeError` where an operation restores and nothing was
-/// cleared, or want of memory.
+/// spans more are open after it. A refusal leaves the stack: `ScopeError` where an operation restores and nothing was
+/// cleared, or lack of memory.
 #[tactic(auto, using(crate::proofs::ClassedLaws::operations_refused))]
 pub fn line_tokens_to_classed_spans(
     alloc: Global,
@@ -116,7 +116,7 @@ impl<'a> ClassedHTMLGenerator<'a> {
     }
 
     /// Reads the next line, with its newline, and adds it to the text. A refusal changes nothing: that of the line's reading,
-    /// or want of memory. The line is read once: the reader counts its turns and the steps of their searches, as
+    /// or lack of memory. The line is read once: the reader counts its turns and the steps of their searches, as
     /// `ParseState::parse_line` does, also where the line is refused.
     pub fn parse_html_for_line_which_includes_newline(&mut self, line: &str) -> Result<(), Error>
         ensures accepted { OnOk result (AddsLine line.now self.old self.new) }
@@ -219,7 +219,7 @@ impl<'a> ClassedHTMLGenerator<'a> {
     }
 }
 
-/// A text with so many spans closed behind it.
+/// A text with so many spans closed after it.
 fn closed(text: String, count: usize) -> Result<String, AllocError>
     ensures { IfOk result (λ t. string_bytes t ≡ string_bytes text ++ closing_tags count) }
 {

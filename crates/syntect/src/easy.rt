@@ -150,7 +150,7 @@ impl<'a> HighlightLines<'a> {
     }
 
     /// The styled pieces of the next line, which join to it. The set has to be that of the syntax. A refusal, that of
-    /// the line's reading or want of memory, changes nothing. The line is read once: the reader counts its turns and the
+    /// the line's reading or lack of memory, changes nothing. The line is read once: the reader counts its turns and the
     /// steps of their searches, as `ParseState::parse_line` does, also where the line is refused.
     pub fn highlight_line<'b>(
         &mut self,
@@ -394,8 +394,7 @@ impl<'a, F: Read + Drop> HighlightFile<'a, F> {
         }
     }
 
-    /// The same, but that the patterns which are looked for in the first line make no more steps together than `Limits::steps` of
-    /// `limits`. Where they would make more, the syntax is plain text, and the limit is told.
+    /// Opens a file as `new` does, but the patterns that are looked for in the first line make no more steps together than `Limits::steps` of `limits`. Where they would make more, the syntax is plain text, and the limit is told.
     #[tactic(auto, using(crate::proofs::FileLaws::not_read_within, crate::proofs::FileLaws::no_start_within))]
     pub fn new_or_plain<R: Files<File = F>>(
         files: &R,

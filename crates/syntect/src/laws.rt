@@ -106,8 +106,7 @@ pub fn rows_of_readers()
     ensures stop { RowsStop }
 {}
 
-/// The same of lines that are read within limits, by `HighlightLines::highlight_line_or_plain`: each line is one more, as it
-/// was read or plain, and the rows of those that were read stand as if the plain ones weren't there.
+/// The lines that a reader gives, read within limits by `HighlightLines::highlight_line_or_plain`: each line is one more, as it was read or plain, and the rows of those that were read stand as if the plain ones weren't there.
 pub fn lines_within_limits()
     ensures begin { LinesBegin }
     ensures more { LinesGoOn }

@@ -22,7 +22,7 @@ fn can_go_on(line: &[u8]) -> bool
     }
 }
 
-/// Reads the next line, up to and with its newline, in place of the one before it. False where nothing is left, as behind a
+/// Reads the next line, up to and with its newline, in place of the one before it. False where nothing is left, as after a
 /// line without a newline. `Io` where reading fails.
 pub fn next_line<R: BufRead>(reader: &mut R, line: &mut Vec<u8>) -> Result<bool, Error>
     ensures next { IfOk result

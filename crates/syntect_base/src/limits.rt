@@ -99,7 +99,7 @@ pub enum LimitReached {
     /// The grammar's text has more bytes than `Limits::text`.
     #[error("The text has too many bytes")]
     Text,
-    /// This pattern has more bytes than `Limits::pattern`, counted as is said there.
+    /// A pattern has more bytes than `Limits::pattern`, counted as is said there.
     #[error("Too many bytes in the pattern {0}")]
     Pattern(PatternPlace),
     /// The patterns up to this one have more bytes together than `Limits::patterns`.
@@ -117,7 +117,7 @@ pub enum LoadWithinError {
     /// Its text is no grammar, or there was no memory.
     #[error("{0}")]
     Refused(ParseSyntaxError),
-    /// It would pass a limit.
+    /// The grammar would pass a limit.
     #[error("{0}")]
     LimitReached(LimitReached),
 }

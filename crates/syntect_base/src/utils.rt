@@ -81,7 +81,7 @@ fn path_below(alloc: Global, folder: &str, name: &str) -> Result<Text, AllocErro
     Ok(path)
 }
 
-/// The names in a folder as the file system tells them: their bytes, and a NUL behind each.
+/// The names in a folder as the file system tells them: their bytes, and a NUL after each.
 fn listing(files: &impl Files, alloc: Global, folder: &str) -> Result<Vec<u8>, io::Error> {
     let mut path = String::from_str(alloc, folder)?;
     if !folder.is_empty() && !folder.ends_with('/') {
@@ -161,7 +161,7 @@ fn name_len(bytes: &[u8]) -> usize
     bytes.iter().take_while(|b| **b != 0).count()
 }
 
-/// What stands before the first NUL, and what stands behind it.
+/// What comes before the first NUL, and what comes after it.
 fn first_name(bytes: &[u8]) -> (&[u8], &[u8])
     ensures entries { entries_in bytes.now
         ≡ filter_map entry_of (result.0.now ∷ []) ++ entries_in result.1.now }
@@ -175,7 +175,7 @@ fn first_name(bytes: &[u8]) -> (&[u8], &[u8])
     (name, behind)
 }
 
-/// The names of entries among bytes in which a NUL stands behind each, in byte order.
+/// The names of entries among bytes in which a NUL comes after each, in byte order.
 fn entries_among(alloc: Global, bytes: &[u8], sought: Sought) -> Result<Vec<Text>, LoadingError>
     ensures all { IfOk result (λ names. IsPermutation (entries_in bytes.now) names.items) }
     ensures order { IfOk result (λ names. InByteOrder names.items) }
@@ -293,7 +293,7 @@ pub struct Walk {
     sought: Sought,
     /// The paths that are still to be visited, the next one last.
     ahead: Seq<Text>,
-    /// So many entries may still be visited.
+    /// How many entries may still be visited.
     left: u64,
 }
 
@@ -330,7 +330,7 @@ impl Walk {
         }
     }
 
-    /// The next file, and nothing behind the last. A path is the folder's text and the names, joined by `/`. A fault of the walk,
+    /// The next file, and nothing after the last. A path is the folder's text and the names, joined by `/`. A fault of the walk,
     /// or more than 2^64 - 1 entries, is `WalkDir`; what is visited after it is left open.
     pub fn next_file(
         &mut self,

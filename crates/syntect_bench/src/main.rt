@@ -136,7 +136,7 @@ const FILES_OF_PATTERNS: [(&str, (u32, u32)); 2] = [
     ("no_patterns.txt", (0, 7)),
 ];
 
-/// The file of queries, each behind the answer that Oniguruma gives, or, of those at the end that cost engines which back up too
+/// The file of queries, each after the answer that Oniguruma gives, or, of those at the end that cost engines which back up too
 /// much, the answer that Perl gives; and how many there are.
 const ANSWERED: &str = "queries.tsv";
 

@@ -209,7 +209,7 @@ module _ (set : SyntaxSet) (theme : Theme) (syntax : SyntaxReference) (old new :
           let b : length (take place rs) ≡ place = length-take-le place rs l in
           omega (arith, length-append (take place ls) (own ++ drop behind ls), length-append own (drop behind ls), length-append (take place rs) (e.readings ++ rest), length-append e.readings rest)
 
-  -- the states at a line behind the edit, before it
+  -- the states at a line after the edit, before it
   old_state : (k : ℕ) → ending old.start (take (behind + k) old.readings) ≡ ending (ending old.start (take behind old.readings)) (take k (drop behind old.readings))
   old_state k = ending-add behind k old.start old.readings
 

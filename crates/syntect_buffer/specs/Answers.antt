@@ -42,7 +42,7 @@ ranges_from from (p ∷ ps) =
 
 -- ---- answers ----
 
--- The refusal is that of the reading, which is not want of memory.
+-- The refusal is that of the reading, which is not lack of memory.
 abbrev pub IsRefusal : ParsingError → LineAnswer → Type 0
 IsRefusal parsing.Memory a = ⊥
 IsRefusal e (answer.Refused (error.ParsingError f)) = f ≡ e

@@ -85,7 +85,7 @@ pub record StartApart (before after : Buffer) (old new count : ℕ) : Type 0 whe
       → (k : ℕ) → k < count → StartsApart before after (old + k) (new + k)
   pub stops : new + count < length after.lines → StartsSame before after (old + count) (new + count)
 
--- So many lines are read again: these that are new themselves, and the first unchanged ones behind them that start from
+-- So many lines are read again: these that are new themselves, and the first unchanged ones after them that start from
 -- another state than before.
 abbrev pub ReadsAgain : Buffer → Buffer → ℕ → ℕ → ℕ → ℕ → Type 0
 ReadsAgain before after own old new number =

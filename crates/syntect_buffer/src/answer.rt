@@ -17,7 +17,7 @@ pub enum LineAnswer {
     /// The line is accepted. The ranges of its bytes follow one another from its start to its end, and none is empty; each
     /// has its style.
     Pieces(Vec<(Style, Range<usize>)>),
-    /// The line is refused, as it is by a new highlighter. That is never for want of memory.
+    /// The line is refused, as it is by a new highlighter. That is never for lack of memory.
     Refused(Error),
     /// The line reached this limit of the buffer's. It leaves no trace: the next line is read as if this one were not there.
     LimitReached(LineLimit),

@@ -126,7 +126,7 @@ impl<'a> LineBuffer<'a> {
         &self.kept.readings.get(place).answer
     }
 
-    /// Puts a line before the one at a place, or behind the last, and answers how many lines were read again. Want of
+    /// Puts a line before the one at a place, or after the last, and answers how many lines were read again. Lack of
     /// memory changes nothing, and the line is dropped then.
     pub fn insert_line(
         &mut self,
@@ -155,7 +155,7 @@ impl<'a> LineBuffer<'a> {
         )
     }
 
-    /// Puts a line in place of another one, and answers how many lines were read again. Want of memory changes nothing, and
+    /// Puts a line in place of another one, and answers how many lines were read again. Lack of memory changes nothing, and
     /// the new line is dropped then.
     pub fn set_line(
         &mut self,
@@ -184,7 +184,7 @@ impl<'a> LineBuffer<'a> {
         )
     }
 
-    /// Takes a line out, and answers how many lines were read again. Want of memory changes nothing.
+    /// Takes a line out, and answers how many lines were read again. Lack of memory changes nothing.
     pub fn remove_line(&mut self, alloc: Global, place: usize) -> Result<usize, AllocError>
         requires { place < length self.old.lines }
         ensures lines { OnOk result (self.new.lines ≡ remove self.old.lines place) }

@@ -66,7 +66,7 @@ pub(crate) fn read(
     })
 }
 
-/// The states at the start of a line, where the first line starts from `start`; behind the last line, those after it.
+/// The states at the start of a line, where the first line starts from `start`; after the last line, those after it.
 pub(crate) fn states_at<'a>(
     start: &'a SharedStates,
     readings: &'a Blocks<Reading>,

@@ -53,7 +53,7 @@ impl SharedStates {
         self.states.as_ref()
     }
 
-    /// The same states for one line more.
+    /// A copy of the states' handle, for one line more.
     fn share(&self) -> Result<SharedStates, AllocError>
         ensures { IfOk result (λ s. s ≡ self.now) }
     {
@@ -86,7 +86,7 @@ pub(crate) fn left(
     }
 }
 
-/// The same state once more.
+/// A copy of the state.
 pub(crate) fn copied(reader: &ParseState) -> Result<ParseState, AllocError>
     ensures { IfOk result (λ s. s ≡ reader.now) }
 {

@@ -1,4 +1,4 @@
-//! Calls that can be refused for want of memory, each made a few times over, with what it answers and what it leaves.
+//! Calls that can be refused for lack of memory, each made a few times over, with what it answers and what it leaves.
 use crate::{files, metadata, patterns, scopes, selectors, styles, writers};
 use std::rt::Files;
 

@@ -146,7 +146,7 @@ fn a_line_that_is_refused(rt: HostRuntime) {
     desk.close(&rt);
 }
 
-/// A writer that takes some bytes, and fails behind them.
+/// A writer that takes some bytes, and fails after them.
 #[derive(Drop)]
 struct Full {
     room: usize,

@@ -45,7 +45,7 @@ fn a_page_and_text_for_a_terminal(rt: HostRuntime) {
     desk.close(&rt);
 }
 
-/// Behind the last line, once.
+/// After the last line, once.
 #[test]
 fn the_terminal_has_its_own_colours_again(rt: HostRuntime) {
     let desk = Desk::new(&rt, "syncat_own_colours");
@@ -130,7 +130,7 @@ fn a_line_that_reaches_a_limit_is_plain(rt: HostRuntime) {
 const COSTLY_FIRST: &str =
     "scope: source.v\nfirst_line_match: '^(x+x+)+\\1y'\ncontexts: {main: [{match: hello, scope: word}]}";
 
-/// The same lines as plain text.
+/// The page of the costly text's lines as plain text.
 const ROWS_PLAIN: &str =
     "<pre style=\"background-color:#020202;\">\n<span style=\"color:#010101;\">xxxxxxxxxxxxxxxxxxxxxxxxxxxxxxxxxxxxxxxxxxxxxxxxxxxxxxxxxxxx\n</span><span style=\"color:#010101;\">hello</span></pre>\n";
 

@@ -37,7 +37,7 @@ marks line at stack (o ∷ os) =
     words_between line at o.0
     ++ (operation_marks o.1 stack ++ marks line o.0 (applied o.1 stack) os)
 
--- the stack behind the line
+-- the stack after the line
 abbrev pub stack_after : ScopeStack → List (ℕ × ScopeStackOp) → ScopeStack
 stack_after stack [] = stack
 stack_after stack (o ∷ os) = stack_after (applied o.1 stack) os

@@ -51,8 +51,8 @@ fn height(stack: &ScopeStack) -> isize
 }
 
 /// A line as HTML: each scope that an operation really pushes begins a span, whose classes are the scope's atoms, and
-/// each that it really removes ends one. The spans are nested like the scopes on the stack, which is then the one behind
-/// the line. A span that ends right where it began is left out. The number tells how many more spans are open behind the
+/// each that it really removes ends one. The spans are nested like the scopes on the stack, which is then the one after
+/// the line. A span that ends right where it began is left out. The number tells how many more spans are open after the
 /// line than before it; it is negative where the line ends spans of earlier ones.
 ///
 /// The operations' places are byte positions that never decrease, in the line and between its characters. A refusal

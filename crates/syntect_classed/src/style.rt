@@ -12,7 +12,7 @@ use syntect_writers::escape::push_escaped;
 pub enum ClassStyle {
     /// By its atoms.
     Spaced,
-    /// By its atoms, each behind a prefix.
+    /// By its atoms, each with a prefix.
     SpacedPrefixed {
         /// What stands before each atom.
         prefix: &'static str,

@@ -43,7 +43,7 @@ abbrev pub AreInOrder : List Line → Type 0
 AreInOrder [] = Unit {0}
 AreInOrder (l ∷ ls) = InOrder l.0 0 l.1 (length l.0) × AreInOrder ls
 
--- The text of lines, one after another, on the stack that those before leave; behind them all spans are closed that are
+-- The text of lines, one after another, on the stack that those before leave; after them all spans are closed that are
 -- open.
 abbrev pub page_text : List ℕ → List (List ℕ) → ScopeStack → List Line → List ℕ
 page_text prefix repo stack [] = flat_map (λ tag. tag) (replicate (length stack.scopes) closing_tag)

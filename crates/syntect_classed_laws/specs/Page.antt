@@ -49,7 +49,7 @@ read r (b ∷ bs) = read (read_byte r r.tag b) bs
 abbrev pub tag_of : List ℕ → List (List ℕ) → List ℕ → List ℕ
 tag_of prefix repo scope = codes "span class=\"" ++ (classes_text prefix repo scope ++ codes "\"")
 
--- the scopes whose spans are open behind marks
+-- the scopes whose spans are open after marks
 abbrev pub open_behind : List (List ℕ) → List Mark → List (List ℕ)
 open_behind scopes [] = scopes
 open_behind scopes (Begin scope ∷ ms) = open_behind (scopes ++ scope ∷ []) ms

@@ -12,12 +12,12 @@ pub fn written_marks_are_seen()
 {}
 
 /// The marks of a line are its bytes, each under the scopes that the operations give it, and leave the scopes open that
-/// stand on the stack behind the line.
+/// stand on the stack after the line.
 pub fn marks_follow_the_operations()
     ensures { MarksFollow }
 {}
 
-/// Whoever reads a page byte by byte, lines one after another with all spans closed behind them that are open, sees the
+/// Whoever reads a page byte by byte, lines one after another with all spans closed after them that are open, sees the
 /// lines joined, each byte under the tags of the scopes that the operations give it; meets no closing tag without an open
 /// one, and has no tag left open in the end.
 pub fn pages_are_seen()

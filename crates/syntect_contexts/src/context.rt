@@ -44,7 +44,7 @@ pub enum ContextReference {
         sub_context: Option<Text>,
         with_escape: bool,
     },
-    /// The same by the name of the syntax.
+    /// A context of the syntax that has this name: the one that `sub_context` names, or its `main`. `with_escape` is that of `ByScope`.
     File {
         name: Text,
         sub_context: Option<Text>,
@@ -276,7 +276,7 @@ impl MatchPattern {
         &self.regex
     }
 
-    /// The pattern with the groups of a match in a text for its back references: a digit behind a backslash that isn't
+    /// The pattern with the groups of a match in a text for its back references: a digit after a backslash that isn't
     /// itself escaped, and that backslash, give way to the escaped text of the group of that number, or to nothing where
     /// it was not set. The region's positions are byte positions between characters of the text.
     pub fn regex_with_refs(&self, region: &Region, text: &str) -> Result<Regex, AllocError>

@@ -1,4 +1,4 @@
-//! Calls that can be refused for want of memory, each made a few times over, with what it answers and what it leaves.
+//! Calls that can be refused for lack of memory, each made a few times over, with what it answers and what it leaves.
 use crate::{metadata, scopes, searches, settings, styles};
 
 /// The names of the calls.

@@ -1,4 +1,4 @@
-//! Edits that files of rows ask for: the answer to each has to be what stands behind it.
+//! Edits that files of rows ask for: the answer to each has to be what comes after it.
 use crate::given::{Edit, apply, buffer_of, set_and_theme};
 use crate::states::Lines;
 use std::alloc::Global;

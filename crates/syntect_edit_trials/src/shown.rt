@@ -1,4 +1,4 @@
-//! Edits of a buffer, each shown with what stood before it and what stands behind it. Where an edit answers want of memory,
+//! Edits of a buffer, each shown with what stood before it and what stands after it. Where an edit answers that memory ran out,
 //! it is done once more.
 use crate::cases::{CASES, Case, LONG};
 use crate::given::{Edit, apply, buffer_of, set_and_theme};
@@ -9,7 +9,7 @@ use syntect::highlighting::Theme;
 use syntect::parsing::SyntaxSet;
 use syntect_buffer::buffer::LineBuffer;
 
-/// Puts lines behind the last. Answers whether there was memory.
+/// Puts lines after the last. Answers whether there was memory.
 fn fill_once(alloc: Global, buffer: &mut LineBuffer<'_>, lines: &[&str]) -> bool {
     for line in lines {
         let end = buffer.len();
@@ -23,7 +23,7 @@ fn fill_once(alloc: Global, buffer: &mut LineBuffer<'_>, lines: &[&str]) -> bool
     true
 }
 
-/// Puts lines behind the last, so many times. Answers whether there was memory.
+/// Puts lines after the last, so many times. Answers whether there was memory.
 fn fill(alloc: Global, buffer: &mut LineBuffer<'_>, lines: &[&str], times: u32) -> bool {
     for _ in 0..times {
         if !fill_once(alloc, buffer, lines) {
@@ -83,7 +83,7 @@ fn show_edit(
     Ok(())
 }
 
-/// Does an edit, and shows its answer and the buffer behind it. Answers whether there was memory.
+/// Does an edit, and shows its answer and the buffer after it. Answers whether there was memory.
 fn show_try(
     rt: &(impl Print + AllocGlobal),
     buffer: &mut LineBuffer<'_>,

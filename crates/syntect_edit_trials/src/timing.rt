@@ -100,7 +100,7 @@ pub fn time_pair(
     print_times(rt, back_name, &mut back_times, back_read)
 }
 
-/// Puts lines behind the last, and prints how long that takes.
+/// Puts lines after the last, and prints how long that takes.
 pub fn time_filling(
     rt: &(impl Print + AllocGlobal + Clock),
     buffer: &mut LineBuffer<'_>,

@@ -96,7 +96,7 @@ fn time_edits(
     time_lines(rt, lines.as_slice(), given, place, rounds)
 }
 
-/// The same of a text's lines.
+/// Times edits of one of these lines: one blank more at its start and again without, and the line once more and taken out.
 fn time_lines(
     rt: &(impl Print + Eprint + AllocGlobal + Clock),
     lines: &[&str],

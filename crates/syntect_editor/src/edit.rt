@@ -76,7 +76,7 @@ fn line_of(alloc: Global, text: &str) -> Result<String, AllocError> {
     Ok(line)
 }
 
-/// Puts a line before the one at a place, or behind the last.
+/// Puts a line before the one at a place, or after the last.
 fn insert(
     alloc: Global,
     buffer: &mut LineBuffer<'_>,

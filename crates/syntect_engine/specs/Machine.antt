@@ -380,7 +380,7 @@ cells_before (Starts node k n i len ∷ fs) = cells_before fs
 cells_before (Within b k i len ∷ fs) = len
 cells_before (Restore n old ∷ fs) = cells_before fs
 
--- what comes behind the first match of that part, and where
+-- what comes after the first match of that part, and where
 abbrev pub next_of : Bound × ℕ × ℕ → Next
 next_of (Bound.Whole, k, i) = Next.Leave k
 next_of (Bound.Holds, k, i) = Next.Leave k

@@ -27,7 +27,7 @@ fn is_lost(program: &Program, text: &str, place: usize) -> bool
     is_dead(program, text, place, program.root)
 }
 
-/// The same of a place where it is known that what stands there can begin a match, unless the text ends there.
+/// Whether no match begins at a place where what stands there is known to be able to begin a match, unless the text ends there.
 #[inline]
 fn is_lost_there(program: &Program, text: &str, place: usize) -> bool
     ensures lost { result ≡ true → FindsAt text.now program.now place None }
@@ -192,7 +192,7 @@ impl Search {
         self.is_at(program, text, place, limited, count)
     }
 
-    /// The same of a place where it is known that what stands there can begin a match, unless the text ends there.
+    /// Whether a match begins at the place, as `begins_at` tells it, where what stands there is known to be able to begin a match, unless the text ends there.
     fn begins_there(
         &mut self,
         program: &Program,

@@ -15,8 +15,7 @@ use syntect_ways::anchor::stands;
 use syntect_ways::past::{past_char, past_class, past_letters};
 use syntect_ways::text::past_text;
 
-/// So many characters of stretches, and of the texts of groups that are looked for again, count as a step: they are gone through
-/// one by one, each much faster than a step is taken.
+/// How many characters of stretches, and of the texts of groups that are looked for again, count as a step: they are gone through one by one, each much faster than a step is taken.
 const READ_A_STEP: usize = 8;
 
 /// The last place where a match of the node can begin that ends at the place, and at how many places, from that one backwards,
@@ -38,7 +37,7 @@ fn starts_before(program: &Program, place: usize, node: usize) -> (usize, usize)
     }
 }
 
-/// What goes on behind a lookaround.
+/// What goes on after a lookaround.
 fn look_bound(negated: bool) -> Bound
     ensures { result ≡ look_bound negated }
 {
@@ -211,7 +210,7 @@ impl Search {
         }
     }
 
-    /// Goes on behind the text of the group, where it stands again at the place. How long it is counts, whether it does or not:
+    /// Goes on after the text of the group, where it stands again at the place. How long it is counts, whether it does or not:
     /// a text may differ in its last character alone.
     fn enter_same(
         &mut self,
@@ -233,7 +232,7 @@ impl Search {
         self.go_on(place, list)
     }
 
-    /// The place behind the text of the group, where it stands again at the place.
+    /// The place after the text of the group, where it stands again at the place.
     fn past_group(&self, text: &str, fold: bool, group: usize) -> Option<usize>
         requires place { IsCharBoundary text.now self.now.place }
         requires groups { GroupsFit text.now self.now.groups.items }

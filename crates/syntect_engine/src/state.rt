@@ -20,7 +20,7 @@ pub struct Turns {
 /// What follows a node.
 #[derive(Clone, Copy)]
 pub enum Item {
-    /// This node.
+    /// The node of this number.
     Run(usize),
     /// The end of the group that began at the place.
     Close { group: usize, start: usize },
@@ -38,7 +38,7 @@ pub struct Cell {
     pub next: usize,
 }
 
-/// What goes on behind a part of which the first match counts alone.
+/// What goes on after a part of which the first match counts alone.
 #[derive(Clone, Copy)]
 pub enum Bound {
     /// The list from where that match ends.

@@ -9,7 +9,7 @@ ghost use Rattle.syntect_engine.specs.Stretches.{IsStretch, IsStretchOf};
 use syntect_pattern_table::node::{Class, Node};
 use syntect_pattern_table::program::Program;
 
-/// The end of the stretch of this character that begins at the place. None if a character beyond ASCII stands behind it.
+/// The end of the stretch of this character that begins at the place. None if a character beyond ASCII comes after it.
 fn char_stretch(text: &[u8], place: usize, wanted: char) -> Option<usize>
     requires { place ≤ length text.now }
     ensures { IfSome result (λ end. IsStretch text.now (range wanted wanted) place end) }
@@ -28,7 +28,7 @@ fn char_stretch(text: &[u8], place: usize, wanted: char) -> Option<usize>
 }
 
 /// The end of the stretch of characters of the class that begins at the place. None if a character beyond ASCII stands
-/// behind it.
+/// after it.
 fn class_stretch(text: &[u8], place: usize, class: &Class) -> Option<usize>
     requires { place ≤ length text.now }
     ensures { IfSome result (λ end. IsStretch text.now (set_of class.now) place end) }
@@ -47,7 +47,7 @@ fn class_stretch(text: &[u8], place: usize, class: &Class) -> Option<usize>
 }
 
 /// The end of the stretch of characters that the node reads, from the place on. None if the node reads something else or
-/// a character beyond ASCII stands behind it.
+/// a character beyond ASCII comes after it.
 pub fn stretch(program: &Program, text: &str, place: usize, node: usize) -> Option<usize>
     requires { place ≤ length text.now }
     ensures { IfSome result

@@ -11,7 +11,7 @@ enum Fault {
     Doubled,
     Swapped,
     Marked,
-    /// What stands behind the place is moved before all.
+    /// What comes after the place is moved before all.
     Moved,
 }
 

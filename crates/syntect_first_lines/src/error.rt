@@ -11,7 +11,7 @@ use thiserror::Error;
 #[derive(Clone, Copy, Debug, PartialEq, Eq, Error)]
 #[error("too many steps for the first line, at the syntax with index {syntax}")]
 pub struct FirstLineLimit {
-    /// The syntax whose pattern was searched last, by its index in the set. None of those behind it fits the line.
+    /// The syntax whose pattern was searched last, by its index in the set. None of those after it fits the line.
     pub syntax: usize,
 }
 

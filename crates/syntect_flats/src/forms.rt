@@ -18,7 +18,7 @@ pub struct Table {
 /// The patterns of a list.
 #[derive(Drop)]
 pub enum Form {
-    /// Each by itself, with what can stand where its matches begin, or behind.
+    /// Each by itself, with what can stand where its matches begin, or after that.
     Plain {
         slims: Vec<Slim>,
         places: Vec<Places>,

@@ -1,4 +1,4 @@
-//! A context's flat list, with a table that tells for each thing that can stand at a place, or behind the word or white space
+//! A context's flat list, with a table that tells for each thing that can stand at a place, or after the word or white space
 //! there, which patterns can begin at that place.
 ghost use Rattle.std.specs.Prelude.{◌≡◌, ◌≤◌, ◌<◌, ◌*◌, List, ℕ, length, map, IfOk, IfSome, slice_index_or};
 ghost use Rattle.std.specs.List.{list_any};
@@ -34,7 +34,7 @@ pub struct FlatList {
     count: u32,
     wide: bool,
     end: bool,
-    /// Whether it matters for one of the patterns what stands behind a word or behind white space.
+    /// Whether it matters for one of the patterns what comes after a word or after white space.
     asks: bool,
 }
 
@@ -65,7 +65,7 @@ fn next_seen(table: &[Places], slims: &[Slim], outlook: Outlook, from: usize) ->
     next
 }
 
-/// Whether something that stands behind a word or behind white space rules one of the patterns out.
+/// Whether something that comes after a word or after white space rules one of the patterns out.
 fn any_asks(flats: &[Flat]) -> bool {
     flats
         .iter()
@@ -83,7 +83,7 @@ fn any_of(flats: &[Flat]) -> Places
     any
 }
 
-/// The row of what stands behind the word or the white space.
+/// The row of what comes after the word or the white space.
 #[inline]
 fn behind_row(outlook: Outlook) -> usize
     requires { outlook.behind < 130 }
@@ -173,7 +173,7 @@ fn tabled_form(alloc: Global, asks: bool, flats: &[Flat]) -> Result<Option<Form>
     Ok(Some(Form::Tabled(Box::new(alloc, table)?)))
 }
 
-/// Patterns in the form that serves a list of their length. Where one of them stands too far off for a table, behind 65536
+/// Patterns in the form that serves a list of their length. Where one of them stands too far off for a table, after 65536
 /// syntaxes or contexts or 2147483648 entries, the list is kept without one: that tells no less, but is gone through pattern by
 /// pattern.
 fn form_of(alloc: Global, asks: bool, flats: &[Flat]) -> Result<Form, AllocError>
@@ -205,7 +205,7 @@ impl FlatList {
         })
     }
 
-    /// Whether it matters for one of the patterns what stands behind a word or behind white space. No contract says it: who
+    /// Whether it matters for one of the patterns what comes after a word or after white space. No contract says it: who
     /// looks for that in vain is only slower, and who doesn't passes over less.
     pub fn asks(&self) -> bool {
         self.asks

@@ -1,5 +1,5 @@
 //! Rows of bits, of which those that are equal are kept once. Most rows of a list are: most characters differ for few of its
-//! patterns, be it as what one begins with or as what stands behind.
+//! patterns, be it as what one begins with or as what follows.
 ghost use Rattle.std.specs.Prelude.{◌≡◌, ◌<◌, ◌≤◌, ◌+◌, ◌*◌, ℕ, List, length, take, drop, true, IfOk, IfSome, OnOk, slice_index_or};
 ghost use Rattle.syntect_flats.specs.Packed.{IsPacked, IsRow, unpacked};
 
@@ -9,7 +9,7 @@ use std::alloc::{AllocError, Global};
 /// earlier one is no longer found there, and is kept once more if it comes again.
 const SLOTS: usize = 1024;
 
-/// How many rows are told apart. A table that has more of them ends there, and says nothing of what lies behind.
+/// How many rows are told apart. A table that has more of them ends there, and says nothing of what lies beyond it.
 const MOST: u16 = 256;
 
 /// Rows of words, each of which has a number among those that differ.
@@ -17,11 +17,11 @@ const MOST: u16 = 256;
 pub struct Packed {
     /// The number of each row.
     pub numbers: Vec<u8>,
-    /// The rows that differ, one behind the other.
+    /// The rows that differ, one after the other.
     pub bits: Vec<u64>,
 }
 
-/// A word of a row; behind the table's end one whose bits are all set.
+/// A word of a row; after the table's end one whose bits are all set.
 #[inline]
 pub(crate) fn word_in(table: &Packed, words: u16, row: usize, word: usize) -> u64
     requires within { word < words }

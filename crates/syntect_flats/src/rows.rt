@@ -183,7 +183,7 @@ fn mark_edges(rows: &mut Vec<u64>, words: u16, flats: &[Flat])
     }
 }
 
-/// The rows of these patterns. Where what stands behind a word or behind white space rules none of them out, there are none of it.
+/// The rows of these patterns. Where what comes after a word or after white space rules none of them out, there are none of it.
 pub(crate) fn rows_of(
     alloc: Global,
     words: u16,

@@ -1,4 +1,4 @@
-//! Patterns as a short flat list keeps them: what can stand where their matches begin, or behind, stands in a table, once for
+//! Patterns as a short flat list keeps them: what can stand where their matches begin, or after that, stands in a table, once for
 //! those that follow one another with the same.
 ghost use Rattle.std.specs.Prelude.{◌≡◌, ◌<◌, ℕ, true, List, map, IfOk, IfSome, Some, slice_get};
 ghost use Rattle.std.specs.List.{list_any};
@@ -33,9 +33,9 @@ pub struct Slim {
     pub index: u32,
     /// What can stand at a place where a match of it begins.
     pub begins: u32,
-    /// What can stand behind a word in which a match of it begins.
+    /// What can come after a word in which a match of it begins.
     pub words: u32,
-    /// What can stand behind white space in which one does.
+    /// What can come after white space in which one does.
     pub blanks: u32,
     /// Whether it is known that its matches begin only where a word begins or ends.
     pub at_edges: bool,
@@ -77,7 +77,7 @@ pub(crate) fn origin_of(slim: &Slim) -> Origin
     }
 }
 
-/// What can stand behind white space, or else behind a word, in which a match of the pattern begins.
+/// What can come after white space, or else after a word, in which a match of the pattern begins.
 #[inline]
 fn behind_of(table: &[Places], blank: bool, slim: &Slim) -> Places
     ensures { result ≡ behind_of blank (widened table.now slim.now) }

@@ -23,7 +23,7 @@ use syntect_loader::definition::SyntaxDefinition;
 use syntect_scope::repository::ScopeRepository;
 use syntect_within::within::load_from_str_within;
 
-/// The refusal of the text in a file that is no grammar, with the file's path. Want of memory is passed on as such.
+/// The refusal of the text in a file that is no grammar, with the file's path. Lack of memory is passed on as such.
 fn refused_text(alloc: Global, path: &str, e: ParseSyntaxError) -> LoadingError
     ensures told { (newlines : Bool) (repo : List (List ℕ)) (bytes : List ℕ) → IsUtf8 bytes
         → Fails (loaded bytes newlines (path_file_stem path.now) repo) e
@@ -39,7 +39,7 @@ fn refused_text(alloc: Global, path: &str, e: ParseSyntaxError) -> LoadingError
     }
 }
 
-/// The refusal of the text in a file within limits, with the file's path. Want of memory is passed on as such.
+/// The refusal of the text in a file within limits, with the file's path. Lack of memory is passed on as such.
 fn refused_file(alloc: Global, path: &str, e: LoadWithinError) -> FolderWithinError
     ensures { (limits : ALimits) (newlines : Bool) (old new : List (List ℕ)) (bytes : List ℕ)
         → IsUtf8 bytes

@@ -41,7 +41,7 @@ stands set id k m e = by (context_at set id) e
     by None h = absurd (none_in k (Match m) h)
     by (Some c) h = ap (option_and_then match_in) h
 
--- an entry, and those behind it
+-- an entry, and those after it
 pub entry_at : (es ps : List Pattern) → es ≡ ps → (k : ℕ) (p d : Pattern) → k < length es → get_or es k d ≡ p → drop k ps ≡ p ∷ drop (k + 1) ps
 entry_at es ps same k p d l e =
     subst (λ (qs : List Pattern). drop k qs ≡ p ∷ drop (k + 1) qs) same

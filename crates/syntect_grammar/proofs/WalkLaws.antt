@@ -252,7 +252,7 @@ walk_pops set root seen fs id ps out nil w =
     by test n x s e false m =
         w.through test n x s (ap (is_in x) (ids_top fs id ps) ∙ out_both x (ids fs) (id ∷ []) e (rw m refl))
 
--- the top one goes on behind an entry that is through once it was passed
+-- the top one goes on after an entry that is through once it was passed
 goes_on : (set : SyntaxSet) (test : MatchPattern → Bool) (seen : List ContextId) (fs : List Visit) (id : ContextId) (p : Pattern) (ps : List Pattern)
     → AreThrough set test seen (p ∷ []) → ArePassed set test seen (fs ++ (id, p ∷ ps) ∷ []) → ArePassed set test seen (fs ++ (id, ps) ∷ [])
 goes_on set test seen fs id p ps h a =

@@ -59,7 +59,7 @@ fits_line line s =
 abbrev pub found_by_first_line : SyntaxSet → List ℕ → Option SyntaxReference
 found_by_first_line set line = last_fitting (fits_line (without_mark line)) (syntaxes_in set)
 
--- whether a whole path is this one, or ends with it behind a slash
+-- whether a whole path is this one, or ends with it after a slash
 abbrev pub ends_in_path : List ℕ → List ℕ → Bool
 ends_in_path whole path = pointwise ◌==◌ whole path || ends_with ◌==◌ whole (47 ∷ path)
 

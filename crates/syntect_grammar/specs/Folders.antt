@@ -53,7 +53,7 @@ abbrev pub with_entry : RawMetadataEntry → SyntaxSetBuilder → SyntaxSetBuild
 with_entry entry builder =
     record builder { raw_metadata = record { loaded = entries_in builder ++ entry ∷ [] } }
 
--- A file of metadata adds its entry; where it gives none, for another cause than want of memory, it is passed over.
+-- A file of metadata adds its entry; where it gives none, for another cause than lack of memory, it is passed over.
 pub data AddsMetadata (path : List ℕ) (builder : SyntaxSetBuilder) : SyntaxSetBuilder → Type 0 where
   entry_added : {bytes : List ℕ} {entry : RawMetadataEntry} → IsEntryOf path bytes entry
       → AddsMetadata path builder (with_entry entry builder)

@@ -79,7 +79,7 @@ impl<T: Drop> From<AllocFailed<T>> for Error {
     }
 }
 
-/// Want of memory is passed on as such.
+/// Lack of memory is passed on as such.
 impl From<LoadingError> for Error {
     ghost use Rattle.std.specs.Prelude.{◌≡◌};
     ghost use Rattle.syntect_grammar.specs.Passing.{from_loading};
@@ -94,7 +94,7 @@ impl From<LoadingError> for Error {
     }
 }
 
-/// Want of memory is passed on as such.
+/// Lack of memory is passed on as such.
 impl From<ParsingError> for Error {
     ghost use Rattle.std.specs.Prelude.{◌≡◌};
     ghost use Rattle.syntect_grammar.specs.Passing.{from_parsing};
@@ -109,7 +109,7 @@ impl From<ParsingError> for Error {
     }
 }
 
-/// Want of memory is passed on as such.
+/// Lack of memory is passed on as such.
 impl From<ScopeError> for Error {
     ghost use Rattle.std.specs.Prelude.{◌≡◌};
     ghost use Rattle.syntect_grammar.specs.Passing.{from_scope};
@@ -124,7 +124,7 @@ impl From<ScopeError> for Error {
     }
 }
 
-/// Want of memory is passed on as such.
+/// Lack of memory is passed on as such.
 impl From<io::Error> for Error {
     ghost use Rattle.std.specs.Prelude.{◌≡◌};
     ghost use Rattle.syntect_grammar.specs.Passing.{from_io};
@@ -151,7 +151,7 @@ impl From<fmt::Error> for Error {
     }
 }
 
-/// Want of memory is passed on as such.
+/// Lack of memory is passed on as such.
 impl From<ParseSyntaxError> for Error {
     ghost use Rattle.std.specs.Prelude.{◌≡◌};
     ghost use Rattle.syntect_grammar.specs.Passing.{from_syntax};
@@ -166,7 +166,7 @@ impl From<ParseSyntaxError> for Error {
     }
 }
 
-/// Want of memory is passed on as such.
+/// Lack of memory is passed on as such.
 impl From<ParseScopeError> for Error {
     ghost use Rattle.std.specs.Prelude.{◌≡◌};
     ghost use Rattle.syntect_grammar.specs.Passing.{from_scope_text};
@@ -181,7 +181,7 @@ impl From<ParseScopeError> for Error {
     }
 }
 
-/// Want of memory is passed on as such.
+/// Lack of memory is passed on as such.
 impl From<PatternError> for Error {
     ghost use Rattle.std.specs.Prelude.{◌≡◌};
     ghost use Rattle.syntect_grammar.specs.Passing.{from_pattern};
@@ -196,7 +196,7 @@ impl From<PatternError> for Error {
     }
 }
 
-/// As a refusal to load a theme. Want of memory is passed on as such.
+/// As a refusal to load a theme. Lack of memory is passed on as such.
 impl From<ParseThemeError> for Error {
     ghost use Rattle.std.specs.Prelude.{◌≡◌};
     ghost use Rattle.syntect_grammar.specs.Passing.{from_theme_value};

@@ -50,7 +50,7 @@ fn fits_line(syntax: &SyntaxReference, line: &str, region: &mut Region) -> Resul
     }
 }
 
-/// Whether a whole path ends with this one behind a slash.
+/// Whether a whole path ends with this one after a slash.
 fn ends_behind_slash(whole: &[u8], path: &[u8]) -> bool
     ensures { result ≡ ends_with ◌==◌ whole.now (47 ∷ path.now) }
 {
@@ -61,7 +61,7 @@ fn ends_behind_slash(whole: &[u8], path: &[u8]) -> bool
     whole[from - 1] == b'/' && path == &whole[from..]
 }
 
-/// Whether a whole path is this one, or ends with it behind a slash.
+/// Whether a whole path is this one, or ends with it after a slash.
 fn ends_in_path(whole: &str, path: &str) -> bool
     ensures { result ≡ ends_in_path whole.now path.now }
 {
@@ -180,7 +180,7 @@ impl SyntaxSet {
             .find(|entry| ends_in_path(entry.0.as_str(), path))
     }
 
-    /// The syntax that was loaded last from a file of this path. The path may be the whole one, or its end behind a slash.
+    /// The syntax that was loaded last from a file of this path. The path may be the whole one, or its end after a slash.
     pub fn find_syntax_by_path(&self, path: &str) -> Result<Option<&SyntaxReference>, AllocError>
         ensures answers { IsOk result }
         ensures found { IfOk result

@@ -81,7 +81,7 @@ impl SyntaxSet {
         }
     }
 
-    /// The same. Takes no memory.
+    /// A set of no syntaxes, as `new` gives it. Takes no memory.
     pub fn default(alloc: Global) -> SyntaxSet
         ensures syntaxes { syntaxes_in result ≡ [] }
         ensures paths { set_paths result ≡ [] }
@@ -155,7 +155,7 @@ impl SyntaxSet {
         self.syntaxes.flats_of(id)
     }
 
-    /// The same of any context, walked now.
+    /// The patterns of the walk of any context, walked now, as far as who looks for the first that passes a test can tell.
     pub fn flats_walked(&self, alloc: Global, id: ContextId) -> Result<FlatList, AllocError>
         ensures { IfOk result (λ flats. AreFlatsOf self.now id flats) }
     {
@@ -222,7 +222,7 @@ impl SyntaxSetBuilder {
         }
     }
 
-    /// The same. Takes no memory.
+    /// No definitions, as `new` gives them. Takes no memory.
     pub fn default(alloc: Global) -> SyntaxSetBuilder
         ensures definitions { definitions_in result ≡ [] }
         ensures paths { paths_in result ≡ [] }

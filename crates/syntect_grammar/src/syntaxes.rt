@@ -96,7 +96,7 @@ impl Syntaxes {
     }
 }
 
-/// Those that a table holds for a context, if it holds any.
+/// The patterns of the walk that a table holds for a context, if it holds any.
 fn flats_at(table: &FlatTable, id: ContextId) -> Option<&FlatList>
     ensures { option_copied result ≡ flats_at table.now id }
 {

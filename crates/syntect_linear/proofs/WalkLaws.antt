@@ -47,7 +47,7 @@ pub record Continues (x : Ground) (k place : ℕ) (g : Groups) (turn at : ℕ) (
   pub calm : look_cost body ≡ 0
   pub paid : after ≤ before + (stay_cost body + read_cost body) * (at - place)
 
--- what goes on behind a part that ended there
+-- what goes on after a part that ended there
 abbrev pub follow : Ground → ℕ → ℕ → ℕ → ℕ
 follow x m mid place = if mid == place then (cell_at x.plan.now.cells m).empty else (cell_at x.plan.now.cells m).next
 

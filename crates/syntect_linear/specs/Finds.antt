@@ -23,7 +23,7 @@ abbrev pub FindsGroups : List ℕ → Program → ℕ → Option Groups → Type
 FindsGroups s p from groups = (tree : Tree) → IsProgramOf p tree → groups ≡ found s tree from
 
 -- these are the groups of that match, which begins at the last place or before; or none does, and what is found from the
--- place on is found from behind the last
+-- place on is found from just after the last
 abbrev pub FindsUpTo : List ℕ → Program → ℕ → ℕ → Option Groups → Type 0
 FindsUpTo s p from last None =
     (tree : Tree) → IsProgramOf p tree → found s tree from ≡ found s tree (suc last)

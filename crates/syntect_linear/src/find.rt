@@ -25,7 +25,7 @@ use syntect_ways::text::is_boundary;
 /// The cell of the whole pattern.
 const WHOLE: usize = 1;
 
-/// So many groups, none of which is set.
+/// The groups of a match before any is set: so many of them.
 fn no_groups(alloc: Global, count: usize) -> Result<Vec<Option<Span>>, AllocError>
     ensures { IfOk result (λ groups. groups.items ≡ replicate count None) }
 {

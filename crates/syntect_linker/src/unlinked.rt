@@ -194,7 +194,7 @@ fn add_reference(
     Ok(())
 }
 
-/// The same of each of these references.
+/// Puts what is said of each of these references into a set, unless it is resolved.
 fn add_references(
     alloc: Global,
     repository: &ScopeRepository,
@@ -227,7 +227,7 @@ fn pushed_by(pattern: &Pattern) -> &[ContextReference]
     }
 }
 
-/// The same of what patterns push or set.
+/// Puts what is said of each reference that patterns push or set into a set, unless it is resolved.
 fn add_patterns(
     alloc: Global,
     repository: &ScopeRepository,

@@ -20,7 +20,7 @@ pub data Refusal : Type 0 where
   no_main : Refusal
   wrong_kind : Refusal
 
--- what an error says of the text; want of memory says nothing
+-- what an error says of the text; lack of memory says nothing
 abbrev pub seen : ParseSyntaxError → Option Refusal
 seen InvalidYaml = Some no_value
 seen EmptyFile = Some no_node

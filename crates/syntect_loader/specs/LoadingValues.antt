@@ -62,7 +62,7 @@ scope_mark = codes "scope:"
 abbrev pub file_ending : List ℕ
 file_ending = codes ".sublime-syntax"
 
--- what stands behind the mark of a scope
+-- what comes after the mark of a scope
 abbrev pub scope_text : List ℕ → Option (List ℕ)
 scope_text name =
     if starts_with eqb name scope_mark then Some (drop (length scope_mark) name) else None
@@ -77,7 +77,7 @@ without_ending t =
     if is_file t && nat_lt (length file_ending) (length t)
     then take (length t - length file_ending) t else t
 
--- the name of the syntax that a file holds: the part behind the last `/`, without the ending
+-- the name of the syntax that a file holds: the part after the last `/`, without the ending
 abbrev pub file_name : List ℕ → List ℕ
 file_name text = without_ending (last_of [] (parts 47 text))
 

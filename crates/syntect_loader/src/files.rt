@@ -16,7 +16,7 @@ use syntect_base::loading::LoadingError;
 use syntect_base::syntax::ParseSyntaxError;
 use syntect_scope::repository::ScopeRepository;
 
-/// The refusal of the text in a file that is no grammar, with the file's path. Want of memory is passed on as such.
+/// The refusal of the text in a file that is no grammar, with the file's path. Lack of memory is passed on as such.
 fn refused_file(alloc: Global, path: &str, e: ParseSyntaxError) -> LoadingError
     ensures { (newlines : Bool) (repo : List (List ℕ)) (bytes : List ℕ) → IsUtf8 bytes
         → Fails (loaded bytes newlines (path_file_stem path.now) repo) e

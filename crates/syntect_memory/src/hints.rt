@@ -8,7 +8,7 @@ use std::alloc::{AllocError, Global};
 use std::marker::Model;
 use syntect_seek::prospect::Prospect;
 
-/// So many are kept: with one more all earlier ones are forgotten.
+/// How many are kept: with one more all earlier ones are forgotten.
 const MOST: usize = 16;
 
 /// What is known of a pattern.

@@ -42,7 +42,7 @@ pub data RefusesEntry (bytes : List ℕ) : LoadingError → Type 0 where
   no_entry : {d : Data} → IsSettings bytes d → is_entry d ≡ false → RefusesEntry bytes ParseMetadata
   no_memory : RefusesEntry bytes Memory
 
--- why what a reader has left, where that is known, gives no entry: reading has a fault, which is not that memory was wanting, or
+-- why what a reader has left, where that is known, gives no entry: reading has a fault, which is not that memory ran out, or
 -- the bytes give none
 pub data RefusesRead (left : Option (List ℕ)) : LoadingError → Type 0 where
   not_read : {e : Error} → error_kind e ≢ OutOfMemory → RefusesRead left (Io e)

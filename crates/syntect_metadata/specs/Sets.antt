@@ -39,7 +39,7 @@ set_with repo text items = unless_refused (first_refusal repo (union_words text)
 abbrev pub set_of : List (List ℕ) → List ℕ → Data → Result MetadataSet MetadataError
 set_of repo text d = if has_known_key d then next (items_of d) (set_with repo text) else Err Skipped
 
--- want of memory, or the refusal that the answer says
+-- lack of memory, or the refusal that the answer says
 abbrev pub Refuses : {X : Type 0} → Result X MetadataError → MetadataError → Type 0
 Refuses answer e = e ≢ Memory → answer ≡ Err e
 

@@ -126,7 +126,7 @@ impl Metadata {
         }
     }
 
-    /// The same sets.
+    /// A copy of the sets.
     fn copied(&self) -> Result<Metadata, AllocError>
         ensures { IfOk result (λ metadata. metadata ≡ self.now) }
     {

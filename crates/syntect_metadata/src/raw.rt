@@ -206,7 +206,7 @@ impl LoadMetadata {
         }
     }
 
-    /// The same entries, each as `RawMetadataEntry::clone` has it.
+    /// A copy of the entries, each as `RawMetadataEntry::clone` has it.
     pub fn clone(&self) -> Result<LoadMetadata, AllocError>
         ensures { IfOk result (λ raw. AllZip AreAlike self.now.loaded raw.loaded) }
     {

@@ -84,7 +84,7 @@ impl<'a> ScopedMetadata<'a> {
         self.asks(Kind::Decrease, line)
     }
 
-    /// Whether the lines behind a line are indented by one more: the first `increaseIndentPattern` matches at its begin.
+    /// Whether the lines after a line are indented by one more: the first `increaseIndentPattern` matches at its begin.
     pub fn increase_indent(&self, line: &str) -> Result<bool, AllocError>
         ensures { IfOk result (λ yes. yes
             ≡ answer (λ i. i.increase_indent_pattern)
@@ -93,7 +93,7 @@ impl<'a> ScopedMetadata<'a> {
         self.asks(Kind::Increase, line)
     }
 
-    /// Whether the one line behind a line is indented by one more: the first `bracketIndentNextLinePattern` matches at its
+    /// Whether the one line after a line is indented by one more: the first `bracketIndentNextLinePattern` matches at its
     /// begin.
     pub fn bracket_increase(&self, line: &str) -> Result<bool, AllocError>
         ensures { IfOk result (λ yes. yes
@@ -103,7 +103,7 @@ impl<'a> ScopedMetadata<'a> {
         self.asks(Kind::Bracket, line)
     }
 
-    /// Whether the line behind a line is not indented by one more: the first `disableIndentNextLinePattern` matches at its
+    /// Whether the line after a line is not indented by one more: the first `disableIndentNextLinePattern` matches at its
     /// begin.
     pub fn disable_indent_next_line(&self, line: &str) -> Result<bool, AllocError>
         ensures { IfOk result (λ yes. yes
@@ -146,7 +146,7 @@ impl<'a> ScopedMetadata<'a> {
         self.items.is_empty()
     }
 
-    /// The same sets with their scores.
+    /// A copy of the sets with their scores.
     pub fn clone(&self) -> Result<ScopedMetadata<'a>, AllocError>
         ensures { IfOk result (λ scoped. scoped.items ≡ self.now.items) }
     {

@@ -73,7 +73,7 @@ impl Meter {
         }
     }
 
-    /// So many steps are made, unless fewer are left: then these are made, and it stops.
+    /// Makes so many steps; if fewer are left, makes those and stops.
     #[inline]
     pub fn spend(&mut self, steps: usize) -> Result<(), Stop>
         ensures made { OnOk result (self.new.made ≡ self.old.made + steps) }

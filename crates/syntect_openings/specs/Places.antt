@@ -82,7 +82,7 @@ walk_left it =
 abbrev pub places_left : MatchIter → List Place
 places_left it = if it.failed then [] else walk_left it
 
--- one call of `next`: the next place that is left; none where none is left; after want of memory none is left
+-- one call of `next`: the next place that is left; none where none is left; once memory ran out none is left
 abbrev pub GivesPlace : MatchIter → Option (Result (Bor Context × ℕ) AllocError) → MatchIter
     → Type 0
 GivesPlace old None new = (places_left old ≡ []) × (places_left new ≡ [])

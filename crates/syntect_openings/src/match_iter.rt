@@ -106,7 +106,7 @@ impl<'a> MatchIter<'a> {
         Some((id, context))
     }
 
-    /// Goes on behind an include with what it names, if that gives anything.
+    /// Goes on after an include with what it names, if that gives anything.
     fn follow(&mut self, reference: &ContextReference) -> Result<(), AllocError>
         ensures places { OnOk result
             (walk_left self.new ≡ included_places (target_places

@@ -36,7 +36,7 @@ impl Opening {
         Opening { region, line }
     }
 
-    /// The same match once more.
+    /// A copy of the match.
     pub fn clone(&self, alloc: Global) -> Result<Opening, AllocError>
         ensures { IfOk result (λ o. o ≡ self.now) }
     {

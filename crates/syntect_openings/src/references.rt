@@ -121,7 +121,7 @@ pub fn push_metas(
     Ok(())
 }
 
-/// The same with their `meta_content_scope`s.
+/// Pushes the `meta_content_scope`s of the contexts that references stand for.
 #[tactic(auto, using(crate::proofs::OpenLaws::pushes_both))]
 pub fn push_opens(
     ops: &mut Ops,

@@ -11,10 +11,10 @@ use syntect_meter::meter::Meter;
 use syntect_meter::stop::Stop;
 use syntect_regex::regex::Regex;
 
-/// So many are kept: with one more all earlier ones are let go.
+/// How many are kept: with one more all earlier ones are dropped.
 const MOST: usize = 16;
 
-/// So many bytes that are compared, or copied, are a step.
+/// How many bytes that are compared, or copied, count as a step.
 const READ_A_STEP: usize = 64;
 
 /// How many steps it takes at least to look for one of them, and to pass over a pattern without back references in a list where
@@ -44,7 +44,7 @@ impl Model for Substitute {
         ≡ substituted (string_bytes s.pattern) s.opening.region s.opening.line };
 }
 
-/// Those that are kept.
+/// The patterns with groups put in that are kept.
 pub struct Substitutes {
     kept: Vec<Substitute>,
 }

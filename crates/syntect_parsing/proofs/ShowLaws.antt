@@ -196,7 +196,7 @@ module _ (set : SyntaxSet) (line : List ℕ) (m : Live) (s e : ℕ) (levels : Li
 pub moves_on : (set : SyntaxSet) (levels : List Level) (r : Replay) (i j : ℕ) (b : List Scopes) → i ≤ j → IsAt r i b (stack_of set levels) → IsAt r j (b ++ replicate (j - i) (visible set levels)) (stack_of set levels)
 moves_on set levels r i j b l h = rw (← stack_has_visible set levels) (at_move (stack_of set levels).clear_stack r i j b (stack_of set levels).scopes l h)
 
--- an orderly match's operations show the scopes of the bytes up to its end, and leave the stack of the levels behind it
+-- an orderly match's operations show the scopes of the bytes up to its end, and leave the stack of the levels after it
 pub take_shows : (set : SyntaxSet) (line : List ℕ) (levels : List Level) (place : ℕ) (m : Live) (r : Replay) (b : List Scopes) → AreLaidOut m.start m.end (captures dialect m) → place ≤ m.start → m.start ≤ m.end
     → is_orderly set levels m.pattern.operation ≡ true → IsAt r place b (stack_of set levels)
     → IsAt (replay (operations_of m.start m.end m.pattern.scope (captures dialect m) set levels m.pattern.operation) r) m.end (b ++ scopes_passed dialect set levels place m) (stack_of set (levels_by set line levels m m.pattern.operation))

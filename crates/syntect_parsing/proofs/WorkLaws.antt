@@ -20,7 +20,7 @@ use Rattle.syntect_parsing.specs.States.{Standing}
 use Rattle.syntect_contexts.specs.declared.error.ParsingError.{ParsingError}
 use Rattle.syntect_contexts.specs.declared.error.ParsingError.TheVariants as error
 
--- ---- want of memory ----
+-- ---- out of memory ----
 
 -- what holds of a refusal implies what is implied
 pub unless_so : (e : ParsingError) (P Q : Type 0) → (P → Q) → UnlessWanting P e → UnlessWanting Q e

@@ -85,7 +85,7 @@ AreMarksOf m cs marks = marks_operations marks ≡ capture_operations m.start m.
 
 -- ---- the operations of a match, as the reader of a line keeps it ----
 
--- its own scopes and its captures, between what stands below them and what comes behind
+-- its own scopes and its captures, between what stands below them and what comes after
 abbrev pub operations_between : Candidate → List Capture → List (ℕ × ScopeStackOp)
     → List (ℕ × ScopeStackOp) → List (ℕ × ScopeStackOp)
 operations_between m cs below behind = operations m.start m.end m.pattern.now.scope cs below behind

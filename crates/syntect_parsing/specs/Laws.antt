@@ -30,7 +30,7 @@ AnswersMore =
     → AnswersAll engine set lines state answers next → Answers engine set line next answer after
     → AnswersAll engine set (lines ++ line ∷ []) state (answers ++ answer ∷ []) after
 
--- The answers to some lines and those to more lines behind them are the answers to all of them,
+-- The answers to some lines and those to more lines after them are the answers to all of them,
 abbrev pub AnswersJoin : Type 0
 AnswersJoin =
     (engine : Engine) (set : SyntaxSet) (lines more : List (List ℕ))

@@ -37,7 +37,7 @@ pub record Accepts (engine : Engine) (set : SyntaxSet) (line : List ℕ) (old ne
   pub reads : ReadsLine engine set line old bytes new turns
   pub means : Means engine set line old new bytes ops
 
--- the refusal that the reading comes to; or want of memory, but not where no level is open, as no turn is made there
+-- the refusal that the reading comes to; or lack of memory, but not where no level is open, as no turn is made there
 abbrev pub MayRefuse : Engine → SyntaxSet → List ℕ → Standing → ParsingError → Type 0
 MayRefuse engine set line state error.Memory = state.levels ≢ []
 MayRefuse engine set line state e = (turns : ℕ) × RefusesLine engine set line state e turns

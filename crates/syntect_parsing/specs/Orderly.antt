@@ -16,7 +16,7 @@ use Rattle.syntect_winner.specs.declared.position.Position.{Position}
 use Rattle.syntect_parsing.specs.States.{Standing}
 use Rattle.syntect_winner.specs.declared.level.Level.{Level}
 
--- no context of a push or set clears behind its first, and a set leaves no context that clears: then what is cleared is put back
+-- no context of a push or set clears after its first, and a set leaves no context that clears: then what is cleared is put back
 -- in order
 abbrev pub is_orderly : SyntaxSet → List Level → MatchOperation → Bool
 is_orderly set levels (op.Push refs) = clear_nothing set (drop 1 (filter_map target refs))

@@ -50,7 +50,7 @@ Turns engine set line p q old new true =
     MakesStep (IsOrderlyTurn engine set line p) set line (turn engine set line p) p q old new
 Turns engine set line p q old new false = EndsLine engine set line p q old new
 
--- want of memory, or the step's refusal
+-- lack of memory, or the step's refusal
 abbrev pub RefusesStep : Step → ParsingError → Type 0
 RefusesStep step error.Memory = Unit {0}
 RefusesStep step e = step ≡ Refused e

@@ -107,7 +107,7 @@ StandsAt limits p told made (Levels place levels) =
 StandsAt limits p told made (Operations place operations) =
     (p.place ≡ place) × (made ≡ operations) × PassesLimit limits.operations operations
 
--- this holds, unless memory was wanting or a limit was reached
+-- this holds, unless memory ran out or a limit was reached
 abbrev pub UnlessStop : Type 0 → ReadWithinError → Type 0
 UnlessStop P (Refused e) = UnlessWanting P e
 UnlessStop P (LimitReached l) = Unit {0}

@@ -75,9 +75,9 @@ TakesMostSteps set line state before after =
     + most_turns set line state
     * turn_steps (most_patterns set line state each) most (length line)
 
--- ---- want of memory ----
+-- ---- out of memory ----
 
--- this holds, unless memory was wanting
+-- this holds, unless memory ran out
 abbrev pub UnlessWanting : Type 0 → ParsingError → Type 0
 UnlessWanting P error.Memory = Unit {0}
 UnlessWanting P e = P

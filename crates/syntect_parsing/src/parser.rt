@@ -110,7 +110,7 @@ impl ParseState {
     /// accepted line takes exactly those of its reading, a refused one no more, and neither more than
     /// `levels + (r + 1) * 1001 * (bytes + 1)`, with `r` the longest list of contexts that a match of the set opens, or 1.
     /// It counts the steps of their searches too, as `Regex::search_counted` does. Where the patterns that the line's turns look
-    /// at are linear, they are at most `turns * patterns * most * (bytes + 1)`, unless memory was wanting: `patterns` is how
+    /// at are linear, they are at most `turns * patterns * most * (bytes + 1)`, unless memory ran out: `patterns` is how
     /// many a turn looks at, and `most` how many steps a search of one takes (`steps`). Where all patterns of the set are linear
     /// and none uses back references, a formula of the set and the line's length bounds them (`most_steps`).
     /// Neither number ever falls (`no_fewer`, `no_fewer_steps`).
@@ -218,7 +218,7 @@ impl ParseState {
     /// The state after the next line, and its operations, as `parse_line` leaves and answers them. This state stays where it
     /// stands, so it needn't be copied where it may be wanted again. It counts the turns and the steps as `parse_line` does,
     /// also where the line is refused, and the state after the line has the same numbers. The searches' memory can be kept
-    /// from line to line; what is in it before doesn't matter, and behind the line its count is that of the line's steps, which
+    /// from line to line; what is in it before doesn't matter, and after the line its count is that of the line's steps, which
     /// are added to this state's (`added`). Refused as `parse_line` is.
     pub fn after_line(
         &mut self,
@@ -580,7 +580,7 @@ fn read_adding(
     }
 }
 
-/// The same standing once more.
+/// A copy of the standing.
 fn copied(state: &Standing) -> Result<Standing, AllocError>
     ensures { IfOk result (λ s. s ≡ state.now) }
 {

@@ -38,10 +38,10 @@ pub enum LineLimit {
 /// Why a line was not read within limits.
 #[derive(Debug, Drop, PartialEq, Eq, Error)]
 pub enum ReadWithinError {
-    /// It is refused as it is without limits.
+    /// The line is refused as it is without limits.
     #[error("{0}")]
     Refused(ParsingError),
-    /// It reached a limit.
+    /// The line reached a limit.
     #[error("{0}")]
     LimitReached(LineLimit),
 }

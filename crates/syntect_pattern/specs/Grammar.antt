@@ -30,7 +30,7 @@ pub record Place : Type 0 where
 abbrev pub forward : ℕ → Place → Place
 forward n p = record p { text = drop n p.text }
 
--- behind white space and comments, as the flag x wants it, and behind notes
+-- after white space and comments, as the flag x wants it, and after notes
 unfoldable pub passed : Place → Option Place
 passed p = option_map (λ t. record p { text = t }) (pass p.flags.spaced between p.text)
 
@@ -73,7 +73,7 @@ abbrev pub is_allowed : ℕ → Option ℕ → Bool
 is_allowed least None = nat_le least 1000
 is_allowed least (Some most) = nat_le least most && nat_le most 1000
 
--- With a `?` right behind it a quantifier is lazy; with a `+` behind `*`, `+` or `?` it gives nothing back.
+-- With a `?` right after it a quantifier is lazy; with a `+` after `*`, `+` or `?` it gives nothing back.
 unfoldable pub loop : Quantifier → Tree → Text → Tree × Text
 loop q a t =
     if begins "?" t then (repeat false q.least q.most a, drop 1 t)
@@ -87,7 +87,7 @@ looped a p (Some (q, rest)) = do
   let (tree, after) = loop q a rest
   Some (tree, record p { text = after })
 
--- the item with the quantifier behind it, if there is one
+-- the item with the quantifier after it, if there is one
 unfoldable pub quantified : Tree → Place → Option (Tree × Place)
 quantified a p = passed p >>= λ here. looped a here (quantifier here.text)
 
@@ -143,7 +143,7 @@ flag_group p = do
   begins ":" after || begins ")" after
   Some (if begins ")" after then setting else opens (λ a. a), record p { flags = flags; text = drop 1 after })
 
--- from behind the parenthesis up to what stands in the group
+-- from just after the parenthesis up to what stands in the group
 unfoldable pub opening : Place → Option (Opening × Place)
 opening p =
     let t = p.text in
@@ -241,7 +241,7 @@ module _ (known : Option Names) where
   escaped b p (number n) = by_number known p.flags.fold n >>= λ a. item b a p
   escaped b p (name found) = by_name known p.flags.fold found >>= λ a. item b a p
 
-  -- The group behind its opening; `inner` reads what stands in it up to its end. The flags of the outside come back there.
+  -- The group after its opening; `inner` reads what stands in it up to its end. The flags of the outside come back there.
   abbrev pub grouped : (Place → Option (Tree × Place)) → ℕ → Body → Flags → Opening × Place → Option Step
   grouped inner depth b flags (setting, p) = Some (on b p)
   grouped inner depth b flags (opens make, p) = do

@@ -11,7 +11,7 @@ pub fn matches_are_laid_out()
     ensures { FindsMatches }
 {}
 
-/// The same law for a pattern that is given as its text: what `pattern_found` finds is a match of the pattern's tree.
+/// The law of searches for a pattern that is given as its text: what `pattern_found` finds is a match of the pattern's tree.
 pub fn pattern_matches_are_laid_out()
     ensures { FindsPatternMatches }
 {}

@@ -42,7 +42,7 @@ Serves refers known these = refers ≡ true → known ≡ these
 abbrev pub WithGroups : Reader → Option Names → (Option Names → Type 0) → Type 0
 WithGroups r known Holds = (groups : Option Names) → Serves r.refers known groups → Holds groups
 
--- how what stands in a group is read, from the place behind its opening
+-- how what stands in a group is read, from the place after its opening
 abbrev pub Inner : Type 0
 Inner = grammar.Place → Option (Tree × grammar.Place)
 
@@ -50,7 +50,7 @@ Inner = grammar.Place → Option (Tree × grammar.Place)
 abbrev pub inner_of : Option Names → ℕ → Inner
 inner_of known depth = body_of known (depth + 1) grammar.empty_body
 
--- what the grammar reads from the place on, behind what is read of the group
+-- what the grammar reads from the place on, after what is read of the group
 module _ (old new : Reader) (body : Body) (place : Place) where
   -- this reading of the grammar goes on to what was found
   abbrev pub GoesOn : (grammar.Body → grammar.Place → Option grammar.Step)

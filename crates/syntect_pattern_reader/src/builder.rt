@@ -14,7 +14,7 @@ use syntect_pattern_words::members::Leaf;
 use syntect_pattern_words::tokens::Looping;
 use syntect_values::seq::Seq;
 
-/// The nodes so far, each behind its parts.
+/// The nodes so far, each after its parts.
 #[derive(Drop)]
 pub struct Builder {
     pub nodes: Seq<Node>,
@@ -30,7 +30,7 @@ pub enum Item {
     Letter { fold: bool, letter: u8 },
 }
 
-/// The end of a sequence: letters, if there are some, and the node at the place behind them.
+/// The end of a sequence: letters, if there are some, and the node at the place after them.
 #[derive(Clone, Copy)]
 struct End {
     letters: Option<Letters>,
@@ -150,7 +150,7 @@ impl Builder {
         }
     }
 
-    /// Puts all items together, one of which stands behind the other. They are taken off, and their memory stays.
+    /// Puts all items together, one after the other. They are taken off, and their memory stays.
     pub fn sequence(&mut self, items: &mut Seq<Item>) -> Result<usize, AllocError>
         requires { AreItemsIn (length self.old.nodes) items.old }
         ensures grows { OnOk result (Grows self.old.nodes self.new.nodes) }

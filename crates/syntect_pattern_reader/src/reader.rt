@@ -108,7 +108,7 @@ impl Reader {
         Ok(Some((Body { before, items }, place)))
     }
 
-    /// An item, perhaps with a quantifier behind it.
+    /// An item, perhaps with a quantifier after it.
     fn item<'a>(
         &mut self,
         body: Body,
@@ -329,7 +329,7 @@ impl Reader {
         ))
     }
 
-    /// The same for a name.
+    /// What a back reference to the name stands for, if it names a group. While the groups aren't known it is nothing.
     fn by_name(
         &mut self,
         known: &Option<Names>,

@@ -60,7 +60,7 @@ pub record Begins : Type 0 where
 abbrev pub begins : ℕ → Tree → Begins
 begins x t = record { read = reads t x; stay = stays t x }
 
--- a part behind another, one of two parts, a loop, a lookahead
+-- a part after another, one of two parts, a loop, a lookahead
 abbrev pub sequence_begins : Begins → Begins → Begins
 sequence_begins a b = record { read = a.read || (a.stay && b.read); stay = a.stay && b.stay }
 

@@ -17,13 +17,13 @@ const LONG: usize = 8;
 /// How many branches each of two jumps passes at most that are put together.
 const FAR: u32 = 1 << 30;
 
-/// From a node to one behind some of its branches.
+/// From a node to one after some of its branches.
 #[derive(Clone, Copy)]
 pub struct Jump {
     /// Where matches of those branches can begin, part by part, since that takes less room than `Places`.
     ascii: u128,
     pub to: usize,
-    /// So many branches are passed.
+    /// How many branches are passed.
     pub count: u32,
     wide: bool,
     end: bool,

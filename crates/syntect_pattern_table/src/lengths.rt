@@ -21,7 +21,7 @@ pub struct Lengths {
     pub most: Option<u32>,
 }
 
-/// So many bytes.
+/// Exactly so many bytes.
 fn exactly(count: u32) -> Lengths
     ensures least { result.least ≡ count }
     ensures most { result.most ≡ Some count }
@@ -87,7 +87,7 @@ fn lengths_of_one(wide: bool) -> Lengths
     }
 }
 
-/// Of the one behind the other.
+/// Of the one after the other.
 fn in_sequence(a: Lengths, b: Lengths) -> Lengths
     ensures { (t u : Tree) → HasLengths t a → HasLengths u b → HasLengths (seq t u) result }
 {

@@ -1,4 +1,4 @@
-//! The tree of a pattern as a table of nodes, each of which stands behind its parts.
+//! The tree of a pattern as a table of nodes, each of which comes after its parts.
 pub use crate::sets::Class;
 pub use syntect_letters::letters::Letters;
 pub use syntect_pattern::anchor::Anchor;
@@ -8,7 +8,7 @@ pub use syntect_pattern::anchor::Anchor;
 pub enum Node {
     /// Reads nothing.
     Nothing,
-    /// This character.
+    /// A single character.
     Char(char),
     /// One character of the class.
     Class(Class),

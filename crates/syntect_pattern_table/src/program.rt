@@ -15,7 +15,7 @@ use crate::starts::{flags_of, is_in, nowhere, start_at};
 use std::alloc::{AllocError, Global};
 use syntect_values::seq::Seq;
 
-/// The tree of a pattern as a table of nodes, each of which stands behind its parts.
+/// The tree of a pattern as a table of nodes, each of which comes after its parts.
 #[derive(Drop)]
 pub struct Program {
     pub nodes: Seq<Node>,
@@ -120,7 +120,7 @@ impl Program {
         }
     }
 
-    /// The node behind the first branches of a long alternation, which have no match at the place, as what stands there tells.
+    /// The node after the first branches of a long alternation, which have no match at the place, as what stands there tells.
     /// None where they may have one, and for other nodes.
     #[inline]
     pub fn past_branches(&self, text: &str, place: usize, node: usize) -> Option<usize>

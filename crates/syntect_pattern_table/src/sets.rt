@@ -218,7 +218,7 @@ impl Class {
         })
     }
 
-    /// The same class.
+    /// A copy of the class.
     pub fn copy(&self, alloc: Global) -> Result<Class, AllocError>
         ensures { IfOk result (λ s. set_of s ≡ set_of self.now) }
     {

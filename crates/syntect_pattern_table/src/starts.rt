@@ -193,7 +193,7 @@ fn places_of_anchor(anchor: Anchor) -> Places
     }
 }
 
-/// Where the one behind the other can begin.
+/// Where the one after the other can begin.
 pub fn in_sequence(a: Firsts, b: Firsts) -> Firsts
     ensures { (x : ℕ) → begins_at x result ≡ sequence_begins (begins_at x a) (begins_at x b) }
 {
@@ -267,7 +267,7 @@ fn at(places: &PlaceList, rows: &[usize], firsts: &[Firsts], place: usize) -> Fi
     }
 }
 
-/// Where the part at the one place can begin with that at the other behind it, which counts only where the first one can read
+/// Where the part at the one place can begin with that at the other after it, which counts only where the first one can read
 /// nothing.
 fn sequence_at(
     places: &PlaceList,

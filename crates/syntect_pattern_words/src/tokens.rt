@@ -84,14 +84,14 @@ pub enum Looping {
     },
 }
 
-/// Whether a `+` behind a quantifier that is no count makes it possessive.
+/// Whether a `+` after a quantifier that is no count makes it possessive.
 fn gives_nothing_back(short: bool, text: &str) -> bool
     ensures { result ≡ (short && begins "+" (chars text.now)) }
 {
     short && begins(text, &['+'])
 }
 
-/// The loop of a quantifier, as the sign behind it wants it, and what follows.
+/// The loop of a quantifier, as the sign after it wants it, and what follows.
 fn looped(quantifier: Quantifier, text: &str) -> (Looping, &str)
     ensures { (a : Tree) → grammar.loop (quantifier_as quantifier) a (chars text.now) ≡ (looped_tree result.0 a, chars result.1.now) }
 {

@@ -23,12 +23,12 @@ module _ {A : Type 0} where
   whole n [] = []
   whole n (p ∷ ps) = if nat_le (length p.1) n then p ∷ whole (n - length p.1) ps else []
 
-  -- how many of the bytes are left behind them
+  -- how many of the bytes are left after them
   abbrev pub bytes_left : ℕ → List (A × List ℕ) → ℕ
   bytes_left n [] = n
   bytes_left n (p ∷ ps) = if nat_le (length p.1) n then bytes_left (n - length p.1) ps else n
 
-  -- the pieces behind them
+  -- the pieces after them
   abbrev pub others : ℕ → List (A × List ℕ) → List (A × List ℕ)
   others n [] = []
   others n (p ∷ ps) = if nat_le (length p.1) n then others (n - length p.1) ps else p ∷ ps
@@ -83,7 +83,7 @@ module _ {A : Type 0} where
 abbrev pub changed : StyleModifier → List (Style × List ℕ) → List (Style × List ℕ)
 changed modifier ps = map (λ p. (restyled modifier p.0, p.1)) ps
 
--- pieces between two bytes are changed: they are cut at the first, and what is behind it at the second
+-- pieces between two bytes are changed: they are cut at the first, and what is after it at the second
 pub record IsModified (start end : ℕ) (modifier : StyleModifier)
     (ps new : List (Style × List ℕ)) : Type 0 where
   pub before : List (Style × List ℕ)

@@ -34,7 +34,7 @@ fn push_all<'a, A: Clone + Drop>(
     Ok(())
 }
 
-/// How many pieces lie in the first so many bytes as a whole, and how many of the bytes are left behind them.
+/// How many pieces lie in the first so many bytes as a whole, and how many of the bytes are left after them.
 fn whole_pieces<A>(v: &[(A, &str)], split_i: usize) -> (usize, usize)
     ensures within { result.0 ≤ length v.now }
     ensures whole { take result.0 (plain v.now) ≡ whole split_i (plain v.now) }
@@ -102,7 +102,7 @@ pub fn split_at<'a, A: Clone + Drop>(
     Ok((before, after))
 }
 
-/// Changes the styles of pieces between two byte positions of their text: they are cut at the first, and what is behind
+/// Changes the styles of pieces between two byte positions of their text: they are cut at the first, and what is after
 /// it is cut at as many bytes more.
 pub fn modify_range<'a>(
     alloc: Global,

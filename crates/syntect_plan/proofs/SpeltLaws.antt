@@ -28,7 +28,7 @@ pub after-push : {A E : Type 0} (P : List Node → Type 0) (r : Result A E) (old
 after-push P (Ok x) old more new ok err h m = subst P (sym ok) m
 after-push P (Err x) old more new ok err h m = subst P (sym err) h
 
--- a node behind its parts keeps the order
+-- a node after its parts keeps the order
 pub ordered-push : (ns : List Node) (n : Node) → parts_before (length ns) n ≡ true → IsOrdered ns → IsOrdered (ns ++ n ∷ [])
 ordered-push ns n b h k l =
     elim (cases_lt k (length ns)) [

@@ -19,7 +19,7 @@ abbrev pub chosen : Onward → List Member → Option Member
 chosen F [] = None
 chosen F (m ∷ ms) = if is_some (F m.0) then Some m else chosen F ms
 
--- the one where nothing was read from the place on, and the other one behind it
+-- the one where nothing was read from the place on, and the other one after it
 abbrev pub moved : ℕ → Onward → Onward → Onward
 moved i f g j = if j == i then f j else g j
 

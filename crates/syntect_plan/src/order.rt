@@ -69,7 +69,7 @@ pub(crate) fn node_size(node: &Node, before: &[usize]) -> usize
     }
 }
 
-/// The same of each node.
+/// Of each node, how many nodes it has with those of its parts, as `node_size` counts them.
 fn sizes_of(alloc: Global, nodes: &[Node]) -> Result<Vec<usize>, AllocError>
     ensures { IfOk result (λ sizes. AreSpelt nodes.now → AreSizes sizes.items (trees nodes.now)) }
 {
@@ -124,7 +124,7 @@ fn cell_height(cell: Cell, sizes: &[usize], facts: &[Facts], before: &[usize]) -
     }
 }
 
-/// The same of each cell.
+/// Of each cell, how much of the pattern can be gone through at one place from it on.
 fn heights_of(alloc: Global, plan: &Plan, sizes: &[usize]) -> Result<Vec<usize>, AllocError>
     ensures heights { IfOk result (λ heights. (ts : List Tree) → AreFacts plan.now.facts ts
         → AreSizes sizes.now ts → AreCapped heights.items (heights_from ts [] plan.now.cells)) }
@@ -139,7 +139,7 @@ fn heights_of(alloc: Global, plan: &Plan, sizes: &[usize]) -> Result<Vec<usize>,
     Ok(heights)
 }
 
-/// The cells, each behind its height, the lowest first.
+/// The cells, each after its height, the lowest first.
 pub fn order_of(
     alloc: Global,
     program: &Program,

@@ -12,7 +12,7 @@ use std::alloc::{AllocError, Global};
 use syntect_pattern_table::node::Node;
 use syntect_pattern_table::program::Program;
 
-/// Those of two parts.
+/// How many passes two parts take, by those of each, at most the largest number.
 #[tactic(auto, unfolding(crate::specs::Order::capped))]
 fn sum_of(first: usize, second: usize) -> usize
     ensures { (a b : ℕ) → first ≡ capped a → second ≡ capped b → result ≡ capped (a + b) }

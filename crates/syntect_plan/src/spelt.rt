@@ -159,7 +159,7 @@ impl Spelling {
     }
 }
 
-/// The same program with each letter in a node of its own.
+/// The program with each letter in a node of its own.
 pub fn spelt(alloc: Global, program: &Program) -> Result<Program, AllocError>
     ensures spelt { IfOk result (λ p. AreSpelt p.nodes) }
     ensures root { IfOk result (λ p. slice_index_or (trees_of p) p.root nothing

@@ -11,7 +11,7 @@ use syntect::highlighting::ThemeSet;
 use syntect::parsing::{ScopeRepository, SyntaxSetBuilder};
 use syntect_folder_page::folder::page_by_folder;
 
-/// A grammar in which each word behind a space is a `word`.
+/// A grammar in which each word after a space is a `word`.
 const GRAMMAR: &str = r#"%YAML 1.2
 ---
 scope: source.t
@@ -50,7 +50,7 @@ fn told_of_grammars(rt: &(impl Files + AllocGlobal + Abort), folder: Path<'_>) -
     }
 }
 
-/// The same about the theme in a file.
+/// A line about the theme in a file, without the file's path. It is empty where the theme is loaded.
 fn told_of_theme(rt: &(impl Files + AllocGlobal + Abort), path: Path<'_>) -> String {
     let alloc = rt.alloc();
     let mut repository = ScopeRepository::new(alloc);

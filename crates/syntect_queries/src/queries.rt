@@ -124,7 +124,7 @@ fn answers_of(alloc: Global, text: &str) -> io::Result<String> {
 }
 
 /// Prints the answer to each query of a file: `BAD` for no pattern, `NONE` where nothing is found, or where the groups
-/// stand, each with a space behind it, `-` for one that is not set.
+/// stand, each with a space after it, `-` for one that is not set.
 pub fn answers(
     rt: &(impl Print + Eprint + AllocGlobal + Files),
     path: &str,
@@ -151,7 +151,7 @@ fn read_data(rt: &(impl AllocGlobal + Files), name: &str) -> io::Result<String> 
     }
 }
 
-/// Whether the query of a line, which stands behind its answer, is answered so.
+/// Whether the query of a line, which comes after its answer, is answered so.
 fn is_answered(alloc: Global, line: &str) -> io::Result<bool> {
     let Some((wanted, query)) = line.split_once('\t') else {
         return Ok(false);
@@ -161,7 +161,7 @@ fn is_answered(alloc: Global, line: &str) -> io::Result<bool> {
     Ok(out.as_str().trim_end() == wanted)
 }
 
-/// How many of the queries of a text, each of which stands behind its answer, are answered so, and how many otherwise.
+/// How many of the queries of a text, each of which comes after its answer, are answered so, and how many otherwise.
 fn count_lines(alloc: Global, text: &str) -> io::Result<(u32, u32)> {
     let mut answered = 0u32;
     let mut others = 0u32;
@@ -175,7 +175,7 @@ fn count_lines(alloc: Global, text: &str) -> io::Result<(u32, u32)> {
     Ok((answered, others))
 }
 
-/// The same of the queries of a file.
+/// How many of the queries of a file, each of which comes after its answer, are answered so, and how many otherwise.
 pub fn count_answers(rt: &(impl AllocGlobal + Files), name: &str) -> io::Result<(u32, u32)> {
     count_lines(rt.alloc(), read_data(rt, name)?.as_str())
 }
@@ -196,7 +196,7 @@ pub fn count_texts(alloc: Global, text: &str) -> io::Result<(u32, u32)> {
     Ok((patterns, others))
 }
 
-/// The same of the texts of a file.
+/// How many texts of a file, with a line `%%` between two, are patterns, and how many are none.
 pub fn count_patterns(rt: &(impl AllocGlobal + Files), name: &str) -> io::Result<(u32, u32)> {
     count_texts(rt.alloc(), read_data(rt, name)?.as_str())
 }

@@ -31,7 +31,7 @@ fn is_refused<T: Drop>(rt: &impl Abort, found: Result<T, Error>) {
     holds(rt, matches!(&found, Err(Error::ScopeError(_))));
 }
 
-/// The same, of a line within limits.
+/// An operation of the line, which is read within limits, is refused.
 fn is_refused_within<T: Drop>(rt: &impl Abort, found: Result<T, HighlightWithinError>) {
     holds(
         rt,

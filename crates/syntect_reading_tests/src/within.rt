@@ -165,7 +165,7 @@ pub fn main_of(rt: &impl Abort, set: &SyntaxSet) -> ContextId {
         .expect(rt, "a context")
 }
 
-/// The letters take more steps than the line has, at the first place behind the match.
+/// The letters take more steps than the line has, at the first place after the match.
 #[test]
 fn a_line_of_too_many_steps(rt: HostRuntime) {
     let set = set_of(&rt, rt.alloc());

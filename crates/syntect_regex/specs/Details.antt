@@ -12,7 +12,7 @@ use Rattle.syntect_regex.specs.declared.details.Rare.TheVariants.{Free, Groups, 
 abbrev pub anything : Places
 anything = record { ascii = 2 ^ 128 - 1; wide = true; end = true }
 
--- anything can stand behind words and white space: there is no more than groups, which stand in lookarounds or not
+-- anything can come after words and white space: there is no more than groups, which stand in lookarounds or not
 abbrev pub groups_alone : Option (List (Option Bool)) → Detail
 groups_alone looks = record { words = anything; blanks = anything; looks = looks }
 

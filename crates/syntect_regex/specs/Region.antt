@@ -40,7 +40,7 @@ BeginsAt groups place = (start end : ℕ) → slice_index_or groups 0 None ≡ S
     → start ≡ place
 
 -- The answer says whether a match begins at the place: then the new groups are the match's, and else the old ones stay, and
--- what is found from the place on is found from behind it.
+-- what is found from the place on is found from just after it.
 abbrev pub TakesAt : (ℕ → Option Groups) → ℕ → Groups → Bool → Groups → Type 0
 TakesAt match place old true new = (match place ≡ Some new) × BeginsAt new place
 TakesAt match place old false new = (new ≡ old) × (match place ≡ match (place + 1))

@@ -1,4 +1,4 @@
-//! What not every pattern has: what can stand behind words and white space in which matches begin, and groups.
+//! What not every pattern has: what can come after words and white space in which matches begin, and groups.
 ghost use Rattle.std.specs.Prelude.{◌≡◌, ℕ, IfOk, IfSome, List, Some, None, false, length, option_and_then, replicate, slice_index_or, true};
 ghost use Rattle.syntect_pattern.specs.Trees.{group_in_look};
 ghost use Rattle.syntect_pattern.specs.Pattern.{pattern_tree};
@@ -26,7 +26,7 @@ enum GroupLooks {
     Each(Box<Option<Seq<Option<bool>>>>),
 }
 
-/// The same, the whole match aside, seen as one list, or none where the text is no pattern.
+/// Of each group, the whole match aside, whether it stands in a lookaround, seen as one list, or none where the text is no pattern.
 #[derive(Drop)]
 struct Looks {
     groups: GroupLooks,
@@ -44,7 +44,7 @@ impl Model for Looks {
 /// What is kept of a pattern beside where its matches begin.
 #[derive(Drop)]
 struct Detail {
-    /// What can stand behind a word in which a match begins, and behind white space in which one does.
+    /// What can come after a word in which a match begins, and after white space in which one does.
     words: Places,
     blanks: Places,
     looks: Looks,
@@ -53,16 +53,16 @@ struct Detail {
 /// What not every pattern has.
 #[derive(Drop)]
 enum Rare {
-    /// Anything can stand behind words and white space, and none of so many groups stands in a lookaround, as in most patterns.
+    /// Anything can come after words and white space, and none of so many groups stands in a lookaround, as in most patterns.
     Free(u32),
     /// Groups alone: of each whether it stands in a lookaround, or None if the text is no pattern. (`Looks` in its place would
     /// make each pattern larger.)
     Groups(Box<Option<Seq<Option<bool>>>>),
-    /// Something that can't stand behind words or white space.
+    /// Something that can't come after words or white space.
     All(Box<Detail>),
 }
 
-/// The same, seen as a `Detail`. What a pattern has of it stands in a place of its own, so that a pattern is small.
+/// What not every pattern has, seen as a `Detail`. It stands in a place of its own, so that a pattern is small.
 #[derive(Drop)]
 pub(crate) struct Details {
     rare: Rare,
@@ -78,7 +78,7 @@ impl Model for Details {
 }
 
 impl Details {
-    /// What can stand behind words, and what behind white space, and of each group whether it stands in a lookaround.
+    /// What can come after words, and what after white space, and of each group whether it stands in a lookaround.
     pub(crate) fn new(
         alloc: Global,
         words: Places,
@@ -99,7 +99,7 @@ impl Details {
         Ok(Details { rare })
     }
 
-    /// Those of a pattern where anything can stand behind words and white space.
+    /// The details of a pattern where anything can come after words and white space.
     fn of_groups(alloc: Global, looks: Option<Seq<Option<bool>>>) -> Result<Details, AllocError>
         ensures { IfOk result (λ d. d ≡ groups_alone looks) }
     {
@@ -122,7 +122,7 @@ impl Details {
         Ok(Details { rare })
     }
 
-    /// What can stand behind a word in which a match begins.
+    /// What can come after a word in which a match begins.
     pub(crate) fn words(&self) -> Places
         ensures { result ≡ self.now.words }
     {
@@ -132,7 +132,7 @@ impl Details {
         }
     }
 
-    /// What can stand behind white space in which one does.
+    /// What can come after white space in which one does.
     pub(crate) fn blanks(&self) -> Places
         ensures { result ≡ self.now.blanks }
     {
@@ -167,7 +167,7 @@ impl Looks {
         Ok(Looks { groups })
     }
 
-    /// The same once more.
+    /// A copy of the list.
     fn clone(&self, alloc: Global) -> Result<Looks, AllocError>
         ensures { IfOk result (λ l. l ≡ self.now) }
     {

@@ -71,7 +71,7 @@ fn edges_of(program: &Option<Program>) -> bool
     }
 }
 
-/// What can stand behind white space, or else behind a word, in which a match of the program begins; anything where there is
+/// What can come after white space, or else after a word, in which a match of the program begins; anything where there is
 /// none.
 fn behind_of(alloc: Global, blank: bool, program: &Option<Program>) -> Result<Places, AllocError>
     ensures { IfOk result (λ places. (p : Program) → program.now ≡ Some p

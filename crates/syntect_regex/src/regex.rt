@@ -142,8 +142,7 @@ impl Regex {
         Ok(Regex { body })
     }
 
-    /// The same, compiled for searches at once: a pattern that is searched soon is so compiled a single time, and its searches
-    /// take a little less.
+    /// The pattern of the text, compiled for searches at once: a pattern that is searched soon is so compiled a single time, and its searches take a little less.
     pub fn ready(alloc: Global, text: String) -> Result<Regex, AllocError>
         ensures { IfOk result (λ r. r ≡ string_bytes text) }
     {
@@ -166,7 +165,7 @@ impl Regex {
         Ok(program.as_ref())
     }
 
-    /// Why the text is no pattern, if it is none: `NotAPattern`, or `Memory` where that was wanting.
+    /// Why the text is no pattern, if it is none: `NotAPattern`, or `Memory` where memory ran out.
     pub fn try_compile(alloc: Global, text: &str) -> Option<PatternError>
         ensures some { IfSome result
             (λ e. e ≡ PatternError.NotAPattern → pattern_tree text.now ≡ None) }
@@ -210,7 +209,7 @@ impl Regex {
         self.body.at_edges
     }
 
-    /// What can stand behind a word in which a match begins: in a word that has something else behind it none begins. The
+    /// What can come after a word in which a match begins: in a word that has something else after it none begins. The
     /// word's characters are those of ASCII.
     pub fn behind_words(&self) -> Places
         ensures { NoneBeginsBefore false result self.now }
@@ -218,7 +217,7 @@ impl Regex {
         self.body.details.words()
     }
 
-    /// What can stand behind white space in which a match begins: in white space that has something else behind it none
+    /// What can come after white space in which a match begins: in white space that has something else after it none
     /// begins. It is tabs, line feeds and spaces.
     pub fn behind_blanks(&self) -> Places
         ensures { NoneBeginsBefore true result self.now }
@@ -260,7 +259,7 @@ impl Regex {
 
     /// Searches `text[..end]` from `begin` on, both being byte positions: whether the pattern matches at some place there.
     /// The least place counts, and the first match at it. Where there is one, the region has its groups; else, and where
-    /// memory is wanting, the region stays.
+    /// memory runs out, the region stays.
     ///
     /// Group 0 is the whole match. Each group that is set lies in the text and between characters. Those that stand in no
     /// lookaround lie in the match, and each two of them lie apart or one in the other.
@@ -355,7 +354,7 @@ impl Regex {
     }
 
     /// Whether a match begins at the place, a byte position. Where one does, the region has the groups of the first one; else,
-    /// and where memory is wanting, the region stays, and a search from behind the place on finds what one from the place on
+    /// and where memory runs out, the region stays, and a search from just after the place on finds what one from the place on
     /// does.
     pub fn match_at(
         &self,
@@ -445,7 +444,7 @@ impl Regex {
         region.find_known(program, pattern, text, place, known, depths, meter)
     }
 
-    /// Searches as `search_into` does, where a region is perhaps lent. Without one the memory of the search is let go.
+    /// Searches as `search_into` does, where a region is perhaps lent. Without one the memory of the search is dropped.
     pub fn search(
         &self,
         alloc: Global,

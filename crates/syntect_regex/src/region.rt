@@ -63,7 +63,7 @@ impl Region {
         Region::new(alloc)
     }
 
-    /// The place where the group of that number begins and the place behind it, both in bytes. None for a group that is
+    /// The place where the group of that number begins and the place after it, both in bytes. None for a group that is
     /// unset and for a number that is no group's.
     pub fn pos(&self, group: usize) -> Option<(usize, usize)>
         ensures { result ≡ slice_index_or self.now group None }
@@ -106,8 +106,7 @@ impl Region {
         Ok(found)
     }
 
-    /// The same for this place alone of a text in which the pattern is tried at place after place, by what is known of it there,
-    /// of which more is known after. The program is the pattern's.
+    /// Whether the program matches at this place alone of a text in which the pattern is tried at place after place, by what is known of it there, of which more is known after. Where it does, the region has the groups of that match. The program is the pattern's.
     pub(crate) fn find_known(
         &mut self,
         program: &Program,

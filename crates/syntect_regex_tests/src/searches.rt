@@ -140,7 +140,7 @@ fn tells_which_patterns_are_linear(rt: HostRuntime) {
     }
 }
 
-/// A pattern, a character that stands behind white space or else behind a word in which a match of it is to begin, and whether
+/// A pattern, a character that comes after white space or else after a word in which a match of it is to begin, and whether
 /// one can begin there.
 const BEHIND: [(&str, bool, u8, bool); 13] = [
     ("\\s*(?=\\|)", true, b'|', true),
@@ -217,7 +217,7 @@ fn counts_the_steps_of_a_search(rt: HostRuntime) {
 }
 
 /// A pattern that is tried at place after place of one text begins where its matches do, also where what they need no longer
-/// stands behind.
+/// follows.
 #[test]
 fn tries_a_pattern_by_what_is_known(rt: HostRuntime) {
     let text = String::from_str(rt.alloc(), "a+b").expect(&rt, "memory");

@@ -60,14 +60,14 @@ AreTraced variables (f ∷ fs) t written =
     (f.start ≡ written → left [] (without f.name variables) fs t ≡ use_value variables f.name)
     × (f.start ≤ written) × AreTraced (without f.name variables) fs t written
 
--- the text t begins with the use of a variable of this name, behind which another follows
+-- the text t begins with the use of a variable of this name, after which another follows
 abbrev pub BeginsWithUse : List ℕ → List ℕ → List ℕ → Type 0
 BeginsWithUse name after t =
     (mark : List ℕ) (us : Variables)
     → marked mark us t
     ≡ marked_value mark (marked mark) us name (lookup (bytes_eq name) us) ++ marked mark us after
 
--- Behind the use of a variable the text `after` follows. From the frames fs a step is made to the frames gs and what is read
+-- After the use of a variable the text `after` follows. From the frames fs a step is made to the frames gs and what is read
 -- there, by which the use's mark alone is written.
 abbrev pub GoesInto : Variables → List Frame → List ℕ → List ℕ → List Frame → List ℕ → Type 0
 GoesInto variables fs name after gs next =
@@ -75,7 +75,7 @@ GoesInto variables fs name after gs next =
     → BeginsWithUse name after t
     → (mark : List ℕ) → left mark variables fs t ≡ mark ++ left mark variables gs next
 
--- Behind the use of a variable the text `after` follows. From the frames fs a step is made to the frames gs and what is read
+-- After the use of a variable the text `after` follows. From the frames fs a step is made to the frames gs and what is read
 -- there, by which nothing is written, and which is one of the turns.
 abbrev pub Enters : Variables → List Frame → List (List ℕ × Bool) → ℕ → List ℕ → List ℕ → List Frame
     → List ℕ → Type 0

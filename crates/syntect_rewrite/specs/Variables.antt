@@ -13,7 +13,7 @@ Variables = List (List ℕ × List ℕ)
 abbrev pub is_name : ℕ → Bool
 is_name c = is_ascii_alphanumeric c || c ∈ "_"
 
--- how long the name behind two braces is
+-- how long the name after two braces is
 abbrev pub name_len : List ℕ → ℕ
 name_len t = prefix_len is_name (drop 2 t)
 

@@ -45,7 +45,7 @@ fn finds_newline(found: bool, depth: usize, sign: &str) -> bool
     found || (depth == 0 && is_newline(sign))
 }
 
-/// How many classes within a class are open behind a sign.
+/// How many classes within a class are open after a sign.
 fn open_after(depth: usize, sign: &str) -> usize
     requires { depth + 1 < 2 ^ 64 }
     ensures value { result ≡ tokens.open_after depth sign.now }

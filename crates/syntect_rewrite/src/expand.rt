@@ -41,7 +41,7 @@ fn run_len(bytes: &[u8]) -> usize
     bytes.iter().take_while(|byte| is_name(**byte)).count()
 }
 
-/// How long the name behind two braces is.
+/// How long the name after two braces is.
 fn name_len(bytes: &[u8]) -> usize
     ensures len { result ≡ uses.name_len bytes.now }
     ensures within { 0 < result → result + 2 ≤ length bytes.now }
@@ -61,7 +61,7 @@ pub(crate) fn used(text: &str) -> Option<(&str, &str)>
     ensures rest { IfSome result (λ p. p.1.now ≡ drop (uses.name_len text.now + 4) text.now) }
 {
     let bytes = text.as_bytes();
-    // only a name behind two braces is measured, so that a long run of letters costs one pass
+    // only a name after two braces is measured, so that a long run of letters costs one pass
     if first(text) != b'{' || byte_at(bytes, 1) != b'{' {
         return None;
     }

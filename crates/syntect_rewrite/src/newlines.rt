@@ -38,7 +38,7 @@ pub(crate) fn anchored(alloc: Global, text: &str) -> Result<String, AllocError>
     Ok(out)
 }
 
-/// Adds a token, behind which a byte stands, as it is written for lines that have no newline.
+/// Adds a token, after which a byte stands, as it is written for lines that have no newline.
 fn push_ended(
     out: &mut String,
     token: &str,

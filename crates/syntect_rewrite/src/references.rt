@@ -44,7 +44,7 @@ fn is_decimal(c: char) -> bool
     GeneralCategory::for_char(c) == GeneralCategory::DecimalNumber
 }
 
-/// Whether a character of category Nd stands behind a backslash.
+/// Whether a character of category Nd comes after a backslash.
 fn is_referred(escaped: bool, c: char) -> bool
     ensures { result ≡ (escaped && testing.is_decimal c) }
 {

@@ -54,7 +54,7 @@ const ROWS: [(&str, Row); 12] = [
     ("R13.2", Row::ThemeReaders),
 ];
 
-/// Whether an example comes out as it is written. Want of memory counts as no.
+/// Whether an example comes out as it is written. Lack of memory counts as no.
 fn holds(alloc: Global, row: Row) -> bool {
     let outcome = match row {
         Row::FirstLine => first_line(alloc),

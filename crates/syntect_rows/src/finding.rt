@@ -43,7 +43,7 @@ fn write_of_file(files: &impl Files, given: Given<'_>, path: &str, out: &mut Str
 }
 
 /// Adds the name of the syntax that is found so: by `extension`, `token`, `name`, `scope`, `first_line`, `path` or `file`,
-/// with a space and what is asked for behind it, or by `plain_text`.
+/// with a space and what is asked for after it, or by `plain_text`.
 pub fn write_found(
     files: &impl Files,
     given: Given<'_>,

@@ -122,7 +122,7 @@ pub fn readers(alloc: Global) -> Option<bool> {
     Some(holds)
 }
 
-/// Faults behind a line: of several the first in the order of lines.
+/// Faults after a line: of several the first in the order of lines.
 pub fn faults_behind_lines(alloc: Global) -> Option<bool> {
     let set = leading_out(alloc)?;
     let late: &[u8] = b"a\n\xff\n";

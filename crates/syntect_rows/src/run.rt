@@ -21,7 +21,7 @@ use syntect_tables::written::{write_html, write_latex, write_sheet, write_termin
 /// The folder of the rows.
 const ROWS: &str = "rows";
 
-/// Classes behind a prefix that HTML escapes.
+/// Classes with a prefix that HTML escapes.
 const PREFIXED: ClassStyle = ClassStyle::SpacedPrefixed { prefix: "p<" };
 
 /// Adds what is found for a part of a writer: spans with classes, sheets, texts of given pieces; or for another part.

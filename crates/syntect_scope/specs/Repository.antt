@@ -78,7 +78,7 @@ first_refusal repo (text ∷ texts) =
     else if nat_lt 65534 (length (with_atoms repo (atom_texts text))) then Some TooManyAtoms
     else first_refusal (with_atoms repo (atom_texts text)) texts
 
--- want of memory, or this refusal
+-- lack of memory, or this refusal
 abbrev pub MayRefuse : Option ParseScopeError → ParseScopeError → Type 0
 MayRefuse o Memory = Unit {0}
 MayRefuse o TooLong = o ≡ Some TooLong

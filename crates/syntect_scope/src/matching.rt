@@ -26,7 +26,7 @@ fn is_found(path: &[Scope], stack: &[Scope]) -> bool
     rest.is_empty()
 }
 
-/// The score of a path in a stack, if it is found there: each of its scopes at the first place behind the one before
+/// The score of a path in a stack, if it is found there: each of its scopes at the first place after the one before
 /// it.
 fn path_power(
     alloc: Global,

@@ -130,7 +130,7 @@ impl MatchPower {
         Ok(MatchPower { digits })
     }
 
-    /// The same number once more.
+    /// A copy of the number.
     pub fn clone(&self) -> Result<MatchPower, AllocError>
         ensures { IfOk result (λ power. power ≡ self.now) }
     {

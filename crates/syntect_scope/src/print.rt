@@ -28,7 +28,7 @@ impl Scope {
 
 impl ScopeStack {
     /// Writes the texts of the scopes in a repository, the bottom one first, each followed by one space, and a newline
-    /// behind them. Takes no memory; an `Err` is the writer's.
+    /// after them. Takes no memory; an `Err` is the writer's.
     pub fn debug_print<W: Write>(
         &self,
         repository: &ScopeRepository,

@@ -20,7 +20,7 @@ use thiserror::Error;
 /// Why a text is no scope. The repository is then as it was.
 #[derive(Debug, Drop, PartialEq, Eq, Error)]
 pub enum ParseScopeError {
-    /// It has more than eight atoms. This is tested before anything else.
+    /// The text has more than eight atoms. This is tested before anything else.
     #[error("Too long scope. Scopes can be at most 8 atoms long.")]
     TooLong,
     /// The repository has no room for all of the text's atoms that it lacks.
@@ -146,7 +146,7 @@ impl ScopeRepository {
         }
     }
 
-    /// The same atoms with the same numbers once more.
+    /// A copy of the repository: the same atoms have the same numbers.
     pub fn clone(&self) -> Result<ScopeRepository, AllocError>
         ensures { IfOk result (λ copy. copy ≡ self.now) }
     {
@@ -230,7 +230,7 @@ impl ScopeRepository {
         self.atoms.len()
     }
 
-    /// Takes back the atoms behind the first `held`, for a caller that took them up and then refused what has them. A scope
+    /// Takes back the atoms after the first `held`, for a caller that took them up and then refused what has them. A scope
     /// that has such an atom is another one afterwards, or none; every other scope stays what it is. Takes no memory.
     pub fn forget(&mut self, held: usize)
         ensures { self.new ≡ take held self.old }
@@ -394,7 +394,7 @@ impl Scope {
 
 impl ScopeStack {
     /// The scopes that a text names, separated by white space, the bottom one first. A refusal is that of the first
-    /// scope that is refused, or want of memory; the repository may then have more atoms, and the old ones keep
+    /// scope that is refused, or lack of memory; the repository may then have more atoms, and the old ones keep
     /// their numbers.
     pub fn from_text(
         alloc: Global,

@@ -34,7 +34,7 @@ impl ScopeSelector {
         }
     }
 
-    /// The same selector once more.
+    /// A copy of the selector.
     pub fn clone(&self) -> Result<ScopeSelector, AllocError>
         ensures { IfOk result (λ selector. selector ≡ self.now) }
     {
@@ -85,7 +85,7 @@ impl ScopeSelectors {
         }
     }
 
-    /// The same selectors once more.
+    /// A copy of the selectors.
     pub fn clone(&self) -> Result<ScopeSelectors, AllocError>
         ensures { IfOk result (λ selectors. selectors ≡ self.now) }
     {

@@ -18,7 +18,7 @@ use syntect_linear::walk::Span;
 use syntect_meter::meter::Meter;
 use syntect_meter::stop::Stop;
 
-/// So many places are marked of all that are kept, but for the last one's: with more all earlier ones are let go.
+/// How many places are marked of all that are kept, but for the last one's: with more all earlier ones are dropped.
 const MOST: usize = 4_000_000;
 
 /// A pattern's plan with the marks of a text, or none where the pattern is not linear.

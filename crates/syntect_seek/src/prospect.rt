@@ -9,7 +9,7 @@ use syntect_pattern_table::program::Program;
 /// A try of so few steps is not counted.
 const FEW: usize = 16;
 
-/// So many bytes of the text that are looked at for what matches need count as a step.
+/// How many bytes of the text that are looked at for what matches need count as a step.
 const LOOKED_A_STEP: usize = 64;
 
 /// From where on no match of the pattern begins, how far what its matches need was met, and how many steps are left for its tries,
@@ -51,7 +51,7 @@ impl Prospect {
         self.from <= place && place < usize::MAX
     }
 
-    /// Whether what matches need stands at the place or behind it, as far as is known. Where it doesn't, that is known from
+    /// Whether what matches need stands at the place or after it, as far as is known. Where it doesn't, that is known from
     /// then on.
     #[inline]
     pub fn is_left(&mut self, program: &Program, text: &str, place: usize) -> bool

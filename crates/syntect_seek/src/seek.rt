@@ -35,8 +35,7 @@ const STEPS_A_BYTE: usize = 64;
 
 const STEPS: usize = 16384;
 
-/// The same of the tries of a pattern at place after place of a text. Marking a place takes about as long as some steps, where the
-/// same stood at another place.
+/// In how many steps the tries of a pattern at place after place of a text may back up for each byte of it. Marking a place takes about as long as some steps, where the same stood at another place.
 const TRIED_A_BYTE: usize = 8;
 
 const TRIED: usize = 2048;
@@ -58,7 +57,7 @@ fn steps_in(size: usize, text: &str) -> usize
     bytes.saturating_add(plan).saturating_add(STEPS)
 }
 
-/// The same of tries at place after place.
+/// In how many steps tries at place after place of the text may back up for a pattern of so many bytes.
 #[inline]
 fn tried_steps_in(size: usize, text: &str) -> usize
     ensures { result
@@ -135,7 +134,7 @@ pub fn find(
     }
 }
 
-/// The same by backing up in at most so many steps. None where they don't suffice.
+/// Whether the program matches at a place from `begin` on, by backing up in at most so many steps. None where they don't suffice.
 #[inline]
 fn find_within(
     search: &mut Search,
@@ -165,7 +164,7 @@ fn find_within(
     Ok(told)
 }
 
-/// The same by backing up to the end.
+/// Whether the program matches at a place from `begin` on, by backing up to the end.
 fn find_backing_up(
     search: &mut Search,
     program: &Program,
@@ -191,7 +190,7 @@ fn find_backing_up(
     }
 }
 
-/// The same where those steps didn't suffice.
+/// Whether the program matches at a place from `begin` on, where backing up in limited steps didn't tell.
 #[inline(never)]
 fn find_planned(
     search: &mut Search,
@@ -218,7 +217,7 @@ fn find_planned(
     find_marked(search, guide, text, begin, text.len(), meter)
 }
 
-/// The same by the marks of the places from `begin` on.
+/// Whether the program matches at a place from `begin` on, by the marks of these places.
 fn find_marked(
     search: &mut Search,
     guide: Guide,
@@ -245,9 +244,7 @@ fn find_marked(
     guide.find_up_to(text, begin, last, &mut search.groups, meter)
 }
 
-/// The same for this place alone of a text in which the pattern is tried at place after place, by what is known of it there, of
-/// which more is known after. The program is the pattern's. Its tries share so many steps: after that its plan tells of this place
-/// and all later ones whether a match begins there.
+/// Whether a match begins at this place alone of a text in which the pattern is tried at place after place, by what is known of it there, of which more is known after. The program is the pattern's. Its tries share so many steps: after that its plan tells of this place and all later ones whether a match begins there.
 #[inline]
 pub fn begins_known(
     search: &mut Search,
@@ -278,7 +275,7 @@ pub fn begins_known(
     begins_tried(search, program, pattern, text, place, known, depths, meter)
 }
 
-/// The same by the marks. Where these were let go, since others came, tries have all steps again before they are made anew.
+/// Whether a match begins at the place, by the marks. Where these were dropped, since others came, tries have all steps again before they are made anew.
 fn begins_settled(
     search: &mut Search,
     program: &Program,
@@ -309,7 +306,7 @@ fn begins_settled(
     begins_tried(search, program, pattern, text, place, known, depths, meter)
 }
 
-/// The same by backing up first.
+/// Whether a match begins at the place, by backing up first.
 #[inline]
 fn begins_tried(
     search: &mut Search,
@@ -351,7 +348,7 @@ fn begins_tried(
     }
 }
 
-/// The same by backing up in at most so many steps. None where they don't suffice.
+/// Whether a match begins at the place, by backing up in at most so many steps. None where they don't suffice.
 #[inline]
 fn begins_within(
     search: &mut Search,
@@ -382,7 +379,7 @@ fn begins_within(
     Ok(told)
 }
 
-/// The same where those steps didn't suffice.
+/// Whether a match begins at the place, where backing up in limited steps didn't tell.
 #[inline(never)]
 fn begins_after(
     search: &mut Search,
@@ -414,7 +411,7 @@ fn begins_after(
     begins_planned(search, program, pattern, text, place, known, depths, meter)
 }
 
-/// The same where nothing is kept of the pattern, or that it is not linear.
+/// Whether a match begins at the place, where no marks of the pattern are kept, by new ones if it is linear.
 fn begins_planned(
     search: &mut Search,
     program: &Program,
@@ -455,7 +452,7 @@ fn begins_planned(
     begins_marked(search, guide, pattern, text, place, depths, meter)
 }
 
-/// The same where the pattern is not linear: it backs up to the end.
+/// Whether a match begins at the place, by backing up to the end, as for a pattern that is not linear.
 fn backs_up(
     search: &mut Search,
     program: &Program,
@@ -481,7 +478,7 @@ fn backs_up(
     }
 }
 
-/// The same by the marks of this place and all later ones, which are kept.
+/// Whether a match begins at the place, by the marks of it and all later places, which are kept.
 fn begins_marked(
     search: &mut Search,
     guide: Guide,

@@ -85,7 +85,7 @@ fn write_list(scopes: &[Scope], repository: &ScopeRepository, out: &mut String) 
     Some(())
 }
 
-/// Adds a line of these scopes behind a label; none without scopes.
+/// Adds a line of these scopes after a label; none without scopes.
 fn write_scopes(
     label: &str,
     scopes: &[Scope],

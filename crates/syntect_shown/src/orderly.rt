@@ -19,7 +19,7 @@ fn clears(set: &SyntaxSet, reference: &ContextReference) -> bool {
     }
 }
 
-/// Whether a context behind the first of a list clears.
+/// Whether a context after the first of a list clears.
 fn clears_behind_first(set: &SyntaxSet, references: &[ContextReference]) -> bool {
     let mut is_first = true;
     for reference in references {

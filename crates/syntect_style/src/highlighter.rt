@@ -25,7 +25,7 @@ pub struct Highlighter<'a> {
     theme: &'a Theme,
     /// The rules of one scope, which are scored without large numbers: those that can match a scope, by its first atom.
     buckets: Vec<Seq<Rule>>,
-    /// The other rules.
+    /// The rules that are not in `buckets`.
     others: Vec<Other>,
     /// The last scopes of their paths and exclusions, in the same way.
     lasts: Vec<Seq<Rule>>,
@@ -189,7 +189,7 @@ impl<'a> Highlighter<'a> {
         })
     }
 
-    /// The same, where the other rules' scores are small.
+    /// The values that prevail, where `single` stand after the single rules, and the other rules' scores are small.
     pub(crate) fn finished_small(&self, single: Standings, others: SmallStandings) -> StyleModifier
         ensures { (stack : List (List ℕ)) → AreStanding self.now stack single
             → AreSmall self.now stack others → result ≡ winners self.now stack }
@@ -215,7 +215,7 @@ pub struct ScoredStyle {
 }
 
 impl ScoredStyle {
-    /// The same once more.
+    /// A copy of the style with its scores.
     pub fn clone(&self) -> Result<ScoredStyle, AllocError>
         ensures { IfOk result (λ s. s ≡ self.now) }
     {

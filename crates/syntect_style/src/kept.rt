@@ -51,7 +51,7 @@ impl KeptStyles {
         }
     }
 
-    /// The same once more.
+    /// A copy of the styles that are kept.
     pub(crate) fn clone(&self) -> Result<KeptStyles, AllocError>
         ensures { IfOk result (λ kept. kept ≡ self.now) }
     {

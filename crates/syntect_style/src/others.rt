@@ -28,7 +28,7 @@ pub(crate) struct OtherStandings {
     pub(crate) font_style: Option<(MatchPower, FontStyle)>,
 }
 
-/// The same, where the scores are small.
+/// The values that stand so far, each with the score of its rule, where the scores are small.
 #[derive(Clone, Copy, Debug)]
 pub(crate) struct SmallStandings {
     pub(crate) foreground: Option<(u64, Color)>,
@@ -159,7 +159,7 @@ fn small<V: Copy>(best: &Option<(MatchPower, V)>) -> Option<Option<(u64, V)>>
 }
 
 impl OtherStandings {
-    /// The same, if all scores are small.
+    /// These values with small scores, if all their scores are small.
     pub(crate) fn small(&self) -> Option<SmallStandings>
         ensures foreground { IfSome result (λ s. other_from s.foreground
             ≡ other_from self.now.foreground) }

@@ -72,7 +72,7 @@ impl HighlightState {
         stack
     }
 
-    /// The same state once more.
+    /// A copy of the state.
     pub fn clone(&self) -> Result<HighlightState, AllocError>
         ensures { IfOk result (λ s. s ≡ self.now) }
     {

@@ -46,7 +46,7 @@ pub fn write_operation(
     }
 }
 
-/// Adds the spans of a line, and in the next line how many more of them are open behind it.
+/// Adds the spans of a line, and in the next line how many more of them are open after it.
 fn write_spans(
     alloc: Global,
     line: &str,

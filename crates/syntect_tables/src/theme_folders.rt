@@ -53,7 +53,7 @@ pub fn write_theme_file(
     }
 }
 
-/// Adds the paths of the theme files in a folder, each with a semicolon behind it.
+/// Adds the paths of the theme files in a folder, each with a semicolon after it.
 pub fn write_theme_paths(
     files: &impl Files,
     alloc: Global,

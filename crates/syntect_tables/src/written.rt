@@ -83,7 +83,7 @@ pub fn write_sheet(
     out.push_str(sheet.as_str()).ok()
 }
 
-/// Adds each line of a text, as Rust writes it, with a semicolon behind it.
+/// Adds each line of a text, as Rust writes it, with a semicolon after it.
 pub fn write_lines(alloc: Global, question: &str, out: &mut String) -> Option<()> {
     let text = unescaped(alloc, question).ok()?;
     for line in LinesWithEndings::from(text.as_str()) {

@@ -60,7 +60,7 @@ fn color(r: Option<u8>, g: Option<u8>, b: Option<u8>, a: Option<u8>) -> Option<C
     }
 }
 
-/// The colour of the digits behind the number sign.
+/// The colour of the digits after the number sign.
 fn color_from_digits(digits: &[u8]) -> Option<Color>
     ensures { result ≡ color_of_digits digits.now }
 {

@@ -241,7 +241,7 @@ first_settings no_items = Err error.UndefinedSettings
 first_settings (item d ds) =
     next (ok_or (get (codes "settings") d) error.UndefinedSettings) settings_at
 
--- the items behind the first
+-- the items after the first
 abbrev pub later_items : Items → Items
 later_items no_items = no_items
 later_items (item d ds) = ds
@@ -250,7 +250,7 @@ later_items (item d ds) = ds
 abbrev pub items_at : Data → Result Items ParseThemeError
 items_at d = ok_or (option_and_then as_array (get (codes "settings") d)) error.IncorrectSyntax
 
--- the items behind the first, where there are items
+-- the items after the first, where there are items
 abbrev pub all_later : Result Items ParseThemeError → Items
 all_later (Ok ds) = later_items ds
 all_later (Err e) = no_items

@@ -35,7 +35,7 @@ pub data RefusesTheme (bytes : List ℕ) : LoadingError → Type 0 where
       → RefusesTheme bytes (ParseTheme e)
   no_memory : RefusesTheme bytes Memory
 
--- why what a reader has left, where that is known, gives no theme: reading has a fault, which is not that memory was wanting, or
+-- why what a reader has left, where that is known, gives no theme: reading has a fault, which is not that memory ran out, or
 -- the bytes give none
 pub data RefusesRead (left : Option (List ℕ)) : LoadingError → Type 0 where
   not_read : {e : Error} → error_kind e ≢ OutOfMemory → RefusesRead left (Io e)

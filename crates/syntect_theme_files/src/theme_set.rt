@@ -95,14 +95,14 @@ impl ThemeSet {
         }
     }
 
-    /// The same. Takes no memory.
+    /// No themes, as `new` gives them. Takes no memory.
     pub fn default(alloc: Global) -> ThemeSet
         ensures { result.themes ≡ [] }
     {
         ThemeSet::new(alloc)
     }
 
-    /// The same set once more.
+    /// A copy of the set.
     #[tactic(auto, using(crate::proofs::FileLaws::same_themes))]
     pub fn clone(&self) -> Result<ThemeSet, AllocError>
         ensures { IfOk result (λ set. set ≡ self.now) }

@@ -57,7 +57,7 @@ impl TurnCount {
         ensures { self.new.made ≡ self.old.made + 1 }
     {}
 
-    /// So many more.
+    /// Adds so many turns.
     pub fn add(&mut self, more: usize)
         ensures { self.new.made ≡ self.old.made + more }
     {
@@ -66,7 +66,7 @@ impl TurnCount {
         }
     }
 
-    /// The same number once more.
+    /// A copy of the number.
     pub fn copy(&self) -> TurnCount
         ensures { result ≡ self.now }
     {

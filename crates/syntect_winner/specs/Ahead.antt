@@ -82,12 +82,12 @@ pub record Sees (o : Outlook) (line : List ℕ) (i : ℕ) : Type 0 where
   pub behind : o.behind ≡ start_at line end
   pub edges : o.off_edges ≡ true → is_word_edge line i ≡ false
 
--- what is known of white space, or else a word that goes on at the place: up to where it does, and what stands behind it
+-- what is known of white space, or else a word that goes on at the place: up to where it does, and what comes after it
 abbrev pub Reaches : List ℕ → ℕ → Reach → Type 0
 Reaches line i r = i < r.end
     → (IsRunUpTo r.blank line i r.end) × (r.behind ≡ start_at line r.end) × (r.behind < 130)
 
--- something stands behind the white space, or the word, at the place that no match of the pattern has behind one in which it
+-- something comes after the white space, or the word, at the place that no match of the pattern has after one in which it
 -- begins
 pub record IsCutOff (line : List ℕ) (i : ℕ) (flat : Flat) : Type 0 where
   pub blank : Bool

@@ -237,7 +237,7 @@ pub fn led_by<'s>(reader: &LineReader<'_, '_>, m: Candidate<'s>) -> Best<'s>
     }
 }
 
-/// The place behind the character that the reader stands before, or behind the end by one.
+/// The place after the character that the reader stands before, or past the end by one.
 fn past_character(reader: &LineReader<'_, '_>) -> usize
     ensures { result ≡ reader.now.position.now.place
         + char_len reader.now.line.now reader.now.position.now.place }

@@ -49,7 +49,7 @@ fn is_off_edges(line: &str, place: usize) -> bool
     is_boundary(line, place) && !stands(line, place, Anchor::WordEdge)
 }
 
-/// Up to where white space, or else a word goes on, and what stands behind it.
+/// Up to where white space, or else a word goes on, and what comes after it.
 #[derive(Clone, Copy)]
 pub struct Reach {
     pub blank: bool,
@@ -99,7 +99,7 @@ fn reach_at(line: &str, place: usize, here: u8, known: Reach, tried: usize) -> R
     }
 }
 
-/// What is seen of a place; with `asks` what stands behind the white space or the word there too. That is looked for where
+/// What is seen of a place; with `asks` what comes after the white space or the word there too. That is looked for where
 /// it isn't known from an earlier place. The turn looked at `tried` places before.
 fn outlook_of(line: &str, place: usize, asks: bool, reach: &mut Reach, tried: usize) -> Outlook
     requires within { place ≤ length line.now }

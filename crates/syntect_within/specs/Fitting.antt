@@ -51,7 +51,7 @@ pattern_at (reached.Pattern place) = place.pattern
 pattern_at (reached.Patterns place) = place.pattern
 pattern_at reached.Folder = []
 
--- the limit that is named is passed by the pattern there, behind these
+-- the limit that is named is passed by the pattern there, after these
 abbrev pub IsPassed : Limits → Variables → ℕ → List (List ℕ) → LimitReached → Type 0
 IsPassed limits variables most before reached.Text = ⊥
 IsPassed limits variables most before (reached.Pattern place) =

@@ -1,4 +1,4 @@
-//! What can stand behind a word, or behind white space, in which a match begins. A pattern such as `[a-z]+\(` reads a word and
+//! What can come after a word, or after white space, in which a match begins. A pattern such as `[a-z]+\(` reads a word and
 //! then wants a parenthesis, so it needn't be tried at a word that is followed by anything else; nor need `\s*\(` be tried at
 //! white space that is.
 ghost use Rattle.std.specs.Prelude.{◌≡◌, ◌<◌, ◌≤◌, ◌==◌, ℕ, Bool, IfOk, List, length, slice_index_or, true, false};
@@ -22,7 +22,7 @@ use syntect_pattern_table::starts::{
 /// The most characters of a run that are gone through, so that long ones cost no more.
 const LONGEST: usize = 32;
 
-/// The most nodes of a table for which it is worked out what can stand behind runs: a larger one would take memory for it that
+/// The most nodes of a table for which it is worked out what can come after runs: a larger one would take memory for it that
 /// a pattern of its length doesn't repay.
 const MOST_NODES: usize = 4096;
 
@@ -62,7 +62,7 @@ fn anywhere_if(holds: bool) -> Places
     if holds { anywhere() } else { nowhere() }
 }
 
-/// What can stand behind a run for a letter.
+/// What can come after a run for a letter.
 fn spans_of_letter(blank: bool, fold: bool, letter: u8) -> Firsts
     ensures { (x : ℕ) → x < 130
         → begins_at x result ≡ spans blank x (one_of (from_to fold letter letter)) }
@@ -74,7 +74,7 @@ fn spans_of_letter(blank: bool, fold: bool, letter: u8) -> Firsts
     }
 }
 
-/// The same of letters before what has it so.
+/// What can come after a run for letters before something else, by what can come after a run for that.
 fn before_rest(blank: bool, fold: bool, letters: &[u8], rest: Firsts) -> Firsts
     ensures { (t : Tree) (x : ℕ) → x < 130 → begins_at x rest ≡ spans blank x t
         → begins_at x result ≡ spans blank x (letters_tree fold letters.now t) }
@@ -101,7 +101,7 @@ fn part(reads: &[Places], stays: &[Places], place: usize) -> Firsts
     }
 }
 
-/// What can stand behind a run for matches of the node that begin in it: of those that go on past the run, and of those that
+/// What can come after a run for matches of the node that begin in it: of those that go on past the run, and of those that
 /// end in it; by that of the nodes before it.
 fn spans_of_node(blank: bool, node: &Node, reads: &[Places], stays: &[Places]) -> Firsts
     requires parts { parts_before (length reads.now) node.now ≡ true }
@@ -148,7 +148,7 @@ fn spans_of_node(blank: bool, node: &Node, reads: &[Places], stays: &[Places]) -
     }
 }
 
-/// The same of each node.
+/// Of each node what can come after a run for matches that begin in it: of those that go on past the run, and of those that end in it.
 fn spans_of(
     alloc: Global,
     blank: bool,
@@ -178,7 +178,7 @@ fn begins_in(blank: bool, program: &Program) -> bool {
     }
 }
 
-/// What can stand behind a run in which a match of the program begins, which is white space, or else a word. Anything may, as
+/// What can come after a run in which a match of the program begins, which is white space, or else a word. Anything may, as
 /// far as is told, where its matches begin in no such run, and where its table is large.
 pub fn behind_runs(alloc: Global, blank: bool, program: &Program) -> Result<Places, AllocError>
     ensures { IfOk result (λ places. StandsBehind blank places

@@ -128,6 +128,6 @@ abbrev pub opening : Theme → List ℕ
 opening theme =
     codes "<pre style=\"background-color:" ++ (rgb_text (background_of theme) ++ codes ";\">\n")
 
--- and behind them
+-- and after them
 abbrev pub closing : List ℕ
 closing = codes "</pre>\n"

@@ -14,11 +14,11 @@ use syntect_theme::theme::Theme;
 /// Whether spans tell the colour behind their text.
 #[derive(Clone, Copy, Debug, PartialEq, Eq)]
 pub enum IncludeBackground {
-    /// They don't.
+    /// Spans don't tell it.
     No,
-    /// They do.
+    /// Spans tell it.
     Yes,
-    /// They do where it is another colour than this one, which stands behind all of them.
+    /// Spans tell it where it is another colour than this one, which stands behind all of them.
     IfDifferent(Color),
 }
 

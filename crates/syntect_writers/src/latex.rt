@@ -35,7 +35,7 @@ fn push_color(out: &mut String, style: Style) -> Result<(), AllocError>
     write!(out, "\\textcolor[RGB]{{{r},{g},{b}}}{{")
 }
 
-/// Puts a piece last behind the group of a style. Answers the style of the group that is then open.
+/// Puts a piece last after the group of a style. Answers the style of the group that is then open.
 fn push_piece(
     out: &mut String,
     last: Option<Style>,
@@ -65,7 +65,7 @@ fn push_piece(
     Ok(style)
 }
 
-/// Styled pieces as LaTeX shows them, a group of `\textcolor[RGB]` for each stretch of one style. Behind the first piece
+/// Styled pieces as LaTeX shows them, a group of `\textcolor[RGB]` for each stretch of one style. After the first piece
 /// a space alone stays in the group before it, and a newline alone is left out. The text ends with the last group, also
 /// where there are no pieces.
 pub fn as_latex_escaped(alloc: Global, v: &[(Style, &str)]) -> Result<String, AllocError>

@@ -26,7 +26,7 @@ struct Tag {
 #[derive(Drop)]
 pub struct SpanWriter {
     ground: IncludeBackground,
-    /// So many tags are kept at the most.
+    /// How many tags are kept at most.
     most: usize,
     kept: Vec<Tag>,
 }
@@ -84,7 +84,7 @@ impl SpanWriter {
         }
     }
 
-    /// The same, where no tag is worth keeping. It never takes memory of its own.
+    /// A writer of spans that tell the colour behind their text so, where no tag is worth keeping. It never takes memory of its own.
     pub(crate) fn of_one_line(alloc: Global, bg: IncludeBackground) -> SpanWriter
         ensures { result ≡ bg }
     {
@@ -131,7 +131,7 @@ impl SpanWriter {
         push_tag(out, self.ground, style)
     }
 
-    /// Puts a piece last, behind those whose span is open. Answers the style of the span that is then open.
+    /// Puts a piece last, after those whose span is open. Answers the style of the span that is then open.
     fn push_piece(
         &mut self,
         out: &mut Tail,

@@ -1,4 +1,4 @@
-//! A text that is written behind another one.
+//! A text that is written after another one.
 ghost use Rattle.std.specs.Prelude.{◌≡◌, ◌++◌, [], string_bytes, encode_utf8, OnOk};
 ghost use Rattle.syntect_writers.specs.Entities.{escaped};
 
@@ -7,7 +7,7 @@ use crate::text::split_plain;
 use std::alloc::AllocError;
 use std::marker::Model;
 
-/// A text and what is written behind it. Whatever is refused, the text in front stays and can be had again.
+/// A text and what is written after it. Whatever is refused, the text in front stays and can be had again.
 #[derive(Drop)]
 pub(crate) struct Tail {
     text: String,
@@ -31,7 +31,7 @@ impl Model for Tail {
 }
 
 impl Tail {
-    /// Nothing behind a text. Takes no memory.
+    /// Nothing after a text. Takes no memory.
     #[tactic(auto, using(crate::proofs::TailLaws::ends_whole))]
     pub(crate) fn behind(text: String) -> Tail
         ensures front { result.front ≡ string_bytes text }

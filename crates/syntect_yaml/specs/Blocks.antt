@@ -57,7 +57,7 @@ module _ (line : ℕ → Rest → Found Node) (inner : ℕ → Place → Found N
   value_on column t (Some after) = next after >>= (λ p. below (has_value column p) column p)
   value_on column t None = line (column + 1) (after_run is_space t)
 
-  -- behind the `:` of a key at the column: a value on the line; or below it a deeper node, or a list at the key's
+  -- after the `:` of a key at the column: a value on the line; or below it a deeper node, or a list at the key's
   -- column, or nothing
   unfoldable pub value : ℕ → Rest → Found Node
   value column t = value_on column t (line_tail false t)
@@ -68,7 +68,7 @@ module _ (line : ℕ → Rest → Found Node) (inner : ℕ → Place → Found N
       let n = prefix_len is_space t in
       inner (column + 1) (record { column = column + 1 + n; rest = drop n t })
 
-  -- behind the `-` of an item at the column: a node on the line, at its own column; or below it a deeper node, or nothing
+  -- after the `-` of an item at the column: a node on the line, at its own column; or below it a deeper node, or nothing
   unfoldable pub item : ℕ → Rest → Found Node
   item column t = item_on column t (line_tail false t)
 
@@ -76,7 +76,7 @@ module _ (line : ℕ → Rest → Found Node) (inner : ℕ → Place → Found N
   items_on more true found p = more found (drop 1 p.rest)
   items_on more false found p = Some (found, p)
 
-  -- the rest of a list at the column, of fewer than n items, after those found, from behind a `-` on
+  -- the rest of a list at the column, of fewer than n items, after those found, from just after a `-` on
   unfoldable pub items : ℕ → ℕ → Items → Rest → Found Items
   items column zero found t = None
   items column (suc n) found t =
@@ -88,7 +88,7 @@ module _ (line : ℕ → Rest → Found Node) (inner : ℕ → Place → Found N
   entries_on more true found p = key false p.rest >>= (λ k. more found k.0 k.1)
   entries_on more false found p = Some (found, p)
 
-  -- the rest of a map at the column, of fewer than n entries, after those found, from behind the key and its `:` on;
+  -- the rest of a map at the column, of fewer than n entries, after those found, from just after the key and its `:` on;
   -- no key comes twice
   unfoldable pub entries : ℕ → ℕ → Entries → Scalar → Rest → Found Entries
   entries column zero found k t = None
