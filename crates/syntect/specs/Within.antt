@@ -28,7 +28,7 @@ abbrev pub unlimited_of : {X : Type 0} → Result X HighlightWithinError → Res
 unlimited_of (Ok x) = Ok x
 unlimited_of (Err e) = Err (refusal_of e)
 
--- where a limit is told, the line's reading comes to that place
+-- where a limit is reported, the line's reading comes to that place
 abbrev pub TellsWhere : SyntaxSet → List ℕ → Standing → HighlightWithinError → Type 0
 TellsWhere set line state (Refused e) = Unit {0}
 TellsWhere set line state (LimitReached l) = IsThere dialect set line state l

@@ -271,7 +271,7 @@ impl<'a> HighlightLines<'a> {
     }
 
     /// The styled pieces of the next line, read within limits, and `None`. Where the line reaches a limit, it is shown plain,
-    /// which is one piece in the theme's own style, and the limit is told; the next line is then read as if this one weren't
+    /// which is one piece in the theme's own style, and the limit is reported; the next line is then read as if this one weren't
     /// there. So a line that would cost much takes no colours from those after it. A refusal is one of `highlight_line`, and
     /// changes nothing.
     pub fn highlight_line_or_plain<'b>(
@@ -290,7 +290,7 @@ impl<'a> HighlightLines<'a> {
             → IfErr result (λ e. Continues past syntax_set.now line.entry self.new (Err e)) }
         ensures err { OnErr result (HoldsSame self.old self.new) }
         // how many turns and steps were made, by the numbers before and after: by a line that was read all turns of its reading,
-        // else no more; where a limit is told, as many as it has
+        // else no more; where a limit is reported, as many as it has
         ensures taken { IfOk result (λ r. r.1 ≡ None
             → TakesAll dialect syntax_set.now line.entry.now (standing (reader_of self.old))
             (turns_made (reader_of self.old)) (turns_made (reader_of self.new))) }
@@ -394,7 +394,7 @@ impl<'a, F: Read + Drop> HighlightFile<'a, F> {
         }
     }
 
-    /// Opens a file as `new` does, but the patterns that are looked for in the first line make no more steps together than `Limits::steps` of `limits`. Where they would make more, the syntax is plain text, and the limit is told.
+    /// Opens a file as `new` does, but the patterns that are looked for in the first line make no more steps together than `Limits::steps` of `limits`. Where they would make more, the syntax is plain text, and the limit is reported.
     #[tactic(auto, using(crate::proofs::FileLaws::not_read_within, crate::proofs::FileLaws::no_start_within))]
     pub fn new_or_plain<R: Files<File = F>>(
         files: &R,

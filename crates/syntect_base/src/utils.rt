@@ -256,7 +256,7 @@ fn visit(
     }
 }
 
-/// Visits what is ahead up to the next file, which it answers by its path; so many entries at the most.
+/// Visits what is ahead up to the next file, which it answers by its path; so many entries at most.
 fn go_on(
     files: &impl Files,
     alloc: Global,

@@ -42,7 +42,7 @@ pub enum Runs {
     TimeFile,
     /// Prints how long the queries of a file take.
     TimeQueries,
-    /// Prints how long the patterns of a file take to be compiled, beside the time that another engine takes.
+    /// Prints how long the patterns of a file take to be compiled, compared with the time that another engine takes.
     TimePatterns,
     /// Prints how long loading, reading and styling take.
     TimeReading,

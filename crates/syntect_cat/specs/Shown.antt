@@ -56,7 +56,7 @@ HasReasonFor words fault =
     (folder theme file : List ℕ) (format : Format)
     → words ≡ words_for folder theme format file → HasReason folder fault
 
--- The text shows a file by the grammars of a folder and the theme of some bytes, and this is told of limits that were reached.
+-- The text shows a file by the grammars of a folder and the theme of some bytes, and this is reported of limits that were reached.
 pub record IsShown (folder : List ℕ) (format : Format) (file text : List ℕ)
     (note : Option Note) : Type 0 where
   pub repository : List (List ℕ)
@@ -68,7 +68,7 @@ pub record IsShown (folder : List ℕ) (format : Format) (file text : List ℕ)
   pub theme_is : IsThemeOf repository bytes after theme
   pub shows : ShowsFile format set theme file text note
 
--- the text is what these words ask for, and this is told of it
+-- the text is what these words ask for, and this is reported of it
 abbrev pub IsAskedFor : List (List ℕ) → List ℕ → Option Note → Type 0
 IsAskedFor words text note =
     (folder theme file : List ℕ) × (format : Format) × (words ≡ words_for folder theme format file)

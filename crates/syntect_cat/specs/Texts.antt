@@ -67,7 +67,7 @@ pub record IsWritten (limits : Limits) (format : Format) (set : SyntaxSet) (them
   pub first_is : first ≡ first_plain 0 lines
 
 -- All shows some text in the syntax of the file, or as plain text where that was not found, within the usual limits, of which this
--- is told.
+-- is reported.
 abbrev pub ShowsFile : Format → SyntaxSet → Theme → List ℕ → List ℕ → Option Note → Type 0
 ShowsFile format set theme path all note =
     (syntax : SyntaxReference) × (limit : Option FirstLineLimit)

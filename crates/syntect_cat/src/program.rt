@@ -93,7 +93,7 @@ fn tell<E: Write>(alloc: Global, fault: &Fault, err: &mut E)
     };
 }
 
-/// Writes the text that a job asks for, and answers what is told of limits that were reached.
+/// Writes the text that a job asks for, and answers what is reported of limits that were reached.
 fn show<W: Write>(
     files: &impl Files,
     alloc: Global,

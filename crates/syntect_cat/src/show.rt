@@ -78,7 +78,7 @@ fn load_theme(
     }
 }
 
-/// The text that a job asks for, and what is told of limits that were reached. The grammars are loaded first, then the theme, and then the file is
+/// The text that a job asks for, and what is reported of limits that were reached. The grammars are loaded first, then the theme, and then the file is
 /// read and highlighted, each line within `Limits::default`; the first fault ends it.
 pub(crate) fn text_for(
     files: &impl Files,

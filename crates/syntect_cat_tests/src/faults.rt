@@ -48,7 +48,7 @@ const NOT_THERE: [(Asked, &str); 4] = [
     (["grammars", "theme.tmTheme", "term", "none"], NO_FILE),
 ];
 
-/// Runs with several faults, of which the first is told: the words are looked at first, then the grammars, then the theme,
+/// Runs with several faults, of which the first is reported: the words are looked at first, then the grammars, then the theme,
 /// then the file.
 const SEVERAL: [(Asked, &str); 3] = [
     (["none", "none", "text", "none"], USAGE),

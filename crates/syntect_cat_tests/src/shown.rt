@@ -75,7 +75,7 @@ fn a_file_of_no_grammar_is_plain_text(rt: HostRuntime) {
     desk.close(&rt);
 }
 
-/// A grammar whose files are told by their first line.
+/// A grammar whose files are recognised by their first line.
 const SCRIPT: &str =
     "name: S\nscope: source.s\nfirst_line_match: '^#!.*tool'\ncontexts:\n  main: [{match: a, scope: word}]\n";
 
@@ -112,7 +112,7 @@ const ROWS: &str = "xxxxxxxxxxxxxxxxxxxxxxxxxxxxxxxxxxxxxxxxxxxxxxxxxxxxxxxxxxxx
 const ROWS_SHOWN: &str =
     "<pre style=\"background-color:#020202;\">\n<span style=\"color:#010101;\">xxxxxxxxxxxxxxxxxxxxxxxxxxxxxxxxxxxxxxxxxxxxxxxxxxxxxxxxxxxx\n</span><span style=\"color:#030303;\">hello</span></pre>\n";
 
-/// A line that reaches a limit is told of once, by its number, and the others are highlighted.
+/// A line that reaches a limit is reported once, by its number, and the others are highlighted.
 #[test]
 fn a_line_that_reaches_a_limit_is_plain(rt: HostRuntime) {
     let desk = Desk::new(&rt, "syncat_spent");
@@ -134,7 +134,7 @@ const COSTLY_FIRST: &str =
 const ROWS_PLAIN: &str =
     "<pre style=\"background-color:#020202;\">\n<span style=\"color:#010101;\">xxxxxxxxxxxxxxxxxxxxxxxxxxxxxxxxxxxxxxxxxxxxxxxxxxxxxxxxxxxx\n</span><span style=\"color:#010101;\">hello</span></pre>\n";
 
-/// A text for whose syntax the limit is reached is plain text, and that is told.
+/// A text for whose syntax the limit is reached is plain text, and that is reported.
 #[test]
 fn a_first_line_that_reaches_the_limit(rt: HostRuntime) {
     let desk = Desk::new(&rt, "syncat_first_spent");

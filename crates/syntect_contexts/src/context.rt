@@ -35,7 +35,7 @@ pub struct ContextId {
 /// What an include, a push, a set or a `with_prototype` names.
 #[derive(Clone, Debug, Drop, PartialEq, Eq)]
 pub enum ContextReference {
-    /// A context of the own syntax, by its name.
+    /// A context of the syntax itself, by its name.
     Named(Text),
     /// A context of the syntax that has this scope: the one of that name, or its `main`. `with_escape` marks the
     /// embedded reference of an `embed`, which always has a way out.

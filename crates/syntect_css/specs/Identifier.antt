@@ -9,7 +9,7 @@ abbrev pub stands : Bool → ℕ → Bool
 stands first c =
     is_ascii_alphabetic c || ((c == 45) || ((c == 95) || (not first && is_ascii_digit c)))
 
--- another one is told by its number in hexadecimal digits, after a backslash and before a space
+-- another one is written by its number in hexadecimal digits, after a backslash and before a space
 abbrev pub identifier_char : Bool → ℕ → List ℕ
 identifier_char first c = if stands first c then c ∷ [] else 92 ∷ (digits 16 false c ++ 32 ∷ [])
 

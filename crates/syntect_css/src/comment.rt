@@ -21,7 +21,7 @@ fn ends_comment(kept: &[char], c: char) -> bool
     }
 }
 
-/// Puts a character of a name last, if it is told. A slash after a star isn't, and takes the star along.
+/// Puts a character of a name last, if it is kept. A slash after a star isn't, and takes the star along.
 fn keep(kept: &mut Vec<char>, c: char) -> Result<(), AllocError>
     ensures told { (rest : List ℕ) → OnOk result (told_chars (kept.new.items ++ rest)
         ≡ told_chars (kept.old.items ++ (c ∷ rest))) }
@@ -39,7 +39,7 @@ fn keep(kept: &mut Vec<char>, c: char) -> Result<(), AllocError>
     Ok(())
 }
 
-/// The characters of a name that are told.
+/// The characters of a name that are kept.
 fn told_chars(alloc: Global, name: &str) -> Result<Vec<char>, AllocError>
     ensures { IfOk result (λ kept. kept.items ≡ told_chars (chars name.now)) }
 {

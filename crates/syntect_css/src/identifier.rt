@@ -22,7 +22,7 @@ fn push_char(out: &mut String, first: bool, c: char) -> Result<(), AllocError>
     write!(out, "\\{:x} ", c as u32)
 }
 
-/// Puts a text last as an identifier: what can't stand there is told by its number.
+/// Puts a text last as an identifier: what can't stand there is written by its number.
 pub(crate) fn push_identifier(out: &mut String, text: &str) -> Result<(), AllocError>
     ensures { OnOk result (string_bytes out.new ≡ string_bytes out.old ++ identifier text.now) }
 {

@@ -1,4 +1,4 @@
-//! A buffer beside a new highlighter that is given all lines.
+//! A buffer compared with a new highlighter that is given all lines.
 use crate::text::Text;
 use std::alloc::Global;
 use std::ops::Range;

@@ -1,4 +1,4 @@
-//! How long edits take, beside a new highlighter that is given all lines.
+//! How long edits take, compared with a new highlighter that is given all lines.
 use std::alloc::AllocError;
 use std::io;
 use std::rt::Clock;

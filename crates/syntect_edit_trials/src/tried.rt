@@ -66,7 +66,7 @@ fn print_seen(rt: &(impl Print + Eprint), seen: Seen) -> io::Result<bool> {
     Ok(different == 0)
 }
 
-/// Prints how long edits of a line of a file's text take, so many rounds, beside a new highlighter that is given all lines.
+/// Prints how long edits of a line of a file's text take, so many rounds, compared with a new highlighter that is given all lines.
 pub fn time_edits_of(
     rt: &(impl Print + Eprint + AllocGlobal + Files + Clock),
     (folder, theme, path): (&str, &str, &str),

@@ -94,7 +94,7 @@ impl Search {
         }
     }
 
-    /// Takes steps until a match is found or nothing is left to try, at least one, and what stretches count beside. None where
+    /// Takes steps until a match is found or nothing is left to try, at least one, and what stretches count besides. None where
     /// the search is limited, and no step is left before that: then it has taken all that were left.
     fn run(
         &mut self,

@@ -12,7 +12,7 @@ use syntect_pattern_table::program::Program;
 use syntect_pattern_table::starts::{Places, is_in, start_at};
 
 /// Up to where it isn't looked again for each of the needs: after the places where they were met. It saves time alone: with
-/// whatever was met, in whatever text, what is told of a place is true.
+/// whatever was met, in whatever text, what is said of a place is true.
 #[derive(Clone, Copy)]
 pub struct Met {
     rarest: usize,

@@ -119,7 +119,7 @@ pub struct Search {
     pub left: usize,
     /// How many characters were read in stretches since `begin`. Who asks sets it to 0 first, as a try may end before that.
     pub read: usize,
-    /// As how many steps these count, beside one for each stretch.
+    /// As how many steps these count, besides one for each stretch.
     pub worth: usize,
 }
 

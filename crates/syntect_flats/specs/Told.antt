@@ -120,7 +120,7 @@ pub record IsKept (any : Places) (form : Form) (count : ℕ) : Type 0 where
   pub any_begins : BeginIn any (flats_in any form)
   pub tabled : HasTable form (flats_in any form)
 
--- these patterns are kept so, of each of which less may be told, whatever they all begin with
+-- these patterns are kept so, of each of which less may be known, whatever they all begin with
 abbrev pub KeepsAll : List Flat → Form → Type 0
 KeepsAll flats form = (any : Places) → BeginIn any flats
     → IsKept any form (length flats) × AreCoarser flats (flats_in any form)

@@ -30,7 +30,7 @@ pub record IsSyntaxWithin (limits : Limits) (newlines : Bool) (path : List ℕ)
   pub within : left_of limits bytes ≡ Ok left
 
 -- Why the bytes of a file of this path give no definition within limits: they keep within them and are refused as without
--- them; or they pass the limit that is told with the path; or there was no memory.
+-- them; or they pass the limit that is reported with the path; or there was no memory.
 pub data RefusesSyntaxWithin (limits : Limits) (newlines : Bool) (path bytes : List ℕ)
     (repo : List (List ℕ)) : FolderWithinError → Type 0 where
   no_grammar : {left : ℕ} {e : LoadingError} → left_of limits bytes ≡ Ok left

@@ -176,7 +176,7 @@ pub if_ok : {X E : Type 0} (P Q : X → Type 0) → ((x : X) → P x → Q x) �
 if_ok P Q h (Ok x) k = h x k
 if_ok P Q h (Err e) k = tt
 
--- ---- patterns of which less is told ----
+-- ---- patterns of which less is known ----
 
 module _ (set : SyntaxSet) where
   same_place : (old new : Flat) → IsCoarser old new → pattern_at set new ≡ pattern_at set old

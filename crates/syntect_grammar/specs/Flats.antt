@@ -17,7 +17,7 @@ use Rattle.syntect_grammar.specs.declared.syntax_set.SyntaxSet.{SyntaxSet}
 abbrev pub pattern_at : SyntaxSet → Flat → Option MatchPattern
 pattern_at set flat = option_and_then (λ c. match_of c flat.index) (context_at set flat.context)
 
--- nothing is told of where the pattern can begin
+-- nothing is known of where the pattern can begin
 pub record IsOpen (flat : Flat) : Type 0 where
   pub begins : (x : ℕ) → is_in flat.begins x ≡ true
   pub words : (x : ℕ) → is_in flat.words x ≡ true
@@ -25,7 +25,7 @@ pub record IsOpen (flat : Flat) : Type 0 where
   pub edges : flat.at_edges ≡ false
 
 -- What is kept of the pattern at the place is true of it; and of one with back references into an opening match, in place of
--- which something else is searched, nothing is told.
+-- which something else is searched, nothing is known.
 abbrev pub Tells : SyntaxSet → Flat → Type 0
 Tells set flat =
     IfSome (pattern_at set flat)

@@ -146,7 +146,7 @@ impl SyntaxSet {
         self.syntaxes.context_at(id)
     }
 
-    /// The patterns of the walk of the context of a number, which stands on its own include path, as far as who looks for
+    /// The patterns of the walk of the context of a number, which stands on its own include path, as far as anyone who looks for
     /// the first that passes a test can tell: a pattern that the walk gives again may be left out. None where they are not
     /// kept: of a context that the set lacks, and of grammars whose includes would make too many of them.
     pub fn flats_of(&self, id: ContextId) -> Option<&FlatList>
@@ -155,7 +155,7 @@ impl SyntaxSet {
         self.syntaxes.flats_of(id)
     }
 
-    /// The patterns of the walk of any context, walked now, as far as who looks for the first that passes a test can tell.
+    /// The patterns of the walk of any context, walked now, as far as anyone who looks for the first that passes a test can tell.
     pub fn flats_walked(&self, alloc: Global, id: ContextId) -> Result<FlatList, AllocError>
         ensures { IfOk result (λ flats. AreFlatsOf self.now id flats) }
     {

@@ -185,7 +185,7 @@ impl Walker {
         self.enter(id)
     }
 
-    /// Finds the patterns of the context of a number, which stands on its own include path, as far as who looks for the
+    /// Finds the patterns of the context of a number, which stands on its own include path, as far as anyone who looks for the
     /// first that passes a test can tell: a pattern that the walk gives again may be left out. Gives up, with `false`, where
     /// no step is left of those that are allowed, if they are counted.
     fn walk(

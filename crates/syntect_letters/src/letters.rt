@@ -2,7 +2,7 @@
 ghost use Rattle.std.specs.Prelude.{◌≡◌, ◌∷◌, [], drop, length, IfNone, IfSome};
 ghost use Rattle.syntect_letters.specs.Letters.{letters_of};
 
-/// How many letters there are at most beside the first one.
+/// How many letters there are at most besides the first one.
 pub const MOST: usize = 12;
 
 /// One letter or more in a row, each a character up to U+00FF, with `fold` any that simple folding makes equal to it.

@@ -1,5 +1,5 @@
 //! Whether the whole match ends anywhere from a cell at a place, by what is known of the cells that it goes on with: of those at
-//! the place, and of all at later places. Where a match ends is not asked, so that atomic groups can't be told.
+//! the place, and of all at later places. Where a match ends is not asked, so that atomic groups can't be decided.
 ghost use Rattle.std.specs.Prelude.{◌≡◌, ◌-◌, IfSome, false, true, is_some, length, option_map, unwrap_or};
 ghost use Rattle.std.specs.Option.{option_or};
 ghost use Rattle.syntect_pattern_table.specs.Table.{is_text};

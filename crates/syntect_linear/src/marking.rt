@@ -62,7 +62,7 @@ fn row_of(alloc: Global, here: &[Option<bool>]) -> Result<Option<Seq<bool>>, All
     Ok(Some(Seq::from_vec(row)))
 }
 
-/// The row of a place, if it can be told without where matches end. Each cell is a step, paid before it is asked.
+/// The row of a place, if it can be known without where matches end. Each cell is a step, paid before it is asked.
 fn marked(
     alloc: Global,
     ground: &Ground,
@@ -85,7 +85,7 @@ fn marked(
     Ok(row)
 }
 
-/// Marks one place more, the one before those that are marked, if that can be told without where matches end. The row of
+/// Marks one place more, the one before those that are marked, if that can be known without where matches end. The row of
 /// a place like one that was marked is a step.
 fn mark_place(
     alloc: Global,
@@ -129,7 +129,7 @@ fn mark_place(
     Ok(true)
 }
 
-/// The marks of the places from the text's end down to this one, if they can be told without where matches end.
+/// The marks of the places from the text's end down to this one, if they can be known without where matches end.
 fn marked_from(
     alloc: Global,
     program: &Program,

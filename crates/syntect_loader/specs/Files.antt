@@ -17,7 +17,7 @@ pub record IsSyntaxOf (newlines : Bool) (path : List ℕ) (old : List (List ℕ)
   pub text : IsUtf8 bytes
   pub loads : loaded bytes newlines (path_file_stem path) old ≡ Ok (d, new)
 
--- why the bytes of a file of this path are no grammar's: for the reason that is told with the path; or there was no memory
+-- why the bytes of a file of this path are no grammar's: for the reason that is reported with the path; or there was no memory
 pub data RefusesSyntax (newlines : Bool) (path bytes : List ℕ) (repo : List (List ℕ)) : LoadingError
     → Type 0 where
   no_grammar : {reason : Refusal} {e : ParseSyntaxError} {shown : String Global} → IsUtf8 bytes

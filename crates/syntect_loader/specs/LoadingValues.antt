@@ -102,7 +102,7 @@ is_list_with p v = list_is (list_in v)
     list_is None = false
     list_is (Some vs) = p vs
 
--- What a push or a set has is told by the first member of its list. A text there is the first of several names, a list with
+-- What a push or a set has is decided by the first member of its list. A text there is the first of several names, a list with
 -- a map in front is the first of several contexts, and an empty list means that nothing is pushed. All else is one reference.
 abbrev pub is_several : Node → Bool
 is_several =

@@ -192,7 +192,7 @@ impl Substitutes {
         }
     }
 
-    /// Keeps one more. Where there is no memory, it isn't kept. No contract says it: who keeps none is only slower.
+    /// Keeps one more. Where there is no memory, it isn't kept. No contract says it: whoever keeps none is only slower.
     pub fn put(&mut self, substitute: Substitute) {
         if self.kept.len() >= MOST {
             self.kept.clear();

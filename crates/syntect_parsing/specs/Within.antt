@@ -43,7 +43,7 @@ pub record ComesTo (engine : Engine) (set : SyntaxSet) (line : List ℕ) (state 
   pub place_is : position.place ≡ place
   pub levels_are : length position.levels ≡ levels
 
--- where a limit is told, the line's reading comes to that place: with so many open levels, if it is theirs
+-- where a limit is reported, the line's reading comes to that place: with so many open levels, if it is theirs
 abbrev pub IsThere : Engine → SyntaxSet → List ℕ → Standing → LineLimit → Type 0
 IsThere engine set line state (Steps context index place) = Unit {0}
 IsThere engine set line state (Turns place) =
@@ -97,7 +97,7 @@ ReachesHere limits turns r (LimitReached (Levels place levels)) = PassesLimit li
 ReachesHere limits turns r (LimitReached (Operations place operations)) =
     PassesLimit limits.operations operations
 
--- a line stands at a limit after so many turns, as they are told, and with so many operations
+-- a line stands at a limit after so many turns, as they are reported, and with so many operations
 abbrev pub StandsAt : Limits → Position → ℕ → ℕ → LineLimit → Type 0
 StandsAt limits p told made (Steps context index place) = ⊥
 StandsAt limits p told made (Turns place) =

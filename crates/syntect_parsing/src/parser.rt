@@ -467,7 +467,7 @@ fn meter_of(steps: usize) -> Meter
     }
 }
 
-/// The state after a line that begins on some level, its operations, and how many turns it took, as far as that can be told.
+/// The state after a line that begins on some level, its operations, and how many turns it took, as far as that can be known.
 fn read_line(
     alloc: Global,
     set: &SyntaxSet,

@@ -110,7 +110,7 @@ fn pair_of(nodes: &[Node], firsts: &PlaceList, first: usize, second: usize) -> O
     Some(weighed(here, places_at(firsts, second)))
 }
 
-/// What stands at a character with one of these after it, of which nothing is told where the character may be beyond ASCII.
+/// What stands at a character with one of these after it, of which nothing is known where the character may be beyond ASCII.
 fn pair_at(here: Places, next: Places) -> Sought
     ensures { (a : Set) (u : Tree) → BeginsIn here (one_of a) → BeginsIn next u
         → IsNeeded result (seq (one_of a) u) }

@@ -13,7 +13,7 @@ loop_cells w least (Some most) = suc (most * suc w)
 loop_cells w zero None = suc w
 loop_cells w (suc least) None = suc (suc least * suc w)
 
--- how many cells a tree takes, which may read nothing, for what else goes on at its place than after it, beside those that
+-- how many cells a tree takes, which may read nothing, for what else goes on at its place than after it, besides those that
 -- it takes where the same goes on; a part that reads takes none
 abbrev pub others : Tree → ℕ
 others (seq a b) = suc ((if reads a then 0 else others a) + (if reads b then 0 else others b))

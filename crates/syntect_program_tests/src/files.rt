@@ -1,4 +1,4 @@
-//! Files of grammars and themes: a page by them, and what is told where they were not loaded.
+//! Files of grammars and themes: a page by them, and what is reported where they were not loaded.
 use crate::found::{equal, holds};
 use std::os::unix::fs::symlink;
 use std::path::{Path, PathBuf};
@@ -60,7 +60,7 @@ fn told_of_theme(rt: &(impl Files + AllocGlobal + Abort), path: Path<'_>) -> Str
     }
 }
 
-/// What is told of a refusal, without the path that it begins with.
+/// What is reported of a refusal, without the path that it begins with.
 fn told(rt: &(impl Files + AllocGlobal + Abort), path: Path<'_>, e: &LoadingError) -> String {
     let alloc = rt.alloc();
     let text = why_not_loaded(rt, alloc, path, e).expect(rt, "memory");
@@ -69,7 +69,7 @@ fn told(rt: &(impl Files + AllocGlobal + Abort), path: Path<'_>, e: &LoadingErro
     String::from_str(alloc, rest).expect(rt, "memory")
 }
 
-/// Texts of a grammar's file, and what is told of them.
+/// Texts of a grammar's file, and what is reported of them.
 const GRAMMARS: [(&str, &str); 2] = [
     (
         "scope: s\n",
@@ -81,7 +81,7 @@ const GRAMMARS: [(&str, &str); 2] = [
     ),
 ];
 
-/// Texts of a theme's file, and what is told of them.
+/// Texts of a theme's file, and what is reported of them.
 const THEMES: [(&str, &str); 4] = [
     (
         "<?xml version=\"1.0\"?>\n<plist/>\n",
@@ -122,7 +122,7 @@ fn grammars_are_named_with_line_and_column(rt: HostRuntime) {
     );
 }
 
-/// Grammars are added while the folder is walked: of two faults the earlier is told, and the grammars before it stay.
+/// Grammars are added while the folder is walked: of two faults the earlier is reported, and the grammars before it stay.
 #[test]
 fn the_first_fault_is_told(rt: HostRuntime) {
     let alloc = rt.alloc();

@@ -166,7 +166,7 @@ fn a_folder_that_is_missing(rt: HostRuntime) {
     holds(&rt, is_no_walk(grammars));
 }
 
-/// A grammar whose files are told by their first line, and such a file.
+/// A grammar whose files are recognised by their first line, and such a file.
 const SCRIPT: [File; 2] = [
     (
         "S.sublime-syntax",
@@ -254,7 +254,7 @@ fn found_within(
     }
 }
 
-/// A script that is told by its first line within limits, one whose first line takes more steps, and one that isn't there.
+/// A script that is recognised by its first line within limits, one whose first line takes more steps, and one that isn't there.
 #[test]
 fn a_script_within_limits(rt: HostRuntime) {
     let folder = written(&rt, "syntect_script_within", &SCRIPT);

@@ -22,7 +22,7 @@ pub const LETTERS: &str = "z aaaaaaaaaaaaaaaaaaaaaaaa b\n";
 /// More matches than three turns take.
 pub const MATCHES: &str = "zzzzz\n";
 
-/// Four contexts more, beside the two that the first turn leaves open.
+/// Four contexts more, besides the two that the first turn leaves open.
 const SETS: &str = "xxxx\n";
 
 /// A line with a match of each.

@@ -41,7 +41,7 @@ impl Model for Looks {
     ghost view = { λ a. groups_in a.groups };
 }
 
-/// What is kept of a pattern beside where its matches begin.
+/// What is kept of a pattern besides where its matches begin.
 #[derive(Drop)]
 struct Detail {
     /// What can come after a word in which a match begins, and after white space in which one does.

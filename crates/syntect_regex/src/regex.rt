@@ -506,7 +506,7 @@ const COMPARED_A_STEP: usize = 256;
 /// But no more steps than so many.
 const MOST_COMPARED: usize = 14000;
 
-/// As how many steps a try of a pattern of so many bytes counts, beside those of its search.
+/// As how many steps a try of a pattern of so many bytes counts, besides those of its search.
 #[inline]
 fn try_steps(size: usize) -> usize
     ensures counted { 0 < result }

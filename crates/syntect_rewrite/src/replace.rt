@@ -21,7 +21,7 @@ fn bracket(text: &str) -> Option<&'static str>
         (λ w. IsWord replacing.brackets text.now 9 w.now) }
     ensures last { MatchOption result (result ≡ result) (λ w. slice_index text.now 8 ≡ 93) }
 {
-    // most characters are told by this one look
+    // most characters are settled by this one look
     if first(text) != b'[' {
         None
     } else if begins(text, "[:alpha:]") {

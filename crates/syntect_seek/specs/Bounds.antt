@@ -7,13 +7,13 @@ use Rattle.syntect_linear.specs.Linear.{planned_steps}
 use Rattle.syntect_plan.specs.Linear.{is_linear, most_cells}
 
 -- A search by a pattern of so many bytes, in a text so long, backs up in at most sixty-four steps for each byte of the text,
--- for each byte of the pattern sixteen, or as many as the text has bytes where it has fewer, and 16384 beside them; as many
+-- for each byte of the pattern sixteen, or as many as the text has bytes where it has fewer, and 16384 besides; as many
 -- bytes of the pattern count as a plan has cells at most. Where they don't suffice, it goes on by the tree's plan.
 abbrev pub tree_bound : Tree → ℕ → ℕ → ℕ
 tree_bound t size long =
     long * 64 + min size most_cells * min long 16 + 16384 + planned_steps t long
 
--- The same of a try, of many at place after place: it backs up in at most eight steps for each byte of the text, and 2048 beside
+-- The same of a try, of many at place after place: it backs up in at most eight steps for each byte of the text, and 2048 besides
 -- them and those for the pattern.
 abbrev pub tried_bound : Tree → ℕ → ℕ → ℕ
 tried_bound t size long = long * 8 + min size most_cells * min long 16 + 2048 + planned_steps t long

@@ -193,7 +193,7 @@ fn write_clearing(clear_scopes: Option<ClearAmount>, out: &mut String) -> Option
     }
 }
 
-/// Adds what stands in a context beside its scopes and patterns.
+/// Adds what stands in a context besides its scopes and patterns.
 fn write_marks(context: &Context, out: &mut String) -> Option<()> {
     let is_without = !context.meta_include_prototype;
     write_mark("  without prototype\n", is_without, out)?;
@@ -233,7 +233,7 @@ fn write_extensions(extensions: &[Text], out: &mut String) -> Option<()> {
     Some(())
 }
 
-/// Adds what stands in a definition beside its variables and contexts.
+/// Adds what stands in a definition besides its variables and contexts.
 fn write_head(
     definition: &SyntaxDefinition,
     repository: &ScopeRepository,

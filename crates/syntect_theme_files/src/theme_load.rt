@@ -163,7 +163,7 @@ impl ParseSettings for Theme {
     type Error = ParseThemeError;
 
     /// The theme of an object. Its first item has the settings, the later ones are rules, of which those that are
-    /// refused for another cause than memory are left out in silence, as one whose colour is none. `IncorrectSyntax`,
+    /// refused for another cause than memory are silently left out, as one whose colour is none. `IncorrectSyntax`,
     /// `UndefinedSettings` and `ColorShemeSettingsIsNotObject` speak of what stands round the rules, and are tested before
     /// memory is taken.
     fn parse_settings(

@@ -179,7 +179,7 @@ fn begins_in(blank: bool, program: &Program) -> bool {
 }
 
 /// What can come after a run in which a match of the program begins, which is white space, or else a word. Anything may, as
-/// far as is told, where its matches begin in no such run, and where its table is large.
+/// far as is known, where its matches begin in no such run, and where its table is large.
 pub fn behind_runs(alloc: Global, blank: bool, program: &Program) -> Result<Places, AllocError>
     ensures { IfOk result (λ places. StandsBehind blank places
         (slice_index_or (trees_of program.now) program.now.root nothing)) }

@@ -124,7 +124,7 @@ fn push_ground(out: &mut Tail, color: Color) -> Result<(), AllocError>
     Ok(())
 }
 
-/// Puts the colour behind a text last, if it is told.
+/// Puts the colour behind a text last, if it is written.
 #[tactic(auto, unfolding(crate::specs::Spans::background_text, crate::specs::Spans::asked_for))]
 fn push_background(out: &mut Tail, bg: IncludeBackground, style: Style) -> Result<(), AllocError>
     ensures front { out.new.front ≡ out.old.front }
