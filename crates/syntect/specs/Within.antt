@@ -33,7 +33,8 @@ abbrev pub TellsWhere : SyntaxSet → List ℕ → Standing → HighlightWithinE
 TellsWhere set line state (Refused e) = Unit {0}
 TellsWhere set line state (LimitReached l) = IsThere dialect set line state l
 
--- a limit that was reached is that of as many turns, or of as many steps, as were made, or of fewer levels than were open
+-- a limit that was reached is that of as many turns, or of as many steps, as were made, or of fewer
+-- levels than were open
 abbrev pub ReachesLimit : Limits → ℕ → ℕ → HighlightWithinError → Type 0
 ReachesLimit limits turns steps (Refused e) = Unit {0}
 ReachesLimit limits turns steps (LimitReached l) =

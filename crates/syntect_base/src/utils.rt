@@ -117,8 +117,8 @@ fn entry_name(text: &str) -> Option<&str>
     }
 }
 
-/// The name of an entry from its bytes. One that is no text is passed over, since no path leads there; but where it may be that
-/// of a file that is looked for, it is a fault.
+/// The name of an entry from its bytes. One that is no text is passed over, since no path leads
+/// there; but where it may be that of a file that is looked for, it is a fault.
 #[tactic(auto, using(crate::proofs::NameLaws::entry_text, crate::proofs::NameLaws::entry_none))]
 fn entry_of(sought: Sought, name: &[u8]) -> Result<Option<&str>, LoadingError>
     ensures entry { IfOk result (λ entry. option_copied entry ≡ entry_of name.now) }
@@ -210,7 +210,8 @@ fn add_paths(
     Ok(())
 }
 
-/// Puts the paths of a folder's entries on what is still to be visited, so that the first is visited first.
+/// Puts the paths of a folder's entries on what is still to be visited, so that the first is
+/// visited first.
 #[tactic(auto, using(crate::proofs::WalkLaws::entered))]
 fn enter(
     files: &impl Files,
@@ -285,9 +286,10 @@ fn go_on(
     Ok(None)
 }
 
-/// A walk through the files in a folder and in the folders below it: each folder's entries in the byte order of their names, a
-/// subfolder's files at its place. Links to folders are not followed, and names that are no UTF-8 are passed over, unless they
-/// may be those of files that the walk looks for.
+/// A walk through the files in a folder and in the folders below it: each folder's entries in the
+/// byte order of their names, a subfolder's files at its place. Links to folders are not followed,
+/// and names that are no UTF-8 are passed over, unless they may be those of files that the walk
+/// looks for.
 #[derive(Drop)]
 pub struct Walk {
     sought: Sought,
@@ -330,8 +332,9 @@ impl Walk {
         }
     }
 
-    /// The next file, and nothing after the last. A path is the folder's text and the names, joined by `/`. A fault of the walk,
-    /// or more than 2^64 - 1 entries, is `WalkDir`; what is visited after it is left open.
+    /// The next file, and nothing after the last. A path is the folder's text and the names, joined
+    /// by `/`. A fault of the walk, or more than 2^64 - 1 entries, is `WalkDir`; what is visited
+    /// after it is left open.
     pub fn next_file(
         &mut self,
         files: &impl Files,
@@ -345,8 +348,8 @@ impl Walk {
     }
 }
 
-/// The paths of the files in a folder and in the folders below it, in the order of a walk that looks for themes. A fault of the
-/// walk is `WalkDir`.
+/// The paths of the files in a folder and in the folders below it, in the order of a walk that
+/// looks for themes. A fault of the walk is `WalkDir`.
 pub fn files_below(
     files: &impl Files,
     alloc: Global,

@@ -40,7 +40,8 @@ alike_back a b s = record { reader = sym s.reader; styles = sym s.styles }
 pub alike_on : (a b c : LineStates) → StandSame a b → StandSame b c → StandSame a c
 alike_on a b c s t = record { reader = s.reader ∙ t.reader; styles = s.styles ∙ t.styles }
 
--- states that stand where those of a past stand are held after that past too, if they are held after some past of the theme
+-- states that stand where those of a past stand are held after that past too, if they are held
+-- after some past of the theme
 pub holds_same : (theme : Theme) (set : SyntaxSet) (was past : Past) (o n : LineStates) → was.theme ≡ theme → past.theme ≡ theme
     → Holds was set o → Holds past set n → StandSame o n → Holds past set o
 holds_same theme set was past o n t u ho hn same =

@@ -70,8 +70,8 @@ pub(crate) fn stand_same(a: &SharedStates, b: &SharedStates) -> bool
     are_same(a.states(), b.states())
 }
 
-/// What a line leaves that begins with the first states: those themselves where it ends as it began, so that no line keeps
-/// states that the line before it has; and whether it does.
+/// What a line leaves that begins with the first states: those themselves where it ends as it
+/// began, so that no line keeps states that the line before it has; and whether it does.
 pub(crate) fn left(
     alloc: Global,
     before: &SharedStates,

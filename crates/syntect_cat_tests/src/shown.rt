@@ -101,7 +101,8 @@ fn a_script_is_told_by_its_first_line(rt: HostRuntime) {
     desk.close(&rt);
 }
 
-/// A grammar with a pattern that tries each way to part a row of `x`, since it asks for a group's text again.
+/// A grammar with a pattern that tries each way to part a row of `x`, since it asks for a group's
+/// text again.
 const COSTLY: &str =
     "scope: source.u\nfile_extensions: [u]\ncontexts: {main: [{match: '^(x+x+)+\\1y', scope: word}, {match: hello, scope: word}]}";
 

@@ -1,4 +1,5 @@
--- A line under operations on a stack of scopes: marks of spans that begin and end, and the text between them.
+-- A line under operations on a stack of scopes: marks of spans that begin and end, and the text
+-- between them.
 use Rattle.std.specs.Prelude.{ℕ, nat_lt, false, ◌||◌, Bool, List, [], ◌∷◌, ◌++◌, length, map, if◌then◌else◌, Option, Some, None, slice_range}
 use Rattle.syntect_classed.specs.Classes.{opening_tag, closing_tag}
 use Rattle.syntect_scope.specs.Hook.{hook_calls}

@@ -252,13 +252,14 @@ fn sheet_of(
     Ok(out)
 }
 
-/// A style sheet for HTML with classes of this style, in which spans of code stand in an element of the class `code`. A
-/// rule of the theme is one of the sheet; its selectors without a path are left out, and so is a rule that has no other
-/// ones. Exclusions of selectors have no counterpart and aren't told.
+/// A style sheet for HTML with classes of this style, in which spans of code stand in an element of
+/// the class `code`. A rule of the theme is one of the sheet; its selectors without a path are left
+/// out, and so is a rule that has no other ones. Exclusions of selectors have no counterpart and
+/// aren't told.
 ///
-/// The sheet begins with a comment that names the theme, without what could end the comment or the element that holds
-/// the sheet: of the name each `<`, each control character and each `*/` is left out. So a sheet of a stranger's theme
-/// can stand in a page as it is.
+/// The sheet begins with a comment that names the theme, without what could end the comment or the
+/// element that holds the sheet: of the name each `<`, each control character and each `*/` is left
+/// out. So a sheet of a stranger's theme can stand in a page as it is.
 pub fn css_for_theme_with_class_style(
     alloc: Global,
     theme: &Theme,

@@ -1,5 +1,5 @@
-//! Edits of a buffer, each shown with what stood before it and what stands after it. Where an edit answers that memory ran out,
-//! it is done once more.
+//! Edits of a buffer, each shown with what stood before it and what stands after it. Where an edit
+//! answers that memory ran out, it is done once more.
 use crate::cases::{CASES, Case, LONG};
 use crate::given::{Edit, apply, buffer_of, set_and_theme};
 use crate::states::Lines;
@@ -111,8 +111,8 @@ fn show_each(
     Ok(())
 }
 
-/// Does some edits, or one of a text of as many lines as a block of the buffer has, and shows each. Answers whether there was
-/// memory for what stands before them; else it shows nothing.
+/// Does some edits, or one of a text of as many lines as a block of the buffer has, and shows each.
+/// Answers whether there was memory for what stands before them; else it shows nothing.
 pub fn show_edits(rt: &(impl Print + AllocGlobal), long: bool) -> io::Result<bool> {
     let cases = if long { LONG } else { CASES.as_slice() };
     let Some(givens) = givens_of(rt.alloc(), cases) else {

@@ -80,8 +80,8 @@ fn add_time(
     Ok(took.read)
 }
 
-/// Times two edits that undo each other, so many rounds, and prints how long each took and how many lines it read again
-/// in the last round.
+/// Times two edits that undo each other, so many rounds, and prints how long each took and how many
+/// lines it read again in the last round.
 pub fn time_pair(
     rt: &(impl Print + AllocGlobal + Clock),
     buffer: &mut LineBuffer<'_>,

@@ -17,7 +17,8 @@ use Rattle.syntect_engine.proofs.DeadLaws.{IsDead}
 use Rattle.syntect_engine.proofs.StepLaws.{goes_to}
 use Rattle.syntect_engine.proofs.WorkLaws.{ticks}
 
--- the steps after a letter's first one: one, and where it stands, another one and those of the letters after it
+-- the steps after a letter's first one: one, and where it stands, another one and those of the
+-- letters after it
 abbrev steps_on : Option ℕ → (ℕ → ℕ) → ℕ
 steps_on None more = suc zero
 steps_on (Some j) more = suc (suc (more j))

@@ -420,6 +420,7 @@ groups_of false x = None
 abbrev pub FindsAt : List ℕ → Program → ℕ → Option Groups → Type 0
 FindsAt s p place groups = (tree : Tree) → IsProgramOf p tree → groups ≡ found_at s tree place
 
--- these are the groups of the match that the program's tree has at the least place not below this one, if it has any
+-- these are the groups of the match that the program's tree has at the least place not below this
+-- one, if it has any
 abbrev pub FindsGroups : List ℕ → Program → ℕ → Option Groups → Type 0
 FindsGroups s p from groups = (tree : Tree) → IsProgramOf p tree → groups ≡ found s tree from

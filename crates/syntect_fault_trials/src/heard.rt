@@ -9,8 +9,8 @@ use std::rt::Files;
 /// What answers say where there is no memory.
 const WANTS: [&str; 2] = ["Memory", "AllocError"];
 
-/// Another handle's memory and files, with an ear in place of its output: it counts the answers that it hears, and those that
-/// say that memory ran out.
+/// Another handle's memory and files, with an ear in place of its output: it counts the answers
+/// that it hears, and those that say that memory ran out.
 #[derive(Drop)]
 pub struct Heard<'r, R> {
     rt: &'r R,

@@ -80,11 +80,12 @@ fn find_by_meter<'s>(
     Ok(None)
 }
 
-/// The syntax that `SyntaxSet::find_syntax_by_first_line` finds, where the searches for it make no more steps together than
-/// `Limits::steps` of `limits`. Their steps are added to `count`, as `Regex::search_counted` counts them.
+/// The syntax that `SyntaxSet::find_syntax_by_first_line` finds, where the searches for it make no
+/// more steps together than `Limits::steps` of `limits`. Their steps are added to `count`, as
+/// `Regex::search_counted` counts them.
 ///
-/// `LimitReached` where they made as many and it isn't known yet, with the syntax whose pattern was searched last; `Refused`
-/// for lack of memory alone.
+/// `LimitReached` where they made as many and it isn't known yet, with the syntax whose pattern was
+/// searched last; `Refused` for lack of memory alone.
 pub fn find_syntax_by_first_line_within<'s>(
     alloc: Global,
     set: &'s SyntaxSet,
@@ -108,9 +109,9 @@ pub fn find_syntax_by_first_line_within<'s>(
     found
 }
 
-/// The syntax that `SyntaxSet::find_syntax_for_file` finds, where the searches of the first line make no more steps together than
-/// `Limits::steps` of `limits`. Their steps are added to `count`. The file is opened, and its line read, only where its path tells
-/// nothing.
+/// The syntax that `SyntaxSet::find_syntax_for_file` finds, where the searches of the first line
+/// make no more steps together than `Limits::steps` of `limits`. Their steps are added to `count`.
+/// The file is opened, and its line read, only where its path tells nothing.
 ///
 /// `Refused` as that call is; `LimitReached` as `find_syntax_by_first_line_within` is.
 pub fn find_syntax_for_file_within<'s>(

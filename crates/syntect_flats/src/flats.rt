@@ -35,9 +35,11 @@ pub struct Origin {
 pub struct Outlook {
     /// What stands there: an ASCII character, 128 for any other one, or 129 for the end.
     pub here: u8,
-    /// Whether white space stands there, as far as that was looked at: it is only where a pattern asks for it.
+    /// Whether white space stands there, as far as that was looked at: it is only where a pattern
+    /// asks for it.
     pub blank: bool,
-    /// What comes after the white space, or else the word's characters that stand there, which may be none.
+    /// What comes after the white space, or else the word's characters that stand there, which may
+    /// be none.
     pub behind: u8,
     /// Whether it is known that no word begins or ends there.
     pub off_edges: bool,

@@ -9,7 +9,8 @@ use syntect_pattern_table::starts::Places;
 pub struct Table {
     /// Where each of the patterns stands.
     pub spots: Vec<Spot>,
-    /// A row of bits for each thing that can be seen at a place, each of so many words: which patterns can begin there.
+    /// A row of bits for each thing that can be seen at a place, each of so many words: which
+    /// patterns can begin there.
     pub rows: Packed,
     /// Of how many words a row is.
     pub words: u16,

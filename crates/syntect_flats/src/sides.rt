@@ -1,4 +1,5 @@
-//! The sides of a place that tell which patterns can begin there, and which rows of a table are of each.
+//! The sides of a place that tell which patterns can begin there, and which rows of a table are of
+//! each.
 ghost use Rattle.std.specs.Prelude.{◌≡◌, ◌≤◌};
 ghost use Rattle.syntect_flats.specs.Sides as spec;
 
@@ -25,8 +26,8 @@ const WORDS: usize = 131;
 /// The first row of what comes after white space.
 const BLANKS: usize = 261;
 
-/// How many rows there are: 130 for each side, which are each ASCII character, any other one, and the end, and one for places
-/// where no word begins or ends.
+/// How many rows there are: 130 for each side, which are each ASCII character, any other one, and
+/// the end, and one for places where no word begins or ends.
 const ROWS: usize = 391;
 
 /// The first of the rows that are of a side.
@@ -60,9 +61,9 @@ pub(crate) fn is_everything(places: Places) -> bool {
     places.ascii == u128::MAX && places.wide && places.end
 }
 
-/// How many rows a table of these patterns has: those of what stands at a place and of edges alone where what follows rules
-/// none out, and those before the ones of white space where what follows those doesn't. A row past a table's end rules out
-/// none.
+/// How many rows a table of these patterns has: those of what stands at a place and of edges alone
+/// where what follows rules none out, and those before the ones of white space where what follows
+/// those doesn't. A row past a table's end rules out none.
 pub(crate) fn row_count(asks: bool, flats: &[Flat]) -> usize
     ensures { result ≤ 391 }
 {

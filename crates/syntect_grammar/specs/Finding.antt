@@ -69,8 +69,9 @@ found_by_path set path =
     option_and_then (λ entry. slice_get (syntaxes_in set) entry.1)
     (last_fitting (λ entry. ends_in_path entry.0 path) (set_paths set))
 
--- What the path of a file tells: the last syntax that has the file's whole name as its extension, or else the last of the
--- name's extension. A path without a name, or a name without an extension, has an empty one.
+-- What the path of a file tells: the last syntax that has the file's whole name as its extension,
+-- or else the last of the name's extension. A path without a name, or a name without an extension,
+-- has an empty one.
 abbrev pub found_by_file_name : SyntaxSet → List ℕ → Option SyntaxReference
 found_by_file_name set path =
     option_or (found_by_extension set (unwrap_or (path_file_name path) []))

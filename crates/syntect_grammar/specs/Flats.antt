@@ -24,8 +24,8 @@ pub record IsOpen (flat : Flat) : Type 0 where
   pub blanks : (x : ℕ) → is_in flat.blanks x ≡ true
   pub edges : flat.at_edges ≡ false
 
--- What is kept of the pattern at the place is true of it; and of one with back references into an opening match, in place of
--- which something else is searched, nothing is known.
+-- What is kept of the pattern at the place is true of it; and of one with back references into an
+-- opening match, in place of which something else is searched, nothing is known.
 abbrev pub Tells : SyntaxSet → Flat → Type 0
 Tells set flat =
     IfSome (pattern_at set flat)
@@ -34,8 +34,8 @@ Tells set flat =
     × (flat.at_edges ≡ true → BeginsAtEdges m.regex)
     × (flat.has_captures ≡ true → IsOpen flat))
 
--- Each test finds the same first pattern at these places as in the context's walk, there are no more of them than that has
--- patterns, and what is kept of them is true.
+-- Each test finds the same first pattern at these places as in the context's walk, there are no
+-- more of them than that has patterns, and what is kept of them is true.
 pub record AreFlatsOf (set : SyntaxSet) (id : ContextId) (flats : List Flat) : Type 0 where
   pub finds : FindsSame (filter_map (pattern_at set) flats) (patterns_of set id)
   pub few : length flats ≤ length (patterns_of set id)

@@ -11,7 +11,8 @@ use syntect_scope::repository::ParseScopeError;
 use syntect_scope::stack::ScopeError;
 use thiserror::Error as ThisError;
 
-/// Why a call was refused for which several causes are possible. `?` makes it of each refusal that a call answers.
+/// Why a call was refused for which several causes are possible. `?` makes it of each refusal that
+/// a call answers.
 #[derive(Drop, ThisError)]
 pub enum Error {
     /// A file or a folder was not loaded.
@@ -35,7 +36,8 @@ pub enum Error {
     /// There was no memory.
     #[error("Memory")]
     Memory,
-    /// A text is no syntax definition. `?` alone makes it, as of what `SyntaxDefinition::load_from_str` answers.
+    /// A text is no syntax definition. `?` alone makes it, as of what
+    /// `SyntaxDefinition::load_from_str` answers.
     #[error("Syntax error: {0}")]
     ParseSyntax(ParseSyntaxError),
     /// A text is no scope. `?` alone makes it.
@@ -46,7 +48,8 @@ pub enum Error {
     Pattern(PatternError),
 }
 
-/// The message, with the cause where the message leaves it out: `main` shows it of an error that it answers.
+/// The message, with the cause where the message leaves it out: `main` shows it of an error that it
+/// answers.
 impl fmt::Debug for Error {
     fn fmt<W: fmt::Write>(&self, f: &mut fmt::Formatter<W>) -> fmt::Result {
         match self {

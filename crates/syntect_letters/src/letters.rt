@@ -5,7 +5,8 @@ ghost use Rattle.syntect_letters.specs.Letters.{letters_of};
 /// How many letters there are at most besides the first one.
 pub const MOST: usize = 12;
 
-/// One letter or more in a row, each a character up to U+00FF, with `fold` any that simple folding makes equal to it.
+/// One letter or more in a row, each a character up to U+00FF, with `fold` any that simple folding
+/// makes equal to it.
 #[derive(Clone, Copy, Debug)]
 pub struct Letters {
     pub fold: bool,

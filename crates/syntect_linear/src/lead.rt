@@ -1,5 +1,6 @@
-//! Whether the whole match ends anywhere from a cell at a place, by what is known of the cells that it goes on with: of those at
-//! the place, and of all at later places. Where a match ends is not asked, so that atomic groups can't be decided.
+//! Whether the whole match ends anywhere from a cell at a place, by what is known of the cells that
+//! it goes on with: of those at the place, and of all at later places. Where a match ends is not
+//! asked, so that atomic groups can't be decided.
 ghost use Rattle.std.specs.Prelude.{◌≡◌, ◌-◌, IfSome, false, true, is_some, length, option_map, unwrap_or};
 ghost use Rattle.std.specs.Option.{option_or};
 ghost use Rattle.syntect_pattern_table.specs.Table.{is_text};
@@ -28,7 +29,8 @@ fn lead(ground: &Ground, here: &[Option<bool>], place: usize, cell: usize) -> Op
     known_at(here, cell)
 }
 
-/// Whether the whole match ends anywhere, if the test holds and the cell goes on at the place, as far as it is known.
+/// Whether the whole match ends anywhere, if the test holds and the cell goes on at the place, as
+/// far as it is known.
 #[inline]
 fn lead_if(
     ground: &Ground,
@@ -47,7 +49,8 @@ fn lead_if(
     }
 }
 
-/// Whether the whole match ends anywhere, if either of two cells goes on at the place, as far as it is known.
+/// Whether the whole match ends anywhere, if either of two cells goes on at the place, as far as it
+/// is known.
 fn lead_either(
     ground: &Ground,
     here: &[Option<bool>],
@@ -65,7 +68,8 @@ fn lead_either(
     lead(ground, here, place, second)
 }
 
-/// Whether the whole match ends anywhere, if the cell goes on at a later place; false if there is none.
+/// Whether the whole match ends anywhere, if the cell goes on at a later place; false if there is
+/// none.
 #[inline]
 fn lead_past(ground: &Ground, marks: &Marks, next: Option<usize>, cell: usize) -> bool
     ensures { result ≡ unwrap_or (option_map
@@ -158,7 +162,8 @@ fn lead_node(
     }
 }
 
-/// Whether the whole match ends anywhere from the cell of a loop at a place, as far as it is known. Which of its ways is preferred makes no difference.
+/// Whether the whole match ends anywhere from the cell of a loop at a place, as far as it is known.
+/// Which of its ways is preferred makes no difference.
 fn lead_loop(
     ground: &Ground,
     here: &[Option<bool>],

@@ -42,8 +42,8 @@ fn close(groups: &mut Vec<Option<Span>>, group: usize, start: usize, end: usize)
     }
 }
 
-/// Goes through the cell's item from the place on, to where its match ends, and sets the groups. Each cell is a step, paid
-/// before it is entered.
+/// Goes through the cell's item from the place on, to where its match ends, and sets the groups.
+/// Each cell is a step, paid before it is entered.
 #[cycle(walk)]
 pub fn walk(
     ground: &Ground,

@@ -245,8 +245,8 @@ fn add_patterns(
     Ok(())
 }
 
-/// Puts what is said of the references that the contexts of a syntax push or set into a set, but for those that are
-/// resolved.
+/// Puts what is said of the references that the contexts of a syntax push or set into a set, but
+/// for those that are resolved.
 pub fn add_syntax(
     alloc: Global,
     repository: &ScopeRepository,

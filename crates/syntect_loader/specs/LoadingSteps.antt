@@ -1,5 +1,5 @@
--- Steps of reading the value of a grammar: each finds something and leaves what has been read so far, or refuses. The
--- first refusal is the answer.
+-- Steps of reading the value of a grammar: each finds something and leaves what has been read so
+-- far, or refuses. The first refusal is the answer.
 use Rattle.std.specs.Prelude.{◌≡◌, ℕ, List, [], ◌∷◌, length, take, Option, Some, None, Result, Ok, Err, string_bytes}
 use Rattle.syntect_scope.specs.declared.repository.ParseScopeError.{ParseScopeError}
 use Rattle.syntect_scope.specs.declared.repository.ParseScopeError.TheVariants.{TooLong, TooManyAtoms}

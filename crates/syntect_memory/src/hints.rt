@@ -1,4 +1,5 @@
-//! What is known, while a line is read, of patterns that are searched in the place of others, with the texts of groups put in.
+//! What is known, while a line is read, of patterns that are searched in the place of others, with
+//! the texts of groups put in.
 ghost use Rattle.std.specs.Prelude.{◌≡◌, ◌<◌, List, ℕ, IfSome, length, slice_index_or, string_bytes};
 ghost use Rattle.syntect_seek.specs.Prospect.{IsProspectOf};
 ghost use Rattle.syntect_memory.specs.Memory.{AreHintsIn, IsHintOf};

@@ -424,7 +424,8 @@ fn comments_of(alloc: Global, settings: &Value) -> Result<Comments, MetadataErro
     })
 }
 
-/// What an object says. A value of a wrong kind is `BadItems`, and keys that aren't known are not looked at.
+/// What an object says. A value of a wrong kind is `BadItems`, and keys that aren't known are not
+/// looked at.
 pub(crate) fn items(alloc: Global, settings: &Value) -> Result<MetadataItems, MetadataError>
     ensures ok { IfOk result (λ i. items.items_of (view settings.now) ≡ Ok i) }
     ensures err { IfErr result (Refuses (items.items_of (view settings.now))) }

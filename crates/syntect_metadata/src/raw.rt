@@ -128,8 +128,9 @@ fn entry_from<R: Read>(
 }
 
 impl RawMetadataEntry {
-    /// The entry in a file: the JSON of an object with a text as `scope` and an object as `settings`, in which no number is a
-    /// float. A fault of the file is `Io`, other bytes are `ReadSettings`, and another value is `ParseMetadata`.
+    /// The entry in a file: the JSON of an object with a text as `scope` and an object as
+    /// `settings`, in which no number is a float. A fault of the file is `Io`, other bytes are
+    /// `ReadSettings`, and another value is `ParseMetadata`.
     #[tactic(auto, using(crate::proofs::EntryLaws::fault_read, crate::proofs::EntryLaws::of_file))]
     pub fn load(
         files: &impl Files,

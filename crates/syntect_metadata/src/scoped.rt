@@ -10,8 +10,8 @@ use syntect_regex::regex::Regex;
 use syntect_scope::power::MatchPower;
 use syntect_values::seq::Seq;
 
-/// The sets that match a stack of scopes, the best first, each with its score. A question goes to the first that can say
-/// something.
+/// The sets that match a stack of scopes, the best first, each with its score. A question goes to
+/// the first that can say something.
 #[derive(Drop)]
 pub struct ScopedMetadata<'a> {
     /// The sets with their scores.
@@ -75,7 +75,8 @@ impl<'a> ScopedMetadata<'a> {
         self.asks(Kind::Unindented, line)
     }
 
-    /// Whether a line is indented by one less: the first `decreaseIndentPattern` matches at its begin.
+    /// Whether a line is indented by one less: the first `decreaseIndentPattern` matches at its
+    /// begin.
     pub fn decrease_indent(&self, line: &str) -> Result<bool, AllocError>
         ensures { IfOk result (λ yes. yes
             ≡ answer (λ i. i.decrease_indent_pattern)
@@ -84,7 +85,8 @@ impl<'a> ScopedMetadata<'a> {
         self.asks(Kind::Decrease, line)
     }
 
-    /// Whether the lines after a line are indented by one more: the first `increaseIndentPattern` matches at its begin.
+    /// Whether the lines after a line are indented by one more: the first `increaseIndentPattern`
+    /// matches at its begin.
     pub fn increase_indent(&self, line: &str) -> Result<bool, AllocError>
         ensures { IfOk result (λ yes. yes
             ≡ answer (λ i. i.increase_indent_pattern)
@@ -93,8 +95,8 @@ impl<'a> ScopedMetadata<'a> {
         self.asks(Kind::Increase, line)
     }
 
-    /// Whether the one line after a line is indented by one more: the first `bracketIndentNextLinePattern` matches at its
-    /// begin.
+    /// Whether the one line after a line is indented by one more: the first
+    /// `bracketIndentNextLinePattern` matches at its begin.
     pub fn bracket_increase(&self, line: &str) -> Result<bool, AllocError>
         ensures { IfOk result (λ yes. yes
             ≡ answer (λ i. i.bracket_indent_next_line_pattern)
@@ -103,8 +105,8 @@ impl<'a> ScopedMetadata<'a> {
         self.asks(Kind::Bracket, line)
     }
 
-    /// Whether the line after a line is not indented by one more: the first `disableIndentNextLinePattern` matches at its
-    /// begin.
+    /// Whether the line after a line is not indented by one more: the first
+    /// `disableIndentNextLinePattern` matches at its begin.
     pub fn disable_indent_next_line(&self, line: &str) -> Result<bool, AllocError>
         ensures { IfOk result (λ yes. yes
             ≡ answer (λ i. i.disable_indent_next_line_pattern)

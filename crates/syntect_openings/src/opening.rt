@@ -53,7 +53,8 @@ impl Opening {
         self.line.len()
     }
 
-    /// The text of a pattern with this match's groups for its back references, if it has at most so many bytes.
+    /// The text of a pattern with this match's groups for its back references, if it has at most so
+    /// many bytes.
     pub fn text_within(
         &self,
         pattern: &MatchPattern,

@@ -16,8 +16,9 @@ use Rattle.syntect_winner.specs.declared.position.Position.{Position}
 use Rattle.syntect_contexts.specs.declared.error.ParsingError.{ParsingError}
 use Rattle.syntect_contexts.specs.declared.error.ParsingError.TheVariants as error
 
--- The step goes on to q, and these operations were added. They apply to any stack that remembers a list for each level that
--- clears, and leave such a one; where the step is orderly, they show the scopes that it gives.
+-- The step goes on to q, and these operations were added. They apply to any stack that remembers a
+-- list for each level that clears, and leave such a one; where the step is orderly, they show the
+-- scopes that it gives.
 pub record MakesStep (orderly : Type 0) (set : SyntaxSet) (line : List ℕ) (step : Step)
     (p q : Position) (old new : List (ℕ × ScopeStackOp)) : Type 0 where
   pub bytes : List Scopes

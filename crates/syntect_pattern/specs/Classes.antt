@@ -58,8 +58,9 @@ member t = do
 abbrev pub ends_side : Text → Bool
 ends_side t = begins "]" t || begins "&&" t
 
--- The character after the `-` at the front, which makes a range of it, and what follows. There is none where the `-` is
--- last, or stands before a nested class, a POSIX bracket or an escape that is no character.
+-- The character after the `-` at the front, which makes a range of it, and what follows. There is
+-- none where the `-` is last, or stands before a nested class, a POSIX bracket or an escape that is
+-- no character.
 abbrev pub one_only : Member × Text → Option (ℕ × Text)
 one_only (one c, rest) = Some (c, rest)
 one_only (many a, rest) = None
@@ -170,7 +171,8 @@ module _ (fold : Bool) where
   abbrev pub negates : Bool → Option (Set × Text) → Option (Set × Text)
   negates caret found = found >>= λ (a, rest). Some (negate_if caret a, rest)
 
-  -- a class that stands in `depth` groups and classes, from just after its bracket on; `more` reads the rest of one
+  -- a class that stands in `depth` groups and classes, from just after its bracket on; `more` reads
+  -- the rest of one
   abbrev pub opened : (ℕ → Class → Text → Option (Set × Text)) → ℕ → Text → Option (Set × Text)
   opened more depth t = do
     nat_lt depth deepest
@@ -178,7 +180,8 @@ module _ (fold : Bool) where
     s ← first_item start.bracket start.rest
     negates start.caret (after_step (more (depth + 1)) empty_class s)
 
-  -- the rest of a class that stands `depth` deep; the number bounds the calls, each of which reads a character
+  -- the rest of a class that stands `depth` deep; the number bounds the calls, each of which reads
+  -- a character
   unfoldable pub class_rest : ℕ → ℕ → Class → Text → Option (Set × Text)
   class_rest zero depth c t = None
   class_rest (suc n) depth c t = step (opened (class_rest n) depth) c t (next_in t) >>= after_step (class_rest n depth) c

@@ -71,7 +71,8 @@ impl Builder {
         Ok(place)
     }
 
-    /// Puts all branches together, one of which is tried after the other. They are taken off, and their memory stays.
+    /// Puts all branches together, one of which is tried after the other. They are taken off, and
+    /// their memory stays.
     pub fn branches(&mut self, parts: &mut Seq<usize>) -> Result<usize, AllocError>
         requires { AllBelow (length self.old.nodes) parts.old }
         ensures grows { OnOk result (Grows self.old.nodes self.new.nodes) }

@@ -63,7 +63,8 @@ pub record HasSet (parts : List Part) (k : ℕ) (a : Set) : Type 0 where
 abbrev pub AreFlags : ℕ → Set → Type 0
 AreFlags bits a = (x : ℕ) → x < 128 → (bit_at bits x == 1) ≡ holds a x
 
--- the range holds `K`, `S`, `k` or `s`: simple folding makes these alone of ASCII equal to a character beyond it
+-- the range holds `K`, `S`, `k` or `s`: simple folding makes these alone of ASCII equal to a
+-- character beyond it
 abbrev pub folds_beyond : ℕ → ℕ → Bool
 folds_beyond low high = is_within low high 0x4B
     || (is_within low high 0x53 || (is_within low high 0x6B || is_within low high 0x73))

@@ -85,7 +85,8 @@ begins_at x f = record { read = is_in f.read x; stay = is_in f.stay x }
 abbrev pub none_there : Places
 none_there = record { ascii = 0; wide = false; end = false }
 
--- how a part begins that has this row, if it has one: else no match of it reads nothing, and these are its places
+-- how a part begins that has this row, if it has one: else no match of it reads nothing, and these
+-- are its places
 abbrev pub row_at : Places → List Firsts → ℕ → Firsts
 row_at p fs zero = record { read = p; stay = none_there }
 row_at p fs (suc n) = slice_index_or fs n (record { read = none_there; stay = none_there })

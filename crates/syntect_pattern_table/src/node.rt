@@ -28,7 +28,8 @@ pub enum Node {
     Sequence(usize, usize),
     /// One of two parts, of which the first is preferred.
     Alternation(usize, usize),
-    /// Turns of the part, at least so many and at most so many, if there is a limit. A greedy loop prefers more.
+    /// Turns of the part, at least so many and at most so many, if there is a limit. A greedy loop
+    /// prefers more.
     Repeat {
         greedy: bool,
         least: u32,

@@ -7,7 +7,8 @@ ghost use Rattle.syntect_pattern.specs.Grammar as grammar;
 
 use crate::text::{Test, after, begins, head, is_empty, number, run, split_first};
 
-/// The least and the greatest number of turns, and whether it is `*`, `+` or `?` and not a count. Large numbers are cut.
+/// The least and the greatest number of turns, and whether it is `*`, `+` or `?` and not a count.
+/// Large numbers are cut.
 #[derive(Clone, Copy)]
 pub struct Quantifier {
     pub least: u32,

@@ -23,7 +23,8 @@ use Rattle.syntect_plan.specs.Spelt.{AllBelow, ArePlaces, place_at}
 
 -- -- One node more
 
--- what holds of the list before and of the one to come holds of the list after a push, whether it had memory or not
+-- what holds of the list before and of the one to come holds of the list after a push, whether it
+-- had memory or not
 pub after-push : {A E : Type 0} (P : List Node → Type 0) (r : Result A E) (old more new : List Node) → OnOk r (new ≡ more) → OnErr r (new ≡ old) → P old → P more → P new
 after-push P (Ok x) old more new ok err h m = subst P (sym ok) m
 after-push P (Err x) old more new ok err h m = subst P (sym err) h

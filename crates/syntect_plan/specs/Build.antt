@@ -73,7 +73,8 @@ pub record Adds (ts : List Tree) (old : List Cell) (t : Tree) (f g w k : ℕ) (n
   pub part : IsPart ts new k t f g
   pub cost : all_cells ts new ≡ all_cells ts old + w
 
--- the loop after a turn has a cell, which may be the loop's own; with a turn and the loop it takes what the loop takes
+-- the loop after a turn has a cell, which may be the loop's own; with a turn and the loop it takes
+-- what the loop takes
 pub record AddsMore (ts : List Tree) (old : List Cell) (g : ℕ) (greedy : Bool) (least : ℕ)
     (most : Option ℕ) (a : Tree) (more : ℕ) (new : List Cell) : Type 0 where
   pub extends : Extends ts old new
@@ -85,7 +86,8 @@ pub record AddsMore (ts : List Tree) (old : List Cell) (g : ℕ) (greedy : Bool)
 abbrev pub turn_source : ℕ → ℕ → Option ℕ → Source
 turn_source number least most = if (least == 1) && is_none most then Shared number else Own
 
--- the cells of the tree's parts are there, before f at its place and g after it; the tree takes so many with its own
+-- the cells of the tree's parts are there, before f at its place and g after it; the tree takes so
+-- many with its own
 pub record Makes (ts : List Tree) (old : List Cell) (olds : List ℕ) (f g : ℕ) (t : Tree) (w : ℕ)
     (p : Parts) (new : List Cell) (news : List ℕ) : Type 0 where
   pub extends : Extends ts old new

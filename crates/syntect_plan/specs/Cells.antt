@@ -57,7 +57,8 @@ abbrev pub cell_tree : List Tree → List Cell → ℕ → Tree
 cell_tree ts cells k = item_tree ts (cell_at cells k).item
 
 module _ (s : List ℕ) (ts : List Tree) where
-  -- where the whole match ends that goes on with the item, before what goes on at the place and after it
+  -- where the whole match ends that goes on with the item, before what goes on at the place and
+  -- after it
   abbrev pub item_end : Onward → Onward → Item → Onward
   item_end f g End i = Some i
   item_end f g (Node n) i = onward s (item_tree ts (Node n)) (moved i f g) i
@@ -84,7 +85,8 @@ is_end End = true
 is_end _ = false
 
 module _ (ts : List Tree) where
-  -- how much of the pattern can be gone through at one place from the item on, before what goes on at the place
+  -- how much of the pattern can be gone through at one place from the item on, before what goes on
+  -- at the place
   abbrev pub item_height : ℕ → Item → ℕ
   item_height rest End = zero
   item_height rest (Node n) = tree_height rest (item_tree ts (Node n))

@@ -7,14 +7,15 @@ use Rattle.syntect_plan.specs.declared.cells.Item.{Item}
 use Rattle.syntect_plan.specs.declared.cells.Cell.{Cell}
 use Rattle.syntect_plan.specs.declared.cells.Parts.{Parts}
 
--- how many cells a loop takes, by those of a turn: one for itself, and one more for each turn that is counted
+-- how many cells a loop takes, by those of a turn: one for itself, and one more for each turn that
+-- is counted
 abbrev pub loop_cells : ℕ → ℕ → Option ℕ → ℕ
 loop_cells w least (Some most) = suc (most * suc w)
 loop_cells w zero None = suc w
 loop_cells w (suc least) None = suc (suc least * suc w)
 
--- how many cells a tree takes, which may read nothing, for what else goes on at its place than after it, besides those that
--- it takes where the same goes on; a part that reads takes none
+-- how many cells a tree takes, which may read nothing, for what else goes on at its place than
+-- after it, besides those that it takes where the same goes on; a part that reads takes none
 abbrev pub others : Tree → ℕ
 others (seq a b) = suc ((if reads a then 0 else others a) + (if reads b then 0 else others b))
 others (alt a b) = suc ((if reads a then 0 else others a) + (if reads b then 0 else others b))
@@ -41,8 +42,8 @@ cells_of _ = 1
 abbrev pub plan_cells : Tree → ℕ
 plan_cells t = suc (cells_of t)
 
--- The pattern has no plan of at most so many cells: it has a back reference, or a lookbehind looks for what isn't plain, or
--- a lookahead in a loop sets groups, or it takes more cells.
+-- The pattern has no plan of at most so many cells: it has a back reference, or a lookbehind looks
+-- for what isn't plain, or a lookahead in a loop sets groups, or it takes more cells.
 abbrev pub IsHard : ℕ → Tree → Type 0
 IsHard most t = (is_free t ≡ false) ⊎ (most < plan_cells t)
 

@@ -25,11 +25,13 @@ pub enum Source {
     Own,
     /// Those of another cell, a loop that takes one turn at least where this one may take none.
     Shared(usize),
-    /// Besides its own, those of another cell, which has the same item before what goes on after this one alone.
+    /// Besides its own, those of another cell, which has the same item before what goes on after
+    /// this one alone.
     Beside(usize),
 }
 
-/// An item, the cell that goes on at its place where it reads nothing, and the one that goes on after it.
+/// An item, the cell that goes on at its place where it reads nothing, and the one that goes on
+/// after it.
 #[derive(Clone, Copy)]
 pub struct Cell {
     pub item: Item,

@@ -20,7 +20,8 @@ fn sum_of(first: usize, second: usize) -> usize
     first.saturating_add(second)
 }
 
-/// How many passes the lookbehinds of a node take, by the sizes of the nodes before it and by their passes.
+/// How many passes the lookbehinds of a node take, by the sizes of the nodes before it and by their
+/// passes.
 #[tactic(auto, unfolding(crate::specs::Order::capped))]
 fn node_passes(node: &Node, sizes: &[usize], before: &[usize]) -> usize
     ensures { (ts : List Tree) → AreSizes sizes.now ts → ArePasses before.now ts
@@ -38,8 +39,8 @@ fn node_passes(node: &Node, sizes: &[usize], before: &[usize]) -> usize
     }
 }
 
-/// How many passes over a text the lookbehinds of a program take, none of whose nodes holds letters in a row: one for each node
-/// of what they look for.
+/// How many passes over a text the lookbehinds of a program take, none of whose nodes holds letters
+/// in a row: one for each node of what they look for.
 pub fn passes_of(alloc: Global, program: &Program) -> Result<usize, AllocError>
     requires { AreSpelt program.now.nodes }
     ensures { IfOk result (λ n. n

@@ -29,8 +29,8 @@ fn place_at(places: &[usize], node: usize) -> usize
     places.get(node).copied().unwrap_or(0)
 }
 
-/// The node with its parts at their new places: it has the same tree wherever these hold the trees of its parts. Letters in a
-/// row, which have no copy, give an empty node.
+/// The node with its parts at their new places: it has the same tree wherever these hold the trees
+/// of its parts. Letters in a row, which have no copy, give an empty node.
 fn copy_of(alloc: Global, node: &Node, places: &[usize]) -> Result<Node, AllocError>
     ensures spelt { IfOk result (λ copy. is_text copy ≡ false) }
     ensures before { IfOk result (λ copy. (n : ℕ) → AllBelow n places.now

@@ -39,7 +39,8 @@ pub fn folder(rt: &(impl Env + Files + AllocGlobal + Abort), name: &str) -> Path
     folder
 }
 
-/// A line about the grammars of a folder, without the folder's path. It is empty where they are loaded.
+/// A line about the grammars of a folder, without the folder's path. It is empty where they are
+/// loaded.
 fn told_of_grammars(rt: &(impl Files + AllocGlobal + Abort), folder: Path<'_>) -> String {
     let alloc = rt.alloc();
     let mut repository = ScopeRepository::new(alloc);
@@ -50,7 +51,8 @@ fn told_of_grammars(rt: &(impl Files + AllocGlobal + Abort), folder: Path<'_>) -
     }
 }
 
-/// A line about the theme in a file, without the file's path. It is empty where the theme is loaded.
+/// A line about the theme in a file, without the file's path. It is empty where the theme is
+/// loaded.
 fn told_of_theme(rt: &(impl Files + AllocGlobal + Abort), path: Path<'_>) -> String {
     let alloc = rt.alloc();
     let mut repository = ScopeRepository::new(alloc);
@@ -122,7 +124,8 @@ fn grammars_are_named_with_line_and_column(rt: HostRuntime) {
     );
 }
 
-/// Grammars are added while the folder is walked: of two faults the earlier is reported, and the grammars before it stay.
+/// Grammars are added while the folder is walked: of two faults the earlier is reported, and the
+/// grammars before it stay.
 #[test]
 fn the_first_fault_is_told(rt: HostRuntime) {
     let alloc = rt.alloc();

@@ -23,7 +23,8 @@ use syntect_scope::repository::ParseScopeError;
 use syntect_scope::stack::{ScopeStack, ScopeStackOp};
 use syntect_values::text::Text;
 
-/// `x` pushes a context that is not there; the other one is left by `x`. Files whose name is `null` are of this syntax.
+/// `x` pushes a context that is not there; the other one is left by `x`. Files whose name is `null`
+/// are of this syntax.
 const GRAMMAR: &str =
     "name: T\nscope: source.t\nfile_extensions: ['null']\ncontexts:\n  main: [{match: x, push: none}]\n  left: [{match: x, pop: true}]\n";
 

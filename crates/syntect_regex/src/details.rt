@@ -1,4 +1,5 @@
-//! What not every pattern has: what can come after words and white space in which matches begin, and groups.
+//! What not every pattern has: what can come after words and white space in which matches begin,
+//! and groups.
 ghost use Rattle.std.specs.Prelude.{◌≡◌, ℕ, IfOk, IfSome, List, Some, None, false, length, option_and_then, replicate, slice_index_or, true};
 ghost use Rattle.syntect_pattern.specs.Trees.{group_in_look};
 ghost use Rattle.syntect_pattern.specs.Pattern.{pattern_tree};
@@ -26,7 +27,8 @@ enum GroupLooks {
     Each(Box<Option<Seq<Option<bool>>>>),
 }
 
-/// Of each group, the whole match aside, whether it stands in a lookaround, seen as one list, or none where the text is no pattern.
+/// Of each group, the whole match aside, whether it stands in a lookaround, seen as one list, or
+/// none where the text is no pattern.
 #[derive(Drop)]
 struct Looks {
     groups: GroupLooks,
@@ -53,16 +55,18 @@ struct Detail {
 /// What not every pattern has.
 #[derive(Drop)]
 enum Rare {
-    /// Anything can come after words and white space, and none of so many groups stands in a lookaround, as in most patterns.
+    /// Anything can come after words and white space, and none of so many groups stands in a
+    /// lookaround, as in most patterns.
     Free(u32),
-    /// Groups alone: of each whether it stands in a lookaround, or None if the text is no pattern. (`Looks` in its place would
-    /// make each pattern larger.)
+    /// Groups alone: of each whether it stands in a lookaround, or None if the text is no pattern.
+    /// (`Looks` in its place would make each pattern larger.)
     Groups(Box<Option<Seq<Option<bool>>>>),
     /// Something that can't come after words or white space.
     All(Box<Detail>),
 }
 
-/// What not every pattern has, seen as a `Detail`. It stands in a place of its own, so that a pattern is small.
+/// What not every pattern has, seen as a `Detail`. It stands in a place of its own, so that a
+/// pattern is small.
 #[derive(Drop)]
 pub(crate) struct Details {
     rare: Rare,
@@ -78,7 +82,8 @@ impl Model for Details {
 }
 
 impl Details {
-    /// What can come after words, and what after white space, and of each group whether it stands in a lookaround.
+    /// What can come after words, and what after white space, and of each group whether it stands
+    /// in a lookaround.
     pub(crate) fn new(
         alloc: Global,
         words: Places,
@@ -142,7 +147,8 @@ impl Details {
         }
     }
 
-    /// Whether the group of the number stands in a lookaround, which group 0 never does. None without such a group.
+    /// Whether the group of the number stands in a lookaround, which group 0 never does. None
+    /// without such a group.
     pub(crate) fn group(&self, number: usize) -> Option<bool>
         ensures { (pattern : List ℕ) → KnowsGroups pattern self.now.looks
             → result ≡ option_and_then (λ tree. group_in_look tree number) (pattern_tree pattern) }
@@ -193,7 +199,8 @@ impl Looks {
     }
 }
 
-/// Whether the group of the number stands in a lookaround, where none of so many does. None without such a group.
+/// Whether the group of the number stands in a lookaround, where none of so many does. None without
+/// such a group.
 fn free_group(count: u32, number: usize) -> Option<bool>
     ensures { result ≡ look_of (free_groups count) number }
 {

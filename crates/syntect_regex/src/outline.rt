@@ -71,8 +71,8 @@ fn edges_of(program: &Option<Program>) -> bool
     }
 }
 
-/// What can come after white space, or else after a word, in which a match of the program begins; anything where there is
-/// none.
+/// What can come after white space, or else after a word, in which a match of the program begins;
+/// anything where there is none.
 fn behind_of(alloc: Global, blank: bool, program: &Option<Program>) -> Result<Places, AllocError>
     ensures { IfOk result (λ places. (p : Program) → program.now ≡ Some p
         → StandsBehind blank places (slice_index_or (trees_of p) p.root nothing)) }

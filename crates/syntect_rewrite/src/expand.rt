@@ -149,8 +149,8 @@ pub(crate) fn go_into<'a>(
     }
 }
 
-/// Goes into the text of a variable, unless that is being read or its use is remembered to stand for nothing: what is to be
-/// read next.
+/// Goes into the text of a variable, unless that is being read or its use is remembered to stand
+/// for nothing: what is to be read next.
 fn enter<'a>(
     variables: &'a Table<Text, Text>,
     frames: &mut Vec<Frame<'a>>,
@@ -182,8 +182,9 @@ fn remember(known: &mut Table<Text, bool>, name: Text) -> Result<(), AllocError>
     }
 }
 
-/// Remembers whether the use of a name stands for nothing, when its variable's text is over: if it does, what is remembered
-/// from within that text holds outside of it too, and else nothing is remembered.
+/// Remembers whether the use of a name stands for nothing, when its variable's text is over: if it
+/// does, what is remembered from within that text holds outside of it too, and else nothing is
+/// remembered.
 fn settle(
     alloc: Global,
     known: &mut Table<Text, bool>,
@@ -284,9 +285,10 @@ fn turn<'a>(
 
 /// A text with its variables expanded.
 ///
-/// Each use that is gone into and writes nothing is remembered until one that wrote something is over. So of as many
-/// variables as there are, each is gone into at most once for nothing between two that write, and each character is written
-/// in at most as many of them: how long it takes is bounded by what is written and the number of variables.
+/// Each use that is gone into and writes nothing is remembered until one that wrote something is
+/// over. So of as many variables as there are, each is gone into at most once for nothing between
+/// two that write, and each character is written in at most as many of them: how long it takes is
+/// bounded by what is written and the number of variables.
 pub(crate) fn expand(
     alloc: Global,
     text: &str,

@@ -49,7 +49,8 @@ fn word(text: &str) -> Option<(&'static str, &str)>
     Some((written, skip(text, 9)))
 }
 
-/// What is written for the name at the front of a text, or else the first character, and what follows that.
+/// What is written for the name at the front of a text, or else the first character, and what
+/// follows that.
 fn next_part(text: &str) -> (&str, &str)
     requires { 0 < length text.now }
     ensures turn { replacing.replaced replacing.brackets text.now ≡ result.0.now

@@ -68,7 +68,8 @@ fn resumed<'t>(
     HighlightLines::from_state(alloc, theme, highlight_state, parse_state).ok()
 }
 
-/// Adds the styled pieces of a text's lines, by a highlighter that is taken up again after each line, with the scopes that are open there.
+/// Adds the styled pieces of a text's lines, by a highlighter that is taken up again after each
+/// line, with the scopes that are open there.
 pub fn write_resumed_pieces(
     given: Given<'_>,
     repository: &ScopeRepository,

@@ -49,9 +49,9 @@ impl ScopeStack {
         }
     }
 
-    /// Applies an operation as `apply` does, and calls the hook once for each scope that is really pushed or removed,
-    /// with the stack after that; for `Clear` it is each time the stack that is left. A refusal changes nothing and
-    /// calls no hook.
+    /// Applies an operation as `apply` does, and calls the hook once for each scope that is really
+    /// pushed or removed, with the stack after that; for `Clear` it is each time the stack that is
+    /// left. A refusal changes nothing and calls no hook.
     pub fn apply_telling<F: FnMut(BasicScopeStackOp, &[Scope])>(
         &mut self,
         op: &ScopeStackOp,

@@ -12,7 +12,8 @@ fn write_mark(text: &str, is_asked: bool, out: &mut String) -> Option<()> {
     out.push_str(if is_asked { text } else { "" }).ok()
 }
 
-/// Adds ` #` and the context within a syntax that a reference names, if it names one, and a mark if it has a way out.
+/// Adds ` #` and the context within a syntax that a reference names, if it names one, and a mark if
+/// it has a way out.
 fn write_way(sub_context: &Option<Text>, with_escape: bool, out: &mut String) -> Option<()> {
     if let Some(name) = sub_context {
         write!(out, "#{}", name.as_str()).ok()?;

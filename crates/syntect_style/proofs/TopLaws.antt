@@ -115,7 +115,8 @@ abbrev pub IsUnder : {V : Type 0} → ℕ → Option (Candidate V) → Type 0
 IsUnder power None = Unit {0}
 IsUnder power (Some c) = c.score.power < power
 
--- nothing, where there is no place below; or this value with a power of nought, at the place right below
+-- nothing, where there is no place below; or this value with a power of nought, at the place right
+-- below
 abbrev pub IsJustBelow : {V : Type 0} → ℕ → V → Option (Candidate V) → Type 0
 IsJustBelow n v None = n ≡ 0
 IsJustBelow n v (Some c) = (c.value ≡ v) × (c.score.power ≡ 0) × ((p : ℕ) × (c.score.place ≡ Some p) × (suc p ≡ n))
@@ -134,7 +135,8 @@ pub record Noughts (V : Type 0) (n : ℕ) (a m b : Option (Candidate V)) : Type 
   pub z_place : z.score.place ≡ Some n
   pub value : x.value ≡ z.value
 
--- What stands by the places below the top, what stands at the top, and what stands with both: the better of the two.
+-- What stands by the places below the top, what stands at the top, and what stands with both: the
+-- better of the two.
 pub record Tracks (V : Type 0) (n : ℕ) (a m b : Option (Candidate V)) : Type 0 where
   pub low : IsBelow n a
   pub at_top : IsAt n m

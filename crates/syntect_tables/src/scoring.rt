@@ -119,8 +119,8 @@ pub(crate) fn operation_of(text: &str, repository: &mut ScopeRepository) -> Opti
     }
 }
 
-/// Adds what a stack becomes by operations, and `refused` for each that is refused: the scopes and the operations have
-/// commas between.
+/// Adds what a stack becomes by operations, and `refused` for each that is refused: the scopes and
+/// the operations have commas between.
 pub fn write_stack(
     alloc: Global,
     question: &str,

@@ -12,7 +12,8 @@ use syntect_writers::latex::as_latex_escaped;
 use syntect_writers::lines::LinesWithEndings;
 use syntect_writers::terminal::as_24_bit_terminal_escaped;
 
-/// A piece and its style: the colours, the number of the flags and the text, with a space between each two.
+/// A piece and its style: the colours, the number of the flags and the text, with a space between
+/// each two.
 pub(crate) fn piece_of(line: &str) -> Option<(Style, &str)> {
     let (foreground, rest) = line.split_once(' ')?;
     let (background, rest) = rest.split_once(' ')?;

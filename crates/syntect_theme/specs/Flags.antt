@@ -69,7 +69,8 @@ abbrev pub part_text : Bool → Bool → List ℕ → List ℕ
 part_text is_first is_there text =
     if is_there then (if is_first then text else codes " | " ++ text) else []
 
--- the number of bits that are no flag's, after a bar unless it is the first, and a word where there is nothing at all
+-- the number of bits that are no flag's, after a bar unless it is the first, and a word where there
+-- is nothing at all
 abbrev pub rest_text : Bool → ℕ → List ℕ
 rest_text is_first bits =
     if bits == 0 then (if is_first then codes "(empty)" else [])

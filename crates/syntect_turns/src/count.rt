@@ -7,8 +7,8 @@ ghost use base.Fml.{ftrue};
 use std::alloc::AllocError;
 use std::marker::{Model, PhantomData};
 
-/// How many turns were made so far: a whole number without limit, which contracts alone see. It takes no bytes, and nothing
-/// is done for it at run time.
+/// How many turns were made so far: a whole number without limit, which contracts alone see. It
+/// takes no bytes, and nothing is done for it at run time.
 #[derive(Drop)]
 pub struct TurnCount {
     marker: PhantomData<()>,

@@ -42,8 +42,8 @@ pub record IsRunUpTo (blank : Bool) (s : List ℕ) (i e : ℕ) : Type 0 where
 unfoldable pub has_one : Bool → Set → Bool
 has_one blank a = list_any (holds a) (chars_of blank)
 
--- Of a match that begins in a run, after which this stands: whether it can go on past the run's end, and whether it can
--- end in the run or where that ends.
+-- Of a match that begins in a run, after which this stands: whether it can go on past the run's
+-- end, and whether it can end in the run or where that ends.
 abbrev mutual
   pub passes : Bool → Tree → ℕ → Bool
   passes blank nothing x = false

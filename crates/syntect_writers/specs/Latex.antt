@@ -27,8 +27,8 @@ is_space text = bytes_eq text (32 ∷ [])
 abbrev pub is_newline : List ℕ → Bool
 is_newline text = bytes_eq text (10 ∷ [])
 
--- a piece after a group of this style: a space stays in the group, a newline is left out, and a piece of another style
--- ends the group and opens its own
+-- a piece after a group of this style: a space stays in the group, a newline is left out, and a
+-- piece of another style ends the group and opens its own
 abbrev pub latex_piece : Option Style → Style × Bor (List ℕ) → List ℕ
 latex_piece None p = latex_color p.0 ++ latex_text p.1.now
 latex_piece (Some style) p =

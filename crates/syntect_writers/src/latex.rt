@@ -65,9 +65,9 @@ fn push_piece(
     Ok(style)
 }
 
-/// Styled pieces as LaTeX shows them, a group of `\textcolor[RGB]` for each stretch of one style. After the first piece
-/// a space alone stays in the group before it, and a newline alone is left out. The text ends with the last group, also
-/// where there are no pieces.
+/// Styled pieces as LaTeX shows them, a group of `\textcolor[RGB]` for each stretch of one style.
+/// After the first piece a space alone stays in the group before it, and a newline alone is left
+/// out. The text ends with the last group, also where there are no pieces.
 pub fn as_latex_escaped(alloc: Global, v: &[(Style, &str)]) -> Result<String, AllocError>
     ensures { IfOk result (λ t. string_bytes t ≡ latex_behind None v.now) }
 {

@@ -21,8 +21,8 @@ struct Tag {
     text: String,
 }
 
-/// Writes the lines of a page as spans. It keeps the tags of the first styles that it meets, so that each of these is put
-/// together once and not at each span.
+/// Writes the lines of a page as spans. It keeps the tags of the first styles that it meets, so
+/// that each of these is put together once and not at each span.
 #[derive(Drop)]
 pub struct SpanWriter {
     ground: IncludeBackground,
@@ -84,7 +84,8 @@ impl SpanWriter {
         }
     }
 
-    /// A writer of spans that tell the colour behind their text so, where no tag is worth keeping. It never takes memory of its own.
+    /// A writer of spans that tell the colour behind their text so, where no tag is worth keeping.
+    /// It never takes memory of its own.
     pub(crate) fn of_one_line(alloc: Global, bg: IncludeBackground) -> SpanWriter
         ensures { result ≡ bg }
     {
@@ -131,7 +132,8 @@ impl SpanWriter {
         push_tag(out, self.ground, style)
     }
 
-    /// Puts a piece last, after those whose span is open. Answers the style of the span that is then open.
+    /// Puts a piece last, after those whose span is open. Answers the style of the span that is
+    /// then open.
     fn push_piece(
         &mut self,
         out: &mut Tail,
@@ -177,8 +179,8 @@ impl SpanWriter {
         Ok(())
     }
 
-    /// Puts a line of styled pieces last, as `append_highlighted_html_for_styled_line` does. Without memory the text is as
-    /// it was.
+    /// Puts a line of styled pieces last, as `append_highlighted_html_for_styled_line` does.
+    /// Without memory the text is as it was.
     pub fn append(&mut self, v: &[(Style, &str)], s: &mut String) -> Result<(), AllocError>
         ensures kept { self.new ≡ self.old }
         ensures ok { OnOk result

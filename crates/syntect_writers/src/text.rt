@@ -31,8 +31,8 @@ fn front_len(bytes: &[u8], front: Front) -> usize
     bytes.iter().take_while(|byte| is_in(front, **byte)).count()
 }
 
-/// The text before its first byte that has a meaning in HTML, that byte, and the text after it; none without such a
-/// byte.
+/// The text before its first byte that has a meaning in HTML, that byte, and the text after it;
+/// none without such a byte.
 #[inline(always)]
 pub(crate) fn split_plain(text: &str) -> Option<(&str, u8, &str)>
     ensures { SplitsAtFirst text.now result }

@@ -31,8 +31,8 @@ begins_plain t =
 abbrev pub ends_key : Bool → Rest → Bool
 ends_key flow t = (ends_line t || first t == space) || (flow && is_flow_mark (first t))
 
--- A plain scalar ends before this: at the line's end, before a comment, in flow before a mark, and before a `:` that
--- ends a key. The second flag says that a space stands before.
+-- A plain scalar ends before this: at the line's end, before a comment, in flow before a mark, and
+-- before a `:` that ends a key. The second flag says that a space stands before.
 unfoldable pub ends_plain : Bool → Bool → Rest → Bool
 ends_plain flow spaced t =
     ends_line t || ((spaced && first t ∈ "#")

@@ -98,8 +98,8 @@ pub(crate) fn next_line(text: &str) -> Option<Spot<'_>>
     next(line_tail(text, false)?)
 }
 
-/// From a line's start on, the first line that has more than white space and a comment: where nothing is read from here on, it is
-/// the one that cannot be read.
+/// From a line's start on, the first line that has more than white space and a comment: where
+/// nothing is read from here on, it is the one that cannot be read.
 pub(crate) fn next_visible(text: &str) -> &str
     ensures { length result.now ≤ length text.now }
 {
@@ -113,8 +113,8 @@ pub(crate) fn next_visible(text: &str) -> &str
     rest
 }
 
-/// What cannot be read after something that ends on this line: the line below that has more than white space and a comment, or
-/// else what is left of this one.
+/// What cannot be read after something that ends on this line: the line below that has more than
+/// white space and a comment, or else what is left of this one.
 pub(crate) fn unread_behind(text: &str) -> &str
     ensures { length result.now ≤ length text.now }
 {

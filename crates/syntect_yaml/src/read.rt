@@ -158,7 +158,8 @@ fn place_behind(before: &[u8]) -> LinePlace
     }
 }
 
-/// Where a text is refused, if it has no value: at the latest part that could not be read. A byte order mark has no column.
+/// Where a text is refused, if it has no value: at the latest part that could not be read. A byte
+/// order mark has no column.
 pub fn refused_at(alloc: Global, text: &str) -> Result<Option<LinePlace>, AllocError>
     ensures refused { IfOk result (λ place. IsSome place ↔ (yaml_of text.now ≡ None)) }
     ensures place { IfOk result (λ found. IfSome found (IsPlaceIn (yaml.unmasked text.now))) }
