@@ -65,8 +65,8 @@ abbrev pub lines_in : List Line → List (List ℕ)
 lines_in ls = map (λ l. l.0) ls
 
 -- These lines were accepted, with these scopes; the text so far and what is written of more lines
--- is the page of all of them; and where lines are orderly the generator's stack is that of its
--- levels.
+-- is the page of all of them; and where lines are orderly the generator's stack is
+-- that of its levels.
 record HasGiven (set : SyntaxSet) (syntax : SyntaxReference) (repository : List (List ℕ)) (style : ClassStyle) (given : List (List ℕ)) (g : ClassedHTMLGenerator) : Type 0 where
   lines : List Line
   scopes : List (List (List (List ℕ)))

@@ -178,8 +178,8 @@ none_left had left after done last bytes k g =
     sym (s.2 ∙ ap (λ xs. done ++ xs) end ∙ append-nil done))
     k
 
--- the text is what was read and what is left, which is taken to be nothing where the reader doesn't
--- tell
+-- the text is what was read and what is left, which is taken to be nothing where
+-- the reader doesn't tell
 pub text_with_rest : (had left : Option (List ℕ)) (done last : List ℕ) → IsLeft had left done last → (rest : List ℕ) × CanFollow last rest × IsTextOf had (done ++ rest)
 text_with_rest None left done last k = ([], λ _. refl, tt)
 text_with_rest (Some text) left done last k = (k.0, k.3, sym k.2)

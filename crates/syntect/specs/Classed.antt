@@ -82,8 +82,8 @@ abbrev pub CanRestore : ClassedHTMLGenerator → Type 0
 CanRestore g = Remembers (set_in g) (state_in g).levels (stack_in g)
 
 -- A line was refused: by its reading; or, only where too little is remembered, since one of the
--- operations of its reading restores and nothing is; or memory ran out, but not where no level is
--- open.
+-- operations of its reading restores and nothing is; or memory ran out,
+-- but not where no level is open.
 abbrev pub RefusesLineOf : ClassedHTMLGenerator → List ℕ → Error → Type 0
 RefusesLineOf g line (error.ParsingError e) =
     (turns : ℕ) × RefusesLine dialect (set_in g) line (state_in g) e turns

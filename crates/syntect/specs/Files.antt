@@ -41,8 +41,8 @@ pub record IsAskedOf (left line : List ℕ) : Type 0 where
   pub first : IsFirstOf given line
 
 -- It is that syntax; and where it is known what is left of the file, the line that was asked is a
--- front of the first one that is left, and where the path tells nothing that of what was read at
--- once.
+-- front of the first one that is left, and where the path tells nothing that of what
+-- was read at once.
 pub record IsToldSyntax (set : SyntaxSet) (path : List ℕ) (left : Option (List ℕ))
     (syntax : SyntaxReference) : Type 0 where
   pub is_for : IsSyntaxFor set path syntax

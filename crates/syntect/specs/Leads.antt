@@ -88,8 +88,8 @@ RunsOrderly set syntax lines =
 
 -- These are the answers to these lines, read one after another from the start of the syntax, and h
 -- is what a highlighter of this theme then holds. Its styles stand on a stack that remembers a list
--- at least for each level that clears; where the lines are orderly, that stack is the one of the
--- levels.
+-- at least for each level that clears; where the lines are orderly,
+-- that stack is the one of the levels.
 pub record Leads (set : SyntaxSet) (theme : Theme) (syntax : SyntaxReference)
     (lines : List (List ℕ)) (answers : List Answer) (h : HighlightLines) : Type 0 where
   pub start : Standing
@@ -141,8 +141,8 @@ Continues past set line h (Err e) =
     OnlyParsing (λ e. IsPast (and_then past line.now (RefusedBy e)) set h) e
 
 -- The line is refused exactly where a turn of its reading picks a match that names a reference
--- without target, and with that reference, unless memory ran out. h is what is held before the
--- line.
+-- without target, and with that reference, unless memory ran out.
+-- h is what is held before the line.
 abbrev pub RefusedExactly : SyntaxSet → List ℕ → HighlightLines
     → Result (Vec (Style × Bor (List ℕ))) Error → Type 0
 RefusedExactly set line h (Ok pieces) =

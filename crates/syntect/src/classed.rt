@@ -150,8 +150,8 @@ impl<'a> ClassedHTMLGenerator<'a> {
     /// than `limits` has, opens more contexts, or has more operations: then it is `LimitReached`,
     /// with the limit, and nothing changes, as after any refusal. No line makes more (`few_turns`,
     /// `few_steps`), whatever its grammar's patterns are, and none is read that opens more
-    /// (`few_levels`); where a limit was reached the line had made as many, or had more (`reached`,
-    /// `there`).
+    /// (`few_levels`); where a limit was reached the line had made as many,
+    /// or had more (`reached`, `there`).
     #[tactic(auto, using(crate::proofs::WithinLaws::line_stopped, crate::proofs::ClassedLaws::operation_refused, crate::proofs::ClassedLaws::memory_refused))]
     pub fn parse_html_for_line_which_includes_newline_within(
         &mut self,

@@ -44,8 +44,8 @@ pub struct HighlightLines<'a> {
     highlighter: Highlighter<'a>,
     parse_state: ParseState,
     highlight_state: HighlightState,
-    /// The styles are worked out in it, line by line, so that a refusal leaves those before the
-    /// line.
+    /// The styles are worked out in it, line by line, so that a refusal leaves
+    /// those before the line.
     spare: HighlightState,
     /// The memory of searches, line by line.
     memory: SearchMemory,
@@ -279,8 +279,8 @@ impl<'a> HighlightLines<'a> {
     /// The styled pieces of the next line, read within limits, and `None`. Where the line reaches a
     /// limit, it is shown plain, which is one piece in the theme's own style, and the limit is
     /// reported; the next line is then read as if this one weren't there. So a line that would cost
-    /// much takes no colours from those after it. A refusal is one of `highlight_line`, and changes
-    /// nothing.
+    /// much takes no colours from those after it. A refusal is one of `highlight_line`,
+    /// and changes nothing.
     pub fn highlight_line_or_plain<'b>(
         &mut self,
         alloc: Global,

@@ -1,7 +1,7 @@
 //! Texts as HTML with inline styles.
 //!
-//! `highlighted_html_for_string` does it all; the other calls write lines that were highlighted
-//! before.
+//! `highlighted_html_for_string` does it all; the other calls write lines
+//! that were highlighted before.
 ghost use Rattle.std.specs.Prelude.{◌≡◌, ℕ, List, [], IfOk, IfErr, string_bytes};
 ghost use Rattle.std.specs.Path.{path_bytes};
 ghost use Rattle.syntect.specs.Built.{IsBuilt, IsBuiltOf};

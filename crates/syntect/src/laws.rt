@@ -54,8 +54,8 @@ pub fn orderly_where_nothing_clears()
     ensures runs { AllRunOrderly }
 {}
 
-/// A highlighter that stands where another stands, with the same styles and theme, has the other's
-/// past.
+/// A highlighter that stands where another stands, with the same styles and theme,
+/// has the other's past.
 pub fn pasts_stay()
     ensures { PastsStay }
 {}
@@ -80,8 +80,8 @@ pub fn operations_are_never_refused()
 /// A generator that was given lines stands after those that it accepted, and the text that
 /// `ClassedHTMLGenerator::finalize` answers is their page: whoever reads it byte by byte sees these
 /// lines, joined, meets no closing tag without an open one, and has no tag open in the end; and
-/// where the syntax begins plain and the lines are orderly, each byte stands under the tags of its
-/// scopes.
+/// where the syntax begins plain and the lines are orderly, each byte stands under the
+/// tags of its scopes.
 pub fn closed_texts_are_pages()
     ensures stands { GivenStands }
     ensures pages { ClosedIsPage }

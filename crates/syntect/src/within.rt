@@ -20,8 +20,8 @@ pub enum HighlightWithinError {
     LimitReached(LineLimit),
 }
 
-/// The message, with the cause where the message leaves it out: `main` shows it of an error that it
-/// answers.
+/// The message, with the cause where the message leaves it out: `main` shows it of an
+/// error that it answers.
 impl fmt::Debug for HighlightWithinError {
     fn fmt<W: fmt::Write>(&self, f: &mut fmt::Formatter<W>) -> fmt::Result {
         match self {

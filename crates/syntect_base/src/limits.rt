@@ -8,8 +8,8 @@ use std::fmt;
 use syntect_values::text::Text;
 use thiserror::Error;
 
-/// How much a grammar may ask for, as it is loaded and as a line is read by it. `usize::MAX` is no
-/// limit.
+/// How much a grammar may ask for, as it is loaded and as a line is read by it.
+/// `usize::MAX` is no limit.
 ///
 /// There may be more limits in later versions: `Limits { pattern: 4096, ..Limits::default() }`
 /// stays as it is then.

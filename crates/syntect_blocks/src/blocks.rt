@@ -59,8 +59,8 @@ fn place_of<T>(blocks: &[Vec<T>], index: usize) -> (usize, usize)
     unreachable!()
 }
 
-/// Puts an element before the one at an index, or after the last, and answers the block that has
-/// it.
+/// Puts an element before the one at an index, or after the last,
+/// and answers the block that has it.
 fn put<T: Drop>(blocks: &mut Vec<Vec<T>>, index: usize, x: T) -> Result<usize, AllocError>
     requires some { blocks.old.items ≢ [] }
     requires within { index ≤ length (joined blocks.old.items) }

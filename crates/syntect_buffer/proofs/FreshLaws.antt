@@ -230,8 +230,8 @@ module _ (set : SyntaxSet) (theme : Theme) (syntax : SyntaxReference) (old new :
       ∙ ap (λ (s : LineStates). ending s (take k ys)) (ending-append old.start (take place rs) e.readings)
       ∙ ap (λ (zs : List Reading). ending (ending (ending old.start (take place rs)) e.readings) zs) (take-append-le k e.again (drop (length e.again) (drop behind rs)) le)
 
-  -- the lines that are read again are those that start from another state, up to the first that
-  -- doesn't
+  -- the lines that are read again are those that start from another state,
+  -- up to the first that doesn't
   pub starts_apart : (definitions : List SyntaxDefinition) (at : ℕ) → IsBuiltOf set syntax definitions → IsKept set theme syntax old → (e : IsEdited set theme old new place behind own number)
       → place ≤ length old.readings → behind ≤ length old.readings → at ≡ place + length own
       → StartApart (seen syntax set theme old) (seen syntax set theme new) behind at (length e.again)

@@ -62,8 +62,8 @@ pub record LeadTo (b : Buffer) (count : ℕ) (state : Standing) : Type 0 where
   pub begins : start_of b.syntax ≡ Some start
   pub run : AnswersAll dialect b.set (given_in b count) start answers state
 
--- the line at one place before an edit and the one at another place after it start from the same
--- state
+-- the line at one place before an edit and the one at another place after it start
+-- from the same state
 pub record StartsSame (before after : Buffer) (old new : ℕ) : Type 0 where
   pub state : Standing
   pub leads_old : LeadTo before old state

@@ -129,8 +129,8 @@ pub record AreReadAgain (set : SyntaxSet) (theme : Theme) (limits : Limits)
 
 -- ---- edits ----
 
--- an edit puts these lines in place of those from one place to another, and so many lines are read
--- again
+-- an edit puts these lines in place of those from one place to another,
+-- and so many lines are read again
 pub record IsEdited (set : SyntaxSet) (theme : Theme) (old new : Kept) (place behind : ℕ)
     (own : List (List ℕ)) (number : ℕ) : Type 0 where
   pub readings : List Reading

@@ -7,8 +7,8 @@ use std::alloc::{AllocError, Global};
 use syntect_parsing::syntax_set::SyntaxSet;
 use syntect_theme::theme::Theme;
 
-/// Puts a line and its reading before those at a place, or after the last. Without memory nothing
-/// changes.
+/// Puts a line and its reading before those at a place, or after the last.
+/// Without memory nothing changes.
 fn put_in(kept: &mut Kept, place: usize, line: String, reading: Reading) -> Result<(), AllocError>
     requires count { length kept.old.lines ≡ length kept.old.readings }
     requires within { place ≤ length kept.old.readings }

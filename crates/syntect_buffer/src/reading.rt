@@ -34,8 +34,8 @@ pub(crate) struct Kept {
     pub(crate) readings: Blocks<Reading>,
 }
 
-/// Reads a line from the states at its start, within limits. A line that reaches one leaves these
-/// states.
+/// Reads a line from the states at its start, within limits.
+/// A line that reaches one leaves these states.
 pub(crate) fn read(
     alloc: Global,
     set: &SyntaxSet,

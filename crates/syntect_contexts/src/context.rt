@@ -1,8 +1,8 @@
 //! Contexts and their patterns.
 //!
 //! The rules are those of Sublime Text's syntax definitions. A context has patterns that are tried
-//! in order; a match may open further contexts, put others in the place of the top one, or leave
-//! it.
+//! in order; a match may open further contexts, put others in the place of the top one,
+//! or leave it.
 ghost use Rattle.std.specs.Prelude.{◌≡◌, ◌≤◌, ◌<◌, [], false, length, string_bytes, Option, Some, None, IfOk, IfErr, IfNone, IfSome};
 ghost use Rattle.std.specs.Option.{option_copied, option_and_then};
 ghost use Rattle.syntect_contexts.specs.Contexts.{target, match_of};

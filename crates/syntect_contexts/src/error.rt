@@ -25,8 +25,8 @@ pub enum ParsingError {
     Memory,
 }
 
-/// The name that it has in its grammar. The scope of another syntax has no text without the
-/// repository.
+/// The name that it has in its grammar. The scope of another syntax has no
+/// text without the repository.
 impl fmt::Display for ContextReference {
     fn fmt<W: fmt::Write>(&self, f: &mut fmt::Formatter<W>) -> fmt::Result {
         match self {

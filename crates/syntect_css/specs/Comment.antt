@@ -1,8 +1,8 @@
 -- What the comment of a style sheet tells of a name.
 use Rattle.std.specs.Prelude.{ℕ, ◌==◌, nat_lt, nat_le, Bool, true, false, not, ◌&&◌, ◌||◌, List, [], ◌∷◌, chars, encode_utf8_all, if◌then◌else◌}
 
--- a character that isn't told: `<`, which could end the element that holds the sheet, or a control
--- character
+-- a character that isn't told: `<`, which could end the element that holds the sheet,
+-- or a control character
 abbrev pub is_left_out : ℕ → Bool
 is_left_out c = (c == 60) || (nat_lt c 32 || (nat_le 127 c && nat_lt c 160))
 

@@ -8,8 +8,8 @@ use syntect::highlighting::{Style, Theme};
 use syntect::parsing::{SyntaxReference, SyntaxSet};
 use syntect_buffer::answer::LineAnswer;
 
-/// Whether ranges are those of pieces that follow one another from a line's start, with their
-/// styles.
+/// Whether ranges are those of pieces that follow one another from a line's start,
+/// with their styles.
 fn are_ranges(ranges: &[(Style, Range<usize>)], pieces: &[(Style, &str)]) -> bool {
     let mut start = 0usize;
     for ((style, range), (fresh, piece)) in ranges.iter().zip(pieces.iter()) {

@@ -77,8 +77,8 @@ fn grammar_of<'a>(parts: &[Part<'a>]) -> Option<(&'a str, bool)> {
     }
 }
 
-/// Whether edits come out as they are written, one after another on a buffer that begins without
-/// lines.
+/// Whether edits come out as they are written, one after another on a buffer
+/// that begins without lines.
 fn edits_hold(alloc: Global, body: &str, set: &SyntaxSet, theme: &Theme) -> Option<bool> {
     let mut buffer = buffer_of(alloc, set, theme)?;
     let mut out = String::new(alloc);
@@ -95,8 +95,8 @@ fn row_holds(alloc: Global, text: &str) -> Option<bool> {
     edits_hold(alloc, body, &set, &theme)
 }
 
-/// Runs the row of a file, and prints whether it comes out as it is written. Answers whether it
-/// does.
+/// Runs the row of a file, and prints whether it comes out as it is written.
+/// Answers whether it does.
 fn run_file(rt: &(impl Print + AllocGlobal + Files), path: &str) -> io::Result<bool> {
     let text = fs::read_to_string(rt, path)?;
     let holds = row_holds(rt.alloc(), text.as_str()) == Some(true);

@@ -10,8 +10,8 @@ pub struct Text<'a> {
     pub plain: Vec<String>,
 }
 
-/// Puts a line before the one at a place, or after the last. Answers how many lines were read
-/// again.
+/// Puts a line before the one at a place, or after the last.
+/// Answers how many lines were read again.
 pub fn insert(
     alloc: Global,
     text: &mut Text<'_>,

@@ -1,5 +1,5 @@
--- What the search of a tree and then k finds is what k finds first over the members of the tree's
--- matches.
+-- What the search of a tree and then k finds is what k finds first over the members
+-- of the tree's matches.
 use Rattle.std.proofs.Common.{◌≡◌, ℕ, zero, suc, ◌+◌, ◌-◌, ◌==◌, if◌then◌else◌, Bool, true, false, List, [], ◌∷◌, ◌++◌, length, map, set, take, refl, sym, ◌∙◌, ap, arith, Option, Some, None}
 use Rattle.std.specs.List.{flat_map}
 use Rattle.std.specs.Option.{option_or}

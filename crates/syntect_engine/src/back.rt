@@ -138,8 +138,8 @@ impl Search {
         }
     }
 
-    /// Goes on with the list at the place, if one of so many is left, and keeps those before it for
-    /// later.
+    /// Goes on with the list at the place, if one of so many is left,
+    /// and keeps those before it for later.
     fn retreat(
         &mut self,
         list: usize,
@@ -163,8 +163,8 @@ impl Search {
         Ok(Next::Leave { list })
     }
 
-    /// Matches the node at the place, if one of so many is left, and keeps those before it for
-    /// later.
+    /// Matches the node at the place, if one of so many is left,
+    /// and keeps those before it for later.
     fn restart(
         &mut self,
         text: &str,

@@ -171,8 +171,8 @@ impl Search {
 
     /// Whether a match begins at the place, which it does on boundaries of characters alone. Where
     /// it does, the search's groups are the match's. None where it is limited, and the steps that
-    /// are left don't suffice; they are all taken then. Where it finds one it takes one step at
-    /// least.
+    /// are left don't suffice; they are all taken then. Where it finds one it takes
+    /// one step at least.
     pub fn begins_at(
         &mut self,
         program: &Program,
@@ -223,8 +223,8 @@ impl Search {
 
     /// Whether the program matches at the place or at a later one, of which the least counts. Where
     /// it does, the search's groups are the match's. None where it is limited, and the steps that
-    /// are left don't suffice; they are all taken then. Where it finds one it takes one step at
-    /// least.
+    /// are left don't suffice; they are all taken then. Where it finds one it takes
+    /// one step at least.
     pub fn find(
         &mut self,
         program: &Program,

@@ -65,8 +65,8 @@ pub enum Frame {
         place: usize,
         cells: usize,
     },
-    /// Go on with the list at so many places: this one and those right before it, the last one
-    /// first.
+    /// Go on with the list at so many places: this one and those right before it,
+    /// the last one first.
     Stretch {
         list: usize,
         count: usize,

@@ -26,8 +26,8 @@ struct Counts {
     refused: u32,
 }
 
-/// Whether a page is accepted; none if it is refused for another reason than a reference that leads
-/// nowhere.
+/// Whether a page is accepted; none if it is refused for another reason than a
+/// reference that leads nowhere.
 fn of_page(page: Result<String, Error>) -> Option<bool> {
     match page {
         Ok(_) => Some(true),

@@ -89,8 +89,8 @@ fn highlight_line_within(rt: &(impl Print + AllocGlobal), given: &Given, syntax:
     }
 }
 
-/// A line that names a context which isn't there; after it one that doesn't, as at the text's
-/// start.
+/// A line that names a context which isn't there; after it one that doesn't,
+/// as at the text's start.
 fn refused_line(rt: &(impl Print + AllocGlobal), given: &Given, syntax: &SyntaxReference) {
     let Ok(mut lines) = HighlightLines::new(rt.alloc(), syntax, &given.theme) else {
         return;

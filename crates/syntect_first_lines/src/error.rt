@@ -27,8 +27,8 @@ pub enum FindWithinError {
     LimitReached(FirstLineLimit),
 }
 
-/// The message, with the cause where the message leaves it out: `main` shows it of an error that it
-/// answers.
+/// The message, with the cause where the message leaves it out: `main` shows it of an
+/// error that it answers.
 impl fmt::Debug for FindWithinError {
     fn fmt<W: fmt::Write>(&self, f: &mut fmt::Formatter<W>) -> fmt::Result {
         match self {

@@ -14,8 +14,8 @@ use Rattle.syntect_flats.specs.declared.sides.Side.{Side}
 abbrev pub behind_of : Bool → Flat → Places
 behind_of blank flat = if blank then flat.blanks else flat.words
 
--- the pattern has no match that begins where this is seen after the run, or where no word begins or
--- ends
+-- the pattern has no match that begins where this is seen after the run,
+-- or where no word begins or ends
 abbrev pub IsCut : Outlook → Flat → Type 0
 IsCut o flat = (is_in (behind_of o.blank flat) o.behind ≡ false)
     ⊎ ((o.off_edges ≡ true) × (flat.at_edges ≡ true))
@@ -41,8 +41,8 @@ abbrev pub BeginIn : Places → List Flat → Type 0
 BeginIn any flats = (x k : ℕ) (d : Flat) → x < 130 → k < length flats
     → is_in any x ≡ false → is_in (slice_index_or flats k d).begins x ≡ false
 
--- each pattern whose matches can begin where this stands on the side has its bit set in the row of
--- that
+-- each pattern whose matches can begin where this stands on the side has its bit set in
+-- the row of that
 abbrev pub TellsSide : Side → List ℕ → ℕ → List Flat → Type 0
 TellsSide side rows words flats = (x k : ℕ) (d : Flat) → x < 130 → k < length flats
     → is_in (places_on side (slice_index_or flats k d)) x ≡ true

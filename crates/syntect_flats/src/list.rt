@@ -18,14 +18,14 @@ use std::alloc::{AllocError, Global};
 use std::marker::Model;
 use syntect_pattern_table::starts::{Places, either, is_in, nowhere};
 
-/// The least and the greatest length of a list that has a table: a shorter one is gone through as
-/// fast.
+/// The least and the greatest length of a list that has a table:
+/// a shorter one is gone through as fast.
 const SHORT: usize = 8;
 
 const LONG: usize = 65536;
 
-/// A flat list, seen as the list of its patterns. Of a pattern of a table it is seen what the table
-/// tells.
+/// A flat list, seen as the list of its patterns. Of a pattern of a table it is seen
+/// what the table tells.
 #[derive(Drop)]
 pub struct FlatList {
     /// What can stand at a place where a match of one of the patterns begins, part by part, since
@@ -210,8 +210,8 @@ impl FlatList {
     }
 
     /// Whether it matters for one of the patterns what comes after a word or after white space. No
-    /// contract says it: who looks for that in vain is only slower, and who doesn't passes over
-    /// less.
+    /// contract says it: who looks for that in vain is only slower,
+    /// and who doesn't passes over less.
     pub fn asks(&self) -> bool {
         self.asks
     }

@@ -106,8 +106,8 @@ fn number_of(
 }
 
 /// The number of a row: that of the row before it, if they are equal, else that of an equal one
-/// whose number stands in its slot, or of the row itself, which is added. None where no number is
-/// left.
+/// whose number stands in its slot, or of the row itself, which is added.
+/// None where no number is left.
 #[inline]
 fn next_number(
     bits: &mut Vec<u64>,
@@ -146,8 +146,8 @@ pub(crate) fn rows_packed(alloc: Global, words: u16, rows: &[u64]) -> Result<Pac
     let mut numbers = Vec::with_capacity(alloc, rows.len() / words as usize)?;
     let mut bits = Vec::new(alloc);
     let mut count = 0;
-    // A slot that wasn't used says 0 too, which does no harm: whether the rows are equal is looked
-    // at
+    // A slot that wasn't used says 0 too, which does no harm:
+    // whether the rows are equal is looked at
     let mut slots = [0u8; SLOTS];
     let mut rest = rows;
     let mut last = 0;

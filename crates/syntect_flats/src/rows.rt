@@ -51,8 +51,8 @@ fn mark_one(rows: &mut Vec<u64>, words: u16, index: usize, first: usize, places:
     }
 }
 
-/// Sets the bit of a pattern in those of 64 rows from the first on that have their bit set among
-/// these.
+/// Sets the bit of a pattern in those of 64 rows from the first on that have their
+/// bit set among these.
 #[inline]
 fn mark_half(rows: &mut Vec<u64>, words: u16, index: usize, first: usize, bits: u64)
     requires index { index < 65536 }
@@ -136,8 +136,8 @@ fn open_bits(flats: &[Flat], side: Side) -> u64 {
     bits
 }
 
-/// Sets the bits of the 64 patterns that a word is of in the rows of a side, as far as there are so
-/// many.
+/// Sets the bits of the 64 patterns that a word is of in the rows of a side,
+/// as far as there are so many.
 fn mark_word(rows: &mut Vec<u64>, words: u16, flats: &[Flat], word: usize, side: Side)
     requires few { length flats.now ≤ 65536 }
     requires within { word * 64 < length flats.now }

@@ -1,5 +1,5 @@
-//! The sides of a place that tell which patterns can begin there, and which rows of a table are of
-//! each.
+//! The sides of a place that tell which patterns can begin there, and which rows of a
+//! table are of each.
 ghost use Rattle.std.specs.Prelude.{◌≡◌, ◌≤◌};
 ghost use Rattle.syntect_flats.specs.Sides as spec;
 

@@ -182,8 +182,8 @@ fn number_of(table: &mut Vec<Places>, near: u32, wanted: &Places) -> Result<u32,
     Ok(number)
 }
 
-/// A pattern as a list keeps it. Its places go into the table; most often they are those of the one
-/// before.
+/// A pattern as a list keeps it. Its places go into the table; most often they are those
+/// of the one before.
 fn slim_of(table: &mut Vec<Places>, before: Slim, flat: &Flat) -> Result<Slim, AllocError>
     ensures slim { IfOk result (IsSlimOf table.new.items flat.now) }
     ensures stays { (n : ℕ) (p : APlaces) → slice_get table.old.items n ≡ Some p

@@ -21,8 +21,8 @@ room_after room n =
     else if nat_le n room then Some (room - n)
     else None
 
--- the definition of the bytes of a file of this path, as without limits; and the bytes keep within
--- them
+-- the definition of the bytes of a file of this path, as without limits;
+-- and the bytes keep within them
 pub record IsSyntaxWithin (limits : Limits) (newlines : Bool) (path : List ℕ)
     (old : List (List ℕ)) (bytes : List ℕ) (new : List (List ℕ)) (d : SyntaxDefinition)
     : Type 0 where
@@ -43,8 +43,8 @@ pub data RefusesSyntaxWithin (limits : Limits) (newlines : Bool) (path bytes : L
       → RefusesSyntaxWithin limits newlines path bytes repo (LimitReached r shown)
   no_memory : RefusesSyntaxWithin limits newlines path bytes repo (Refused Memory)
 
--- the definition of a file of this path within limits, and the room that its bytes leave of this
--- one
+-- the definition of a file of this path within limits, and the room that its bytes
+-- leave of this one
 abbrev pub IsReadWithin : Limits → Bool → List ℕ → List (List ℕ) → ℕ → List (List ℕ) → ℕ
     → SyntaxDefinition → Type 0
 IsReadWithin limits newlines path old room new left d =

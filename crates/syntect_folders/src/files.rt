@@ -58,8 +58,8 @@ fn refused_file(alloc: Global, path: &str, e: LoadWithinError) -> FolderWithinEr
     }
 }
 
-/// The definition of the text in a file. A syntax without a name has that of the file, without the
-/// extension.
+/// The definition of the text in a file. A syntax without a name has that of the file,
+/// without the extension.
 fn load_text(
     alloc: Global,
     path: &str,

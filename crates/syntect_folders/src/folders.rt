@@ -25,8 +25,8 @@ struct Loading {
     limits: Limits,
 }
 
-/// Adds the grammar of a file to a builder, where its folder's grammars may have so many bytes
-/// more.
+/// Adds the grammar of a file to a builder, where its folder's grammars may have
+/// so many bytes more.
 fn add_grammar(
     files: &impl Files,
     alloc: Global,

@@ -76,8 +76,8 @@ Visit = ContextId × List Pattern
 abbrev pub ids : List Visit → List ContextId
 ids fs = map (λ f. f.0) fs
 
--- what is left of the walks of these contexts, each included by the one before it, the last one
--- first
+-- what is left of the walks of these contexts, each included by the one before it,
+-- the last one first
 abbrev pub IsLeft : SyntaxSet → List ContextId → List Visit → List MatchPattern → Type 0
 IsLeft set path [] rest = rest ≡ []
 IsLeft set path (f ∷ fs) rest = (inner : List MatchPattern) × (ms : List MatchPattern)

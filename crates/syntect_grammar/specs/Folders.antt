@@ -61,8 +61,8 @@ pub data AddsMetadata (path : List ℕ) (builder : SyntaxSetBuilder) : SyntaxSet
   passed_over : {e : LoadingError} → IsEntryFault e → e ≢ Memory → AddsMetadata path builder builder
 
 -- The grammars and the metadata among these files are added to a builder, one after another, each
--- grammar under its path. Of what a file holds nothing is known but that it gave a definition or an
--- entry.
+-- grammar under its path. Of what a file holds nothing is known but that it gave a
+-- definition or an entry.
 pub data AddsSyntaxes (newlines : Bool) : List (List ℕ) → List (List ℕ) → SyntaxSetBuilder
     → List (List ℕ) → SyntaxSetBuilder → Type 0 where
   no_more : {repo : List (List ℕ)} {builder : SyntaxSetBuilder}
@@ -81,8 +81,8 @@ pub data AddsSyntaxes (newlines : Bool) : List (List ℕ) → List (List ℕ) �
       → AddsMetadata path builder next → AddsSyntaxes newlines paths old next new all
       → AddsSyntaxes newlines (path ∷ paths) old builder new all
 
--- why a file stops this: it is a grammar's and gives no syntax, or it has metadata and there is no
--- memory
+-- why a file stops this: it is a grammar's and gives no syntax, or it has metadata and
+-- there is no memory
 pub data StopsFile (newlines : Bool) (path : List ℕ) (repo : List (List ℕ)) : LoadingError
     → Type 0 where
   at_grammar : {e : LoadingError} → is_grammar_path path ≡ true

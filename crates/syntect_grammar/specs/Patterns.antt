@@ -30,8 +30,8 @@ walk_patterns inner path (Match m ∷ ps) = m ∷ walk_patterns inner path ps
 walk_patterns inner path (Include r ∷ ps) =
     included inner path (target r) ++ walk_patterns inner path ps
 
--- entries that were reached by this include path, which holds the targets of the includes that were
--- followed
+-- entries that were reached by this include path, which holds the targets of the
+-- includes that were followed
 abbrev pub walk : ℕ → SyntaxSet → List ContextId → List Pattern → List MatchPattern
 walk zero set path ps = []
 walk (suc room) set path ps =

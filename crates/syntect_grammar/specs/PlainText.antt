@@ -16,8 +16,8 @@ abbrev pub plain_text : List ℕ
 plain_text =
     codes "---\nname: Plain Text\nfile_extensions: [txt]\nscope: text.plain\ncontexts: {main: []}"
 
--- named `Plain Text`, of the extension `txt` and the scope `text.plain`, with a `main` that has no
--- patterns
+-- named `Plain Text`, of the extension `txt` and the scope `text.plain`,
+-- with a `main` that has no patterns
 pub record IsPlainText (repository : List (List ℕ)) (d : SyntaxDefinition) : Type 0 where
   pub name : d.name ≡ codes "Plain Text"
   pub extensions : d.file_extensions ≡ codes "txt" ∷ []

@@ -48,8 +48,8 @@ pub enum Error {
     Pattern(PatternError),
 }
 
-/// The message, with the cause where the message leaves it out: `main` shows it of an error that it
-/// answers.
+/// The message, with the cause where the message leaves it out: `main` shows it of an
+/// error that it answers.
 impl fmt::Debug for Error {
     fn fmt<W: fmt::Write>(&self, f: &mut fmt::Formatter<W>) -> fmt::Result {
         match self {

@@ -299,8 +299,8 @@ impl SyntaxSetBuilder {
     /// one and isn't reached from it. Contexts that include one with back references, over any
     /// number of includes, are marked as it is. First-line patterns are compiled.
     /// The metadata of files becomes sets, in the order of scope texts. A builder that was made of
-    /// a set keeps that set's metadata, and a new set of equal scope text takes the place of an old
-    /// one.
+    /// a set keeps that set's metadata, and a new set of equal scope text takes the place
+    /// of an old one.
     /// The repository is that of the definitions' scopes; it takes up the scopes of metadata, and
     /// the old atoms keep their numbers. Without memory the definitions are dropped.
     pub fn build(

@@ -15,8 +15,8 @@ pub record IsGround (x : Ground) (place : ℕ) : Type 0 where
   pub sights_are : AreSights x.text.now (trees_of x.program.now) x.plan.now.behinds x.sights.now
   pub boundary : IsCharBoundary x.text.now place
 
--- the rows are right, and they are there of the places after this one, and so are those of
--- lookbehinds
+-- the rows are right, and they are there of the places after this one,
+-- and so are those of lookbehinds
 pub record IsReady (x : Ground) (place : ℕ) : Type 0 where
   pub utf8 : IsUtf8 x.text.now
   pub plan_is : IsPlanOf x.program.now x.plan.now

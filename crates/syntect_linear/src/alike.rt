@@ -119,8 +119,8 @@ impl Seen {
         other
     }
 
-    /// The row of a later place that is like this one, if one is seen. This one is seen from then
-    /// on.
+    /// The row of a later place that is like this one, if one is seen.
+    /// This one is seen from then on.
     pub fn row_like(&mut self, ground: &Ground, marks: &Marks, place: usize) -> Option<usize>
         requires marked { IsMarked ground.now marks.now place }
         requires loose { IsLoose ground.now }

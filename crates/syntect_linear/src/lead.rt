@@ -68,8 +68,8 @@ fn lead_either(
     lead(ground, here, place, second)
 }
 
-/// Whether the whole match ends anywhere, if the cell goes on at a later place; false if there is
-/// none.
+/// Whether the whole match ends anywhere, if the cell goes on at a later place;
+/// false if there is none.
 #[inline]
 fn lead_past(ground: &Ground, marks: &Marks, next: Option<usize>, cell: usize) -> bool
     ensures { result ≡ unwrap_or (option_map

@@ -109,8 +109,8 @@ includes_of heads bodies id = flat_map (included_by heads id.syntax_index) (entr
 abbrev pub is_marked : List (List Context) → ContextId → Bool
 is_marked bodies id = option_map_or (λ c. c.uses_backrefs) (given_at bodies id) false
 
--- A context is marked where it is or includes, over any number of includes, one that is marked as
--- given.
+-- A context is marked where it is or includes, over any number of includes,
+-- one that is marked as given.
 abbrev pub is_marked_in_set : List SyntaxReference → List (List Context) → ContextId → Bool
 is_marked_in_set heads bodies id =
     leads_in (includes_of heads bodies) (is_marked bodies) (count_contexts bodies) id

@@ -33,8 +33,8 @@ fn include_step(
     }
 }
 
-/// What a reference of a push or set leads to in the walk from the prototype of the syntax of this
-/// index.
+/// What a reference of a push or set leads to in the walk from the prototype of the
+/// syntax of this index.
 fn open_step(home: usize, names: &ContextNames, reference: &ContextReference) -> Option<ContextId>
     ensures { result ≡ open_step home names.now reference.now }
 {

@@ -1,5 +1,5 @@
-//! Which patterns of a turn's chain are out, since the first match that they have in it doesn't
-//! count.
+//! Which patterns of a turn's chain are out, since the first match that they have
+//! in it doesn't count.
 ghost use Rattle.std.specs.Prelude.{◌≡◌, ◌<◌, ℕ, [], OnOk, length};
 ghost use Rattle.syntect_memory.specs.Losses.{LosesAt, LosesOf, is_lost, marks_of};
 

@@ -36,8 +36,8 @@ pub record IsEntryOf (path bytes : List ℕ) (entry : RawMetadataEntry) : Type 0
   pub settings : IsSettings bytes value
   pub is : IsEntry path value entry
 
--- why bytes give no entry: they are no settings, or their settings are no entry; or there was no
--- memory
+-- why bytes give no entry: they are no settings, or their settings are no entry;
+-- or there was no memory
 pub data RefusesEntry (bytes : List ℕ) : LoadingError → Type 0 where
   no_settings : ((d : Data) → ¬ (IsSettings bytes d)) → RefusesEntry bytes (ReadSettings Json)
   no_entry : {d : Data} → IsSettings bytes d → is_entry d ≡ false → RefusesEntry bytes ParseMetadata

@@ -22,8 +22,8 @@ scope_refusal scope.Memory = Memory
 scope_refusal scope.TooLong = BadSelector scope.TooLong
 scope_refusal scope.TooManyAtoms = BadSelector scope.TooManyAtoms
 
--- a set of items, for the selectors that a scope text names in a repository that takes up their
--- scopes
+-- a set of items, for the selectors that a scope text names in a repository that
+-- takes up their scopes
 abbrev pub set_with : List (List ℕ) → List ℕ → MetadataItems → Result MetadataSet MetadataError
 set_with repo text items = unless_refused (first_refusal repo (union_words text))
   where

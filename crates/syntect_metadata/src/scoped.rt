@@ -75,8 +75,8 @@ impl<'a> ScopedMetadata<'a> {
         self.asks(Kind::Unindented, line)
     }
 
-    /// Whether a line is indented by one less: the first `decreaseIndentPattern` matches at its
-    /// begin.
+    /// Whether a line is indented by one less:
+    /// the first `decreaseIndentPattern` matches at its begin.
     pub fn decrease_indent(&self, line: &str) -> Result<bool, AllocError>
         ensures { IfOk result (λ yes. yes
             ≡ answer (λ i. i.decrease_indent_pattern)

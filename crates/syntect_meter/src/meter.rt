@@ -7,8 +7,8 @@ use crate::stop::Stop;
 use std::marker::Model;
 use syntect_turns::count::TurnCount;
 
-/// How many steps were made, which contracts alone see, and how many are left, where they are
-/// limited.
+/// How many steps were made, which contracts alone see, and how many are left,
+/// where they are limited.
 #[derive(Drop)]
 pub struct Meter {
     count: TurnCount,

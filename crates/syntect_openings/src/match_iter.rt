@@ -29,8 +29,8 @@ enum Step<'a> {
 
 /// The places of the match patterns of a context, in the order in which they are tried: each is the
 /// context that holds the pattern, and its index there. Includes are walked in place. One that is
-/// unresolved gives nothing, and so does one whose target the set lacks or that is already being
-/// walked.
+/// unresolved gives nothing, and so does one whose target the set lacks or that
+/// is already being walked.
 #[derive(Drop)]
 pub struct MatchIter<'a> {
     syntax_set: &'a SyntaxSet,

@@ -65,8 +65,8 @@ fn context_of<'s>(set: &'s SyntaxSet, r: &ContextReference) -> Option<&'s Contex
     set.context_at(r.target()?)
 }
 
-/// Opens the contexts that references stand for below a match: each clears, and pushes its
-/// `meta_scope`.
+/// Opens the contexts that references stand for below a match: each clears,
+/// and pushes its `meta_scope`.
 #[tactic(auto, using(crate::proofs::OpenLaws::below_step))]
 pub fn open_below(
     ops: &mut Ops,

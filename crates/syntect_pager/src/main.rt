@@ -74,8 +74,8 @@ fn print_lines(
     Ok(())
 }
 
-/// Shows a file. False where a line on standard error tells why the grammars or the theme were not
-/// loaded.
+/// Shows a file. False where a line on standard error tells why the grammars or the
+/// theme were not loaded.
 fn show(
     rt: &(impl AllocGlobal + Print + Eprint + Files),
     folder: &str,

@@ -18,14 +18,14 @@ pub data TakesTurns (engine : Engine) (set : SyntaxSet) (line : List ℕ) (state
   to_a_refusal : {e : ParsingError} {turns : ℕ} → RefusesLine engine set line state e turns
       → TakesTurns engine set line state turns
 
--- From the number before the line to the one after it all turns of its reading were made, and no
--- other,
+-- From the number before the line to the one after it all turns of its reading were made,
+-- and no other,
 abbrev pub TakesAll : Engine → SyntaxSet → List ℕ → Standing → ℕ → ℕ → Type 0
 TakesAll engine set line state before after =
     (turns : ℕ) → TakesTurns engine set line state turns → after ≡ before + turns
 
--- and from the number before the line to the one after it at most all turns of its reading were
--- made,
+-- and from the number before the line to the one after it at most all turns of
+-- its reading were made,
 abbrev pub TakesNoMore : Engine → SyntaxSet → List ℕ → Standing → ℕ → ℕ → Type 0
 TakesNoMore engine set line state before after =
     (turns : ℕ) → TakesTurns engine set line state turns → after ≤ before + turns

@@ -61,8 +61,8 @@ StandsChosen line place code.End = Unit {0}
 
 -- ---- the scopes of captures, as they are put in order ----
 
--- a mark that pops scopes has the rank 0, one that pushes them a lower one the longer its capture
--- is
+-- a mark that pops scopes has the rank 0, one that pushes them a lower one the
+-- longer its capture is
 abbrev pub end_mark : Capture → ℕ × (ℕ × Scopes)
 end_mark c = (c.end, (0, c.scopes))
 

@@ -69,8 +69,8 @@ LaysGroupsOut engine = (pattern text : List ℕ) (place : ℕ) (groups : Groups)
     → IsUtf8 text → engine.found pattern text place ≡ Some groups
     → LaysOut engine pattern text groups
 
--- If what the first accepted line pushes makes the stack that of the levels, that holds before each
--- line.
+-- If what the first accepted line pushes makes the stack that of the levels,
+-- that holds before each line.
 abbrev pub StackIsOpen : Type 0
 StackIsOpen =
     (engine : Engine) (set : SyntaxSet) (lines : List (List ℕ)) (state after : Standing)

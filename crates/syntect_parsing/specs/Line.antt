@@ -22,8 +22,8 @@ use Rattle.syntect_winner.specs.declared.position.Position.{Position}
 use Rattle.syntect_contexts.specs.declared.error.ParsingError.{ParsingError}
 use Rattle.syntect_contexts.specs.declared.error.ParsingError.TheVariants as error
 
--- What a turn makes: the scopes of the bytes that it passed, and how it goes on. Or the line is
--- refused.
+-- What a turn makes: the scopes of the bytes that it passed, and how it goes on.
+-- Or the line is refused.
 pub data Step : Type 0 where
   Goes : List Scopes → Position → Step
   Ends : List Scopes → Standing → Step

@@ -66,8 +66,8 @@ operations_behind at set levels op.Pop =
     ++ restores at (top_clearing set levels)
 operations_behind at set levels op.None = []
 
--- the scopes of a match stand on top of what is opened at its start, and its captures on top of
--- them
+-- the scopes of a match stand on top of what is opened at its start,
+-- and its captures on top of them
 abbrev pub operations : ℕ → ℕ → Scopes → List Capture → List (ℕ × ScopeStackOp)
     → List (ℕ × ScopeStackOp) → List (ℕ × ScopeStackOp)
 operations start end scope captures below behind =

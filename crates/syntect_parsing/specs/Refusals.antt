@@ -1,5 +1,5 @@
--- Where lines are refused: at a picked match that names a reference without target, and nowhere
--- else.
+-- Where lines are refused: at a picked match that names a reference without target,
+-- and nowhere else.
 pub use Rattle.syntect_loader.specs.Named.{is_direct, NamesNoNumber, KnowNoNumber, AreByName}
 use Rattle.std.specs.Prelude.{◌≡◌, ℕ, Bool, true, false, List, [], ◌∷◌, ◌++◌, find, Option, Some, None, is_none}
 use Rattle.std.specs.List.{filter_map, flat_map, list_all}
@@ -62,8 +62,8 @@ NamesUnresolved engine set line state e =
 
 -- ---- sets in which nothing else refuses ----
 
--- each match of these entries names contexts that the set has, as far as its references have a
--- target
+-- each match of these entries names contexts that the set has,
+-- as far as its references have a target
 abbrev pub NamesKnown : SyntaxSet → List Pattern → Type 0
 NamesKnown set [] = Unit {0}
 NamesKnown set (Match m ∷ ps) =

@@ -95,8 +95,8 @@ fn sort_marks(marks: &mut Vec<Mark<'_>>) -> Result<(), AllocError>
     marks.sort_by_key(|m| m.place)
 }
 
-/// What the captures of a match push and pop, in order. Takes no memory where the pattern has no
-/// captures.
+/// What the captures of a match push and pop, in order. Takes no memory where the
+/// pattern has no captures.
 pub fn capture_marks<'s>(taken: &Taken<'s, '_>) -> Result<Vec<Mark<'s>>, AllocError>
     ensures { IfOk result (λ v. AreMarksOf taken.now.candidate.now
         (captures dialect (live_of taken.now)) v.items) }

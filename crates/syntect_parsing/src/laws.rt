@@ -18,8 +18,8 @@ pub fn answers_more()
     ensures { AnswersMore }
 {}
 
-/// If what the first accepted line pushes makes the stack that of the levels, it is so before each
-/// line.
+/// If what the first accepted line pushes makes the stack that of the levels,
+/// it is so before each line.
 #[tactic(auto, using(crate::proofs::Open::stack_is_open))]
 pub fn stack_is_open()
     ensures { StackIsOpen }

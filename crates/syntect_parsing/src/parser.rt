@@ -74,8 +74,8 @@ fn start_id(syntax: &SyntaxReference) -> Option<ContextId>
 }
 
 impl ParseState {
-    /// The state before the first line of a syntax. `MissingMainContext` where it has no context
-    /// `__start`.
+    /// The state before the first line of a syntax.
+    /// `MissingMainContext` where it has no context `__start`.
     pub fn new(alloc: Global, syntax: &SyntaxReference) -> Result<ParseState, ParsingError>
         ensures found { IfOk result (λ state. start_of syntax.now ≡ Some (standing state)) }
         ensures none_made { IfOk result (λ state. turns_made state ≡ 0) }
@@ -119,8 +119,8 @@ impl ParseState {
     /// they are at most `turns * patterns * most * (bytes + 1)`, unless memory ran out: `patterns`
     /// is how many a turn looks at, and `most` how many steps a search of one takes (`steps`).
     /// Where all patterns of the set are linear and none uses back references, a formula of the set
-    /// and the line's length bounds them (`most_steps`). Neither number ever falls (`no_fewer`,
-    /// `no_fewer_steps`).
+    /// and the line's length bounds them (`most_steps`).
+    /// Neither number ever falls (`no_fewer`, `no_fewer_steps`).
     pub fn parse_line(
         &mut self,
         alloc: Global,

@@ -74,8 +74,8 @@ abbrev pub is_allowed : ℕ → Option ℕ → Bool
 is_allowed least None = nat_le least 1000
 is_allowed least (Some most) = nat_le least most && nat_le most 1000
 
--- With a `?` right after it a quantifier is lazy; with a `+` after `*`, `+` or `?` it gives nothing
--- back.
+-- With a `?` right after it a quantifier is lazy; with a `+` after `*`,
+-- `+` or `?` it gives nothing back.
 unfoldable pub loop : Quantifier → Tree → Text → Tree × Text
 loop q a t =
     if begins "?" t then (repeat false q.least q.most a, drop 1 t)
@@ -110,8 +110,8 @@ off_letters t = if not (begins "-" t) then Some ([], t) else (do
   not (is_empty letters)
   Some (letters, after))
 
--- the letters up to `:` or `)`: some that are turned on, then perhaps `-` and some that are turned
--- off
+-- the letters up to `:` or `)`: some that are turned on, then perhaps `-` and some
+-- that are turned off
 unfoldable pub flags_at : Flags → Text → Option (Flags × Text)
 flags_at flags t = do
   let (on, middle) = run (λ c. c ∈ "imx") t

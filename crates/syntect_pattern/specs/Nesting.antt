@@ -35,8 +35,8 @@ pub record IsLaidOut (s : List ℕ) (picks : ℕ → Bool) (low high : ℕ) (g :
 abbrev pub outside : Tree → ℕ → Bool
 outside tree n = not (in_look false tree n)
 
--- each group of the tree that stands in a lookaround fails the test; the flag says that the tree
--- does
+-- each group of the tree that stands in a lookaround fails the test;
+-- the flag says that the tree does
 abbrev pub looks_fail : (ℕ → Bool) → Bool → Tree → Bool
 looks_fail picks look (seq a b) = looks_fail picks look a && looks_fail picks look b
 looks_fail picks look (alt a b) = looks_fail picks look a && looks_fail picks look b

@@ -34,8 +34,8 @@ tree_as r found = option_map (λ f. (tree_in r.builder.nodes f.0, place_as r.nam
 abbrev pub Keeps : Bool → Bool → Type 0
 Keeps before after = before ≡ true → after ≡ true
 
--- The groups that were known may be taken for these: they are the same, or no back reference was
--- met.
+-- The groups that were known may be taken for these: they are the same,
+-- or no back reference was met.
 abbrev pub Serves : Bool → Option Names → Option Names → Type 0
 Serves refers known these = refers ≡ true → known ≡ these
 

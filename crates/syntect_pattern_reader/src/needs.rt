@@ -97,8 +97,8 @@ fn is_single(node: &Node) -> bool
     matches!(node, Node::Char(_) | Node::Class(_))
 }
 
-/// The first of two parts in a row with what the other begins with, if the first is a character of
-/// ASCII.
+/// The first of two parts in a row with what the other begins with,
+/// if the first is a character of ASCII.
 fn pair_of(nodes: &[Node], firsts: &PlaceList, first: usize, second: usize) -> Option<Sought>
     requires table { IsTable nodes.now firsts.now }
     requires first { first < length nodes.now }

@@ -43,8 +43,8 @@ pub struct Body {
 pub struct Reader {
     pub builder: Builder,
     pub names: Names,
-    /// Whether a back reference was met. Where none was, it makes no difference which groups are
-    /// known.
+    /// Whether a back reference was met. Where none was,
+    /// it makes no difference which groups are known.
     pub refers: bool,
     /// Whether a lookbehind was met.
     pub looks_back: bool,

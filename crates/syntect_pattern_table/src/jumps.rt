@@ -21,8 +21,8 @@ const FAR: u32 = 1 << 30;
 /// From a node to one after some of its branches.
 #[derive(Clone, Copy)]
 pub struct Jump {
-    /// Where matches of those branches can begin, part by part, since that takes less room than
-    /// `Places`.
+    /// Where matches of those branches can begin, part by part,
+    /// since that takes less room than `Places`.
     ascii: u128,
     pub to: usize,
     /// How many branches are passed.

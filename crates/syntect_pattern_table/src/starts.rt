@@ -348,8 +348,8 @@ pub fn start_at(text: &str, place: usize) -> u8
     }
 }
 
-/// The row of a node that begins so: a new one, or none, which is 0, where no match of it reads
-/// nothing.
+/// The row of a node that begins so: a new one, or none, which is 0,
+/// where no match of it reads nothing.
 #[inline]
 fn row_of(firsts: &mut Vec<Firsts>, next: Firsts) -> Result<usize, AllocError>
     ensures kept { OnOk result (GoesOn firsts.old.items firsts.new.items) }

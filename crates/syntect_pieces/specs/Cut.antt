@@ -83,8 +83,8 @@ module _ {A : Type 0} where
 abbrev pub changed : StyleModifier → List (Style × List ℕ) → List (Style × List ℕ)
 changed modifier ps = map (λ p. (restyled modifier p.0, p.1)) ps
 
--- pieces between two bytes are changed: they are cut at the first, and what is after it at the
--- second
+-- pieces between two bytes are changed: they are cut at the first,
+-- and what is after it at the second
 pub record IsModified (start end : ℕ) (modifier : StyleModifier)
     (ps new : List (Style × List ℕ)) : Type 0 where
   pub before : List (Style × List ℕ)

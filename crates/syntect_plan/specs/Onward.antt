@@ -57,8 +57,8 @@ is_calm (atomic a) = is_calm a
 is_calm (ahead negated a) = negated || is_bare a
 is_calm _ = true
 
--- there is no back reference, what lookbehinds look for is plain, and no lookahead in a loop sets
--- groups
+-- there is no back reference, what lookbehinds look for is plain,
+-- and no lookahead in a loop sets groups
 abbrev pub is_free : Tree → Bool
 is_free (same fold n) = false
 is_free (seq a b) = is_free a && is_free b

@@ -83,8 +83,8 @@ fn sizes_of(alloc: Global, nodes: &[Node]) -> Result<Vec<usize>, AllocError>
     Ok(sizes)
 }
 
-/// How much can be gone through at one place of a part so large, before so much that goes on at the
-/// place.
+/// How much can be gone through at one place of a part so large, before so much that goes
+/// on at the place.
 #[tactic(auto, unfolding(crate::specs::Order::capped))]
 fn height_from(size: usize, reads: bool, rest: usize) -> usize
     ensures { (a b : ℕ) → size ≡ capped a → rest ≡ capped b

@@ -20,8 +20,8 @@ fn sum_of(first: usize, second: usize) -> usize
     first.saturating_add(second)
 }
 
-/// How many passes the lookbehinds of a node take, by the sizes of the nodes before it and by their
-/// passes.
+/// How many passes the lookbehinds of a node take, by the sizes of the nodes before it
+/// and by their passes.
 #[tactic(auto, unfolding(crate::specs::Order::capped))]
 fn node_passes(node: &Node, sizes: &[usize], before: &[usize]) -> usize
     ensures { (ts : List Tree) → AreSizes sizes.now ts → ArePasses before.now ts

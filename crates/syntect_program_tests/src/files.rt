@@ -39,8 +39,8 @@ pub fn folder(rt: &(impl Env + Files + AllocGlobal + Abort), name: &str) -> Path
     folder
 }
 
-/// A line about the grammars of a folder, without the folder's path. It is empty where they are
-/// loaded.
+/// A line about the grammars of a folder, without the folder's path.
+/// It is empty where they are loaded.
 fn told_of_grammars(rt: &(impl Files + AllocGlobal + Abort), folder: Path<'_>) -> String {
     let alloc = rt.alloc();
     let mut repository = ScopeRepository::new(alloc);
@@ -51,8 +51,8 @@ fn told_of_grammars(rt: &(impl Files + AllocGlobal + Abort), folder: Path<'_>) -
     }
 }
 
-/// A line about the theme in a file, without the file's path. It is empty where the theme is
-/// loaded.
+/// A line about the theme in a file, without the file's path.
+/// It is empty where the theme is loaded.
 fn told_of_theme(rt: &(impl Files + AllocGlobal + Abort), path: Path<'_>) -> String {
     let alloc = rt.alloc();
     let mut repository = ScopeRepository::new(alloc);

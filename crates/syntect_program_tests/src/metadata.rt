@@ -1,5 +1,5 @@
-//! Metadata from folders: which files are read, which are passed over, and which sets replace
-//! others.
+//! Metadata from folders: which files are read, which are passed over,
+//! and which sets replace others.
 use crate::files::{folder, within};
 use std::fs;
 use std::path::PathBuf;

@@ -431,8 +431,8 @@ refuses_no_prototype : Refuses dialect no_prototype (codes "a") (at_start at_fir
 unfolding turn tree_of whole body passed pass quantified quantifier count loop off_letters flags_at named_group flag_group opening next_char escape one_letter hex_escape hex_fixed category_escape named_set name_in run first char_of class class_rest next_in posix_form class_escape member range_end start_of plain_item posix_item found found_at char_at char_before is_boundary is_word_edge is_word is_alike same_fold chars general_category general_category_rows value_in simple_folding simple_folding_rows
 refuses_no_prototype = sound dialect no_prototype (codes "a") 20 (at_start at_first)
 
--- a match that names no contexts is not refused for its `with_prototype`, a push of an empty list
--- is
+-- a match that names no contexts is not refused for its `with_prototype`,
+-- a push of an empty list is
 abbrev pub empty_list : MatchOperation → SyntaxSet
 empty_list operation = one_pattern (Match (record (plain (codes "x") [] operation) { with_prototype = Some nowhere }))
 

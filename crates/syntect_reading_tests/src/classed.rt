@@ -9,8 +9,8 @@ use syntect::parsing::{ScopeRepository, SyntaxDefinition, SyntaxSet, SyntaxSetBu
 use syntect::util::LinesWithEndings;
 use syntect_parsing::parser::ParsingError;
 
-/// A sign, names after `fn` with a block each, notes to the line's end, and a context that is not
-/// there.
+/// A sign, names after `fn` with a block each, notes to the line's end,
+/// and a context that is not there.
 const GRAMMAR: &str = r"
 name: T
 scope: source.t

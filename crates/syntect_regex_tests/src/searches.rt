@@ -185,8 +185,8 @@ fn tells_which_patterns_begin_at_edges(rt: HostRuntime) {
     }
 }
 
-/// Sixteen loops in one another, through which a search that backs up has as many ways as there
-/// are.
+/// Sixteen loops in one another, through which a search that backs up has as many
+/// ways as there are.
 #[test]
 fn searches_loops_in_one_another(rt: HostRuntime) {
     let pattern = "((((((((((((((((a*)*)*)*)*)*)*)*)*)*)*)*)*)*)*)*)*b";
@@ -253,8 +253,8 @@ fn pattern_of(rt: &(impl Abort + AllocGlobal), text: &str) -> Regex {
     Regex::new(rt.alloc(), text).expect(rt, "memory")
 }
 
-/// A pattern that backs up too often begins where its matches do, by a plan that is kept of the
-/// line.
+/// A pattern that backs up too often begins where its matches do, by a plan that is
+/// kept of the line.
 #[test]
 fn tries_a_pattern_by_a_plan_that_is_kept(rt: HostRuntime) {
     let regex = pattern_of(&rt, "(a+)+c");

@@ -37,8 +37,8 @@ abbrev pub char_len : List ℕ → ℕ
 char_len [] = 0
 char_len (c ∷ t) = 1 + prefix_len goes_on t
 
--- how many bytes the first sign has: a sign is a backslash with its next character, or one
--- character
+-- how many bytes the first sign has: a sign is a backslash with its next character,
+-- or one character
 unfoldable pub sign_len : List ℕ → ℕ
 sign_len t = if first t ∈ "\\" then 1 + char_len (drop 1 t) else char_len t
 

@@ -5,8 +5,8 @@ ghost use Rattle.syntect_rewrite.specs.Tokens as tokens;
 
 use crate::signs::{byte_at, first, sign_len, skip};
 
-/// The first token of a text: how many bytes it has, and whether it is a class that takes a
-/// newline.
+/// The first token of a text: how many bytes it has, and whether it is a class
+/// that takes a newline.
 #[derive(Clone, Copy)]
 pub(crate) struct Token {
     pub len: usize,
@@ -59,8 +59,8 @@ fn open_after(depth: usize, sign: &str) -> usize
     }
 }
 
-/// The rest of a class: how many of these bytes belong to it, and whether `\n` is one of its own
-/// members.
+/// The rest of a class: how many of these bytes belong to it, and whether `\n` is one
+/// of its own members.
 fn rest_of_class(text: &str) -> Token
     ensures len { result.len ≡ tokens.rest_len 0 (cutting.signs text.now) }
     ensures newline { result.takes_newline ≡ tokens.has_newline 0 (cutting.signs text.now) }

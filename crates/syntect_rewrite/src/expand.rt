@@ -183,8 +183,8 @@ fn remember(known: &mut Table<Text, bool>, name: Text) -> Result<(), AllocError>
 }
 
 /// Remembers whether the use of a name stands for nothing, when its variable's text is over: if it
-/// does, what is remembered from within that text holds outside of it too, and else nothing is
-/// remembered.
+/// does, what is remembered from within that text holds outside of it too,
+/// and else nothing is remembered.
 fn settle(
     alloc: Global,
     known: &mut Table<Text, bool>,

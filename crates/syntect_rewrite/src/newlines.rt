@@ -64,8 +64,8 @@ fn push_ended(
 }
 
 /// The first token of a text for lines that have no newline, whether it is a class that takes a
-/// newline, and what follows it. `(?:\n)?` is one token, and is the end of the text that may be
-/// missing.
+/// newline, and what follows it. `(?:\n)?` is one token, and is the end of the text
+/// that may be missing.
 #[tactic(auto, using(crate::proofs::NewlineLaws::optional_token, crate::proofs::NewlineLaws::other_token))]
 fn line_token(text: &str) -> (&str, bool, &str)
     requires { 0 < length text.now }

@@ -22,8 +22,8 @@ fn push_tested(out: &mut String, sign: &str) -> Result<(), AllocError>
 }
 
 /// The text that is tested as a pattern: the text with `<placeholder_D>` in place of each `\D`, D
-/// being an ASCII digit and the backslash not escaped itself. An error comes only where memory ran
-/// out.
+/// being an ASCII digit and the backslash not escaped itself.
+/// An error comes only where memory ran out.
 pub fn tested(alloc: Global, text: &str) -> Result<String, AllocError>
     ensures { IfOk result (λ s. string_bytes s ≡ testing.tested_text text.now) }
 {

@@ -73,8 +73,8 @@ fn holds(alloc: Global, row: Row) -> bool {
     outcome.unwrap_or(false)
 }
 
-/// Runs the examples, and prints of each whether it comes out as it is written. Answers whether all
-/// do.
+/// Runs the examples, and prints of each whether it comes out as it is written.
+/// Answers whether all do.
 pub fn run_calls(rt: &(impl Print + AllocGlobal)) -> io::Result<bool> {
     let mut all = true;
     for (label, row) in &ROWS {

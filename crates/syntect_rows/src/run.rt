@@ -154,8 +154,8 @@ fn run_row(
     }
 }
 
-/// Runs the row of a file, and prints whether it comes out as it is written. Answers whether it
-/// does.
+/// Runs the row of a file, and prints whether it comes out as it is written.
+/// Answers whether it does.
 fn run_file(rt: &(impl Print + AllocGlobal + Files), path: &str) -> io::Result<bool> {
     let text = fs::read_to_string(rt, path)?;
     let holds = run_row(rt, rt.alloc(), text.as_str(), None) == Some(true);

@@ -33,8 +33,8 @@ hook_calls (Clear amount) s = replicate (length s.scopes - kept amount s) (Remov
 hook_calls Restore s = additions s.scopes (last_cleared s)
 hook_calls Noop s = []
 
--- a hook is called with what was pushed or removed and a reference to the stack, and is then this
--- one
+-- a hook is called with what was pushed or removed and a reference to the stack,
+-- and is then this one
 pub record Hears {F : Type 0} (g : Mut F (BasicScopeStackOp × (Bor (List (List ℕ)) × Unit {0})) (Unit {0})) (hook : F) (call : BasicScopeStackOp × List (List ℕ)) (after : F) : Type 0 where
   pub shown : Bor (List (List ℕ))
   pub shows : shown.now ≡ call.1

@@ -102,8 +102,8 @@ impl ScopeSelector {
 }
 
 impl ScopeSelectors {
-    /// The greatest of the scores of the selectors in a stack, the bottom scope first, if one has a
-    /// score.
+    /// The greatest of the scores of the selectors in a stack, the bottom scope first,
+    /// if one has a score.
     pub fn does_match(&self, stack: &[Scope]) -> Result<Option<MatchPower>, AllocError>
         ensures { IfOk result (λ power. power ≡ union_score self.now.selectors stack.now) }
     {

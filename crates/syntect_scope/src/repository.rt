@@ -265,8 +265,8 @@ impl ScopeRepository {
         Ok(scope)
     }
 
-    /// Whether it would lack a part once it had taken up those before it, so many, in the same
-    /// text.
+    /// Whether it would lack a part once it had taken up those before it, so many,
+    /// in the same text.
     fn lacks(&self, text: &str, before: usize, part: &str) -> bool
         ensures { result ≡ not (is_some
             (place_in (with_atoms self.now (take before (between_dots text.now))) part.now)) }
@@ -374,8 +374,8 @@ impl ScopeRepository {
 }
 
 impl Scope {
-    /// The scope of a text, without the white space around it. Refusals are those of
-    /// `ScopeRepository::build`.
+    /// The scope of a text, without the white space around it.
+    /// Refusals are those of `ScopeRepository::build`.
     pub fn new(s: &str, repository: &mut ScopeRepository) -> Result<Scope, ParseScopeError>
         ensures atoms { OnOk result (repository.new ≡ with_atoms repository.old (atom_texts (trim s.now))) }
         ensures scope { IfOk result (λ scope. scope ≡ scope_in repository.new (trim s.now)) }

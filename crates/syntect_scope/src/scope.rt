@@ -139,8 +139,8 @@ impl Scope {
         }
     }
 
-    /// Whether its atoms begin the list of atoms of `s`: `string.quoted` is a prefix of
-    /// `string.quoted.json`.
+    /// Whether its atoms begin the list of atoms of `s`:
+    /// `string.quoted` is a prefix of `string.quoted.json`.
     pub fn is_prefix_of(self, s: Scope) -> bool
         ensures { result ≡ is_prefix self s }
     {

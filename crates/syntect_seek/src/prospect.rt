@@ -17,8 +17,8 @@ const LOOKED_A_STEP: usize = 64;
 /// one text.
 #[derive(Clone, Copy)]
 pub struct Prospect {
-    /// No match begins from here on to the text's end: the greatest number where nothing of that is
-    /// known.
+    /// No match begins from here on to the text's end: the greatest number where nothing
+    /// of that is known.
     from: usize,
     met: Met,
     /// The greatest number before such a try, and 0 where the plan tells.

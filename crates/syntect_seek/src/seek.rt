@@ -36,8 +36,8 @@ const STEPS_A_BYTE: usize = 64;
 const STEPS: usize = 16384;
 
 /// In how many steps the tries of a pattern at place after place of a text may back up for each
-/// byte of it. Marking a place takes about as long as some steps, where the same stood at another
-/// place.
+/// byte of it. Marking a place takes about as long as some steps,
+/// where the same stood at another place.
 const TRIED_A_BYTE: usize = 8;
 
 const TRIED: usize = 2048;
@@ -60,8 +60,8 @@ fn steps_in(size: usize, text: &str) -> usize
     bytes.saturating_add(plan).saturating_add(STEPS)
 }
 
-/// In how many steps tries at place after place of the text may back up for a pattern of so many
-/// bytes.
+/// In how many steps tries at place after place of the text may back up for a pattern
+/// of so many bytes.
 #[inline]
 fn tried_steps_in(size: usize, text: &str) -> usize
     ensures { result
@@ -196,8 +196,8 @@ fn find_backing_up(
     }
 }
 
-/// Whether the program matches at a place from `begin` on, where backing up in limited steps didn't
-/// tell.
+/// Whether the program matches at a place from `begin` on,
+/// where backing up in limited steps didn't tell.
 #[inline(never)]
 fn find_planned(
     search: &mut Search,
@@ -347,8 +347,8 @@ fn begins_tried(
     let allowed = meter.allowed(granted);
     match begins_within(search, program, text, place, granted, meter)? {
         Some(found) => {
-            // A character of a stretch, which is gone through forth and back, counts as a step more
-            // here
+            // A character of a stretch, which is gone through forth and back,
+            // counts as a step more here
             let steps = allowed.saturating_sub(search.left);
             known.spend(all, steps.saturating_add(search.read));
             Ok(found)
@@ -466,8 +466,8 @@ fn begins_planned(
     begins_marked(search, guide, pattern, text, place, depths, meter)
 }
 
-/// Whether a match begins at the place, by backing up to the end, as for a pattern that is not
-/// linear.
+/// Whether a match begins at the place, by backing up to the end,
+/// as for a pattern that is not linear.
 fn backs_up(
     search: &mut Search,
     program: &Program,

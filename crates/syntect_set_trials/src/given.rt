@@ -1,5 +1,5 @@
-//! What the calls are given. It is made where there is memory: what is refused stands within a
-//! call.
+//! What the calls are given. It is made where there is memory:
+//! what is refused stands within a call.
 use std::alloc::Global;
 use syntect_grammar::syntax_definition::SyntaxDefinition;
 use syntect_grammar::syntax_set::{SyntaxSet, SyntaxSetBuilder};

@@ -45,8 +45,8 @@ fn is_orderly(set: &SyntaxSet, pattern: &Pattern, top_clears: bool) -> bool {
     }
 }
 
-/// Whether the matches of a context's patterns are orderly where the context on top clears, or
-/// doesn't.
+/// Whether the matches of a context's patterns are orderly where the context on top clears,
+/// or doesn't.
 fn are_orderly(
     alloc: Global,
     set: &SyntaxSet,
@@ -100,8 +100,8 @@ fn is_orderly_in(alloc: Global, set: &SyntaxSet, context: &Context) -> Option<bo
     are_orderly(alloc, set, context, top_clears)
 }
 
-/// Adds the name of a syntax, if contexts of it clear: how many do, and whether all its matches are
-/// orderly.
+/// Adds the name of a syntax, if contexts of it clear: how many do,
+/// and whether all its matches are orderly.
 fn write_orderly_of(
     alloc: Global,
     set: &SyntaxSet,
@@ -124,8 +124,8 @@ fn write_orderly_of(
     writeln!(out, "{name}\t{count}\t{told}").ok()
 }
 
-/// Adds the syntaxes of which contexts clear, each with how many do and whether all its matches are
-/// orderly.
+/// Adds the syntaxes of which contexts clear, each with how many do and whether all
+/// its matches are orderly.
 pub fn write_orderly(alloc: Global, set: &SyntaxSet, out: &mut String) -> Option<()> {
     for syntax in set.syntaxes() {
         write_orderly_of(alloc, set, syntax, out)?;

@@ -115,8 +115,8 @@ abbrev pub IsUnder : {V : Type 0} → ℕ → Option (Candidate V) → Type 0
 IsUnder power None = Unit {0}
 IsUnder power (Some c) = c.score.power < power
 
--- nothing, where there is no place below; or this value with a power of nought, at the place right
--- below
+-- nothing, where there is no place below; or this value with a power of nought,
+-- at the place right below
 abbrev pub IsJustBelow : {V : Type 0} → ℕ → V → Option (Candidate V) → Type 0
 IsJustBelow n v None = n ≡ 0
 IsJustBelow n v (Some c) = (c.value ≡ v) × (c.score.power ≡ 0) × ((p : ℕ) × (c.score.place ≡ Some p) × (suc p ≡ n))

@@ -1,5 +1,5 @@
--- The rules of a theme, the single ones apart from the others, and the candidates among them in
--- turn.
+-- The rules of a theme, the single ones apart from the others,
+-- and the candidates among them in turn.
 use Rattle.std.specs.Prelude.{◌≡◌, ℕ, ◌-◌, ◌*◌, ◌^◌, ◌<◌, List, [], ◌∷◌, ◌++◌, length, if◌then◌else◌, Option, Some, None}
 use Rattle.std.specs.Option.{option_to_list}
 use Rattle.std.specs.List.{filter_map, flat_map, slice_get}

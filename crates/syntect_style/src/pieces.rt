@@ -18,8 +18,8 @@ use syntect_theme::style::Style;
 ///
 /// A piece is a stretch that isn't empty between the places of the operations, from the text's
 /// start to its end, in the style of the stack at it. Where an operation is refused an `Err` is
-/// given for the piece up to it, as the last item, and the state keeps what the earlier operations
-/// made.
+/// given for the piece up to it, as the last item, and the state keeps what
+/// the earlier operations made.
 #[derive(Debug, Drop)]
 pub struct RangedHighlightIterator<'a, 'b> {
     pos: usize,

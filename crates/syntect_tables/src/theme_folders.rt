@@ -38,8 +38,8 @@ pub fn write_theme_folders(
     write_themes(&set, out)
 }
 
-/// Adds the theme of a file: its name and the number of its rules, or `Io` or the refusal's
-/// message.
+/// Adds the theme of a file: its name and the number of its rules,
+/// or `Io` or the refusal's message.
 pub fn write_theme_file(
     files: &impl Files,
     alloc: Global,

@@ -106,8 +106,8 @@ fn flags_of(word: &str) -> Option<FontStyle>
 
 impl FontStyle {
     /// The flags of the words `bold`, `underline` and `italic`, separated by white space; `normal`
-    /// and `regular` stand for no flag. The first word that is none of these is
-    /// `IncorrectFontStyle`.
+    /// and `regular` stand for no flag. The first word that is none
+    /// of these is `IncorrectFontStyle`.
     pub fn from_text(alloc: Global, s: &str) -> Result<FontStyle, ParseThemeError>
         ensures ok { IfOk result (λ flags. flags_of_text s.now ≡ Ok flags) }
         ensures err { IfErr result (Refuses (flags_of_text s.now)) }

@@ -47,8 +47,8 @@ impl Drop for Theme {
     }
 }
 
-/// The colours of an editor. `foreground` and `background` are also those of text that no rule
-/// styles.
+/// The colours of an editor. `foreground` and `background` are also those of text
+/// that no rule styles.
 #[derive(Debug, Drop, PartialEq)]
 pub struct ThemeSettings {
     /// Text that no rule styles.

@@ -291,8 +291,8 @@ abbrev pub unless_refused : Result ThemeItem ParseThemeError → List (List ℕ)
 unless_refused (Ok rule) grown repo = grown
 unless_refused (Err e) grown repo = repo
 
--- the repository after a rule was read: with the rule's scopes, and as it was where the rule is
--- refused
+-- the repository after a rule was read: with the rule's scopes, and as it was where
+-- the rule is refused
 abbrev pub after_rule : List (List ℕ) → Data → List (List ℕ)
 after_rule repo d = unless_refused (item_at repo d) (with_scopes repo (rule_words d)) repo
 

@@ -114,8 +114,8 @@ impl ThemeSet {
     }
 
     /// The paths of the theme files in a folder and in the folders below it, in the order of a
-    /// walk. A theme file has the extension `tmTheme`, in any ASCII case. A fault of the walk is
-    /// `WalkDir`.
+    /// walk. A theme file has the extension `tmTheme`, in any ASCII case.
+    /// A fault of the walk is `WalkDir`.
     pub fn discover_theme_paths(
         files: &impl Files,
         alloc: Global,
@@ -139,8 +139,8 @@ impl ThemeSet {
         Ok(paths)
     }
 
-    /// The theme in a file. A fault of the file is `Io`, and what it holds is read as by
-    /// `load_from_reader`.
+    /// The theme in a file. A fault of the file is `Io`, and what it holds is
+    /// read as by `load_from_reader`.
     #[tactic(auto, using(crate::proofs::FileLaws::not_opened, crate::proofs::FileLaws::of_file))]
     pub fn get_theme(
         files: &impl Files,
@@ -167,8 +167,8 @@ impl ThemeSet {
     }
 
     /// The theme of what a reader has left: the JSON of a theme, in which no number is a float. A
-    /// fault of reading is `Io`, other bytes are `ReadSettings`, and a value that is no theme is
-    /// `ParseTheme`.
+    /// fault of reading is `Io`, other bytes are `ReadSettings`, and a value that is
+    /// no theme is `ParseTheme`.
     pub fn load_from_reader<R: BufRead>(
         alloc: Global,
         reader: &mut R,

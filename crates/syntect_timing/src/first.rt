@@ -116,8 +116,8 @@ fn a_second(number: u64, nanos: u64) -> u64 {
     }
 }
 
-/// How long a run over a text took, in nanoseconds, and how many lines it has; none where a line is
-/// refused.
+/// How long a run over a text took, in nanoseconds, and how many lines it has;
+/// none where a line is refused.
 fn timed_run(
     rt: &(impl AllocGlobal + Clock),
     text: &str,

@@ -115,8 +115,8 @@ module _ (line : List ℕ) (p : Position) (last : ℕ) where
       stays (Some x) None z e f = cc
       stays (Some x) (Some y) z e f = e
 
-  -- a match that begins before the best so far, or at the same place where all so far loop, is the
-  -- best
+  -- a match that begins before the best so far, or at the same place where all so far loop,
+  -- is the best
   abbrev pub Leads : Best → ℕ → Type 0
   Leads b s = (s < b.start) ⊎ ((s ≡ b.start) × (b.is_match ≡ true) × (b.candidate ≡ None))
 

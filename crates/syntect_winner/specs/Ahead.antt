@@ -118,8 +118,8 @@ BeginIn begins runs = (x : ℕ) → x < 130 → is_in begins x ≡ false → All
 abbrev pub run_members : SyntaxSet → Run → List Member
 run_members set run = part_members set run.part
 
--- the best of these matches, where all that begin before this place were looked for and there are
--- none
+-- the best of these matches, where all that begin before this place were looked for
+-- and there are none
 pub record IsBestAt (reader : LineReader) (i : ℕ) (ms : List Live) (b : Best) : Type 0 where
   pub best : IsBest reader.line.now reader.position.now i ms b
   pub here : b.is_match ≡ true → b.start ≡ i

@@ -25,8 +25,8 @@ abbrev pub AreGroupsOf : List ℕ → ℕ → Option Candidate → Groups → Ty
 AreGroupsOf line place o groups = (m : Candidate) → o ≡ Some m → groups ≡ (seen line place m).groups
 
 -- The best of these matches that begin up to the last place: none begins before its start; where
--- one begins there, it has the first of them that doesn't loop; and else none begins up to the last
--- place.
+-- one begins there, it has the first of them that doesn't loop; and else none begins up
+-- to the last place.
 pub record IsBest (line : List ℕ) (p : Position) (last : ℕ) (ms : List Live)
     (b : Best) : Type 0 where
   pub least : list_all (λ k. nat_le b.start k.start) ms ≡ true

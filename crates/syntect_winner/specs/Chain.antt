@@ -15,8 +15,8 @@ use Rattle.syntect_winner.specs.declared.level.Level.{Level}
 
 -- ---- the chain of a turn ----
 
--- a pattern of the chain, with the opening match that it is searched with, and whether it is from a
--- `with_prototype`
+-- a pattern of the chain, with the opening match that it is searched with,
+-- and whether it is from a `with_prototype`
 pub record Member : Type 0 where
   pub pattern : MatchPattern
   pub opening : Option Opening

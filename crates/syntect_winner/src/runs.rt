@@ -115,8 +115,8 @@ fn pay_for_passed(
     Ok(())
 }
 
-/// What is searched in place of the pattern, which is paid for, and so are those that were passed
-/// over.
+/// What is searched in place of the pattern, which is paid for,
+/// and so are those that were passed over.
 fn replacement_paid(
     reader: &LineReader<'_, '_>,
     part: &Part<'_>,

@@ -71,8 +71,8 @@ pub struct Entry<'s, 'p> {
     pub from_with_prototype: bool,
 }
 
-/// A pattern in a place of its own, so that what holds it is small and quickly moved. Seen as the
-/// pattern.
+/// A pattern in a place of its own, so that what holds it is small and quickly moved.
+/// Seen as the pattern.
 #[derive(Drop)]
 pub struct OwnRegex {
     regex: Box<Regex>,

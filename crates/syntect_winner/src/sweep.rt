@@ -76,8 +76,8 @@ fn run_as_far(line: &str, place: usize, blank: bool, far: usize) -> usize
 }
 
 /// How far from a place the end of a run is looked for by a turn that looked at so many places: the
-/// more, the farther, so that all that looking takes no longer than trying patterns at those places
-/// did.
+/// more, the farther, so that all that looking takes no longer than trying patterns
+/// at those places did.
 fn far_from(place: usize, tried: usize) -> usize {
     place.saturating_add((tried / PLACES).saturating_mul(FAR))
 }
@@ -104,8 +104,8 @@ fn reach_at(line: &str, place: usize, here: u8, known: Reach, tried: usize) -> R
 }
 
 /// What is seen of a place; with `asks` what comes after the white space or the word there too.
-/// That is looked for where it isn't known from an earlier place. The turn looked at `tried` places
-/// before.
+/// That is looked for where it isn't known from an earlier place.
+/// The turn looked at `tried` places before.
 fn outlook_of(line: &str, place: usize, asks: bool, reach: &mut Reach, tried: usize) -> Outlook
     requires within { place ≤ length line.now }
     requires reach { Reaches line.now place reach.old }
@@ -254,8 +254,8 @@ fn with_entry<'s>(
     ))
 }
 
-/// What is found with the pattern of a part at an index more. One that is out for this turn isn't
-/// tried.
+/// What is found with the pattern of a part at an index more. One that is out for
+/// this turn isn't tried.
 fn with_pattern<'s>(
     reader: &LineReader<'s, '_>,
     run: &Run<'s, '_>,

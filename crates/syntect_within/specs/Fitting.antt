@@ -61,8 +61,8 @@ IsPassed limits variables most before (reached.Patterns place) =
     most < sum_by (counted_length variables) (before ++ place.pattern ∷ [])
 IsPassed limits variables most before reached.Folder = ⊥
 
--- of these patterns those before the one at which the limit is reached fit, and that one passes the
--- limit
+-- of these patterns those before the one at which the limit is reached fit,
+-- and that one passes the limit
 pub record Passes
     (limits : Limits) (variables : Variables) (most : ℕ) (patterns : List (List ℕ))
     (r : LimitReached)
@@ -73,8 +73,8 @@ pub record Passes
   pub fit : Fit limits variables most before
   pub passed : IsPassed limits variables most before r
 
--- where something is left, the patterns fit and leave that; else they pass the limit that is
--- reached
+-- where something is left, the patterns fit and leave that;
+-- else they pass the limit that is reached
 abbrev pub Tells : Limits → Variables → ℕ → List (List ℕ) → Left → Type 0
 Tells limits variables most patterns (Ok left) =
     Fit limits variables most patterns

@@ -189,8 +189,8 @@ fn chained(rt: &impl Abort, alloc: Global, variables: u32, patterns: u32) -> Str
     text
 }
 
-/// A use counts, though its variable stands for nothing: each pattern uses 100 variables and has 1
-/// byte.
+/// A use counts, though its variable stands for nothing: each pattern uses 100 variables
+/// and has 1 byte.
 #[test]
 fn variables_that_come_to_nothing(rt: HostRuntime) {
     let alloc = rt.alloc();

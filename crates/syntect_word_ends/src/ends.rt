@@ -74,8 +74,8 @@ fn spans_of_letter(blank: bool, fold: bool, letter: u8) -> Firsts
     }
 }
 
-/// What can come after a run for letters before something else, by what can come after a run for
-/// that.
+/// What can come after a run for letters before something else, by what can come after
+/// a run for that.
 fn before_rest(blank: bool, fold: bool, letters: &[u8], rest: Firsts) -> Firsts
     ensures { (t : Tree) (x : ℕ) → x < 130 → begins_at x rest ≡ spans blank x t
         → begins_at x result ≡ spans blank x (letters_tree fold letters.now t) }
@@ -172,8 +172,8 @@ fn spans_of(
     Ok((reads, stays))
 }
 
-/// Whether a match of the program can begin with white space, or else with an ASCII character of
-/// words.
+/// Whether a match of the program can begin with white space,
+/// or else with an ASCII character of words.
 fn begins_in(blank: bool, program: &Program) -> bool {
     match program.firsts.get(program.root) {
         Some(places) => places.ascii & run_bits(blank) != 0,

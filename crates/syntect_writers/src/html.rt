@@ -43,8 +43,8 @@ fn put_rgb(out: &mut Tail, color: Color) -> Result<(), AllocError>
     push_rgb_digits(out, color)
 }
 
-/// Puts a colour last as CSS has it, without how opaque it is. Without memory the text is as it
-/// was.
+/// Puts a colour last as CSS has it, without how opaque it is.
+/// Without memory the text is as it was.
 pub fn push_rgb(out: &mut String, color: Color) -> Result<(), AllocError>
     ensures text { OnOk result (string_bytes out.new ≡ string_bytes out.old ++ rgb_text color) }
     ensures err { OnErr result (string_bytes out.new ≡ string_bytes out.old) }

@@ -11,8 +11,8 @@ unfoldable pub unmasked : Rest → Rest
 unmasked t =
     if (first t == 0xEF && slice_index t 1 == 0xBB) && slice_index t 2 == 0xBF then drop 3 t else t
 
--- what the line at a place is before the node: one that begins with `%`, or `---`, or the node's
--- first
+-- what the line at a place is before the node: one that begins with `%`, or `---`,
+-- or the node's first
 abbrev pub heading : Place → Heading
 heading p =
     if p.column == 0 && first p.rest ∈ "%" then Directive
