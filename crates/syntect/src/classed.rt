@@ -82,7 +82,7 @@ impl<'a> Drop for ClassedHTMLGenerator<'a> {
 }
 
 impl<'a> ClassedHTMLGenerator<'a> {
-    /// Before the first line of a text in this syntax, which is one of the set.
+    /// A generator before the first line of a text in this syntax, which is one of the set.
     /// `MissingMainContext` where the syntax has no context `__start`.
     pub fn new_with_class_style(
         alloc: Global,

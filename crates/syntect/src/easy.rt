@@ -336,7 +336,7 @@ impl<'a> HighlightLines<'a> {
         }
     }
 
-    /// Stands before the first line of a text in this syntax from now on, under the same theme:
+    /// Puts the highlighter before the first line of a text in this syntax, under the same theme:
     /// what was read before is forgotten. So a program may go on after a line that was shown plain,
     /// in place of going on as if that line weren't there. `MissingMainContext` where the syntax
     /// has no context `__start`; after a refusal nothing has changed.

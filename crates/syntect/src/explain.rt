@@ -1,4 +1,4 @@
-//! Refusals told to people: which file, which line, and what helps.
+//! Refusals explained to people: which file, which line, and what helps.
 //!
 //! The messages of the errors themselves are the crate's. Where these leave out what was asked for,
 //! the calls here say it.
@@ -15,8 +15,8 @@ use syntect_yaml::read::refused_at;
 
 /// Why what stands at a path was not loaded, in one line that begins with the path: as the error's
 /// message says it, with its cause. Of a grammar that is no YAML the line and column are given, and
-/// of a theme that is a property list in XML how it is made JSON:
-/// the file is read once more for it.
+/// of a theme that is a property list in XML how it is converted to JSON: the file is read once
+/// more for it.
 pub fn why_not_loaded(
     files: &impl Files,
     alloc: Global,

@@ -12,7 +12,7 @@ use thiserror::Error as ThisError;
 /// Why a line was not highlighted within limits.
 #[derive(Drop, ThisError)]
 pub enum HighlightWithinError {
-    /// What is answered without limits.
+    /// The line is refused as it is without limits.
     #[error("{0}")]
     Refused(Error),
     /// The line reached a limit.

@@ -186,8 +186,7 @@ impl<'a> LineBuffer<'a> {
         )
     }
 
-    /// Takes a line out, and answers how many lines were read again.
-    /// Lack of memory changes nothing.
+    /// Removes a line, and answers how many lines were read again. Lack of memory changes nothing.
     pub fn remove_line(&mut self, alloc: Global, place: usize) -> Result<usize, AllocError>
         requires { place < length self.old.lines }
         ensures lines { OnOk result (self.new.lines ≡ remove self.old.lines place) }

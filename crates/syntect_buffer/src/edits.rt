@@ -86,7 +86,7 @@ pub(crate) fn set_at(
     Ok(number)
 }
 
-/// Takes a line out, and answers how many lines were read again. Lack of memory changes nothing.
+/// Removes a line, and answers how many lines were read again. Lack of memory changes nothing.
 pub(crate) fn remove_at(
     kept: &mut Kept,
     alloc: Global,

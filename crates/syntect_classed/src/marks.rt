@@ -66,7 +66,7 @@ impl Spans {
         self.text.push_str("</span>")
     }
 
-    /// Puts a text last.
+    /// Appends a text.
     fn show(
         &mut self,
         prefix: &str,
@@ -107,7 +107,7 @@ impl Spans {
         Ok(())
     }
 
-    /// Puts the text between two places of a line last, if there is one.
+    /// Appends the text between two places of a line, if there is one.
     pub(crate) fn show_between(
         &mut self,
         prefix: &str,

@@ -11,8 +11,8 @@ use syntect_scope::repository::ParseScopeError;
 use syntect_scope::stack::ScopeError;
 use thiserror::Error as ThisError;
 
-/// Why a call was refused for which several causes are possible. `?` makes it of each refusal that
-/// a call answers.
+/// Why a call was refused that can be refused for several causes. `?` makes it from each refusal
+/// that a call answers.
 #[derive(Drop, ThisError)]
 pub enum Error {
     /// A file or a folder was not loaded.

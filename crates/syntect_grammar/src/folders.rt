@@ -170,8 +170,8 @@ impl SyntaxSetBuilder {
 impl SyntaxSet {
     /// A set of the grammars and the metadata in a folder and in the folders below it, for lines
     /// without their line feeds: as `add_from_folder` adds them to no definitions, and as `build`
-    /// links them. With lines that end with theirs, as those of `LinesWithEndings`, such grammars
-    /// colour wrongly, in silence: these take `add_from_folder` with `true`.
+    /// links them. Lines that end with their line feeds, as those of `LinesWithEndings`, such
+    /// grammars colour wrongly and without notice: for these call `add_from_folder` with `true`.
     #[tactic(auto, using(crate::proofs::FolderLaws::keeps_all))]
     pub fn load_from_folder(
         files: &impl Files,

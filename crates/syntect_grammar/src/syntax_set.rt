@@ -235,7 +235,7 @@ impl SyntaxSetBuilder {
         SyntaxSetBuilder::new(alloc)
     }
 
-    /// Puts a definition last. Without memory for it the builder stays as it is, and the definition
+    /// Appends a definition. Without memory for it the builder stays as it is, and the definition
     /// is dropped.
     pub fn add(&mut self, syntax: SyntaxDefinition) -> Result<(), AllocError>
         ensures ok { OnOk result
@@ -249,7 +249,7 @@ impl SyntaxSetBuilder {
         Ok(())
     }
 
-    /// Puts an entry of metadata last. Without memory for it the builder stays as it is.
+    /// Appends an entry of metadata. Without memory for it the builder stays as it is.
     pub(crate) fn add_entry(&mut self, entry: RawMetadataEntry) -> Result<(), AllocError>
         ensures ok { OnOk result (entries_in self.new ≡ entries_in self.old ++ entry ∷ []) }
         ensures definitions { definitions_in self.new ≡ definitions_in self.old }
@@ -260,8 +260,8 @@ impl SyntaxSetBuilder {
         self.raw_metadata.add_raw(entry)
     }
 
-    /// Puts a definition last that was loaded from the file of this path. Without memory for both
-    /// the builder stays as it is.
+    /// Appends a definition that was loaded from the file of this path. Without memory for both the
+    /// builder stays as it is.
     pub fn add_loaded(&mut self, syntax: SyntaxDefinition, path: Text) -> Result<(), AllocError>
         ensures ok { OnOk result
             (definitions_in self.new ≡ definitions_in self.old ++ syntax ∷ []) }

@@ -201,7 +201,7 @@ fn inclusions_of(
     Ok(inclusions)
 }
 
-/// Puts one that includes a context last.
+/// Appends one that includes a context.
 fn put_includer(
     alloc: Global,
     includers: &mut HashMap<ContextId, Vec<ContextId>>,

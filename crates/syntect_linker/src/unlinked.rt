@@ -13,7 +13,7 @@ use syntect_contexts::syntax_reference::SyntaxReference;
 use syntect_scope::repository::ScopeRepository;
 use syntect_values::text::Text;
 
-/// Puts a character of a text in quotes last.
+/// Appends a character of a text in quotes.
 fn push_quoted(out: &mut String, c: char) -> Result<(), AllocError>
     ensures { OnOk result (string_bytes out.new
         ≡ string_bytes out.old ++ encode_utf8_all (quoted_char c)) }

@@ -196,7 +196,7 @@ impl LoadMetadata {
         }
     }
 
-    /// Puts an entry last. Without memory for it the entries stay.
+    /// Appends an entry. Without memory for it the entries stay.
     pub fn add_raw(&mut self, raw: RawMetadataEntry) -> Result<(), AllocError>
         ensures ok { OnOk result (self.new.loaded ≡ self.old.loaded ++ raw ∷ []) }
         ensures err { OnErr result (self.new ≡ self.old) }

@@ -59,7 +59,7 @@ impl Builder {
     ghost use Rattle.syntect_pattern_table.specs.Builder.{Grows, Holds, tree_in};
     ghost use Rattle.syntect_pattern_reader.specs.JoinViews.{AllBelow, AreItemsIn, IsEnd, IsItemIn, IsItemOf, end_tree, item_tree, item_trees, trees_in};
 
-    /// Puts a node last.
+    /// Appends a node.
     pub fn push(&mut self, node: Node) -> Result<usize, AllocError>
         requires { parts_before (length self.old.nodes) node ≡ true }
         ensures grows { OnOk result (Grows self.old.nodes self.new.nodes) }
@@ -172,7 +172,7 @@ impl Builder {
         self.push_end(end)
     }
 
-    /// Puts a class last.
+    /// Appends a class.
     pub fn push_class(&mut self, sets: SetBuilder, root: usize) -> Result<usize, AllocError>
         ensures grows { OnOk result (Grows self.old.nodes self.new.nodes) }
         ensures holds { IfOk result (λ k. Holds self.new.nodes k
@@ -183,7 +183,7 @@ impl Builder {
         self.push(Node::Class(class))
     }
 
-    /// Puts a set of characters last.
+    /// Appends a set of characters.
     pub fn push_leaf(&mut self, leaf: Leaf) -> Result<usize, AllocError>
         ensures grows { OnOk result (Grows self.old.nodes self.new.nodes) }
         ensures holds { IfOk result (λ k. Holds self.new.nodes k (one_of (leaf_set leaf))) }
@@ -198,7 +198,7 @@ impl Builder {
         self.push_class(sets, root)
     }
 
-    /// Puts a character last, with `fold` all of equal simple folding.
+    /// Appends a character, with `fold` all of equal simple folding.
     pub fn push_char(&mut self, fold: bool, c: char) -> Result<usize, AllocError>
         ensures grows { OnOk result (Grows self.old.nodes self.new.nodes) }
         ensures holds { IfOk result (λ k. Holds self.new.nodes k (one_of (from_to fold c c))) }
@@ -229,7 +229,7 @@ impl Builder {
         Ok(Item::Node(self.push_char(fold, c)?))
     }
 
-    /// Puts the node of a loop last.
+    /// Appends the node of a loop.
     pub fn push_looping(&mut self, looping: Looping, node: usize) -> Result<usize, AllocError>
         requires { node < length self.old.nodes }
         ensures grows { OnOk result (Grows self.old.nodes self.new.nodes) }

@@ -92,7 +92,7 @@ impl SetBuilder {
         })
     }
 
-    /// Puts a part last.
+    /// Appends a part.
     fn push(&mut self, part: Part) -> Result<usize, AllocError>
         requires { made_before (length self.old.parts) part ≡ true }
         ensures grows { OnOk result (SetsGrow self.old.parts self.new.parts) }
@@ -104,7 +104,7 @@ impl SetBuilder {
         Ok(place)
     }
 
-    /// Puts a set last, negated if wanted.
+    /// Appends a set, negated if wanted.
     fn negate_if(&mut self, negated: bool, set: usize) -> Result<usize, AllocError>
         requires { set < length self.old.parts }
         ensures grows { OnOk result (SetsGrow self.old.parts self.new.parts) }
@@ -132,7 +132,7 @@ impl SetBuilder {
         }
     }
 
-    /// Puts what an item adds last.
+    /// Appends what an item adds.
     pub fn push_leaf(&mut self, leaf: Leaf) -> Result<usize, AllocError>
         ensures grows { OnOk result (SetsGrow self.old.parts self.new.parts) }
         ensures has { IfOk result (λ k. HasSet self.new.parts k (leaf_set leaf)) }

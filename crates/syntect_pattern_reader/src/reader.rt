@@ -67,7 +67,7 @@ impl Reader {
         })
     }
 
-    /// Puts the node of a group last.
+    /// Appends the node of a group.
     fn push_group(&mut self, wrap: Wrap, body: usize) -> Result<usize, AllocError>
         requires { body < length self.old.builder.nodes }
         ensures grows { OnOk result (Grows self.old.builder.nodes self.new.builder.nodes) }

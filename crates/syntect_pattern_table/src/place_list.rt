@@ -94,7 +94,7 @@ impl PlaceList {
         })
     }
 
-    /// Puts the places of one more node last. The slots are those of this list so far; others, or
+    /// Appends the places of one more node. The slots are those of this list so far; others, or
     /// empty ones, only find less.
     pub fn push(&mut self, slots: &mut Slots, places: Places) -> Result<(), AllocError>
         ensures ok { OnOk result (self.new ≡ self.old ++ places ∷ []) }

@@ -6,7 +6,7 @@ use std::alloc::{AllocError, Global};
 use std::ops::Range;
 use syntect_theme::style::{Style, StyleModifier};
 
-/// Puts a piece of a copied attribute last.
+/// Appends a piece of a copied attribute.
 fn push_piece<'a, A: Clone + Drop>(
     out: &mut Vec<(A, &'a str)>,
     attribute: &A,

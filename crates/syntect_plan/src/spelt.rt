@@ -82,7 +82,7 @@ impl Spelling {
     ghost use Rattle.syntect_letters.specs.Letters.{letters_tree};
     ghost use Rattle.syntect_pattern_table.specs.Builder.{Grows, Holds, tree_in};
 
-    /// Puts a node last.
+    /// Appends a node.
     fn push(&mut self, node: Node) -> Result<usize, AllocError>
         requires before { parts_before (length self.old.nodes) node ≡ true }
         requires spelt { is_text node ≡ false }
@@ -95,7 +95,7 @@ impl Spelling {
         Ok(place)
     }
 
-    /// Puts a letter last.
+    /// Appends a letter.
     fn push_letter(&mut self, fold: bool, letter: u8) -> Result<usize, AllocError>
         ensures grows { OnOk result (Grows self.old.nodes self.new.nodes) }
         ensures holds { IfOk result (λ k. Holds self.new.nodes k
@@ -125,7 +125,7 @@ impl Spelling {
         self.push(Node::Sequence(first, rest))
     }
 
-    /// Puts the same as the node last, whose parts have these new places.
+    /// Appends a copy of the node, whose parts have these new places.
     fn push_node(&mut self, node: &Node, places: &[usize]) -> Result<usize, AllocError>
         requires below { AllBelow (length self.old.nodes) places.now }
         requires before { parts_before (length places.now) node.now ≡ true }

@@ -115,7 +115,7 @@ impl Details {
         Ok(Details { rare })
     }
 
-    /// Equal ones.
+    /// A copy of the details.
     pub(crate) fn clone(&self, alloc: Global) -> Result<Details, AllocError>
         ensures { IfOk result (λ d. d ≡ self.now) }
     {
@@ -262,7 +262,7 @@ fn look_at(looks: &[Option<bool>], number: usize) -> Option<bool>
     looks.get(number).copied().unwrap_or(None)
 }
 
-/// What is kept of groups, once more.
+/// A copy of what is kept of groups.
 fn copied_looks(
     alloc: Global,
     looks: &Option<Seq<Option<bool>>>,
@@ -275,7 +275,7 @@ fn copied_looks(
     }
 }
 
-/// An equal one.
+/// A copy of the detail.
 fn copied(alloc: Global, detail: &Detail) -> Result<Detail, AllocError>
     ensures { IfOk result (λ d. d ≡ detail.now) }
 {

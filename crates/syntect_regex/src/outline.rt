@@ -18,7 +18,8 @@ use syntect_pattern_table::starts::{Places, anywhere, nowhere};
 use syntect_values::seq::Seq;
 use syntect_word_ends::ends::behind_runs;
 
-/// Where matches of a pattern can begin, and what else is kept of it. It is small beside a program.
+/// Where matches of a pattern can begin, and what else is kept of it.
+/// It is small compared with a program.
 #[derive(Drop)]
 pub(crate) struct Outline {
     /// What can stand at a place where a match begins.

@@ -556,7 +556,7 @@ fn is_special(c: char) -> bool
     )
 }
 
-/// Puts the character last, escaped if it can have a meaning of its own.
+/// Appends the character, escaped if it can have a meaning of its own.
 fn push_escaped(pattern: &mut String, c: char) -> Result<(), AllocError>
     ensures { OnOk result (string_bytes pattern.new
         ≡ string_bytes pattern.old ++ encode_utf8_all (escaped_char c)) }

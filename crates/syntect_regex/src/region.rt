@@ -71,7 +71,7 @@ impl Region {
         self.positions.get(group).copied().unwrap_or(None)
     }
 
-    /// An equal region.
+    /// A copy of the region.
     pub fn clone(&self, alloc: Global) -> Result<Region, AllocError>
         ensures { IfOk result (λ r. r ≡ self.now) }
     {

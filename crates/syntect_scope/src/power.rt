@@ -108,7 +108,7 @@ fn small_number(digits: &[u8]) -> Option<u64>
 }
 
 impl MatchPower {
-    /// Nought. Takes no memory.
+    /// Zero. Takes no memory.
     pub fn new(alloc: Global) -> MatchPower
         ensures { result ≡ 0 }
     {

@@ -109,7 +109,7 @@ pub fn words_of(alloc: Global, s: &str) -> Result<Vec<&str>, AllocError>
     s.split_whitespace().collect(alloc)
 }
 
-/// Puts a copy of a text last.
+/// Appends a copy of a text.
 fn push_text(atoms: &mut Vec<Text>, part: &str) -> Result<(), AllocError>
     ensures ok { OnOk result (atoms.new.items ≡ atoms.old.items ++ part.now ∷ []) }
     ensures err { OnErr result (atoms.new.items ≡ atoms.old.items) }
@@ -179,7 +179,7 @@ impl ScopeRepository {
         self.numbers.get(part).copied()
     }
 
-    /// The number of an atom, which it takes up unless it has it.
+    /// The number of an atom, which is added if the repository lacks it.
     fn number(&mut self, part: &str) -> Result<u16, ParseScopeError>
         ensures ok { IfOk result (λ n. (self.new ≡ with_atom self.old part.now) × (n ≡ number_in self.new part.now)) }
         ensures positive { IfOk result (λ n. 0 < n) }
@@ -215,7 +215,7 @@ impl ScopeRepository {
         let _ = &self.atoms;
     }
 
-    /// Takes the last atom back.
+    /// Removes the last atom.
     fn forget_last(&mut self)
         ensures { self.new ≡ take (length self.old - 1) self.old }
     {
@@ -231,8 +231,8 @@ impl ScopeRepository {
         self.atoms.len()
     }
 
-    /// Takes back the atoms after the first `held`, for a caller that took them up and then refused
-    /// what has them. A scope that has such an atom is another one afterwards, or none; every other
+    /// Removes the atoms after the first `held`, for a caller that added them and then refused what
+    /// has them. A scope that has such an atom is another one afterwards, or none; every other
     /// scope stays what it is. Takes no memory.
     pub fn forget(&mut self, held: usize)
         ensures { self.new ≡ take held self.old }
@@ -242,8 +242,8 @@ impl ScopeRepository {
         }
     }
 
-    /// The numbers of a text's parts between its dots, which it takes up. After an `Err` it may
-    /// have more atoms at its end.
+    /// The numbers of a text's parts between its dots, which are added where they are lacking.
+    /// After an `Err` it may have more atoms at its end.
     fn numbers(&mut self, text: &str) -> Result<Scope, ParseScopeError>
         requires { length (between_dots text.now) ≤ 8 }
         ensures ok { IfOk result (λ s. (self.new ≡ with_atoms self.old (between_dots text.now))
@@ -265,8 +265,7 @@ impl ScopeRepository {
         Ok(scope)
     }
 
-    /// Whether it would lack a part once it had taken up those before it, so many,
-    /// in the same text.
+    /// Whether it would lack a part once it had added those before it, so many, in the same text.
     fn lacks(&self, text: &str, before: usize, part: &str) -> bool
         ensures { result ≡ not (is_some
             (place_in (with_atoms self.now (take before (between_dots text.now))) part.now)) }
@@ -291,8 +290,8 @@ impl ScopeRepository {
         count
     }
 
-    /// Why it does not take up a text's parts between its dots: they are too many, or else there
-    /// was no memory.
+    /// Why it does not add a text's parts between its dots: they are too many,
+    /// or else there was no memory.
     fn refusal(&self, text: &str) -> ParseScopeError
         requires { length (between_dots text.now) ≤ 8 }
         ensures { result ≡ (if nat_lt 65534 (length (with_atoms self.now (between_dots text.now)))
@@ -307,7 +306,7 @@ impl ScopeRepository {
 
     /// The scope of a text: its parts between dots are the atoms. Dots at the end are cut, empty
     /// parts before them are atoms, and the empty text names the scope of no atoms. Atoms that the
-    /// repository lacks are taken up. A text of more than eight atoms is `TooLong`, whatever else
+    /// repository lacks are added. A text of more than eight atoms is `TooLong`, whatever else
     /// there is to say of it, and one of which there is no room for all atoms `TooManyAtoms`, also
     /// where there is no memory.
     pub fn build(&mut self, s: &str) -> Result<Scope, ParseScopeError>

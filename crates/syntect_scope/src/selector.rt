@@ -12,7 +12,7 @@ use syntect_values::seq::Seq;
 pub struct ScopeSelector {
     /// The scopes of the path, the outermost first.
     pub path: ScopeStack,
-    /// The exclusions: no stack in which one of them is found is meant.
+    /// The exclusions: a stack in which one of them is found is not matched.
     pub excludes: Seq<ScopeStack>,
 }
 

@@ -142,7 +142,7 @@ impl ScopeStack {
         self.scopes.len()
     }
 
-    /// Whether there are none.
+    /// Whether there are no scopes.
     pub fn is_empty(&self) -> bool
         ensures { IsTrue result ↔ (self.now.scopes ≡ []) }
     {

@@ -93,7 +93,7 @@ impl<'a> Highlighter<'a> {
     }
 
     /// The style of a stack of scopes, the bottom one first: for each attribute the value of the
-    /// rule that prevails, and the default where no rule sets it. Of no scopes this is the default
+    /// rule that prevails, and the default where no rule sets it. Without scopes it is the default
     /// too, but for rules with an empty path, which act everywhere.
     pub fn style_for_stack(&self, stack: &[Scope]) -> Result<Style, AllocError>
         ensures { IfOk result (λ s. s ≡ style_of self.now stack.now) }

@@ -126,8 +126,8 @@ impl KeptStyles {
     }
 
     /// Goes from a stack that is known to the one with this scope more on top. What is known of
-    /// that one is taken up again; else it is worked out, and what is known of
-    /// other stacks above goes.
+    /// that one is taken up again; else it is worked out, and what is known of other stacks above
+    /// is dropped.
     pub(crate) fn push(
         &mut self,
         highlighter: &Highlighter<'_>,

@@ -7,7 +7,8 @@ ghost use Rattle.syntect_theme.specs.Modifying.{bits_of};
 use crate::style::{Color, FontStyle};
 use std::fmt;
 
-/// On one line, also in the form of many lines, where the numbers stand right in three places.
+/// On one line, also in the form of many lines, where the numbers are aligned
+/// right in three columns.
 impl fmt::Debug for Color {
     ghost debug_output = { λ c. Some (color_text c) };
 

@@ -91,7 +91,7 @@ impl<T> Seq<T> {
         self.items.iter()
     }
 
-    /// Puts an element last. Without memory for it the elements stay,
+    /// Appends an element. Without memory for it the elements stay,
     /// and the refusal holds the element.
     pub fn push(&mut self, x: T) -> Result<(), AllocFailed<T>>
         ensures ok { OnOk result (self.new ≡ self.old ++ x ∷ []) }

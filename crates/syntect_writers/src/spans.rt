@@ -119,7 +119,7 @@ impl SpanWriter {
         Ok(())
     }
 
-    /// Puts the tag last that opens a span of a style.
+    /// Appends the tag that opens a span of a style.
     fn open_span(&mut self, out: &mut Tail, style: Style) -> Result<(), AllocError>
         ensures kept { self.new ≡ self.old }
         ensures front { out.new.front ≡ out.old.front }
@@ -132,8 +132,8 @@ impl SpanWriter {
         push_tag(out, self.ground, style)
     }
 
-    /// Puts a piece last, after those whose span is open. Answers the style of the span that is
-    /// then open.
+    /// Appends a piece, after those whose span is open. Answers the style of the span
+    /// that is then open.
     fn push_piece(
         &mut self,
         out: &mut Tail,
@@ -161,7 +161,7 @@ impl SpanWriter {
         }
     }
 
-    /// Puts a line of pieces last, as spans.
+    /// Appends a line of pieces, as spans.
     fn push_line(&mut self, out: &mut Tail, v: &[(Style, &str)]) -> Result<(), AllocError>
         ensures kept { self.new ≡ self.old }
         ensures front { out.new.front ≡ out.old.front }
@@ -179,8 +179,8 @@ impl SpanWriter {
         Ok(())
     }
 
-    /// Puts a line of styled pieces last, as `append_highlighted_html_for_styled_line` does.
-    /// Without memory the text is as it was.
+    /// Appends a line of styled pieces, as `append_highlighted_html_for_styled_line` does. Without
+    /// memory the text is as it was.
     pub fn append(&mut self, v: &[(Style, &str)], s: &mut String) -> Result<(), AllocError>
         ensures kept { self.new ≡ self.old }
         ensures ok { OnOk result

@@ -59,7 +59,7 @@ impl Tail {
         text
     }
 
-    /// Puts a text last.
+    /// Appends a text.
     pub(crate) fn push_str(&mut self, part: &str) -> Result<(), AllocError>
         ensures front { self.new.front ≡ self.old.front }
         ensures back { OnOk result (self.new.back ≡ self.old.back ++ part.now) }
@@ -67,7 +67,7 @@ impl Tail {
         self.text.push_str(part)
     }
 
-    /// Puts a character last.
+    /// Appends a character.
     pub(crate) fn push(&mut self, c: char) -> Result<(), AllocError>
         ensures front { self.new.front ≡ self.old.front }
         ensures back { OnOk result (self.new.back ≡ self.old.back ++ encode_utf8 c) }
@@ -75,7 +75,7 @@ impl Tail {
         self.text.push(c)
     }
 
-    /// Puts a text last, as HTML has it.
+    /// Appends a text, as HTML has it.
     pub(crate) fn push_escaped(&mut self, text: &str) -> Result<(), AllocError>
         ensures front { self.new.front ≡ self.old.front }
         ensures back { OnOk result (self.new.back ≡ self.old.back ++ escaped text.now) }

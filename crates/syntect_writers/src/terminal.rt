@@ -30,7 +30,7 @@ fn blend(over: Color, under: Color) -> Color
     }
 }
 
-/// Puts the escape sequence of a colour last.
+/// Appends the escape sequence of a colour.
 fn push_sequence(out: &mut String, number: &str, color: Color) -> Result<(), AllocError>
     ensures { OnOk result (string_bytes out.new
         ≡ string_bytes out.old ++ sequence number.now color) }
@@ -47,7 +47,7 @@ fn push_sequence(out: &mut String, number: &str, color: Color) -> Result<(), All
     Ok(())
 }
 
-/// Puts a piece last.
+/// Appends a piece.
 fn push_piece(out: &mut String, style: Style, text: &str, bg: bool) -> Result<(), AllocError>
     ensures { OnOk result (string_bytes out.new
         ≡ string_bytes out.old ++ piece_text bg (style, text.entry)) }
