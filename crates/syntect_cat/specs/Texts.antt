@@ -21,7 +21,7 @@ use Rattle.syntect.specs.PlainLines.{AreLinesOf, Shown, first_plain, pieces_in}
 use Rattle.syntect_cat.specs.declared.job.Format.{Format}
 use Rattle.syntect_cat.specs.declared.job.Format.TheVariants.{Html, Terminal}
 
--- when spans of HTML tell the colour behind them: where it isn't the one behind the theme's text; a
+-- when spans of HTML give the colour behind them: where it isn't the one behind the theme's text; a
 -- terminal has no spans
 abbrev pub ground_of : Format → Theme → Option IncludeBackground
 ground_of Html theme = Some (IfDifferent (background_of theme))

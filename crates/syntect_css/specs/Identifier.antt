@@ -4,7 +4,7 @@ use Rattle.std.specs.Char.{is_ascii_alphabetic, is_ascii_digit}
 use Rattle.std.specs.Fmt.{digits}
 use Rattle.std.specs.List.{flat_map}
 
--- a character stands in an identifier as it is: a letter, a hyphen, a low line, or a digit that
+-- a character stands in an identifier as it is: a letter, a hyphen, an underscore, or a digit that
 -- isn't its first character
 abbrev pub stands : Bool → ℕ → Bool
 stands first c =

@@ -55,7 +55,7 @@ impl<'a> ScopedMetadata<'a> {
         None
     }
 
-    /// Whether the first pattern of a kind matches at the begin of a line.
+    /// Whether the first pattern of a kind matches at the start of a line.
     fn asks(&self, kind: Kind, line: &str) -> Result<bool, AllocError>
         ensures { IfOk result (λ yes. yes
             ≡ answer (pattern_for kind) (map (λ p. (p.0, p.1.now)) self.now.items) line.now) }
@@ -66,7 +66,7 @@ impl<'a> ScopedMetadata<'a> {
         }
     }
 
-    /// Whether a line is not looked at: the first `unIndentedLinePattern` matches at its begin.
+    /// Whether a line is not looked at: the first `unIndentedLinePattern` matches at its start.
     pub fn unindented_line(&self, line: &str) -> Result<bool, AllocError>
         ensures { IfOk result (λ yes. yes
             ≡ answer (λ i. i.unindented_line_pattern)
@@ -76,7 +76,7 @@ impl<'a> ScopedMetadata<'a> {
     }
 
     /// Whether a line is indented by one less:
-    /// the first `decreaseIndentPattern` matches at its begin.
+    /// the first `decreaseIndentPattern` matches at its start.
     pub fn decrease_indent(&self, line: &str) -> Result<bool, AllocError>
         ensures { IfOk result (λ yes. yes
             ≡ answer (λ i. i.decrease_indent_pattern)
@@ -86,7 +86,7 @@ impl<'a> ScopedMetadata<'a> {
     }
 
     /// Whether the lines after a line are indented by one more: the first `increaseIndentPattern`
-    /// matches at its begin.
+    /// matches at its start.
     pub fn increase_indent(&self, line: &str) -> Result<bool, AllocError>
         ensures { IfOk result (λ yes. yes
             ≡ answer (λ i. i.increase_indent_pattern)
@@ -96,7 +96,7 @@ impl<'a> ScopedMetadata<'a> {
     }
 
     /// Whether the one line after a line is indented by one more: the first
-    /// `bracketIndentNextLinePattern` matches at its begin.
+    /// `bracketIndentNextLinePattern` matches at its start.
     pub fn bracket_increase(&self, line: &str) -> Result<bool, AllocError>
         ensures { IfOk result (λ yes. yes
             ≡ answer (λ i. i.bracket_indent_next_line_pattern)
@@ -106,7 +106,7 @@ impl<'a> ScopedMetadata<'a> {
     }
 
     /// Whether the line after a line is not indented by one more: the first
-    /// `disableIndentNextLinePattern` matches at its begin.
+    /// `disableIndentNextLinePattern` matches at its start.
     pub fn disable_indent_next_line(&self, line: &str) -> Result<bool, AllocError>
         ensures { IfOk result (λ yes. yes
             ≡ answer (λ i. i.disable_indent_next_line_pattern)

@@ -23,7 +23,8 @@ pub enum Item {
 pub enum Source {
     /// The cell's own: the same goes on at its place and after it.
     Own,
-    /// Those of another cell, a loop that takes one turn at least where this one may take none.
+    /// The cells of the parts of another cell, a loop that takes one turn at least where this one
+    /// may take none.
     Shared(usize),
     /// Besides its own, those of another cell, which has the same item before what goes on after
     /// this one alone.

@@ -347,7 +347,7 @@ fn begins_tried(
     let allowed = meter.allowed(granted);
     match begins_within(search, program, text, place, granted, meter)? {
         Some(found) => {
-            // A character of a stretch, which is gone through forth and back,
+            // A character of a stretch, which is gone through back and forth,
             // counts as a step more here
             let steps = allowed.saturating_sub(search.left);
             known.spend(all, steps.saturating_add(search.read));

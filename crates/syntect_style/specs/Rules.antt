@@ -82,7 +82,7 @@ IsBelow n None = Unit {0}
 IsBelow n (Some c) = (p : ℕ) × (c.score.place ≡ Some p) × (p < n)
 
 -- It is worth what the single rule is worth that prevails in a stack. Its place is one of the
--- stack, and where powers are nought need not be that rule's.
+-- stack, and where powers are zero need not be that rule's.
 pub record Stands (V : Type 0) (attribute : StyleModifier → Option V) (theme : Theme)
     (stack : List (List ℕ)) (c : Option (Candidate V)) : Type 0 where
   pub same : worth c ≡ worth (after_rules attribute stack None (single_rules theme))

@@ -11,14 +11,14 @@ use std::mem::replace;
 use syntect_theme::style::{Color, FontStyle, Style};
 use syntect_theme::theme::Theme;
 
-/// Whether spans tell the colour behind their text.
+/// Whether spans give the colour behind their text.
 #[derive(Clone, Copy, Debug, PartialEq, Eq)]
 pub enum IncludeBackground {
-    /// Spans don't tell it.
+    /// Spans don't give it.
     No,
-    /// Spans tell it.
+    /// Spans give it.
     Yes,
-    /// Spans tell it where it is another colour than this one, which stands behind all of them.
+    /// Spans give it where it is another colour than this one, which stands behind all of them.
     IfDifferent(Color),
 }
 
@@ -89,7 +89,7 @@ pub(crate) fn same_style(left: Style, right: Style) -> bool
         && left.font_style.bits() == right.font_style.bits()
 }
 
-/// Whether a span of this style tells the colour behind its text.
+/// Whether a span of this style gives the colour behind its text.
 fn tells_background(bg: IncludeBackground, style: Style) -> bool
     ensures { result ≡ tells_background bg style }
 {

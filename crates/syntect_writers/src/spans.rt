@@ -73,7 +73,7 @@ fn tag_of(alloc: Global, ground: IncludeBackground, style: Style) -> Result<Stri
 }
 
 impl SpanWriter {
-    /// A writer of spans that tell the colour behind their text so. Takes no memory.
+    /// A writer of spans that give the colour behind their text so. Takes no memory.
     pub fn new(alloc: Global, bg: IncludeBackground) -> SpanWriter
         ensures { result ≡ bg }
     {
@@ -84,7 +84,7 @@ impl SpanWriter {
         }
     }
 
-    /// A writer of spans that tell the colour behind their text so, where no tag is worth keeping.
+    /// A writer of spans that give the colour behind their text so, where no tag is worth keeping.
     /// It never takes memory of its own.
     pub(crate) fn of_one_line(alloc: Global, bg: IncludeBackground) -> SpanWriter
         ensures { result ≡ bg }

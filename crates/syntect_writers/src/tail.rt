@@ -7,8 +7,8 @@ use crate::text::split_plain;
 use std::alloc::AllocError;
 use std::marker::Model;
 
-/// A text and what is written after it. Whatever is refused, the text in front stays and
-/// can be had again.
+/// A text and what is written after it. Whatever is refused, the text in front stays and can be
+/// taken out again.
 #[derive(Drop)]
 pub(crate) struct Tail {
     text: String,
