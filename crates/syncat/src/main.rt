@@ -1,7 +1,8 @@
 //! `syncat FOLDER THEME html|term FILE` writes a text file, highlighted, to standard output.
 //!
-//! FOLDER has the grammars and THEME is a theme. The text is a page of HTML, or lines for a terminal of 24 bit colours. The
-//! status is 0; after wrong words it is 2, and after any other fault 1, with a line that tells of it on standard error.
+//! FOLDER has the grammars and THEME is a theme. The text is a page of HTML, or lines for a
+//! terminal of 24 bit colours. The status is 0; after wrong words it is 2, and after any other
+//! fault 1, with a line that tells of it on standard error.
 #![tactic(auto)]
 
 use std::process::ExitCode;

@@ -65,13 +65,13 @@ operation_refused g line after ops (error.ParseSyntax e) a r = absurd r
 operation_refused g line after ops (error.ParseScope e) a r = absurd r
 operation_refused g line after ops (error.Pattern e) a r = absurd r
 
--- or memory runs out behind its reading
+-- or memory runs out after its reading
 pub memory_refused : (g : ClassedHTMLGenerator) (line : List ℕ) (after : Standing) (ops : List (ℕ × ScopeStackOp)) → Accepts dialect (set_in g) line (state_in g) after ops → RefusesLineOf g line error.Memory
 memory_refused g line after ops a = a.reads.on_levels
 
 -- ---- what is remembered ----
 
--- the stack behind operations is the one that replaying them leaves
+-- the stack after operations is the one that replaying them leaves
 pub replay_stack : (ops : List (ℕ × ScopeStackOp)) (r : Replay) → (replay ops r).stack ≡ stack_after r.stack ops
 replay_stack [] r = refl
 replay_stack (o ∷ os) r = replay_stack os (replayed r o)

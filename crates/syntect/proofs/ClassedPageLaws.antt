@@ -24,9 +24,9 @@ use Rattle.syntect.proofs.ClassedLaws.{replay_stack, new_restores, line_restores
 use Rattle.syntect.proofs.LeadLaws.{orderly_before, starts_empty}
 use Rattle.syntect.proofs.PageLaws.{map_last}
 
--- ---- stacks behind lines ----
+-- ---- stacks after lines ----
 
--- the stack behind lines
+-- the stack after lines
 abbrev pub behind : ScopeStack → List Line → ScopeStack
 behind stack [] = stack
 behind stack (l ∷ ls) = behind (stack_after stack l.1) ls
@@ -47,7 +47,7 @@ order_last : (ls : List Line) (l : Line) → AreInOrder ls → AreInOrder (l ∷
 order_last [] l h k = k
 order_last (m ∷ ls) l h k = (h.0, order_last ls l h.1 k)
 
--- lists joined, and one more behind them
+-- lists joined, and one more after them
 abbrev all_of : {X : Type 0} → List (List X) → List X
 all_of xss = flat_map (λ xs. xs) xss
 
@@ -64,8 +64,9 @@ texts (l ∷ ls) = ap (λ xs. l.0 ++ xs) (texts ls)
 abbrev pub lines_in : List Line → List (List ℕ)
 lines_in ls = map (λ l. l.0) ls
 
--- These lines were accepted, with these scopes; the text so far and what is written of more lines is the page of all of them;
--- and where lines are orderly the generator's stack is that of its levels.
+-- These lines were accepted, with these scopes; the text so far and what is written of more lines
+-- is the page of all of them; and where lines are orderly the generator's stack is
+-- that of its levels.
 record HasGiven (set : SyntaxSet) (syntax : SyntaxReference) (repository : List (List ℕ)) (style : ClassStyle) (given : List (List ℕ)) (g : ClassedHTMLGenerator) : Type 0 where
   lines : List Line
   scopes : List (List (List (List ℕ)))

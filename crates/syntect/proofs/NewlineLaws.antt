@@ -63,7 +63,8 @@ front_of_front (x ∷ xs) (y ∷ ys) (z ∷ zs) e f =
     let t : take (length zs) xs ≡ zs = front_of_front xs ys zs (same_rest x y _ _ e) (same_rest y z _ _ f) in
     ap (λ k. k ∷ take (length zs) xs) h ∙ ap (λ l. z ∷ l) t
 
--- where the bytes that are left are known, and these are a front of them, a front of their first line is one of the first line that is left
+-- where the bytes that are left are known, and these are a front of them, a front of their first
+-- line is one of the first line that is left
 pub front_known : (left : Option (List ℕ)) (bytes line : List ℕ) → IfSome left (λ xs. StartsWith xs bytes) → StartsWith (take_through 10 bytes) line → IfSome left (λ xs. StartsWith (take_through 10 xs) line)
 front_known None bytes line h e = tt
 front_known (Some xs) bytes line h e = front_of_front (take_through 10 xs) (take_through 10 bytes) line (front_through xs bytes h) e

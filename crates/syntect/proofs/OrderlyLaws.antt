@@ -1,4 +1,5 @@
--- Where nothing clears, all lines are orderly; and a set of definitions that clear nothing clears nothing.
+-- Where nothing clears, all lines are orderly; and a set of definitions that
+-- clear nothing clears nothing.
 use Rattle.std.proofs.Common.{◌≡◌, ℕ, true, is_none, List, [], ◌∷◌, map, drop, refl, sym, ap, ◌∙◌, Option, Some, None}
 use Rattle.std.specs.Prelude.{slice_get}
 use Rattle.std.specs.List.{list_all, filter_map}

@@ -92,7 +92,7 @@ stopped_at_line set definitions theme syntax had left after last bytes rows line
 stopped_at_line set definitions theme syntax had left after last bytes rows line h new (error.ParseScope e) s l g k u = absurd l
 stopped_at_line set definitions theme syntax had left after last bytes rows line h new (error.Pattern e) s l g k u = absurd l
 
--- a fault of reading comes behind the rows so far
+-- a fault of reading comes after the rows so far
 pub stopped_behind : (set : SyntaxSet) (theme : Theme) (syntax : SyntaxReference) (had left : Option (List ℕ)) (last : List ℕ) (rows : List Row) (h : HighlightLines)
     → AreRowsSoFar set theme syntax had left last rows h → (text : List ℕ) × IsTextOf had text × IsReadUpTo set syntax text
 stopped_behind set theme syntax had left last rows h s =

@@ -45,7 +45,7 @@ taken_some c cs =
       | inr e ↦ rw (e) (let q : 0 < suc (length (take_through 10 cs)) = omega arith in q)
     ]
 
--- what is left behind a line that none can follow is nothing
+-- what is left after a line that none can follow is nothing
 pub taken_last : (bs : List ℕ) → CanFollow (take_through 10 bs) (drop_through 10 bs)
 taken_last [] = λ e. refl
 taken_last (b ∷ []) =
@@ -129,7 +129,7 @@ given : (had left : Option (List ℕ)) (last line : List ℕ) (b : Bool) → can
 given had left last line true g some none s e d = (some refl, s, g, taken_known had left line e d)
 given had left last line false g some none s e d = λ _. none_known had line e (none refl)
 
--- a line that was read behind nothing
+-- a line that was read after nothing
 pub next_read : (had left : Option (List ℕ)) (last old line : List ℕ) (n : ℕ) → can_go_on last ≡ true → old ≡ [] → length line ≡ n → StopsAt (appended_bytes old line) 10
     → IfSome had (λ bytes. line ≡ old ++ take_through 10 bytes) → DropsThrough had left 10 → GivesNext had last left line (nat_lt 0 n)
 next_read had left last old line n g z k s e d =
@@ -178,7 +178,8 @@ none_left had left after done last bytes k g =
     sym (s.2 ∙ ap (λ xs. done ++ xs) end ∙ append-nil done))
     k
 
--- the text is what was read and what is left, which is taken to be nothing where the reader doesn't tell
+-- the text is what was read and what is left, which is taken to be nothing where
+-- the reader doesn't tell
 pub text_with_rest : (had left : Option (List ℕ)) (done last : List ℕ) → IsLeft had left done last → (rest : List ℕ) × CanFollow last rest × IsTextOf had (done ++ rest)
 text_with_rest None left done last k = ([], λ _. refl, tt)
 text_with_rest (Some text) left done last k = (k.0, k.3, sym k.2)

@@ -1,4 +1,5 @@
--- Sets that were built of loaded definitions: nothing leads out of them, and no text leaves `__start`.
+-- Sets that were built of loaded definitions: nothing leads out of them,
+-- and no text leaves `__start`.
 use Rattle.std.proofs.Common.{◌≡◌, ◌≢◌, ◌==◌, ℕ, zero, suc, Bool, true, false, is_none, List, [], ◌∷◌, ◌++◌, map, refl, sym, ap, ◌∙◌, arith, Option, Some, None, subst}
 use Rattle.std.specs.Prelude.{position, codes, IfSome, All, slice_get}
 use Rattle.std.specs.Option.{option_map, option_and_then}

@@ -26,7 +26,8 @@ use Rattle.syntect.specs.declared.classed.ClassedHTMLGenerator.{ClassedHTMLGener
 use Rattle.syntect.specs.declared.easy.HighlightLines.{HighlightLines}
 use Rattle.syntect.specs.declared.within.HighlightWithinError.{HighlightWithinError}
 
--- a line that is not read leads on as one that is refused, and as one without memory where it reached a limit
+-- a line that is not read leads on as one that is refused, and as one without memory where it
+-- reached a limit
 pub lead_stopped : (set : SyntaxSet) (theme : Theme) (syntax : SyntaxReference) (lines : List (List ℕ)) (answers : List Answer) (line : Bor (List ℕ)) (h next : HighlightLines) (w : ReadWithinError) → AnswersMore → HoldsSame h next
     → Leads set theme syntax lines answers h → MayRefuseWithin dialect set line.now (standing (reader_of h)) w → LeadsOn set theme syntax lines answers line next (Err (refusal_of (from_reading w)))
 lead_stopped set theme syntax lines answers line h next (reading.Refused e) more s l r = lead_refused set theme syntax lines answers line h next e more s l r

@@ -18,7 +18,8 @@ start_context d =
     option_and_then (slice_get (map (λ entry. entry.1) d.contexts))
     (position (pointwise ◌==◌ (codes "__start")) (names_of d.contexts))
 
--- `__start` has no `meta_scope`, at most one content scope and clears nothing, as in every grammar that is loaded
+-- `__start` has no `meta_scope`, at most one content scope and clears nothing, as in every grammar
+-- that is loaded
 abbrev pub IsPlain : SyntaxDefinition → Type 0
 IsPlain d =
     IfSome (start_context d)
@@ -50,7 +51,8 @@ pub record IsBuilt (set : SyntaxSet) (definitions : List SyntaxDefinition) : Typ
   pub links : syntaxes_in set ≡ linked definitions
   pub plain : All IsPlain definitions
 
--- Nothing that is looked at in `__start` alone pops it or sets another context in its place: a text never leaves it.
+-- Nothing that is looked at in `__start` alone pops it or sets another context in its place: a text
+-- never leaves it.
 abbrev pub StaysInStart : SyntaxSet → SyntaxReference → Type 0
 StaysInStart set syntax =
     IfSome (start_id syntax) (λ id. list_all (λ m. stays m.operation) (lone_patterns set id) ≡ true)

@@ -24,7 +24,8 @@ RefusesOperations stack ops e = ⊥
 
 -- ---- a generator of pages with classes ----
 
--- its text so far, the stack of the scopes whose spans are open, and where it stands in the text that it reads
+-- its text so far, the stack of the scopes whose spans are open, and where it stands in the text
+-- that it reads
 abbrev pub text_so_far : ClassedHTMLGenerator → List ℕ
 text_so_far g = string_bytes g.html
 
@@ -64,8 +65,8 @@ pub record StaysAt (g h : ClassedHTMLGenerator) : Type 0 where
   pub state : state_in h ≡ state_in g
   pub goes_on : GoesOn g h
 
--- A line was accepted: the text has grown by what the line's operations, which mean its reading, write; the spans of the
--- scopes on the stack behind them are open; and it stands behind the line.
+-- A line was accepted: the text has grown by what the line's operations, which mean its reading,
+-- write; the spans of the scopes on the stack after them are open; and it stands after the line.
 pub record AddsLine (line : List ℕ) (before after : ClassedHTMLGenerator) : Type 0 where
   pub ops : List (ℕ × ScopeStackOp)
   pub accepted : Accepts dialect (set_in before) line (state_in before) (state_in after) ops
@@ -75,13 +76,14 @@ pub record AddsLine (line : List ℕ) (before after : ClassedHTMLGenerator) : Ty
   pub stack : stack_in after ≡ stack_after (stack_in before) ops
   pub goes_on : GoesOn before after
 
--- Its stack remembers at least a list for each open level whose context clears. In a set of loaded definitions it is so before
--- the first line, and stays so.
+-- Its stack remembers at least a list for each open level whose context clears. In a set of loaded
+-- definitions it is so before the first line, and stays so.
 abbrev pub CanRestore : ClassedHTMLGenerator → Type 0
 CanRestore g = Remembers (set_in g) (state_in g).levels (stack_in g)
 
--- A line was refused: by its reading; or, only where too little is remembered, since one of the operations of its reading
--- restores and nothing is; or memory ran out, but not where no level is open.
+-- A line was refused: by its reading; or, only where too little is remembered, since one of the
+-- operations of its reading restores and nothing is; or memory ran out,
+-- but not where no level is open.
 abbrev pub RefusesLineOf : ClassedHTMLGenerator → List ℕ → Error → Type 0
 RefusesLineOf g line (error.ParsingError e) =
     (turns : ℕ) × RefusesLine dialect (set_in g) line (state_in g) e turns
@@ -96,6 +98,6 @@ RefusesLineOf g line e = ⊥
 abbrev pub closing_tags : ℕ → List ℕ
 closing_tags n = flat_map (λ tag. tag) (replicate n closing_tag)
 
--- its text, behind which all spans are closed that are open
+-- its text, after which all open spans are closed
 abbrev pub closed_text : ClassedHTMLGenerator → List ℕ
 closed_text g = text_so_far g ++ closing_tags (length (stack_in g).scopes)

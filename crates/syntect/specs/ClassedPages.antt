@@ -16,7 +16,8 @@ use Rattle.syntect.specs.declared.classed.ClassedHTMLGenerator.{ClassedHTMLGener
 
 -- ---- lines given to a generator ----
 
--- A new generator was given lines, of which it accepted these, one after another; those that it refused leave it as it was.
+-- A new generator was given lines, of which it accepted these, one after another; those that it
+-- refused leave it as it was.
 pub data IsGiven (set : SyntaxSet) (syntax : SyntaxReference) (repository : List (List ℕ))
     (style : ClassStyle) : List (List ℕ) → ClassedHTMLGenerator → Type 0 where
   no_lines : {g : ClassedHTMLGenerator} → start_of syntax ≡ Some (state_in g)
@@ -30,8 +31,8 @@ pub data IsGiven (set : SyntaxSet) (syntax : SyntaxReference) (repository : List
       → IsGiven set syntax repository style lines g → StaysAt g h
       → IsGiven set syntax repository style lines h
 
--- The generator stands after these lines, which it accepted one after another from the start of the syntax; and where the
--- syntax begins plain it can restore what was cleared.
+-- The generator stands after these lines, which it accepted one after another from the start of the
+-- syntax; and where the syntax begins plain it can restore what was cleared.
 pub record StandsAfter (set : SyntaxSet) (syntax : SyntaxReference) (lines : List (List ℕ))
     (g : ClassedHTMLGenerator) : Type 0 where
   pub start : Standing
@@ -50,9 +51,10 @@ GivenStands =
 
 -- ---- their page ----
 
--- The lines were accepted one after another from the start of the syntax, each byte with its scopes. Whoever reads the page
--- byte by byte sees the lines, joined, each byte as HTML writes it, under tags; meets no closing tag where none is open; and
--- has none open in the end. Under a premise the tags of a byte are those of the scopes that it was read with.
+-- The lines were accepted one after another from the start of the syntax, each byte with its
+-- scopes. Whoever reads the page byte by byte sees the lines, joined, each byte as HTML writes it,
+-- under tags; meets no closing tag where none is open; and has none open in the end. Under a
+-- premise the tags of a byte are those of the scopes that it was read with.
 pub record IsClassedPage (premise : Type 0) (set : SyntaxSet) (syntax : SyntaxReference)
     (repository : List (List ℕ)) (prefix : List ℕ) (lines : List (List ℕ))
     (page : List ℕ) : Type 0 where
@@ -71,8 +73,8 @@ pub record IsClassedPage (premise : Type 0) (set : SyntaxSet) (syntax : SyntaxRe
 abbrev pub ShowsScopes : SyntaxSet → SyntaxReference → List (List ℕ) → Type 0
 ShowsScopes set syntax lines = BeginsPlain set syntax × RunsOrderly set syntax lines
 
--- The text of a generator, with all spans closed, is the page of the lines that it accepted, with the scopes of each byte where
--- the syntax begins plain and the lines are orderly.
+-- The text of a generator, with all spans closed, is the page of the lines that it accepted, with
+-- the scopes of each byte where the syntax begins plain and the lines are orderly.
 abbrev pub ClosedIsPage : Type 0
 ClosedIsPage =
     (set : SyntaxSet) (syntax : SyntaxReference) (repository : List (List ℕ)) (style : ClassStyle)

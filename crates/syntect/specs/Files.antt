@@ -16,7 +16,8 @@ use Rattle.syntect_grammar.specs.declared.error.Error.TheVariants as error
 use Rattle.syntect.specs.Leads.{LacksStart, OnlyParsing}
 use Rattle.syntect.specs.Pages.{IsPageOfBytes, IsStopped}
 
--- the syntax of the set that the path of a file tells, or else its first line, or else that of plain text
+-- the syntax of the set that the path of a file tells, or else its first line, or else that of
+-- plain text
 pub record IsSyntaxFor (set : SyntaxSet) (path : List ℕ) (syntax : SyntaxReference) : Type 0 where
   pub line : List ℕ
   pub text : IsUtf8 line
@@ -24,30 +25,32 @@ pub record IsSyntaxFor (set : SyntaxSet) (path : List ℕ) (syntax : SyntaxRefer
   pub place : ℕ
   pub among : slice_get (syntaxes_in set) place ≡ Some syntax
 
--- The line is the first one of the bytes, up to and with its newline: whole where something stands after it, else perhaps
--- without a last character that is cut off.
+-- The line is the first one of the bytes, up to and with its newline: whole where something stands
+-- after it, else perhaps without a last character that is cut off.
 pub record IsFirstOf (bytes line : List ℕ) : Type 0 where
   pub front : StartsWith (take_through 10 bytes) line
   pub nearly : length (take_through 10 bytes) < length line + 4
   pub whole : length (take_through 10 bytes) < length bytes → line ≡ take_through 10 bytes
 
--- The line is the first one of what was read at once of the bytes that were left: of a front of them, which is empty only
--- where nothing is left.
+-- The line is the first one of what was read at once of the bytes that were left: of a front of
+-- them, which is empty only where nothing is left.
 pub record IsAskedOf (left line : List ℕ) : Type 0 where
   pub given : List ℕ
   pub front : StartsWith left given
   pub some : length given ≡ 0 → left ≡ []
   pub first : IsFirstOf given line
 
--- It is that syntax; and where it is known what is left of the file, the line that was asked is a front of the first one
--- that is left, and where the path tells nothing that of what was read at once.
+-- It is that syntax; and where it is known what is left of the file, the line that was asked is a
+-- front of the first one that is left, and where the path tells nothing that of what
+-- was read at once.
 pub record IsToldSyntax (set : SyntaxSet) (path : List ℕ) (left : Option (List ℕ))
     (syntax : SyntaxReference) : Type 0 where
   pub is_for : IsSyntaxFor set path syntax
   pub front : IfSome left (λ xs. StartsWith (take_through 10 xs) is_for.line)
   pub asked : None ≡ found_by_file_name set path → IfSome left (λ xs. IsAskedOf xs is_for.line)
 
--- It is the syntax of plain text, since the path tells nothing, and the searches of the first line reached the limit of steps.
+-- It is the syntax of plain text, since the path tells nothing, and the searches of the first line
+-- reached the limit of steps.
 pub record IsPlainInstead (limits : Limits) (set : SyntaxSet) (path : List ℕ)
     (syntax : SyntaxReference) : Type 0 where
   pub limited : limit_of limits.steps ≢ None
@@ -67,8 +70,8 @@ abbrev pub IsToldWithin : Limits → SyntaxSet → List ℕ → Option (List ℕ
 IsToldWithin limits set path left syntax None = IsToldSyntax set path left syntax
 IsToldWithin limits set path left syntax (Some limit) = IsPlainInstead limits set path syntax
 
--- no line of a file is read: no syntax is there for it, or the syntax has no `__start`, or the file is not read, or there was
--- no memory
+-- no line of a file is read: no syntax is there for it, or the syntax has no `__start`, or the file
+-- is not read, or there was no memory
 abbrev pub HasNoLines : SyntaxSet → List ℕ → Error → Type 0
 HasNoLines set path error.NoSyntax =
     (line : List ℕ) × IsUtf8 line
@@ -78,7 +81,8 @@ HasNoLines set path e =
     OnlyParsing (λ e. (syntax : SyntaxReference) × IsSyntaxFor set path syntax
     × LacksStart syntax (error.ParsingError e)) e
 
--- There is no plain text to stand in for the syntax of a file whose first line reached the limit, or it has no `__start`.
+-- There is no plain text to stand in for the syntax of a file whose first line reached the limit,
+-- or it has no `__start`.
 pub record LacksInstead (limits : Limits) (set : SyntaxSet) (path : List ℕ) (e : Error) : Type 0 where
   pub limited : limit_of limits.steps ≢ None
   pub unnamed : found_by_file_name set path ≡ None

@@ -72,22 +72,24 @@ LacksStart syntax (error.ParsingError parsing.MissingMainContext) = start_of syn
 LacksStart syntax error.Memory = start_of syntax ≢ None
 LacksStart syntax e = ⊥
 
--- The syntax's `__start` clears nothing, and has no `meta_scope` and at most one content scope in the set, as loaded
--- grammars have it.
+-- The syntax's `__start` clears nothing, and has no `meta_scope` and at most one content scope in
+-- the set, as loaded grammars have it.
 abbrev pub BeginsPlain : SyntaxSet → SyntaxReference → Type 0
 BeginsPlain set syntax = (start : Standing) → start_of syntax ≡ Some start → HasPlainStart set start
 
 -- ---- lines one after another ----
 
--- What contexts clear in these lines, as far as they are accepted, read one after another from the start of the syntax, is
--- put back in the order in which it was cleared. In a set that clears nothing all lines are so: a law.
+-- What contexts clear in these lines, as far as they are accepted, read one after another from the
+-- start of the syntax, is put back in the order in which it was cleared. In a set that clears
+-- nothing all lines are so: a law.
 abbrev pub RunsOrderly : SyntaxSet → SyntaxReference → List (List ℕ) → Type 0
 RunsOrderly set syntax lines =
     (start : Standing) → start_of syntax ≡ Some start → IsOrderlyRun dialect set lines start
 
--- These are the answers to these lines, read one after another from the start of the syntax, and h is what a
--- highlighter of this theme then holds. Its styles stand on a stack that remembers a list at least for each level that
--- clears; where the lines are orderly, that stack is the one of the levels.
+-- These are the answers to these lines, read one after another from the start of the syntax, and h
+-- is what a highlighter of this theme then holds. Its styles stand on a stack that remembers a list
+-- at least for each level that clears; where the lines are orderly,
+-- that stack is the one of the levels.
 pub record Leads (set : SyntaxSet) (theme : Theme) (syntax : SyntaxReference)
     (lines : List (List ℕ)) (answers : List Answer) (h : HighlightLines) : Type 0 where
   pub start : Standing
@@ -102,8 +104,9 @@ pub record Leads (set : SyntaxSet) (theme : Theme) (syntax : SyntaxReference)
 
 -- ---- the past of a highlighter ----
 
--- what a highlighter may come from: definitions, a theme, a syntax, and lines that it was given, with their answers. It is
--- not kept anywhere: several may fit what a highlighter holds, and none where lines were read with another set.
+-- what a highlighter may come from: definitions, a theme, a syntax, and lines that it was given,
+-- with their answers. It is not kept anywhere: several may fit what a highlighter holds, and none
+-- where lines were read with another set.
 pub record Past : Type 0 where
   pub definitions : List SyntaxDefinition
   pub theme : Theme
@@ -111,8 +114,9 @@ pub record Past : Type 0 where
   pub lines : List (List ℕ)
   pub answers : List Answer
 
--- The set was built of the past's definitions, and its syntax is one of the set. Its lines, read one after another from
--- the start of that syntax, have its answers, and h is what a highlighter of its theme then holds.
+-- The set was built of the past's definitions, and its syntax is one of the set. Its lines, read
+-- one after another from the start of that syntax, have its answers, and h is what a highlighter of
+-- its theme then holds.
 pub record IsPast (past : Past) (set : SyntaxSet) (h : HighlightLines) : Type 0 where
   pub built : IsBuiltOf set past.syntax past.definitions
   pub leads : Leads set past.theme past.syntax past.lines past.answers h
@@ -122,9 +126,10 @@ abbrev pub and_then : Past → List ℕ → Answer → Past
 and_then past line answer =
     record past { lines = past.lines ++ line ∷ []; answers = past.answers ++ answer ∷ [] }
 
--- The line is answered behind this past, and h is what is held then: an accepted line gives pieces that are not empty
--- and join to it, and where the lines so far and this one are orderly, each byte has the theme's style for its scopes; a
--- refused one has the refusal of its reading, unless memory ran out.
+-- The line is answered after this past, and h is what is held then: an accepted line gives pieces
+-- that are not empty and join to it, and where the lines so far and this one are orderly, each byte
+-- has the theme's style for its scopes; a refused one has the refusal of its reading, unless memory
+-- ran out.
 abbrev pub Continues : Past → SyntaxSet → Bor (List ℕ) → HighlightLines
     → Result (Vec (Style × Bor (List ℕ))) Error → Type 0
 Continues past set line h (Ok pieces) =
@@ -135,8 +140,9 @@ Continues past set line h (Ok pieces) =
 Continues past set line h (Err e) =
     OnlyParsing (λ e. IsPast (and_then past line.now (RefusedBy e)) set h) e
 
--- The line is refused exactly where a turn of its reading picks a match that names a reference without target, and with
--- that reference, unless memory ran out. h is what is held before the line.
+-- The line is refused exactly where a turn of its reading picks a match that names a reference
+-- without target, and with that reference, unless memory ran out.
+-- h is what is held before the line.
 abbrev pub RefusedExactly : SyntaxSet → List ℕ → HighlightLines
     → Result (Vec (Style × Bor (List ℕ))) Error → Type 0
 RefusedExactly set line h (Ok pieces) =

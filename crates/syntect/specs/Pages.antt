@@ -64,7 +64,8 @@ abbrev pub body_text : Theme → List Row → List ℕ
 body_text theme rows =
     flat_map (λ row. line_text (IfDifferent (background_of theme)) row.pieces) rows
 
--- The page shows the text's lines, each read from the state that the lines before it leave, between the theme's frame.
+-- The page shows the text's lines, each read from the state that the lines before it leave, between
+-- the theme's frame.
 pub record IsPage (set : SyntaxSet) (theme : Theme) (syntax : SyntaxReference)
     (text page : List ℕ) : Type 0 where
   pub rows : List Row
@@ -96,7 +97,7 @@ HasNoPage set syntax text =
 
 -- ---- the text of a reader ----
 
--- a fault of reading, or want of memory
+-- a fault of reading, or lack of memory
 abbrev pub IsReadFault : Error → Type 0
 IsReadFault (error.Io e) = Unit {0}
 IsReadFault error.Memory = Unit {0}
@@ -127,8 +128,8 @@ pub record IsReadUpTo (set : SyntaxSet) (syntax : SyntaxReference) (text : List 
   pub run : AnswersAll dialect set (lines_in rows) start (answers_in rows) after
   pub valid : AreUtf8 (lines_in rows)
 
--- There is no page: a line is refused before one that is not UTF-8 and before a fault of the reader, or such a fault comes
--- behind lines none of which is refused, or there was no memory.
+-- There is no page: a line is refused before one that is not UTF-8 and before a fault of the
+-- reader, or such a fault comes after lines none of which is refused, or there was no memory.
 abbrev pub IsStopped : SyntaxSet → SyntaxReference → List ℕ → Error → Type 0
 IsStopped set syntax text (error.Io e) = IsReadUpTo set syntax text
 IsStopped set syntax text e = OnlyParsing (IsRefusedAtALineOfBytes set syntax text) e

@@ -33,9 +33,10 @@ pub record ArePlain (theme : Theme) (line : List ℕ) (pieces : List (Style × B
   pub joins : Joins line pieces
   pub styled : All (λ p. p.0 ≡ default_style theme) pieces
 
--- The limit is one that the limits have. Where it is that of turns, the whole reading of the line from this state takes at least as
--- many; and where it is that of levels, that reading comes to a place with more open ones. What a line's searches take is no matter
--- of definitions: of steps only the call that reads says it.
+-- The limit is one that the limits have. Where it is that of turns, the whole reading of the line
+-- from this state takes at least as many; and where it is that of levels, that reading comes to a
+-- place with more open ones. What a line's searches take is no matter of definitions: of steps only
+-- the call that reads says it.
 pub record ReachesFrom (limits : Limits) (set : SyntaxSet) (line : List ℕ) (state : Standing)
     (limit : LineLimit) : Type 0 where
   pub turns : ℕ
@@ -44,7 +45,8 @@ pub record ReachesFrom (limits : Limits) (set : SyntaxSet) (line : List ℕ) (st
   pub reaches : ReachesLimit limits turns steps (LimitReached limit)
   pub there : IsThere dialect set line state limit
 
--- The line is answered after this past within limits: as without them; or it reaches one, is shown plain, and the past stays.
+-- The line is answered after this past within limits: as without them; or it reaches one, is shown
+-- plain, and the past stays.
 abbrev pub ContinuesWithin : Limits → Past → SyntaxSet → Bor (List ℕ) → HighlightLines
     → HighlightLines → Vec (Style × Bor (List ℕ)) → Option LineLimit → Type 0
 ContinuesWithin limits past set line old new pieces None = Continues past set line new (Ok pieces)
@@ -111,8 +113,8 @@ ArePlainAfter limits set theme syntax rows (plain line pieces limit ∷ lines) =
     IsPlainAfter limits set theme syntax rows line pieces limit
     × ArePlainAfter limits set theme syntax rows lines
 
--- The lines are those of the text. Each was read, from the state that those leave which were read before it, and is shown in the
--- theme's styles; or it reached a limit there, and is plain.
+-- The lines are those of the text. Each was read, from the state that those leave which were read
+-- before it, and is shown in the theme's styles; or it reached a limit there, and is plain.
 pub record AreLinesOf (limits : Limits) (set : SyntaxSet) (theme : Theme)
     (syntax : SyntaxReference) (text : List ℕ) (lines : List Shown) : Type 0 where
   pub start : Standing

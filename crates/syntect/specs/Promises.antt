@@ -63,8 +63,8 @@ BuiltBeginPlain = (set : SyntaxSet) (syntax : SyntaxReference) (definitions : Li
 
 -- ---- operations on a stack of one's own ----
 
--- Lines are accepted one after another, each from the state that the one before it leaves, and their operations are applied to a
--- stack, in order.
+-- Lines are accepted one after another, each from the state that the one before it leaves, and
+-- their operations are applied to a stack, in order.
 pub data LeadsStack (set : SyntaxSet) : Standing → ScopeStack → Standing → ScopeStack → Type 0 where
   no_lines : {state : Standing} {stack : ScopeStack} → LeadsStack set state stack state stack
   one_more : {state next after : Standing} {stack end : ScopeStack} {line : List ℕ}
@@ -72,7 +72,8 @@ pub data LeadsStack (set : SyntaxSet) : Standing → ScopeStack → Standing →
       → LeadsStack set next (stack_after stack ops) after end
       → LeadsStack set state stack after end
 
--- Where the syntax begins plain, the operations of its accepted lines, applied in order to a new stack, are never refused.
+-- Where the syntax begins plain, the operations of its accepted lines, applied in order to a new
+-- stack, are never refused.
 abbrev pub OperationsApply : Type 0
 OperationsApply =
     (set : SyntaxSet) (syntax : SyntaxReference) (start state next : Standing)

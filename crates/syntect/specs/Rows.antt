@@ -33,8 +33,9 @@ can_go_on (b ∷ (c ∷ rest)) = can_go_on (c ∷ rest)
 abbrev pub CanFollow : List ℕ → List ℕ → Type 0
 CanFollow line rest = can_go_on line ≡ false → rest ≡ []
 
--- What a reader gives behind a line, and what it has left then: a line of at least one byte, whose newline, if it has one,
--- stands at its end; or nothing, behind a line that none can follow or where nothing is left.
+-- What a reader gives after a line, and what it has left then: a line of at least one byte, whose
+-- newline, if it has one, stands at its end; or nothing, after a line that none can follow or where
+-- nothing is left.
 abbrev pub GivesNext : Option (List ℕ) → List ℕ → Option (List ℕ) → List ℕ → Bool → Type 0
 GivesNext had last left line true =
     (0 < length line) × StopsAt line 10 × (can_go_on last ≡ true)
@@ -42,7 +43,7 @@ GivesNext had last left line true =
     × (left ≡ Some rest) × (bytes ≡ line ++ rest) × CanFollow line rest)
 GivesNext had last left line false = can_go_on last ≡ true → IfSome had (λ bytes. bytes ≡ [])
 
--- a reader that had all has this left behind these bytes, the last line of which is `last`
+-- a reader that had all has this left after these bytes, the last line of which is `last`
 abbrev pub IsLeft : Option (List ℕ) → Option (List ℕ) → List ℕ → List ℕ → Type 0
 IsLeft had left done last =
     IfSome had (λ text. (rest : List ℕ)
@@ -50,7 +51,8 @@ IsLeft had left done last =
 
 -- ---- rows ----
 
--- The rows are the text's lines, each read from the state that the lines before it leave, in the theme's styles.
+-- The rows are the text's lines, each read from the state that the lines before it leave, in the
+-- theme's styles.
 pub record AreRowsOf (set : SyntaxSet) (theme : Theme) (syntax : SyntaxReference) (text : List ℕ)
     (rows : List Row) : Type 0 where
   pub start : Standing
@@ -118,7 +120,7 @@ RowsRefuse =
     → GivesNext left last after bytes true → line.now ≡ bytes → IsUtf8 bytes
     → HasStopped set syntax had e
 
--- and so does a fault of reading, behind them
+-- and so does a fault of reading, after them
 abbrev pub RowsStop : Type 0
 RowsStop =
     (set : SyntaxSet) (theme : Theme) (syntax : SyntaxReference) (had left : Option (List ℕ))

@@ -18,7 +18,7 @@ abbrev pub from_reading : ReadWithinError → HighlightWithinError
 from_reading (reading.Refused e) = Refused (from_parsing e)
 from_reading (reading.LimitReached l) = LimitReached l
 
--- the refusal of a line without limits, where a limit that was reached counts as want of memory
+-- the refusal of a line without limits, where a limit that was reached counts as lack of memory
 abbrev pub refusal_of : HighlightWithinError → Error
 refusal_of (Refused e) = e
 refusal_of (LimitReached l) = Memory
@@ -28,12 +28,13 @@ abbrev pub unlimited_of : {X : Type 0} → Result X HighlightWithinError → Res
 unlimited_of (Ok x) = Ok x
 unlimited_of (Err e) = Err (refusal_of e)
 
--- where a limit is told, the line's reading comes to that place
+-- where a limit is reported, the line's reading comes to that place
 abbrev pub TellsWhere : SyntaxSet → List ℕ → Standing → HighlightWithinError → Type 0
 TellsWhere set line state (Refused e) = Unit {0}
 TellsWhere set line state (LimitReached l) = IsThere dialect set line state l
 
--- a limit that was reached is that of as many turns, or of as many steps, as were made, or of fewer levels than were open
+-- a limit that was reached is that of as many turns, or of as many steps, as were made, or of fewer
+-- levels than were open
 abbrev pub ReachesLimit : Limits → ℕ → ℕ → HighlightWithinError → Type 0
 ReachesLimit limits turns steps (Refused e) = Unit {0}
 ReachesLimit limits turns steps (LimitReached l) =

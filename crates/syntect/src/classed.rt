@@ -26,9 +26,9 @@ use syntect_parsing::syntax_set::{SyntaxReference, SyntaxSet};
 use syntect_scope::repository::ScopeRepository;
 use syntect_scope::stack::{ScopeStack, ScopeStackOp};
 
-/// A line as spans with classes, as its operations, which are in order, open and close them on a stack, and by how many
-/// spans more are open behind it. A refusal leaves the stack: `ScopeError` where an operation restores and nothing was
-/// cleared, or want of memory.
+/// A line as spans with classes, as its operations, which are in order, open and close them on a
+/// stack, and by how many spans more are open after it. A refusal leaves the stack: `ScopeError`
+/// where an operation restores and nothing was cleared, or lack of memory.
 #[tactic(auto, using(crate::proofs::ClassedLaws::operations_refused))]
 pub fn line_tokens_to_classed_spans(
     alloc: Global,
@@ -82,8 +82,8 @@ impl<'a> Drop for ClassedHTMLGenerator<'a> {
 }
 
 impl<'a> ClassedHTMLGenerator<'a> {
-    /// Before the first line of a text in this syntax, which is one of the set. `MissingMainContext` where the syntax has no
-    /// context `__start`.
+    /// A generator before the first line of a text in this syntax, which is one of the set.
+    /// `MissingMainContext` where the syntax has no context `__start`.
     pub fn new_with_class_style(
         alloc: Global,
         syntax_reference: &SyntaxReference,
@@ -115,9 +115,10 @@ impl<'a> ClassedHTMLGenerator<'a> {
         })
     }
 
-    /// Reads the next line, with its newline, and adds it to the text. A refusal changes nothing: that of the line's reading,
-    /// or want of memory. The line is read once: the reader counts its turns and the steps of their searches, as
-    /// `ParseState::parse_line` does, also where the line is refused.
+    /// Reads the next line, with its newline, and adds it to the text. A refusal changes nothing:
+    /// that of the line's reading, or lack of memory. The line is read once: the reader counts its
+    /// turns and the steps of their searches, as `ParseState::parse_line` does, also where the line
+    /// is refused.
     pub fn parse_html_for_line_which_includes_newline(&mut self, line: &str) -> Result<(), Error>
         ensures accepted { OnOk result (AddsLine line.now self.old self.new) }
         ensures refused { IfErr result (RefusesLineOf self.old line.now) }
@@ -144,11 +145,13 @@ impl<'a> ClassedHTMLGenerator<'a> {
         }
     }
 
-    /// Reads the next line, with its newline, within limits, and adds it to the text. Its answer is that of
-    /// `parse_html_for_line_which_includes_newline`, unless it makes more steps or turns than `limits` has, opens more contexts, or
-    /// has more operations: then it is `LimitReached`, with the limit, and nothing changes, as after any refusal. No line makes more
-    /// (`few_turns`, `few_steps`), whatever its grammar's patterns are, and none is read that opens more (`few_levels`); where a limit
-    /// was reached the line had made as many, or had more (`reached`, `there`).
+    /// Reads the next line, with its newline, within limits, and adds it to the text. Its answer is
+    /// that of `parse_html_for_line_which_includes_newline`, unless it makes more steps or turns
+    /// than `limits` has, opens more contexts, or has more operations: then it is `LimitReached`,
+    /// with the limit, and nothing changes, as after any refusal. No line makes more (`few_turns`,
+    /// `few_steps`), whatever its grammar's patterns are, and none is read that opens more
+    /// (`few_levels`); where a limit was reached the line had made as many,
+    /// or had more (`reached`, `there`).
     #[tactic(auto, using(crate::proofs::WithinLaws::line_stopped, crate::proofs::ClassedLaws::operation_refused, crate::proofs::ClassedLaws::memory_refused))]
     pub fn parse_html_for_line_which_includes_newline_within(
         &mut self,
@@ -219,7 +222,7 @@ impl<'a> ClassedHTMLGenerator<'a> {
     }
 }
 
-/// A text with so many spans closed behind it.
+/// A text with so many spans closed after it.
 fn closed(text: String, count: usize) -> Result<String, AllocError>
     ensures { IfOk result (λ t. string_bytes t ≡ string_bytes text ++ closing_tags count) }
 {

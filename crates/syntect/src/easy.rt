@@ -44,7 +44,8 @@ pub struct HighlightLines<'a> {
     highlighter: Highlighter<'a>,
     parse_state: ParseState,
     highlight_state: HighlightState,
-    /// The styles are worked out in it, line by line, so that a refusal leaves those before the line.
+    /// The styles are worked out in it, line by line, so that a refusal leaves
+    /// those before the line.
     spare: HighlightState,
     /// The memory of searches, line by line.
     memory: SearchMemory,
@@ -78,8 +79,8 @@ impl<'a> HighlightLines<'a> {
     ghost use Rattle.syntect_style.specs.Pieces.{Joins};
     ghost use Rattle.syntect_winner.specs.Engine.{dialect};
 
-    /// The state before the first line of a text in this syntax, under this theme. `MissingMainContext` where the
-    /// syntax has no context `__start`.
+    /// The state before the first line of a text in this syntax, under this theme.
+    /// `MissingMainContext` where the syntax has no context `__start`.
     pub fn new(
         alloc: Global,
         syntax: &SyntaxReference,
@@ -103,8 +104,9 @@ impl<'a> HighlightLines<'a> {
         })
     }
 
-    /// The highlighter of this theme that holds just these states. Under the theme of the highlighter that `state` took
-    /// them from, it stands where that one stood, and answers as that one would.
+    /// The highlighter of this theme that holds just these states. Under the theme of the
+    /// highlighter that `state` took them from, it stands where that one stood, and answers as that
+    /// one would.
     pub fn from_state(
         alloc: Global,
         theme: &'a Theme,
@@ -149,23 +151,25 @@ impl<'a> HighlightLines<'a> {
         (highlight_state, parse_state)
     }
 
-    /// The styled pieces of the next line, which join to it. The set has to be that of the syntax. A refusal, that of
-    /// the line's reading or want of memory, changes nothing. The line is read once: the reader counts its turns and the
-    /// steps of their searches, as `ParseState::parse_line` does, also where the line is refused.
+    /// The styled pieces of the next line, which join to it. The set has to be that of the syntax.
+    /// A refusal, that of the line's reading or lack of memory, changes nothing. The line is read
+    /// once: the reader counts its turns and the steps of their searches, as
+    /// `ParseState::parse_line` does, also where the line is refused.
     pub fn highlight_line<'b>(
         &mut self,
         alloc: Global,
         line: &'b str,
         syntax_set: &SyntaxSet,
     ) -> Result<Vec<(Style, &'b str)>, Error>
-        // For each past that fits what is held, in a set that was built of plain definitions: the pieces join to the line,
-        // each byte has the theme's style where all lines are orderly, and the line joins the past; or it has the refusal of
-        // its reading, or memory ran out.
+        // For each past that fits what is held, in a set that was built of plain definitions: the
+        // pieces join to the line, each byte has the theme's style where all lines are orderly, and
+        // the line joins the past; or it has the refusal of its reading, or memory ran out.
         ensures answered { (past : Past) → IsPast past syntax_set.now self.old
             → Continues past syntax_set.now line.entry self.new result }
         ensures joins { IfOk result (λ pieces. Joins line.entry.now pieces.items) }
-        // Where the definitions' references are all by name, and no pattern leaves `__start`: it is refused exactly where a
-        // match is picked that names an unresolved reference, and with that one, unless memory ran out.
+        // Where the definitions' references are all by name, and no pattern leaves `__start`: it is
+        // refused exactly where a match is picked that names an unresolved reference, and with that
+        // one, unless memory ran out.
         ensures refused { (past : Past) → IsPast past syntax_set.now self.old
             → AreByName past.definitions → StaysInStart syntax_set.now past.syntax
             → RefusedExactly syntax_set.now line.entry.now self.old result }
@@ -197,10 +201,12 @@ impl<'a> HighlightLines<'a> {
         }
     }
 
-    /// The styled pieces of the next line, read within limits. Its answer is that of `highlight_line`, unless it makes more steps
-    /// or turns than `limits` has, opens more contexts, or has more operations: then it is `LimitReached`, with the limit, and nothing
-    /// changes, as after any refusal. No line makes more (`few_turns`, `few_steps`), whatever its grammar's patterns are, and none is
-    /// read that opens more (`few_levels`); where a limit was reached the line had made as many, or had more (`reached`, `there`).
+    /// The styled pieces of the next line, read within limits. Its answer is that of
+    /// `highlight_line`, unless it makes more steps or turns than `limits` has, opens more
+    /// contexts, or has more operations: then it is `LimitReached`, with the limit, and nothing
+    /// changes, as after any refusal. No line makes more (`few_turns`, `few_steps`), whatever its
+    /// grammar's patterns are, and none is read that opens more (`few_levels`); where a limit was
+    /// reached the line had made as many, or had more (`reached`, `there`).
     pub fn highlight_line_within<'b>(
         &mut self,
         alloc: Global,
@@ -270,10 +276,11 @@ impl<'a> HighlightLines<'a> {
         Ok(pieces)
     }
 
-    /// The styled pieces of the next line, read within limits, and `None`. Where the line reaches a limit, it is shown plain,
-    /// which is one piece in the theme's own style, and the limit is told; the next line is then read as if this one weren't
-    /// there. So a line that would cost much takes no colours from those after it. A refusal is one of `highlight_line`, and
-    /// changes nothing.
+    /// The styled pieces of the next line, read within limits, and `None`. Where the line reaches a
+    /// limit, it is shown plain, which is one piece in the theme's own style, and the limit is
+    /// reported; the next line is then read as if this one weren't there. So a line that would cost
+    /// much takes no colours from those after it. A refusal is one of `highlight_line`,
+    /// and changes nothing.
     pub fn highlight_line_or_plain<'b>(
         &mut self,
         alloc: Global,
@@ -281,7 +288,8 @@ impl<'a> HighlightLines<'a> {
         syntax_set: &SyntaxSet,
         limits: &Limits,
     ) -> Result<(Vec<(Style, &'b str)>, Option<LineLimit>), Error>
-        // as `highlight_line` says where no limit was reached; else the past stays, and the pieces are plain
+        // as `highlight_line` says where no limit was reached; else the past stays, and the pieces
+        // are plain
         ensures answered { (past : Past) → IsPast past syntax_set.now self.old
             → IfOk result (λ r. ContinuesWithin limits.now past syntax_set.now line.entry
             self.old self.new r.0 r.1) }
@@ -289,8 +297,8 @@ impl<'a> HighlightLines<'a> {
         ensures refused { (past : Past) → IsPast past syntax_set.now self.old
             → IfErr result (λ e. Continues past syntax_set.now line.entry self.new (Err e)) }
         ensures err { OnErr result (HoldsSame self.old self.new) }
-        // how many turns and steps were made, by the numbers before and after: by a line that was read all turns of its reading,
-        // else no more; where a limit is told, as many as it has
+        // how many turns and steps were made, by the numbers before and after: by a line that was
+        // read all turns of its reading, else no more; where a limit is reported, as many as it has
         ensures taken { IfOk result (λ r. r.1 ≡ None
             → TakesAll dialect syntax_set.now line.entry.now (standing (reader_of self.old))
             (turns_made (reader_of self.old)) (turns_made (reader_of self.new))) }
@@ -328,9 +336,10 @@ impl<'a> HighlightLines<'a> {
         }
     }
 
-    /// Stands before the first line of a text in this syntax from now on, under the same theme: what was read before is forgotten.
-    /// So a program may go on after a line that was shown plain, in place of going on as if that line weren't there.
-    /// `MissingMainContext` where the syntax has no context `__start`; after a refusal nothing has changed.
+    /// Puts the highlighter before the first line of a text in this syntax, under the same theme:
+    /// what was read before is forgotten. So a program may go on after a line that was shown plain,
+    /// in place of going on as if that line weren't there. `MissingMainContext` where the syntax
+    /// has no context `__start`; after a refusal nothing has changed.
     pub fn begin_anew(&mut self, alloc: Global, syntax: &SyntaxReference) -> Result<(), Error>
         ensures leads { (set : ASet)
             → OnOk result (Leads set (theme_of self.old) syntax.now [] [] self.new) }
@@ -362,13 +371,15 @@ pub struct HighlightFile<'a, F> {
 }
 
 impl<'a, F: Read + Drop> HighlightFile<'a, F> {
-    /// Opens a file, at its first line, and the state before that line under this theme. Its syntax is the one that
-    /// `SyntaxSet::find_syntax_for_file` finds, or else plain text; of a first line that the first read doesn't give whole,
-    /// or that is longer than the reader's buffer, the front that stands there is looked at. The file is opened once, so that
-    /// it may be a pipe. A byte order mark, U+FEFF, at its start stands in the first piece.
+    /// Opens a file, at its first line, and the state before that line under this theme. Its syntax
+    /// is the one that `SyntaxSet::find_syntax_for_file` finds, or else plain text; of a first line
+    /// that the first read doesn't give whole, or that is longer than the reader's buffer, the
+    /// front that stands there is looked at. The file is opened once, so that it may be a pipe. A
+    /// byte order mark, U+FEFF, at its start stands in the first piece.
     ///
-    /// `Io` where the file is not opened, or not read to find the syntax; `NoSyntax` where no syntax fits and the set has no
-    /// `Plain Text`; `MissingMainContext` where the syntax has no context `__start`.
+    /// `Io` where the file is not opened, or not read to find the syntax; `NoSyntax` where no
+    /// syntax fits and the set has no `Plain Text`; `MissingMainContext` where the syntax has no
+    /// context `__start`.
     #[tactic(auto, using(crate::proofs::FileLaws::told_unlimited, crate::proofs::FileLaws::refused_unlimited))]
     pub fn new<R: Files<File = F>>(
         files: &R,
@@ -394,8 +405,9 @@ impl<'a, F: Read + Drop> HighlightFile<'a, F> {
         }
     }
 
-    /// The same, but that the patterns which are looked for in the first line make no more steps together than `Limits::steps` of
-    /// `limits`. Where they would make more, the syntax is plain text, and the limit is told.
+    /// Opens a file as `new` does, but the patterns that are looked for in the first line make no
+    /// more steps together than `Limits::steps` of `limits`. Where they would make more, the syntax
+    /// is plain text, and the limit is reported.
     #[tactic(auto, using(crate::proofs::FileLaws::not_read_within, crate::proofs::FileLaws::no_start_within))]
     pub fn new_or_plain<R: Files<File = F>>(
         files: &R,
@@ -452,8 +464,8 @@ fn plain_text(ss: &SyntaxSet) -> Result<&SyntaxReference, Error>
     }
 }
 
-/// The syntax of a file that a reader has opened, or else plain text, with the limit if the first line reaches it. The reader's
-/// bytes stay.
+/// The syntax of a file that a reader has opened, or else plain text, with the limit if the first
+/// line reaches it. The reader's bytes stay.
 fn syntax_within<'s, R: BufRead>(
     alloc: Global,
     reader: &mut R,

@@ -1,6 +1,7 @@
-//! Refusals told to people: which file, which line, and what helps.
+//! Refusals explained to people: which file, which line, and what helps.
 //!
-//! The messages of the errors themselves are the crate's. Where these leave out what was asked for, the calls here say it.
+//! The messages of the errors themselves are the crate's. Where these leave out what was asked for,
+//! the calls here say it.
 use std::alloc::{AllocError, Global};
 use std::fs;
 use std::path::Path;
@@ -12,9 +13,10 @@ use syntect_parsing::syntax_definition::ContextReference;
 use syntect_scope::repository::ScopeRepository;
 use syntect_yaml::read::refused_at;
 
-/// Why what stands at a path was not loaded, in one line that begins with the path: as the error's message says it, with its
-/// cause. Of a grammar that is no YAML the line and column are told, and of a theme that is a property list in XML how it is made
-/// JSON: the file is read once more for it.
+/// Why what stands at a path was not loaded, in one line that begins with the path: as the error's
+/// message says it, with its cause. Of a grammar that is no YAML the line and column are given, and
+/// of a theme that is a property list in XML how it is converted to JSON: the file is read once
+/// more for it.
 pub fn why_not_loaded(
     files: &impl Files,
     alloc: Global,

@@ -1,6 +1,7 @@
 //! Texts as HTML with inline styles.
 //!
-//! `highlighted_html_for_string` does it all; the other calls write lines that were highlighted before.
+//! `highlighted_html_for_string` does it all; the other calls write lines
+//! that were highlighted before.
 ghost use Rattle.std.specs.Prelude.{◌≡◌, ℕ, List, [], IfOk, IfErr, string_bytes};
 ghost use Rattle.std.specs.Path.{path_bytes};
 ghost use Rattle.syntect.specs.Built.{IsBuilt, IsBuiltOf};
@@ -32,9 +33,9 @@ use syntect_writers::spans::SpanWriter;
 /// What ends a page.
 const CLOSING: &str = "</pre>\n";
 
-/// A text's lines as HTML with inline styles, in a `pre` of the theme's background. The set has to be that of the
-/// syntax. Where a line is refused, the text is, with that line's refusal; `MissingMainContext` where the syntax has no
-/// context `__start`.
+/// A text's lines as HTML with inline styles, in a `pre` of the theme's background. The set has to
+/// be that of the syntax. Where a line is refused, the text is, with that line's refusal;
+/// `MissingMainContext` where the syntax has no context `__start`.
 pub fn highlighted_html_for_string(
     alloc: Global,
     s: &str,
@@ -59,9 +60,10 @@ pub fn highlighted_html_for_string(
     Ok(page)
 }
 
-/// What a reader gives, as HTML with inline styles: as `highlighted_html_for_string` for its bytes. Each line, up to and
-/// with its newline, is tested for UTF-8 and highlighted before the next is read; `Io` where reading fails or a line is
-/// not UTF-8, and no page then. What follows a line without a newline is not read.
+/// What a reader gives, as HTML with inline styles: as `highlighted_html_for_string` for its bytes.
+/// Each line, up to and with its newline, is tested for UTF-8 and highlighted before the next is
+/// read; `Io` where reading fails or a line is not UTF-8, and no page then. What follows a line
+/// without a newline is not read.
 #[tactic(auto, using(crate::proofs::ReaderLaws::no_page_of_bytes))]
 pub fn highlighted_html_for_reader<R: BufRead + Drop>(
     alloc: Global,
@@ -82,9 +84,9 @@ pub fn highlighted_html_for_reader<R: BufRead + Drop>(
     page_of_lines(alloc, reader, highlighter, ss, theme)
 }
 
-/// A file's lines as HTML with inline styles: as `highlighted_html_for_reader` for what the file holds, in the syntax that
-/// `SyntaxSet::find_syntax_for_file` finds, or else plain text. A fault of the file is `Io`, and `NoSyntax` comes where no
-/// syntax fits and the set has no `Plain Text`.
+/// A file's lines as HTML with inline styles: as `highlighted_html_for_reader` for what the file
+/// holds, in the syntax that `SyntaxSet::find_syntax_for_file` finds, or else plain text. A fault
+/// of the file is `Io`, and `NoSyntax` comes where no syntax fits and the set has no `Plain Text`.
 pub fn highlighted_html_for_file(
     files: &impl Files,
     alloc: Global,
@@ -92,7 +94,8 @@ pub fn highlighted_html_for_file(
     ss: &SyntaxSet,
     theme: &Theme,
 ) -> Result<String, Error>
-    // the set was built of plain definitions; of what the file holds nothing is known but that the page shows it
+    // the set was built of plain definitions; of what the file holds nothing is known but that the
+    // page shows it
     ensures page { (definitions : List ADefinition) → IsBuilt ss.now definitions
         → IfOk result (λ page. IsPageOfFile ss.now theme.now (path_bytes path.entry)
         (string_bytes page)) }

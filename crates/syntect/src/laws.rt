@@ -13,16 +13,17 @@ pub use syntect_classed_laws::{
     marks_follow_the_operations, pages_are_seen, written_marks_are_seen,
 };
 
-/// A definition that was loaded is plain: its `__start` has no `meta_scope`, one content scope, and clears nothing. So
-/// what `HighlightLines::highlight_line` and `highlighted_html_for_string` say holds for sets that were built of such
-/// ones.
+/// A definition that was loaded is plain: its `__start` has no `meta_scope`, one content scope, and
+/// clears nothing. So what `HighlightLines::highlight_line` and `highlighted_html_for_string` say
+/// holds for sets that were built of such ones.
 pub fn loaded_is_plain()
     ensures { LoadedIsPlain }
 {}
 
-/// Definitions that were loaded are plain, and refer to contexts by name alone; in a set that was built of such ones no
-/// text leaves the `__start` of its syntax. So all clauses of `HighlightLines::highlight_line` hold for them: a line is
-/// refused exactly where a picked match names a reference without target.
+/// Definitions that were loaded are plain, and refer to contexts by name alone; in a set that was
+/// built of such ones no text leaves the `__start` of its syntax. So all clauses of
+/// `HighlightLines::highlight_line` hold for them: a line is refused exactly where a picked match
+/// names a reference without target.
 #[tactic(auto, using(crate::proofs::StayLaws::loaded_are_plain))]
 pub fn loaded_sets_stay()
     ensures plain { (definitions : List ADefinition) → All IsLoaded definitions
@@ -34,8 +35,9 @@ pub fn loaded_sets_stay()
     syntect_grammar::laws::loaded_by_name();
 }
 
-/// A set that a builder links of grammars which were loaded, from texts or from folders, and a syntax that is found in it meet
-/// all that `highlighted_html_for_string`, the other pages and `HighlightLines::highlight_line` have as premises.
+/// A set that a builder links of grammars which were loaded, from texts or from folders, and a
+/// syntax that is found in it meet all that `highlighted_html_for_string`, the other pages and
+/// `HighlightLines::highlight_line` have as premises.
 pub fn loaded_sets_are_built()
     ensures builders { BuildersHold }
     ensures found { FindsOwn }
@@ -44,38 +46,41 @@ pub fn loaded_sets_are_built()
     syntect_grammar::laws::loaded_by_name();
 }
 
-/// Where no context clears, all lines are orderly, so that the clauses of `HighlightLines::highlight_line` and of the
-/// pages say the style of each byte; and in a set of definitions of which none has the key `clear_scopes`, no context
-/// clears.
+/// Where no context clears, all lines are orderly, so that the clauses of
+/// `HighlightLines::highlight_line` and of the pages say the style of each byte; and in a set of
+/// definitions of which none has the key `clear_scopes`, no context clears.
 pub fn orderly_where_nothing_clears()
     ensures sets { NothingIsCleared }
     ensures runs { AllRunOrderly }
 {}
 
-/// A highlighter that stands where another stands, with the same styles and theme, has the other's past.
+/// A highlighter that stands where another stands, with the same styles and theme,
+/// has the other's past.
 pub fn pasts_stay()
     ensures { PastsStay }
 {}
 
-/// A highlighter that was made by `HighlightLines::from_state` of what `HighlightLines::state` answers, under the same theme,
-/// stands where that one stood, so that it has the other's past.
+/// A highlighter that was made by `HighlightLines::from_state` of what `HighlightLines::state`
+/// answers, under the same theme, stands where that one stood, so that it has the other's past.
 pub fn states_go_on()
     ensures { StatesGoOn }
 {}
 
-/// The syntaxes of a set that was built of plain definitions, as loaded ones are, begin plain: so a generator of pages with
-/// classes can restore what was cleared before its first line (`ClassedHTMLGenerator::new_with_class_style`), and after each
-/// (`ClassedHTMLGenerator::parse_html_for_line_which_includes_newline`), and no line is refused with `ScopeError`. Of all
-/// sets: where the syntax begins plain, the operations of its accepted lines, applied in order to a new stack, are never
-/// refused.
+/// The syntaxes of a set that was built of plain definitions, as loaded ones are, begin plain: so a
+/// generator of pages with classes can restore what was cleared before its first line
+/// (`ClassedHTMLGenerator::new_with_class_style`), and after each
+/// (`ClassedHTMLGenerator::parse_html_for_line_which_includes_newline`), and no line is refused
+/// with `ScopeError`. Of all sets: where the syntax begins plain, the operations of its accepted
+/// lines, applied in order to a new stack, are never refused.
 pub fn operations_are_never_refused()
     ensures built { BuiltBeginPlain }
     ensures apply { OperationsApply }
 {}
 
-/// A generator that was given lines stands after those that it accepted, and the text that `ClassedHTMLGenerator::finalize`
-/// answers is their page: whoever reads it byte by byte sees these lines, joined, meets no closing tag without an open one,
-/// and has no tag open in the end; and where the syntax begins plain and the lines are orderly, each byte stands under the
+/// A generator that was given lines stands after those that it accepted, and the text that
+/// `ClassedHTMLGenerator::finalize` answers is their page: whoever reads it byte by byte sees these
+/// lines, joined, meets no closing tag without an open one, and has no tag open in the end; and
+/// where the syntax begins plain and the lines are orderly, each byte stands under the
 /// tags of its scopes.
 pub fn closed_texts_are_pages()
     ensures stands { GivenStands }
@@ -86,7 +91,8 @@ pub fn closed_texts_are_pages()
     pages_are_seen();
 }
 
-/// In a set that was built of loaded definitions and clears nothing, each byte of each line that is accepted has a scope.
+/// In a set that was built of loaded definitions and clears nothing, each byte of each line that is
+/// accepted has a scope.
 pub fn loaded_sets_give_scopes()
     ensures { LoadedGiveScopes }
 {
@@ -95,9 +101,9 @@ pub fn loaded_sets_give_scopes()
     syntect_grammar::laws::loaded_by_name();
 }
 
-/// The lines that a reader gives, one after another, and the pieces that a highlighter answers to them, are the rows of
-/// the reader's text: there are none at first, each line is one more, and in the end they are all. A line that is refused
-/// ends them, and so does a fault of reading.
+/// The lines that a reader gives, one after another, and the pieces that a highlighter answers to
+/// them, are the rows of the reader's text: there are none at first, each line is one more, and in
+/// the end they are all. A line that is refused ends them, and so does a fault of reading.
 pub fn rows_of_readers()
     ensures begin { RowsBegin }
     ensures more { RowsGoOn }
@@ -106,8 +112,9 @@ pub fn rows_of_readers()
     ensures stop { RowsStop }
 {}
 
-/// The same of lines that are read within limits, by `HighlightLines::highlight_line_or_plain`: each line is one more, as it
-/// was read or plain, and the rows of those that were read stand as if the plain ones weren't there.
+/// The lines that a reader gives, read within limits by `HighlightLines::highlight_line_or_plain`:
+/// each line is one more, as it was read or plain, and the rows of those that were read stand as if
+/// the plain ones weren't there.
 pub fn lines_within_limits()
     ensures begin { LinesBegin }
     ensures more { LinesGoOn }

@@ -1,8 +1,8 @@
-//! Syntax highlighting: a grammar says which scopes stand over each byte of a text, and a theme which style stacks of
-//! scopes are shown in.
+//! Syntax highlighting: a grammar says which scopes stand over each byte of a text, and a theme in
+//! which style stacks of scopes are shown.
 //!
-//! `easy::HighlightLines` takes lines one after another and answers styled pieces. The modules `parsing` and
-//! `highlighting` have the parts that it is made of.
+//! `easy::HighlightLines` takes lines one after another and answers styled pieces. The modules
+//! `parsing` and `highlighting` have the parts that it is made of.
 #![tactic(auto)]
 
 mod classed;

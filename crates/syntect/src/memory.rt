@@ -16,7 +16,7 @@ impl Model for SearchMemory {
 }
 
 impl SearchMemory {
-    /// None is held.
+    /// No memory is held yet.
     pub(crate) fn new(alloc: Global) -> SearchMemory {
         SearchMemory {
             regions: Regions::new(alloc),

@@ -12,7 +12,8 @@ use std::io::{BufRead, Error as IoError, ErrorKind};
 use std::str;
 use syntect_parsing::error::Error;
 
-/// Whether another line can follow this one, or the beginning: one without a newline at its end is the last.
+/// Whether another line can follow this one, or the beginning: one without a newline at its end is
+/// the last.
 fn can_go_on(line: &[u8]) -> bool
     ensures { result ≡ can_go_on line.now }
 {
@@ -22,8 +23,8 @@ fn can_go_on(line: &[u8]) -> bool
     }
 }
 
-/// Reads the next line, up to and with its newline, in place of the one before it. False where nothing is left, as behind a
-/// line without a newline. `Io` where reading fails.
+/// Reads the next line, up to and with its newline, in place of the one before it. False where
+/// nothing is left, as after a line without a newline. `Io` where reading fails.
 pub fn next_line<R: BufRead>(reader: &mut R, line: &mut Vec<u8>) -> Result<bool, Error>
     ensures next { IfOk result
         (GivesNext (R.remaining reader.old) line.old.items
@@ -70,7 +71,8 @@ fn up_to_newline(bytes: &[u8]) -> &[u8]
     }
 }
 
-/// Bytes without their last character, if that isn't whole. Bytes that are no UTF-8 elsewhere stay as they are.
+/// Bytes without their last character, if that isn't whole. Bytes that are no UTF-8 elsewhere stay
+/// as they are.
 fn whole_characters(bytes: &[u8]) -> &[u8]
     ensures front { StartsWith bytes.now result.now }
     ensures nearly { length bytes.now < length result.now + 4 }
@@ -84,8 +86,8 @@ fn whole_characters(bytes: &[u8]) -> &[u8]
     }
 }
 
-/// The first line of bytes that are the front of a text, without a character that is cut off where the line goes on. `Io` where
-/// the line is not UTF-8.
+/// The first line of bytes that are the front of a text, without a character that is cut off where
+/// the line goes on. `Io` where the line is not UTF-8.
 pub fn first_line(bytes: &[u8]) -> Result<&str, Error>
     ensures line { IfOk result (λ line. IsUtf8 line.now) }
     ensures asked { IfOk result (λ line. IsFirstOf bytes.now line.now) }

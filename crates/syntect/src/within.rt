@@ -12,7 +12,7 @@ use thiserror::Error as ThisError;
 /// Why a line was not highlighted within limits.
 #[derive(Drop, ThisError)]
 pub enum HighlightWithinError {
-    /// What is answered without limits.
+    /// The line is refused as it is without limits.
     #[error("{0}")]
     Refused(Error),
     /// The line reached a limit.
@@ -20,7 +20,8 @@ pub enum HighlightWithinError {
     LimitReached(LineLimit),
 }
 
-/// The message, with the cause where the message leaves it out: `main` shows it of an error that it answers.
+/// The message, with the cause where the message leaves it out: `main` shows it of an
+/// error that it answers.
 impl fmt::Debug for HighlightWithinError {
     fn fmt<W: fmt::Write>(&self, f: &mut fmt::Formatter<W>) -> fmt::Result {
         match self {

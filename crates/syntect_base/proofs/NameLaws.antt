@@ -52,7 +52,7 @@ module _ (bytes front rest : List ℕ) (n : ℕ) (at : n ≡ position_or_len is_
   rest_length : length rest ≡ length bytes - n
   rest_length = ap length from ∙ length-drop n bytes
 
-  -- the last name, behind which no NUL stands
+  -- the last name, after which no NUL stands
   pub at_end : length rest ≡ 0 → entries_in bytes ≡ filter_map entry_of (front ∷ []) ++ entries_in rest
   at_end none =
       let all : position_or_len is_nul bytes ≡ length bytes = omega (arith, rest_length, prefix_len-le-length (λ b. not (is_nul b)) bytes) in

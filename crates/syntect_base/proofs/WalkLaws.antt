@@ -4,7 +4,8 @@ use Rattle.std.proofs.lemmas.List.{append-nil, reverse-append, reverse-reverse}
 use Rattle.syntect_base.specs.Ahead.{Ahead}
 use Rattle.syntect_base.specs.Walks.{joined, InByteOrder, Walks, IsWalk, Visits, GoesOn, GivesFile, ended, passed_over, file, subfolder, none_ahead, passes_over, takes, enters}
 
--- a folder's entries and what is behind them, visited in order, are the folder's walk and what is behind it
+-- a folder's entries and what is after them, visited in order, are the folder's walk and what is
+-- after it
 pub split : (folder : List ℕ) (names behind rest : List (List ℕ)) → Visits (map (joined folder) names ++ behind) rest
     → (inner files : List (List ℕ)) × Walks folder names inner × Visits behind files × (rest ≡ inner ++ files)
 split folder [] behind rest v = ([], rest, ended, v, refl)
@@ -27,7 +28,8 @@ entered folder names old rest sorted v =
 
 -- ---- one visit ----
 
--- what the entering of a folder promises: what is ahead after it gives the folder's files, and then those that were to come
+-- what the entering of a folder promises: what is ahead after it gives the folder's files, and then
+-- those that were to come
 abbrev pub Enters : List ℕ → List (List ℕ) → List (List ℕ) → Type 0
 Enters folder before after = (rest : List (List ℕ)) → Visits (reverse after) rest
     → (inner files : List (List ℕ)) × IsWalk folder inner × Visits (reverse before) files × (rest ≡ inner ++ files)

@@ -15,8 +15,8 @@ unlimited = record {
   operations = 2 ^ 64 - 1;
 }
 
--- a hundred times what the greatest of the grammars asks for that this is tried with, and for a folder what all of them do; of all
--- patterns forty times, and of open contexts seven
+-- a hundred times what the greatest of the grammars asks for that this is tried with, and for a
+-- folder what all of them do; of all patterns forty times, and of open contexts seven
 abbrev pub usual : Limits
 usual = record {
   text = 12500000;

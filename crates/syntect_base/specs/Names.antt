@@ -20,6 +20,6 @@ entry_name name =
 abbrev pub entry_of : List ℕ → Option (List ℕ)
 entry_of name = if is_utf8 name then entry_name name else None
 
--- the names of entries among bytes in which a NUL stands behind each
+-- the names of entries among bytes in which a NUL comes after each
 abbrev pub entries_in : List ℕ → List (List ℕ)
 entries_in bytes = filter_map entry_of (slice_split (λ b. b == 0) bytes)

@@ -1,4 +1,4 @@
--- How refusals and faults are passed on: want of memory stays want of memory.
+-- How refusals and faults are passed on: lack of memory stays lack of memory.
 use Rattle.std.specs.Prelude.{◌≡◌, ◌≢◌}
 use Rattle.std.specs.IoError.{error_kind}
 use Rattle.std.specs.declared.io.Error.{Error}

@@ -14,8 +14,8 @@ joined folder name = folder ++ 47 ∷ name
 abbrev pub InByteOrder : List (List ℕ) → Type 0
 InByteOrder names = IsSorted (slice_cmp nat_cmp) names
 
--- A folder with these names gives these files, by their paths: an entry is passed over, is a file, or is a folder whose
--- files, by its own names in byte order, stand at its place.
+-- A folder with these names gives these files, by their paths: an entry is passed over, is a file,
+-- or is a folder whose files, by its own names in byte order, stand at its place.
 pub data Walks : List ℕ → List (List ℕ) → List (List ℕ) → Type 0 where
   ended : {folder : List ℕ} → Walks folder [] []
   passed_over : {folder name : List ℕ} {names files : List (List ℕ)} → Walks folder names files

@@ -1,4 +1,5 @@
-//! What the loaders stand on: their errors, the files of a folder, and the values of JSON that files hold.
+//! What the loaders stand on: their errors, the files of a folder, and the values of JSON that
+//! files hold.
 #![tactic(auto)]
 
 pub mod limits;

@@ -8,20 +8,23 @@ use std::fmt;
 use syntect_values::text::Text;
 use thiserror::Error;
 
-/// How much a grammar may ask for, as it is loaded and as a line is read by it. `usize::MAX` is no limit.
+/// How much a grammar may ask for, as it is loaded and as a line is read by it.
+/// `usize::MAX` is no limit.
 ///
-/// There may be more limits in later versions: `Limits { pattern: 4096, ..Limits::default() }` stays as it is then.
+/// There may be more limits in later versions: `Limits { pattern: 4096, ..Limits::default() }`
+/// stays as it is then.
 #[derive(Clone, Copy, Debug, PartialEq, Eq)]
 pub struct Limits {
     /// How many bytes a grammar's text has at most.
     pub text: usize,
-    /// How many bytes a pattern has at most with its variables expanded, each use of a variable that is come to for that
-    /// counted as a byte more.
+    /// How many bytes a pattern has at most with its variables expanded, each use of a variable
+    /// that is come to for that counted as a byte more.
     pub pattern: usize,
-    /// How many bytes all patterns of a grammar have together at most, counted as those of one pattern are.
+    /// How many bytes all patterns of a grammar have together at most, counted as those of one
+    /// pattern are.
     pub patterns: usize,
-    /// How many bytes the texts of all grammars of a folder have together at most. A grammar that is loaded by itself is not
-    /// counted here.
+    /// How many bytes the texts of all grammars of a folder have together at most. A grammar that
+    /// is loaded by itself is not counted here.
     pub folder: usize,
     /// How many steps the searches of one line make together at most.
     pub steps: usize,
@@ -29,7 +32,8 @@ pub struct Limits {
     pub turns: usize,
     /// How many contexts are open at most, before each turn of a line and after its last.
     pub levels: usize,
-    /// How many operations on the stack of scopes one line has at most, before each turn and after its last.
+    /// How many operations on the stack of scopes one line has at most, before each turn and after
+    /// its last.
     pub operations: usize,
 }
 
@@ -51,8 +55,9 @@ impl Limits {
     }
 }
 
-/// A hundred times what the greatest of 75 grammars in use asks for, and for a folder what all of them do; of all patterns forty
-/// times, since one of their bytes may take fifty of memory, and of open contexts seven, since each turn goes through them.
+/// A hundred times what the greatest of 75 grammars in use asks for, and for a folder what all of
+/// them do; of all patterns forty times, since one of their bytes may take fifty of memory, and of
+/// open contexts seven, since each turn goes through them.
 impl Default for Limits {
     ghost is_default = { λ l. l ≡ usual };
 
@@ -73,8 +78,8 @@ impl Default for Limits {
 /// A pattern of a grammar, and where it stands.
 #[derive(Debug, Drop, PartialEq, Eq)]
 pub struct PatternPlace {
-    /// The name of the context, one of those at the grammar's `contexts`, that has it in one of its items, be it within
-    /// contexts there.
+    /// The name of the context, one of those at the grammar's `contexts`, that has it in one of its
+    /// items, be it within contexts there.
     pub context: Text,
     /// The number of that item, from 0.
     pub item: usize,
@@ -99,14 +104,14 @@ pub enum LimitReached {
     /// The grammar's text has more bytes than `Limits::text`.
     #[error("The text has too many bytes")]
     Text,
-    /// This pattern has more bytes than `Limits::pattern`, counted as is said there.
+    /// A pattern has more bytes than `Limits::pattern`, counted as is said there.
     #[error("Too many bytes in the pattern {0}")]
     Pattern(PatternPlace),
     /// The patterns up to this one have more bytes together than `Limits::patterns`.
     #[error("Too many bytes in the patterns up to {0}")]
     Patterns(PatternPlace),
-    /// With this grammar's text those of the folder have more bytes together than `Limits::folder`. Only where a folder is
-    /// added.
+    /// With this grammar's text those of the folder have more bytes together than `Limits::folder`.
+    /// Only where a folder is added.
     #[error("Too many bytes in the grammars of the folder")]
     Folder,
 }
@@ -117,7 +122,7 @@ pub enum LoadWithinError {
     /// Its text is no grammar, or there was no memory.
     #[error("{0}")]
     Refused(ParseSyntaxError),
-    /// It would pass a limit.
+    /// The grammar would pass a limit.
     #[error("{0}")]
     LimitReached(LimitReached),
 }

@@ -9,7 +9,7 @@ use thiserror::Error;
 /// Why the bytes of a theme or of metadata are no value.
 #[derive(Clone, Copy, Debug, PartialEq, Eq, Error)]
 pub enum SettingsError {
-    /// They are no JSON, or have a number that is no whole one.
+    /// The bytes are no JSON, or have a number that is not whole.
     #[error("Json")]
     Json,
     /// There was no memory.
@@ -50,7 +50,8 @@ pub enum LoadingError {
     Memory,
 }
 
-/// The message, with the cause where the message leaves it out: `main` shows it of an error that it answers.
+/// The message, with the cause where the message leaves it out: `main` shows it of an
+/// error that it answers.
 impl fmt::Debug for LoadingError {
     fn fmt<W: fmt::Write>(&self, f: &mut fmt::Formatter<W>) -> fmt::Result {
         match self {
@@ -107,7 +108,7 @@ impl<T: Drop> From<AllocFailed<T>> for LoadingError {
     }
 }
 
-/// A fault that is want of memory is passed on as such.
+/// A fault that is lack of memory is passed on as such.
 impl From<io::Error> for LoadingError {
     ghost use Rattle.syntect_base.specs.Refusals.{IsReadFault};
 
@@ -122,7 +123,7 @@ impl From<io::Error> for LoadingError {
     }
 }
 
-/// Want of memory is passed on as such.
+/// Lack of memory is passed on as such.
 impl From<ParseThemeError> for LoadingError {
     ghost use Rattle.std.specs.Prelude.{◌≡◌};
     ghost use Rattle.syntect_base.specs.Refusals.{from_theme};
@@ -137,7 +138,7 @@ impl From<ParseThemeError> for LoadingError {
     }
 }
 
-/// Want of memory is passed on as such.
+/// Lack of memory is passed on as such.
 impl From<SettingsError> for LoadingError {
     ghost use Rattle.std.specs.Prelude.{◌≡◌};
     ghost use Rattle.syntect_base.specs.Refusals.{from_settings};
@@ -152,7 +153,7 @@ impl From<SettingsError> for LoadingError {
     }
 }
 
-/// A value that isn't read as metadata. Want of memory is passed on as such.
+/// A value that isn't read as metadata. Lack of memory is passed on as such.
 impl From<serde_json::Error> for LoadingError {
     ghost use Rattle.syntect_base.specs.Refusals.{IsMetadataFault};
 

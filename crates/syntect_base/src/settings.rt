@@ -50,8 +50,8 @@ fn members_hold_float(members: &Map<String, Value>) -> bool
     false
 }
 
-/// The value that bytes are as JSON. Bytes that are no JSON, or in which a number is a float (as one with a fraction or an
-/// exponent is), are `Json`.
+/// The value that bytes are as JSON. Bytes that are no JSON, or in which a number is a float (as
+/// one with a fraction or an exponent is), are `Json`.
 pub fn settings_of(alloc: Global, bytes: &[u8]) -> Result<Settings, SettingsError>
     ensures ok { IfOk result (λ settings. IsSettings bytes.now (view settings)) }
     ensures err { IfErr result (λ e. e ≢ Memory → (d : Data) → ¬ (IsSettings bytes.now d)) }

@@ -13,10 +13,10 @@ pub enum ParseSyntaxError {
     /// The text has no value.
     #[error("The file must contain at least one YAML document")]
     EmptyFile,
-    /// This key has to stand there.
+    /// The text lacks this key, which it must have.
     #[error("Missing mandatory key in YAML file: {0}")]
     MissingMandatoryKey(&'static str),
-    /// This pattern, as it was tested, is refused.
+    /// A pattern, given as it was tested, is refused.
     #[error("Error while compiling regex '{0}': {1}")]
     RegexCompileError(String, PatternError),
     /// A text is no scope.

@@ -7,13 +7,13 @@ use thiserror::Error;
 /// Why a value is no theme, or no part of one.
 #[derive(Debug, Drop, PartialEq, Eq, Error)]
 pub enum ParseThemeError {
-    /// It names no way of underlining.
+    /// A value names no way of underlining.
     #[error("Incorrect underline option")]
     IncorrectUnderlineOption,
-    /// This word, or this value that is no text, names no style of a font.
+    /// A word, or a value that is no text, names no font style.
     #[error("Incorrect font style: {0}")]
     IncorrectFontStyle(Text),
-    /// It is no colour.
+    /// A value is no colour.
     #[error("Incorrect color")]
     IncorrectColor,
     /// The theme is no object, or a part of it is missing or of the wrong kind.
@@ -34,7 +34,7 @@ pub enum ParseThemeError {
     /// The settings of a theme are no object.
     #[error("Color sheme settings is not object")]
     ColorShemeSettingsIsNotObject,
-    /// This value, which is no text, stands for a selector; no text where there is none.
+    /// A value that is no text stands for a selector; the text here is empty where there is none.
     #[error("Scope selector is not string: {0}")]
     ScopeSelectorIsNotString(Text),
     /// Settings stand twice. No call answers it.
@@ -70,7 +70,7 @@ impl<T: Drop> From<AllocFailed<T>> for ParseThemeError {
     }
 }
 
-/// Want of memory is passed on as such.
+/// Lack of memory is passed on as such.
 impl From<ParseScopeError> for ParseThemeError {
     ghost use Rattle.std.specs.Prelude.{◌≡◌};
     ghost use Rattle.syntect_base.specs.Refusals.{from_scopes};

@@ -81,7 +81,7 @@ fn path_below(alloc: Global, folder: &str, name: &str) -> Result<Text, AllocErro
     Ok(path)
 }
 
-/// The names in a folder as the file system tells them: their bytes, and a NUL behind each.
+/// The names in a folder as the file system tells them: their bytes, and a NUL after each.
 fn listing(files: &impl Files, alloc: Global, folder: &str) -> Result<Vec<u8>, io::Error> {
     let mut path = String::from_str(alloc, folder)?;
     if !folder.is_empty() && !folder.ends_with('/') {
@@ -117,8 +117,8 @@ fn entry_name(text: &str) -> Option<&str>
     }
 }
 
-/// The name of an entry from its bytes. One that is no text is passed over, since no path leads there; but where it may be that
-/// of a file that is looked for, it is a fault.
+/// The name of an entry from its bytes. One that is no text is passed over, since no path leads
+/// there; but where it may be that of a file that is looked for, it is a fault.
 #[tactic(auto, using(crate::proofs::NameLaws::entry_text, crate::proofs::NameLaws::entry_none))]
 fn entry_of(sought: Sought, name: &[u8]) -> Result<Option<&str>, LoadingError>
     ensures entry { IfOk result (λ entry. option_copied entry ≡ entry_of name.now) }
@@ -161,7 +161,7 @@ fn name_len(bytes: &[u8]) -> usize
     bytes.iter().take_while(|b| **b != 0).count()
 }
 
-/// What stands before the first NUL, and what stands behind it.
+/// What comes before the first NUL, and what comes after it.
 fn first_name(bytes: &[u8]) -> (&[u8], &[u8])
     ensures entries { entries_in bytes.now
         ≡ filter_map entry_of (result.0.now ∷ []) ++ entries_in result.1.now }
@@ -175,7 +175,7 @@ fn first_name(bytes: &[u8]) -> (&[u8], &[u8])
     (name, behind)
 }
 
-/// The names of entries among bytes in which a NUL stands behind each, in byte order.
+/// The names of entries among bytes in which a NUL comes after each, in byte order.
 fn entries_among(alloc: Global, bytes: &[u8], sought: Sought) -> Result<Vec<Text>, LoadingError>
     ensures all { IfOk result (λ names. IsPermutation (entries_in bytes.now) names.items) }
     ensures order { IfOk result (λ names. InByteOrder names.items) }
@@ -210,7 +210,8 @@ fn add_paths(
     Ok(())
 }
 
-/// Puts the paths of a folder's entries on what is still to be visited, so that the first is visited first.
+/// Puts the paths of a folder's entries on what is still to be visited, so that the first is
+/// visited first.
 #[tactic(auto, using(crate::proofs::WalkLaws::entered))]
 fn enter(
     files: &impl Files,
@@ -256,7 +257,7 @@ fn visit(
     }
 }
 
-/// Visits what is ahead up to the next file, which it answers by its path; so many entries at the most.
+/// Visits what is ahead up to the next file, which it answers by its path; so many entries at most.
 fn go_on(
     files: &impl Files,
     alloc: Global,
@@ -285,15 +286,16 @@ fn go_on(
     Ok(None)
 }
 
-/// A walk through the files in a folder and in the folders below it: each folder's entries in the byte order of their names, a
-/// subfolder's files at its place. Links to folders are not followed, and names that are no UTF-8 are passed over, unless they
-/// may be those of files that the walk looks for.
+/// A walk through the files in a folder and in the folders below it: each folder's entries in the
+/// byte order of their names, a subfolder's files at its place. Links to folders are not followed,
+/// and names that are no UTF-8 are passed over, unless they may be those of files that the walk
+/// looks for.
 #[derive(Drop)]
 pub struct Walk {
     sought: Sought,
     /// The paths that are still to be visited, the next one last.
     ahead: Seq<Text>,
-    /// So many entries may still be visited.
+    /// How many entries may still be visited.
     left: u64,
 }
 
@@ -330,8 +332,9 @@ impl Walk {
         }
     }
 
-    /// The next file, and nothing behind the last. A path is the folder's text and the names, joined by `/`. A fault of the walk,
-    /// or more than 2^64 - 1 entries, is `WalkDir`; what is visited after it is left open.
+    /// The next file, and nothing after the last. A path is the folder's text and the names, joined
+    /// by `/`. A fault of the walk, or more than 2^64 - 1 entries, is `WalkDir`; what is visited
+    /// after it is left open.
     pub fn next_file(
         &mut self,
         files: &impl Files,
@@ -345,8 +348,8 @@ impl Walk {
     }
 }
 
-/// The paths of the files in a folder and in the folders below it, in the order of a walk that looks for themes. A fault of the
-/// walk is `WalkDir`.
+/// The paths of the files in a folder and in the folders below it, in the order of a walk that
+/// looks for themes. A fault of the walk is `WalkDir`.
 pub fn files_below(
     files: &impl Files,
     alloc: Global,

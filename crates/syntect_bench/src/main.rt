@@ -1,6 +1,6 @@
-//! Runs the worked examples of docs/EXAMPLES.md, and prints of each whether it comes out as it is written there. With
-//! words it does what `MODES` says of them, or with one word FILE prints the pieces of that text file's lines by the
-//! contexts and the theme of example 17.
+//! Runs the worked examples of docs/EXAMPLES.md, and prints of each whether it comes out as it is
+//! written there. With words it does what `MODES` says of them, or with one word FILE prints the
+//! pieces of that text file's lines by the contexts and the theme of example 17.
 #![tactic(auto)]
 
 mod modes;
@@ -136,8 +136,8 @@ const FILES_OF_PATTERNS: [(&str, (u32, u32)); 2] = [
     ("no_patterns.txt", (0, 7)),
 ];
 
-/// The file of queries, each behind the answer that Oniguruma gives, or, of those at the end that cost engines which back up too
-/// much, the answer that Perl gives; and how many there are.
+/// The file of queries, each after the answer that Oniguruma gives, or, of those at the end that
+/// cost engines which back up too much, the answer that Perl gives; and how many there are.
 const ANSWERED: &str = "queries.tsv";
 
 const ANSWERED_QUERIES: u32 = 1545;
@@ -161,7 +161,8 @@ fn run_patterns(rt: &(impl Print + AllocGlobal + Files)) -> io::Result<bool> {
     Ok(all)
 }
 
-/// What edits that look random are done on: grammars, a theme and a text; and how many edits there are, from which seed.
+/// What edits that look random are done on: grammars, a theme and a text; and how many edits there
+/// are, from which seed.
 const EDITED: (&str, &str, &str) = ("edited/grammars", "edited/dusk.json", "edited/backup.sh");
 
 const EDITS: u32 = 400;

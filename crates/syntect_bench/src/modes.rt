@@ -15,13 +15,15 @@ pub enum Runs {
     Unlinked,
     /// Prints which grammars of a folder clear scopes, and whether they put them back in order.
     Orderly,
-    /// Prints how many patterns each grammar of a folder has, and those that are not searched in linear time.
+    /// Prints how many patterns each grammar of a folder has, and those that are not searched in
+    /// linear time.
     Linear,
     /// Prints the syntax of each file in a list by the grammars of a folder.
     Syntaxes,
     /// Prints the scopes of a text by the grammars of a folder.
     Scopes,
-    /// Does edits that look random on the text of a file, and prints how many lines differ from a new highlighter's.
+    /// Does edits that look random on the text of a file, and prints how many lines differ from a
+    /// new highlighter's.
     RandomEdits,
     /// Shows some edits, or one of a text of as many lines as a block of a buffer has.
     ShownEdits,
@@ -42,7 +44,8 @@ pub enum Runs {
     TimeFile,
     /// Prints how long the queries of a file take.
     TimeQueries,
-    /// Prints how long the patterns of a file take to be compiled, beside the time that another engine takes.
+    /// Prints how long the patterns of a file take to be compiled, compared with the time that
+    /// another engine takes.
     TimePatterns,
     /// Prints how long loading, reading and styling take.
     TimeReading,

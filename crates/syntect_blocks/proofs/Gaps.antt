@@ -9,7 +9,7 @@ use Rattle.std.proofs.lemmas.Option.{slice_get-get_or}
 use Rattle.std.proofs.lemmas.List.Concat.{flat_map-append}
 use Rattle.syntect_blocks.specs.Joined.{joined, IsGap, IsPlace}
 
--- reading and writing behind a list, and within it
+-- reading and writing after a list, and within it
 set_behind : {X : Type 0} (xs ys : List X) (i : ℕ) (y : X) → set (xs ++ ys) (length xs + i) y ≡ xs ++ set ys i y
 set_behind [] ys i y = rw zero-add refl
 set_behind (x ∷ xs) ys i y = rw suc-add (ap (λ zs. x ∷ zs) (set_behind xs ys i y))
@@ -23,7 +23,7 @@ get_within [] ys i l = absurd (omega arith)
 get_within (x ∷ xs) ys zero l = refl
 get_within (x ∷ xs) ys (suc i) l = get_within xs ys i (omega arith)
 
--- what stands behind an element
+-- what comes after an element
 drop_past : {X : Type 0} (xs ys : List X) (y : X) (n : ℕ) → length xs ≡ n → drop (suc n) (xs ++ y ∷ ys) ≡ ys
 drop_past [] ys y n e = rw (← e) refl
 drop_past (x ∷ xs) ys y n e = rw (← e) (drop_past xs ys y (length xs) refl)
@@ -149,7 +149,7 @@ module _ {X : Type 0} where
 
   -- ---- a block split ----
 
-  -- with a block put in behind another
+  -- with a block put in after another
   two_at : (bs : List (Vec X)) (block : ℕ) (b e : Vec X) → block < length bs → b ≡ get_or bs block b
       → insert bs (block + 1) e ≡ take block bs ++ b ∷ (e ∷ drop (block + 1) bs)
   two_at bs block b e l r =
@@ -162,7 +162,7 @@ module _ {X : Type 0} where
       r ∙ ap (λ zs. get_or zs block b) (two_at bs block (get_or bs block b) e l (get_or_default bs block b (get_or bs block b) l))
       ∙ get_or_at (take block bs) (get_or bs block b) (e ∷ drop (block + 1) bs) b block (length-take-le block bs (omega arith))
 
-  -- two halves of a block, one behind the other, have its elements
+  -- two halves of a block, one after the other, have its elements
   pub halves : (bs all : List (Vec X)) (block half : ℕ) (b e low high : Vec X) → block < length bs → all ≡ insert bs (block + 1) e → b ≡ get_or all block b
       → low.items ≡ take half b.items → high.items ≡ drop half b.items → joined (set (set all block low) (block + 1) high) ≡ joined bs
   halves bs all block half b e low high l i r f g =

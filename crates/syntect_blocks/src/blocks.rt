@@ -26,8 +26,9 @@ impl<T> Model for Blocks<T> {
     ghost invariant = { λ a. a.len ≡ length (joined a.blocks.items) };
 }
 
-/// The gap before the element at an index, or behind the last: its block, and how many of that block's elements are before
-/// it. Where two blocks meet it is the gap behind the last element of the first one.
+/// The gap before the element at an index, or after the last: its block, and how many of that
+/// block's elements are before it. Where two blocks meet it is the gap after the last element of
+/// the first one.
 fn gap_of<T>(blocks: &[Vec<T>], index: usize) -> (usize, usize)
     requires some { blocks.now ≢ [] }
     requires within { index ≤ length (joined blocks.now) }
@@ -58,7 +59,8 @@ fn place_of<T>(blocks: &[Vec<T>], index: usize) -> (usize, usize)
     unreachable!()
 }
 
-/// Puts an element before the one at an index, or behind the last, and answers the block that has it.
+/// Puts an element before the one at an index, or after the last,
+/// and answers the block that has it.
 fn put<T: Drop>(blocks: &mut Vec<Vec<T>>, index: usize, x: T) -> Result<usize, AllocError>
     requires some { blocks.old.items ≢ [] }
     requires within { index ≤ length (joined blocks.old.items) }
@@ -147,8 +149,8 @@ impl<T: Drop> Blocks<T> {
         elements[at] = x;
     }
 
-    /// Puts an element before the one at an index, or behind the last. Without memory for it the elements stay, and it is
-    /// dropped.
+    /// Puts an element before the one at an index, or after the last. Without memory for it the
+    /// elements stay, and it is dropped.
     pub fn insert(&mut self, index: usize, x: T) -> Result<(), AllocError>
         requires { index ≤ length self.old }
         ensures ok { OnOk result (self.new ≡ insert self.old index x) }

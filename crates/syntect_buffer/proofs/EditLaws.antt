@@ -4,7 +4,7 @@ use Rattle.std.specs.List.{insert, remove}
 use Rattle.std.proofs.lemmas.List.{map-append, drop-drop, take_at, drop_at, length-take-le, set_split}
 use Rattle.std.proofs.lemmas.List.Edits.{sets, sets-eq}
 
--- elements written over what stands behind a list
+-- elements written over what comes after a list
 pub sets_behind : {X : Type 0} (xs ys vs : List X) → length vs ≤ length ys → sets (xs ++ ys) (length xs) vs ≡ xs ++ (vs ++ drop (length vs) ys)
 sets_behind xs ys vs le =
     sets-eq vs (xs ++ ys) (length xs) (omega (arith, length-append xs ys))
@@ -12,7 +12,7 @@ sets_behind xs ys vs le =
     ∙ ap (λ zs. xs ++ vs ++ zs) (sym (drop-drop (length vs) (length xs) (xs ++ ys)) ∙ ap (λ zs. drop (length vs) zs) (drop_at xs ys (length xs) refl))
     ∙ append_assoc xs vs (drop (length vs) ys)
 
--- elements written behind a new one
+-- elements written after a new one
 pub own_sets : {X : Type 0} (rs : List X) (place behind : ℕ) (r : X) (vs : List X) → place ≤ length rs → length vs ≤ length (drop behind rs)
     → sets (take place rs ++ r ∷ drop behind rs) (place + 1) vs ≡ take place rs ++ ((r ∷ []) ++ (vs ++ drop (length vs) (drop behind rs)))
 own_sets rs place behind r vs l le =
@@ -43,7 +43,7 @@ insert_remove rs zero r l = refl
 insert_remove [] (suc place) r l = absurd (omega arith)
 insert_remove (x ∷ rs) (suc place) r l = ap (λ zs. x ∷ zs) (insert_remove rs place r (omega arith))
 
--- the first elements of a list and more behind it
+-- the first elements of a list and more after it
 pub take_behind : {X : Type 0} (xs ys : List X) (k : ℕ) → take (length xs + k) (xs ++ ys) ≡ xs ++ take k ys
 take_behind [] ys k = rw zero-add refl
 take_behind (x ∷ xs) ys k = rw suc-add (ap (λ zs. x ∷ zs) (take_behind xs ys k))

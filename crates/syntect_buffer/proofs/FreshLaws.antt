@@ -209,7 +209,7 @@ module _ (set : SyntaxSet) (theme : Theme) (syntax : SyntaxReference) (old new :
           let b : length (take place rs) ≡ place = length-take-le place rs l in
           omega (arith, length-append (take place ls) (own ++ drop behind ls), length-append own (drop behind ls), length-append (take place rs) (e.readings ++ rest), length-append e.readings rest)
 
-  -- the states at a line behind the edit, before it
+  -- the states at a line after the edit, before it
   old_state : (k : ℕ) → ending old.start (take (behind + k) old.readings) ≡ ending (ending old.start (take behind old.readings)) (take k (drop behind old.readings))
   old_state k = ending-add behind k old.start old.readings
 
@@ -230,7 +230,8 @@ module _ (set : SyntaxSet) (theme : Theme) (syntax : SyntaxReference) (old new :
       ∙ ap (λ (s : LineStates). ending s (take k ys)) (ending-append old.start (take place rs) e.readings)
       ∙ ap (λ (zs : List Reading). ending (ending (ending old.start (take place rs)) e.readings) zs) (take-append-le k e.again (drop (length e.again) (drop behind rs)) le)
 
-  -- the lines that are read again are those that start from another state, up to the first that doesn't
+  -- the lines that are read again are those that start from another state,
+  -- up to the first that doesn't
   pub starts_apart : (definitions : List SyntaxDefinition) (at : ℕ) → IsBuiltOf set syntax definitions → IsKept set theme syntax old → (e : IsEdited set theme old new place behind own number)
       → place ≤ length old.readings → behind ≤ length old.readings → at ≡ place + length own
       → StartApart (seen syntax set theme old) (seen syntax set theme new) behind at (length e.again)

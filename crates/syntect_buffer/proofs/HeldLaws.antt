@@ -40,7 +40,8 @@ alike_back a b s = record { reader = sym s.reader; styles = sym s.styles }
 pub alike_on : (a b c : LineStates) → StandSame a b → StandSame b c → StandSame a c
 alike_on a b c s t = record { reader = s.reader ∙ t.reader; styles = s.styles ∙ t.styles }
 
--- states that stand where those of a past stand are held behind that past too, if they are held behind some past of the theme
+-- states that stand where those of a past stand are held after that past too, if they are held
+-- after some past of the theme
 pub holds_same : (theme : Theme) (set : SyntaxSet) (was past : Past) (o n : LineStates) → was.theme ≡ theme → past.theme ≡ theme
     → Holds was set o → Holds past set n → StandSame o n → Holds past set o
 holds_same theme set was past o n t u ho hn same =
@@ -111,7 +112,7 @@ stand_same theme set was past o n s ho hn a b e =
 
 -- ---- lists of lines ----
 
--- the past behind some lines
+-- the past after some lines
 pub record Led (past : Past) (set : SyntaxSet) (lines : List (List ℕ)) (s : LineStates) : Type 0 where
   pub answers : List Answer
   pub holds : Holds (and_all past lines answers) set s
@@ -187,7 +188,7 @@ ending-add (suc n) k s (r ∷ rs) = rw suc-add (ending-add n k r.after rs)
 
 -- ---- lines read again ----
 
--- the lines read again and those behind them were read one after another
+-- the lines read again and those after them were read one after another
 pub read_again : (theme : Theme) (set : SyntaxSet) (was past : Past) (o n : LineStates) → was.theme ≡ theme → past.theme ≡ theme → Holds was set o → Holds past set n
     → (ls : List (List ℕ)) (rs ns : List Reading) → AreReadFrom set theme o ls rs → ReadsOn set theme n o ls rs ns
     → (length ns < length ls → StandSame (ending o (take (length ns) rs)) (ending n ns)) → AreReadFrom set theme n ls (ns ++ drop (length ns) rs)
@@ -251,7 +252,7 @@ marked_same : (o n : LineStates) (rs : List Reading) → StandSame o n → AreMa
 marked_same o n [] same h = tt
 marked_same o n (r ∷ rs) same h = (λ m. alike_on n o r.after (alike_back o n same) (h.0 m), h.1)
 
--- those of lines that were read again, and behind them
+-- those of lines that were read again, and after them
 pub marked_again : (theme : Theme) (set : SyntaxSet) (o n : LineStates) (ls : List (List ℕ)) (rs ns : List Reading) → length ls ≡ length rs → AreMarked o rs → ReadsOn set theme n o ls rs ns
     → (length ns < length ls → StandSame (ending o (take (length ns) rs)) (ending n ns)) → AreMarked n (ns ++ drop (length ns) rs)
 marked_again theme set o n [] [] [] e h on stops = tt
@@ -275,7 +276,7 @@ ending_last s [] k r e = absurd (none_is_some e)
 ending_last s (x ∷ rs) zero r e = ap (λ (y : Reading). y.after) (some_same e)
 ending_last s (x ∷ rs) (suc k) r e = ending_last x.after rs k r e
 
--- behind a line that ends as it began the states stand as before it
+-- after a line that ends as it began the states stand as before it
 pub left_alike : (s : LineStates) (rs : List Reading) (place : ℕ) (r : Reading) → AreMarked s rs → slice_get rs place ≡ Some r → r.ends_alike ≡ true
     → StandSame (ending s (take (place + 1) rs)) (ending s (take place rs))
 left_alike s rs place r h e m =
@@ -283,7 +284,7 @@ left_alike s rs place r h e m =
     let here : r.after ≡ ending s (take (place + 1) rs) = sym (ending_last s rs place r e) ∙ ap (λ k. ending s (take k rs)) n in
     subst (λ (x : LineStates). StandSame x (ending s (take place rs))) here (alike_back (ending s (take place rs)) r.after (marked_at s rs place r h e m))
 
--- and as behind another one in its place that does too
+-- and as after another one in its place that does too
 pub both_alike : (s : LineStates) (rs : List Reading) (place : ℕ) (r new : Reading) → AreMarked s rs → slice_get rs place ≡ Some r → r.ends_alike ≡ true
     → IsMarked (ending s (take place rs)) new → new.ends_alike ≡ true → StandSame (ending s (take (place + 1) rs)) new.after
 both_alike s rs place r new h e m k n = alike_on (ending s (take (place + 1) rs)) (ending s (take place rs)) new.after (left_alike s rs place r h e m) (k n)

@@ -12,11 +12,11 @@ use Rattle.syntect_buffer.specs.declared.reading.Reading.{Reading}
 use Rattle.syntect_buffer.specs.declared.reading.Kept.{Kept}
 use Rattle.syntect_buffer.proofs.EditLaws.{own_sets, rest_sets, set_parts, remove_parts, map_own, map_rest}
 
--- as many lines as readings stand behind a place
+-- as many lines as readings come after a place
 behind_count : (old : Kept) (behind : ℕ) → length old.lines ≡ length old.readings → length (drop behind (lines_in old)) ≡ length (drop behind old.readings)
 behind_count old behind n = omega (arith, n, length-drop behind (lines_in old), length-drop behind old.readings, length-map old.lines string_bytes)
 
--- a line of its own and those read again behind it
+-- a line of its own and those read again after it
 own_edited : (set : SyntaxSet) (theme : Theme) (old new : Kept) (place behind : ℕ) (line : String Global) (r : Reading) (again : List Reading)
     → length old.lines ≡ length old.readings → place ≤ length old.readings
     → IsReadFrom set theme (ending old.start (take place old.readings)) (string_bytes line) r → TellsOf old.limits r.answer

@@ -11,7 +11,7 @@ use Rattle.syntect_buffer.specs.Kept.{AllTell, AreMarked, AreReadFrom, IsKept, l
 use Rattle.syntect_buffer.specs.declared.reading.Reading.{Reading}
 use Rattle.syntect_buffer.specs.declared.reading.Kept.{Kept}
 
--- memory that is wanting for a buffer is wanting behind the start
+-- if memory runs out for a buffer, it runs out after the start
 pub start_there : (set : SyntaxSet) (theme : Theme) (syntax : SyntaxReference) (h : HighlightLines) → Leads set theme syntax [] [] h → LacksStart syntax error.Memory
 start_there set theme syntax h leads = λ n. let k : Some leads.start ≡ None = sym leads.begins ∙ n in cc
 

@@ -1,4 +1,4 @@
--- Limits that are told, and the lines that are left out.
+-- Limits that are reported, and the lines that are left out.
 use Rattle.std.proofs.Common.{◌≡◌, ℕ, zero, suc, List, [], ◌∷◌, ◌++◌, length, take, drop, Some, refl, sym, ap, subst, ◌∙◌, arith, append_assoc}
 use Rattle.std.specs.List.{slice_get}
 use Rattle.syntect_base.specs.declared.limits.Limits.{Limits}
@@ -37,7 +37,7 @@ refusal_told limits e (answer.Pieces ps) h = tt
 refusal_told limits e (answer.Refused x) h = tt
 refusal_told limits e (answer.LimitReached l) h = absurd (never_limit e l h)
 
--- where there is none, none is told
+-- where there is none, none is reported
 pub no_limit : (limits : Limits) (l : LineLimit) → HasNoLimit limits → HasLimit limits l → ⊥
 no_limit limits (Steps context index place) n t = t n.0
 no_limit limits (Turns place) n t = t n.1

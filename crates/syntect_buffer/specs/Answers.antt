@@ -42,14 +42,15 @@ ranges_from from (p ∷ ps) =
 
 -- ---- answers ----
 
--- The refusal is that of the reading, which is not want of memory.
+-- The refusal is that of the reading, which is not lack of memory.
 abbrev pub IsRefusal : ParsingError → LineAnswer → Type 0
 IsRefusal parsing.Memory a = ⊥
 IsRefusal e (answer.Refused (error.ParsingError f)) = f ≡ e
 IsRefusal e a = ⊥
 
--- A buffer's answer is the one that a reading of the line comes to. Where that accepts the line, the ranges go from its start to
--- its end, and where the lines are orderly, each byte has the theme's style for its scopes.
+-- A buffer's answer is the one that a reading of the line comes to. Where that accepts the line,
+-- the ranges go from its start to its end, and where the lines are orderly, each byte has the
+-- theme's style for its scopes.
 abbrev pub IsAnswer : Type 0 → Theme → List ℕ → Answer → LineAnswer → Type 0
 IsAnswer orderly theme line (Accepted bytes) (answer.Pieces ps) =
     Follow 0 ps.items (length line) × (orderly → styles_in ps.items ≡ map (shown theme) bytes)

@@ -37,7 +37,8 @@ IsWhole b = (count : ℕ) → given_in b count ≡ take count b.lines
 
 -- ---- answers ----
 
--- These lines and then the one at this place, given in order to a new highlighter, come to this answer at the last.
+-- These lines and then the one at this place, given in order to a new highlighter, come to this
+-- answer at the last.
 pub record IsAnswerAt (b : Buffer) (lines : List (List ℕ)) (place : ℕ)
     (answer : LineAnswer) : Type 0 where
   pub start : Standing
@@ -53,15 +54,16 @@ pub record IsAnswerAt (b : Buffer) (lines : List (List ℕ)) (place : ℕ)
 
 -- ---- what an edit reads again ----
 
--- so many lines, without those of them that reached a limit, read one after another from the start of the syntax, lead to
--- this state
+-- so many lines, without those of them that reached a limit, read one after another from the start
+-- of the syntax, lead to this state
 pub record LeadTo (b : Buffer) (count : ℕ) (state : Standing) : Type 0 where
   pub start : Standing
   pub answers : List Answer
   pub begins : start_of b.syntax ≡ Some start
   pub run : AnswersAll dialect b.set (given_in b count) start answers state
 
--- the line at one place before an edit and the one at another place after it start from the same state
+-- the line at one place before an edit and the one at another place after it start
+-- from the same state
 pub record StartsSame (before after : Buffer) (old new : ℕ) : Type 0 where
   pub state : Standing
   pub leads_old : LeadTo before old state
@@ -75,9 +77,9 @@ pub record StartsApart (before after : Buffer) (old new : ℕ) : Type 0 where
   pub leads_new : LeadTo after new new_state
   pub apart : old_state ≢ new_state
 
--- An edit left the lines unchanged that stood from `old` on, and now stand from `new` on. The first `count` of them start from
--- another state than before (where all lines but those that reached a limit are orderly, before and after), and the next one,
--- if there is one, from the same.
+-- An edit left the lines unchanged that stood from `old` on, and now stand from `new` on. The first
+-- `count` of them start from another state than before (where all lines but those that reached a
+-- limit are orderly, before and after), and the next one, if there is one, from the same.
 pub record StartApart (before after : Buffer) (old new count : ℕ) : Type 0 where
   pub within : new + count ≤ length after.lines
   pub first : RunsOrderly before.set before.syntax (given_in before (length before.lines))
@@ -85,8 +87,8 @@ pub record StartApart (before after : Buffer) (old new count : ℕ) : Type 0 whe
       → (k : ℕ) → k < count → StartsApart before after (old + k) (new + k)
   pub stops : new + count < length after.lines → StartsSame before after (old + count) (new + count)
 
--- So many lines are read again: these that are new themselves, and the first unchanged ones behind them that start from
--- another state than before.
+-- So many lines are read again: these that are new themselves, and the first unchanged ones after
+-- them that start from another state than before.
 abbrev pub ReadsAgain : Buffer → Buffer → ℕ → ℕ → ℕ → ℕ → Type 0
 ReadsAgain before after own old new number =
     (count : ℕ) × (number ≡ own + count) × StartApart before after old new count

@@ -92,9 +92,9 @@ seen syntax set theme k =
       answers = answers_of k.readings;
     }
 
--- What a buffer keeps: there are as many readings as lines, their marks hold, they tell the buffer's limits alone, and for all
--- definitions that the set is built of, the first states are those before a text, and each line was read from the states that
--- the one before it left.
+-- What a buffer keeps: there are as many readings as lines, their marks hold, they tell the
+-- buffer's limits alone, and for all definitions that the set is built of, the first states are
+-- those before a text, and each line was read from the states that the one before it left.
 pub record IsKept (set : SyntaxSet) (theme : Theme) (syntax : SyntaxReference)
     (kept : Kept) : Type 0 where
   pub count : length (lines_in kept) ≡ length kept.readings
@@ -107,8 +107,8 @@ pub record IsKept (set : SyntaxSet) (theme : Theme) (syntax : SyntaxReference)
 
 -- ---- lines read again ----
 
--- Lines were read again one after another, each from other states than before: from `now` on the new ones, from `old` on the
--- ones that stood there.
+-- Lines were read again one after another, each from other states than before: from `now` on the
+-- new ones, from `old` on the ones that stood there.
 abbrev pub ReadsOn : SyntaxSet → Theme → LineStates → LineStates → List (List ℕ) → List Reading
     → List Reading → Type 0
 ReadsOn set theme now old ls rs [] = Unit {0}
@@ -117,7 +117,8 @@ ReadsOn set theme now old (l ∷ ls) (r ∷ rs) (n ∷ ns) =
     × ReadsOn set theme n.after r.after ls rs ns
 ReadsOn set theme now old ls rs (n ∷ ns) = ⊥
 
--- The lines are read again up to, and without, the first one that starts from the same states as before, or to the end.
+-- The lines are read again up to, and without, the first one that starts from the same states as
+-- before, or to the end.
 pub record AreReadAgain (set : SyntaxSet) (theme : Theme) (limits : Limits)
     (now old : LineStates) (lines : List (List ℕ)) (readings again : List Reading) : Type 0 where
   pub within : length again ≤ length lines
@@ -128,7 +129,8 @@ pub record AreReadAgain (set : SyntaxSet) (theme : Theme) (limits : Limits)
 
 -- ---- edits ----
 
--- an edit puts these lines in place of those from one place to another, and so many lines are read again
+-- an edit puts these lines in place of those from one place to another,
+-- and so many lines are read again
 pub record IsEdited (set : SyntaxSet) (theme : Theme) (old new : Kept) (place behind : ℕ)
     (own : List (List ℕ)) (number : ℕ) : Type 0 where
   pub readings : List Reading

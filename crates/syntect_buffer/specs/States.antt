@@ -16,8 +16,8 @@ pub record StandSame (a b : LineStates) : Type 0 where
   pub reader : standing a.reader ≡ standing b.reader
   pub styles : path_of a.styles ≡ path_of b.styles
 
--- What a line leaves: the states that were there before it, where those after it stand alike, or else those after it. A mark
--- says which.
+-- What a line leaves: the states that were there before it, where those after it stand alike, or
+-- else those after it. A mark says which.
 abbrev pub IsLeft : LineStates → LineStates → LineStates → Bool → Type 0
 IsLeft before after left alike =
     ((left ≡ before) × StandSame before after × (alike ≡ true))

@@ -14,12 +14,13 @@ use syntect_theme::style::Style;
 /// What a highlighter answers to a line.
 #[derive(Drop)]
 pub enum LineAnswer {
-    /// The line is accepted. The ranges of its bytes follow one another from its start to its end, and none is empty; each
-    /// has its style.
+    /// The line is accepted. The ranges of its bytes follow one another from its start to its end,
+    /// and none is empty; each has its style.
     Pieces(Vec<(Style, Range<usize>)>),
-    /// The line is refused, as it is by a new highlighter. That is never for want of memory.
+    /// The line is refused, as it is by a new highlighter. That is never for lack of memory.
     Refused(Error),
-    /// The line reached this limit of the buffer's. It leaves no trace: the next line is read as if this one were not there.
+    /// The line reached this limit of the buffer's. It leaves no trace: the next line is read as if
+    /// this one were not there.
     LimitReached(LineLimit),
 }
 
@@ -33,7 +34,8 @@ pub(crate) fn refusal(e: ParsingError) -> Result<LineAnswer, AllocError>
     }
 }
 
-/// The answer to a line of whose operations one is refused so, as only a definition made by hand has them.
+/// The answer to a line of whose operations one is refused so, as only a definition made by hand
+/// has them.
 pub(crate) fn refused_operation(e: ScopeError) -> Result<LineAnswer, AllocError>
     ensures { IfOk result (λ answer. answer ≡ Refused (AnError.ScopeError e)) }
 {

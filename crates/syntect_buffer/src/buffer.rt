@@ -42,8 +42,8 @@ impl<'a> Model for LineBuffer<'a> {
 }
 
 impl<'a> LineBuffer<'a> {
-    /// A buffer without lines, for texts in this syntax of the set, under this theme. `MissingMainContext` where the syntax
-    /// has no context `__start`.
+    /// A buffer without lines, for texts in this syntax of the set, under this theme.
+    /// `MissingMainContext` where the syntax has no context `__start`.
     pub fn new(
         alloc: Global,
         syntax: &'a SyntaxReference,
@@ -58,8 +58,9 @@ impl<'a> LineBuffer<'a> {
         LineBuffer::new_within(alloc, syntax, syntax_set, theme, Limits::unlimited())
     }
 
-    /// A buffer without lines, as `new` makes it, each of whose lines is read within the limits of steps and of turns. A line
-    /// that reaches one is answered by `LineAnswer::LimitReached`, and the lines after it are read as if it were not there.
+    /// A buffer without lines, as `new` makes it, each of whose lines is read within the limits of
+    /// steps and of turns. A line that reaches one is answered by `LineAnswer::LimitReached`, and
+    /// the lines after it are read as if it were not there.
     pub fn new_within(
         alloc: Global,
         syntax: &'a SyntaxReference,
@@ -109,8 +110,9 @@ impl<'a> LineBuffer<'a> {
     pub fn answer(&self, place: usize) -> &LineAnswer
         requires { place < length self.now.lines }
         ensures kept { slice_get self.now.answers place ≡ Some result.now }
-        // in a set that was built of plain definitions it is the answer of a new highlighter that is given, in order, the lines
-        // up to this one but those that reached a limit; or this one reached a limit itself
+        // in a set that was built of plain definitions it is the answer of a new highlighter that
+        // is given, in order, the lines up to this one but those that reached a limit; or this one
+        // reached a limit itself
         ensures fresh { (definitions : List ADefinition)
             → IsBuiltOf self.now.set self.now.syntax definitions
             → UnlessLimit result.now
@@ -126,8 +128,8 @@ impl<'a> LineBuffer<'a> {
         &self.kept.readings.get(place).answer
     }
 
-    /// Puts a line before the one at a place, or behind the last, and answers how many lines were read again. Want of
-    /// memory changes nothing, and the line is dropped then.
+    /// Puts a line before the one at a place, or after the last, and answers how many lines were
+    /// read again. Lack of memory changes nothing, and the line is dropped then.
     pub fn insert_line(
         &mut self,
         alloc: Global,
@@ -155,8 +157,8 @@ impl<'a> LineBuffer<'a> {
         )
     }
 
-    /// Puts a line in place of another one, and answers how many lines were read again. Want of memory changes nothing, and
-    /// the new line is dropped then.
+    /// Puts a line in place of another one, and answers how many lines were read again. Lack of
+    /// memory changes nothing, and the new line is dropped then.
     pub fn set_line(
         &mut self,
         alloc: Global,
@@ -184,7 +186,7 @@ impl<'a> LineBuffer<'a> {
         )
     }
 
-    /// Takes a line out, and answers how many lines were read again. Want of memory changes nothing.
+    /// Removes a line, and answers how many lines were read again. Lack of memory changes nothing.
     pub fn remove_line(&mut self, alloc: Global, place: usize) -> Result<usize, AllocError>
         requires { place < length self.old.lines }
         ensures lines { OnOk result (self.new.lines ≡ remove self.old.lines place) }

@@ -7,7 +7,8 @@ use std::alloc::{AllocError, Global};
 use syntect_parsing::syntax_set::SyntaxSet;
 use syntect_theme::theme::Theme;
 
-/// Puts a line and its reading before those at a place, or behind the last. Without memory nothing changes.
+/// Puts a line and its reading before those at a place, or after the last.
+/// Without memory nothing changes.
 fn put_in(kept: &mut Kept, place: usize, line: String, reading: Reading) -> Result<(), AllocError>
     requires count { length kept.old.lines ≡ length kept.old.readings }
     requires within { place ≤ length kept.old.readings }
@@ -27,8 +28,8 @@ fn put_in(kept: &mut Kept, place: usize, line: String, reading: Reading) -> Resu
     }
 }
 
-/// Puts a line before the one at a place, or behind the last, and answers how many lines were read again. Want of memory
-/// changes nothing.
+/// Puts a line before the one at a place, or after the last, and answers how many lines were read
+/// again. Lack of memory changes nothing.
 pub(crate) fn insert_at(
     kept: &mut Kept,
     alloc: Global,
@@ -55,7 +56,8 @@ pub(crate) fn insert_at(
     Ok(number)
 }
 
-/// Puts a line in place of another one, and answers how many lines were read again. Want of memory changes nothing.
+/// Puts a line in place of another one, and answers how many lines were read again. Lack of memory
+/// changes nothing.
 pub(crate) fn set_at(
     kept: &mut Kept,
     alloc: Global,
@@ -84,7 +86,7 @@ pub(crate) fn set_at(
     Ok(number)
 }
 
-/// Takes a line out, and answers how many lines were read again. Want of memory changes nothing.
+/// Removes a line, and answers how many lines were read again. Lack of memory changes nothing.
 pub(crate) fn remove_at(
     kept: &mut Kept,
     alloc: Global,

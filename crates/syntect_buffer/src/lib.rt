@@ -1,5 +1,6 @@
-//! The lines of a text in an editor, each with its styles. After any edits the answers are those of a new highlighter that
-//! is given all lines in order, and an edit reads no more lines again than those whose start it changed.
+//! The lines of a text in an editor, each with its styles. After any edits the answers are those of
+//! a new highlighter that is given all lines in order, and an edit reads no more lines again than
+//! those whose start it changed.
 #![tactic(auto)]
 
 pub mod answer;

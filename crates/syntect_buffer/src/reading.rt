@@ -24,7 +24,8 @@ pub(crate) struct Reading {
     pub(crate) ends_alike: bool,
 }
 
-/// The lines of a buffer, their readings, the states before the first one, and the limits that each is read within.
+/// The lines of a buffer, their readings, the states before the first one, and the limits that each
+/// is read within.
 #[derive(Drop)]
 pub(crate) struct Kept {
     pub(crate) limits: Limits,
@@ -33,7 +34,8 @@ pub(crate) struct Kept {
     pub(crate) readings: Blocks<Reading>,
 }
 
-/// Reads a line from the states at its start, within limits. A line that reaches one leaves these states.
+/// Reads a line from the states at its start, within limits.
+/// A line that reaches one leaves these states.
 pub(crate) fn read(
     alloc: Global,
     set: &SyntaxSet,
@@ -66,7 +68,8 @@ pub(crate) fn read(
     })
 }
 
-/// The states at the start of a line, where the first line starts from `start`; behind the last line, those after it.
+/// The states at the start of a line, where the first line starts from `start`; after the last
+/// line, those after it.
 pub(crate) fn states_at<'a>(
     start: &'a SharedStates,
     readings: &'a Blocks<Reading>,
@@ -92,8 +95,9 @@ fn states_after<'a>(now: &'a SharedStates, readings: &'a [Reading]) -> &'a Share
     }
 }
 
-/// Reads lines again from a place on, where the states are now these: up to, and without, the first line that starts from
-/// the same states as before, or to the end. Where it is known that the first one does, no states are compared.
+/// Reads lines again from a place on, where the states are now these: up to, and without, the first
+/// line that starts from the same states as before, or to the end. Where it is known that the first
+/// one does, no states are compared.
 pub(crate) fn read_again(
     alloc: Global,
     set: &SyntaxSet,

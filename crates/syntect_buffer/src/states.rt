@@ -53,7 +53,7 @@ impl SharedStates {
         self.states.as_ref()
     }
 
-    /// The same states for one line more.
+    /// A copy of the states' handle, for one line more.
     fn share(&self) -> Result<SharedStates, AllocError>
         ensures { IfOk result (λ s. s ≡ self.now) }
     {
@@ -70,8 +70,8 @@ pub(crate) fn stand_same(a: &SharedStates, b: &SharedStates) -> bool
     are_same(a.states(), b.states())
 }
 
-/// What a line leaves that begins with the first states: those themselves where it ends as it began, so that no line keeps
-/// states that the line before it has; and whether it does.
+/// What a line leaves that begins with the first states: those themselves where it ends as it
+/// began, so that no line keeps states that the line before it has; and whether it does.
 pub(crate) fn left(
     alloc: Global,
     before: &SharedStates,
@@ -86,7 +86,7 @@ pub(crate) fn left(
     }
 }
 
-/// The same state once more.
+/// A copy of the state.
 pub(crate) fn copied(reader: &ParseState) -> Result<ParseState, AllocError>
     ensures { IfOk result (λ s. s ≡ reader.now) }
 {

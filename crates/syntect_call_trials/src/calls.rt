@@ -1,4 +1,5 @@
-//! Calls that can be refused for want of memory, each made a few times over, with what it answers and what it leaves.
+//! Calls that can be refused for lack of memory, each made a few times over, with what it answers
+//! and what it leaves.
 use crate::{files, metadata, patterns, scopes, selectors, styles, writers};
 use std::rt::Files;
 
@@ -13,7 +14,8 @@ pub const NAMES: [&[&str]; 7] = [
     &writers::NAMES,
 ];
 
-/// Makes the call of this name, and shows each time what it answers and leaves. Shows nothing if there is none.
+/// Makes the call of this name, and shows each time what it answers and leaves. Shows nothing if
+/// there is none.
 pub fn show_call(rt: &(impl Print + AllocGlobal + Files), name: &str) {
     files::make(rt, name);
     metadata::make(rt, name);

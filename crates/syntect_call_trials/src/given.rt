@@ -1,4 +1,5 @@
-//! What the calls are given. It is made where there is memory: what is refused stands within a call.
+//! What the calls are given. It is made where there is memory:
+//! what is refused stands within a call.
 use std::alloc::Global;
 use syntect_regex::regex::Regex;
 use syntect_scope::repository::ScopeRepository;

@@ -1,4 +1,5 @@
-//! What is printed around a call: a line before it and one behind it, then its answer and what it left.
+//! What is printed around a call: a line before it and one after it,
+//! then its answer and what it left.
 use std::fmt;
 
 /// How often a call is made.

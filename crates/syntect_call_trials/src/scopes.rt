@@ -126,8 +126,8 @@ fn stack_apply_clear(rt: &(impl Print + AllocGlobal)) {
     applies(rt, &mut stack, &ScopeStackOp::Clear(ClearAmount::TopN(2)));
 }
 
-/// What is cleared is put behind the rest of a copy, which has no more room than it takes. From the second time on nothing
-/// is left to restore.
+/// What is cleared is put after the rest of a copy, which has no more room than it takes. From the
+/// second time on nothing is left to restore.
 fn stack_apply_restore(rt: &(impl Print + AllocGlobal)) {
     let alloc = rt.alloc();
     let mut repository = ScopeRepository::new(alloc);

@@ -111,7 +111,7 @@ fn piece(
     }
 }
 
-/// The same with its range.
+/// A piece with its range, and the operation at its end.
 fn ranged_piece(
     rt: &impl Print,
     highlighter: &Highlighter<'_>,

@@ -73,7 +73,8 @@ fn sheet(rt: &(impl Print + AllocGlobal)) {
     }
 }
 
-/// What is written of a line and of a scope that begins in it: spans with classes, or the operations below it.
+/// What is written of a line and of a scope that begins in it: spans with classes, or the
+/// operations below it.
 fn written(
     rt: &(impl Print + AllocGlobal),
     operations: &[(usize, ScopeStackOp)],

@@ -140,7 +140,7 @@ module _ (set : SyntaxSet) (syntax : SyntaxReference) (repository : List (List �
             (subst (λ (ls : List (List ℕ)). AnswersAll dialect set (ls ++ line ∷ []) b.start (map Accepted b.scopes ++ RefusedBy e ∷ []) (state_in g)) (sym rows.lines_are) run);
       }
 
-  -- memory that is wanting for the end of a page is wanting behind the start
+  -- if memory runs out for the end of a page, it runs out after the start
   pub wanting : (left : List ℕ) (g : ClassedHTMLGenerator) → GivenStands → ClassedSoFar set syntax repository style text left g → HasNoClassedPage set syntax text error.Memory
   wanting left g stands s =
       let b : StandsAfter set syntax s.lines g = stands set syntax repository style s.lines g s.given in

@@ -19,8 +19,8 @@ pub record IsClassedPageOf (premise : Type 0) (set : SyntaxSet) (syntax : Syntax
   pub of_lines : IsClassedPage premise set syntax repository prefix (lines_of text) page
   pub joined : concat (lines_of text) ≡ text
 
--- Some lines of the text were accepted, one after another from the start of the syntax, and a generator that stands behind them
--- refuses the next one with this refusal.
+-- Some lines of the text were accepted, one after another from the start of the syntax, and a
+-- generator that stands after them refuses the next one with this refusal.
 pub record StopsAt (set : SyntaxSet) (syntax : SyntaxReference) (text : List ℕ)
     (e : Error) : Type 0 where
   pub lines : List (List ℕ)

@@ -13,9 +13,9 @@ use Rattle.syntect_loader.specs.declared.definition.SyntaxDefinition.{SyntaxDefi
 use Rattle.syntect_contexts.specs.declared.syntax_reference.SyntaxReference.{SyntaxReference}
 use Rattle.syntect.specs.Pages.{IsPage}
 
--- The grammar's text has a definition in the repository, and the page shows the text in its syntax, whose set was built of
--- it alone: each line is read from the state that the lines before it leave, and where the lines are orderly, each byte has
--- the theme's style for its scopes.
+-- The grammar's text has a definition in the repository, and the page shows the text in its syntax,
+-- whose set was built of it alone: each line is read from the state that the lines before it leave,
+-- and where the lines are orderly, each byte has the theme's style for its scopes.
 pub record IsPageOf (repository : List (List ℕ)) (grammar : List ℕ) (theme : Theme)
     (text page : List ℕ) : Type 0 where
   pub definition : SyntaxDefinition
@@ -36,14 +36,16 @@ pub record Load (repository : List (List ℕ)) (first second : List ℕ) : Type 
   pub loads_one : loaded first true None repository ≡ Ok (one, between)
   pub loads_two : loaded second true None between ≡ Ok (two, left)
 
--- The lines were read one after another from the start of the first grammar's syntax, in the set that was built of both;
--- the pieces join to the third, and where the lines are orderly, each of its bytes has the theme's style for its scopes.
+-- The lines were read one after another from the start of the first grammar's syntax, in the set
+-- that was built of both; the pieces join to the third, and where the lines are orderly, each of
+-- its bytes has the theme's style for its scopes.
 abbrev pub IsThirdOf : List (List ℕ) → List ℕ → List ℕ → Theme → List ℕ → List ℕ → List ℕ
     → List (Style × Bor (List ℕ)) → Type 0
 IsThirdOf repository first second theme x y z pieces =
     (l : Load repository first second) × IsThirdLine (l.one ∷ l.two ∷ []) theme x y z pieces
 
--- why there are no pieces: a line's reading picks a match that names a reference without target, or memory ran out
+-- why there are no pieces: a line's reading picks a match that names a reference without target, or
+-- memory ran out
 abbrev pub IsRefusalOf : List (List ℕ) → List ℕ → List ℕ → List (List ℕ) → Error → Type 0
 IsRefusalOf repository first second lines error.Memory = Unit {0}
 IsRefusalOf repository first second lines e =

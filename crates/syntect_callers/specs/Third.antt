@@ -24,9 +24,9 @@ use Rattle.syntect_grammar.specs.declared.error.Error.TheVariants as error
 abbrev pub IsOf : List SyntaxDefinition → SyntaxSet → Type 0
 IsOf definitions set = syntaxes_in set ≡ linked definitions
 
--- The lines were read one after another from the start of the first syntax of a set that was built of the definitions,
--- all accepted; the pieces join to the third, and where the lines are orderly, each of its bytes has the theme's style for
--- its scopes.
+-- The lines were read one after another from the start of the first syntax of a set that was built
+-- of the definitions, all accepted; the pieces join to the third, and where the lines are orderly,
+-- each of its bytes has the theme's style for its scopes.
 pub record IsThirdLine (definitions : List SyntaxDefinition) (theme : Theme)
     (first second third : List ℕ) (pieces : List (Style × Bor (List ℕ))) : Type 0 where
   pub set : SyntaxSet
@@ -62,9 +62,9 @@ abbrev pub FirstStays : List SyntaxDefinition → Type 0
 FirstStays definitions = (set : SyntaxSet) (syntax : SyntaxReference) → IsOf definitions set
     → slice_get (syntaxes_in set) 0 ≡ Some syntax → StaysInStart set syntax
 
--- One of the lines is refused, in a set that was built of the definitions: those before it were accepted, from the start of
--- its first syntax on, and a turn of its reading picks a match that names a reference without target, which the refusal
--- has.
+-- One of the lines is refused, in a set that was built of the definitions: those before it were
+-- accepted, from the start of its first syntax on, and a turn of its reading picks a match that
+-- names a reference without target, which the refusal has.
 pub record IsRefusedLine (definitions : List SyntaxDefinition) (lines : List (List ℕ))
     (e : ParsingError) : Type 0 where
   pub set : SyntaxSet

@@ -7,7 +7,8 @@ use syntect::easy::HighlightLines;
 use syntect::highlighting::Theme;
 use syntect::laws::states_go_on;
 
-/// The highlighter of the states that another one gives away, under its theme: it stands where that one stood.
+/// The highlighter of the states that another one gives away, under its theme: it stands where that
+/// one stood.
 pub fn taken_up_again<'a>(
     alloc: Global,
     theme: &'a Theme,

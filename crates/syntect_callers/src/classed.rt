@@ -18,10 +18,11 @@ use syntect::util::LinesWithEndings;
 use syntect_parsing::laws::answers_more;
 use syntect_writers::laws::lines_join;
 
-/// The page with classes of a text, in a syntax of the set. Its contract is what a reader of the page sees: the text, and
-/// nothing else outside tags, and every span closed; each byte under the tags of the scopes that it was read with, where
-/// the lines are orderly, in each set that was built of plain definitions, as loaded ones are. It is refused where the syntax
-/// has no `__start`, and where a line's reading is refused.
+/// The page with classes of a text, in a syntax of the set. Its contract is what a reader of the
+/// page sees: the text, and nothing else outside tags, and every span closed; each byte under the
+/// tags of the scopes that it was read with, where the lines are orderly, in each set that was
+/// built of plain definitions, as loaded ones are. It is refused where the syntax has no `__start`,
+/// and where a line's reading is refused.
 pub fn classed_page_of(
     alloc: Global,
     text: &str,

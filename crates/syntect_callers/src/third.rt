@@ -11,11 +11,12 @@ use syntect::easy::HighlightLines;
 use syntect::highlighting::{Style, Theme};
 use syntect::parsing::{ScopeRepository, SyntaxSetBuilder};
 
-/// The pieces of the third of three lines of text in the first syntax of a set that is built of these definitions. For
-/// plain definitions its contract is the whole promise: the three lines were read one after another, the pieces join to
-/// the third, and where the lines are orderly, as all are in a set that clears nothing, each byte has the theme's style
-/// for its scopes. Where the references are all by name and no pattern leaves `__start`, a refusal is that of a line
-/// whose reading picks a match that names a context that is not there.
+/// The pieces of the third of three lines of text in the first syntax of a set that is built of
+/// these definitions. For plain definitions its contract is the whole promise: the three lines were
+/// read one after another, the pieces join to the third, and where the lines are orderly, as all
+/// are in a set that clears nothing, each byte has the theme's style for its scopes. Where the
+/// references are all by name and no pattern leaves `__start`, a refusal is that of a line whose
+/// reading picks a match that names a context that is not there.
 pub fn third_line<'b>(
     alloc: Global,
     builder: SyntaxSetBuilder,

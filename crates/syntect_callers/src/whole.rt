@@ -1,4 +1,5 @@
-//! Callers of the loader and the highlighter, from the texts of grammars to a page, and to the pieces of lines.
+//! Callers of the loader and the highlighter, from the texts of grammars to a page, and to the
+//! pieces of lines.
 ghost use Rattle.std.specs.Prelude.{IfOk, IfErr, IfSome, string_bytes, [], ◌∷◌};
 ghost use Rattle.syntect_callers.specs.Grammars.{IsPageOf, IsThirdOf, IsRefusalOf};
 
@@ -11,9 +12,9 @@ use syntect::laws::{loaded_is_plain, loaded_sets_stay};
 use syntect::parsing::{ScopeRepository, SyntaxSetBuilder};
 use syntect_parsing::syntax_definition::SyntaxDefinition;
 
-/// The page of a text in the syntax of a grammar, whose lines are given with their newlines; none where the grammar's
-/// text has no definition. Its contract is the promise from the grammar's text on: nothing has to be known of the
-/// grammar.
+/// The page of a text in the syntax of a grammar, whose lines are given with their newlines; none
+/// where the grammar's text has no definition. Its contract is the promise from the grammar's text
+/// on: nothing has to be known of the grammar.
 pub fn page_of(
     alloc: Global,
     repository: &mut ScopeRepository,
@@ -39,9 +40,9 @@ pub fn page_of(
     Ok(Some(page))
 }
 
-/// The pieces of the third of three lines of text in the first of two grammars, which may refer to each other; none where
-/// the text of one has no definition. Its contract is the whole promise from the grammars' texts on: nothing has to be
-/// known of the grammars.
+/// The pieces of the third of three lines of text in the first of two grammars, which may refer to
+/// each other; none where the text of one has no definition. Its contract is the whole promise from
+/// the grammars' texts on: nothing has to be known of the grammars.
 pub fn third_line_of<'b>(
     alloc: Global,
     repository: &mut ScopeRepository,

@@ -114,7 +114,7 @@ file_text limits format set theme path all syntax limit first told P u s n h = (
   subst (λ (l : Limits). IsWritten l format set theme syntax h.0 all first) u h.3,
 )
 
--- ---- what is told ----
+-- ---- what is reported ----
 
 pub never_some : (n : Note) → None ≡ Some n → ⊥
 never_some n e = cc
@@ -122,7 +122,7 @@ never_some n e = cc
 pub never_none : (n : Note) → Some n ≡ None → ⊥
 never_none n e = cc
 
--- what was told of limits was told of the same ones
+-- what was reported of limits was reported of the same ones
 pub told_of_limits : (old new : Option (List ℕ)) (n other : Note) → Some n ≡ Some other → Tells old new n → Tells old new other
 told_of_limits old new n other e told =
     let same : n ≡ other = cc in

@@ -22,7 +22,7 @@ appends_kept (Some a) (Some b) (Some c) xs h k = k ∙ h
 appends_kept (Some a) (Some b) None xs h k = absurd k
 appends_kept (Some a) None new xs h k = absurd h
 
--- what stands behind some bytes
+-- what comes after some bytes
 pub rest_of : (bytes : List ℕ) (from : ℕ) → take (length bytes - from) (drop from bytes) ≡ drop from bytes
 rest_of bytes from = subst (λ n. take n (drop from bytes) ≡ drop from bytes) (length-drop from bytes) (take-length (drop from bytes))
 

@@ -40,7 +40,7 @@ fault_line (Limit r path) =
     ++ (string_bytes path ++ (codes ": " ++ (limit_text r ++ codes "\n")))
 fault_line fault = plain_line fault
 
--- the fault that is told where there is no memory for the line
+-- the fault that is reported where there is no memory for the line
 abbrev pub without_limit : Fault → Fault
 without_limit (Limit r path) = Syntaxes
 without_limit fault = fault

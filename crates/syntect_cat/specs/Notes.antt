@@ -1,4 +1,4 @@
--- What is told of a text that limits were reached in.
+-- What is reported of a text in which limits were reached.
 use Rattle.std.specs.Prelude.{ℕ, List, ◌++◌, codes, decimal, Option, Some, None, ◌⊎◌}
 use Rattle.syntect_first_lines.specs.declared.error.FirstLineLimit.{FirstLineLimit}
 use Rattle.syntect_cat.specs.Written.{Begins}
@@ -21,21 +21,21 @@ note_line line =
     codes "syncat: line "
     ++ (decimal line.0 ++ (codes " is shown plain: " ++ (reached_text line.1 ++ codes "\n")))
 
--- what is told where there is no memory for more
+-- what is reported where there is no memory for more
 abbrev pub short_note : List ℕ
 short_note = codes "syncat: a line is shown plain\n"
 
--- what is told where the syntax was not found within limits
+-- what is reported where the syntax was not found within limits
 abbrev pub syntax_note : List ℕ
 syntax_note = codes "syncat: shown as plain text: too many steps for the first line\n"
 
--- what is told of a text for whose syntax, or in whose first plain line, a limit was reached
+-- what is reported of a text for whose syntax, or in whose first plain line, a limit was reached
 abbrev pub note_of : Option FirstLineLimit → Option (ℕ × LineLimit) → Option Note
 note_of (Some limit) line = Some Syntax
 note_of None (Some line) = Some (Line line)
 note_of None None = None
 
--- it is told, or begun; of a line perhaps without its number, as there was no memory for it
+-- it is reported, or begun; of a line perhaps without its number, as there was no memory for it
 abbrev pub Tells : Option (List ℕ) → Option (List ℕ) → Note → Type 0
 Tells old new Syntax = Begins old new syntax_note
 Tells old new (Line line) = (Begins old new (note_line line)) ⊎ (Begins old new short_note)

@@ -20,8 +20,8 @@ use Rattle.syntect_cat.specs.declared.fault.Fault.TheVariants.{Limit}
 use Rattle.syntect_cat.specs.declared.job.Format.{Format}
 use Rattle.syntect_cat.specs.declared.note.Note.{Note}
 
--- The set links the syntax of plain text and the grammars in a folder, read for lines with newlines and within the usual
--- limits, and has the metadata there.
+-- The set links the syntax of plain text and the grammars in a folder, read for lines with newlines
+-- and within the usual limits, and has the metadata there.
 -- All is read with a repository that was empty and has become this one.
 pub record IsSetOf (folder : List ℕ) (repository : List (List ℕ)) (set : SyntaxSet) : Type 0 where
   pub plain : SyntaxSetBuilder
@@ -36,7 +36,8 @@ pub record IsSetOf (folder : List ℕ) (repository : List (List ℕ)) (set : Syn
   pub paths : set_paths set ≡ paths_in all
   pub metadata : IsMergedOf found all repository (metadata_in set)
 
--- The grammar in the file of this path passes the limit: it is the first in the folder that gives no definition.
+-- The grammar in the file of this path passes the limit: it is the first in the folder that gives
+-- no definition.
 pub record PassesLimit (folder : List ℕ) (r : AReached) (path : String Global) : Type 0 where
   pub plain : SyntaxSetBuilder
   pub all : SyntaxSetBuilder
@@ -56,7 +57,8 @@ HasReasonFor words fault =
     (folder theme file : List ℕ) (format : Format)
     → words ≡ words_for folder theme format file → HasReason folder fault
 
--- The text shows a file by the grammars of a folder and the theme of some bytes, and this is told of limits that were reached.
+-- The text shows a file by the grammars of a folder and the theme of some bytes, and this is
+-- reported of limits that were reached.
 pub record IsShown (folder : List ℕ) (format : Format) (file text : List ℕ)
     (note : Option Note) : Type 0 where
   pub repository : List (List ℕ)
@@ -68,7 +70,7 @@ pub record IsShown (folder : List ℕ) (format : Format) (file text : List ℕ)
   pub theme_is : IsThemeOf repository bytes after theme
   pub shows : ShowsFile format set theme file text note
 
--- the text is what these words ask for, and this is told of it
+-- the text is what these words ask for, and this is reported of it
 abbrev pub IsAskedFor : List (List ℕ) → List ℕ → Option Note → Type 0
 IsAskedFor words text note =
     (folder theme file : List ℕ) × (format : Format) × (words ≡ words_for folder theme format file)

@@ -21,7 +21,8 @@ use Rattle.syntect.specs.PlainLines.{AreLinesOf, Shown, first_plain, pieces_in}
 use Rattle.syntect_cat.specs.declared.job.Format.{Format}
 use Rattle.syntect_cat.specs.declared.job.Format.TheVariants.{Html, Terminal}
 
--- when spans of HTML tell the colour behind them: where it isn't the one behind the theme's text; a terminal has no spans
+-- when spans of HTML give the colour behind them: where it isn't the one behind the theme's text; a
+-- terminal has no spans
 abbrev pub ground_of : Format → Theme → Option IncludeBackground
 ground_of Html theme = Some (IfDifferent (background_of theme))
 ground_of Terminal theme = None
@@ -55,8 +56,8 @@ first_of (Some line) before limit = Some line
 first_of None before (Some limit) = Some (before + 1, limit)
 first_of None before None = None
 
--- All is the text's lines, each read within the limits or plain, between what stands before and after them; `first` is the first
--- plain line.
+-- All is the text's lines, each read within the limits or plain, between what stands before and
+-- after them; `first` is the first plain line.
 pub record IsWritten (limits : Limits) (format : Format) (set : SyntaxSet) (theme : Theme)
     (syntax : SyntaxReference) (text all : List ℕ) (first : Option (ℕ × LineLimit)) : Type 0 where
   pub lines : List Shown
@@ -66,8 +67,8 @@ pub record IsWritten (limits : Limits) (format : Format) (set : SyntaxSet) (them
       ++ (lines_text (ground_of format theme) lines ++ end_of (ground_of format theme))
   pub first_is : first ≡ first_plain 0 lines
 
--- All shows some text in the syntax of the file, or as plain text where that was not found, within the usual limits, of which this
--- is told.
+-- All shows some text in the syntax of the file, or as plain text where that was not found, within
+-- the usual limits, of which this is reported.
 abbrev pub ShowsFile : Format → SyntaxSet → Theme → List ℕ → List ℕ → Option Note → Type 0
 ShowsFile format set theme path all note =
     (syntax : SyntaxReference) × (limit : Option FirstLineLimit)

@@ -2,6 +2,7 @@
 use Rattle.std.specs.Prelude.{ℕ, List, take, Option}
 use Rattle.std.specs.Io.KnownBytes.{Appends}
 
--- these bytes were begun: some of the first, perhaps none and perhaps all, were written, and nothing else
+-- these bytes were begun: some of the first, perhaps none and perhaps all, were written, and
+-- nothing else
 abbrev pub Begins : Option (List ℕ) → Option (List ℕ) → List ℕ → Type 0
 Begins old new bytes = (n : ℕ) × Appends old new (take n bytes)

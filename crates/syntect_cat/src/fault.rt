@@ -9,7 +9,7 @@ use syntect_base::limits::LimitReached;
 /// What is written where the words ask for nothing.
 pub const USAGE: &str = "usage: syncat FOLDER THEME html|term FILE\n";
 
-/// Why a text is not shown. Want of memory is the fault of the step that it came in.
+/// Why a text is not shown. Lack of memory is the fault of the step that it came in.
 #[derive(Debug, Drop, PartialEq, Eq)]
 pub enum Fault {
     /// The folder was not read, or a grammar in it is none.

@@ -24,7 +24,8 @@ pub struct Job<'a> {
 }
 
 impl<'a> Job<'a> {
-    /// The job that these words ask for: a folder, a theme, `html` or `term`, and a file. Others ask for none.
+    /// The job that these words ask for: a folder, a theme, `html` or `term`, and a file. Others
+    /// ask for none.
     pub fn from_words(words: &'a [String]) -> Option<Job<'a>>
         ensures some { IfSome result (λ job. map string_bytes words.now ≡ words_of job) }
         ensures none { IfNone result (¬ (AreWords (map string_bytes words.now))) }

@@ -1,4 +1,5 @@
-//! Shows a text file, highlighted: grammars from a folder and a theme from a file, as HTML or for a terminal.
+//! Shows a text file, highlighted: grammars from a folder and a theme from a file,
+//! as HTML or for a terminal.
 //!
 //! `run` is the whole program `syncat` over its words, the file system and two writers.
 #![tactic(auto)]

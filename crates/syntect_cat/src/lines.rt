@@ -39,7 +39,8 @@ fn first_of(first: Option<PlainLine>, before: u64, limit: Option<LineLimit>) -> 
     }
 }
 
-/// A file's text in a format, with what is told of limits that were reached. The syntax is that of the file, or else plain text.
+/// A file's text in a format, with what is reported of limits that were reached. The syntax is that
+/// of the file, or else plain text.
 pub(crate) fn text_of_file(
     files: &impl Files,
     alloc: Global,

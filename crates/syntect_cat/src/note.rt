@@ -1,4 +1,4 @@
-//! What is told of a text that limits were reached in.
+//! What is reported of a text in which limits were reached.
 ghost use Rattle.std.specs.Prelude.{◌≡◌, ◌⊎◌, IfOk, string_bytes};
 ghost use Rattle.syntect_cat.specs.Notes.{Tells, note_line, note_of, reached_text, short_note, syntax_note};
 ghost use Rattle.syntect_cat.specs.Written.{Begins};
@@ -10,7 +10,7 @@ use std::io::Write;
 use syntect_first_lines::error::FirstLineLimit;
 use syntect_parsing::within::LineLimit;
 
-/// What is told of a text that limits were reached in: the foremost of these.
+/// What is reported of a text in which limits were reached: the foremost of these.
 #[derive(Clone, Copy)]
 pub enum Note {
     /// The search for its syntax by the first line reached one, so that it is shown as plain text.
@@ -19,7 +19,7 @@ pub enum Note {
     Line(PlainLine),
 }
 
-/// What is told of a text for whose syntax, or in whose first plain line, a limit was reached.
+/// What is reported of a text for whose syntax, or in whose first plain line, a limit was reached.
 pub(crate) fn note_of(limit: Option<FirstLineLimit>, line: Option<PlainLine>) -> Option<Note>
     ensures { result ≡ note_of limit line }
 {
@@ -30,10 +30,10 @@ pub(crate) fn note_of(limit: Option<FirstLineLimit>, line: Option<PlainLine>) ->
     }
 }
 
-/// What is told where the syntax was not found within limits.
+/// What is reported where the syntax was not found within limits.
 const SYNTAX_NOTE: &str = "syncat: shown as plain text: too many steps for the first line\n";
 
-/// What is told where there is no memory for more.
+/// What is reported where there is no memory for more.
 const SHORT_NOTE: &str = "syncat: a line is shown plain\n";
 
 /// Which limit a line reached, and at which byte of it.

@@ -25,17 +25,19 @@ const WRONG_WORDS: u8 = 2;
 /// The status after any other fault.
 const FAILED: u8 = 1;
 
-/// Shows a file: the words are the folder of the grammars, the theme, `html` or `term`, and the file. Its text is written to
-/// `out` once it is whole, and the status is 0.
+/// Shows a file: the words are the folder of the grammars, the theme, `html` or `term`, and the
+/// file. Its text is written to `out` once it is whole, and the status is 0.
 ///
-/// The grammars are loaded, the syntax is looked for by the first line, and each line is highlighted, within `Limits::default`. A text
-/// for whose syntax the limit is reached is shown as plain text. A line that reaches a limit is shown plain, in the theme's own style,
-/// and the next one is read as if it weren't there. `err` is given a line that tells of the syntax, or else of the first such line,
-/// once the text is written.
+/// The grammars are loaded, the syntax is looked for by the first line, and each line is
+/// highlighted, within `Limits::default`. A text for whose syntax the limit is reached is shown as
+/// plain text. A line that reaches a limit is shown plain, in the theme's own style, and the next
+/// one is read as if it weren't there. `err` is given a line that tells of the syntax, or else of
+/// the first such line, once the text is written.
 ///
-/// Other words have the status 2, and any other fault has the status 1; `err` is given a line that tells of it, and `out` nothing,
-/// but that a text may be begun where it can't be written. The line of a grammar that would pass a limit names its file and the
-/// limit, and of a pattern the context and the item. What can't be written to `err` changes nothing.
+/// Other words have the status 2, and any other fault has the status 1; `err` is given a line that
+/// tells of it, and `out` nothing, but that a text may be begun where it can't be written. The line
+/// of a grammar that would pass a limit names its file and the limit, and of a pattern the context
+/// and the item. What can't be written to `err` changes nothing.
 pub fn run<W: Write, E: Write>(
     files: &impl Files,
     alloc: Global,
@@ -46,7 +48,8 @@ pub fn run<W: Write, E: Write>(
     ensures status { result ≤ 2 }
     ensures asked { AreWords (map string_bytes words.now) ↔ (result ≢ 2) }
 
-    // the text was written, whole; and a line tells of the foremost limit that was reached, if there is one
+    // the text was written, whole; and a line tells of the foremost limit that was reached, if
+    // there is one
     ensures shown { result ≡ 0
         → (text : List ℕ) × (note : AnOption ANote)
         × IsAskedFor (map string_bytes words.now) text note
@@ -54,7 +57,8 @@ pub fn run<W: Write, E: Write>(
         × (note ≡ None → err.new ≡ err.old)
         × ((n : ANote) → note ≡ Some n → Tells (E.contents err.old) (E.contents err.new) n) }
 
-    // a line tells of the fault, and no text is begun but where it can't be written; what can't be written is begun
+    // a line tells of the fault, and no text is begun but where it can't be written; what can't be
+    // written is begun
     ensures usage { result ≡ 2
         → (out.new ≡ out.old) × Begins (E.contents err.old) (E.contents err.new) usage_line }
     ensures failed { result ≡ 1
@@ -93,7 +97,7 @@ fn tell<E: Write>(alloc: Global, fault: &Fault, err: &mut E)
     };
 }
 
-/// Writes the text that a job asks for, and answers what is told of limits that were reached.
+/// Writes the text that a job asks for, and answers what is reported of limits that were reached.
 fn show<W: Write>(
     files: &impl Files,
     alloc: Global,

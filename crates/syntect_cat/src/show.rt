@@ -21,8 +21,8 @@ use syntect_scope::repository::ScopeRepository;
 use syntect_theme::theme::Theme;
 use syntect_theme_files::theme_set::ThemeSet;
 
-/// Plain text and the grammars and metadata in a folder, linked, for lines with newlines. The grammars are loaded within
-/// `Limits::default`.
+/// Plain text and the grammars and metadata in a folder, linked, for lines with newlines. The
+/// grammars are loaded within `Limits::default`.
 #[tactic(auto, using(crate::proofs::ShownLaws::set_of))]
 fn load_syntaxes(
     files: &impl Files,
@@ -78,8 +78,9 @@ fn load_theme(
     }
 }
 
-/// The text that a job asks for, and what is told of limits that were reached. The grammars are loaded first, then the theme, and then the file is
-/// read and highlighted, each line within `Limits::default`; the first fault ends it.
+/// The text that a job asks for, and what is reported of limits that were reached. The grammars are
+/// loaded first, then the theme, and then the file is read and highlighted, each line within
+/// `Limits::default`; the first fault ends it.
 pub(crate) fn text_for(
     files: &impl Files,
     alloc: Global,

@@ -47,7 +47,7 @@ impl TextWriter {
         }
     }
 
-    /// Puts a line last, in styled pieces.
+    /// Appends a line, in styled pieces.
     pub(crate) fn append(&mut self, pieces: &[(Style, &str)]) -> Result<(), Error>
         ensures spans { OnOk result (self.new.spans ≡ self.old.spans) }
         ensures text { OnOk result (string_bytes self.new.text

@@ -8,7 +8,7 @@ use syntect_cat::run;
 /// What a run is asked for: a folder of grammars, a theme, a format, and a file.
 pub type Asked = [&'static str; 4];
 
-/// A grammar in which each word behind a space is a `word`.
+/// A grammar in which each word after a space is a `word`.
 const GRAMMAR: &str = r#"%YAML 1.2
 ---
 name: T

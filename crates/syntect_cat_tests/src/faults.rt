@@ -17,7 +17,8 @@ const NO_FILE: &str = "syncat: cannot read file\n";
 
 const NOT_SHOWN: &str = "syncat: cannot highlight\n";
 
-/// A run with these words fails with this line, and shows no text. The status is 2 where it shows how it is used, and else 1.
+/// A run with these words fails with this line, and shows no text. The status is 2 where it shows
+/// how it is used, and else 1.
 fn words_fail(rt: &(impl Files + AllocGlobal + Abort), words: &[String], line: &str) {
     let outcome = outcome_of(rt, words);
     equal(rt, outcome.err.as_slice(), line.as_bytes());
@@ -48,8 +49,8 @@ const NOT_THERE: [(Asked, &str); 4] = [
     (["grammars", "theme.tmTheme", "term", "none"], NO_FILE),
 ];
 
-/// Runs with several faults, of which the first is told: the words are looked at first, then the grammars, then the theme,
-/// then the file.
+/// Runs with several faults, of which the first is reported: the words are looked at first, then
+/// the grammars, then the theme, then the file.
 const SEVERAL: [(Asked, &str); 3] = [
     (["none", "none", "text", "none"], USAGE),
     (["none", "none", "html", "none"], NO_SYNTAXES),
@@ -95,7 +96,8 @@ fn files_that_hold_something_else(rt: HostRuntime) {
     desk.close(&rt);
 }
 
-/// A grammar whose variables stand for ten times as much in each step, ten million letters in the second item of `main`.
+/// A grammar whose variables stand for ten times as much in each step, ten million letters in the
+/// second item of `main`.
 const GROWING: &str = r"scope: source.h
 variables:
   a: '{{b}}{{b}}{{b}}{{b}}{{b}}{{b}}{{b}}{{b}}{{b}}{{b}}'
@@ -146,7 +148,7 @@ fn a_line_that_is_refused(rt: HostRuntime) {
     desk.close(&rt);
 }
 
-/// A writer that takes some bytes, and fails behind them.
+/// A writer that takes some bytes, and fails after them.
 #[derive(Drop)]
 struct Full {
     room: usize,

@@ -1,6 +1,7 @@
 //! Tests of the program over real files, by values from outside.
 //!
-//! Each writes its grammars, its theme and its file into a folder of its own among the temporary files.
+//! Each writes its grammars, its theme and its file into a folder of its own
+//! among the temporary files.
 #![tactic(auto)]
 
 #[cfg(test)]

@@ -45,7 +45,7 @@ fn a_page_and_text_for_a_terminal(rt: HostRuntime) {
     desk.close(&rt);
 }
 
-/// Behind the last line, once.
+/// After the last line, once.
 #[test]
 fn the_terminal_has_its_own_colours_again(rt: HostRuntime) {
     let desk = Desk::new(&rt, "syncat_own_colours");
@@ -75,7 +75,7 @@ fn a_file_of_no_grammar_is_plain_text(rt: HostRuntime) {
     desk.close(&rt);
 }
 
-/// A grammar whose files are told by their first line.
+/// A grammar whose files are recognised by their first line.
 const SCRIPT: &str =
     "name: S\nscope: source.s\nfirst_line_match: '^#!.*tool'\ncontexts:\n  main: [{match: a, scope: word}]\n";
 
@@ -101,7 +101,8 @@ fn a_script_is_told_by_its_first_line(rt: HostRuntime) {
     desk.close(&rt);
 }
 
-/// A grammar with a pattern that tries each way to part a row of `x`, since it asks for a group's text again.
+/// A grammar with a pattern that tries each way to part a row of `x`, since it asks for a group's
+/// text again.
 const COSTLY: &str =
     "scope: source.u\nfile_extensions: [u]\ncontexts: {main: [{match: '^(x+x+)+\\1y', scope: word}, {match: hello, scope: word}]}";
 
@@ -112,7 +113,7 @@ const ROWS: &str = "xxxxxxxxxxxxxxxxxxxxxxxxxxxxxxxxxxxxxxxxxxxxxxxxxxxxxxxxxxxx
 const ROWS_SHOWN: &str =
     "<pre style=\"background-color:#020202;\">\n<span style=\"color:#010101;\">xxxxxxxxxxxxxxxxxxxxxxxxxxxxxxxxxxxxxxxxxxxxxxxxxxxxxxxxxxxx\n</span><span style=\"color:#030303;\">hello</span></pre>\n";
 
-/// A line that reaches a limit is told of once, by its number, and the others are highlighted.
+/// A line that reaches a limit is reported once, by its number, and the others are highlighted.
 #[test]
 fn a_line_that_reaches_a_limit_is_plain(rt: HostRuntime) {
     let desk = Desk::new(&rt, "syncat_spent");
@@ -130,11 +131,11 @@ fn a_line_that_reaches_a_limit_is_plain(rt: HostRuntime) {
 const COSTLY_FIRST: &str =
     "scope: source.v\nfirst_line_match: '^(x+x+)+\\1y'\ncontexts: {main: [{match: hello, scope: word}]}";
 
-/// The same lines as plain text.
+/// The page of the costly text's lines as plain text.
 const ROWS_PLAIN: &str =
     "<pre style=\"background-color:#020202;\">\n<span style=\"color:#010101;\">xxxxxxxxxxxxxxxxxxxxxxxxxxxxxxxxxxxxxxxxxxxxxxxxxxxxxxxxxxxx\n</span><span style=\"color:#010101;\">hello</span></pre>\n";
 
-/// A text for whose syntax the limit is reached is plain text, and that is told.
+/// A text for whose syntax the limit is reached is plain text, and that is reported.
 #[test]
 fn a_first_line_that_reaches_the_limit(rt: HostRuntime) {
     let desk = Desk::new(&rt, "syncat_first_spent");

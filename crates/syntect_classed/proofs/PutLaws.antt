@@ -1,4 +1,4 @@
--- Marks that are put behind others.
+-- Marks that are put after others.
 use Rattle.std.proofs.Common.{◌≡◌, ℕ, zero, suc, ◌+◌, ◌-◌, ◌<◌, ◌≤◌, List, [], ◌∷◌, ◌++◌, length, take, drop, replicate, map, refl, sym, ap, ◌∙◌, append-nil, append_assoc, add-one, arith, get_or, Option, Some, None, min, length-append}
 use Rattle.std.specs.Prelude.{string_bytes}
 use Rattle.std.proofs.Math.Seq.{drop-cons}
@@ -31,7 +31,7 @@ module _ (prefix : List ℕ) (repo : List (List ℕ)) where
   written_last None = refl
   written_last (Some t) = refl
 
-  -- a span begins behind the tag that waited
+  -- a span begins after the tag that waited
   pub put_begin : (s t : Spans) (scope : List ℕ) → t.waiting ≡ Some scope → string_bytes t.text ≡ string_bytes s.text ++ opening_of prefix repo s.waiting → Puts prefix repo s (Begin scope ∷ []) t
   put_begin s t scope w e = record {
     put = λ more.
@@ -41,7 +41,7 @@ module _ (prefix : List ℕ) (repo : List (List ℕ)) where
         ∙ ap (λ (l : List ℕ). string_bytes s.text ++ l) (written_begin s.waiting scope more);
   }
 
-  -- a text stands behind the tag that waited
+  -- a text comes after the tag that waited
   pub put_words : (s mid t : Spans) (text : List ℕ) → t.waiting ≡ None → string_bytes mid.text ≡ string_bytes s.text ++ opening_of prefix repo s.waiting → string_bytes t.text ≡ string_bytes mid.text ++ escaped text
       → Puts prefix repo s (Words text ∷ []) t
   put_words s mid t text w e f = record {

@@ -1,4 +1,5 @@
--- A line under operations on a stack of scopes: marks of spans that begin and end, and the text between them.
+-- A line under operations on a stack of scopes: marks of spans that begin and end, and the text
+-- between them.
 use Rattle.std.specs.Prelude.{ℕ, nat_lt, false, ◌||◌, Bool, List, [], ◌∷◌, ◌++◌, length, map, if◌then◌else◌, Option, Some, None, slice_range}
 use Rattle.syntect_classed.specs.Classes.{opening_tag, closing_tag}
 use Rattle.syntect_scope.specs.Hook.{hook_calls}
@@ -37,7 +38,7 @@ marks line at stack (o ∷ os) =
     words_between line at o.0
     ++ (operation_marks o.1 stack ++ marks line o.0 (applied o.1 stack) os)
 
--- the stack behind the line
+-- the stack after the line
 abbrev pub stack_after : ScopeStack → List (ℕ × ScopeStackOp) → ScopeStack
 stack_after stack [] = stack
 stack_after stack (o ∷ os) = stack_after (applied o.1 stack) os

@@ -13,7 +13,8 @@ use syntect_scope::scope::Scope;
 use syntect_scope::stack::{ScopeError, ScopeStack, ScopeStackOp};
 use syntect_writers::escape::push_escaped;
 
-/// The text so far, and the scope of a span that has just begun: its tag waits until something stands in it.
+/// The text so far, and the scope of a span that has just begun: its tag waits until something
+/// stands in it.
 #[derive(Drop)]
 pub(crate) struct Spans {
     pub(crate) text: String,
@@ -65,7 +66,7 @@ impl Spans {
         self.text.push_str("</span>")
     }
 
-    /// Puts a text last.
+    /// Appends a text.
     fn show(
         &mut self,
         prefix: &str,
@@ -106,7 +107,7 @@ impl Spans {
         Ok(())
     }
 
-    /// Puts the text between two places of a line last, if there is one.
+    /// Appends the text between two places of a line, if there is one.
     pub(crate) fn show_between(
         &mut self,
         prefix: &str,
@@ -126,8 +127,8 @@ impl Spans {
         Ok(())
     }
 
-    /// Applies an operation, and begins and ends the spans of the scopes that it really pushes and removes. A refusal
-    /// leaves the stack.
+    /// Applies an operation, and begins and ends the spans of the scopes that it really pushes and
+    /// removes. A refusal leaves the stack.
     pub(crate) fn operate(
         &mut self,
         prefix: &str,

@@ -50,13 +50,14 @@ fn height(stack: &ScopeStack) -> isize
     stack.as_slice().len() as isize
 }
 
-/// A line as HTML: each scope that an operation really pushes begins a span, whose classes are the scope's atoms, and
-/// each that it really removes ends one. The spans are nested like the scopes on the stack, which is then the one behind
-/// the line. A span that ends right where it began is left out. The number tells how many more spans are open behind the
-/// line than before it; it is negative where the line ends spans of earlier ones.
+/// A line as HTML: each scope that an operation really pushes begins a span, whose classes are the
+/// scope's atoms, and each that it really removes ends one. The spans are nested like the scopes on
+/// the stack, which is then the one after the line. A span that ends right where it began is left
+/// out. The number tells how many more spans are open after the line than before it; it is negative
+/// where the line ends spans of earlier ones.
 ///
-/// The operations' places are byte positions that never decrease, in the line and between its characters. A refusal
-/// leaves the stack as it was.
+/// The operations' places are byte positions that never decrease, in the line and between its
+/// characters. A refusal leaves the stack as it was.
 pub fn line_tokens_to_classed_spans(
     alloc: Global,
     line: &str,

@@ -12,7 +12,7 @@ use syntect_writers::escape::push_escaped;
 pub enum ClassStyle {
     /// By its atoms.
     Spaced,
-    /// By its atoms, each behind a prefix.
+    /// By its atoms, each with a prefix.
     SpacedPrefixed {
         /// What stands before each atom.
         prefix: &'static str,
@@ -31,7 +31,7 @@ impl ClassStyle {
     }
 }
 
-/// Puts the class of an atom last.
+/// Appends the class of an atom.
 fn push_class(
     out: &mut String,
     prefix: &str,
@@ -45,7 +45,7 @@ fn push_class(
     push_escaped(out, repository.atom_or_mark(atom))
 }
 
-/// Puts the classes of a scope last.
+/// Appends the classes of a scope.
 fn push_classes(
     out: &mut String,
     prefix: &str,
@@ -67,7 +67,7 @@ fn push_classes(
     Ok(())
 }
 
-/// Puts the tag last that opens the span of a scope.
+/// Appends the tag that opens the span of a scope.
 pub(crate) fn push_opening(
     out: &mut String,
     prefix: &str,

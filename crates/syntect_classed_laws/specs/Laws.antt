@@ -8,8 +8,9 @@ use Rattle.syntect_scope.specs.Replay.{InOrder, replay, before_text, bytes_to}
 use Rattle.syntect_scope.specs.declared.stack.ScopeStack.{ScopeStack}
 use Rattle.syntect_scope.specs.declared.stack.ScopeStackOp.{ScopeStackOp}
 
--- A reader of what marks write sees the text under them: each byte, as HTML writes it, under the tags of the scopes that
--- are open there. No closing tag comes where none is open, and in the end the tags of the scopes are open that are left.
+-- A reader of what marks write sees the text under them: each byte, as HTML writes it, under the
+-- tags of the scopes that are open there. No closing tag comes where none is open, and in the end
+-- the tags of the scopes are open that are left.
 abbrev pub IsSeen : Type 0
 IsSeen =
     (prefix : List ℕ) (repo scopes : List (List ℕ)) (seen : List (ℕ × List (List ℕ)))
@@ -18,8 +19,8 @@ IsSeen =
     ≡ under prefix repo (open_behind scopes ms)
     (seen ++ flat_map (shown prefix repo) (bytes_under scopes ms))
 
--- The marks of a line are nested, leave the scopes of the stack open, and have each byte of the line under the scopes
--- that the operations give it.
+-- The marks of a line are nested, leave the scopes of the stack open, and have each byte of the
+-- line under the scopes that the operations give it.
 pub record Follows (line : List ℕ) (stack : ScopeStack)
     (ops : List (ℕ × ScopeStackOp)) : Type 0 where
   pub nested : IsNested stack.scopes (marks line 0 stack ops)
@@ -43,8 +44,8 @@ abbrev pub AreInOrder : List Line → Type 0
 AreInOrder [] = Unit {0}
 AreInOrder (l ∷ ls) = InOrder l.0 0 l.1 (length l.0) × AreInOrder ls
 
--- The text of lines, one after another, on the stack that those before leave; behind them all spans are closed that are
--- open.
+-- The text of lines, one after another, on the stack that those before leave; after them all spans
+-- are closed that are open.
 abbrev pub page_text : List ℕ → List (List ℕ) → ScopeStack → List Line → List ℕ
 page_text prefix repo stack [] = flat_map (λ tag. tag) (replicate (length stack.scopes) closing_tag)
 page_text prefix repo stack (l ∷ ls) =
@@ -56,8 +57,9 @@ page_scopes stack [] = []
 page_scopes stack (l ∷ ls) =
     bytes_to (replay l.1 (before_text stack)) (length l.0) ++ page_scopes (stack_after stack l.1) ls
 
--- A reader of a page that begins under the tags of a stack sees the lines, joined: each byte, as HTML writes it, under the
--- tags of the scopes that the operations give it. No closing tag comes where none is open, and in the end none is open.
+-- A reader of a page that begins under the tags of a stack sees the lines, joined: each byte, as
+-- HTML writes it, under the tags of the scopes that the operations give it. No closing tag comes
+-- where none is open, and in the end none is open.
 pub record IsSeenPage (prefix : List ℕ) (repo : List (List ℕ)) (stack : ScopeStack)
     (seen : List (ℕ × List (List ℕ))) (lines : List Line) : Type 0 where
   pub bytes : List (ℕ × List (List ℕ))

@@ -1,4 +1,5 @@
--- What a reader of a page sees, byte by byte: the text outside tags, each byte with the tags that are open around it.
+-- What a reader of a page sees, byte by byte: the text outside tags, each byte with the tags that
+-- are open around it.
 use Rattle.std.specs.Prelude.{ℕ, ◌-◌, ◌<◌, ◌==◌, Bool, true, false, List, [], ◌∷◌, ◌++◌, length, take, map, codes, Option, Some, None, if◌then◌else◌}
 use Rattle.std.specs.Cmp.Lexicographic.{pointwise}
 use Rattle.syntect_classed.specs.Classes.{classes_text}
@@ -8,8 +9,8 @@ use Rattle.syntect_writers.specs.Entities.{entity}
 
 -- ---- reading bytes ----
 
--- the tags that are open, outermost first; the tag that is being read, if one is; what was seen so far; and whether a
--- closing tag came where none was open
+-- the tags that are open, outermost first; the tag that is being read, if one is; what was seen so
+-- far; and whether a closing tag came where none was open
 pub record Reader : Type 0 where
   pub open_tags : List (List ℕ)
   pub tag : Option (List ℕ)
@@ -49,7 +50,7 @@ read r (b ∷ bs) = read (read_byte r r.tag b) bs
 abbrev pub tag_of : List ℕ → List (List ℕ) → List ℕ → List ℕ
 tag_of prefix repo scope = codes "span class=\"" ++ (classes_text prefix repo scope ++ codes "\"")
 
--- the scopes whose spans are open behind marks
+-- the scopes whose spans are open after marks
 abbrev pub open_behind : List (List ℕ) → List Mark → List (List ℕ)
 open_behind scopes [] = scopes
 open_behind scopes (Begin scope ∷ ms) = open_behind (scopes ++ scope ∷ []) ms

@@ -31,7 +31,7 @@ nowhere test xs d h =
 
 -- ---- names ----
 
--- whether two names are equal is told by how the second stands to the first
+-- whether two names are equal is decided by how the second stands to the first
 same_by : (name other : List ℕ) (o : Ordering) → order other name ≡ o → pointwise ◌==◌ name other ≡ is_eq (ordering_reverse o)
 same_by name other o e = sym (is_eq-slice_cmp name other) ∙ ap is_eq (nat_list_cmp_total.antisymm name other) ∙ ap (λ x. is_eq (ordering_reverse x)) e
 

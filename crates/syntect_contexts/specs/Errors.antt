@@ -22,7 +22,7 @@ abbrev pub IsMissing : (ContextId → Option Context) → ContextReference → P
 IsMissing contexts r (MissingContext id) = (target r ≡ Some id) × (contexts id ≡ None)
 IsMissing contexts r e = IsUnresolved r e
 
--- want of memory, or this refusal
+-- lack of memory, or this refusal
 abbrev pub MayBe : Option ParsingError → ParsingError → Type 0
 MayBe o Memory = Unit {0}
 MayBe o e = o ≡ Some e

@@ -25,13 +25,14 @@ group_text groups line n =
     option_map_or (λ at. take (at.1 - at.0) (drop at.0 line))
     (option_flatten (slice_get groups n)) []
 
--- what stands for a backslash and this character: with a digit the escaped text of the group of that number, else they stay
+-- what stands for a backslash and this character: with a digit the escaped text of the group of
+-- that number, else they stay
 abbrev pub replaced : Groups → List ℕ → ℕ → List ℕ
 replaced groups line c =
     if is_ascii_digit c then escaped (group_text groups line (c - 48)) else 92 ∷ encode_utf8 c
 
--- the characters of a pattern, replaced where a backslash stands before them that isn't itself escaped; the flag says that
--- one does
+-- the characters of a pattern, replaced where a backslash stands before them that isn't itself
+-- escaped; the flag says that one does
 abbrev pub substituted_from : Groups → List ℕ → Bool → List ℕ → List ℕ
 substituted_from groups line false [] = []
 substituted_from groups line true [] = 92 ∷ []

@@ -1,7 +1,8 @@
 //! Contexts and their patterns.
 //!
-//! The rules are those of Sublime Text's syntax definitions. A context has patterns that are tried in order; a match
-//! may open further contexts, put others in the place of the top one, or leave it.
+//! The rules are those of Sublime Text's syntax definitions. A context has patterns that are tried
+//! in order; a match may open further contexts, put others in the place of the top one,
+//! or leave it.
 ghost use Rattle.std.specs.Prelude.{◌≡◌, ◌≤◌, ◌<◌, [], false, length, string_bytes, Option, Some, None, IfOk, IfErr, IfNone, IfSome};
 ghost use Rattle.std.specs.Option.{option_copied, option_and_then};
 ghost use Rattle.syntect_contexts.specs.Contexts.{target, match_of};
@@ -20,12 +21,12 @@ use syntect_scope::stack::ClearAmount;
 use syntect_values::seq::Seq;
 use syntect_values::text::Text;
 
-/// The scopes of a match's groups: pairs of a group's number and its scopes. The order of the pairs matters where
-/// groups cover the same bytes.
+/// The scopes of a match's groups: pairs of a group's number and its scopes. The order of the pairs
+/// matters where groups cover the same bytes.
 pub type CaptureMapping = Seq<(usize, Seq<Scope>)>;
 
-/// Which context of a set: the place of its syntax among the syntaxes of the set, and its place in the byte order of
-/// the names of that syntax's contexts.
+/// Which context of a set: the place of its syntax among the syntaxes of the set, and its place in
+/// the byte order of the names of that syntax's contexts.
 #[derive(Clone, Copy, Debug, PartialEq, Eq, Hash)]
 pub struct ContextId {
     pub syntax_index: usize,
@@ -35,16 +36,17 @@ pub struct ContextId {
 /// What an include, a push, a set or a `with_prototype` names.
 #[derive(Clone, Debug, Drop, PartialEq, Eq)]
 pub enum ContextReference {
-    /// A context of the own syntax, by its name.
+    /// A context of the syntax itself, by its name.
     Named(Text),
-    /// A context of the syntax that has this scope: the one of that name, or its `main`. `with_escape` marks the
-    /// embedded reference of an `embed`, which always has a way out.
+    /// A context of the syntax that has this scope: the one of that name, or its `main`.
+    /// `with_escape` marks the embedded reference of an `embed`, which always has a way out.
     ByScope {
         scope: Scope,
         sub_context: Option<Text>,
         with_escape: bool,
     },
-    /// The same by the name of the syntax.
+    /// A context of the syntax that has this name: the one that `sub_context` names, or its `main`.
+    /// `with_escape` is that of `ByScope`.
     File {
         name: Text,
         sub_context: Option<Text>,
@@ -144,7 +146,8 @@ impl Context {
         }
     }
 
-    /// The match pattern at an index of the patterns. `BadMatchIndex` where an include stands there, or nothing.
+    /// The match pattern at an index of the patterns. `BadMatchIndex` where an include stands
+    /// there, or nothing.
     pub fn match_at(&self, index: usize) -> Result<&MatchPattern, ParsingError>
         ensures found { IfOk result (λ m. match_of self.now index ≡ Some m.now) }
         ensures bad { IfErr result (IsBadIndex self.now index) }
@@ -167,7 +170,8 @@ impl ContextReference {
         }
     }
 
-    /// The number of the context that it stands for. `UnresolvedContextReference` unless it was resolved by linking.
+    /// The number of the context that it stands for. `UnresolvedContextReference` unless it was
+    /// resolved by linking.
     pub fn id(&self) -> Result<ContextId, ParsingError>
         ensures found { IfOk result (λ id. target self.now ≡ Some id) }
         ensures refused { IfErr result (IsUnresolved self.now) }
@@ -178,8 +182,8 @@ impl ContextReference {
         }
     }
 
-    /// The context that it stands for. `UnresolvedContextReference` unless it was resolved by linking, and
-    /// `MissingContext` where the set lacks that context.
+    /// The context that it stands for. `UnresolvedContextReference` unless it was resolved by
+    /// linking, and `MissingContext` where the set lacks that context.
     pub fn resolve<'a, S: HoldsContexts>(
         &self,
         syntax_set: &'a S,
@@ -276,9 +280,10 @@ impl MatchPattern {
         &self.regex
     }
 
-    /// The pattern with the groups of a match in a text for its back references: a digit behind a backslash that isn't
-    /// itself escaped, and that backslash, give way to the escaped text of the group of that number, or to nothing where
-    /// it was not set. The region's positions are byte positions between characters of the text.
+    /// The pattern with the groups of a match in a text for its back references: a digit after a
+    /// backslash that isn't itself escaped, and that backslash, give way to the escaped text of the
+    /// group of that number, or to nothing where it was not set. The region's positions are byte
+    /// positions between characters of the text.
     pub fn regex_with_refs(&self, region: &Region, text: &str) -> Result<Regex, AllocError>
         requires { AreOnBoundaries text.now region.now }
         ensures { IfOk result (λ r. r ≡ substituted self.now.regex region.now text.now) }

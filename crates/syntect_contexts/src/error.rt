@@ -17,7 +17,7 @@ pub enum ParsingError {
     /// No match pattern stands at this place of a context.
     #[error("Bad index to match_at: {0}")]
     BadMatchIndex(usize),
-    /// This reference leads to no context.
+    /// A reference leads to no context.
     #[error("Tried to use a ContextReference that has not been resolved yet: {0}")]
     UnresolvedContextReference(ContextReference),
     /// There was no memory.
@@ -25,7 +25,8 @@ pub enum ParsingError {
     Memory,
 }
 
-/// The name that it has in its grammar. The scope of another syntax has no text without the repository.
+/// The name that it has in its grammar. The scope of another syntax has no
+/// text without the repository.
 impl fmt::Display for ContextReference {
     fn fmt<W: fmt::Write>(&self, f: &mut fmt::Formatter<W>) -> fmt::Result {
         match self {

@@ -17,7 +17,7 @@ fn group_text<'t>(region: &Region, text: &'t str, group: usize) -> &'t str
     }
 }
 
-/// Puts what stands for a backslash and the character behind it.
+/// Puts what stands for a backslash and the character after it.
 fn push_replaced(
     alloc: Global,
     out: &mut String,
@@ -39,9 +39,10 @@ fn push_replaced(
     }
 }
 
-/// The text of a pattern with each digit behind a backslash that isn't itself escaped, and that backslash, replaced by the
-/// escaped text of the group of that number, or by nothing where it was not set. None where it has more bytes than `most`, of
-/// which no more are written then, but for one group's.
+/// The text of a pattern with each digit after a backslash that isn't itself escaped, and that
+/// backslash, replaced by the escaped text of the group of that number, or by nothing where it was
+/// not set. None where it has more bytes than `most`, of which no more are written then, but for
+/// one group's.
 pub fn substituted(
     alloc: Global,
     pattern: &str,

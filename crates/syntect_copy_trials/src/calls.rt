@@ -1,4 +1,5 @@
-//! Calls that can be refused for want of memory, each made a few times over, with what it answers and what it leaves.
+//! Calls that can be refused for lack of memory, each made a few times over, with what it answers
+//! and what it leaves.
 use crate::{metadata, scopes, searches, settings, styles};
 
 /// The names of the calls.
@@ -10,7 +11,8 @@ pub const NAMES: [&[&str]; 5] = [
     &styles::NAMES,
 ];
 
-/// Makes the call of this name, and shows each time what it answers and leaves. Shows nothing if there is none.
+/// Makes the call of this name, and shows each time what it answers and leaves. Shows nothing if
+/// there is none.
 pub fn show_call(rt: &(impl Print + AllocGlobal), name: &str) {
     metadata::make(rt, name);
     scopes::make(rt, name);

@@ -1,4 +1,5 @@
-//! Copies of what the library holds, and further calls of patterns, metadata and themes, that are made while memory is refused.
+//! Copies of what the library holds, and further calls of patterns, metadata and themes, that are
+//! made while memory is refused.
 #![tactic(auto)]
 
 pub mod calls;

@@ -50,7 +50,8 @@ fn found(
     }
 }
 
-/// Searches again and again, each time with a region of its own. What is left of a region is the place of its group.
+/// Searches again and again, each time with a region of its own. What is left of a region is the
+/// place of its group.
 fn searches(rt: &(impl Print + AllocGlobal), search: Search) {
     let Some(regex) = regex_of(rt.alloc(), PATTERN) else {
         return

@@ -1,4 +1,4 @@
--- What is told of a name while it is read.
+-- What is kept of a name while it is read.
 use Rattle.std.proofs.Common.{◌≡◌, ℕ, ◌-◌, ◌==◌, Bool, true, false, not, ◌&&◌, List, [], ◌∷◌, ◌++◌, length, take, refl, sym, ◌∙◌, ap, arith, append_assoc, append-nil}
 use Rattle.std.specs.Prelude.{encode_utf8, if◌then◌else◌, IsUtf8, chars, slice_get, Some}
 use Rattle.std.proofs.lemmas.Bool.Decides.{nat_tests}
@@ -18,7 +18,7 @@ none false e = refl
 
 -- ---- a character more ----
 
--- what is told of the rest decides
+-- what is kept of the rest decides
 told_alike : (kept xs ys : List ℕ) → told_chars xs ≡ told_chars ys → told_chars (kept ++ xs) ≡ told_chars (kept ++ ys)
 told_alike [] xs ys e = e
 told_alike (k ∷ ks) xs ys e = ap (λ (l : List ℕ). if is_left_out k then l else told_before k l) (told_alike ks xs ys e)
@@ -37,11 +37,11 @@ told_without_star front rest =
     told_alike front rest (42 ∷ (47 ∷ rest)) (sym (star_and_slash (told_chars rest)))
     ∙ ap told_chars (sym (append_assoc front (42 ∷ []) (47 ∷ rest)))
 
--- a character that is told
+-- a character that is kept
 pub told_more : (kept rest : List ℕ) (c : ℕ) → told_chars ((kept ++ (c ∷ [])) ++ rest) ≡ told_chars (kept ++ (c ∷ rest))
 told_more kept rest c = ap told_chars (append_assoc kept (c ∷ []) rest)
 
--- ---- what can be told ----
+-- ---- what can be kept ----
 
 pub whole_front : (kept : List ℕ) (c : ℕ) → can_be_told (kept ++ (c ∷ [])) ≡ true → can_be_told kept ≡ true
 whole_front [] c e = refl
@@ -63,7 +63,7 @@ whole_more (k ∷ (l ∷ ls)) c e o s =
     let q = both (not (ends_comment k (l ∷ ls))) _ p.1 in
     rw (p.0, q.0) (whole_more (l ∷ ls) c q.1 o s)
 
--- a text of which all can be told is told as it is
+-- a text of which all can be kept is kept as it is
 pub told_whole : (cs : List ℕ) → can_be_told cs ≡ true → told_chars cs ≡ cs
 told_whole [] e = refl
 told_whole (c ∷ []) e =
@@ -74,7 +74,7 @@ told_whole (c ∷ (d ∷ ds)) e =
     let q = both (not (ends_comment c (d ∷ ds))) _ p.1 in
     rw (none (is_left_out c) p.0, told_whole (d ∷ ds) q.1, none (ends_comment c (d ∷ ds)) q.0) refl
 
--- what is told can be told
+-- what is kept can be kept
 pub whole_told : (cs : List ℕ) → can_be_told (told_chars cs) ≡ true
 whole_told [] = refl
 whole_told (c ∷ cs) = by_case (is_left_out c) refl (whole_told cs)
@@ -100,7 +100,7 @@ snoc_star [] c = refl
 snoc_star (k ∷ []) c = refl
 snoc_star (k ∷ (l ∷ ls)) c = snoc_star (l ∷ ls) c
 
--- what is told as a character is looked at in a list
+-- what is kept as a character is looked at in a list
 pub last_star : (cs : List ℕ) (x : ℕ) → slice_get cs (length cs - 1) ≡ Some x → ends_with_star cs ≡ (x == 42)
 last_star [] x e = absurd (cc)
 last_star (c ∷ []) x e = ap (λ (n : ℕ). n == 42) (some_same c x e)

@@ -58,7 +58,7 @@ quote_passed more = past_bytes (34 ∷ []) more refl
 long : (c : ℕ) → 0 < length (encode_utf8 c)
 long c = omega (arith, length-encode c, (len_utf8_bounds c).0)
 
--- a name of which all can be told is passed over, where a quote follows
+-- a name of which all can be kept is passed over, where a quote follows
 pub past_name : (cs more : List ℕ) → can_be_told cs ≡ true → after_comment (encode_utf8_all cs ++ (34 ∷ more)) ≡ after_comment more
 past_name [] more e = quote_passed more
 past_name (c ∷ cs) more e =
@@ -82,7 +82,7 @@ past_name (c ∷ cs) more e =
         ∙ past_star (encode_utf8 d) (encode_utf8_all ds ++ (34 ∷ more)) (long d) (other_bytes 47 d (omega arith) (none (d == 47) q))
         ∙ ap after_comment (sym (append_assoc (encode_utf8 d) (encode_utf8_all ds) (34 ∷ more)))
 
--- what is told of a name has no `<`
+-- what is kept of a name has no `<`
 pub name_inside : (cs : List ℕ) → can_be_told cs ≡ true → list_all stays_inside (encode_utf8_all cs) ≡ true
 name_inside [] e = refl
 name_inside (c ∷ cs) e =
@@ -94,6 +94,6 @@ name_inside (c ∷ cs) e =
     not_left : (c : ℕ) → is_left_out c ≡ false → (c == 60) ≡ false
     not_left c e = elim (cases_Bool (c == 60)) [ inl e1 ↦ absurd (let n : true ≡ false = (rw (e1) at e) in cc) | inr e2 ↦ e2 ]
 
--- a name in which nothing has to be left out is told as it is
+-- a name in which nothing has to be left out is kept as it is
 pub name_stays : (name : List ℕ) → IsUtf8 name → can_be_told (chars name) ≡ true → told_name name ≡ name
 name_stays name u e = ap encode_utf8_all (told_whole (chars name) e) ∙ encodes-chars name u

@@ -4,12 +4,13 @@ use Rattle.std.specs.Char.{is_ascii_alphabetic, is_ascii_digit}
 use Rattle.std.specs.Fmt.{digits}
 use Rattle.std.specs.List.{flat_map}
 
--- a character stands in an identifier as it is: a letter, a hyphen, a low line, or a digit that isn't its first character
+-- a character stands in an identifier as it is: a letter, a hyphen, an underscore, or a digit that
+-- isn't its first character
 abbrev pub stands : Bool → ℕ → Bool
 stands first c =
     is_ascii_alphabetic c || ((c == 45) || ((c == 95) || (not first && is_ascii_digit c)))
 
--- another one is told by its number in hexadecimal digits, behind a backslash and before a space
+-- another one is written by its number in hexadecimal digits, after a backslash and before a space
 abbrev pub identifier_char : Bool → ℕ → List ℕ
 identifier_char first c = if stands first c then c ∷ [] else 92 ∷ (digits 16 false c ++ 32 ∷ [])
 

@@ -77,7 +77,7 @@ abbrev pub block : Option Color → Option Color → Option FontStyle → List �
 block foreground background font =
     codes " {\n" ++ (declarations foreground background font ++ codes "}\n")
 
--- what stands behind the selectors of a rule
+-- what comes after the selectors of a rule
 abbrev pub rule_body : StyleModifier → List ℕ
 rule_body style = block style.foreground style.background style.font_style
 

@@ -21,7 +21,8 @@ fn ends_comment(kept: &[char], c: char) -> bool
     }
 }
 
-/// Puts a character of a name last, if it is told. A slash after a star isn't, and takes the star along.
+/// Appends a character of a name, if it is kept. A slash after a star isn't,
+/// and takes the star along.
 fn keep(kept: &mut Vec<char>, c: char) -> Result<(), AllocError>
     ensures told { (rest : List ℕ) → OnOk result (told_chars (kept.new.items ++ rest)
         ≡ told_chars (kept.old.items ++ (c ∷ rest))) }
@@ -39,7 +40,7 @@ fn keep(kept: &mut Vec<char>, c: char) -> Result<(), AllocError>
     Ok(())
 }
 
-/// The characters of a name that are told.
+/// The characters of a name that are kept.
 fn told_chars(alloc: Global, name: &str) -> Result<Vec<char>, AllocError>
     ensures { IfOk result (λ kept. kept.items ≡ told_chars (chars name.now)) }
 {
@@ -50,7 +51,8 @@ fn told_chars(alloc: Global, name: &str) -> Result<Vec<char>, AllocError>
     Ok(kept)
 }
 
-/// Puts a name last as a comment tells it: without `<`, control characters and what would end the comment.
+/// Appends a name as a comment tells it: without `<`,
+/// control characters and what would end the comment.
 pub(crate) fn push_name(alloc: Global, out: &mut String, name: &str) -> Result<(), AllocError>
     ensures { OnOk result (string_bytes out.new ≡ string_bytes out.old ++ told_name name.now) }
 {

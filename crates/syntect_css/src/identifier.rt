@@ -11,7 +11,7 @@ fn stands(first: bool, c: char) -> bool
     c.is_ascii_alphabetic() || c == '-' || c == '_' || (!first && c.is_ascii_digit())
 }
 
-/// Puts a character of an identifier last.
+/// Appends a character of an identifier.
 fn push_char(out: &mut String, first: bool, c: char) -> Result<(), AllocError>
     ensures { OnOk result (string_bytes out.new ≡ string_bytes out.old ++ identifier_char first c) }
 {
@@ -22,7 +22,7 @@ fn push_char(out: &mut String, first: bool, c: char) -> Result<(), AllocError>
     write!(out, "\\{:x} ", c as u32)
 }
 
-/// Puts a text last as an identifier: what can't stand there is told by its number.
+/// Appends a text as an identifier: what can't stand there is written by its number.
 pub(crate) fn push_identifier(out: &mut String, text: &str) -> Result<(), AllocError>
     ensures { OnOk result (string_bytes out.new ≡ string_bytes out.old ++ identifier text.now) }
 {

@@ -19,7 +19,7 @@ use syntect_theme::style::{Color, FontStyle};
 use syntect_theme::theme::{Theme, ThemeItem};
 use syntect_writers::html::push_rgb;
 
-/// Puts the selector of a class last.
+/// Appends the selector of a class.
 fn push_class(alloc: Global, out: &mut String, prefix: &str, name: &str) -> Result<(), AllocError>
     ensures { OnOk result (string_bytes out.new ≡ string_bytes out.old
         ++ class_selector prefix.now name.now) }
@@ -29,7 +29,7 @@ fn push_class(alloc: Global, out: &mut String, prefix: &str, name: &str) -> Resu
     push_identifier(out, class.as_str())
 }
 
-/// Puts the selector of a scope last.
+/// Appends the selector of a scope.
 fn push_scope(
     alloc: Global,
     out: &mut String,
@@ -47,7 +47,7 @@ fn push_scope(
     Ok(())
 }
 
-/// Puts the selector of a path last.
+/// Appends the selector of a path.
 fn push_path(
     alloc: Global,
     out: &mut String,
@@ -69,7 +69,7 @@ fn push_path(
     Ok(())
 }
 
-/// Puts a line with a colour last, if there is one.
+/// Appends a line with a colour, if there is one.
 fn push_color_line(out: &mut String, name: &str, color: Option<Color>) -> Result<(), AllocError>
     ensures { OnOk result (string_bytes out.new ≡ string_bytes out.old
         ++ color_line name.now color) }
@@ -82,7 +82,7 @@ fn push_color_line(out: &mut String, name: &str, color: Option<Color>) -> Result
     out.push_str(";\n")
 }
 
-/// Puts a text last, if it is asked for.
+/// Appends a text, if it is asked for.
 #[tactic(auto, unfolding(syntect_writers::specs::Spans::asked_for))]
 fn push_if(out: &mut String, asked: bool, text: &str) -> Result<(), AllocError>
     ensures { OnOk result (string_bytes out.new ≡ string_bytes out.old
@@ -94,7 +94,7 @@ fn push_if(out: &mut String, asked: bool, text: &str) -> Result<(), AllocError>
     Ok(())
 }
 
-/// Puts the lines of a font's flags last.
+/// Appends the lines of a font's flags.
 fn push_font_lines(out: &mut String, font: FontStyle) -> Result<(), AllocError>
     ensures { OnOk result (string_bytes out.new ≡ string_bytes out.old ++ font_lines font) }
 {
@@ -105,7 +105,7 @@ fn push_font_lines(out: &mut String, font: FontStyle) -> Result<(), AllocError>
     Ok(())
 }
 
-/// Puts the lines of a font's flags last, if there is a font.
+/// Appends the lines of a font's flags, if there is a font.
 fn push_flag_lines(out: &mut String, font: Option<FontStyle>) -> Result<(), AllocError>
     ensures { OnOk result (string_bytes out.new ≡ string_bytes out.old ++ flag_lines font) }
 {
@@ -130,7 +130,7 @@ fn push_declarations(
     push_flag_lines(out, font)
 }
 
-/// Puts a selector last, if its path has a scope. Answers whether none has been put yet.
+/// Appends a selector, if its path has a scope. Answers whether none has been put yet.
 fn push_selector(
     alloc: Global,
     out: &mut String,
@@ -169,7 +169,7 @@ fn push_block(
     out.push_str("}\n")
 }
 
-/// Puts a rule last, if one of its selectors has a path.
+/// Appends a rule, if one of its selectors has a path.
 fn push_rule(
     alloc: Global,
     out: &mut String,
@@ -191,7 +191,7 @@ fn push_rule(
     Ok(())
 }
 
-/// Puts the name of a theme last.
+/// Appends the name of a theme.
 fn push_theme_name(alloc: Global, out: &mut String, theme: &Theme) -> Result<(), AllocError>
     ensures { OnOk result (string_bytes out.new ≡ string_bytes out.old ++ theme_name theme.now) }
 {
@@ -201,7 +201,7 @@ fn push_theme_name(alloc: Global, out: &mut String, theme: &Theme) -> Result<(),
     }
 }
 
-/// Puts the comment last that names the theme.
+/// Appends the comment that names the theme.
 #[tactic(auto, using(syntect_writers::proofs::SpanLaws::three_joined))]
 fn push_heading(alloc: Global, out: &mut String, theme: &Theme) -> Result<(), AllocError>
     ensures { OnOk result (string_bytes out.new ≡ string_bytes out.old ++ heading theme.now) }
@@ -252,13 +252,14 @@ fn sheet_of(
     Ok(out)
 }
 
-/// A style sheet for HTML with classes of this style, in which spans of code stand in an element of the class `code`. A
-/// rule of the theme is one of the sheet; its selectors without a path are left out, and so is a rule that has no other
-/// ones. Exclusions of selectors have no counterpart and aren't told.
+/// A style sheet for HTML with classes of this style, in which spans of code stand in an element of
+/// the class `code`. A rule of the theme is one of the sheet; its selectors without a path are left
+/// out, and so is a rule that has no other ones. Exclusions of selectors have no counterpart and
+/// aren't told.
 ///
-/// The sheet begins with a comment that names the theme, without what could end the comment or the element that holds
-/// the sheet: of the name each `<`, each control character and each `*/` is left out. So a sheet of a stranger's theme
-/// can stand in a page as it is.
+/// The sheet begins with a comment that names the theme, without what could end the comment or the
+/// element that holds the sheet: of the name each `<`, each control character and each `*/` is left
+/// out. So a sheet of a stranger's theme can stand in a page as it is.
 pub fn css_for_theme_with_class_style(
     alloc: Global,
     theme: &Theme,

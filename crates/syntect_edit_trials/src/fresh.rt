@@ -1,4 +1,4 @@
-//! A buffer beside a new highlighter that is given all lines.
+//! A buffer compared with a new highlighter that is given all lines.
 use crate::text::Text;
 use std::alloc::Global;
 use std::ops::Range;
@@ -8,7 +8,8 @@ use syntect::highlighting::{Style, Theme};
 use syntect::parsing::{SyntaxReference, SyntaxSet};
 use syntect_buffer::answer::LineAnswer;
 
-/// Whether ranges are those of pieces that follow one another from a line's start, with their styles.
+/// Whether ranges are those of pieces that follow one another from a line's start,
+/// with their styles.
 fn are_ranges(ranges: &[(Style, Range<usize>)], pieces: &[(Style, &str)]) -> bool {
     let mut start = 0usize;
     for ((style, range), (fresh, piece)) in ranges.iter().zip(pieces.iter()) {
@@ -34,8 +35,8 @@ fn is_same(answer: &LineAnswer, fresh: &Result<Vec<(Style, &str)>, Error>) -> bo
     }
 }
 
-/// How many lines of a buffer are not those of the plain list, or have another answer than a new highlighter gives to that
-/// list's lines. None without memory.
+/// How many lines of a buffer are not those of the plain list, or have another answer than a new
+/// highlighter gives to that list's lines. None without memory.
 pub fn differences(
     alloc: Global,
     text: &Text<'_>,

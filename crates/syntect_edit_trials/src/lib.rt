@@ -1,5 +1,5 @@
-//! Edits of a buffer: those that files ask for, those that look random and are compared with a new highlighter, how long they
-//! take, and some that are shown with what stands before and behind them.
+//! Edits of a buffer: those that files ask for, those that look random and are compared with a new
+//! highlighter, how long they take, and some that are shown with what stands before and after them.
 #![tactic(auto)]
 
 mod cases;

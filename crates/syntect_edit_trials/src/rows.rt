@@ -1,4 +1,4 @@
-//! Edits that files of rows ask for: the answer to each has to be what stands behind it.
+//! Edits that files of rows ask for: the answer to each has to be what comes after it.
 use crate::given::{Edit, apply, buffer_of, set_and_theme};
 use crate::states::Lines;
 use std::alloc::Global;
@@ -34,7 +34,8 @@ fn reread(alloc: Global, buffer: &mut LineBuffer<'_>, question: &str) -> Option<
     apply(alloc, buffer, edit_of(question.as_str())?).ok()
 }
 
-/// Adds the answer to a question: to an edit how many lines were read again, and to `lines` those with their answers.
+/// Adds the answer to a question: to an edit how many lines were read again, and to `lines` those
+/// with their answers.
 fn write_answer(
     alloc: Global,
     buffer: &mut LineBuffer<'_>,
@@ -76,7 +77,8 @@ fn grammar_of<'a>(parts: &[Part<'a>]) -> Option<(&'a str, bool)> {
     }
 }
 
-/// Whether edits come out as they are written, one after another on a buffer that begins without lines.
+/// Whether edits come out as they are written, one after another on a buffer
+/// that begins without lines.
 fn edits_hold(alloc: Global, body: &str, set: &SyntaxSet, theme: &Theme) -> Option<bool> {
     let mut buffer = buffer_of(alloc, set, theme)?;
     let mut out = String::new(alloc);
@@ -93,7 +95,8 @@ fn row_holds(alloc: Global, text: &str) -> Option<bool> {
     edits_hold(alloc, body, &set, &theme)
 }
 
-/// Runs the row of a file, and prints whether it comes out as it is written. Answers whether it does.
+/// Runs the row of a file, and prints whether it comes out as it is written.
+/// Answers whether it does.
 fn run_file(rt: &(impl Print + AllocGlobal + Files), path: &str) -> io::Result<bool> {
     let text = fs::read_to_string(rt, path)?;
     let holds = row_holds(rt.alloc(), text.as_str()) == Some(true);
@@ -102,7 +105,8 @@ fn run_file(rt: &(impl Print + AllocGlobal + Files), path: &str) -> io::Result<b
     Ok(holds)
 }
 
-/// Runs the rows of the files, in byte order of their names. Answers whether all come out as they are written.
+/// Runs the rows of the files, in byte order of their names. Answers whether all come out as they
+/// are written.
 pub fn run_edit_rows(rt: &(impl Print + AllocGlobal + Files)) -> io::Result<bool> {
     let Ok(paths) = files_below(rt, rt.alloc(), Path::new(EDITS)) else {
         return Ok(false);

@@ -1,5 +1,5 @@
-//! Edits of a buffer, each shown with what stood before it and what stands behind it. Where an edit answers want of memory,
-//! it is done once more.
+//! Edits of a buffer, each shown with what stood before it and what stands after it. Where an edit
+//! answers that memory ran out, it is done once more.
 use crate::cases::{CASES, Case, LONG};
 use crate::given::{Edit, apply, buffer_of, set_and_theme};
 use crate::states::Lines;
@@ -9,7 +9,7 @@ use syntect::highlighting::Theme;
 use syntect::parsing::SyntaxSet;
 use syntect_buffer::buffer::LineBuffer;
 
-/// Puts lines behind the last. Answers whether there was memory.
+/// Puts lines after the last. Answers whether there was memory.
 fn fill_once(alloc: Global, buffer: &mut LineBuffer<'_>, lines: &[&str]) -> bool {
     for line in lines {
         let end = buffer.len();
@@ -23,7 +23,7 @@ fn fill_once(alloc: Global, buffer: &mut LineBuffer<'_>, lines: &[&str]) -> bool
     true
 }
 
-/// Puts lines behind the last, so many times. Answers whether there was memory.
+/// Puts lines after the last, so many times. Answers whether there was memory.
 fn fill(alloc: Global, buffer: &mut LineBuffer<'_>, lines: &[&str], times: u32) -> bool {
     for _ in 0..times {
         if !fill_once(alloc, buffer, lines) {
@@ -83,7 +83,7 @@ fn show_edit(
     Ok(())
 }
 
-/// Does an edit, and shows its answer and the buffer behind it. Answers whether there was memory.
+/// Does an edit, and shows its answer and the buffer after it. Answers whether there was memory.
 fn show_try(
     rt: &(impl Print + AllocGlobal),
     buffer: &mut LineBuffer<'_>,
@@ -111,8 +111,8 @@ fn show_each(
     Ok(())
 }
 
-/// Does some edits, or one of a text of as many lines as a block of the buffer has, and shows each. Answers whether there was
-/// memory for what stands before them; else it shows nothing.
+/// Does some edits, or one of a text of as many lines as a block of the buffer has, and shows each.
+/// Answers whether there was memory for what stands before them; else it shows nothing.
 pub fn show_edits(rt: &(impl Print + AllocGlobal), long: bool) -> io::Result<bool> {
     let cases = if long { LONG } else { CASES.as_slice() };
     let Some(givens) = givens_of(rt.alloc(), cases) else {

@@ -7,7 +7,8 @@ use syntect::parsing::ParsingError;
 use syntect_buffer::answer::LineAnswer;
 use syntect_buffer::buffer::LineBuffer;
 
-/// The lines of a buffer without their newlines, each in brackets with its answer. Written without memory of its own.
+/// The lines of a buffer without their newlines, each in brackets with its answer. Written without
+/// memory of its own.
 #[derive(Clone, Copy)]
 pub struct Lines<'b, 'a>(pub &'b LineBuffer<'a>);
 

@@ -10,7 +10,8 @@ pub struct Text<'a> {
     pub plain: Vec<String>,
 }
 
-/// Puts a line before the one at a place, or behind the last. Answers how many lines were read again.
+/// Puts a line before the one at a place, or after the last.
+/// Answers how many lines were read again.
 pub fn insert(
     alloc: Global,
     text: &mut Text<'_>,
@@ -52,7 +53,7 @@ pub fn remove(alloc: Global, text: &mut Text<'_>, place: usize) -> Result<usize,
     text.buffer.remove_line(alloc, place)
 }
 
-/// A line to be put in: one of these, or the front of one, with a newline behind.
+/// A line to be put in: one of these, or the front of one, with a newline after it.
 fn random_line<'t>(random: &mut Random, lines: &[&'t str]) -> (&'t str, bool) {
     let count = lines.len();
     if count == 0 {

@@ -1,4 +1,4 @@
-//! How long edits take, beside a new highlighter that is given all lines.
+//! How long edits take, compared with a new highlighter that is given all lines.
 use std::alloc::AllocError;
 use std::io;
 use std::rt::Clock;
@@ -80,8 +80,8 @@ fn add_time(
     Ok(took.read)
 }
 
-/// Times two edits that undo each other, so many rounds, and prints how long each took and how many lines it read again
-/// in the last round.
+/// Times two edits that undo each other, so many rounds, and prints how long each took and how many
+/// lines it read again in the last round.
 pub fn time_pair(
     rt: &(impl Print + AllocGlobal + Clock),
     buffer: &mut LineBuffer<'_>,
@@ -100,7 +100,7 @@ pub fn time_pair(
     print_times(rt, back_name, &mut back_times, back_read)
 }
 
-/// Puts lines behind the last, and prints how long that takes.
+/// Puts lines after the last, and prints how long that takes.
 pub fn time_filling(
     rt: &(impl Print + AllocGlobal + Clock),
     buffer: &mut LineBuffer<'_>,

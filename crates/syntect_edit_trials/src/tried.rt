@@ -33,8 +33,9 @@ fn try_text(
     }
 }
 
-/// Does so many edits that look random on the text of a file, from a seed, and compares the buffer with a new highlighter that
-/// is given all lines after each hundredth. Prints how many lines differed, and answers whether none did.
+/// Does so many edits that look random on the text of a file, from a seed, and compares the buffer
+/// with a new highlighter that is given all lines after each hundredth. Prints how many lines
+/// differed, and answers whether none did.
 pub fn try_file(
     rt: &(impl Print + Eprint + AllocGlobal + Files),
     (folder, theme, path): (&str, &str, &str),
@@ -66,7 +67,8 @@ fn print_seen(rt: &(impl Print + Eprint), seen: Seen) -> io::Result<bool> {
     Ok(different == 0)
 }
 
-/// Prints how long edits of a line of a file's text take, so many rounds, beside a new highlighter that is given all lines.
+/// Prints how long edits of a line of a file's text take, so many rounds, compared with a new
+/// highlighter that is given all lines.
 pub fn time_edits_of(
     rt: &(impl Print + Eprint + AllocGlobal + Files + Clock),
     (folder, theme, path): (&str, &str, &str),
@@ -84,7 +86,8 @@ pub fn time_edits_of(
     time_edits(rt, content.as_str(), given, place as usize, rounds)
 }
 
-/// Times edits of one line of a text: one blank more at its start and again without, and the line once more and taken out.
+/// Times edits of one line of a text: one blank more at its start and again without, and the line
+/// once more and taken out.
 fn time_edits(
     rt: &(impl Print + Eprint + AllocGlobal + Clock),
     content: &str,
@@ -96,7 +99,8 @@ fn time_edits(
     time_lines(rt, lines.as_slice(), given, place, rounds)
 }
 
-/// The same of a text's lines.
+/// Times edits of one of these lines: one blank more at its start and again without, and the line
+/// once more and taken out.
 fn time_lines(
     rt: &(impl Print + Eprint + AllocGlobal + Clock),
     lines: &[&str],

@@ -76,7 +76,7 @@ fn line_of(alloc: Global, text: &str) -> Result<String, AllocError> {
     Ok(line)
 }
 
-/// Puts a line before the one at a place, or behind the last.
+/// Puts a line before the one at a place, or after the last.
 fn insert(
     alloc: Global,
     buffer: &mut LineBuffer<'_>,
@@ -113,7 +113,8 @@ fn remove(alloc: Global, buffer: &mut LineBuffer<'_>, place: usize) -> Result<us
     Ok(buffer.remove_line(alloc, place)?)
 }
 
-/// Does an edit, and answers how many lines were read again. What is refused leaves the text as it is.
+/// Does an edit, and answers how many lines were read again. What is refused leaves the
+/// text as it is.
 pub fn apply(alloc: Global, buffer: &mut LineBuffer<'_>, edit: Edit<'_>) -> Result<usize, Refusal> {
     let Edit { kind, place, text } = edit;
     match kind {

@@ -25,7 +25,7 @@ fn pieces_of<'t>(
     Ok(pieces)
 }
 
-/// Puts a line last; a refused one, or one that reached a limit, without styles.
+/// Appends a line; a refused one, or one that reached a limit, without styles.
 fn push_line(
     alloc: Global,
     line: &str,

@@ -42,7 +42,7 @@ module _ (s : List ℕ) (ts : List Tree) where
   FramesFit-uncut n (Frame.Within b k i len ∷ fs) h = FramesFit-more s len n fs h.1 h.3
   FramesFit-uncut n (Frame.Restore m old ∷ fs) h = (h.0, FramesFit-uncut n fs h.1)
 
-  -- what is done behind the first match of the part
+  -- what is done after the first match of the part
   abbrev went : Part → List Cell → ℕ → Groups → Work
   went b xs i g = now s ts (next_of b) xs (place_of b i) g
 
@@ -72,7 +72,7 @@ module _ (s : List ℕ) (ts : List Tree) where
       let is : (o, k, i) ≡ b = ap (λ (x : Option Part). option_map_or (λ (c : Part). c) x b) e in
       subst (λ (c : Part). (c.1 ≤ n) × IsCharBoundary s c.2) is (omega arith, h.2)
 
-  -- What is needed behind the part: its list, and those of the frames that are kept.
+  -- What is needed after the part: its list, and those of the frames that are kept.
   record Needed (b : Part) (n : ℕ) (fs : List Frame) : Type 0 where
     pub fewer : cells_before fs ≤ n
     pub list : b.1 ≤ cells_before fs

@@ -73,7 +73,7 @@ module _ (s : List ℕ) (ts : List Tree) where
   pub dead-found : (a : Tree) (K : On) (i : ℕ) (g : Groups) → IsDead s i a → (search s a K i g).found ≡ None
   dead-found a K i g h = search-first s a K i g ∙ ap (first_each (finds K)) (h g)
 
-  -- behind branches without a match the same is found, in fewer steps
+  -- after branches without a match the same is found, in fewer steps
   past-found : (K : On) (i : ℕ) (g : Groups) (n : ℕ) (t : Tree) → HasBranches n t → All (IsDead s i) (branches n t)
       → ((search s (tree_behind n t) K i g).found ≡ (search s t K i g).found) × ((search s (tree_behind n t) K i g).count + n ≤ (search s t K i g).count)
   unfolding both tick

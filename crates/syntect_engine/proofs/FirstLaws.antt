@@ -1,4 +1,5 @@
--- What the search of a tree and then k finds is what k finds first over the members of the tree's matches.
+-- What the search of a tree and then k finds is what k finds first over the members
+-- of the tree's matches.
 use Rattle.std.proofs.Common.{◌≡◌, ℕ, zero, suc, ◌+◌, ◌-◌, ◌==◌, if◌then◌else◌, Bool, true, false, List, [], ◌∷◌, ◌++◌, length, map, set, take, refl, sym, ◌∙◌, ap, arith, Option, Some, None}
 use Rattle.std.specs.List.{flat_map}
 use Rattle.std.specs.Option.{option_or}
@@ -193,6 +194,6 @@ module _ (s : List ℕ) where
       look-first k negated (tick (at_places (at_start s (search s a) (ends_at i done)) (suc i) i g)) (ending_here s (matches s a) i i g) i g
       (starts-first s (search s a) (matches s a) i g (λ p. search-first a (ends_at i done) p g) i)
 
-  -- a search that ends behind the tree finds the first of its matches
+  -- a search that ends after the tree finds the first of its matches
   pub search-end : (ts : List Tree) (t : Tree) (i : ℕ) (g : Groups) → (search s t (end s ts) i g).found ≡ slice_get (matches s t i g) 0
   search-end ts t i g = search-first t (end s ts) i g ∙ first_done (matches s t i g)

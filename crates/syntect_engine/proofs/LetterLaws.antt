@@ -17,12 +17,13 @@ use Rattle.syntect_engine.proofs.DeadLaws.{IsDead}
 use Rattle.syntect_engine.proofs.StepLaws.{goes_to}
 use Rattle.syntect_engine.proofs.WorkLaws.{ticks}
 
--- the steps behind a letter's first one: one, and where it stands, another one and those of the letters behind it
+-- the steps after a letter's first one: one, and where it stands, another one and those of the
+-- letters after it
 abbrev steps_on : Option ℕ → (ℕ → ℕ) → ℕ
 steps_on None more = suc zero
 steps_on (Some j) more = suc (suc (more j))
 
--- a match of one character ends behind it
+-- a match of one character ends after it
 past-after : (test : ℕ → Bool) (o : Option ℕ) (i : ℕ) (g : Groups) → past test o i g ≡ at_end (after_char test o i) g
 past-after test None i g = refl
 past-after test (Some c) i g = go (test c)
@@ -32,7 +33,7 @@ past-after test (Some c) i g = go (test c)
     go false = refl
 
 module _ (s : List ℕ) (fold : Bool) where
-  -- the place behind the letter, if it stands at the place
+  -- the place after the letter, if it stands at the place
   abbrev behind : ℕ → ℕ → Option ℕ
   behind c i = after_char (holds (from_to fold c c)) (char_at s i) i
 
@@ -41,7 +42,7 @@ module _ (s : List ℕ) (fold : Bool) where
   letter_steps [] i = zero
   letter_steps (c ∷ cs) i = suc (steps_on (behind c i) (letter_steps cs))
 
-  -- letters in a row take some steps, and then the tree goes on behind them, if they stand there
+  -- letters in a row take some steps, and then the tree goes on after them, if they stand there
   letters-search : (t : Tree) (cs : List ℕ) (K : On) (i : ℕ) (g : Groups)
       → search s (letters_tree fold cs t) K i g ≡ ticks (letter_steps cs i) (go_on (after_letters s fold cs i) (search s t K) g)
   letters-search t [] K i g = refl
@@ -59,7 +60,7 @@ module _ (s : List ℕ) (fold : Bool) where
   dead-letters t (c ∷ cs) i h g =
       ap (flat_map on) (past-after (holds (from_to fold c c)) (char_at s i) i g) ∙ go (λ j e. dead-letters t cs j e g) (behind c i) h
     where
-      -- the matches of the others behind the letter
+      -- the matches of the others after the letter
       on : Member → List Member
       on m = matches s (letters_tree fold cs t) m.0 m.1
 

@@ -49,7 +49,7 @@ newline_before s u i b some y = go (slice_get (reverse (chars (take i s))) 0) re
         sym (get_or-take i s (i - 1) 0 (omega arith))
         ∙ newline_byte (take i s) (chars (take i s)) i (encodes-chars (take i s) (IsUtf8-take s i u b)) (length-take-le i s b.0) (q ∙ ap Some ten)
 
--- no line begins behind another byte
+-- no line begins after another byte
 pub no_line : (s : List ℕ) → IsUtf8 s → (i : ℕ) → i ≢ 0 → get_or s (i - 1) 0 ≢ 10 → IsCharBoundary s i → stands s line_start i ≡ false
 no_line s u i some other b = elim (cases_Bool (is_newline (char_before s i))) [
   | inl y ↦ absurd (other (newline_before s u i b some y))

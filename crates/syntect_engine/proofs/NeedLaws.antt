@@ -22,7 +22,7 @@ module _ (here next : ℕ → Bool) (s : List ℕ) (k : ℕ) where
   pub not-here : here (start_at s k) ≡ false → stands here next s k ≡ false
   not-here e = ap (λ b. b && next (start_at s (suc k))) e
 
-  -- none of the second stands right behind it
+  -- none of the second comes right after it
   pub not-next : (j : ℕ) → j ≡ suc k → next (start_at s j) ≡ false → stands here next s k ≡ false
   not-next j behind e = and_false (here (start_at s k)) (next (start_at s (suc k))) (ap (λ i. next (start_at s i)) (sym behind) ∙ e)
 
@@ -59,7 +59,7 @@ module _ (s rest : List ℕ) (b from : ℕ) (is : rest ≡ drop from s) (low : b
             not-here (λ x. x == b) next s k (ne_eqb (start_at s k) b (λ e. omega (arith, w, e))))
       ]
 
-  -- it is found, with none of the second right behind it
+  -- it is found, with none of the second right after it
   pub absent-up_to : (found : ℕ) → IsFirstByte (is_byte b) rest (Some found) → next (start_at s (from + (found + 1))) ≡ false
       → (k : ℕ) → from ≤ k → k < from + (found + 1) → stands (λ x. x == b) next s k ≡ false
   absent-up_to found first e k p q = elim (cases_lt k (from + found)) [

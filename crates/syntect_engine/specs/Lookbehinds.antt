@@ -3,7 +3,8 @@ use Rattle.std.specs.Prelude.{◌≡◌, ℕ, suc, ◌+◌, ◌≤◌, ◌<◌, 
 use Rattle.syntect_pattern.specs.Trees.{Tree}
 use Rattle.syntect_pattern.specs.Matches.{Groups, matches, ending_at}
 
--- A match of the tree that ends at the place begins at one of n places: this one, `from`, and those right before it.
+-- A match of the tree that ends at the place begins at one of n places: this one, `from`, and those
+-- right before it.
 pub record AreEnough (t : Tree) (place from n : ℕ) : Type 0 where
   pub before : from ≤ place
   pub inside : n ≤ suc from

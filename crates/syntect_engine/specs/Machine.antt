@@ -380,7 +380,7 @@ cells_before (Starts node k n i len ∷ fs) = cells_before fs
 cells_before (Within b k i len ∷ fs) = len
 cells_before (Restore n old ∷ fs) = cells_before fs
 
--- what comes behind the first match of that part, and where
+-- what comes after the first match of that part, and where
 abbrev pub next_of : Bound × ℕ × ℕ → Next
 next_of (Bound.Whole, k, i) = Next.Leave k
 next_of (Bound.Holds, k, i) = Next.Leave k
@@ -420,6 +420,7 @@ groups_of false x = None
 abbrev pub FindsAt : List ℕ → Program → ℕ → Option Groups → Type 0
 FindsAt s p place groups = (tree : Tree) → IsProgramOf p tree → groups ≡ found_at s tree place
 
--- these are the groups of the match that the program's tree has at the least place not below this one, if it has any
+-- these are the groups of the match that the program's tree has at the least place not below this
+-- one, if it has any
 abbrev pub FindsGroups : List ℕ → Program → ℕ → Option Groups → Type 0
 FindsGroups s p from groups = (tree : Tree) → IsProgramOf p tree → groups ≡ found s tree from

@@ -3,7 +3,8 @@ use Rattle.std.specs.Prelude.{◌≡◌, ℕ, ◌≤◌, ◌<◌, true, false, L
 use Rattle.syntect_pattern.specs.Sets.{Set, holds}
 use Rattle.syntect_pattern.specs.Trees.{Tree, one_of}
 
--- ASCII characters of the set stand from the one place to the other, and none of the set stands behind them
+-- ASCII characters of the set stand from the one place to the other, and none of the set comes
+-- after them
 pub record IsStretch (s : List ℕ) (a : Set) (from to : ℕ) : Type 0 where
   pub rises : from ≤ to
   pub within : to ≤ length s

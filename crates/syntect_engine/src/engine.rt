@@ -27,7 +27,8 @@ fn is_lost(program: &Program, text: &str, place: usize) -> bool
     is_dead(program, text, place, program.root)
 }
 
-/// The same of a place where it is known that what stands there can begin a match, unless the text ends there.
+/// Whether no match begins at a place where what stands there is known to be able to begin a match,
+/// unless the text ends there.
 #[inline]
 fn is_lost_there(program: &Program, text: &str, place: usize) -> bool
     ensures lost { result ≡ true → FindsAt text.now program.now place None }
@@ -94,8 +95,9 @@ impl Search {
         }
     }
 
-    /// Takes steps until a match is found or nothing is left to try, at least one, and what stretches count beside. None where
-    /// the search is limited, and no step is left before that: then it has taken all that were left.
+    /// Takes steps until a match is found or nothing is left to try, at least one, and what
+    /// stretches count besides. None where the search is limited, and no step is left before that:
+    /// then it has taken all that were left.
     fn run(
         &mut self,
         program: &Program,
@@ -134,9 +136,10 @@ impl Search {
         }
     }
 
-    /// Whether the program matches at the place, where a character begins or the text ends. Where it does, the search's place
-    /// is the match's end, and its groups are the match's. None where it is limited, and the steps that are left don't suffice;
-    /// they are all taken then. It takes one step at least otherwise.
+    /// Whether the program matches at the place, where a character begins or the text ends. Where
+    /// it does, the search's place is the match's end, and its groups are the match's. None where
+    /// it is limited, and the steps that are left don't suffice; they are all taken then. It takes
+    /// one step at least otherwise.
     fn is_at(
         &mut self,
         program: &Program,
@@ -166,9 +169,10 @@ impl Search {
         self.run(program, text, start, limited, count)
     }
 
-    /// Whether a match begins at the place, which it does on boundaries of characters alone. Where it does, the search's
-    /// groups are the match's. None where it is limited, and the steps that are left don't suffice; they are all
-    /// taken then. Where it finds one it takes one step at least.
+    /// Whether a match begins at the place, which it does on boundaries of characters alone. Where
+    /// it does, the search's groups are the match's. None where it is limited, and the steps that
+    /// are left don't suffice; they are all taken then. Where it finds one it takes
+    /// one step at least.
     pub fn begins_at(
         &mut self,
         program: &Program,
@@ -192,7 +196,8 @@ impl Search {
         self.is_at(program, text, place, limited, count)
     }
 
-    /// The same of a place where it is known that what stands there can begin a match, unless the text ends there.
+    /// Whether a match begins at the place, as `begins_at` tells it, where what stands there is
+    /// known to be able to begin a match, unless the text ends there.
     fn begins_there(
         &mut self,
         program: &Program,
@@ -216,9 +221,10 @@ impl Search {
         self.is_at(program, text, place, limited, count)
     }
 
-    /// Whether the program matches at the place or at a later one, of which the least counts. Where it does, the search's
-    /// groups are the match's. None where it is limited, and the steps that are left don't suffice; they are all
-    /// taken then. Where it finds one it takes one step at least.
+    /// Whether the program matches at the place or at a later one, of which the least counts. Where
+    /// it does, the search's groups are the match's. None where it is limited, and the steps that
+    /// are left don't suffice; they are all taken then. Where it finds one it takes
+    /// one step at least.
     pub fn find(
         &mut self,
         program: &Program,

@@ -15,12 +15,12 @@ use syntect_ways::anchor::stands;
 use syntect_ways::past::{past_char, past_class, past_letters};
 use syntect_ways::text::past_text;
 
-/// So many characters of stretches, and of the texts of groups that are looked for again, count as a step: they are gone through
-/// one by one, each much faster than a step is taken.
+/// How many characters of stretches, and of the texts of groups that are looked for again, count as
+/// a step: they are gone through one by one, each much faster than a step is taken.
 const READ_A_STEP: usize = 8;
 
-/// The last place where a match of the node can begin that ends at the place, and at how many places, from that one backwards,
-/// one can.
+/// The last place where a match of the node can begin that ends at the place, and at how many
+/// places, from that one backwards, one can.
 fn starts_before(program: &Program, place: usize, node: usize) -> (usize, usize)
     requires { place < 2 ^ 64 - 1 }
     ensures { AreEnough
@@ -38,7 +38,7 @@ fn starts_before(program: &Program, place: usize, node: usize) -> (usize, usize)
     }
 }
 
-/// What goes on behind a lookaround.
+/// What goes on after a lookaround.
 fn look_bound(negated: bool) -> Bound
     ensures { result ≡ look_bound negated }
 {
@@ -65,8 +65,8 @@ impl Search {
         Next::Enter { node, list }
     }
 
-    /// Matches the first part of the node, and then the second. A first part that is one character or an anchor is looked at
-    /// here: most parts are, and the second needs no cell then.
+    /// Matches the first part of the node, and then the second. A first part that is one character
+    /// or an anchor is looked at here: most parts are, and the second needs no cell then.
     fn enter_sequence(
         &mut self,
         program: &Program,
@@ -211,8 +211,8 @@ impl Search {
         }
     }
 
-    /// Goes on behind the text of the group, where it stands again at the place. How long it is counts, whether it does or not:
-    /// a text may differ in its last character alone.
+    /// Goes on after the text of the group, where it stands again at the place. How long it is
+    /// counts, whether it does or not: a text may differ in its last character alone.
     fn enter_same(
         &mut self,
         program: &Program,
@@ -233,7 +233,7 @@ impl Search {
         self.go_on(place, list)
     }
 
-    /// The place behind the text of the group, where it stands again at the place.
+    /// The place after the text of the group, where it stands again at the place.
     fn past_group(&self, text: &str, fold: bool, group: usize) -> Option<usize>
         requires place { IsCharBoundary text.now self.now.place }
         requires groups { GroupsFit text.now self.now.groups.items }
@@ -311,8 +311,9 @@ impl Search {
         Ok(Next::Fail)
     }
 
-    /// The node, or where it is an alternation whose first branch is dead, its second one, and so on: a long list of branches
-    /// is gone through here, in jumps past many of them where the program has some.
+    /// The node, or where it is an alternation whose first branch is dead, its second one, and so
+    /// on: a long list of branches is gone through here, in jumps past many of them where the
+    /// program has some.
     fn alive_branch(&self, program: &Program, text: &str, node: usize, list: usize) -> usize
         requires { Fits text.now (Next.Enter node list) self.now }
         ensures { FindsAlike text.now (trees_of program.now) (Next.Enter node list)
@@ -332,7 +333,8 @@ impl Search {
         branch
     }
 
-    /// Matches the first branch of the node, and keeps the second for later. A branch that is dead is passed over.
+    /// Matches the first branch of the node, and keeps the second for later. A branch that is dead
+    /// is passed over.
     fn enter_branches(
         &mut self,
         program: &Program,
@@ -393,7 +395,8 @@ impl Search {
         Ok(Next::Turn { turns, list })
     }
 
-    /// Reads what a greedy loop over one character can, if it is a stretch of ASCII, and keeps its ends for later, the last one first.
+    /// Reads what a greedy loop over one character can, if it is a stretch of ASCII, and keeps its
+    /// ends for later, the last one first.
     fn enter_stretch(
         &mut self,
         program: &Program,

@@ -11,8 +11,8 @@ use syntect_pattern_table::needs::Need;
 use syntect_pattern_table::program::Program;
 use syntect_pattern_table::starts::{Places, is_in, start_at};
 
-/// Up to where it isn't looked again for each of the needs: behind the places where they were met. It saves time alone: with
-/// whatever was met, in whatever text, what is told of a place is true.
+/// Up to where it isn't looked again for each of the needs: after the places where they were met.
+/// It saves time alone: with whatever was met, in whatever text, what is said of a place is true.
 #[derive(Clone, Copy)]
 pub struct Met {
     rarest: usize,
@@ -46,8 +46,9 @@ impl Met {
         reached(self.rarest).max(reached(self.other))
     }
 
-    /// Whether what matches need stands at the place or behind it, as far as is known: where it doesn't, no match begins from
-    /// here on. What was met behind the place isn't looked for again, so that a text is gone through once for each need.
+    /// Whether what matches need stands at the place or after it, as far as is known: where it
+    /// doesn't, no match begins from here on. What was met after the place isn't looked for again,
+    /// so that a text is gone through once for each need.
     #[inline]
     pub fn stands_behind(&mut self, program: &Program, text: &str, place: usize) -> bool
         requires { place ≤ length text.now }
@@ -69,8 +70,9 @@ impl Met {
     }
 }
 
-/// The place behind the next one, from this one on, where what is needed stands, or the greatest number if nothing is known of
-/// that. None where it stands nowhere, so that no match begins at the place or behind it.
+/// The place after the next one, from this one on, where what is needed stands, or the greatest
+/// number if nothing is known of that. None where it stands nowhere, so that no match begins at the
+/// place or after it.
 #[inline]
 fn behind_need(need: &Need, text: &str, place: usize) -> Option<usize>
     requires { place ≤ length text.now }
@@ -84,7 +86,8 @@ fn behind_need(need: &Need, text: &str, place: usize) -> Option<usize>
     }
 }
 
-/// The same of an ASCII character.
+/// The place after the next one, from this one on, where the byte stands with one of `next` right
+/// after it. None where there is none.
 fn behind_byte(byte: u8, next: &Places, text: &str, place: usize) -> Option<usize>
     requires { place ≤ length text.now }
     ensures { IfNone result (byte < 128
@@ -103,7 +106,8 @@ fn behind_byte(byte: u8, next: &Places, text: &str, place: usize) -> Option<usiz
     }
 }
 
-/// The same of one of several characters.
+/// The place after the next one, from this one on, where one of `here` stands with one of `next`
+/// right after it. None where there is none.
 fn behind_one(here: &Places, next: &Places, text: &str, place: usize) -> Option<usize>
     ensures { IfNone result (here.now.end ≡ false
         → IsAbsent (starts.is_in here.now) (starts.is_in next.now) text.now place) }

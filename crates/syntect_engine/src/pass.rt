@@ -9,8 +9,9 @@ use syntect_pattern_table::node::Node;
 use syntect_pattern_table::program::Program;
 
 impl Search {
-    /// How many of these places, this one and those right before it, are passed over, the last one first, until the list may
-    /// find something, as the byte there tells. What reads nothing, an anchor or a group's end, is looked past.
+    /// How many of these places, this one and those right before it, are passed over, the last one
+    /// first, until the list may find something, as the byte there tells. What reads nothing, an
+    /// anchor or a group's end, is looked past.
     pub fn dead_ends(
         &self,
         program: &Program,

@@ -20,7 +20,7 @@ pub struct Turns {
 /// What follows a node.
 #[derive(Clone, Copy)]
 pub enum Item {
-    /// This node.
+    /// The node of this number.
     Run(usize),
     /// The end of the group that began at the place.
     Close { group: usize, start: usize },
@@ -30,15 +30,15 @@ pub enum Item {
     EndsAt(usize),
 }
 
-/// A list of items: the first, and the number of the list of the others. Number 0 is the empty list, and cell n has the
-/// number n + 1.
+/// A list of items: the first, and the number of the list of the others. Number 0 is the empty
+/// list, and cell n has the number n + 1.
 #[derive(Clone, Copy)]
 pub struct Cell {
     pub item: Item,
     pub next: usize,
 }
 
-/// What goes on behind a part of which the first match counts alone.
+/// What goes on after a part of which the first match counts alone.
 #[derive(Clone, Copy)]
 pub enum Bound {
     /// The list from where that match ends.
@@ -65,15 +65,16 @@ pub enum Frame {
         place: usize,
         cells: usize,
     },
-    /// Go on with the list at so many places: this one and those right before it, the last one first.
+    /// Go on with the list at so many places: this one and those right before it,
+    /// the last one first.
     Stretch {
         list: usize,
         count: usize,
         place: usize,
         cells: usize,
     },
-    /// Match the node at so many places, as far as characters begin there: this one and those right before it, the last
-    /// one first.
+    /// Match the node at so many places, as far as characters begin there: this one and those right
+    /// before it, the last one first.
     Starts {
         node: usize,
         list: usize,
@@ -117,9 +118,10 @@ pub struct Search {
     pub place: usize,
     /// How many steps are left, where the search is limited.
     pub left: usize,
-    /// How many characters were read in stretches since `begin`. Who asks sets it to 0 first, as a try may end before that.
+    /// How many characters were read in stretches since `begin`. Who asks sets it to 0 first, as a
+    /// try may end before that.
     pub read: usize,
-    /// As how many steps these count, beside one for each stretch.
+    /// As how many steps these count, besides one for each stretch.
     pub worth: usize,
 }
 

@@ -9,7 +9,8 @@ ghost use Rattle.syntect_engine.specs.Stretches.{IsStretch, IsStretchOf};
 use syntect_pattern_table::node::{Class, Node};
 use syntect_pattern_table::program::Program;
 
-/// The end of the stretch of this character that begins at the place. None if a character beyond ASCII stands behind it.
+/// The end of the stretch of this character that begins at the place. None if a character beyond
+/// ASCII comes after it.
 fn char_stretch(text: &[u8], place: usize, wanted: char) -> Option<usize>
     requires { place ≤ length text.now }
     ensures { IfSome result (λ end. IsStretch text.now (range wanted wanted) place end) }
@@ -27,8 +28,8 @@ fn char_stretch(text: &[u8], place: usize, wanted: char) -> Option<usize>
     Some(end)
 }
 
-/// The end of the stretch of characters of the class that begins at the place. None if a character beyond ASCII stands
-/// behind it.
+/// The end of the stretch of characters of the class that begins at the place. None if a character
+/// beyond ASCII stands after it.
 fn class_stretch(text: &[u8], place: usize, class: &Class) -> Option<usize>
     requires { place ≤ length text.now }
     ensures { IfSome result (λ end. IsStretch text.now (set_of class.now) place end) }
@@ -46,8 +47,8 @@ fn class_stretch(text: &[u8], place: usize, class: &Class) -> Option<usize>
     Some(end)
 }
 
-/// The end of the stretch of characters that the node reads, from the place on. None if the node reads something else or
-/// a character beyond ASCII stands behind it.
+/// The end of the stretch of characters that the node reads, from the place on. None if the node
+/// reads something else or a character beyond ASCII comes after it.
 pub fn stretch(program: &Program, text: &str, place: usize, node: usize) -> Option<usize>
     requires { place ≤ length text.now }
     ensures { IfSome result

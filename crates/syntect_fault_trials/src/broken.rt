@@ -1,7 +1,8 @@
 //! Faults put into bytes, where a seed leads to.
 use std::alloc::AllocError;
 
-/// What is put in: bytes that mean something in a grammar, a theme or a pattern, and one that no text has.
+/// What is put in: bytes that mean something in a grammar, a theme or a pattern, and one that no
+/// text has.
 const MARKS: &[u8] = b"[]{}()<>:\"'-#|\\*+?&!%@`,.0 \t\r\n\0\xff";
 
 /// A fault.
@@ -11,7 +12,7 @@ enum Fault {
     Doubled,
     Swapped,
     Marked,
-    /// What stands behind the place is moved before all.
+    /// What comes after the place is moved before all.
     Moved,
 }
 

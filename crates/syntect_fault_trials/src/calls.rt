@@ -1,5 +1,5 @@
-//! Calls that can be refused for want of memory, each made a few times over, with what it answers and what it leaves: those of
-//! this crate and of the crates of calls below.
+//! Calls that can be refused for lack of memory, each made a few times over, with what it answers
+//! and what it leaves: those of this crate and of the crates of calls below.
 use crate::heard::Heard;
 use crate::{files, lines, pages};
 use std::alloc::{AllocError, Global};
@@ -12,7 +12,7 @@ use syntect_set_trials::calls as set_calls;
 /// The names of this crate's calls.
 const NAMES: [&[&str]; 3] = [&files::NAMES, &lines::NAMES, &pages::NAMES];
 
-/// The names, and behind them those of groups.
+/// The names, and after them those of groups.
 fn with_names(
     names: Vec<&'static str>,
     groups: &[&'static [&'static str]],
@@ -40,7 +40,8 @@ pub fn show_names(rt: &(impl Print + AllocGlobal)) -> io::Result<()> {
     Ok(())
 }
 
-/// Makes the call of this name, and shows each time what it answers and leaves. Shows nothing if there is none.
+/// Makes the call of this name, and shows each time what it answers and leaves. Shows nothing if
+/// there is none.
 pub fn show_call(rt: &(impl Print + AllocGlobal + Files), name: &str) {
     part_calls::show_call(rt, name);
     copy_calls::show_call(rt, name);
@@ -50,14 +51,15 @@ pub fn show_call(rt: &(impl Print + AllocGlobal + Files), name: &str) {
     pages::make(rt, name);
 }
 
-/// Whether a call answers where there is memory, and never want of it.
+/// Whether a call answers where there is memory, and never that memory ran out.
 fn is_answered(rt: &(impl AllocGlobal + Files), name: &str) -> bool {
     let heard = Heard::new(rt);
     show_call(&heard, name);
     heard.has_answers()
 }
 
-/// Makes each call, and prints whether it answers something else than want of memory. Answers whether all do.
+/// Makes each call, and prints whether it answers anything but that memory ran out. Answers whether
+/// all do.
 pub fn all_answered(rt: &(impl Print + AllocGlobal + Files)) -> io::Result<bool> {
     let mut all = true;
     for name in &names_of_calls(rt.alloc())? {

@@ -26,7 +26,8 @@ struct Counts {
     refused: u32,
 }
 
-/// Whether a page is accepted; none if it is refused for another reason than a reference that leads nowhere.
+/// Whether a page is accepted; none if it is refused for another reason than a
+/// reference that leads nowhere.
 fn of_page(page: Result<String, Error>) -> Option<bool> {
     match page {
         Ok(_) => Some(true),
@@ -126,7 +127,8 @@ fn of_text(alloc: Global, bytes: &[u8], set: &SyntaxSet, theme: &Theme) -> Optio
     }
 }
 
-/// Whether an input of the kind that a file's name ends with is accepted; none if it has no answer of those it may have.
+/// Whether an input of the kind that a file's name ends with is accepted; none if it has no answer
+/// of those it may have.
 fn accepted(
     alloc: Global,
     path: &str,
@@ -175,7 +177,8 @@ fn name_of(path: &str) -> &str {
     path.rsplit('/').next().unwrap_or(path)
 }
 
-/// Writes an input into a folder, if there is one, before it is tried: one that ends the program stays there.
+/// Writes an input into a folder, if there is one, before it is tried: one that ends the program
+/// stays there.
 fn keep(rt: &(impl AllocGlobal + Files), keep: &str, name: &str, input: &[u8]) -> io::Result<()> {
     if keep.is_empty() {
         return Ok(());
@@ -259,9 +262,9 @@ fn try_file(
     print_counts(rt, path, counts)
 }
 
-/// Tries so many broken inputs of each file of a folder, from a seed. In the second folder, if it has a name, the input stands
-/// that is being tried, under the name of its file, and each that was not answered, under its number too. Answers whether
-/// each was answered.
+/// Tries so many broken inputs of each file of a folder, from a seed. In the second folder, if it
+/// has a name, the input stands that is being tried, under the name of its file, and each that was
+/// not answered, under its number too. Answers whether each was answered.
 pub fn try_broken(
     rt: &(impl Print + Eprint + AllocGlobal + Files),
     (folder, kept): (&str, &str),
@@ -279,7 +282,8 @@ pub fn try_broken(
     Ok(all)
 }
 
-/// Prints how the bytes of a file are answered, as an input of the kind that its name ends with. Answers whether they are.
+/// Prints how the bytes of a file are answered, as an input of the kind that its name ends with.
+/// Answers whether they are.
 pub fn show_input(rt: &(impl Print + AllocGlobal + Files), path: &str) -> io::Result<bool> {
     let bytes = fs::read(rt, path)?;
     let given = make_given(rt.alloc());
@@ -295,7 +299,8 @@ fn loads(alloc: Global, text: &str) -> bool {
     !matches!(loaded, Err(ParseSyntaxError::Memory))
 }
 
-/// Whether each front of a grammar's text, from the empty one to the whole, loads or is refused for what it says.
+/// Whether each front of a grammar's text, from the empty one to the whole, loads or is refused for
+/// what it says.
 pub fn fronts_answered(rt: &(impl AllocGlobal + Files), path: &str) -> io::Result<bool> {
     let text = fs::read_to_string(rt, path)?;
     let mut all = true;

@@ -1,4 +1,4 @@
-//! Calls that read a file as lines, and what is told of refusals.
+//! Calls that read a file as lines, and what is reported of refusals.
 use std::path::Path;
 use std::rt::Files;
 use syntect::LoadingError;

@@ -109,7 +109,8 @@ fn write_shown(alloc: Global, shown: Shown, out: &mut Narrow) -> fmt::Result {
     }
 }
 
-/// Whether so much room takes the text where it is enough, and else a front of it, and whether that is said.
+/// Whether so much room takes the text where it is enough, and else a front of it, and whether that
+/// is said.
 fn keeps_its_room(alloc: Global, (shown, text): (Shown, &str), room: usize) -> bool {
     let kept = String::new(alloc);
     let mut out = Narrow { kept, room };
@@ -127,7 +128,8 @@ fn keeps_each_room(alloc: Global, row: (Shown, &str)) -> bool {
     all
 }
 
-/// Prints of each text whether it is written as far as there is room, and the refusal said. Answers whether all are.
+/// Prints of each text whether it is written as far as there is room, and the refusal said. Answers
+/// whether all are.
 pub fn all_formatted(rt: &(impl Print + AllocGlobal)) -> io::Result<bool> {
     let mut all = true;
     for row in &SHOWN {

@@ -1,4 +1,4 @@
-//! What the calls are given, beside the set and the theme of the crates below.
+//! What the calls are given, besides the set and the theme of the crates below.
 use std::alloc::Global;
 use syntect::parsing::{ParseState, SyntaxSet};
 

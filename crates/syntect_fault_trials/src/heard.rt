@@ -9,8 +9,8 @@ use std::rt::Files;
 /// What answers say where there is no memory.
 const WANTS: [&str; 2] = ["Memory", "AllocError"];
 
-/// Another handle's memory and files, with an ear in place of its output: it counts the answers that it is told, and those that
-/// are want of memory.
+/// Another handle's memory and files, with an ear in place of its output: it counts the answers
+/// that it hears, and those that say that memory ran out.
 #[derive(Drop)]
 pub struct Heard<'r, R> {
     rt: &'r R,
@@ -38,7 +38,7 @@ impl<'r, R> Heard<'r, R> {
         }
     }
 
-    /// Whether it heard answers, and no want of memory.
+    /// Whether it heard answers, and none that memory ran out.
     pub fn has_answers(&self) -> bool {
         self.answers.get() > 0 && self.wants.get() == 0
     }

@@ -1,5 +1,5 @@
-//! What is tried with faults: calls of lines and pages that are made while memory is refused, texts that are written where there
-//! is no room, and broken inputs.
+//! What is tried with faults: calls of lines and pages that are made while memory is refused, texts
+//! that are written where there is no room, and broken inputs.
 #![tactic(auto)]
 
 mod broken;

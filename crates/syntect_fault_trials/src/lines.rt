@@ -50,7 +50,8 @@ fn parse_lines(rt: &(impl Print + AllocGlobal), set: &SyntaxSet, mut state: Pars
     }
 }
 
-/// The same within limits that the line doesn't reach.
+/// Reads a line again and again, within limits that it doesn't reach. What is left of the state is
+/// whether it is as at first.
 fn parse_lines_within(rt: &(impl Print + AllocGlobal), set: &SyntaxSet, mut state: ParseState) {
     let alloc = rt.alloc();
     let Ok(before) = state.clone() else { return };

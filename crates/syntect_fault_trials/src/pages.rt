@@ -89,7 +89,8 @@ fn highlight_line_within(rt: &(impl Print + AllocGlobal), given: &Given, syntax:
     }
 }
 
-/// A line that names a context which isn't there; behind it one that doesn't, as at the text's start.
+/// A line that names a context which isn't there; after it one that doesn't,
+/// as at the text's start.
 fn refused_line(rt: &(impl Print + AllocGlobal), given: &Given, syntax: &SyntaxReference) {
     let Ok(mut lines) = HighlightLines::new(rt.alloc(), syntax, &given.theme) else {
         return;
@@ -146,7 +147,7 @@ fn generator_new(rt: &(impl Print + AllocGlobal), given: &Given, syntax: &Syntax
     }
 }
 
-/// What is left unchanged shows in the text behind two accepted lines.
+/// What is left unchanged shows in the text after two accepted lines.
 fn generator_line(rt: &(impl Print + AllocGlobal), given: &Given, syntax: &SyntaxReference) {
     let Some(mut generator) = generator(rt.alloc(), given, syntax) else {
         return;
@@ -165,7 +166,8 @@ fn generator_line(rt: &(impl Print + AllocGlobal), given: &Given, syntax: &Synta
     answer(rt, &text);
 }
 
-/// The same within limits that the line doesn't reach.
+/// Reads lines within limits that they don't reach. What is left unchanged shows in the text after
+/// two accepted lines.
 fn generator_line_within(rt: &(impl Print + AllocGlobal), given: &Given, syntax: &SyntaxReference) {
     let Some(mut generator) = generator(rt.alloc(), given, syntax) else {
         return;

@@ -1,4 +1,5 @@
-//! Tries the library with faults: calls that are refused memory, texts that have no room, and broken inputs.
+//! Tries the library with faults: calls that are refused memory, texts that have no room, and
+//! broken inputs.
 //!
 //! `scripts/refusals.py` and `scripts/broken_inputs.py` run it with words.
 #![tactic(auto)]
@@ -23,7 +24,8 @@ const INPUTS: u32 = 200;
 
 const SEED: u32 = 1;
 
-/// What needs no words: each call with ample memory, texts without room, and broken inputs. Answers whether all comes out.
+/// What needs no words: each call with ample memory, texts without room, and broken inputs. Answers
+/// whether all comes out.
 fn run_all(rt: &(impl Print + Eprint + AllocGlobal + Files)) -> io::Result<bool> {
     let mut all = all_answered(rt)?;
     all &= all_formatted(rt)?;

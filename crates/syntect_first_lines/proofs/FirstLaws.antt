@@ -15,7 +15,7 @@ use Rattle.syntect_first_lines.specs.Within.{NoneBehind, ReachesSteps, StopsSear
 use Rattle.syntect_first_lines.specs.declared.error.FindWithinError.{FindWithinError}
 use Rattle.syntect_first_lines.specs.declared.error.FindWithinError.TheVariants.{Refused, LimitReached}
 
--- ---- what stands behind ----
+-- ---- what follows ----
 
 drop_at : {X : Type 0} (xs : List X) (i : ℕ) (x : X) → i < length xs → x ≡ get_or xs i x → drop i xs ≡ x ∷ drop (i + 1) xs
 drop_at [] i x l e = absurd (omega arith)
@@ -55,7 +55,7 @@ module _ {X : Type 0} (fits : X → Bool) (xs : List X) where
   pub none_at_end : (n : ℕ) → n ≡ length xs → last_fitting fits (drop n xs) ≡ None
   none_at_end n e = ap (λ k. find fits (reverse (drop k xs))) e ∙ ap (λ ys. find fits (reverse ys)) (drop_all xs)
 
-  -- one more stands behind, and doesn't fit either
+  -- one more follows, and doesn't fit either
   pub none_more : (k : ℕ) (x : X) → k < length xs → x ≡ get_or xs k x → fits x ≡ false → last_fitting fits (drop (k + 1) xs) ≡ None → last_fitting fits (drop k xs) ≡ None
   none_more k x l e f h =
       ap (λ ys. find fits (reverse ys)) (drop_at xs k x l e)

@@ -19,13 +19,13 @@ abbrev pub stopped : Stop → ℕ → FindWithinError
 stopped stop.Memory index = Refused Memory
 stopped stop.Spent index = LimitReached (record { syntax = index })
 
--- none of the syntaxes behind the index fits a line without a mark
+-- none of the syntaxes after the index fits a line without a mark
 abbrev pub NoneFitsBehind : SyntaxSet → List ℕ → ℕ → Type 0
 NoneFitsBehind set line index =
     (index < length (syntaxes_in set))
     × (last_fitting (fits_line line) (drop (index + 1) (syntaxes_in set)) ≡ None)
 
--- memory was wanting; or the limit was reached at a syntax behind which none fits
+-- memory ran out; or the limit was reached at a syntax after which none fits
 abbrev pub NoneBehind : SyntaxSet → List ℕ → FindWithinError → Type 0
 NoneBehind set line (Refused e) = e ≡ Memory
 NoneBehind set line (LimitReached l) = NoneFitsBehind set line l.syntax

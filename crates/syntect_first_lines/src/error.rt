@@ -11,7 +11,8 @@ use thiserror::Error;
 #[derive(Clone, Copy, Debug, PartialEq, Eq, Error)]
 #[error("too many steps for the first line, at the syntax with index {syntax}")]
 pub struct FirstLineLimit {
-    /// The syntax whose pattern was searched last, by its index in the set. None of those behind it fits the line.
+    /// The syntax whose pattern was searched last, by its index in the set. None of those after it
+    /// fits the line.
     pub syntax: usize,
 }
 
@@ -26,7 +27,8 @@ pub enum FindWithinError {
     LimitReached(FirstLineLimit),
 }
 
-/// The message, with the cause where the message leaves it out: `main` shows it of an error that it answers.
+/// The message, with the cause where the message leaves it out: `main` shows it of an
+/// error that it answers.
 impl fmt::Debug for FindWithinError {
     fn fmt<W: fmt::Write>(&self, f: &mut fmt::Formatter<W>) -> fmt::Result {
         match self {

@@ -80,11 +80,12 @@ fn find_by_meter<'s>(
     Ok(None)
 }
 
-/// The syntax that `SyntaxSet::find_syntax_by_first_line` finds, where the searches for it make no more steps together than
-/// `Limits::steps` of `limits`. Their steps are added to `count`, as `Regex::search_counted` counts them.
+/// The syntax that `SyntaxSet::find_syntax_by_first_line` finds, where the searches for it make no
+/// more steps together than `Limits::steps` of `limits`. Their steps are added to `count`, as
+/// `Regex::search_counted` counts them.
 ///
-/// `LimitReached` where they made as many and it isn't known yet, with the syntax whose pattern was searched last; `Refused`
-/// for want of memory alone.
+/// `LimitReached` where they made as many and it isn't known yet, with the syntax whose pattern was
+/// searched last; `Refused` for lack of memory alone.
 pub fn find_syntax_by_first_line_within<'s>(
     alloc: Global,
     set: &'s SyntaxSet,
@@ -94,7 +95,7 @@ pub fn find_syntax_by_first_line_within<'s>(
 ) -> Result<Option<&'s SyntaxReference>, FindWithinError>
     ensures found { IfOk result (λ found. option_copied found
         ≡ found_by_first_line set.now line.now) }
-    // none of the syntaxes behind the one that is named fits
+    // none of the syntaxes after the one that is named fits
     ensures refused { IfErr result (NoneBehind set.now (without_mark line.now)) }
     // no more steps are made than the limit says, and as many where it is reached
     ensures no_fewer { count.old.made ≤ count.new.made }
@@ -108,9 +109,9 @@ pub fn find_syntax_by_first_line_within<'s>(
     found
 }
 
-/// The syntax that `SyntaxSet::find_syntax_for_file` finds, where the searches of the first line make no more steps together than
-/// `Limits::steps` of `limits`. Their steps are added to `count`. The file is opened, and its line read, only where its path tells
-/// nothing.
+/// The syntax that `SyntaxSet::find_syntax_for_file` finds, where the searches of the first line
+/// make no more steps together than `Limits::steps` of `limits`. Their steps are added to `count`.
+/// The file is opened, and its line read, only where its path tells nothing.
 ///
 /// `Refused` as that call is; `LimitReached` as `find_syntax_by_first_line_within` is.
 pub fn find_syntax_for_file_within<'s>(

@@ -139,7 +139,7 @@ part_kept rows part place bit e b h = elim (cases_lt place (length part)) [
   | inr m ↦ bit_past part place bit m b
 ]
 
--- what stands behind some rows stands behind the first words of the next
+-- what comes after some rows comes after the first words of the next
 pub past_rows : (count first x words word : ℕ) → count ≤ first * words → count ≤ (first + x) * words + word
 past_rows count first x words word l =
     let split : (first + x) * words ≡ first * words + x * words = omega arith in

@@ -62,7 +62,7 @@ in_where holds x l = elim (cases_lt x 128) [
           ap (λ q. if q then holds 128 else holds 129) f.0 ∙ ap holds end)
     ]
 
--- behind the end nothing else stands
+-- after the end nothing else stands
 behind_end : (p : Places) (x : ℕ) → 129 ≤ x → is_in p x ≡ is_in p 129
 unfolding is_in
 behind_end p x l =

@@ -12,7 +12,7 @@ abbrev pub IsRow : ℕ → List ℕ → List ℕ → ℕ → Type 0
 IsRow words bits row number =
     (number * words + words ≤ length bits) × (row_at words bits number ≡ row)
 
--- all rows, one behind the other
+-- all rows, one after the other
 abbrev pub unpacked : ℕ → Packed → List ℕ
 unpacked words table = flat_map (row_at words table.bits.items) table.numbers.items
 

@@ -10,11 +10,12 @@ use Rattle.syntect_flats.specs.declared.flats.Outlook.{Outlook}
 use Rattle.syntect_flats.specs.declared.packed.Packed.{Packed}
 use Rattle.syntect_flats.specs.declared.sides.Side.{Side}
 
--- what can stand behind white space, or else behind a word, in which a match of the pattern begins
+-- what can come after white space, or else after a word, in which a match of the pattern begins
 abbrev pub behind_of : Bool → Flat → Places
 behind_of blank flat = if blank then flat.blanks else flat.words
 
--- the pattern has no match that begins where this is seen behind the run, or where no word begins or ends
+-- the pattern has no match that begins where this is seen after the run,
+-- or where no word begins or ends
 abbrev pub IsCut : Outlook → Flat → Type 0
 IsCut o flat = (is_in (behind_of o.blank flat) o.behind ≡ false)
     ⊎ ((o.off_edges ≡ true) × (flat.at_edges ≡ true))
@@ -40,13 +41,15 @@ abbrev pub BeginIn : Places → List Flat → Type 0
 BeginIn any flats = (x k : ℕ) (d : Flat) → x < 130 → k < length flats
     → is_in any x ≡ false → is_in (slice_index_or flats k d).begins x ≡ false
 
--- each pattern whose matches can begin where this stands on the side has its bit set in the row of that
+-- each pattern whose matches can begin where this stands on the side has its bit set in
+-- the row of that
 abbrev pub TellsSide : Side → List ℕ → ℕ → List Flat → Type 0
 TellsSide side rows words flats = (x k : ℕ) (d : Flat) → x < 130 → k < length flats
     → is_in (places_on side (slice_index_or flats k d)) x ≡ true
     → bit_of rows words (first_row side + x) k ≡ true
 
--- each pattern whose matches can begin where no word begins or ends has its bit set in the row of such places
+-- each pattern whose matches can begin where no word begins or ends has its bit set in the row of
+-- such places
 abbrev pub TellsEdges : List ℕ → ℕ → List Flat → Type 0
 TellsEdges rows words flats = (k : ℕ) (d : Flat) → k < length flats
     → (slice_index_or flats k d).at_edges ≡ false → bit_of rows words edges_row k ≡ true
@@ -62,11 +65,11 @@ pub record IsTabled (table : Packed) (words : ℕ) (flats : List Flat) : Type 0 
   pub room : length flats ≤ words * 64
   pub whole : IsPacked words table
 
--- the side behind, of white space or else of a word
+-- the side of what comes after white space or else a word
 abbrev pub side_behind : Outlook → Side
 side_behind o = if o.blank then Side.Blank else Side.Word
 
--- the row of what stands behind the word or the white space
+-- the row of what comes after the word or the white space
 abbrev pub behind_row : Outlook → ℕ
 behind_row o = first_row (side_behind o) + o.behind
 

@@ -4,7 +4,7 @@ use Rattle.syntect_pattern_table.specs.declared.starts.Places.{Places}
 use Rattle.syntect_flats.specs.declared.flats.Flat.{Flat}
 use Rattle.syntect_flats.specs.declared.sides.Side.{Side}
 
--- the row of places where no word begins or ends: it stands behind the 130 of what stands at a place
+-- the row of places where no word begins or ends: it comes after the 130 of what stands at a place
 abbrev pub edges_row : ℕ
 edges_row = 130
 

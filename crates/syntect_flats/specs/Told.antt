@@ -114,13 +114,14 @@ abbrev pub HasTable : Form → List Flat → Type 0
 HasTable (Form.Plain slims places) flats = Unit {0}
 HasTable (Form.Tabled table) flats = IsTabled table.value.rows table.value.words flats
 
--- there are so many patterns that are kept so, each of which begins with some of this alone, and what a table tells is of them
+-- there are so many patterns that are kept so, each of which begins with some of this alone, and
+-- what a table tells is of them
 pub record IsKept (any : Places) (form : Form) (count : ℕ) : Type 0 where
   pub counted : count ≡ length (flats_in any form)
   pub any_begins : BeginIn any (flats_in any form)
   pub tabled : HasTable form (flats_in any form)
 
--- these patterns are kept so, of each of which less may be told, whatever they all begin with
+-- these patterns are kept so, of each of which less may be known, whatever they all begin with
 abbrev pub KeepsAll : List Flat → Form → Type 0
 KeepsAll flats form = (any : Places) → BeginIn any flats
     → IsKept any form (length flats) × AreCoarser flats (flats_in any form)

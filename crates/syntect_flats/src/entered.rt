@@ -13,8 +13,8 @@ use syntect_contexts::syntax_reference::SyntaxReference;
 #[derive(Drop)]
 pub struct Entered {
     ids: Vec<ContextId>,
-    /// Whether a context is among them, by the place of its syntax and its own in that. For one without a mark the list
-    /// tells.
+    /// Whether a context is among them, by the place of its syntax and its own in that. For one
+    /// without a mark the list tells.
     marks: Vec<Vec<bool>>,
 }
 

@@ -7,9 +7,9 @@ use syntect_pattern_table::starts::Places;
 pub struct Flat {
     /// What can stand at a place where a match of it begins.
     pub begins: Places,
-    /// What can stand behind a word in which a match of it begins.
+    /// What can come after a word in which a match of it begins.
     pub words: Places,
-    /// What can stand behind white space in which one does.
+    /// What can come after white space in which one does.
     pub blanks: Places,
     /// Whether it is known that its matches begin only where a word begins or ends.
     pub at_edges: bool,
@@ -35,9 +35,11 @@ pub struct Origin {
 pub struct Outlook {
     /// What stands there: an ASCII character, 128 for any other one, or 129 for the end.
     pub here: u8,
-    /// Whether white space stands there, as far as that was looked at: it is only where a pattern asks for it.
+    /// Whether white space stands there, as far as that was looked at: it is only where a pattern
+    /// asks for it.
     pub blank: bool,
-    /// What stands behind the white space, or else the word's characters that stand there, which may be none.
+    /// What comes after the white space, or else the word's characters that stand there, which may
+    /// be none.
     pub behind: u8,
     /// Whether it is known that no word begins or ends there.
     pub off_edges: bool,

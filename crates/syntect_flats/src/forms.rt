@@ -9,7 +9,8 @@ use syntect_pattern_table::starts::Places;
 pub struct Table {
     /// Where each of the patterns stands.
     pub spots: Vec<Spot>,
-    /// A row of bits for each thing that can be seen at a place, each of so many words: which patterns can begin there.
+    /// A row of bits for each thing that can be seen at a place, each of so many words: which
+    /// patterns can begin there.
     pub rows: Packed,
     /// Of how many words a row is.
     pub words: u16,
@@ -18,7 +19,7 @@ pub struct Table {
 /// The patterns of a list.
 #[derive(Drop)]
 pub enum Form {
-    /// Each by itself, with what can stand where its matches begin, or behind.
+    /// Each by itself, with what can stand where its matches begin, or after that.
     Plain {
         slims: Vec<Slim>,
         places: Vec<Places>,

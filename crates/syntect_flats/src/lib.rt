@@ -1,5 +1,5 @@
-//! Flat lists of patterns: what is kept of a pattern, which patterns can begin where something stands, and which contexts a
-//! walk has entered.
+//! Flat lists of patterns: what is kept of a pattern, which patterns can begin where something
+//! stands, and which contexts a walk has entered.
 #![tactic(auto)]
 
 pub mod entered;

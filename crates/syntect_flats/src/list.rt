@@ -1,5 +1,5 @@
-//! A context's flat list, with a table that tells for each thing that can stand at a place, or behind the word or white space
-//! there, which patterns can begin at that place.
+//! A context's flat list, with a table that tells for each thing that can stand at a place, or
+//! after the word or white space there, which patterns can begin at that place.
 ghost use Rattle.std.specs.Prelude.{◌≡◌, ◌≤◌, ◌<◌, ◌*◌, List, ℕ, length, map, IfOk, IfSome, slice_index_or};
 ghost use Rattle.std.specs.List.{list_any};
 ghost use Rattle.syntect_flats.specs.Rows.{AreRowsOf, BeginIn, IsOut, TellsAlive, behind_row};
@@ -18,23 +18,25 @@ use std::alloc::{AllocError, Global};
 use std::marker::Model;
 use syntect_pattern_table::starts::{Places, either, is_in, nowhere};
 
-/// The least and the greatest length of a list that has a table: a shorter one is gone through as fast.
+/// The least and the greatest length of a list that has a table:
+/// a shorter one is gone through as fast.
 const SHORT: usize = 8;
 
 const LONG: usize = 65536;
 
-/// A flat list, seen as the list of its patterns. Of a pattern of a table it is seen what the table tells.
+/// A flat list, seen as the list of its patterns. Of a pattern of a table it is seen
+/// what the table tells.
 #[derive(Drop)]
 pub struct FlatList {
-    /// What can stand at a place where a match of one of the patterns begins, part by part, since that takes less room than
-    /// `Places`.
+    /// What can stand at a place where a match of one of the patterns begins, part by part, since
+    /// that takes less room than `Places`.
     ascii: u128,
     form: Form,
     /// How many patterns there are.
     count: u32,
     wide: bool,
     end: bool,
-    /// Whether it matters for one of the patterns what stands behind a word or behind white space.
+    /// Whether it matters for one of the patterns what comes after a word or after white space.
     asks: bool,
 }
 
@@ -50,7 +52,8 @@ impl Model for FlatList {
     ghost invariant = { λ l. IsKept (places_of l.ascii l.wide l.end) l.form l.count };
 }
 
-/// An index not below this one: no pattern from this one up to it can begin where this is seen, as each tells.
+/// An index not below this one: no pattern from this one up to it can begin where this is seen, as
+/// each tells.
 fn next_seen(table: &[Places], slims: &[Slim], outlook: Outlook, from: usize) -> usize
     requires here { outlook.here < 130 }
     requires behind { outlook.behind < 130 }
@@ -65,7 +68,7 @@ fn next_seen(table: &[Places], slims: &[Slim], outlook: Outlook, from: usize) ->
     next
 }
 
-/// Whether something that stands behind a word or behind white space rules one of the patterns out.
+/// Whether something that comes after a word or after white space rules one of the patterns out.
 fn any_asks(flats: &[Flat]) -> bool {
     flats
         .iter()
@@ -83,7 +86,7 @@ fn any_of(flats: &[Flat]) -> Places
     any
 }
 
-/// The row of what stands behind the word or the white space.
+/// The row of what comes after the word or the white space.
 #[inline]
 fn behind_row(outlook: Outlook) -> usize
     requires { outlook.behind < 130 }
@@ -116,7 +119,8 @@ fn alive(rows: &Packed, words: u16, outlook: Outlook, word: usize) -> u64
     }
 }
 
-/// An index not below this one: no pattern from this one up to it can begin where this is seen, as rows of so many words tell.
+/// An index not below this one: no pattern from this one up to it can begin where this is seen, as
+/// rows of so many words tell.
 #[inline]
 fn next_alive(rows: &Packed, words: u16, count: usize, outlook: Outlook, from: usize) -> usize
     requires here { outlook.here < 130 }
@@ -173,9 +177,9 @@ fn tabled_form(alloc: Global, asks: bool, flats: &[Flat]) -> Result<Option<Form>
     Ok(Some(Form::Tabled(Box::new(alloc, table)?)))
 }
 
-/// Patterns in the form that serves a list of their length. Where one of them stands too far off for a table, behind 65536
-/// syntaxes or contexts or 2147483648 entries, the list is kept without one: that tells no less, but is gone through pattern by
-/// pattern.
+/// Patterns in the form that serves a list of their length. Where one of them stands too far off
+/// for a table, after 65536 syntaxes or contexts or 2147483648 entries, the list is kept without
+/// one: that tells no less, but is gone through pattern by pattern.
 fn form_of(alloc: Global, asks: bool, flats: &[Flat]) -> Result<Form, AllocError>
     ensures { IfOk result (KeepsAll flats.now) }
 {
@@ -205,13 +209,15 @@ impl FlatList {
         })
     }
 
-    /// Whether it matters for one of the patterns what stands behind a word or behind white space. No contract says it: who
-    /// looks for that in vain is only slower, and who doesn't passes over less.
+    /// Whether it matters for one of the patterns what comes after a word or after white space. No
+    /// contract says it: who looks for that in vain is only slower,
+    /// and who doesn't passes over less.
     pub fn asks(&self) -> bool {
         self.asks
     }
 
-    /// What can stand at a place where a match of one of the patterns begins: where something else stands none does.
+    /// What can stand at a place where a match of one of the patterns begins: where something else
+    /// stands none does.
     #[inline]
     pub fn any(&self) -> Places
         ensures { BeginIn result self.now }
@@ -257,8 +263,9 @@ impl FlatList {
         }
     }
 
-    /// An index not below this one: no pattern from this one up to it can begin where this is seen. That the pattern there can
-    /// begin so, unless the list ends, is what makes a search fast; no contract says it.
+    /// An index not below this one: no pattern from this one up to it can begin where this is seen.
+    /// That the pattern there can begin so, unless the list ends, is what makes a search fast; no
+    /// contract says it.
     pub fn next(&self, outlook: Outlook, from: usize) -> usize
         requires here { outlook.here < 130 }
         requires behind { outlook.behind < 130 }

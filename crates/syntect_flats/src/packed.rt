@@ -1,15 +1,17 @@
-//! Rows of bits, of which those that are equal are kept once. Most rows of a list are: most characters differ for few of its
-//! patterns, be it as what one begins with or as what stands behind.
+//! Rows of bits, of which those that are equal are kept once. Most rows of a list are: most
+//! characters differ for few of its patterns, be it as what one begins with or as what follows.
 ghost use Rattle.std.specs.Prelude.{◌≡◌, ◌<◌, ◌≤◌, ◌+◌, ◌*◌, ℕ, List, length, take, drop, true, IfOk, IfSome, OnOk, slice_index_or};
 ghost use Rattle.syntect_flats.specs.Packed.{IsPacked, IsRow, unpacked};
 
 use std::alloc::{AllocError, Global};
 
-/// How many slots there are for numbers of rows, one of which a sum over a row's words gives. Where two rows share a slot the
-/// earlier one is no longer found there, and is kept once more if it comes again.
+/// How many slots there are for numbers of rows, one of which a sum over a row's words gives. Where
+/// two rows share a slot the earlier one is no longer found there, and is kept once more if it
+/// comes again.
 const SLOTS: usize = 1024;
 
-/// How many rows are told apart. A table that has more of them ends there, and says nothing of what lies behind.
+/// How many rows are told apart. A table that has more of them ends there, and says nothing of what
+/// lies beyond it.
 const MOST: u16 = 256;
 
 /// Rows of words, each of which has a number among those that differ.
@@ -17,11 +19,11 @@ const MOST: u16 = 256;
 pub struct Packed {
     /// The number of each row.
     pub numbers: Vec<u8>,
-    /// The rows that differ, one behind the other.
+    /// The rows that differ, one after the other.
     pub bits: Vec<u64>,
 }
 
-/// A word of a row; behind the table's end one whose bits are all set.
+/// A word of a row; after the table's end one whose bits are all set.
 #[inline]
 pub(crate) fn word_in(table: &Packed, words: u16, row: usize, word: usize) -> u64
     requires within { word < words }
@@ -61,8 +63,8 @@ fn is_row(bits: &[u64], words: u16, number: u8, row: &[u64]) -> bool
     end <= bits.len() && row.len() == words as usize && are_words(bits, start, row)
 }
 
-/// The slot of a row. Turning and multiplying by an odd number without pattern mix the bits of all words, so that rows that differ
-/// in few bits seldom share one.
+/// The slot of a row. Turning and multiplying by an odd number without pattern mix the bits of all
+/// words, so that rows that differ in few bits seldom share one.
 fn slot_of(row: &[u64]) -> usize
     ensures { result < 1024 }
 {
@@ -73,8 +75,8 @@ fn slot_of(row: &[u64]) -> usize
     (sum >> 32) as usize % SLOTS
 }
 
-/// The number of a row: the expected one, if it is that of an equal row, else that of the row itself, which is added. None where
-/// no number is left.
+/// The number of a row: the expected one, if it is that of an equal row, else that of the row
+/// itself, which is added. None where no number is left.
 fn number_of(
     bits: &mut Vec<u64>,
     words: u16,
@@ -103,8 +105,9 @@ fn number_of(
     Ok(Some(number))
 }
 
-/// The number of a row: that of the row before it, if they are equal, else that of an equal one whose number stands in its slot,
-/// or of the row itself, which is added. None where no number is left.
+/// The number of a row: that of the row before it, if they are equal, else that of an equal one
+/// whose number stands in its slot, or of the row itself, which is added.
+/// None where no number is left.
 #[inline]
 fn next_number(
     bits: &mut Vec<u64>,
@@ -132,7 +135,8 @@ fn next_number(
     Ok(number)
 }
 
-/// Rows of so many words as a table keeps them: all of them, or those before one for which no number is left.
+/// Rows of so many words as a table keeps them: all of them, or those before one for which no
+/// number is left.
 pub(crate) fn rows_packed(alloc: Global, words: u16, rows: &[u64]) -> Result<Packed, AllocError>
     requires { 0 < words }
     ensures packed { IfOk result (IsPacked words) }
@@ -142,7 +146,8 @@ pub(crate) fn rows_packed(alloc: Global, words: u16, rows: &[u64]) -> Result<Pac
     let mut numbers = Vec::with_capacity(alloc, rows.len() / words as usize)?;
     let mut bits = Vec::new(alloc);
     let mut count = 0;
-    // A slot that wasn't used says 0 too, which does no harm: whether the rows are equal is looked at
+    // A slot that wasn't used says 0 too, which does no harm:
+    // whether the rows are equal is looked at
     let mut slots = [0u8; SLOTS];
     let mut rest = rows;
     let mut last = 0;

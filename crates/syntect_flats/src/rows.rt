@@ -1,5 +1,6 @@
-//! Rows of bits, one for each thing that can stand on a side of a place, and one for places where no word begins or ends: a bit
-//! for each pattern, which is set if a match of it can begin there. A bit that is set for nothing does no harm.
+//! Rows of bits, one for each thing that can stand on a side of a place, and one for places where
+//! no word begins or ends: a bit for each pattern, which is set if a match of it can begin there. A
+//! bit that is set for nothing does no harm.
 ghost use Rattle.std.specs.Prelude.{◌≡◌, ◌≤◌, ◌<◌, ◌+◌, ◌*◌, ◌/◌, ◌%◌, ℕ, length, IfOk, slice_index_or, true};
 ghost use Rattle.std.specs.Int.{bit_at};
 ghost use Rattle.syntect_pattern_table.specs.Starts.{is_in};
@@ -50,7 +51,8 @@ fn mark_one(rows: &mut Vec<u64>, words: u16, index: usize, first: usize, places:
     }
 }
 
-/// Sets the bit of a pattern in those of 64 rows from the first on that have their bit set among these.
+/// Sets the bit of a pattern in those of 64 rows from the first on that have their
+/// bit set among these.
 #[inline]
 fn mark_half(rows: &mut Vec<u64>, words: u16, index: usize, first: usize, bits: u64)
     requires index { index < 65536 }
@@ -84,7 +86,8 @@ fn mark(rows: &mut Vec<u64>, words: u16, index: usize, first: usize, places: Pla
     mark_one(rows, words, index, first, places, 129);
 }
 
-/// Sets the bit of a pattern in the rows, from the first on, of what can stand there, unless its bit is one of these.
+/// Sets the bit of a pattern in the rows, from the first on, of what can stand there, unless its
+/// bit is one of these.
 #[inline]
 fn mark_unless(
     rows: &mut Vec<u64>,
@@ -120,9 +123,9 @@ fn mark_all(rows: &mut Vec<u64>, words: u16, first: usize, word: usize, bits: u6
     }
 }
 
-/// Which of up to 64 patterns begin whatever stands on the side, a bit for each. It has no contract and needs none: a pattern
-/// whose bit is set is marked in all rows of the side, and each other one by itself, so that whatever it answers none is left
-/// out.
+/// Which of up to 64 patterns begin whatever stands on the side, a bit for each. It has no contract
+/// and needs none: a pattern whose bit is set is marked in all rows of the side, and each other one
+/// by itself, so that whatever it answers none is left out.
 fn open_bits(flats: &[Flat], side: Side) -> u64 {
     let mut bits = 0;
     for (index, flat) in flats.iter().enumerate() {
@@ -133,7 +136,8 @@ fn open_bits(flats: &[Flat], side: Side) -> u64 {
     bits
 }
 
-/// Sets the bits of the 64 patterns that a word is of in the rows of a side, as far as there are so many.
+/// Sets the bits of the 64 patterns that a word is of in the rows of a side,
+/// as far as there are so many.
 fn mark_word(rows: &mut Vec<u64>, words: u16, flats: &[Flat], word: usize, side: Side)
     requires few { length flats.now ≤ 65536 }
     requires within { word * 64 < length flats.now }
@@ -183,7 +187,8 @@ fn mark_edges(rows: &mut Vec<u64>, words: u16, flats: &[Flat])
     }
 }
 
-/// The rows of these patterns. Where what stands behind a word or behind white space rules none of them out, there are none of it.
+/// The rows of these patterns. Where what comes after a word or after white space rules none of
+/// them out, there are none of it.
 pub(crate) fn rows_of(
     alloc: Global,
     words: u16,

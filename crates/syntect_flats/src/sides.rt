@@ -1,4 +1,5 @@
-//! The sides of a place that tell which patterns can begin there, and which rows of a table are of each.
+//! The sides of a place that tell which patterns can begin there, and which rows of a
+//! table are of each.
 ghost use Rattle.std.specs.Prelude.{◌≡◌, ◌≤◌};
 ghost use Rattle.syntect_flats.specs.Sides as spec;
 
@@ -10,23 +11,23 @@ use syntect_pattern_table::starts::Places;
 pub enum Side {
     /// What stands at the place.
     Here,
-    /// What stands behind the word there.
+    /// What comes after the word there.
     Word,
-    /// What stands behind the white space there.
+    /// What comes after the white space there.
     Blank,
 }
 
 /// The row of places where no word begins or ends.
 pub(crate) const EDGES: usize = 130;
 
-/// The first row of what stands behind a word: so many stand before it.
+/// The first row of what comes after a word: so many stand before it.
 const WORDS: usize = 131;
 
-/// The first row of what stands behind white space.
+/// The first row of what comes after white space.
 const BLANKS: usize = 261;
 
-/// How many rows there are: 130 for each side, which are each ASCII character, any other one, and the end, and one for places
-/// where no word begins or ends.
+/// How many rows there are: 130 for each side, which are each ASCII character, any other one, and
+/// the end, and one for places where no word begins or ends.
 const ROWS: usize = 391;
 
 /// The first of the rows that are of a side.
@@ -60,9 +61,9 @@ pub(crate) fn is_everything(places: Places) -> bool {
     places.ascii == u128::MAX && places.wide && places.end
 }
 
-/// How many rows a table of these patterns has: those of what stands at a place and of edges alone where what stands behind rules
-/// none out, and those before the ones of white space where what stands behind that doesn't. A row past a table's end rules out
-/// none.
+/// How many rows a table of these patterns has: those of what stands at a place and of edges alone
+/// where what follows rules none out, and those before the ones of white space where what follows
+/// those doesn't. A row past a table's end rules out none.
 pub(crate) fn row_count(asks: bool, flats: &[Flat]) -> usize
     ensures { result ≤ 391 }
 {

@@ -1,5 +1,5 @@
-//! Patterns as a short flat list keeps them: what can stand where their matches begin, or behind, stands in a table, once for
-//! those that follow one another with the same.
+//! Patterns as a short flat list keeps them: what can stand where their matches begin, or after
+//! that, stands in a table, once for those that follow one another with the same.
 ghost use Rattle.std.specs.Prelude.{◌≡◌, ◌<◌, ℕ, true, List, map, IfOk, IfSome, Some, slice_get};
 ghost use Rattle.std.specs.List.{list_any};
 ghost use Rattle.syntect_pattern_table.specs.declared.starts.Places.{Places as APlaces};
@@ -11,8 +11,8 @@ use std::alloc::{AllocError, Global};
 use syntect_contexts::context::ContextId;
 use syntect_pattern_table::starts::{Places, is_in};
 
-/// How many of the last entries of a table are looked at for one that is wanted. To look at all of them for each pattern would
-/// take the square of the list's length.
+/// How many of the last entries of a table are looked at for one that is wanted. To look at all of
+/// them for each pattern would take the square of the list's length.
 const RECENT: usize = 8;
 
 /// What is taken to stand at a number past a table's end.
@@ -33,9 +33,9 @@ pub struct Slim {
     pub index: u32,
     /// What can stand at a place where a match of it begins.
     pub begins: u32,
-    /// What can stand behind a word in which a match of it begins.
+    /// What can come after a word in which a match of it begins.
     pub words: u32,
-    /// What can stand behind white space in which one does.
+    /// What can come after white space in which one does.
     pub blanks: u32,
     /// Whether it is known that its matches begin only where a word begins or ends.
     pub at_edges: bool,
@@ -77,7 +77,7 @@ pub(crate) fn origin_of(slim: &Slim) -> Origin
     }
 }
 
-/// What can stand behind white space, or else behind a word, in which a match of the pattern begins.
+/// What can come after white space, or else after a word, in which a match of the pattern begins.
 #[inline]
 fn behind_of(table: &[Places], blank: bool, slim: &Slim) -> Places
     ensures { result ≡ behind_of blank (widened table.now slim.now) }
@@ -153,7 +153,8 @@ fn recent(table: &[Places], wanted: &Places) -> Option<usize>
     None
 }
 
-/// The number, in fewer bits. What has more entries than such numbers can tell apart has no place in memory.
+/// The number, in fewer bits. What has more entries than such numbers can tell apart has no place
+/// in memory.
 pub(crate) fn narrowed(number: usize) -> Result<u32, AllocError>
     ensures { IfOk result (λ n. n ≡ number) }
 {
@@ -163,7 +164,8 @@ pub(crate) fn narrowed(number: usize) -> Result<u32, AllocError>
     }
 }
 
-/// The number of these in a table, to which they are added where they stand neither at this number nor among the last.
+/// The number of these in a table, to which they are added where they stand neither at this number
+/// nor among the last.
 fn number_of(table: &mut Vec<Places>, near: u32, wanted: &Places) -> Result<u32, AllocError>
     ensures number { IfOk result (λ n. slice_get table.new.items n ≡ Some wanted.now) }
     ensures stays { (n : ℕ) (p : APlaces) → slice_get table.old.items n ≡ Some p
@@ -180,7 +182,8 @@ fn number_of(table: &mut Vec<Places>, near: u32, wanted: &Places) -> Result<u32,
     Ok(number)
 }
 
-/// A pattern as a list keeps it. Its places go into the table; most often they are those of the one before.
+/// A pattern as a list keeps it. Its places go into the table; most often they are those
+/// of the one before.
 fn slim_of(table: &mut Vec<Places>, before: Slim, flat: &Flat) -> Result<Slim, AllocError>
     ensures slim { IfOk result (IsSlimOf table.new.items flat.now) }
     ensures stays { (n : ℕ) (p : APlaces) → slice_get table.old.items n ≡ Some p

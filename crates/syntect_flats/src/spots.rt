@@ -7,16 +7,17 @@ use crate::flats::{Flat, Origin};
 use std::alloc::{AllocError, Global};
 use syntect_contexts::context::ContextId;
 
-/// A pattern of a context's walk, without what a table tells of it. A long list has one for each pattern, and so they are kept
-/// in eight bytes. A pattern whose numbers have no place there has no spot: a list that has it keeps each pattern by itself.
+/// A pattern of a context's walk, without what a table tells of it. A long list has one for each
+/// pattern, and so they are kept in eight bytes. A pattern whose numbers have no place there has no
+/// spot: a list that has it keeps each pattern by itself.
 #[derive(Clone, Copy)]
 pub struct Spot {
     /// The place of the syntax of the context that holds it.
     pub syntax: u16,
     /// The place of that context in its syntax.
     pub context: u16,
-    /// Twice its index among that context's entries, and one more if it has back references into the match that opened its
-    /// context.
+    /// Twice its index among that context's entries, and one more if it has back references into
+    /// the match that opened its context.
     pub entry: u32,
 }
 

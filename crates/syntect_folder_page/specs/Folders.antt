@@ -6,7 +6,8 @@ use Rattle.syntect.specs.SyntaxReference.{SyntaxReference}
 use Rattle.syntect.specs.SyntaxSet.{SyntaxSet}
 use Rattle.syntect.specs.Theme.{Theme}
 
--- The page shows the text's lines as they read in one of the syntaxes of a set, which was built of grammars that were loaded.
+-- The page shows the text's lines as they read in one of the syntaxes of a set, which was built of
+-- grammars that were loaded.
 pub record ShowsText (theme : Theme) (text page : List ℕ) : Type 0 where
   pub set : SyntaxSet
   pub syntax : SyntaxReference

@@ -11,8 +11,8 @@ use syntect::html::highlighted_html_for_string;
 use syntect::laws::loaded_sets_are_built;
 use syntect::parsing::{ScopeRepository, SyntaxSetBuilder};
 
-/// The page of a text, in the last syntax of an extension, by plain text and the grammars of a folder. Its contract is what
-/// the page shows; nothing has to be known of what the folder holds.
+/// The page of a text, in the last syntax of an extension, by plain text and the grammars of a
+/// folder. Its contract is what the page shows; nothing has to be known of what the folder holds.
 pub fn page_by_folder(
     files: &impl Files,
     alloc: Global,

@@ -13,15 +13,16 @@ use Rattle.syntect_within.specs.Limited.{left_of}
 use Rattle.syntect_folders.specs.declared.error.FolderWithinError.{FolderWithinError}
 use Rattle.syntect_folders.specs.declared.error.FolderWithinError.TheVariants.{Refused, LimitReached}
 
--- how many bytes more the grammars of a folder may have after one of n bytes, if they may have those; nothing is counted
--- where they may have any number
+-- how many bytes more the grammars of a folder may have after one of n bytes, if they may have
+-- those; nothing is counted where they may have any number
 abbrev pub room_after : ℕ → ℕ → Option ℕ
 room_after room n =
     if room == 2 ^ 64 - 1 then Some room
     else if nat_le n room then Some (room - n)
     else None
 
--- the definition of the bytes of a file of this path, as without limits; and the bytes keep within them
+-- the definition of the bytes of a file of this path, as without limits;
+-- and the bytes keep within them
 pub record IsSyntaxWithin (limits : Limits) (newlines : Bool) (path : List ℕ)
     (old : List (List ℕ)) (bytes : List ℕ) (new : List (List ℕ)) (d : SyntaxDefinition)
     : Type 0 where
@@ -29,8 +30,9 @@ pub record IsSyntaxWithin (limits : Limits) (newlines : Bool) (path : List ℕ)
   pub left : ℕ
   pub within : left_of limits bytes ≡ Ok left
 
--- Why the bytes of a file of this path give no definition within limits: they keep within them and are refused as without
--- them; or they pass the limit that is told with the path; or there was no memory.
+-- Why the bytes of a file of this path give no definition within limits: they keep within them and
+-- are refused as without them; or they pass the limit that is reported with the path; or there was
+-- no memory.
 pub data RefusesSyntaxWithin (limits : Limits) (newlines : Bool) (path bytes : List ℕ)
     (repo : List (List ℕ)) : FolderWithinError → Type 0 where
   no_grammar : {left : ℕ} {e : LoadingError} → left_of limits bytes ≡ Ok left
@@ -41,7 +43,8 @@ pub data RefusesSyntaxWithin (limits : Limits) (newlines : Bool) (path bytes : L
       → RefusesSyntaxWithin limits newlines path bytes repo (LimitReached r shown)
   no_memory : RefusesSyntaxWithin limits newlines path bytes repo (Refused Memory)
 
--- the definition of a file of this path within limits, and the room that its bytes leave of this one
+-- the definition of a file of this path within limits, and the room that its bytes
+-- leave of this one
 abbrev pub IsReadWithin : Limits → Bool → List ℕ → List (List ℕ) → ℕ → List (List ℕ) → ℕ
     → SyntaxDefinition → Type 0
 IsReadWithin limits newlines path old room new left d =
@@ -49,8 +52,9 @@ IsReadWithin limits newlines path old room new left d =
     × (room_after room (length bytes) ≡ Some left)
     × IsSyntaxWithin limits newlines path old bytes new d
 
--- Why a file gives no definition within limits, where the grammars of its folder may have so many bytes more: it is not read;
--- or it has more bytes than those; or its bytes give none; or there was no memory.
+-- Why a file gives no definition within limits, where the grammars of its folder may have so many
+-- bytes more: it is not read; or it has more bytes than those; or its bytes give none; or there was
+-- no memory.
 pub data RefusesReadWithin (limits : Limits) (newlines : Bool) (path : List ℕ)
     (repo : List (List ℕ)) (room : ℕ) : FolderWithinError → Type 0 where
   not_read : {e : Error} → RefusesReadWithin limits newlines path repo room (Refused (Io e))

@@ -11,9 +11,9 @@ use Rattle.syntect_folders.specs.FilesWithin.{IsReadWithin, RefusesReadWithin}
 use Rattle.syntect_folders.specs.declared.error.FolderWithinError.{FolderWithinError}
 use Rattle.syntect_folders.specs.declared.error.FolderWithinError.TheVariants.{Refused}
 
--- The grammars and the metadata among these files are added to a builder, one after another, each grammar under its path and
--- within limits. The first number is how many bytes all these grammars may have together, and the last how many more they
--- might have had.
+-- The grammars and the metadata among these files are added to a builder, one after another, each
+-- grammar under its path and within limits. The first number is how many bytes all these grammars
+-- may have together, and the last how many more they might have had.
 pub data AddsWithin (limits : Limits) (newlines : Bool) : ℕ → List (List ℕ) → List (List ℕ)
     → SyntaxSetBuilder → ℕ → List (List ℕ) → SyntaxSetBuilder → Type 0 where
   no_more : {room : ℕ} {repo : List (List ℕ)} {builder : SyntaxSetBuilder}
@@ -35,7 +35,8 @@ pub data AddsWithin (limits : Limits) (newlines : Bool) : ℕ → List (List ℕ
       → AddsWithin limits newlines room paths old next rest new all
       → AddsWithin limits newlines room (path ∷ paths) old builder rest new all
 
--- why a file stops this: it is a grammar's and gives no syntax within limits, or it has metadata and there is no memory
+-- why a file stops this: it is a grammar's and gives no syntax within limits, or it has metadata
+-- and there is no memory
 pub data StopsWithin (limits : Limits) (newlines : Bool) (path : List ℕ) (repo : List (List ℕ))
     (room : ℕ) : FolderWithinError → Type 0 where
   at_grammar : {e : FolderWithinError} → is_grammar_path path ≡ true
@@ -44,8 +45,8 @@ pub data StopsWithin (limits : Limits) (newlines : Bool) (path : List ℕ) (repo
   at_metadata : is_metadata_path path ≡ true
       → StopsWithin limits newlines path repo room (Refused Memory)
 
--- the grammars and the metadata in a folder and in those below it are added, in the order of a walk, and the grammars have
--- no more bytes together than the limit lets a folder's have
+-- the grammars and the metadata in a folder and in those below it are added, in the order of a
+-- walk, and the grammars have no more bytes together than the limit lets a folder's have
 pub record AddsFolderWithin (limits : Limits) (newlines : Bool) (folder : List ℕ)
     (old : List (List ℕ)) (builder : SyntaxSetBuilder) (new : List (List ℕ))
     (all : SyntaxSetBuilder) : Type 0 where
@@ -54,8 +55,8 @@ pub record AddsFolderWithin (limits : Limits) (newlines : Bool) (folder : List �
   pub rest : ℕ
   pub adds : AddsWithin limits newlines limits.folder files old builder rest new all
 
--- Why they are not, and what is added then: the files before a fault of the walk, whose scopes alone the repository has then
--- more; or the files before one that stops this.
+-- Why they are not, and what is added then: the files before a fault of the walk, whose scopes
+-- alone the repository has then more; or the files before one that stops this.
 pub data RefusesFolderWithin (limits : Limits) (newlines : Bool) (folder : List ℕ)
     (old : List (List ℕ)) (builder : SyntaxSetBuilder)
     : FolderWithinError → List (List ℕ) → SyntaxSetBuilder → Type 0 where

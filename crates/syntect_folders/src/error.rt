@@ -15,7 +15,8 @@ pub enum FolderWithinError {
     LimitReached(LimitReached, String),
 }
 
-/// The message, with the cause where the message leaves it out: `main` shows it of an error that it answers.
+/// The message, with the cause where the message leaves it out: `main` shows it of an
+/// error that it answers.
 impl fmt::Debug for FolderWithinError {
     fn fmt<W: fmt::Write>(&self, f: &mut fmt::Formatter<W>) -> fmt::Result {
         match self {

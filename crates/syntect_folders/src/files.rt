@@ -23,7 +23,8 @@ use syntect_loader::definition::SyntaxDefinition;
 use syntect_scope::repository::ScopeRepository;
 use syntect_within::within::load_from_str_within;
 
-/// The refusal of the text in a file that is no grammar, with the file's path. Want of memory is passed on as such.
+/// The refusal of the text in a file that is no grammar, with the file's path. Lack of memory is
+/// passed on as such.
 fn refused_text(alloc: Global, path: &str, e: ParseSyntaxError) -> LoadingError
     ensures told { (newlines : Bool) (repo : List (List ℕ)) (bytes : List ℕ) → IsUtf8 bytes
         → Fails (loaded bytes newlines (path_file_stem path.now) repo) e
@@ -39,7 +40,8 @@ fn refused_text(alloc: Global, path: &str, e: ParseSyntaxError) -> LoadingError
     }
 }
 
-/// The refusal of the text in a file within limits, with the file's path. Want of memory is passed on as such.
+/// The refusal of the text in a file within limits, with the file's path. Lack of memory is passed
+/// on as such.
 fn refused_file(alloc: Global, path: &str, e: LoadWithinError) -> FolderWithinError
     ensures { (limits : ALimits) (newlines : Bool) (old new : List (List ℕ)) (bytes : List ℕ)
         → IsUtf8 bytes
@@ -56,7 +58,8 @@ fn refused_file(alloc: Global, path: &str, e: LoadWithinError) -> FolderWithinEr
     }
 }
 
-/// The definition of the text in a file. A syntax without a name has that of the file, without the extension.
+/// The definition of the text in a file. A syntax without a name has that of the file,
+/// without the extension.
 fn load_text(
     alloc: Global,
     path: &str,
@@ -84,7 +87,8 @@ fn load_text(
     }
 }
 
-/// How many bytes more the grammars of a folder may have after one of so many bytes, if they may have those.
+/// How many bytes more the grammars of a folder may have after one of so many bytes, if they may
+/// have those.
 fn room_after(room: usize, len: usize) -> Option<usize>
     ensures { result ≡ files_within.room_after room len }
 {
@@ -160,9 +164,10 @@ fn load_read(
     }
 }
 
-/// The definition of the grammar in a file, within limits, and how many bytes more the grammars of its folder may have
-/// then. One that cannot be read, or isn't UTF-8, is `Io`, one that is no grammar is `ParseSyntax` with its path, and one
-/// that would pass a limit is `LimitReached` with its path.
+/// The definition of the grammar in a file, within limits, and how many bytes more the grammars of
+/// its folder may have then. One that cannot be read, or isn't UTF-8, is `Io`, one that is no
+/// grammar is `ParseSyntax` with its path, and one that would pass a limit is `LimitReached` with
+/// its path.
 pub(crate) fn load_file_within(
     files: &impl Files,
     alloc: Global,

@@ -25,7 +25,8 @@ struct Loading {
     limits: Limits,
 }
 
-/// Adds the grammar of a file to a builder, where its folder's grammars may have so many bytes more.
+/// Adds the grammar of a file to a builder, where its folder's grammars may have
+/// so many bytes more.
 fn add_grammar(
     files: &impl Files,
     alloc: Global,
@@ -93,12 +94,12 @@ fn add_file(
     }
 }
 
-/// Adds the grammars and the metadata in a folder to a builder as its `add_from_folder` does, each grammar within limits, and
-/// all of them within that of a folder.
+/// Adds the grammars and the metadata in a folder to a builder as its `add_from_folder` does, each
+/// grammar within limits, and all of them within that of a folder.
 ///
-/// A grammar that would pass one is `LimitReached` with the path of its file; any other refusal is that of
-/// `add_from_folder`. The bytes of a file are counted with those of the grammars before it once it is read, and before it is
-/// parsed. What is before the first fault stays added.
+/// A grammar that would pass one is `LimitReached` with the path of its file; any other refusal is
+/// that of `add_from_folder`. The bytes of a file are counted with those of the grammars before it
+/// once it is read, and before it is parsed. What is before the first fault stays added.
 pub fn add_from_folder_within(
     files: &impl Files,
     alloc: Global,

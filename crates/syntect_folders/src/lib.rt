@@ -1,7 +1,7 @@
 //! Folders of grammars that are loaded within limits.
 //!
-//! `folders.rt` goes through a folder as `SyntaxSetBuilder::add_from_folder` does, and `files.rt` loads each grammar there
-//! with what `syntect_within` counts first.
+//! `folders.rt` goes through a folder as `SyntaxSetBuilder::add_from_folder` does, and `files.rt`
+//! loads each grammar there with what `syntect_within` counts first.
 #![tactic(auto)]
 
 pub mod error;

@@ -41,7 +41,7 @@ stands set id k m e = by (context_at set id) e
     by None h = absurd (none_in k (Match m) h)
     by (Some c) h = ap (option_and_then match_in) h
 
--- an entry, and those behind it
+-- an entry, and those after it
 pub entry_at : (es ps : List Pattern) → es ≡ ps → (k : ℕ) (p d : Pattern) → k < length es → get_or es k d ≡ p → drop k ps ≡ p ∷ drop (k + 1) ps
 entry_at es ps same k p d l e =
     subst (λ (qs : List Pattern). drop k qs ≡ p ∷ drop (k + 1) qs) same
@@ -176,7 +176,7 @@ pub if_ok : {X E : Type 0} (P Q : X → Type 0) → ((x : X) → P x → Q x) �
 if_ok P Q h (Ok x) k = h x k
 if_ok P Q h (Err e) k = tt
 
--- ---- patterns of which less is told ----
+-- ---- patterns of which less is known ----
 
 module _ (set : SyntaxSet) where
   same_place : (old new : Flat) → IsCoarser old new → pattern_at set new ≡ pattern_at set old

@@ -13,7 +13,7 @@ find_append f (x ∷ xs) ys = by (f x) (find_append f xs ys)
     by true e = refl
     by false e = e
 
--- ---- behind what was found ----
+-- ---- after what was found ----
 
 -- what follows is looked at only where nothing was found before
 pub found_past : {X : Type 0} (f : X → Bool) (xs ys zs : List X) → (find f xs ≡ None → find f ys ≡ find f zs) → find f (xs ++ ys) ≡ find f (xs ++ zs)

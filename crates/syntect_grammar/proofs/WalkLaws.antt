@@ -1,4 +1,5 @@
--- A walk that enters each context once gives what the walk by include paths gives, but for patterns that came before.
+-- A walk that enters each context once gives what the walk by include paths gives, but for patterns
+-- that came before.
 use Rattle.std.proofs.Common.{◌≡◌, ℕ, suc, ◌+◌, ◌≤◌, ◌<◌, Bool, true, false, ◌||◌, ◌==◌, List, [], ◌∷◌, ◌++◌, length, map, find, Option, Some, None, refl, ap, sym, ◌∙◌, subst, arith, append_assoc, append-nil, length-append, if◌then◌else◌}
 use Rattle.std.specs.List.{list_any}
 use Rattle.std.proofs.lemmas.Bool.Decides.{nat_tests}
@@ -75,7 +76,8 @@ Visit = ContextId × List Pattern
 abbrev pub ids : List Visit → List ContextId
 ids fs = map (λ f. f.0) fs
 
--- what is left of the walks of these contexts, each included by the one before it, the last one first
+-- what is left of the walks of these contexts, each included by the one before it,
+-- the last one first
 abbrev pub IsLeft : SyntaxSet → List ContextId → List Visit → List MatchPattern → Type 0
 IsLeft set path [] rest = rest ≡ []
 IsLeft set path (f ∷ fs) rest = (inner : List MatchPattern) × (ms : List MatchPattern)
@@ -202,8 +204,9 @@ ids_top (f ∷ fs) id ps = ap (λ (l : List ContextId). f.0 ∷ l) (ids_top fs i
 
 -- ---- the walk ----
 
--- What was given and what is left find what the context's walk finds, and are no more than that. As long as a test finds nothing, what was entered is
--- through, or being walked, and there what was passed is through.
+-- What was given and what is left find what the context's walk finds, and are no more than that. As
+-- long as a test finds nothing, what was entered is through, or being walked, and there what was
+-- passed is through.
 pub record IsWalk (set : SyntaxSet) (root : ContextId) (seen : List ContextId) (fs : List Visit) (out : List MatchPattern) : Type 0 where
   pub rest : List MatchPattern
   pub is_left : IsLeft set [] fs rest
@@ -252,7 +255,7 @@ walk_pops set root seen fs id ps out nil w =
     by test n x s e false m =
         w.through test n x s (ap (is_in x) (ids_top fs id ps) ∙ out_both x (ids fs) (id ∷ []) e (rw m refl))
 
--- the top one goes on behind an entry that is through once it was passed
+-- the top one goes on after an entry that is through once it was passed
 goes_on : (set : SyntaxSet) (test : MatchPattern → Bool) (seen : List ContextId) (fs : List Visit) (id : ContextId) (p : Pattern) (ps : List Pattern)
     → AreThrough set test seen (p ∷ []) → ArePassed set test seen (fs ++ (id, p ∷ ps) ∷ []) → ArePassed set test seen (fs ++ (id, ps) ∷ [])
 goes_on set test seen fs id p ps h a =

@@ -16,8 +16,8 @@ entered contexts entry = insert_entry (slice_cmp nat_cmp) contexts entry.0 entry
 abbrev pub by_names : List (List ℕ × Context) → List (List ℕ × Context)
 by_names entries = fold entered [] entries
 
--- the definition that a syntax is: all as it is there, with its references as they are linked, and with its prototypes and
--- marks
+-- the definition that a syntax is: all as it is there, with its references as they are linked, and
+-- with its prototypes and marks
 abbrev pub definition_of_syntax : SyntaxReference → SyntaxDefinition
 definition_of_syntax s = record {
   name = s.name;

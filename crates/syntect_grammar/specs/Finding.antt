@@ -59,7 +59,7 @@ fits_line line s =
 abbrev pub found_by_first_line : SyntaxSet → List ℕ → Option SyntaxReference
 found_by_first_line set line = last_fitting (fits_line (without_mark line)) (syntaxes_in set)
 
--- whether a whole path is this one, or ends with it behind a slash
+-- whether a whole path is this one, or ends with it after a slash
 abbrev pub ends_in_path : List ℕ → List ℕ → Bool
 ends_in_path whole path = pointwise ◌==◌ whole path || ends_with ◌==◌ whole (47 ∷ path)
 
@@ -69,8 +69,9 @@ found_by_path set path =
     option_and_then (λ entry. slice_get (syntaxes_in set) entry.1)
     (last_fitting (λ entry. ends_in_path entry.0 path) (set_paths set))
 
--- What the path of a file tells: the last syntax that has the file's whole name as its extension, or else the last of the
--- name's extension. A path without a name, or a name without an extension, has an empty one.
+-- What the path of a file tells: the last syntax that has the file's whole name as its extension,
+-- or else the last of the name's extension. A path without a name, or a name without an extension,
+-- has an empty one.
 abbrev pub found_by_file_name : SyntaxSet → List ℕ → Option SyntaxReference
 found_by_file_name set path =
     option_or (found_by_extension set (unwrap_or (path_file_name path) []))

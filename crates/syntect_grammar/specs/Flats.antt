@@ -17,15 +17,15 @@ use Rattle.syntect_grammar.specs.declared.syntax_set.SyntaxSet.{SyntaxSet}
 abbrev pub pattern_at : SyntaxSet → Flat → Option MatchPattern
 pattern_at set flat = option_and_then (λ c. match_of c flat.index) (context_at set flat.context)
 
--- nothing is told of where the pattern can begin
+-- nothing is known of where the pattern can begin
 pub record IsOpen (flat : Flat) : Type 0 where
   pub begins : (x : ℕ) → is_in flat.begins x ≡ true
   pub words : (x : ℕ) → is_in flat.words x ≡ true
   pub blanks : (x : ℕ) → is_in flat.blanks x ≡ true
   pub edges : flat.at_edges ≡ false
 
--- What is kept of the pattern at the place is true of it; and of one with back references into an opening match, in place of
--- which something else is searched, nothing is told.
+-- What is kept of the pattern at the place is true of it; and of one with back references into an
+-- opening match, in place of which something else is searched, nothing is known.
 abbrev pub Tells : SyntaxSet → Flat → Type 0
 Tells set flat =
     IfSome (pattern_at set flat)
@@ -34,8 +34,8 @@ Tells set flat =
     × (flat.at_edges ≡ true → BeginsAtEdges m.regex)
     × (flat.has_captures ≡ true → IsOpen flat))
 
--- Each test finds the same first pattern at these places as in the context's walk, there are no more of them than that has
--- patterns, and what is kept of them is true.
+-- Each test finds the same first pattern at these places as in the context's walk, there are no
+-- more of them than that has patterns, and what is kept of them is true.
 pub record AreFlatsOf (set : SyntaxSet) (id : ContextId) (flats : List Flat) : Type 0 where
   pub finds : FindsSame (filter_map (pattern_at set) flats) (patterns_of set id)
   pub few : length flats ≤ length (patterns_of set id)

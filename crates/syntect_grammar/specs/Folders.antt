@@ -53,14 +53,16 @@ abbrev pub with_entry : RawMetadataEntry → SyntaxSetBuilder → SyntaxSetBuild
 with_entry entry builder =
     record builder { raw_metadata = record { loaded = entries_in builder ++ entry ∷ [] } }
 
--- A file of metadata adds its entry; where it gives none, for another cause than want of memory, it is passed over.
+-- A file of metadata adds its entry; where it gives none, for another cause than lack of memory, it
+-- is passed over.
 pub data AddsMetadata (path : List ℕ) (builder : SyntaxSetBuilder) : SyntaxSetBuilder → Type 0 where
   entry_added : {bytes : List ℕ} {entry : RawMetadataEntry} → IsEntryOf path bytes entry
       → AddsMetadata path builder (with_entry entry builder)
   passed_over : {e : LoadingError} → IsEntryFault e → e ≢ Memory → AddsMetadata path builder builder
 
--- The grammars and the metadata among these files are added to a builder, one after another, each grammar under its path.
--- Of what a file holds nothing is known but that it gave a definition or an entry.
+-- The grammars and the metadata among these files are added to a builder, one after another, each
+-- grammar under its path. Of what a file holds nothing is known but that it gave a
+-- definition or an entry.
 pub data AddsSyntaxes (newlines : Bool) : List (List ℕ) → List (List ℕ) → SyntaxSetBuilder
     → List (List ℕ) → SyntaxSetBuilder → Type 0 where
   no_more : {repo : List (List ℕ)} {builder : SyntaxSetBuilder}
@@ -79,7 +81,8 @@ pub data AddsSyntaxes (newlines : Bool) : List (List ℕ) → List (List ℕ) �
       → AddsMetadata path builder next → AddsSyntaxes newlines paths old next new all
       → AddsSyntaxes newlines (path ∷ paths) old builder new all
 
--- why a file stops this: it is a grammar's and gives no syntax, or it has metadata and there is no memory
+-- why a file stops this: it is a grammar's and gives no syntax, or it has metadata and
+-- there is no memory
 pub data StopsFile (newlines : Bool) (path : List ℕ) (repo : List (List ℕ)) : LoadingError
     → Type 0 where
   at_grammar : {e : LoadingError} → is_grammar_path path ≡ true
@@ -95,8 +98,8 @@ pub record AddsFolder (newlines : Bool) (folder : List ℕ) (old : List (List �
   pub walk : IsWalk folder files
   pub adds : AddsSyntaxes newlines files old builder new all
 
--- Why they are not, and what is added then: the files before a fault of the walk, whose scopes alone the repository has then
--- more; or the files before one that stops this.
+-- Why they are not, and what is added then: the files before a fault of the walk, whose scopes
+-- alone the repository has then more; or the files before one that stops this.
 pub data RefusesFolder (newlines : Bool) (folder : List ℕ) (old : List (List ℕ))
     (builder : SyntaxSetBuilder) : LoadingError → List (List ℕ) → SyntaxSetBuilder → Type 0 where
   no_walk : {e : LoadingError} {files new : List (List ℕ)} {all : SyntaxSetBuilder}

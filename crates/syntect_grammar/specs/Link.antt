@@ -47,8 +47,8 @@ body_of d = map (λ entry. entry.1) d.contexts
 
 -- ---- syntaxes ----
 
--- The definition that stands at this index, linked with these heads and contexts of all definitions: its contexts are
--- linked, and all else is as it was given.
+-- The definition that stands at this index, linked with these heads and contexts of all
+-- definitions: its contexts are linked, and all else is as it was given.
 abbrev pub linked_definition : List SyntaxReference → List (List Context) → ℕ → SyntaxDefinition
     → SyntaxReference
 linked_definition heads bodies index d =

@@ -18,8 +18,8 @@ entries_in builder = builder.raw_metadata.loaded
 abbrev pub kept_sets : SyntaxSetBuilder → List MetadataSet
 kept_sets builder = builder.metadata.scoped_metadata
 
--- What is kept and the sets of the entries, in the order of scope texts, a new one in place of an old one of the same text.
--- The sets are read with a repository that becomes another one.
+-- What is kept and the sets of the entries, in the order of scope texts, a new one in place of an
+-- old one of the same text. The sets are read with a repository that becomes another one.
 abbrev pub IsMergedOf : List (List ℕ) → SyntaxSetBuilder → List (List ℕ) → List MetadataSet → Type 0
 IsMergedOf old builder new sets =
     (fresh : List MetadataSet) × IsOfEntries old (entries_in builder) new fresh

@@ -15,7 +15,8 @@ use Rattle.syntect_grammar.specs.declared.syntax_set.SyntaxSet.{SyntaxSet}
 abbrev pub entries : SyntaxSet → ContextId → List Pattern
 entries = part_of (λ c. c.patterns)
 
--- an include gives its target's patterns, and nothing where it is unresolved or its target is on the include path
+-- an include gives its target's patterns, and nothing where it is unresolved or its target is on
+-- the include path
 abbrev pub included : (ContextId → List MatchPattern) → List ContextId → Option ContextId
     → List MatchPattern
 included inner path None = []
@@ -29,13 +30,15 @@ walk_patterns inner path (Match m ∷ ps) = m ∷ walk_patterns inner path ps
 walk_patterns inner path (Include r ∷ ps) =
     included inner path (target r) ++ walk_patterns inner path ps
 
--- entries that were reached by this include path, which holds the targets of the includes that were followed
+-- entries that were reached by this include path, which holds the targets of the
+-- includes that were followed
 abbrev pub walk : ℕ → SyntaxSet → List ContextId → List Pattern → List MatchPattern
 walk zero set path ps = []
 walk (suc room) set path ps =
     walk_patterns (λ id. walk room set (path ++ id ∷ []) (entries set id)) path ps
 
--- An include path has no context twice, and only its last may be one that the set lacks: the room is never felt.
+-- An include path has no context twice, and only its last may be one that the set lacks: the room
+-- is never felt.
 abbrev pub room_in : SyntaxSet → ℕ
 room_in set = count_contexts (contexts_of set) + 1
 
@@ -49,7 +52,8 @@ patterns_of set id = walk (room_in set) set (id ∷ []) (entries set id)
 
 -- ---- the same walk as a relation ----
 
--- an include that gives nothing: it is unresolved, the set lacks its target, or that is on the include path
+-- an include that gives nothing: it is unresolved, the set lacks its target, or that is on the
+-- include path
 pub data GivesNothing (set : SyntaxSet) (path : List ContextId)
     (r : ContextReference) : Type 0 where
   unresolved : target r ≡ None → GivesNothing set path r

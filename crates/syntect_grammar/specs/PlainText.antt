@@ -16,7 +16,8 @@ abbrev pub plain_text : List ℕ
 plain_text =
     codes "---\nname: Plain Text\nfile_extensions: [txt]\nscope: text.plain\ncontexts: {main: []}"
 
--- named `Plain Text`, of the extension `txt` and the scope `text.plain`, with a `main` that has no patterns
+-- named `Plain Text`, of the extension `txt` and the scope `text.plain`,
+-- with a `main` that has no patterns
 pub record IsPlainText (repository : List (List ℕ)) (d : SyntaxDefinition) : Type 0 where
   pub name : d.name ≡ codes "Plain Text"
   pub extensions : d.file_extensions ≡ codes "txt" ∷ []
@@ -27,7 +28,8 @@ pub record IsPlainText (repository : List (List ℕ)) (d : SyntaxDefinition) : T
   pub main : option_map (λ c. c.patterns)
       (lookup (is_at (slice_cmp nat_cmp (codes "main"))) d.contexts) ≡ Some []
 
--- the builder with the definition of that grammar last, whose scopes are those of the repository that is left
+-- the builder with the definition of that grammar last, whose scopes are those of the repository
+-- that is left
 pub record AddsPlainText (old new : SyntaxSetBuilder) (before after : List (List ℕ)) : Type 0 where
   pub definition : SyntaxDefinition
   pub loads : loaded plain_text false None before ≡ Ok (definition, after)

@@ -8,8 +8,8 @@ use Rattle.syntect_contexts.specs.declared.context.Pattern.{Pattern}
 use Rattle.syntect_grammar.specs.declared.syntax_set.SyntaxSet.{SyntaxSet}
 use Rattle.syntect_grammar.specs.declared.walk.Frame.{Frame}
 
--- Two lists are alike to whoever looks for the first member that passes a test: they have the same members, and the first
--- places of these come in the same order.
+-- Two lists are alike to whoever looks for the first member that passes a test: they have the same
+-- members, and the first places of these come in the same order.
 abbrev pub FindsSame : {X : Type 0} → List X → List X → Type 0
 FindsSame {X = X} xs ys = (test : X → Bool) → find test xs ≡ find test ys
 

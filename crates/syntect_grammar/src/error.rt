@@ -11,7 +11,8 @@ use syntect_scope::repository::ParseScopeError;
 use syntect_scope::stack::ScopeError;
 use thiserror::Error as ThisError;
 
-/// Why a call was refused for which several causes are possible. `?` makes it of each refusal that a call answers.
+/// Why a call was refused that can be refused for several causes. `?` makes it from each refusal
+/// that a call answers.
 #[derive(Drop, ThisError)]
 pub enum Error {
     /// A file or a folder was not loaded.
@@ -35,7 +36,8 @@ pub enum Error {
     /// There was no memory.
     #[error("Memory")]
     Memory,
-    /// A text is no syntax definition. `?` alone makes it, as of what `SyntaxDefinition::load_from_str` answers.
+    /// A text is no syntax definition. `?` alone makes it, as of what
+    /// `SyntaxDefinition::load_from_str` answers.
     #[error("Syntax error: {0}")]
     ParseSyntax(ParseSyntaxError),
     /// A text is no scope. `?` alone makes it.
@@ -46,7 +48,8 @@ pub enum Error {
     Pattern(PatternError),
 }
 
-/// The message, with the cause where the message leaves it out: `main` shows it of an error that it answers.
+/// The message, with the cause where the message leaves it out: `main` shows it of an
+/// error that it answers.
 impl fmt::Debug for Error {
     fn fmt<W: fmt::Write>(&self, f: &mut fmt::Formatter<W>) -> fmt::Result {
         match self {
@@ -79,7 +82,7 @@ impl<T: Drop> From<AllocFailed<T>> for Error {
     }
 }
 
-/// Want of memory is passed on as such.
+/// Lack of memory is passed on as such.
 impl From<LoadingError> for Error {
     ghost use Rattle.std.specs.Prelude.{◌≡◌};
     ghost use Rattle.syntect_grammar.specs.Passing.{from_loading};
@@ -94,7 +97,7 @@ impl From<LoadingError> for Error {
     }
 }
 
-/// Want of memory is passed on as such.
+/// Lack of memory is passed on as such.
 impl From<ParsingError> for Error {
     ghost use Rattle.std.specs.Prelude.{◌≡◌};
     ghost use Rattle.syntect_grammar.specs.Passing.{from_parsing};
@@ -109,7 +112,7 @@ impl From<ParsingError> for Error {
     }
 }
 
-/// Want of memory is passed on as such.
+/// Lack of memory is passed on as such.
 impl From<ScopeError> for Error {
     ghost use Rattle.std.specs.Prelude.{◌≡◌};
     ghost use Rattle.syntect_grammar.specs.Passing.{from_scope};
@@ -124,7 +127,7 @@ impl From<ScopeError> for Error {
     }
 }
 
-/// Want of memory is passed on as such.
+/// Lack of memory is passed on as such.
 impl From<io::Error> for Error {
     ghost use Rattle.std.specs.Prelude.{◌≡◌};
     ghost use Rattle.syntect_grammar.specs.Passing.{from_io};
@@ -151,7 +154,7 @@ impl From<fmt::Error> for Error {
     }
 }
 
-/// Want of memory is passed on as such.
+/// Lack of memory is passed on as such.
 impl From<ParseSyntaxError> for Error {
     ghost use Rattle.std.specs.Prelude.{◌≡◌};
     ghost use Rattle.syntect_grammar.specs.Passing.{from_syntax};
@@ -166,7 +169,7 @@ impl From<ParseSyntaxError> for Error {
     }
 }
 
-/// Want of memory is passed on as such.
+/// Lack of memory is passed on as such.
 impl From<ParseScopeError> for Error {
     ghost use Rattle.std.specs.Prelude.{◌≡◌};
     ghost use Rattle.syntect_grammar.specs.Passing.{from_scope_text};
@@ -181,7 +184,7 @@ impl From<ParseScopeError> for Error {
     }
 }
 
-/// Want of memory is passed on as such.
+/// Lack of memory is passed on as such.
 impl From<PatternError> for Error {
     ghost use Rattle.std.specs.Prelude.{◌≡◌};
     ghost use Rattle.syntect_grammar.specs.Passing.{from_pattern};
@@ -196,7 +199,7 @@ impl From<PatternError> for Error {
     }
 }
 
-/// As a refusal to load a theme. Want of memory is passed on as such.
+/// As a refusal to load a theme. Lack of memory is passed on as such.
 impl From<ParseThemeError> for Error {
     ghost use Rattle.std.specs.Prelude.{◌≡◌};
     ghost use Rattle.syntect_grammar.specs.Passing.{from_theme_value};

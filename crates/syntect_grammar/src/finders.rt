@@ -50,7 +50,7 @@ fn fits_line(syntax: &SyntaxReference, line: &str, region: &mut Region) -> Resul
     }
 }
 
-/// Whether a whole path ends with this one behind a slash.
+/// Whether a whole path ends with this one after a slash.
 fn ends_behind_slash(whole: &[u8], path: &[u8]) -> bool
     ensures { result ≡ ends_with ◌==◌ whole.now (47 ∷ path.now) }
 {
@@ -61,7 +61,7 @@ fn ends_behind_slash(whole: &[u8], path: &[u8]) -> bool
     whole[from - 1] == b'/' && path == &whole[from..]
 }
 
-/// Whether a whole path is this one, or ends with it behind a slash.
+/// Whether a whole path is this one, or ends with it after a slash.
 fn ends_in_path(whole: &str, path: &str) -> bool
     ensures { result ≡ ends_in_path whole.now path.now }
 {
@@ -102,8 +102,8 @@ impl SyntaxSet {
             .find(|s| s.name.as_str() == name)
     }
 
-    /// The last syntax of this file extension, which a whole file name may be too. The case of ASCII letters doesn't
-    /// count. Takes no memory.
+    /// The last syntax of this file extension, which a whole file name may be too. The case of
+    /// ASCII letters doesn't count. Takes no memory.
     pub fn find_syntax_by_extension(&self, extension: &str) -> Option<&SyntaxReference>
         ensures { option_copied result ≡ found_by_extension self.now extension.now }
     {
@@ -113,8 +113,8 @@ impl SyntaxSet {
             .find(|s| has_extension(s, extension))
     }
 
-    /// The last syntax of this extension, or else the last of this name; the case of ASCII letters doesn't count. Takes
-    /// no memory.
+    /// The last syntax of this extension, or else the last of this name; the case of ASCII letters
+    /// doesn't count. Takes no memory.
     pub fn find_syntax_by_token(&self, token: &str) -> Option<&SyntaxReference>
         ensures { option_copied result ≡ found_by_token self.now token.now }
     {
@@ -143,8 +143,8 @@ impl SyntaxSet {
         self.find_syntax_by_name("Plain Text")
     }
 
-    /// The last syntax whose first-line pattern is found in the line, a byte order mark at its start aside. A text that is
-    /// no pattern is found nowhere.
+    /// The last syntax whose first-line pattern is found in the line, a byte order mark at its
+    /// start aside. A text that is no pattern is found nowhere.
     #[tactic(auto, using(crate::proofs::FindLaws::one_before))]
     pub fn find_syntax_by_first_line(
         &self,
@@ -180,7 +180,8 @@ impl SyntaxSet {
             .find(|entry| ends_in_path(entry.0.as_str(), path))
     }
 
-    /// The syntax that was loaded last from a file of this path. The path may be the whole one, or its end behind a slash.
+    /// The syntax that was loaded last from a file of this path. The path may be the whole one, or
+    /// its end after a slash.
     pub fn find_syntax_by_path(&self, path: &str) -> Result<Option<&SyntaxReference>, AllocError>
         ensures answers { IsOk result }
         ensures found { IfOk result
@@ -192,8 +193,8 @@ impl SyntaxSet {
         }
     }
 
-    /// What the path of a file tells: the last syntax that has its whole name as extension, or else its extension. No file
-    /// is opened, and no memory taken.
+    /// What the path of a file tells: the last syntax that has its whole name as extension, or else
+    /// its extension. No file is opened, and no memory taken.
     pub fn find_syntax_by_file_name(&self, path: Path<'_>) -> Option<&SyntaxReference>
         ensures { option_copied result ≡ found_by_file_name self.now (path_bytes path.entry) }
     {
@@ -203,9 +204,10 @@ impl SyntaxSet {
         }
     }
 
-    /// The syntax of a file: the last that has the file's whole name as extension, or else the last of the name's
-    /// extension, or else the last whose first-line pattern is found in the file's first line. The file is opened, and the
-    /// line read, only where its path tells nothing; `Io` where that fails, or the line is not UTF-8.
+    /// The syntax of a file: the last that has the file's whole name as extension, or else the last
+    /// of the name's extension, or else the last whose first-line pattern is found in the file's
+    /// first line. The file is opened, and the line read, only where its path tells nothing; `Io`
+    /// where that fails, or the line is not UTF-8.
     pub fn find_syntax_for_file(
         &self,
         files: &impl Files,

@@ -12,11 +12,11 @@ use syntect_base::syntax::ParseSyntaxError;
 use syntect_scope::repository::ScopeRepository;
 
 impl SyntaxSetBuilder {
-    /// Puts the syntax of plain text last: its name is `Plain Text`, its file extension `txt` and its scope `text.plain`,
-    /// and no pattern of it gives a further scope.
+    /// Appends the syntax of plain text: its name is `Plain Text`, its file extension `txt` and its
+    /// scope `text.plain`, and no pattern of it gives a further scope.
     ///
-    /// Where the repository has no room for the scope's atoms, `InvalidScope` is answered. After a refusal the builder is
-    /// as it was; the repository may have more atoms.
+    /// Where the repository has no room for the scope's atoms, `InvalidScope` is answered. After a
+    /// refusal the builder is as it was; the repository may have more atoms.
     pub fn add_plain_text_syntax(
         &mut self,
         alloc: Global,

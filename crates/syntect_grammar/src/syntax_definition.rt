@@ -1,7 +1,8 @@
 //! Grammars as they were written, their contexts and the patterns of these.
 //!
-//! The rules are those of Sublime Text's syntax definitions. A context has patterns that are tried in order; a match
-//! may open further contexts, put others in the place of the top one, or leave it.
+//! The rules are those of Sublime Text's syntax definitions. A context has patterns that are tried
+//! in order; a match may open further contexts, put others in the place of the top one,
+//! or leave it.
 pub use syntect_contexts::context::{
     CaptureMapping, Context, ContextId, ContextReference, HoldsContexts, MatchOperation,
     MatchPattern, Pattern,

@@ -81,7 +81,7 @@ impl SyntaxSet {
         }
     }
 
-    /// The same. Takes no memory.
+    /// A set of no syntaxes, as `new` gives it. Takes no memory.
     pub fn default(alloc: Global) -> SyntaxSet
         ensures syntaxes { syntaxes_in result ≡ [] }
         ensures paths { set_paths result ≡ [] }
@@ -125,7 +125,8 @@ impl SyntaxSet {
         self.syntaxes.allocator()
     }
 
-    /// Its syntaxes, the paths of files that were loaded, each with the place of its syntax, and its metadata.
+    /// Its syntaxes, the paths of files that were loaded, each with the place of its syntax, and
+    /// its metadata.
     pub(crate) fn into_parts(self) -> (Seq<SyntaxReference>, Seq<(Text, usize)>, Metadata)
         ensures syntaxes { result.0 ≡ syntaxes_in self }
         ensures paths { result.1 ≡ set_paths self }
@@ -146,16 +147,18 @@ impl SyntaxSet {
         self.syntaxes.context_at(id)
     }
 
-    /// The patterns of the walk of the context of a number, which stands on its own include path, as far as who looks for
-    /// the first that passes a test can tell: a pattern that the walk gives again may be left out. None where they are not
-    /// kept: of a context that the set lacks, and of grammars whose includes would make too many of them.
+    /// The patterns of the walk of the context of a number, which stands on its own include path,
+    /// as far as anyone who looks for the first that passes a test can tell: a pattern that the
+    /// walk gives again may be left out. None where they are not kept: of a context that the set
+    /// lacks, and of grammars whose includes would make too many of them.
     pub fn flats_of(&self, id: ContextId) -> Option<&FlatList>
         ensures { IfSome result (λ flats. AreFlatsOf self.now id flats.now) }
     {
         self.syntaxes.flats_of(id)
     }
 
-    /// The same of any context, walked now.
+    /// The patterns of the walk of any context, walked now, as far as anyone who looks for the
+    /// first that passes a test can tell.
     pub fn flats_walked(&self, alloc: Global, id: ContextId) -> Result<FlatList, AllocError>
         ensures { IfOk result (λ flats. AreFlatsOf self.now id flats) }
     {
@@ -201,8 +204,8 @@ impl SyntaxSetBuilder {
         }
     }
 
-    /// The builder of these definitions, with the paths of files that were loaded, each with the place of its definition,
-    /// and with the metadata of a set.
+    /// The builder of these definitions, with the paths of files that were loaded, each with the
+    /// place of its definition, and with the metadata of a set.
     pub(crate) fn from_parts(
         alloc: Global,
         syntaxes: Seq<SyntaxDefinition>,
@@ -222,7 +225,7 @@ impl SyntaxSetBuilder {
         }
     }
 
-    /// The same. Takes no memory.
+    /// No definitions, as `new` gives them. Takes no memory.
     pub fn default(alloc: Global) -> SyntaxSetBuilder
         ensures definitions { definitions_in result ≡ [] }
         ensures paths { paths_in result ≡ [] }
@@ -232,7 +235,8 @@ impl SyntaxSetBuilder {
         SyntaxSetBuilder::new(alloc)
     }
 
-    /// Puts a definition last. Without memory for it the builder stays as it is, and the definition is dropped.
+    /// Appends a definition. Without memory for it the builder stays as it is, and the definition
+    /// is dropped.
     pub fn add(&mut self, syntax: SyntaxDefinition) -> Result<(), AllocError>
         ensures ok { OnOk result
             (definitions_in self.new ≡ definitions_in self.old ++ syntax ∷ []) }
@@ -245,7 +249,7 @@ impl SyntaxSetBuilder {
         Ok(())
     }
 
-    /// Puts an entry of metadata last. Without memory for it the builder stays as it is.
+    /// Appends an entry of metadata. Without memory for it the builder stays as it is.
     pub(crate) fn add_entry(&mut self, entry: RawMetadataEntry) -> Result<(), AllocError>
         ensures ok { OnOk result (entries_in self.new ≡ entries_in self.old ++ entry ∷ []) }
         ensures definitions { definitions_in self.new ≡ definitions_in self.old }
@@ -256,8 +260,8 @@ impl SyntaxSetBuilder {
         self.raw_metadata.add_raw(entry)
     }
 
-    /// Puts a definition last that was loaded from the file of this path. Without memory for both the builder stays as it
-    /// is.
+    /// Appends a definition that was loaded from the file of this path. Without memory for both the
+    /// builder stays as it is.
     pub fn add_loaded(&mut self, syntax: SyntaxDefinition, path: Text) -> Result<(), AllocError>
         ensures ok { OnOk result
             (definitions_in self.new ≡ definitions_in self.old ++ syntax ∷ []) }
@@ -286,17 +290,19 @@ impl SyntaxSetBuilder {
     }
 
     /// Links the definitions into a set. Contexts are numbered in the byte order of their names.
-    /// A reference by name is linked to the context of that name in its own syntax, `$top_level_main` being `main`. A
-    /// reference by scope or by the name of a syntax is linked to the last syntax of it: to the sub context, or to `main`.
-    /// With a way out, where there is no such context, it is linked to `main` of the last syntax named `Plain Text`. A
-    /// reference that has a number keeps it, and what cannot be linked stays as it is, unresolved.
-    /// A context without a prototype of its own is given the context `prototype` of its syntax, if it wants one and isn't
-    /// reached from it. Contexts that include one with back references, over any number of includes, are marked as it is.
-    /// First-line patterns are compiled.
-    /// The metadata of files becomes sets, in the order of scope texts. A builder that was made of a set keeps that set's
-    /// metadata, and a new set of equal scope text takes the place of an old one.
-    /// The repository is that of the definitions' scopes; it takes up the scopes of metadata, and the old atoms keep their
-    /// numbers. Without memory the definitions are dropped.
+    /// A reference by name is linked to the context of that name in its own syntax,
+    /// `$top_level_main` being `main`. A reference by scope or by the name of a syntax is linked to
+    /// the last syntax of it: to the sub context, or to `main`. With a way out, where there is no
+    /// such context, it is linked to `main` of the last syntax named `Plain Text`. A reference that
+    /// has a number keeps it, and what cannot be linked stays as it is, unresolved. A context
+    /// without a prototype of its own is given the context `prototype` of its syntax, if it wants
+    /// one and isn't reached from it. Contexts that include one with back references, over any
+    /// number of includes, are marked as it is. First-line patterns are compiled.
+    /// The metadata of files becomes sets, in the order of scope texts. A builder that was made of
+    /// a set keeps that set's metadata, and a new set of equal scope text takes the place
+    /// of an old one.
+    /// The repository is that of the definitions' scopes; it takes up the scopes of metadata, and
+    /// the old atoms keep their numbers. Without memory the definitions are dropped.
     pub fn build(
         self,
         alloc: Global,

@@ -12,7 +12,8 @@ use syntect_contexts::syntax_reference::SyntaxReference;
 use syntect_flats::list::FlatList;
 use syntect_values::seq::Seq;
 
-/// Linked syntaxes, seen as their list. What is kept of them, so that it needn't be looked for again, stands here.
+/// Linked syntaxes, seen as their list. What is kept of them, so that it needn't be looked for
+/// again, stands here.
 #[derive(Drop)]
 pub struct Syntaxes {
     items: Seq<SyntaxReference>,
@@ -96,7 +97,7 @@ impl Syntaxes {
     }
 }
 
-/// Those that a table holds for a context, if it holds any.
+/// The patterns of the walk that a table holds for a context, if it holds any.
 fn flats_at(table: &FlatTable, id: ContextId) -> Option<&FlatList>
     ensures { option_copied result ≡ flats_at table.now id }
 {

@@ -15,7 +15,8 @@ pub fn prototypes_reach()
     ensures { PrototypesReach }
 {}
 
-/// As many includes as there are contexts lead to each mark of back references that any number of them leads to.
+/// As many includes as there are contexts lead to each mark of back references that any number of
+/// them leads to.
 #[tactic(auto, using(crate::proofs::ReachLaws::marks_reach))]
 pub fn marks_reach()
     ensures { MarksReach }
@@ -26,8 +27,8 @@ pub fn places_are_patterns()
     ensures { PlacesArePatterns }
 {}
 
-/// The grammar of plain text gives a syntax named `Plain Text`, of the extension `txt` and the scope `text.plain`, with a
-/// `main` that has no patterns.
+/// The grammar of plain text gives a syntax named `Plain Text`, of the extension `txt` and the
+/// scope `text.plain`, with a `main` that has no patterns.
 pub fn plain_text_is_plain()
     ensures { PlainTextIsPlain }
 {}

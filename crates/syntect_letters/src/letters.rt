@@ -2,10 +2,11 @@
 ghost use Rattle.std.specs.Prelude.{◌≡◌, ◌∷◌, [], drop, length, IfNone, IfSome};
 ghost use Rattle.syntect_letters.specs.Letters.{letters_of};
 
-/// How many letters there are at most beside the first one.
+/// How many letters there are at most besides the first one.
 pub const MOST: usize = 12;
 
-/// One letter or more in a row, each a character up to U+00FF, with `fold` any that simple folding makes equal to it.
+/// One letter or more in a row, each a character up to U+00FF, with `fold` any that simple folding
+/// makes equal to it.
 #[derive(Clone, Copy, Debug)]
 pub struct Letters {
     pub fold: bool,
@@ -13,7 +14,7 @@ pub struct Letters {
     pub first: u8,
     /// From where on the others stand in their array.
     pub from: u8,
-    /// The others, at the array's end, one behind the other.
+    /// The letters after the first, at the array's end, one after the other.
     pub others: [u8; MOST],
 }
 
@@ -31,7 +32,7 @@ impl Letters {
         }
     }
 
-    /// The same with one more in front, if there is room for it.
+    /// These letters with one more in front, if there is room for it.
     pub fn with_first(self, letter: u8) -> Option<Letters>
         ensures fold { IfSome result (λ more. more.fold ≡ self.fold) }
         ensures letters { IfSome result (λ more. letters_of more ≡ letter ∷ letters_of self) }
@@ -51,7 +52,7 @@ impl Letters {
         })
     }
 
-    /// Those behind the first one.
+    /// The letters after the first one.
     pub fn others(&self) -> &[u8]
         ensures { result.now ≡ drop self.now.from self.now.others }
     {

@@ -116,7 +116,7 @@ module _ (s : List ℕ) (u : IsUtf8 s) where
       chosen-alike (λ m. i < m.0) (moved i f g) (moved i f' g) (matches s t i h) (behind-matches s u t r i h c)
       (λ m l. moved-past i m.0 f g l ∙ sym (moved-past i m.0 f' g l))
 
-  -- behind the place nothing was read from
+  -- after the place nothing was read from
   pub chosen-past_place : (t : Tree) (f g : Onward) (i j : ℕ) (h : Groups) → i < j → IsCharBoundary s j
       → chosen (moved i f g) (matches s t j h) ≡ chosen (moved j g g) (matches s t j h)
   chosen-past_place t f g i j h l c = chosen-forward t (moved i f g) (moved j g g) j h c (λ k p d. moved-past i k f g (omega (arith, l, p)) ∙ sym (moved-same j k g))
@@ -152,11 +152,11 @@ module _ (s : List ℕ) (u : IsUtf8 s) where
   while-some (Some (suc n)) turn F o i g e = ap is_some e
 
   module _ (greedy : Bool) (least : ℕ) (most : Option ℕ) (a : Tree) (free : (is_free a && is_calm a) ≡ true) (f g : Onward) (i : ℕ) (h : Groups) (c : IsCharBoundary s i) where
-    -- the loop behind a turn
+    -- the loop after a turn
     abbrev rest : Tree
     rest = repeat greedy (least - 1) (option_map (λ k. k - 1) most) a
 
-    -- what goes on behind a turn
+    -- what goes on after a turn
     abbrev pub turned : Onward
     turned = moved i f (following s u (repeat greedy (least - 1) (option_map (λ k. k - 1) most) a) g g)
 
@@ -199,7 +199,7 @@ module _ (s : List ℕ) (u : IsUtf8 s) where
         let t : (m.0 == i) ≡ true = rw (z, same-place i) refl in
         ap (λ (b : Bool). chosen (moved i f g) (after_turn b more m.0 m.1)) t ∙ chosen-one (moved i f g) m.0 m.1 here
 
-    -- behind another one the loop goes on
+    -- after another one the loop goes on
     pub chosen-more : (m : Member) → i < m.0 → IsCharBoundary s m.0 → chosen (moved i f g) (after_turn (m.0 == i) more m.0 m.1) ≡ chosen (moved m.0 g g) (matches s rest m.0 m.1)
     chosen-more m l d =
         ap (λ (b : Bool). chosen (moved i f g) (after_turn b more m.0 m.1)) (other-place i m.0 l)

@@ -144,7 +144,7 @@ module _ (x : Ground) (k place : ℕ) (g : Groups) (filled : IsGround x place) (
       (turn-all found e (end, h) w
       ∙ chosen-empty x.text.now u greedy least most a fr (E f) (E n) place g filled.boundary (end, h) z (turn-chosen found e (end, h) w))
 
-  -- the loop goes on behind a turn
+  -- the loop goes on after a turn
   pub record TurnsTo (m end : ℕ) (h : Groups) : Type 0 where
     pub filled_there : IsGround x end
     pub later : place < end

@@ -34,7 +34,8 @@ use Rattle.syntect_sights.proofs.ChosenLaws.{chosen-each, if-some}
 abbrev pub size_of : Ground → ℕ → ℕ
 size_of x k = tree_size (item_tree (trees_of x.program.now) (cell_at x.plan.now.cells k).item)
 
--- A loop goes on with another cell at a later place: what is chosen from there on is what is chosen from the start.
+-- A loop goes on with another cell at a later place: what is chosen from there on is what is chosen
+-- from the start.
 pub record Continues (x : Ground) (k place : ℕ) (g : Groups) (turn at : ℕ) (h : Groups) (greedy : Bool) (least : ℕ) (most : Option ℕ) (before after : ℕ) : Type 0 where
   pub body : Tree
   pub is_loop : IsTreeAt x turn (repeat greedy least most body)
@@ -47,7 +48,7 @@ pub record Continues (x : Ground) (k place : ℕ) (g : Groups) (turn at : ℕ) (
   pub calm : look_cost body ≡ 0
   pub paid : after ≤ before + (stay_cost body + read_cost body) * (at - place)
 
--- what goes on behind a part that ended there
+-- what goes on after a part that ended there
 abbrev pub follow : Ground → ℕ → ℕ → ℕ → ℕ
 follow x m mid place = if mid == place then (cell_at x.plan.now.cells m).empty else (cell_at x.plan.now.cells m).next
 

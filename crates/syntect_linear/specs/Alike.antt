@@ -28,8 +28,8 @@ IsLoose x = (k : ℕ) → IsIn x k → is_atomic_at x k ≡ false
 abbrev pub SeesAlike : Ground → ℕ → ℕ → Type 0
 SeesAlike x p q = (i : ℕ) → row_flag x.sights.now i p ≡ row_flag x.sights.now i q
 
--- the same character stands at both places, the rows of the places after it are equal, and anchors and lookbehinds hold at both
--- or at neither
+-- the same character stands at both places, the rows of the places after it are equal, and anchors
+-- and lookbehinds hold at both or at neither
 pub record AreAlike (x : Ground) (marks : List (List Bool)) (p q : ℕ) : Type 0 where
   pub c : ℕ
   pub here : char_at x.text.now p ≡ Some c

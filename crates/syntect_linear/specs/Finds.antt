@@ -18,12 +18,13 @@ groups_of false g = None
 abbrev pub FindsAt : List ℕ → Program → ℕ → Option Groups → Type 0
 FindsAt s p place groups = (tree : Tree) → IsProgramOf p tree → groups ≡ found_at s tree place
 
--- these are the groups of the match that the program's tree has at the least place not below this one, if it has any
+-- these are the groups of the match that the program's tree has at the least place not below this
+-- one, if it has any
 abbrev pub FindsGroups : List ℕ → Program → ℕ → Option Groups → Type 0
 FindsGroups s p from groups = (tree : Tree) → IsProgramOf p tree → groups ≡ found s tree from
 
--- these are the groups of that match, which begins at the last place or before; or none does, and what is found from the
--- place on is found from behind the last
+-- these are the groups of that match, which begins at the last place or before; or none does, and
+-- what is found from the place on is found from just after the last
 abbrev pub FindsUpTo : List ℕ → Program → ℕ → ℕ → Option Groups → Type 0
 FindsUpTo s p from last None =
     (tree : Tree) → IsProgramOf p tree → found s tree from ≡ found s tree (suc last)

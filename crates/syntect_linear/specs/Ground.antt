@@ -7,14 +7,16 @@ use Rattle.syntect_linear.specs.Rows.{AreRows, AreKnown}
 use Rattle.syntect_sights.specs.Sights.{AreSights}
 use Rattle.syntect_linear.specs.declared.ground.Ground.{Ground}
 
--- the plan is the program's, where lookbehinds hold in the text is known, and the place is before a character or at the end
+-- the plan is the program's, where lookbehinds hold in the text is known, and the place is before a
+-- character or at the end
 pub record IsGround (x : Ground) (place : ℕ) : Type 0 where
   pub utf8 : IsUtf8 x.text.now
   pub plan_is : IsPlanOf x.program.now x.plan.now
   pub sights_are : AreSights x.text.now (trees_of x.program.now) x.plan.now.behinds x.sights.now
   pub boundary : IsCharBoundary x.text.now place
 
--- the rows are right, and they are there of the places behind this one, and so are those of lookbehinds
+-- the rows are right, and they are there of the places after this one,
+-- and so are those of lookbehinds
 pub record IsReady (x : Ground) (place : ℕ) : Type 0 where
   pub utf8 : IsUtf8 x.text.now
   pub plan_is : IsPlanOf x.program.now x.plan.now

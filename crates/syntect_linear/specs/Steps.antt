@@ -14,8 +14,8 @@ unknown [] = 0
 unknown (None ∷ now) = suc (unknown now)
 unknown (Some o ∷ now) = unknown now
 
--- Steps at a place, none of which is taken back: what is known of cells that are as high as this or higher stays, and the steps
--- are paid for by what became known, but for a few.
+-- Steps at a place, none of which is taken back: what is known of cells that are as high as this or
+-- higher stays, and the steps are paid for by what became known, but for a few.
 pub record Takes (x : Ground) (high : ℕ) (old : List (Option (Option ℕ))) (before : ℕ)
     (new : List (Option (Option ℕ))) (after few : ℕ) : Type 0 where
   pub long : length new ≡ length old

@@ -14,7 +14,8 @@ pub record IsFilled (x : Ground) (marks : List (List Bool)) (place : ℕ) : Type
   pub marks_are : AreMarks x.text.now (trees_of x.program.now) x.plan.now.cells marks
   pub here : length x.text.now - place < length marks
 
--- this is the end, and these are the groups, of the match of the cell's item from the place on that is chosen by what goes on
+-- this is the end, and these are the groups, of the match of the cell's item from the place on that
+-- is chosen by what goes on
 pub record Walks (x : Ground) (k place : ℕ) (g : Groups) (end : ℕ) (h : Groups) : Type 0 where
   pub is : chosen (moved place (ends_at x (cell_at x.plan.now.cells k).empty)
       (ends_at x (cell_at x.plan.now.cells k).next))

@@ -1,5 +1,6 @@
-//! Places of a text that are alike for a plan: the same character stands at both, the rows after it are equal, and anchors and
-//! lookbehinds hold at both or at neither. Their rows are equal then, so that one of them is enough.
+//! Places of a text that are alike for a plan: the same character stands at both, the rows after it
+//! are equal, and anchors and lookbehinds hold at both or at neither. Their rows are equal then, so
+//! that one of them is enough.
 ghost use Rattle.std.specs.Prelude.{◌≡◌, ◌<◌, ℕ, IfSome, false, is_some, length, true};
 ghost use Rattle.syntect_linear.specs.Alike as spec;
 ghost use Rattle.syntect_linear.specs.Alike.{AreAlike, IsLoose, IsSpot, SeesAlike};
@@ -31,7 +32,8 @@ struct Spot {
     at_line: bool,
 }
 
-/// What stands at the place, unless it is the first or one of the last two of the text, where anchors hold that hold nowhere else.
+/// What stands at the place, unless it is the first or one of the last two of the text, where
+/// anchors hold that hold nowhere else.
 fn spot_at(text: &str, place: usize) -> Option<Spot>
     ensures { IfSome result (λ v. IsSpot text.now place v) }
 {
@@ -117,7 +119,8 @@ impl Seen {
         other
     }
 
-    /// The row of a later place that is like this one, if one is seen. This one is seen from then on.
+    /// The row of a later place that is like this one, if one is seen.
+    /// This one is seen from then on.
     pub fn row_like(&mut self, ground: &Ground, marks: &Marks, place: usize) -> Option<usize>
         requires marked { IsMarked ground.now marks.now place }
         requires loose { IsLoose ground.now }

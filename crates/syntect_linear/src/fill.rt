@@ -83,7 +83,8 @@ fn pay_row(meter: &mut Meter, cells: usize) -> Result<(), Stop>
     Ok(())
 }
 
-/// The rows of the places from the text's end down to this one, each paid for before it is worked out.
+/// The rows of the places from the text's end down to this one,
+/// each paid for before it is worked out.
 pub fn rows_from(
     alloc: Global,
     program: &Program,

@@ -1,5 +1,6 @@
-//! The search of a pattern, in steps that are bounded by the pattern times the text: by the marks of a text it is known of each
-//! place whether a match begins there, and the match is read along them.
+//! The search of a pattern, in steps that are bounded by the pattern times the text: by the marks
+//! of a text it is known of each place whether a match begins there,
+//! and the match is read along them.
 ghost use Rattle.std.specs.Prelude.{◌≡◌, ◌≤◌, ◌+◌, ◌*◌, ◌<◌, IfErr, IfOk, OnErr, OnOk, true, None, if◌then◌else◌, length, replicate, slice_index_or};
 ghost use Rattle.syntect_linear.specs.Finds.{Covers, FindsAt, FindsUpTo, groups_of};
 ghost use Rattle.syntect_linear.specs.Guide.{IsGuideIn};
@@ -25,7 +26,7 @@ use syntect_ways::text::is_boundary;
 /// The cell of the whole pattern.
 const WHOLE: usize = 1;
 
-/// So many groups, none of which is set.
+/// The groups of a match before any is set: so many of them.
 fn no_groups(alloc: Global, count: usize) -> Result<Vec<Option<Span>>, AllocError>
     ensures { IfOk result (λ groups. groups.items ≡ replicate count None) }
 {
@@ -36,7 +37,8 @@ fn no_groups(alloc: Global, count: usize) -> Result<Vec<Option<Span>>, AllocErro
     Ok(groups)
 }
 
-/// Whether a match begins at the place, whose marks are there. Where one does, the groups are the match's.
+/// Whether a match begins at the place, whose marks are there. Where one does,
+/// the groups are the match's.
 fn begins_here(
     alloc: Global,
     ground: &Ground,
@@ -111,7 +113,8 @@ impl Guide {
         })
     }
 
-    /// Marks the places from this one on. A row is paid for before it is worked out; where it stops, what was marked stays.
+    /// Marks the places from this one on. A row is paid for before it is worked out; where it
+    /// stops, what was marked stays.
     pub fn mark(&mut self, text: &str, begin: usize, meter: &mut Meter) -> Result<(), Stop>
         requires guides { IsGuideIn text.now self.old }
         requires begin { begin ≤ length text.now }
@@ -144,8 +147,8 @@ impl Guide {
         }
     }
 
-    /// Whether a match begins at the place, which it does on boundaries of characters alone. Where one does, the groups are
-    /// the match's. Stops where memory or steps run out.
+    /// Whether a match begins at the place, which it does on boundaries of characters alone. Where
+    /// one does, the groups are the match's. Stops where memory or steps run out.
     pub fn begins_at(
         &self,
         text: &str,
@@ -179,8 +182,8 @@ impl Guide {
         begins_here(alloc, &ground, &self.marks, place, place, groups, meter)
     }
 
-    /// Whether a match begins at the place or at a later one up to `last`, of which the least counts. Where one does, the
-    /// groups are the match's. Stops where memory or steps run out.
+    /// Whether a match begins at the place or at a later one up to `last`, of which the least
+    /// counts. Where one does, the groups are the match's. Stops where memory or steps run out.
     pub fn find_up_to(
         &self,
         text: &str,

@@ -6,7 +6,8 @@ use syntect_values::seq::Seq;
 /// What is known of the cells at a place, where anything is.
 pub type Known = Vec<Option<Option<usize>>>;
 
-/// The plan of a program, a text, where lookbehinds hold there, and the rows of the places from the text's end on.
+/// The plan of a program, a text, where lookbehinds hold there, and the rows of the places from the
+/// text's end on.
 #[derive(Clone, Copy)]
 pub struct Ground<'a> {
     pub program: &'a Program,

@@ -1,5 +1,6 @@
-//! Whether the whole match ends anywhere from a cell at a place, by what is known of the cells that it goes on with: of those at
-//! the place, and of all at later places. Where a match ends is not asked, so that atomic groups can't be told.
+//! Whether the whole match ends anywhere from a cell at a place, by what is known of the cells that
+//! it goes on with: of those at the place, and of all at later places. Where a match ends is not
+//! asked, so that atomic groups can't be decided.
 ghost use Rattle.std.specs.Prelude.{◌≡◌, ◌-◌, IfSome, false, true, is_some, length, option_map, unwrap_or};
 ghost use Rattle.std.specs.Option.{option_or};
 ghost use Rattle.syntect_pattern_table.specs.Table.{is_text};
@@ -28,7 +29,8 @@ fn lead(ground: &Ground, here: &[Option<bool>], place: usize, cell: usize) -> Op
     known_at(here, cell)
 }
 
-/// The same where the test holds, and else it doesn't.
+/// Whether the whole match ends anywhere, if the test holds and the cell goes on at the place, as
+/// far as it is known.
 #[inline]
 fn lead_if(
     ground: &Ground,
@@ -47,7 +49,8 @@ fn lead_if(
     }
 }
 
-/// The same of either of two cells.
+/// Whether the whole match ends anywhere, if either of two cells goes on at the place, as far as it
+/// is known.
 fn lead_either(
     ground: &Ground,
     here: &[Option<bool>],
@@ -65,7 +68,8 @@ fn lead_either(
     lead(ground, here, place, second)
 }
 
-/// The same of a later place, if there is one.
+/// Whether the whole match ends anywhere, if the cell goes on at a later place;
+/// false if there is none.
 #[inline]
 fn lead_past(ground: &Ground, marks: &Marks, next: Option<usize>, cell: usize) -> bool
     ensures { result ≡ unwrap_or (option_map
@@ -106,7 +110,7 @@ pub fn lead_by(
     }
 }
 
-/// The same, by the cell's node.
+/// Whether the whole match ends anywhere from the cell of a node at a place, as far as it is known.
 fn lead_node(
     ground: &Ground,
     marks: &Marks,
@@ -158,7 +162,8 @@ fn lead_node(
     }
 }
 
-/// The same of a loop. Which of its ways is preferred makes no difference.
+/// Whether the whole match ends anywhere from the cell of a loop at a place, as far as it is known.
+/// Which of its ways is preferred makes no difference.
 fn lead_loop(
     ground: &Ground,
     here: &[Option<bool>],

@@ -62,7 +62,8 @@ fn row_of(alloc: Global, here: &[Option<bool>]) -> Result<Option<Seq<bool>>, All
     Ok(Some(Seq::from_vec(row)))
 }
 
-/// The row of a place, if it can be told without where matches end. Each cell is a step, paid before it is asked.
+/// The row of a place, if it can be known without where matches end. Each cell is a step, paid
+/// before it is asked.
 fn marked(
     alloc: Global,
     ground: &Ground,
@@ -85,8 +86,8 @@ fn marked(
     Ok(row)
 }
 
-/// Marks one place more, the one before those that are marked, if that can be told without where matches end. The row of
-/// a place like one that was marked is a step.
+/// Marks one place more, the one before those that are marked, if that can be known without where
+/// matches end. The row of a place like one that was marked is a step.
 fn mark_place(
     alloc: Global,
     ground: &Ground,
@@ -129,7 +130,8 @@ fn mark_place(
     Ok(true)
 }
 
-/// The marks of the places from the text's end down to this one, if they can be told without where matches end.
+/// The marks of the places from the text's end down to this one, if they can be known without where
+/// matches end.
 fn marked_from(
     alloc: Global,
     program: &Program,
@@ -185,8 +187,8 @@ fn marked_from(
     Ok(Some(marks))
 }
 
-/// The marks of the places from the text's end down to this one. With atomic groups where matches end is worked out first.
-/// A place where a character begins is a step at least.
+/// The marks of the places from the text's end down to this one. With atomic groups where matches
+/// end is worked out first. A place where a character begins is a step at least.
 pub fn marks_from(
     alloc: Global,
     program: &Program,

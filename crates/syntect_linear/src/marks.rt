@@ -1,4 +1,5 @@
-//! Which cells lead to the end of a match, at each place of a text from its end on. Equal rows are kept once.
+//! Which cells lead to the end of a match, at each place of a text from its end on. Equal rows are
+//! kept once.
 ghost use Rattle.std.specs.Prelude.{◌≡◌, ◌<◌, ◌≤◌, ◌++◌, ◌∷◌, [], ℕ, IfOk, OnOk, is_some, length, map, true};
 ghost use Rattle.syntect_linear.specs.Marks.{row_at};
 ghost use Rattle.syntect_sights.specs.Sights.{row_flag};

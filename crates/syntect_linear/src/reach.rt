@@ -1,4 +1,4 @@
-//! Where the whole match ends from a cell at a place, by the rows of the places behind it.
+//! Where the whole match ends from a cell at a place, by the rows of the places after it.
 ghost use Rattle.std.specs.Prelude.{◌≡◌, ◌<◌, ℕ, suc, length, true, false, not, if◌then◌else◌};
 ghost use Rattle.syntect_pattern_table.specs.Table.{is_text};
 ghost use Rattle.syntect_plan.specs.Onward.{end_if, has_turn, prefer_end};
@@ -44,7 +44,7 @@ pub fn reach(
     end
 }
 
-/// The same where the test holds, and else none.
+/// Where the whole match ends, if the test holds and the cell goes on at the place; else none.
 #[cycle(reach)]
 #[inline(always)]
 fn reach_if(
@@ -71,7 +71,7 @@ fn reach_if(
     }
 }
 
-/// The same as `reach`, by the cell's item.
+/// Where the whole match ends, if the cell goes on at the place, by the cell's item.
 #[cycle(reach)]
 #[inline(never)]
 fn reach_item(
@@ -106,7 +106,7 @@ fn reach_item(
     }
 }
 
-/// The same, by the cell's node.
+/// Where the whole match ends, if the cell of a node goes on at the place.
 #[cycle(reach)]
 fn reach_node(
     ground: &Ground,
@@ -175,7 +175,7 @@ fn reach_node(
     }
 }
 
-/// The same of a loop.
+/// Where the whole match ends, if the cell of a loop goes on at the place.
 #[cycle(reach)]
 fn reach_loop(
     ground: &Ground,

@@ -42,8 +42,8 @@ fn close(groups: &mut Vec<Option<Span>>, group: usize, start: usize, end: usize)
     }
 }
 
-/// Goes through the cell's item from the place on, to where its match ends, and sets the groups. Each cell is a step, paid
-/// before it is entered.
+/// Goes through the cell's item from the place on, to where its match ends, and sets the groups.
+/// Each cell is a step, paid before it is entered.
 #[cycle(walk)]
 pub fn walk(
     ground: &Ground,
@@ -84,7 +84,7 @@ pub fn walk(
     }
 }
 
-/// The same of a node.
+/// Goes through a cell's node from the place on, to where its match ends, and sets the groups.
 #[cycle(walk)]
 fn walk_node(
     ground: &Ground,
@@ -153,7 +153,7 @@ fn walk_node(
     }
 }
 
-/// What goes on at the cell's place, or behind it.
+/// What goes on at the cell's place, or after it.
 fn follows(ground: &Ground, cell: usize, empty: bool) -> usize
     ensures { result ≡ (if empty then (spec.cell_at ground.now.plan.now.cells cell).empty
         else (spec.cell_at ground.now.plan.now.cells cell).next) }
@@ -188,7 +188,7 @@ fn takes_turn(
     !(least == 0 && leads(ground, marks, place, empty))
 }
 
-/// The same as `walk`, of a loop.
+/// Goes through a cell's loop from the place on, to where its match ends, and sets the groups.
 #[cycle(walk)]
 fn walk_turns(
     ground: &Ground,

@@ -1,4 +1,5 @@
--- What linking gives to contexts, beside their references: prototypes and marks of back references.
+-- What linking gives to contexts, besides their references:
+-- prototypes and marks of back references.
 use Rattle.std.specs.Prelude.{ℕ, ◌+◌, Bool, List, [], ◌∷◌, map, Option}
 use Rattle.std.specs.List.{zip}
 use Rattle.syntect_linker.specs.Reached.{prototype_for, is_marked_in_set}

@@ -40,8 +40,8 @@ entries_given bodies id = option_map_or (λ c. c.patterns) (given_at bodies id) 
 
 -- ---- from a prototype ----
 
--- What an include leads to for the prototype of the syntax of this index, whose contexts have these names: a name as it
--- stands is looked up there.
+-- What an include leads to for the prototype of the syntax of this index, whose contexts have these
+-- names: a name as it stands is looked up there.
 abbrev pub include_step : ℕ → List (List ℕ) → ContextReference → Option ContextId
 include_step home names (Named name) = named_in home names name
 include_step home names (Inline name) = None
@@ -84,7 +84,8 @@ unless_reached heads bodies id None = None
 unless_reached heads bodies id (Some prototype) =
     if is_reached heads bodies prototype id then None else Some prototype
 
--- A context keeps the prototype that it was given. Else it has that of its syntax, if it wants it and isn't reached from it.
+-- A context keeps the prototype that it was given. Else it has that of its syntax, if it wants it
+-- and isn't reached from it.
 abbrev pub prototype_for : List SyntaxReference → List (List Context) → ContextId → Context
     → Option ContextId
 prototype_for heads bodies id c =
@@ -108,7 +109,8 @@ includes_of heads bodies id = flat_map (included_by heads id.syntax_index) (entr
 abbrev pub is_marked : List (List Context) → ContextId → Bool
 is_marked bodies id = option_map_or (λ c. c.uses_backrefs) (given_at bodies id) false
 
--- A context is marked where it is or includes, over any number of includes, one that is marked as given.
+-- A context is marked where it is or includes, over any number of includes,
+-- one that is marked as given.
 abbrev pub is_marked_in_set : List SyntaxReference → List (List Context) → ContextId → Bool
 is_marked_in_set heads bodies id =
     leads_in (includes_of heads bodies) (is_marked bodies) (count_contexts bodies) id

@@ -1,6 +1,8 @@
-//! How contexts are linked: where references lead, which contexts get the prototype of their syntax, and which refer back.
+//! How contexts are linked: where references lead, which contexts get the prototype of their
+//! syntax, and which refer back.
 //!
-//! It works on the heads of syntaxes, which have all but their contexts, and on the contexts as they were given.
+//! It works on the heads of syntaxes, which have all but their contexts, and on the contexts as
+//! they were given.
 #![tactic(auto)]
 
 mod directory;

@@ -139,7 +139,8 @@ fn link_context(
 
 // Prototypes and marks.
 
-/// The prototype of a context: its own, else that of its syntax if it wants it and isn't reached from it.
+/// The prototype of a context: its own, else that of its syntax if it wants it and isn't reached
+/// from it.
 fn prototype_of(
     id: ContextId,
     context: &Context,
@@ -244,7 +245,8 @@ fn link_body(
     Ok(Seq::from_vec(linked))
 }
 
-/// The contexts of all syntaxes, linked with the heads of these: all that the syntaxes hold but their contexts.
+/// The contexts of all syntaxes, linked with the heads of these: all that the syntaxes hold but
+/// their contexts.
 pub fn link_bodies(
     alloc: Global,
     heads: &[SyntaxReference],

@@ -33,7 +33,8 @@ fn include_step(
     }
 }
 
-/// The same of a reference of a push or set.
+/// What a reference of a push or set leads to in the walk from the prototype of the
+/// syntax of this index.
 fn open_step(home: usize, names: &ContextNames, reference: &ContextReference) -> Option<ContextId>
     ensures { result ≡ open_step home names.now reference.now }
 {
@@ -200,7 +201,7 @@ fn inclusions_of(
     Ok(inclusions)
 }
 
-/// Puts one that includes a context last.
+/// Appends one that includes a context.
 fn put_includer(
     alloc: Global,
     includers: &mut HashMap<ContextId, Vec<ContextId>>,

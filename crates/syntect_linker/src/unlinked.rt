@@ -13,7 +13,7 @@ use syntect_contexts::syntax_reference::SyntaxReference;
 use syntect_scope::repository::ScopeRepository;
 use syntect_values::text::Text;
 
-/// Puts a character of a text in quotes last.
+/// Appends a character of a text in quotes.
 fn push_quoted(out: &mut String, c: char) -> Result<(), AllocError>
     ensures { OnOk result (string_bytes out.new
         ≡ string_bytes out.old ++ encode_utf8_all (quoted_char c)) }
@@ -194,7 +194,7 @@ fn add_reference(
     Ok(())
 }
 
-/// The same of each of these references.
+/// Puts what is said of each of these references into a set, unless it is resolved.
 fn add_references(
     alloc: Global,
     repository: &ScopeRepository,
@@ -227,7 +227,7 @@ fn pushed_by(pattern: &Pattern) -> &[ContextReference]
     }
 }
 
-/// The same of what patterns push or set.
+/// Puts what is said of each reference that patterns push or set into a set, unless it is resolved.
 fn add_patterns(
     alloc: Global,
     repository: &ScopeRepository,
@@ -245,8 +245,8 @@ fn add_patterns(
     Ok(())
 }
 
-/// Puts what is said of the references that the contexts of a syntax push or set into a set, but for those that are
-/// resolved.
+/// Puts what is said of the references that the contexts of a syntax push or set into a set, but
+/// for those that are resolved.
 pub fn add_syntax(
     alloc: Global,
     repository: &ScopeRepository,

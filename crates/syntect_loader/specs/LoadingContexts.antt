@@ -130,7 +130,8 @@ pattern_at m s = pattern_by (get (codes "match") m) s
 
 -- ---- items that hold references ----
 
--- over how a context without a name of its own is read from its items, and whether it wants a prototype
+-- over how a context without a name of its own is read from its items,
+-- and whether it wants a prototype
 module _ (inner : Bool → List Node → Step (List ℕ)) where
   abbrev pub inline : Bool → List Node → Step ContextReference
   inline wants_prototype items = inner wants_prototype items >>= λ name. give (Inline name)

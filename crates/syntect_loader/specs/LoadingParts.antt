@@ -50,7 +50,8 @@ scope text s =
 abbrev pub is_pattern : List ℕ → Bool
 is_pattern text = is_some (pattern_tree text)
 
--- the text of a pattern after its rewrites, refused where the text that is tested in its place is no pattern
+-- the text of a pattern after its rewrites, refused where the text that is tested in its place is
+-- no pattern
 abbrev pub expression : List ℕ → Reading → Result (List ℕ) Refusal
 expression raw s =
     let text = rewritten s.variables s.lines_include_newline raw in

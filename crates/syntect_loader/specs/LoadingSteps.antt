@@ -1,5 +1,5 @@
--- Steps of reading the value of a grammar: each finds something and leaves what has been read so far, or refuses. The
--- first refusal is the answer.
+-- Steps of reading the value of a grammar: each finds something and leaves what has been read so
+-- far, or refuses. The first refusal is the answer.
 use Rattle.std.specs.Prelude.{◌≡◌, ℕ, List, [], ◌∷◌, length, take, Option, Some, None, Result, Ok, Err, string_bytes}
 use Rattle.syntect_scope.specs.declared.repository.ParseScopeError.{ParseScopeError}
 use Rattle.syntect_scope.specs.declared.repository.ParseScopeError.TheVariants.{TooLong, TooManyAtoms}
@@ -20,7 +20,7 @@ pub data Refusal : Type 0 where
   no_main : Refusal
   wrong_kind : Refusal
 
--- what an error says of the text; want of memory says nothing
+-- what an error says of the text; lack of memory says nothing
 abbrev pub seen : ParseSyntaxError → Option Refusal
 seen InvalidYaml = Some no_value
 seen EmptyFile = Some no_node

@@ -62,7 +62,7 @@ scope_mark = codes "scope:"
 abbrev pub file_ending : List ℕ
 file_ending = codes ".sublime-syntax"
 
--- what stands behind the mark of a scope
+-- what comes after the mark of a scope
 abbrev pub scope_text : List ℕ → Option (List ℕ)
 scope_text name =
     if starts_with eqb name scope_mark then Some (drop (length scope_mark) name) else None
@@ -77,7 +77,7 @@ without_ending t =
     if is_file t && nat_lt (length file_ending) (length t)
     then take (length t - length file_ending) t else t
 
--- the name of the syntax that a file holds: the part behind the last `/`, without the ending
+-- the name of the syntax that a file holds: the part after the last `/`, without the ending
 abbrev pub file_name : List ℕ → List ℕ
 file_name text = without_ending (last_of [] (parts 47 text))
 
@@ -102,8 +102,9 @@ is_list_with p v = list_is (list_in v)
     list_is None = false
     list_is (Some vs) = p vs
 
--- What a push or a set has is told by the first member of its list. A text there is the first of several names, a list with
--- a map in front is the first of several contexts, and an empty list means that nothing is pushed. All else is one reference.
+-- What a push or a set has is decided by the first member of its list. A text there is the first of
+-- several names, a list with a map in front is the first of several contexts, and an empty list
+-- means that nothing is pushed. All else is one reference.
 abbrev pub is_several : Node → Bool
 is_several =
     is_list_with (begins_with (λ v. is_some (text_in v) || is_list_with (begins_with is_map) v))
@@ -146,8 +147,8 @@ leaving pattern captures =
     (codes "match", pattern)
     ∷ ((codes "pop", truth_node true) ∷ perhaps_entry (codes "captures") captures)
 
--- the items of the context that an `embed` pushes first: it wants no prototype, has the `embed_scope` on its text, and is
--- left at the `escape`
+-- the items of the context that an `embed` pushes first: it wants no prototype, has the
+-- `embed_scope` on its text, and is left at the `escape`
 abbrev pub escape_items : Node → Node → List Node
 escape_items m escape =
     map_node ((codes "meta_include_prototype", truth_node false) ∷ [])

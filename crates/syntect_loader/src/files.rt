@@ -16,7 +16,8 @@ use syntect_base::loading::LoadingError;
 use syntect_base::syntax::ParseSyntaxError;
 use syntect_scope::repository::ScopeRepository;
 
-/// The refusal of the text in a file that is no grammar, with the file's path. Want of memory is passed on as such.
+/// The refusal of the text in a file that is no grammar, with the file's path. Lack of memory is
+/// passed on as such.
 fn refused_file(alloc: Global, path: &str, e: ParseSyntaxError) -> LoadingError
     ensures { (newlines : Bool) (repo : List (List ℕ)) (bytes : List ℕ) → IsUtf8 bytes
         → Fails (loaded bytes newlines (path_file_stem path.now) repo) e
@@ -31,7 +32,8 @@ fn refused_file(alloc: Global, path: &str, e: ParseSyntaxError) -> LoadingError
     }
 }
 
-/// The definition of the text in a file. A syntax without a name has that of the file, without the extension.
+/// The definition of the text in a file. A syntax without a name has that of the file,
+/// without the extension.
 fn load_text(
     alloc: Global,
     path: &str,
@@ -106,8 +108,8 @@ fn load_from_reader<R: Read + Drop>(
     load_read(alloc, path, read, lines_include_newline, repository)
 }
 
-/// The definition of the grammar in a file. One that cannot be read, or isn't UTF-8, is `Io`, and one that is no grammar is
-/// `ParseSyntax` with its path.
+/// The definition of the grammar in a file. One that cannot be read, or isn't UTF-8, is `Io`, and
+/// one that is no grammar is `ParseSyntax` with its path.
 #[tactic(auto, using(crate::proofs::SyntaxFileLaws::not_opened, crate::proofs::SyntaxFileLaws::of_file))]
 pub fn load_file(
     files: &impl Files,

@@ -1,7 +1,7 @@
 //! Grammars as they were written, and how they are read from their text.
 //!
-//! A `SyntaxDefinition` has contexts by their names, each with patterns in order. The rules are those of Sublime
-//! Text's syntax definitions.
+//! A `SyntaxDefinition` has contexts by their names, each with patterns in order. The rules are
+//! those of Sublime Text's syntax definitions.
 #![tactic(auto)]
 
 pub mod definition;

@@ -358,14 +358,16 @@ pub fn definition(
 }
 
 impl SyntaxDefinition {
-    /// The definition of a grammar's text. `lines_include_newline` says whether the lines that it will read end with
-    /// their line feeds; `fallback_name` names the syntax where the text does not. The scopes are those of their texts
-    /// in the repository, which takes their atoms up; the atoms that it has keep their numbers, also after a refusal.
+    /// The definition of a grammar's text. `lines_include_newline` says whether the lines that it
+    /// will read end with their line feeds; `fallback_name` names the syntax where the text does
+    /// not. The scopes are those of their texts in the repository, which takes their atoms up; the
+    /// atoms that it has keep their numbers, also after a refusal.
     ///
-    /// `EmptyFile` is answered for a text without a node, `InvalidYaml` for one that has no value. Else the first
-    /// fault is answered: `TypeMismatch` for a value of the wrong kind, `MissingMandatoryKey` for a key that has to
-    /// stand there, `RegexCompileError` for a pattern that is none, `InvalidScope` for a text that is no scope, and
-    /// last `MainMissing` where no context is called `main`.
+    /// `EmptyFile` is answered for a text without a node, `InvalidYaml` for one that has no value.
+    /// Else the first fault is answered: `TypeMismatch` for a value of the wrong kind,
+    /// `MissingMandatoryKey` for a key that has to stand there, `RegexCompileError` for a pattern
+    /// that is none, `InvalidScope` for a text that is no scope, and last `MainMissing` where no
+    /// context is called `main`.
     pub fn load_from_str(
         alloc: Global,
         s: &str,

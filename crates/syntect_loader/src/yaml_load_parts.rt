@@ -166,7 +166,7 @@ fn is_file(name: &str) -> bool
     name.ends_with(FILE_ENDING)
 }
 
-/// What stands behind the mark of a scope.
+/// What comes after the mark of a scope.
 fn scope_text(name: &str) -> Option<&str>
     ensures { option_map (λ t. t.now) result ≡ values.scope_text name.now }
 {

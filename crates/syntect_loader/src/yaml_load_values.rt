@@ -149,7 +149,7 @@ fn truth_value(b: bool) -> Yaml
     Yaml::Scalar(Scalar::Truth(b))
 }
 
-/// Puts an entry last.
+/// Appends an entry.
 fn push_entry(entries: &mut Entries, key: &str, value: Yaml) -> Result<(), AllocError>
     ensures { OnOk result (map entry_view entries.new.items
         ≡ map entry_view entries.old.items ++ (scalar.Text key.now, view value) ∷ []) }

@@ -17,7 +17,8 @@ use Rattle.syntect_loader_laws.specs.Inner.{Inner}
 use Rattle.syntect_loader_laws.proofs.PartLaws.{Within, AllWithin, unwrap_within, get_within, list_within, list_at_within}
 use Rattle.syntect_loader_laws.proofs.StepLaws.{Same, same_rest, same_first, same_both, same_each}
 
--- inner contexts are read the same where their items nest no deeper than d, and where the loader makes the items
+-- inner contexts are read the same where their items nest no deeper than d, and where the loader
+-- makes the items
 pub record Agree (one other : Inner) (d : ℕ) : Type 0 where
   pub shallow : (wants : Bool) (items : List Node) → AllWithin d items → Same (one wants items) (other wants items)
   pub escapes : (wants : Bool) (m escape : Node)

@@ -58,7 +58,8 @@ module _ (inner : Inner) where
   loaded_over text lines_include_newline fallback repository =
       definition_in_over (yaml_of text) lines_include_newline fallback repository
 
--- a context inside of another, where one that is n deep is not refused, but read in a way of its own
+-- a context inside of another, where one that is n deep is not refused,
+-- but read in a way of its own
 unfoldable pub context_above : Inner → ℕ → Inner
 context_above deep zero wants_prototype items = deep wants_prototype items
 context_above deep (suc n) wants_prototype items =

@@ -1,4 +1,5 @@
--- Which patterns of a turn's chain are out, since the first match that they have in it doesn't count.
+-- Which patterns of a turn's chain are out, since the first match that they have
+-- in it doesn't count.
 use Rattle.std.specs.Prelude.{◌≡◌, ◌≢◌, ℕ, Bool, true, false, List, [], slice_index_or}
 
 -- whether the pattern at an index is out, by the marks of its part

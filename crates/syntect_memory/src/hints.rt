@@ -1,4 +1,5 @@
-//! What is known, while a line is read, of patterns that are searched in the place of others, with the texts of groups put in.
+//! What is known, while a line is read, of patterns that are searched in the place of others, with
+//! the texts of groups put in.
 ghost use Rattle.std.specs.Prelude.{◌≡◌, ◌<◌, List, ℕ, IfSome, length, slice_index_or, string_bytes};
 ghost use Rattle.syntect_seek.specs.Prospect.{IsProspectOf};
 ghost use Rattle.syntect_memory.specs.Memory.{AreHintsIn, IsHintOf};
@@ -8,7 +9,7 @@ use std::alloc::{AllocError, Global};
 use std::marker::Model;
 use syntect_seek::prospect::Prospect;
 
-/// So many are kept: with one more all earlier ones are forgotten.
+/// How many are kept: with one more all earlier ones are forgotten.
 const MOST: usize = 16;
 
 /// What is known of a pattern.

@@ -1,4 +1,5 @@
-//! Which patterns of a turn's chain are out, since the first match that they have in it doesn't count.
+//! Which patterns of a turn's chain are out, since the first match that they have
+//! in it doesn't count.
 ghost use Rattle.std.specs.Prelude.{◌≡◌, ◌<◌, ℕ, [], OnOk, length};
 ghost use Rattle.syntect_memory.specs.Losses.{LosesAt, LosesOf, is_lost, marks_of};
 
@@ -11,7 +12,8 @@ pub struct Marks {
     kept: Vec<bool>,
 }
 
-/// Which patterns of a chain are out, by the number of their part, up to the last with one; seen as a list of lists.
+/// Which patterns of a chain are out, by the number of their part, up to the last with one; seen as
+/// a list of lists.
 #[derive(Drop)]
 pub struct Losses {
     parts: Vec<Marks>,

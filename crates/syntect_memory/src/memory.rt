@@ -14,8 +14,8 @@ use syntect_seek::prospect::Prospect;
 /// How many patterns are kept in mind at most, and how many slots lead to them.
 const SLOTS: usize = 2048;
 
-/// In how many slots, from its own on, a pattern is looked for. One that finds no room asks anew at each try, which may take it
-/// to the line's end each time.
+/// In how many slots, from its own on, a pattern is looked for. One that finds no room asks anew at
+/// each try, which may take it to the line's end each time.
 const LOOKS: usize = 4;
 
 /// What is known of the pattern that stands there.
@@ -29,7 +29,8 @@ pub struct Memo {
 #[derive(Drop)]
 pub struct Memos {
     kept: Vec<Memo>,
-    /// Where a pattern's memo may stand. A slot is looked at before it is believed, so that none need be wiped from line to line.
+    /// Where a pattern's memo may stand. A slot is looked at before it is believed, so that none
+    /// need be wiped from line to line.
     slots: [u16; SLOTS],
 }
 
@@ -68,7 +69,8 @@ impl Model for Memos {
     ghost view = { λ m. m.kept.items };
 }
 
-/// What is known of a line: of patterns tried in it, of those searched in others' places, and plans of those that backed up often.
+/// What is known of a line: of patterns tried in it, of those searched in others' places, and plans
+/// of those that backed up often.
 #[derive(Drop)]
 pub struct Memory {
     pub memos: Memos,
@@ -160,7 +162,8 @@ impl Memos {
         (slot + SLOTS - own) % SLOTS < LOOKS
     }
 
-    /// The slot for the pattern that stands there, in which no memo of this line stands if one of those is free.
+    /// The slot for the pattern that stands there, in which no memo of this line stands if one of
+    /// those is free.
     fn room_for(&self, origin: Origin) -> usize
         ensures { result < 2048 }
     {
@@ -174,7 +177,8 @@ impl Memos {
         slot
     }
 
-    /// Keeps in mind what is known of the pattern that stands there, in place of another one where there is no room.
+    /// Keeps in mind what is known of the pattern that stands there, in place of another one where
+    /// there is no room.
     pub fn keep(&mut self, origin: Origin, prospect: Prospect)
         ensures { (set : SyntaxSet) (line : List ℕ) → AreKnown set line self.old
             → IsKnownAt set line origin prospect → AreKnown set line self.new }

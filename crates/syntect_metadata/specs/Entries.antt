@@ -36,14 +36,15 @@ pub record IsEntryOf (path bytes : List ℕ) (entry : RawMetadataEntry) : Type 0
   pub settings : IsSettings bytes value
   pub is : IsEntry path value entry
 
--- why bytes give no entry: they are no settings, or their settings are no entry; or there was no memory
+-- why bytes give no entry: they are no settings, or their settings are no entry;
+-- or there was no memory
 pub data RefusesEntry (bytes : List ℕ) : LoadingError → Type 0 where
   no_settings : ((d : Data) → ¬ (IsSettings bytes d)) → RefusesEntry bytes (ReadSettings Json)
   no_entry : {d : Data} → IsSettings bytes d → is_entry d ≡ false → RefusesEntry bytes ParseMetadata
   no_memory : RefusesEntry bytes Memory
 
--- why what a reader has left, where that is known, gives no entry: reading has a fault, which is not that memory was wanting, or
--- the bytes give none
+-- why what a reader has left, where that is known, gives no entry: reading has a fault, which is
+-- not that memory ran out, or the bytes give none
 pub data RefusesRead (left : Option (List ℕ)) : LoadingError → Type 0 where
   not_read : {e : Error} → error_kind e ≢ OutOfMemory → RefusesRead left (Io e)
   refused : {bytes : List ℕ} {e : LoadingError} → IfSome left (λ xs. bytes ≡ xs)

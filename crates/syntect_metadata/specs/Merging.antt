@@ -52,7 +52,8 @@ with_variables (v ∷ vs) vars = with_variables vs (put v.0 v.1 vars)
 
 -- ---- settings ----
 
--- what entries of one scope text say: their settings, and their variables, where one of them had the key
+-- what entries of one scope text say: their settings, and their variables, where one of them had
+-- the key
 pub record Merged : Type 0 where
   pub settings : Members
   pub variables : Option Members
@@ -60,7 +61,8 @@ pub record Merged : Type 0 where
 abbrev pub nothing : Merged
 nothing = record { settings = no_members; variables = None }
 
--- with one more member: a known key's value takes the place of the one that is there, and variables are added
+-- with one more member: a known key's value takes the place of the one that is there, and variables
+-- are added
 abbrev pub with_member : List ℕ → Data → Merged → Merged
 with_member key d m =
     if bytes_eq key variables_key

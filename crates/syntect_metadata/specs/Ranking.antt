@@ -39,7 +39,7 @@ abbrev pub first_of : {X : Type 0} → (MetadataItems → Option X) → List (�
 first_of say [] = None
 first_of say (s ∷ ss) = first_some (say s.1.items) (first_of say ss)
 
--- whether the first pattern of the kind, where there is one, matches at the begin of a line
+-- whether the first pattern of the kind, where there is one, matches at the start of a line
 abbrev pub answer : (MetadataItems → Option (List ℕ)) → List (ℕ × MetadataSet) → List ℕ → Bool
 answer pattern ranked line =
     option_map_or (λ p. pattern_begins p line 0) (first_of pattern ranked) false

@@ -22,7 +22,8 @@ scope_refusal scope.Memory = Memory
 scope_refusal scope.TooLong = BadSelector scope.TooLong
 scope_refusal scope.TooManyAtoms = BadSelector scope.TooManyAtoms
 
--- a set of items, for the selectors that a scope text names in a repository that takes up their scopes
+-- a set of items, for the selectors that a scope text names in a repository that
+-- takes up their scopes
 abbrev pub set_with : List (List ℕ) → List ℕ → MetadataItems → Result MetadataSet MetadataError
 set_with repo text items = unless_refused (first_refusal repo (union_words text))
   where
@@ -34,12 +35,12 @@ set_with repo text items = unless_refused (first_refusal repo (union_words text)
     })
     unless_refused (Some e) = Err (BadSelector e)
 
--- The set of a scope text and an object: skipped where no known key is there, else refused for its items, else for its
--- selectors.
+-- The set of a scope text and an object: skipped where no known key is there, else refused for its
+-- items, else for its selectors.
 abbrev pub set_of : List (List ℕ) → List ℕ → Data → Result MetadataSet MetadataError
 set_of repo text d = if has_known_key d then next (items_of d) (set_with repo text) else Err Skipped
 
--- want of memory, or the refusal that the answer says
+-- lack of memory, or the refusal that the answer says
 abbrev pub Refuses : {X : Type 0} → Result X MetadataError → MetadataError → Type 0
 Refuses answer e = e ≢ Memory → answer ≡ Err e
 
@@ -50,14 +51,15 @@ abbrev pub with_set : Result MetadataSet MetadataError → List MetadataSet → 
 with_set (Ok set) sets = set ∷ sets
 with_set (Err e) sets = sets
 
--- A repository after a set was read with another one: it has the set's scopes, or, where the set was refused, perhaps more.
+-- A repository after a set was read with another one: it has the set's scopes, or, where the set
+-- was refused, perhaps more.
 abbrev pub IsAfterSet : List (List ℕ) → Result MetadataSet MetadataError → List ℕ → List (List ℕ)
     → Type 0
 IsAfterSet old (Ok set) text new = new ≡ with_scopes old (union_words text)
 IsAfterSet old (Err e) text new = take (length old) new ≡ old
 
--- The sets of scope texts with their settings, each read with the repository that the ones before left; what is refused is
--- left out.
+-- The sets of scope texts with their settings, each read with the repository that the ones before
+-- left; what is refused is left out.
 abbrev pub ReadsSets : List (List ℕ) → List (List ℕ × Merged) → List (List ℕ) → List MetadataSet
     → Type 0
 ReadsSets old [] new sets = (new ≡ old) × (sets ≡ [])
@@ -81,6 +83,7 @@ with_sets [] table = table
 with_sets (set ∷ sets) table =
     with_sets sets (insert_entry (slice_cmp nat_cmp) table set.selector_string set)
 
--- old sets and new ones in the byte order of their scope texts, a new one in place of an old one of the same text
+-- old sets and new ones in the byte order of their scope texts, a new one in place of an old one of
+-- the same text
 abbrev pub replaced : List MetadataSet → List MetadataSet → List MetadataSet
 replaced old new = map (λ entry. entry.1) (with_sets new (with_sets old []))

@@ -19,13 +19,13 @@ use syntect_values::text::Text;
 /// What is said of the lines in a scope.
 #[derive(PartialEq, Eq)]
 pub struct MetadataItems {
-    /// The line behind one that this matches is indented by one more.
+    /// The line after one that this matches is indented by one more.
     pub increase_indent_pattern: Option<Regex>,
     /// A line that this matches is indented by one less.
     pub decrease_indent_pattern: Option<Regex>,
-    /// The one line behind one that this matches is indented by one more.
+    /// The one line after one that this matches is indented by one more.
     pub bracket_indent_next_line_pattern: Option<Regex>,
-    /// The line behind one that this matches is not indented by one more.
+    /// The line after one that this matches is not indented by one more.
     pub disable_indent_next_line_pattern: Option<Regex>,
     /// A line that this matches is not looked at.
     pub unindented_line_pattern: Option<Regex>,
@@ -424,7 +424,8 @@ fn comments_of(alloc: Global, settings: &Value) -> Result<Comments, MetadataErro
     })
 }
 
-/// What an object says. A value of a wrong kind is `BadItems`, and keys that aren't known are not looked at.
+/// What an object says. A value of a wrong kind is `BadItems`, and keys that aren't known are not
+/// looked at.
 pub(crate) fn items(alloc: Global, settings: &Value) -> Result<MetadataItems, MetadataError>
     ensures ok { IfOk result (λ i. items.items_of (view settings.now) ≡ Ok i) }
     ensures err { IfErr result (Refuses (items.items_of (view settings.now))) }

@@ -126,7 +126,7 @@ impl Metadata {
         }
     }
 
-    /// The same sets.
+    /// A copy of the sets.
     fn copied(&self) -> Result<Metadata, AllocError>
         ensures { IfOk result (λ metadata. metadata ≡ self.now) }
     {
@@ -140,10 +140,11 @@ impl Metadata {
         })
     }
 
-    /// The sets of entries, in the byte order of their scope texts. The entries go by their paths, component by component, and
-    /// those of one scope text are put together: of each of the keys that are read the last value counts, and the variables of
-    /// a list of objects, each with a text as `name` and a `value`, are added; another value adds none. What `MetadataSet::from_raw`
-    /// refuses is left out.
+    /// The sets of entries, in the byte order of their scope texts. The entries go by their paths,
+    /// component by component, and those of one scope text are put together: of each of the keys
+    /// that are read the last value counts, and the variables of a list of objects, each with a
+    /// text as `name` and a `value`, are added; another value adds none. What
+    /// `MetadataSet::from_raw` refuses is left out.
     pub fn from_loaded(
         alloc: Global,
         loaded: LoadMetadata,
@@ -163,8 +164,8 @@ impl Metadata {
         })
     }
 
-    /// These sets and those of entries, in the byte order of their scope texts: a new set takes the place of an old one of the
-    /// same text, and where the new one is refused the old one stays.
+    /// These sets and those of entries, in the byte order of their scope texts: a new set takes the
+    /// place of an old one of the same text, and where the new one is refused the old one stays.
     pub fn merged_with_raw(
         self,
         alloc: Global,
@@ -186,8 +187,8 @@ impl Metadata {
         })
     }
 
-    /// The sets that match a stack of scopes, the bottom one first: those of the greatest score first, and of equal scores in
-    /// their order here.
+    /// The sets that match a stack of scopes, the bottom one first: those of the greatest score
+    /// first, and of equal scores in their order here.
     pub fn metadata_for_scope(&self, stack: &[Scope]) -> Result<ScopedMetadata<'_>, AllocError>
         ensures { IfOk result (λ scoped. IsRanked (matching stack.now self.now.scoped_metadata)
             (map (λ p. (p.0, p.1.now)) scoped.items)) }

@@ -128,8 +128,9 @@ fn entry_from<R: Read>(
 }
 
 impl RawMetadataEntry {
-    /// The entry in a file: the JSON of an object with a text as `scope` and an object as `settings`, in which no number is a
-    /// float. A fault of the file is `Io`, other bytes are `ReadSettings`, and another value is `ParseMetadata`.
+    /// The entry in a file: the JSON of an object with a text as `scope` and an object as
+    /// `settings`, in which no number is a float. A fault of the file is `Io`, other bytes are
+    /// `ReadSettings`, and another value is `ParseMetadata`.
     #[tactic(auto, using(crate::proofs::EntryLaws::fault_read, crate::proofs::EntryLaws::of_file))]
     pub fn load(
         files: &impl Files,
@@ -195,7 +196,7 @@ impl LoadMetadata {
         }
     }
 
-    /// Puts an entry last. Without memory for it the entries stay.
+    /// Appends an entry. Without memory for it the entries stay.
     pub fn add_raw(&mut self, raw: RawMetadataEntry) -> Result<(), AllocError>
         ensures ok { OnOk result (self.new.loaded ≡ self.old.loaded ++ raw ∷ []) }
         ensures err { OnErr result (self.new ≡ self.old) }
@@ -206,7 +207,7 @@ impl LoadMetadata {
         }
     }
 
-    /// The same entries, each as `RawMetadataEntry::clone` has it.
+    /// A copy of the entries, each as `RawMetadataEntry::clone` has it.
     pub fn clone(&self) -> Result<LoadMetadata, AllocError>
         ensures { IfOk result (λ raw. AllZip AreAlike self.now.loaded raw.loaded) }
     {

@@ -10,8 +10,8 @@ use syntect_regex::regex::Regex;
 use syntect_scope::power::MatchPower;
 use syntect_values::seq::Seq;
 
-/// The sets that match a stack of scopes, the best first, each with its score. A question goes to the first that can say
-/// something.
+/// The sets that match a stack of scopes, the best first, each with its score. A question goes to
+/// the first that can say something.
 #[derive(Drop)]
 pub struct ScopedMetadata<'a> {
     /// The sets with their scores.
@@ -55,7 +55,7 @@ impl<'a> ScopedMetadata<'a> {
         None
     }
 
-    /// Whether the first pattern of a kind matches at the begin of a line.
+    /// Whether the first pattern of a kind matches at the start of a line.
     fn asks(&self, kind: Kind, line: &str) -> Result<bool, AllocError>
         ensures { IfOk result (λ yes. yes
             ≡ answer (pattern_for kind) (map (λ p. (p.0, p.1.now)) self.now.items) line.now) }
@@ -66,7 +66,7 @@ impl<'a> ScopedMetadata<'a> {
         }
     }
 
-    /// Whether a line is not looked at: the first `unIndentedLinePattern` matches at its begin.
+    /// Whether a line is not looked at: the first `unIndentedLinePattern` matches at its start.
     pub fn unindented_line(&self, line: &str) -> Result<bool, AllocError>
         ensures { IfOk result (λ yes. yes
             ≡ answer (λ i. i.unindented_line_pattern)
@@ -75,7 +75,8 @@ impl<'a> ScopedMetadata<'a> {
         self.asks(Kind::Unindented, line)
     }
 
-    /// Whether a line is indented by one less: the first `decreaseIndentPattern` matches at its begin.
+    /// Whether a line is indented by one less:
+    /// the first `decreaseIndentPattern` matches at its start.
     pub fn decrease_indent(&self, line: &str) -> Result<bool, AllocError>
         ensures { IfOk result (λ yes. yes
             ≡ answer (λ i. i.decrease_indent_pattern)
@@ -84,7 +85,8 @@ impl<'a> ScopedMetadata<'a> {
         self.asks(Kind::Decrease, line)
     }
 
-    /// Whether the lines behind a line are indented by one more: the first `increaseIndentPattern` matches at its begin.
+    /// Whether the lines after a line are indented by one more: the first `increaseIndentPattern`
+    /// matches at its start.
     pub fn increase_indent(&self, line: &str) -> Result<bool, AllocError>
         ensures { IfOk result (λ yes. yes
             ≡ answer (λ i. i.increase_indent_pattern)
@@ -93,8 +95,8 @@ impl<'a> ScopedMetadata<'a> {
         self.asks(Kind::Increase, line)
     }
 
-    /// Whether the one line behind a line is indented by one more: the first `bracketIndentNextLinePattern` matches at its
-    /// begin.
+    /// Whether the one line after a line is indented by one more: the first
+    /// `bracketIndentNextLinePattern` matches at its start.
     pub fn bracket_increase(&self, line: &str) -> Result<bool, AllocError>
         ensures { IfOk result (λ yes. yes
             ≡ answer (λ i. i.bracket_indent_next_line_pattern)
@@ -103,8 +105,8 @@ impl<'a> ScopedMetadata<'a> {
         self.asks(Kind::Bracket, line)
     }
 
-    /// Whether the line behind a line is not indented by one more: the first `disableIndentNextLinePattern` matches at its
-    /// begin.
+    /// Whether the line after a line is not indented by one more: the first
+    /// `disableIndentNextLinePattern` matches at its start.
     pub fn disable_indent_next_line(&self, line: &str) -> Result<bool, AllocError>
         ensures { IfOk result (λ yes. yes
             ≡ answer (λ i. i.disable_indent_next_line_pattern)
@@ -146,7 +148,7 @@ impl<'a> ScopedMetadata<'a> {
         self.items.is_empty()
     }
 
-    /// The same sets with their scores.
+    /// A copy of the sets with their scores.
     pub fn clone(&self) -> Result<ScopedMetadata<'a>, AllocError>
         ensures { IfOk result (λ scoped. scoped.items ≡ self.now.items) }
     {

@@ -49,11 +49,12 @@ impl MetadataSet {
         })
     }
 
-    /// The set of a selector's text and the members of an object, of which the repository takes up the scopes. It is `Skipped`
-    /// where none of the seven keys is there, which is tested before memory is taken; else `BadItems` where a pattern's key has
-    /// neither a text nor null, `indentParens` neither a truth value nor null, or `shellVariables` no object of texts; else
-    /// `BadSelector` with the refusal of the first scope that is refused. Other keys are not looked at. After a refusal the
-    /// repository may have more atoms, and the old ones keep their numbers.
+    /// The set of a selector's text and the members of an object, of which the repository takes up
+    /// the scopes. It is `Skipped` where none of the seven keys is there, which is tested before
+    /// memory is taken; else `BadItems` where a pattern's key has neither a text nor null,
+    /// `indentParens` neither a truth value nor null, or `shellVariables` no object of texts; else
+    /// `BadSelector` with the refusal of the first scope that is refused. Other keys are not looked
+    /// at. After a refusal the repository may have more atoms, and the old ones keep their numbers.
     pub fn from_raw(
         alloc: Global,
         raw: (String, Map<String, Value>),

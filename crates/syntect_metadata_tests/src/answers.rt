@@ -4,7 +4,8 @@ use std::alloc::{AllocError, Global};
 use std::process::Abort;
 use syntect_metadata::scoped::ScopedMetadata;
 
-/// Questions on lines: of a line that isn't looked at, of less and of more, of the next line, and of no more there.
+/// Questions on lines: of a line that isn't looked at, of less and of more, of the next line, and
+/// of no more there.
 #[derive(Clone, Copy)]
 enum Question {
     Unindented,

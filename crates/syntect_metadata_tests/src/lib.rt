@@ -1,7 +1,8 @@
 //! Tests of metadata, by values from outside.
 //!
-//! They stand in a crate of their own, since a crate that has tests is proved a second time with them. Each test is a row of
-//! values and one call of a small function: what a function lets go is proved at each of its ends.
+//! They stand in a crate of their own, since a crate that has tests is proved a second time with
+//! them. Each test is a row of values and one call of a small function: what a function drops is
+//! proved at each of its ends.
 #![tactic(auto)]
 
 #[cfg(test)]

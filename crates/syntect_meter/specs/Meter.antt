@@ -18,7 +18,7 @@ pub record Advances (old new : Reading) : Type 0 where
   pub rises : old.made ≤ new.made
   pub stays : most_of new ≡ most_of old
 
--- who stops for want of steps has made all of them
+-- who stops for lack of steps has made all of them
 abbrev pub StopsAt : Reading → Stop → Type 0
 StopsAt r stop.Spent = r.left ≡ Some 0
 StopsAt r stop.Memory = Unit {0}

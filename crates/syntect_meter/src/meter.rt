@@ -7,7 +7,8 @@ use crate::stop::Stop;
 use std::marker::Model;
 use syntect_turns::count::TurnCount;
 
-/// How many steps were made, which contracts alone see, and how many are left, where they are limited.
+/// How many steps were made, which contracts alone see, and how many are left,
+/// where they are limited.
 #[derive(Drop)]
 pub struct Meter {
     count: TurnCount,
@@ -73,7 +74,7 @@ impl Meter {
         }
     }
 
-    /// So many steps are made, unless fewer are left: then these are made, and it stops.
+    /// Makes so many steps; if fewer are left, makes those and stops.
     #[inline]
     pub fn spend(&mut self, steps: usize) -> Result<(), Stop>
         ensures made { OnOk result (self.new.made ≡ self.old.made + steps) }
@@ -93,7 +94,8 @@ impl Meter {
         Ok(())
     }
 
-    /// A count that went on from this meter's by so many steps, which were left, is that of the meter from now on.
+    /// A count that went on from this meter's by so many steps, which were left, is that of the
+    /// meter from now on.
     #[inline]
     pub fn follow(&mut self, count: &TurnCount, steps: usize)
         requires counted { count.now.made ≡ self.old.made + steps }

@@ -16,7 +16,8 @@ use Rattle.syntect_grammar.specs.declared.syntax_set.SyntaxSet.{SyntaxSet}
 abbrev pub clearing : SyntaxSet → ContextId → Option ClearAmount
 clearing set id = option_and_then (λ c. c.clear_scopes) (context_at set id)
 
--- of the contexts that references stand for: their `meta_scope`s, their `meta_content_scope`s, and both
+-- of the contexts that references stand for: their `meta_scope`s, their `meta_content_scope`s,
+-- and both
 abbrev pub metas : SyntaxSet → List ContextReference → Scopes
 metas set refs = flat_map (part_of (λ c. c.meta_scope) set) (filter_map target refs)
 

@@ -20,7 +20,8 @@ use Rattle.syntect_grammar.specs.declared.syntax_set.SyntaxSet.{SyntaxSet}
 abbrev pub Place : Type 0
 Place = Context × ℕ
 
--- an include gives what its target gives, and nothing where it is unresolved or its target is on the include path
+-- an include gives what its target gives, and nothing where it is unresolved or its target is on
+-- the include path
 abbrev pub included_places : (ContextId → List Place) → List ContextId → Option ContextId
     → List Place
 included_places inner path None = []
@@ -34,14 +35,16 @@ entry_places inner path c k (Match m ∷ ps) = (c, k) ∷ entry_places inner pat
 entry_places inner path c k (Include r ∷ ps) =
     included_places inner path (target r) ++ entry_places inner path c (k + 1) ps
 
--- what an include of this context gives, which was reached by this include path: nothing where the set lacks it
+-- what an include of this context gives, which was reached by this include path: nothing where the
+-- set lacks it
 abbrev pub target_places : ℕ → SyntaxSet → List ContextId → ContextId → List Place
 target_places zero set path id = []
 target_places (suc room) set path id =
     option_map_or (λ c. entry_places (λ x. target_places room set (path ++ id ∷ []) x)
     (path ++ id ∷ []) c 0 c.patterns) (context_at set id) []
 
--- those of a context from an index on, with the include path that it was reached by and the room for more includes
+-- those of a context from an index on, with the include path that it was reached by and the room
+-- for more includes
 abbrev pub places_from : ℕ → SyntaxSet → List ContextId → Context → ℕ → List Place
 places_from room set path c k =
     entry_places (λ id. target_places room set path id) path c k (drop k c.patterns)
@@ -82,7 +85,8 @@ walk_left it =
 abbrev pub places_left : MatchIter → List Place
 places_left it = if it.failed then [] else walk_left it
 
--- one call of `next`: the next place that is left; none where none is left; after want of memory none is left
+-- one call of `next`: the next place that is left; none where none is left; once memory ran out
+-- none is left
 abbrev pub GivesPlace : MatchIter → Option (Result (Bor Context × ℕ) AllocError) → MatchIter
     → Type 0
 GivesPlace old None new = (places_left old ≡ []) × (places_left new ≡ [])

@@ -10,7 +10,8 @@ put_in pattern o = substituted pattern o.region o.line
 abbrev pub least_steps : ℕ
 least_steps = 8
 
--- to look whether it is kept: one for each sixty-four bytes of the pattern and of the match's line, and the least
+-- to look whether it is kept: one for each sixty-four bytes of the pattern and of the match's line,
+-- and the least
 abbrev pub look_steps : List ℕ → Opening → ℕ
 look_steps pattern o = length pattern / 64 + length o.line / 64 + least_steps
 

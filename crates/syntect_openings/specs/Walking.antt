@@ -15,7 +15,7 @@ use Rattle.syntect_contexts.specs.declared.context.Pattern.TheVariants.{Match, I
 use Rattle.syntect_contexts.specs.declared.context.Context.{Context}
 use Rattle.syntect_grammar.specs.declared.syntax_set.SyntaxSet.{SyntaxSet}
 
--- how many steps an include takes, beside its own
+-- how many steps an include takes, besides its own
 abbrev pub included_steps : (ContextId → ℕ) → List ContextId → Option ContextId → ℕ
 included_steps inner path None = 0
 included_steps inner path (Some id) = if list_any (is_same id) path then 0 else inner id

@@ -27,9 +27,10 @@ enum Step<'a> {
     Ends,
 }
 
-/// The places of the match patterns of a context, in the order in which they are tried: each is the context that holds
-/// the pattern, and its index there. Includes are walked in place. One that is unresolved gives nothing, and so does one
-/// whose target the set lacks or that is already being walked.
+/// The places of the match patterns of a context, in the order in which they are tried: each is the
+/// context that holds the pattern, and its index there. Includes are walked in place. One that is
+/// unresolved gives nothing, and so does one whose target the set lacks or that
+/// is already being walked.
 #[derive(Drop)]
 pub struct MatchIter<'a> {
     syntax_set: &'a SyntaxSet,
@@ -59,8 +60,8 @@ fn is_on(waiting: &[Waiting], id: ContextId) -> bool
     false
 }
 
-/// The places of the match patterns of a context, which may be one that the set doesn't hold. Takes no memory; the items
-/// can, and none comes after a refusal.
+/// The places of the match patterns of a context, which may be one that the set doesn't hold. Takes
+/// no memory; the items can, and none comes after a refusal.
 pub fn context_iter<'a>(
     alloc: Global,
     syntax_set: &'a SyntaxSet,
@@ -106,7 +107,7 @@ impl<'a> MatchIter<'a> {
         Some((id, context))
     }
 
-    /// Goes on behind an include with what it names, if that gives anything.
+    /// Goes on after an include with what it names, if that gives anything.
     fn follow(&mut self, reference: &ContextReference) -> Result<(), AllocError>
         ensures places { OnOk result
             (walk_left self.new ≡ included_places (target_places

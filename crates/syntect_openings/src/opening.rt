@@ -36,7 +36,7 @@ impl Opening {
         Opening { region, line }
     }
 
-    /// The same match once more.
+    /// A copy of the match.
     pub fn clone(&self, alloc: Global) -> Result<Opening, AllocError>
         ensures { IfOk result (λ o. o ≡ self.now) }
     {
@@ -53,7 +53,8 @@ impl Opening {
         self.line.len()
     }
 
-    /// The text of a pattern with this match's groups for its back references, if it has at most so many bytes.
+    /// The text of a pattern with this match's groups for its back references, if it has at most so
+    /// many bytes.
     pub fn text_within(
         &self,
         pattern: &MatchPattern,

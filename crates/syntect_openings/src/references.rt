@@ -1,5 +1,6 @@
-//! Operations on the scopes that references to contexts bring. Each function appends operations to a list, at a byte
-//! position of the line; where memory ends, the list may hold some of them, and is for throwing away.
+//! Operations on the scopes that references to contexts bring. Each function appends operations to
+//! a list, at a byte position of the line; where memory ends, the list may hold some of them, and
+//! is for throwing away.
 ghost use Rattle.std.specs.Prelude.{◌≡◌, ◌<◌, ◌++◌, [], length, OnOk, is_none};
 ghost use Rattle.std.specs.List.{filter_map};
 ghost use Rattle.std.specs.Option.{option_map_or, option_copied, option_and_then};
@@ -64,7 +65,8 @@ fn context_of<'s>(set: &'s SyntaxSet, r: &ContextReference) -> Option<&'s Contex
     set.context_at(r.target()?)
 }
 
-/// Opens the contexts that references stand for below a match: each clears, and pushes its `meta_scope`.
+/// Opens the contexts that references stand for below a match: each clears,
+/// and pushes its `meta_scope`.
 #[tactic(auto, using(crate::proofs::OpenLaws::below_step))]
 pub fn open_below(
     ops: &mut Ops,
@@ -121,7 +123,7 @@ pub fn push_metas(
     Ok(())
 }
 
-/// The same with their `meta_content_scope`s.
+/// Pushes the `meta_content_scope`s of the contexts that references stand for.
 #[tactic(auto, using(crate::proofs::OpenLaws::pushes_both))]
 pub fn push_opens(
     ops: &mut Ops,

@@ -1,4 +1,5 @@
-//! Patterns with the texts of groups put in, kept from turn to turn: such a pattern is compiled once while its context is open.
+//! Patterns with the texts of groups put in, kept from turn to turn: such a pattern is compiled
+//! once while its context is open.
 ghost use Rattle.std.specs.Prelude.{◌≡◌, ◌+◌, ◌≤◌, IfErr, IfOk, IfSome, OnOk, string_bytes, true};
 ghost use Rattle.syntect_meter.specs.Meter.{Advances, StopsAt};
 ghost use Rattle.syntect_openings.specs.Puts.{look_steps, make_steps, put_in, put_steps, use_steps};
@@ -11,17 +12,18 @@ use syntect_meter::meter::Meter;
 use syntect_meter::stop::Stop;
 use syntect_regex::regex::Regex;
 
-/// So many are kept: with one more all earlier ones are let go.
+/// How many are kept: with one more all earlier ones are dropped.
 const MOST: usize = 16;
 
-/// So many bytes that are compared, or copied, are a step.
+/// How many bytes that are compared, or copied, count as a step.
 const READ_A_STEP: usize = 64;
 
-/// How many steps it takes at least to look for one of them, and to pass over a pattern without back references in a list where
-/// others have some.
+/// How many steps it takes at least to look for one of them, and to pass over a pattern without
+/// back references in a list where others have some.
 pub const LEAST_STEPS: usize = 8;
 
-/// How many steps a byte is that is written and made searchable, which takes as long as some of the others do.
+/// How many steps a byte is that is written and made searchable, which takes as long as some of the
+/// others do.
 const STEPS_A_BYTE: usize = 4;
 
 /// A pattern with the groups of a match put in, and what it was made of. Seen as the pattern.
@@ -44,7 +46,7 @@ impl Model for Substitute {
         ≡ substituted (string_bytes s.pattern) s.opening.region s.opening.line };
 }
 
-/// Those that are kept.
+/// The patterns with groups put in that are kept.
 pub struct Substitutes {
     kept: Vec<Substitute>,
 }
@@ -82,8 +84,8 @@ fn spent(meter: &mut Meter) -> Stop
     }
 }
 
-/// The text of a pattern with this match's groups put in, which is paid for. No more of it is written than can be paid for, but
-/// for one group's text.
+/// The text of a pattern with this match's groups put in, which is paid for. No more of it is
+/// written than can be paid for, but for one group's text.
 fn text_by_meter(
     pattern: &MatchPattern,
     opening: &Opening,
@@ -106,7 +108,8 @@ fn text_by_meter(
 }
 
 impl Substitute {
-    /// The pattern with this match's groups put in. Its bytes are paid for before it is written and made searchable.
+    /// The pattern with this match's groups put in. Its bytes are paid for before it is written and
+    /// made searchable.
     pub fn new(
         alloc: Global,
         pattern: &MatchPattern,
@@ -165,8 +168,8 @@ impl Substitutes {
         None
     }
 
-    /// The pattern with this match's groups put in: the one that is kept, which is taken out, or else a new one. To look for it
-    /// is paid for, and so is to make it.
+    /// The pattern with this match's groups put in: the one that is kept, which is taken out, or
+    /// else a new one. To look for it is paid for, and so is to make it.
     pub fn take_or_make(
         &mut self,
         alloc: Global,
@@ -192,7 +195,8 @@ impl Substitutes {
         }
     }
 
-    /// Keeps one more. Where there is no memory, it isn't kept. No contract says it: who keeps none is only slower.
+    /// Keeps one more. Where there is no memory, it isn't kept. No contract says it: whoever keeps
+    /// none is only slower.
     pub fn put(&mut self, substitute: Substitute) {
         if self.kept.len() >= MOST {
             self.kept.clear();

@@ -19,7 +19,7 @@ abbrev pub ranges : ℕ → ℕ → ScopeStackOp → List (ℕ × ScopeStackOp) 
 ranges end from op [] = record { from = from; to = end; op = op } ∷ []
 ranges end from op (o ∷ os) = record { from = from; to = o.0; op = op } ∷ ranges end o.0 o.1 os
 
--- those behind the operation before them, if there are any left
+-- those after the operation before them, if there are any left
 abbrev pub ranges_behind : ℕ → ℕ → Option ScopeStackOp → List (ℕ × ScopeStackOp) → List OpRange
 ranges_behind end from None os = []
 ranges_behind end from (Some op) os = ranges end from op os
@@ -46,7 +46,7 @@ pub record IsRange (r : OpRange) (item : Range ℕ × ScopeStackOp) : Type 0 whe
   pub to : item.0.end ≡ r.to
   pub op : item.1 ≡ r.op
 
--- the next range, and those behind it are left
+-- the next range, and those after it are left
 pub record GivesNext (s t : ScopeRangeIterator) (item : Range ℕ × ScopeStackOp) : Type 0 where
   pub range : OpRange
   pub next : left s ≡ range ∷ left t

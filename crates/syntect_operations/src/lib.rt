@@ -1,5 +1,5 @@
-//! Operations of a line one after another: whether they are in order, the ranges and regions between them, and their
-//! text for debugging.
+//! Operations of a line one after another: whether they are in order, the ranges and regions
+//! between them, and their text for debugging.
 #![tactic(auto)]
 
 pub mod order;

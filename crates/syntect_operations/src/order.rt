@@ -4,8 +4,9 @@ ghost use Rattle.syntect_scope.specs.Replay.{InOrder};
 
 use syntect_scope::stack::ScopeStackOp;
 
-/// Whether operations are in order in a line, as calls that take them ask: their places, which are byte positions, never
-/// decrease, lie in the line and stand between its characters. Takes no memory.
+/// Whether operations are in order in a line, as calls that take them ask: their places, which are
+/// byte positions, never decrease, lie in the line and stand between its characters.
+/// Takes no memory.
 pub fn are_in_order(line: &str, ops: &[(usize, ScopeStackOp)]) -> bool
     ensures { (result ≡ true) ↔ InOrder line.now 0 ops.now (length line.now) }
 {

@@ -59,8 +59,9 @@ fn write_lines<W: Write>(
     writer.write_all(b"\n")
 }
 
-/// Writes operations of a line for debugging: for each the line without white space at its end, and in the next line as
-/// many spaces as its place, a byte position, and what it does. Takes no memory; an `Err` is the writer's.
+/// Writes operations of a line for debugging: for each the line without white space at its end, and
+/// in the next line as many spaces as its place, a byte position, and what it does. Takes no
+/// memory; an `Err` is the writer's.
 pub fn debug_print_ops<W: Write>(
     line: &str,
     ops: &[(usize, ScopeStackOp)],

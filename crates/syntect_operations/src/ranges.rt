@@ -8,7 +8,8 @@ ghost use Rattle.syntect_scope.specs.declared.stack.ScopeStackOp.TheVariants.{No
 use std::ops::Range;
 use syntect_scope::stack::ScopeStackOp;
 
-/// The ranges of a line between operations, each with the operation right before it, and `Noop` before the first.
+/// The ranges of a line between operations, each with the operation right before it, and `Noop`
+/// before the first.
 ///
 /// There is one more of them than operations. A range is empty where two operations have one place.
 #[derive(Clone, Copy, Debug)]
@@ -20,8 +21,8 @@ pub struct ScopeRangeIterator<'a> {
 }
 
 impl<'a> ScopeRangeIterator<'a> {
-    /// The ranges of a line under operations whose places rise or stay, lie in the line and between its characters. Takes
-    /// no memory.
+    /// The ranges of a line under operations whose places rise or stay, lie in the line and between
+    /// its characters. Takes no memory.
     pub fn new(ops: &'a [(usize, ScopeStackOp)], line: &'a str) -> ScopeRangeIterator<'a>
         requires { InOrder line.now 0 ops.now (length line.now) }
         ensures left { left result ≡ ranges (length line.now) 0 Noop ops.now }
@@ -65,15 +66,16 @@ impl<'a> Iterator for ScopeRangeIterator<'a> {
     }
 }
 
-/// The parts of a line between operations, each with the operation right before it, and `Noop` before the first.
+/// The parts of a line between operations, each with the operation right before it, and `Noop`
+/// before the first.
 #[derive(Clone, Copy, Debug)]
 pub struct ScopeRegionIterator<'a> {
     ranges: ScopeRangeIterator<'a>,
 }
 
 impl<'a> ScopeRegionIterator<'a> {
-    /// The parts of a line under operations whose places rise or stay, lie in the line and between its characters. Takes
-    /// no memory.
+    /// The parts of a line under operations whose places rise or stay, lie in the line and between
+    /// its characters. Takes no memory.
     pub fn new(ops: &'a [(usize, ScopeStackOp)], line: &'a str) -> ScopeRegionIterator<'a>
         requires { InOrder line.now 0 ops.now (length line.now) }
         ensures left { left (ranges_in result) ≡ ranges (length line.now) 0 Noop ops.now }

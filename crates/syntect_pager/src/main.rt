@@ -1,4 +1,5 @@
-//! `syntect_pager FOLDER THEME FILE` shows a text file in a terminal, highlighted by the grammars of a folder and a theme.
+//! `syntect_pager FOLDER THEME FILE` shows a text file in a terminal, highlighted by the grammars
+//! of a folder and a theme.
 #![tactic(auto)]
 
 use anyhow::bail;
@@ -12,7 +13,8 @@ use syntect::highlighting::{Theme, ThemeSet};
 use syntect::parsing::{ScopeRepository, SyntaxReference, SyntaxSet, SyntaxSetBuilder};
 use syntect::util::{LinesWithEndings, as_24_bit_terminal_escaped};
 
-/// Plain text and the grammars in a folder, for lines with their newlines. None where a line on standard error tells why not.
+/// Plain text and the grammars in a folder, for lines with their newlines. None where a line on
+/// standard error tells why not.
 fn load_set(
     rt: &(impl AllocGlobal + Eprint + Files),
     folder: Path<'_>,
@@ -72,7 +74,8 @@ fn print_lines(
     Ok(())
 }
 
-/// Shows a file. False where a line on standard error tells why the grammars or the theme were not loaded.
+/// Shows a file. False where a line on standard error tells why the grammars or the
+/// theme were not loaded.
 fn show(
     rt: &(impl AllocGlobal + Print + Eprint + Files),
     folder: &str,

@@ -10,9 +10,9 @@ use syntect_scope::repository::ScopeRepository;
 use syntect_theme::style::{Color, Style};
 use syntect_theme::theme::Theme;
 
-/// What stands before the document. In `Verbatim` only the backslash and braces have a meaning, as in the texts that are
-/// made for LaTeX; a double backslash, which is written for one, is made to show one. A comma keeps its own meaning there,
-/// since colours have commas.
+/// What stands before the document. In `Verbatim` only the backslash and braces have a meaning, as
+/// in the texts that are made for LaTeX; a double backslash, which is written for one, is made to
+/// show one. A comma keeps its own meaning there, since colours have commas.
 const PREAMBLE: &str = r"\documentclass{article}
 \usepackage[T1]{fontenc}
 \usepackage[utf8]{inputenc}
@@ -33,7 +33,8 @@ fn write_ground(theme: &Theme, out: &mut String) -> Option<()> {
     writeln!(out, "\\pagecolor[RGB]{{{r},{g},{b}}}").ok()
 }
 
-/// Adds the pieces of a line without its newline, and a newline. A group of LaTeX doesn't go past its line there.
+/// Adds the pieces of a line without its newline, and a newline. A group of LaTeX doesn't go past
+/// its line there.
 fn write_line(alloc: Global, pieces: &[(Style, &str)], out: &mut String) -> Option<()> {
     let mut shown = Vec::new(alloc);
     for (style, text) in pieces {

@@ -1,5 +1,5 @@
-//! Pages to look at: a text as HTML with classes, the style sheet of two themes for light and dark screens, and a text
-//! for LaTeX.
+//! Pages to look at: a text as HTML with classes, the style sheet of two themes for light and dark
+//! screens, and a text for LaTeX.
 //!
 //! `scripts/pages.sh` makes the pages of `examples/pages` with it.
 #![tactic(auto)]
@@ -17,8 +17,8 @@ use std::{env, io};
 const USAGE: &str =
     "usage: syntect_pages html GRAMMARS TEXT SHEET | css LIGHT DARK | tex GRAMMARS THEME TEXT";
 
-/// Adds what the words ask for. None where they ask for nothing, where a file is not as it is wanted, and where memory
-/// runs out.
+/// Adds what the words ask for. None where they ask for nothing, where a file is not as it is
+/// wanted, and where memory runs out.
 fn write_asked(rt: &(impl AllocGlobal + Files), words: &[String], out: &mut String) -> Option<()> {
     match words {
         [what, grammars, text, sheet] if what.as_str() == "html" => {

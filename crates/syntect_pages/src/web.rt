@@ -36,7 +36,8 @@ fn spans_of(rt: &(impl AllocGlobal + Files), grammars: &str, path: &str) -> Opti
     generator.finalize().ok()
 }
 
-/// Adds the page of a text: its spans with classes in an element of the class `code`, and a link to the style sheet.
+/// Adds the page of a text: its spans with classes in an element of the class `code`, and a link to
+/// the style sheet.
 pub fn write_page(
     rt: &(impl AllocGlobal + Files),
     grammars: &str,

@@ -43,7 +43,8 @@ last_one set line p b s n e (reads_on (goes {q = q'} {bytes = b'} f r)) = let k 
 last_one set line p b s n e (refuses_on {e = d} (now f)) = let k : Refused d ≡ Ends b s = sym f ∙ e in cc
 last_one set line p b s n e (refuses_on (later {q = q'} {bytes = b'} f r)) = let k : Goes b' q' ≡ Ends b s = sym f ∙ e in cc
 
--- The turns so far are the first ones of each reading of the line, and as many fewer may still come.
+-- The turns so far are the first ones of each reading of the line,
+-- and as many fewer may still come.
 pub record CountSoFar (set : SyntaxSet) (line : List ℕ) (old : Standing) (p : Position) (before made shown : ℕ) : Type 0 where
   pub turns : ℕ
   pub told : IsTold turns shown

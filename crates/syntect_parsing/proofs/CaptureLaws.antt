@@ -22,7 +22,8 @@ abbrev pub In : {X : Type 0} → X → List X → Type 0
 In x [] = ⊥
 In x (y ∷ ys) = (y ≡ x) ⊎ In x ys
 
--- how captures of one match lie: none is empty, they lie in the match, and each two are apart or one in the other
+-- how captures of one match lie: none is empty, they lie in the match, and each two are apart or
+-- one in the other
 pub record AreLaidOut (start end : ℕ) (cs : List Capture) : Type 0 where
   pub rise : (c : Capture) → In c cs → c.start < c.end
   pub from : (c : Capture) → In c cs → start ≤ c.start
@@ -43,7 +44,8 @@ each_put P c (d ∷ ds) p h = by (is_longer d c) (each_put P c ds p h.1)
     by true rest = (h.0, rest)
     by false rest = (p, h)
 
--- of the captures that pass a test each has a property, and so those have it once they are put in order
+-- of the captures that pass a test each has a property, and so those have it once they
+-- are put in order
 each_in_order : (P : Capture → Type 0) (p : Capture → Bool) (cs : List Capture) → ((c : Capture) → In c cs → p c ≡ true → P c) → Each P (longer_first (filter p cs))
 each_in_order P p [] h = tt
 each_in_order P p (c ∷ cs) h = by (p c) refl (each_in_order P p cs (λ d i e. h d (inr i) e))

@@ -17,7 +17,8 @@ use Rattle.syntect_parsing.specs.Operations.{clears, restores, opens_below, open
 use Rattle.syntect_parsing.proofs.ReplayLaws.{replay-append}
 use Rattle.syntect_parsing.proofs.OrderLaws.{apply-append}
 
--- on a stack that remembers so many lists at least they apply, and leave one that remembers so many others in their place
+-- on a stack that remembers so many lists at least they apply, and leave one that remembers so many
+-- others in their place
 abbrev pub Counts : ℕ → ℕ → List (ℕ × ScopeStackOp) → Type 0
 Counts a b ops = (r : Replay) (k : ℕ) → length r.stack.clear_stack ≡ a + k → AllApply r.stack ops × (length (replay ops r).stack.clear_stack ≡ b + k)
 

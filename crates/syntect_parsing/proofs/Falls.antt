@@ -238,7 +238,8 @@ tested_true a b e = grind (arith, nat_tests)
 tested_false : (a b : ℕ) → (a == b) ≡ false → a ≢ b
 tested_false a b e = grind (arith, nat_tests)
 
--- what is counted after a match with this operation and what may come then, if the place stays or if it doesn't
+-- what is counted after a match with this operation and what may come then, if the place stays or
+-- if it doesn't
 abbrev idle_if : Position → MatchOperation → Bool → ℕ
 idle_if p o b = if b then p.idle + option_map_or (λ (refs : List ContextReference). 1) (list_of o) 0 else 0
 

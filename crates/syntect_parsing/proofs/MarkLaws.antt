@@ -178,7 +178,7 @@ put_past_block m i (k ∷ ms) ks l = by (at_place i k) refl (put_past_block m i 
         rw f (ap (λ l. k ∷ l) rest)
     by false e rest = rest
 
--- places behind it don't have it
+-- places after it don't have it
 blocks_without : (m : Seen) (ms : List Seen) (i n : ℕ) → m.0 < i → blocks (m ∷ ms) (range_with_len i n) ≡ blocks ms (range_with_len i n)
 blocks_without m ms i zero l = refl
 blocks_without m ms i (suc n) l =

@@ -33,7 +33,8 @@ use Rattle.syntect_contexts.specs.declared.error.ParsingError.TheVariants as err
 abbrev pub Known : SyntaxSet → Level → Type 0
 Known set l = Each (Has set) (l.context ∷ l.prototypes)
 
--- the lowest level is that of the context and has no prototypes, and the set has all that the levels name
+-- the lowest level is that of the context and has no prototypes, and the set has all that the
+-- levels name
 pub record Stands (set : SyntaxSet) (id : ContextId) (levels : List Level) : Type 0 where
   pub first : Level
   pub rest : List Level

@@ -24,8 +24,9 @@ use Rattle.syntect_parsing.specs.States.{Standing}
 use Rattle.syntect_contexts.specs.declared.error.ParsingError.{ParsingError}
 use Rattle.syntect_contexts.specs.declared.error.ParsingError.TheVariants as error
 
--- from the stack before the line these operations show these bytes, up to the position, and leave its open scopes; the turns
--- made since the number before the line are the first ones of its reading
+-- from the stack before the line these operations show these bytes, up to the position, and leave
+-- its open scopes; the turns made since the number before the line are the first
+-- ones of its reading
 pub record ReadSoFar (set : SyntaxSet) (line : List ℕ) (old : Standing) (p : Position) (ops : List (ℕ × ScopeStackOp)) (before made told : ℕ) : Type 0 where
   pub count : CountSoFar set line old p before made told
   pub bytes : List Scopes

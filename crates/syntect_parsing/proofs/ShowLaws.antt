@@ -33,8 +33,8 @@ use Rattle.syntect_contexts.specs.declared.context.MatchOperation.TheVariants as
 use Rattle.syntect_grammar.specs.declared.syntax_set.SyntaxSet.{SyntaxSet}
 use Rattle.syntect_winner.specs.declared.level.Level.{Level}
 
--- From one stack the operations at the start lead to a second, on which the match's scopes and those of its captures stand,
--- and the operations at the end lead from that one to a third.
+-- From one stack the operations at the start lead to a second, on which the match's scopes and
+-- those of its captures stand, and the operations at the end lead from that one to a third.
 pub match_shows : (cs : List Capture) (r : Replay) (place s e : ℕ) (b : List Scopes) (t u v : ScopeStack) (S : Scopes) (below behind : List (ℕ × ScopeStackOp)) → AreLaidOut s e cs → place ≤ s → s ≤ e
     → LeadsTo s below t u → LeadsTo e behind u v → IsAt r place b t
     → IsAt (replay (operations s e S cs below behind) r) e (b ++ (replicate (s - place) t.scopes ++ map (λ k. (u.scopes ++ S) ++ over (covers k) cs) (range_with_len s (e - s)))) v
@@ -140,7 +140,8 @@ set_behind set at low M C refs = by (none (contents set refs)) (length M + lengt
 
 -- ---- a match of any kind ----
 
--- where a match stands, its operations lead from the stack of the levels over one that has the base to that of the next levels
+-- where a match stands, its operations lead from the stack of the levels over one that has the base
+-- to that of the next levels
 record Leads (set : SyntaxSet) (line : List ℕ) (m : Live) (s e : ℕ) (levels : List Level) (o : MatchOperation) : Type 0 where
   between : ScopeStack
   has : between.scopes ≡ visible_base set levels o
@@ -196,7 +197,8 @@ module _ (set : SyntaxSet) (line : List ℕ) (m : Live) (s e : ℕ) (levels : Li
 pub moves_on : (set : SyntaxSet) (levels : List Level) (r : Replay) (i j : ℕ) (b : List Scopes) → i ≤ j → IsAt r i b (stack_of set levels) → IsAt r j (b ++ replicate (j - i) (visible set levels)) (stack_of set levels)
 moves_on set levels r i j b l h = rw (← stack_has_visible set levels) (at_move (stack_of set levels).clear_stack r i j b (stack_of set levels).scopes l h)
 
--- an orderly match's operations show the scopes of the bytes up to its end, and leave the stack of the levels behind it
+-- an orderly match's operations show the scopes of the bytes up to its end, and leave the stack of
+-- the levels after it
 pub take_shows : (set : SyntaxSet) (line : List ℕ) (levels : List Level) (place : ℕ) (m : Live) (r : Replay) (b : List Scopes) → AreLaidOut m.start m.end (captures dialect m) → place ≤ m.start → m.start ≤ m.end
     → is_orderly set levels m.pattern.operation ≡ true → IsAt r place b (stack_of set levels)
     → IsAt (replay (operations_of m.start m.end m.pattern.scope (captures dialect m) set levels m.pattern.operation) r) m.end (b ++ scopes_passed dialect set levels place m) (stack_of set (levels_by set line levels m m.pattern.operation))

@@ -86,7 +86,8 @@ module _ {X : Type 0} (n : X → ℕ) where
       by true f rest = let g = tied z y f in let h0 = h.0 in omega (arith, g, h0)
       by false f rest = rest (sym (left_out z y ys f) ∙ e)
 
-  -- two lists that rise are equal where they have the same elements of each number in the same order
+  -- two lists that rise are equal where they have the same elements of each number
+  -- in the same order
   same_rising : (ys zs : List X) → Rises ys → Rises zs → ((x : X) → filter (tie x) ys ≡ filter (tie x) zs) → ys ≡ zs
   same_rising [] [] r q h = refl
   same_rising [] (z ∷ zs) r q h = let e = h z ∙ kept z z zs (tie_of z z refl) in cc

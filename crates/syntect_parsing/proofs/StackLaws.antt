@@ -163,7 +163,7 @@ abbrev pub first_clearing : SyntaxSet → List ContextId → Option ClearAmount
 first_clearing set [] = None
 first_clearing set (id ∷ ids) = clearing set id
 
--- where none clears behind the first
+-- where none clears after the first
 pub enter_orderly : (set : SyntaxSet) (t : ScopeStack) (ids : List ContextId) → clear_nothing set (drop 1 ids) ≡ true
     → fold (enter set) t ids ≡ onto (cleared (first_clearing set ids) t) (flat_map (part_of (λ c. c.meta_scope ++ c.meta_content_scope) set) ids)
 enter_orderly set t [] e = sym (onto_none t)

@@ -20,7 +20,7 @@ use Rattle.syntect_parsing.specs.States.{Standing}
 use Rattle.syntect_contexts.specs.declared.error.ParsingError.{ParsingError}
 use Rattle.syntect_contexts.specs.declared.error.ParsingError.TheVariants as error
 
--- ---- want of memory ----
+-- ---- out of memory ----
 
 -- what holds of a refusal implies what is implied
 pub unless_so : (e : ParsingError) (P Q : Type 0) → (P → Q) → UnlessWanting P e → UnlessWanting Q e
@@ -50,7 +50,8 @@ more_patterns a n most put long l =
 
 -- ---- a line so far ----
 
--- The reading of the line reaches what this position reaches, and the searches of the turns so far are within the bound.
+-- The reading of the line reaches what this position reaches, and the searches of the turns so far
+-- are within the bound.
 pub record StepsSoFar (set : SyntaxSet) (line : List ℕ) (old : Standing) (p : Position) (turns before made : ℕ) : Type 0 where
   pub reached : (q : Position) → Reaches dialect set line p q → Reaches dialect set line (at_start old) q
   pub took : TakesSteps set line old turns before made

@@ -18,18 +18,21 @@ pub data TakesTurns (engine : Engine) (set : SyntaxSet) (line : List ℕ) (state
   to_a_refusal : {e : ParsingError} {turns : ℕ} → RefusesLine engine set line state e turns
       → TakesTurns engine set line state turns
 
--- From the number before the line to the one after it all turns of its reading were made, and no other,
+-- From the number before the line to the one after it all turns of its reading were made,
+-- and no other,
 abbrev pub TakesAll : Engine → SyntaxSet → List ℕ → Standing → ℕ → ℕ → Type 0
 TakesAll engine set line state before after =
     (turns : ℕ) → TakesTurns engine set line state turns → after ≡ before + turns
 
--- and from the number before the line to the one after it at most all turns of its reading were made,
+-- and from the number before the line to the one after it at most all turns of
+-- its reading were made,
 abbrev pub TakesNoMore : Engine → SyntaxSet → List ℕ → Standing → ℕ → ℕ → Type 0
 TakesNoMore engine set line state before after =
     (turns : ℕ) → TakesTurns engine set line state turns → after ≤ before + turns
 
--- No line takes more: a turn for each level that is open; and then, times one more than the longest list of contexts that a
--- match of the set opens, for each byte and the line's end the idle ones and one that moves on.
+-- No line takes more: a turn for each level that is open; and then, times one more than the longest
+-- list of contexts that a match of the set opens, for each byte and the line's end the idle ones
+-- and one that moves on.
 abbrev pub most_turns : SyntaxSet → List ℕ → Standing → ℕ
 most_turns set line state =
     length state.levels + (longest (contexts_of set) + 1) * ((MOST_IDLE + 1) * (length line + 1))

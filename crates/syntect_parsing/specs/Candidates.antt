@@ -52,7 +52,8 @@ record_at place height before (op.Set refs) = before
 record_at place height before op.Pop = before
 record_at place height before op.None = before
 
--- what is taken stands in the line, not before the place, and on character boundaries; what is passed over is in the line
+-- what is taken stands in the line, not before the place, and on character boundaries; what is
+-- passed over is in the line
 abbrev pub StandsChosen : List ℕ → ℕ → Choice → Type 0
 StandsChosen line place (code.Take m) = StandsIn line place m.now.start m.now.end
 StandsChosen line place (code.Skip next) = place + char_len line place < length line
@@ -60,7 +61,8 @@ StandsChosen line place code.End = Unit {0}
 
 -- ---- the scopes of captures, as they are put in order ----
 
--- a mark that pops scopes has the rank 0, one that pushes them a lower one the longer its capture is
+-- a mark that pops scopes has the rank 0, one that pushes them a lower one the
+-- longer its capture is
 abbrev pub end_mark : Capture → ℕ × (ℕ × Scopes)
 end_mark c = (c.end, (0, c.scopes))
 
@@ -85,7 +87,7 @@ AreMarksOf m cs marks = marks_operations marks ≡ capture_operations m.start m.
 
 -- ---- the operations of a match, as the reader of a line keeps it ----
 
--- its own scopes and its captures, between what stands below them and what comes behind
+-- its own scopes and its captures, between what stands below them and what comes after
 abbrev pub operations_between : Candidate → List Capture → List (ℕ × ScopeStackOp)
     → List (ℕ × ScopeStackOp) → List (ℕ × ScopeStackOp)
 operations_between m cs below behind = operations m.start m.end m.pattern.now.scope cs below behind

@@ -30,7 +30,7 @@ AnswersMore =
     → AnswersAll engine set lines state answers next → Answers engine set line next answer after
     → AnswersAll engine set (lines ++ line ∷ []) state (answers ++ answer ∷ []) after
 
--- The answers to some lines and those to more lines behind them are the answers to all of them,
+-- The answers to some lines and those to more lines after them are the answers to all of them,
 abbrev pub AnswersJoin : Type 0
 AnswersJoin =
     (engine : Engine) (set : SyntaxSet) (lines more : List (List ℕ))
@@ -50,8 +50,9 @@ AnswersPart =
     × AnswersAll engine set lines state answers between
     × AnswersAll engine set more between others after
 
--- The whole match stands from the start to the end. Each group of a match that stands in no lookaround lies in it, on
--- character boundaries, and each two of these groups are apart or one in the other.
+-- The whole match stands from the start to the end. Each group of a match that stands in no
+-- lookaround lies in it, on character boundaries, and each two of these groups are apart or one in
+-- the other.
 pub record LaysOut (engine : Engine) (pattern text : List ℕ) (groups : Groups) : Type 0 where
   pub start : ℕ
   pub end : ℕ
@@ -68,7 +69,8 @@ LaysGroupsOut engine = (pattern text : List ℕ) (place : ℕ) (groups : Groups)
     → IsUtf8 text → engine.found pattern text place ≡ Some groups
     → LaysOut engine pattern text groups
 
--- If what the first accepted line pushes makes the stack that of the levels, that holds before each line.
+-- If what the first accepted line pushes makes the stack that of the levels,
+-- that holds before each line.
 abbrev pub StackIsOpen : Type 0
 StackIsOpen =
     (engine : Engine) (set : SyntaxSet) (lines : List (List ℕ)) (state after : Standing)

@@ -22,7 +22,8 @@ use Rattle.syntect_winner.specs.declared.position.Position.{Position}
 use Rattle.syntect_contexts.specs.declared.error.ParsingError.{ParsingError}
 use Rattle.syntect_contexts.specs.declared.error.ParsingError.TheVariants as error
 
--- What a turn makes: the scopes of the bytes that it passed, and how it goes on. Or the line is refused.
+-- What a turn makes: the scopes of the bytes that it passed, and how it goes on.
+-- Or the line is refused.
 pub data Step : Type 0 where
   Goes : List Scopes → Position → Step
   Ends : List Scopes → Standing → Step
@@ -60,7 +61,8 @@ module _ (engine : Engine) where
       Goes (replicate (char_len line p.place) (visible set p.levels)) (skipped line p)
   step set line p End = ended set line p
 
-  -- a turn on this top level, whose context the set may lack: the chain's prototypes have to be in the set too
+  -- a turn on this top level, whose context the set may lack: the chain's prototypes have to be in
+  -- the set too
   abbrev pub turn_in : SyntaxSet → List ℕ → Position → Level → Option Context → Step
   turn_in set line p top None = Refused (error.MissingContext top.context)
   turn_in set line p top (Some c) =
@@ -76,7 +78,8 @@ module _ (engine : Engine) where
   unfoldable pub turn : SyntaxSet → List ℕ → Position → Step
   turn set line p = turn_on set line (trimmed p) (last p.levels)
 
-  -- The turns from a position on up to the end: the scopes of each byte, the state left, and how many turns.
+  -- The turns from a position on up to the end: the scopes of each byte, the state left, and how
+  -- many turns.
   pub data Reads (set : SyntaxSet) (line : List ℕ) : Position → List Scopes → Standing → ℕ
       → Type 0 where
     ends : {p : Position} {bytes : List Scopes} {after : Standing}
@@ -156,8 +159,8 @@ first_push set state =
     then take 1 (option_map_or (λ l. part_of (λ c. c.meta_content_scope) set l.context)
     (last state.levels) []) else []
 
--- what has to hold for the operations to show the open scopes on a first line, and holds on each later one: `__start` clears
--- nothing, has no `meta_scope` and at most one content scope
+-- what has to hold for the operations to show the open scopes on a first line, and holds on each
+-- later one: `__start` clears nothing, has no `meta_scope` and at most one content scope
 abbrev pub HasPlainStart : SyntaxSet → Standing → Type 0
 HasPlainStart set state =
     onto (stack_before set state) (first_push set state) ≡ stack_of set state.levels

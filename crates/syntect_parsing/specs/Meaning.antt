@@ -14,10 +14,11 @@ use Rattle.syntect_parsing.specs.States.{Standing}
 use Rattle.syntect_contexts.specs.declared.error.ParsingError.{ParsingError}
 use Rattle.syntect_contexts.specs.declared.error.ParsingError.TheVariants as error
 
--- The operations of an accepted line are in order, and the first accepted line begins with the first content scope of
--- `__start`. They all apply to a stack that remembers at least a list for each level that clears, and leave such a one. Where the
--- first push makes the stack that of the levels and the line is orderly, from the stack before the line they show at each byte
--- the scopes that were read, and leave the stack before the next line, which is that of its levels.
+-- The operations of an accepted line are in order, and the first accepted line begins with the
+-- first content scope of `__start`. They all apply to a stack that remembers at least a list for
+-- each level that clears, and leave such a one. Where the first push makes the stack that of the
+-- levels and the line is orderly, from the stack before the line they show at each byte the scopes
+-- that were read, and leave the stack before the next line, which is that of its levels.
 pub record Means (engine : Engine) (set : SyntaxSet) (line : List ℕ) (old new : Standing)
     (bytes : List Scopes) (ops : List (ℕ × ScopeStackOp)) : Type 0 where
   pub order : InOrder line 0 ops (length line)
@@ -37,7 +38,8 @@ pub record Accepts (engine : Engine) (set : SyntaxSet) (line : List ℕ) (old ne
   pub reads : ReadsLine engine set line old bytes new turns
   pub means : Means engine set line old new bytes ops
 
--- the refusal that the reading comes to; or want of memory, but not where no level is open, as no turn is made there
+-- the refusal that the reading comes to; or lack of memory, but not where no level is open, as no
+-- turn is made there
 abbrev pub MayRefuse : Engine → SyntaxSet → List ℕ → Standing → ParsingError → Type 0
 MayRefuse engine set line state error.Memory = state.levels ≢ []
 MayRefuse engine set line state e = (turns : ℕ) × RefusesLine engine set line state e turns

@@ -37,7 +37,8 @@ abbrev pub StackHasVisible : Type 0
 StackHasVisible =
     (set : SyntaxSet) (levels : List Level) → (stack_of set levels).scopes ≡ visible set levels
 
--- Where nothing clears, the visible scopes are the open ones, what stands below a match is too, and stacks remember nothing.
+-- Where nothing clears, the visible scopes are the open ones, what stands below a match is too, and
+-- stacks remember nothing.
 abbrev pub OpenIsVisible : Type 0
 OpenIsVisible = (set : SyntaxSet) (levels : List Level) → ClearsNothing set
     → (visible set levels ≡ open_scopes set levels)

@@ -14,8 +14,8 @@ use Rattle.syntect_contexts.specs.declared.context.MatchOperation.TheVariants as
 use Rattle.syntect_grammar.specs.declared.syntax_set.SyntaxSet.{SyntaxSet}
 use Rattle.syntect_winner.specs.declared.level.Level.{Level}
 
--- At a place the captures that end there are popped in the order of the list, each by one operation. Then those that begin
--- there are pushed, longer ones first.
+-- At a place the captures that end there are popped in the order of the list, each by one
+-- operation. Then those that begin there are pushed, longer ones first.
 abbrev pub captures_at : List Capture → ℕ → List (ℕ × ScopeStackOp)
 captures_at cs place =
     map (λ c. (place, Pop (length c.scopes))) (filter (λ c. c.end == place) cs)
@@ -31,8 +31,9 @@ top_count set levels =
     length (top_part (λ c. c.meta_scope) set levels)
     + length (top_part (λ c. c.meta_content_scope) set levels)
 
--- At a match's start, below its own scopes. A push opens its contexts; a set puts back what the context that it leaves
--- cleared, and pushes the `meta_scope`s of its own, which don't clear yet; a pop takes the content scopes off.
+-- At a match's start, below its own scopes. A push opens its contexts; a set puts back what the
+-- context that it leaves cleared, and pushes the `meta_scope`s of its own, which don't clear yet; a
+-- pop takes the content scopes off.
 abbrev pub operations_below : ℕ → SyntaxSet → List Level → MatchOperation → List (ℕ × ScopeStackOp)
 operations_below at set levels (op.Push refs) = all_below at set refs
 operations_below at set levels (op.Set refs) =
@@ -41,14 +42,15 @@ operations_below at set levels op.Pop =
     pops at (length (top_part (λ c. c.meta_content_scope) set levels))
 operations_below at set levels op.None = []
 
--- After a push, at the match's end: where the new contexts have content scopes, these come between their `meta_scope`s, so
--- that they are popped and pushed anew.
+-- After a push, at the match's end: where the new contexts have content scopes, these come between
+-- their `meta_scope`s, so that they are popped and pushed anew.
 abbrev pub operations_pushed : ℕ → SyntaxSet → List ContextReference → List (ℕ × ScopeStackOp)
 operations_pushed at set refs =
     if none (contents set refs) then []
     else pops at (length (metas set refs)) ++ pushes at (opens set refs)
 
--- After a set: the same, with the scopes of the context that it leaves, where that one has some or a new one clears.
+-- After a set: the same, with the scopes of the context that it leaves, where that one has some or
+-- a new one clears.
 abbrev pub operations_set : ℕ → SyntaxSet → ℕ → List ContextReference → List (ℕ × ScopeStackOp)
 operations_set at set left refs =
     if none (contents set refs) && ((left == 0) && clear_nothing set (filter_map target refs))
@@ -64,7 +66,8 @@ operations_behind at set levels op.Pop =
     ++ restores at (top_clearing set levels)
 operations_behind at set levels op.None = []
 
--- the scopes of a match stand on top of what is opened at its start, and its captures on top of them
+-- the scopes of a match stand on top of what is opened at its start,
+-- and its captures on top of them
 abbrev pub operations : ℕ → ℕ → Scopes → List Capture → List (ℕ × ScopeStackOp)
     → List (ℕ × ScopeStackOp) → List (ℕ × ScopeStackOp)
 operations start end scope captures below behind =

@@ -16,8 +16,8 @@ use Rattle.syntect_winner.specs.declared.position.Position.{Position}
 use Rattle.syntect_parsing.specs.States.{Standing}
 use Rattle.syntect_winner.specs.declared.level.Level.{Level}
 
--- no context of a push or set clears behind its first, and a set leaves no context that clears: then what is cleared is put back
--- in order
+-- no context of a push or set clears after its first, and a set leaves no context that clears: then
+-- what is cleared is put back in order
 abbrev pub is_orderly : SyntaxSet → List Level → MatchOperation → Bool
 is_orderly set levels (op.Push refs) = clear_nothing set (drop 1 (filter_map target refs))
 is_orderly set levels (op.Set refs) =
@@ -35,7 +35,8 @@ abbrev pub IsOrderlyLine : Engine → SyntaxSet → List ℕ → Standing → Ty
 IsOrderlyLine engine set line state =
     (p : Position) → Reaches engine set line (at_start state) p → IsOrderlyTurn engine set line p
 
--- so is each of these lines that is accepted, read one after another from this state; those that are refused leave no trace
+-- so is each of these lines that is accepted, read one after another from this state; those that
+-- are refused leave no trace
 abbrev pub IsOrderlyRun : Engine → SyntaxSet → List (List ℕ) → Standing → Type 0
 IsOrderlyRun engine set lines state =
     (before behind : List (List ℕ)) (line : List ℕ) (answers : List Answer)

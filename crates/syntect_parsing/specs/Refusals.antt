@@ -1,4 +1,5 @@
--- Where lines are refused: at a picked match that names a reference without target, and nowhere else.
+-- Where lines are refused: at a picked match that names a reference without target,
+-- and nowhere else.
 pub use Rattle.syntect_loader.specs.Named.{is_direct, NamesNoNumber, KnowNoNumber, AreByName}
 use Rattle.std.specs.Prelude.{◌≡◌, ℕ, Bool, true, false, List, [], ◌∷◌, ◌++◌, find, Option, Some, None, is_none}
 use Rattle.std.specs.List.{filter_map, flat_map, list_all}
@@ -43,7 +44,8 @@ pub record Picks (engine : Engine) (set : SyntaxSet) (line : List ℕ) (p : Posi
 abbrev pub unresolved_of : MatchPattern → Option ContextReference
 unresolved_of m = find (λ r. is_none (target r)) (named m)
 
--- A turn of the line picks a match that names this reference, the first of its references that have no target.
+-- A turn of the line picks a match that names this reference, the first of its references that have
+-- no target.
 pub record PicksUnresolved (engine : Engine) (set : SyntaxSet) (line : List ℕ) (state : Standing)
     (r : ContextReference) : Type 0 where
   pub at : Position
@@ -60,7 +62,8 @@ NamesUnresolved engine set line state e =
 
 -- ---- sets in which nothing else refuses ----
 
--- each match of these entries names contexts that the set has, as far as its references have a target
+-- each match of these entries names contexts that the set has,
+-- as far as its references have a target
 abbrev pub NamesKnown : SyntaxSet → List Pattern → Type 0
 NamesKnown set [] = Unit {0}
 NamesKnown set (Match m ∷ ps) =
@@ -87,14 +90,14 @@ lone_patterns set id =
     flat_map (λ q. patterns_of set q) (part_of (λ c. option_to_list c.prototype) set id)
     ++ patterns_of set id
 
--- The set has the context of this number, and nothing that is looked at in it alone pops it or sets another in its place:
--- a text that begins in it never leaves it.
+-- The set has the context of this number, and nothing that is looked at in it alone pops it or sets
+-- another in its place: a text that begins in it never leaves it.
 pub record IsNeverLeft (set : SyntaxSet) (id : ContextId) : Type 0 where
   pub there : is_none (context_at set id) ≡ false
   pub stay : list_all (λ m. stays m.operation) (lone_patterns set id) ≡ true
 
--- From the start in a context that is never left, a line is refused exactly where a picked match names a reference
--- without target, with the refusal of that reference.
+-- From the start in a context that is never left, a line is refused exactly where a picked match
+-- names a reference without target, with the refusal of that reference.
 abbrev pub RefusesUnresolved : Type 0
 RefusesUnresolved =
     (engine : Engine) (set : SyntaxSet) (id : ContextId) (lines : List (List ℕ))
@@ -107,7 +110,8 @@ RefusesUnresolved =
 
 -- ---- definitions whose sets are so ----
 
--- A set whose syntaxes are definitions linked to one another, all of whose references are by name, is closed.
+-- A set whose syntaxes are definitions linked to one another, all of whose references are by name,
+-- is closed.
 abbrev pub LinksClosed : Type 0
 LinksClosed = (set : SyntaxSet) (definitions : List SyntaxDefinition)
     → syntaxes_in set ≡ linked definitions → AreByName definitions → IsClosed set

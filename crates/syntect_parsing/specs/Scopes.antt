@@ -33,8 +33,8 @@ longer_first (c ∷ cs) = put c (longer_first cs)
 module _ (engine : Engine) where
   open engine use {in_lookaround}
 
-  -- a capture of the group of this number, which stands here if it was set: empty stretches, stretches that reach out
-  -- of the match, and groups of lookarounds give no scopes
+  -- a capture of the group of this number, which stands here if it was set: empty stretches,
+  -- stretches that reach out of the match, and groups of lookarounds give no scopes
   abbrev pub effect : Live → ℕ → Scopes → Option (ℕ × ℕ) → Option Capture
   effect m group scopes None = None
   effect m group scopes (Some at) =
@@ -48,13 +48,15 @@ module _ (engine : Engine) where
       filter_map (λ entry. effect m entry.0 entry.1 (group_at m.groups entry.0))
       (unwrap_or m.pattern.captures [])
 
-  -- the scopes of a byte inside a match: this base, the match's scopes, those of the captures over the byte
+  -- the scopes of a byte inside a match: this base, the match's scopes, those of the captures over
+  -- the byte
   abbrev pub scopes_at : Scopes → Live → ℕ → Scopes
   scopes_at below m place =
       below ++ m.pattern.scope
       ++ flat_map (λ c. c.scopes) (longer_first (filter (covers place) (captures m)))
 
-  -- the scopes of each byte that a turn with this match passes: those before the match have the visible ones
+  -- the scopes of each byte that a turn with this match passes: those before the match have the
+  -- visible ones
   abbrev pub scopes_passed : SyntaxSet → List Level → ℕ → Live → List Scopes
   scopes_passed set levels place m =
       replicate (m.start - place) (visible set levels)

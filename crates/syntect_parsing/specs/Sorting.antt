@@ -1,7 +1,7 @@
 -- A stable sort by a number.
 use Rattle.std.specs.Prelude.{ℕ, nat_lt, List, [], ◌∷◌, if◌then◌else◌}
 
--- an element put behind those of lower numbers
+-- an element put after those of lower numbers
 abbrev pub put_behind : {X : Type 0} → (X → ℕ) → X → List X → List X
 put_behind n x [] = x ∷ []
 put_behind n x (y ∷ ys) = if nat_lt (n y) (n x) then y ∷ put_behind n x ys else x ∷ y ∷ ys

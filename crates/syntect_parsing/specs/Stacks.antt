@@ -22,7 +22,8 @@ abbrev pub cleared : Option ClearAmount → ScopeStack → ScopeStack
 cleared None stack = stack
 cleared (Some amount) stack = applied (Clear amount) stack
 
--- a context on a stack: it clears first, and then puts its `meta_scope` and its `meta_content_scope` there
+-- a context on a stack: it clears first, and then puts its `meta_scope` and its
+-- `meta_content_scope` there
 abbrev pub enter : SyntaxSet → ScopeStack → ContextId → ScopeStack
 enter set stack id =
     onto (cleared (clearing set id) stack)

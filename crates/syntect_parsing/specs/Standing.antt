@@ -21,8 +21,8 @@ GiveScopes [] = Unit {0}
 GiveScopes (Accepted bytes ∷ answers) = HaveScopes bytes × GiveScopes answers
 GiveScopes (RefusedBy e ∷ answers) = GiveScopes answers
 
--- From the start in a context that is never left and has a scope of its own, in a set that clears nothing, each byte of
--- each line that is accepted has a scope.
+-- From the start in a context that is never left and has a scope of its own, in a set that clears
+-- nothing, each byte of each line that is accepted has a scope.
 abbrev pub BytesHaveScopes : Type 0
 BytesHaveScopes =
     (engine : Engine) (set : SyntaxSet) (id : ContextId) (lines : List (List ℕ))

@@ -16,8 +16,9 @@ use Rattle.syntect_winner.specs.declared.position.Position.{Position}
 use Rattle.syntect_contexts.specs.declared.error.ParsingError.{ParsingError}
 use Rattle.syntect_contexts.specs.declared.error.ParsingError.TheVariants as error
 
--- The step goes on to q, and these operations were added. They apply to any stack that remembers a list for each level that
--- clears, and leave such a one; where the step is orderly, they show the scopes that it gives.
+-- The step goes on to q, and these operations were added. They apply to any stack that remembers a
+-- list for each level that clears, and leave such a one; where the step is orderly, they show the
+-- scopes that it gives.
 pub record MakesStep (orderly : Type 0) (set : SyntaxSet) (line : List ℕ) (step : Step)
     (p q : Position) (old new : List (ℕ × ScopeStackOp)) : Type 0 where
   pub bytes : List Scopes
@@ -50,7 +51,7 @@ Turns engine set line p q old new true =
     MakesStep (IsOrderlyTurn engine set line p) set line (turn engine set line p) p q old new
 Turns engine set line p q old new false = EndsLine engine set line p q old new
 
--- want of memory, or the step's refusal
+-- lack of memory, or the step's refusal
 abbrev pub RefusesStep : Step → ParsingError → Type 0
 RefusesStep step error.Memory = Unit {0}
 RefusesStep step e = step ≡ Refused e

@@ -24,7 +24,8 @@ use Rattle.syntect_winner.specs.declared.position.Position.{Position}
 abbrev pub uses_backrefs : SyntaxSet → ContextId → Bool
 uses_backrefs set id = option_map_or (λ c. c.uses_backrefs) (context_at set id) false
 
--- a new level keeps its opening match where its context or one of its prototypes uses back references
+-- a new level keeps its opening match where its context or one of its
+-- prototypes uses back references
 abbrev pub new_level : SyntaxSet → Opening → ContextId → List ContextId → Level
 new_level set opening id prototypes =
     record {
@@ -52,7 +53,8 @@ opened set line m kept refs =
     new_levels set (record { region = m.groups; line = line }) kept
     (option_and_then target m.pattern.with_prototype) (filter_map target refs)
 
--- a push adds levels, a set first takes the top level off and keeps its prototypes, a pop takes it off
+-- a push adds levels, a set first takes the top level off and keeps its prototypes,
+-- a pop takes it off
 abbrev pub levels_by : SyntaxSet → List ℕ → List Level → Live → MatchOperation → List Level
 levels_by set line levels m (op.Push refs) = levels ++ opened set line m [] refs
 levels_by set line levels m (op.Set refs) =

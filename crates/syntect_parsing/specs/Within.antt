@@ -43,7 +43,8 @@ pub record ComesTo (engine : Engine) (set : SyntaxSet) (line : List ℕ) (state 
   pub place_is : position.place ≡ place
   pub levels_are : length position.levels ≡ levels
 
--- where a limit is told, the line's reading comes to that place: with so many open levels, if it is theirs
+-- where a limit is reported, the line's reading comes to that place: with so many open levels, if
+-- it is theirs
 abbrev pub IsThere : Engine → SyntaxSet → List ℕ → Standing → LineLimit → Type 0
 IsThere engine set line state (Steps context index place) = Unit {0}
 IsThere engine set line state (Turns place) =
@@ -52,7 +53,8 @@ IsThere engine set line state (Levels place levels) = ComesTo engine set line st
 IsThere engine set line state (Operations place operations) =
     (levels : ℕ) × ComesTo engine set line state place levels
 
--- a refusal that may come without limits; or a limit was reached, but not where no level is open, as no turn is made there
+-- a refusal that may come without limits; or a limit was reached, but not where no level is open,
+-- as no turn is made there
 abbrev pub MayRefuseWithin : Engine → SyntaxSet → List ℕ → Standing → ReadWithinError → Type 0
 MayRefuseWithin engine set line state (Refused e) = MayRefuse engine set line state e
 MayRefuseWithin engine set line state (LimitReached l) =
@@ -68,8 +70,8 @@ KeepsLevels engine set line state limit =
     (p : Position) → Reaches engine set line (at_start state) p
     → IsWithinLimit limit (length p.levels)
 
--- a limit that was reached is that of as many turns, or of as many steps, as were made, or of fewer levels than were open, or of
--- fewer operations than there were
+-- a limit that was reached is that of as many turns, or of as many steps, as were made, or of fewer
+-- levels than were open, or of fewer operations than there were
 abbrev pub ReachesLimit : Limits → ℕ → ℕ → ReadWithinError → Type 0
 ReachesLimit limits turns steps (Refused e) = Unit {0}
 ReachesLimit limits turns steps (LimitReached (Steps context index place)) =
@@ -97,7 +99,7 @@ ReachesHere limits turns r (LimitReached (Levels place levels)) = PassesLimit li
 ReachesHere limits turns r (LimitReached (Operations place operations)) =
     PassesLimit limits.operations operations
 
--- a line stands at a limit after so many turns, as they are told, and with so many operations
+-- a line stands at a limit after so many turns, as they are reported, and with so many operations
 abbrev pub StandsAt : Limits → Position → ℕ → ℕ → LineLimit → Type 0
 StandsAt limits p told made (Steps context index place) = ⊥
 StandsAt limits p told made (Turns place) =
@@ -107,7 +109,7 @@ StandsAt limits p told made (Levels place levels) =
 StandsAt limits p told made (Operations place operations) =
     (p.place ≡ place) × (made ≡ operations) × PassesLimit limits.operations operations
 
--- this holds, unless memory was wanting or a limit was reached
+-- this holds, unless memory ran out or a limit was reached
 abbrev pub UnlessStop : Type 0 → ReadWithinError → Type 0
 UnlessStop P (Refused e) = UnlessWanting P e
 UnlessStop P (LimitReached l) = Unit {0}

@@ -19,8 +19,9 @@ use Rattle.syntect_parsing.specs.States.{Standing}
 use Rattle.syntect_contexts.specs.declared.error.ParsingError.{ParsingError}
 use Rattle.syntect_contexts.specs.declared.error.ParsingError.TheVariants as error
 
--- Each turn of the line's reading looks at no more patterns than this; what is searched for each is linear, a search of it in
--- the line takes no more steps than that, and to put the texts of groups into it no more than the last.
+-- Each turn of the line's reading looks at no more patterns than this; what is searched for each is
+-- linear, a search of it in the line takes no more steps than that, and to put the texts of groups
+-- into it no more than the last.
 abbrev pub LooksWithin : SyntaxSet → List ℕ → Standing → ℕ → ℕ → ℕ → Type 0
 LooksWithin set line state patterns most put =
     (p : Position) → Reaches dialect set line (at_start state) p
@@ -28,7 +29,8 @@ LooksWithin set line state patterns most put =
     × AreWithin (length line) most (chain_at set (trimmed p))
     × ArePutWithin put (chain_at set (trimmed p))
 
--- from the number before the line to the one after it the searches of so many turns took at most those steps of each turn
+-- from the number before the line to the one after it the searches of so many turns took at most
+-- those steps of each turn
 abbrev pub TakesSteps : SyntaxSet → List ℕ → Standing → ℕ → ℕ → ℕ → Type 0
 TakesSteps set line state turns before after = (patterns most put : ℕ)
     → LooksWithin set line state patterns most put
@@ -42,7 +44,8 @@ TakesTurnSteps set line p before after = (most put : ℕ)
 
 -- ---- a bound that the set and the line give ----
 
--- the pattern is searched as it stands, and linear, and a search of it in a text so long takes no more steps than this
+-- the pattern is searched as it stands, and linear, and a search of it in a text so long takes no
+-- more steps than this
 pub record IsPlainWithin (long most : ℕ) (m : MatchPattern) : Type 0 where
   pub plain : m.has_captures ≡ false
   pub linear : pattern_is_linear m.regex ≡ true
@@ -61,8 +64,8 @@ HasWalksWithin set each = (id : ContextId) → length (patterns_of set id) ≤ e
 abbrev pub prototypes_of : List Level → ℕ
 prototypes_of levels = length (flat_map (λ l. l.prototypes) levels)
 
--- No turn of the line looks at more patterns: those of each prototype that the open levels brought, and of one more for each
--- turn that there may be, of the top context, and of its own prototype.
+-- No turn of the line looks at more patterns: those of each prototype that the open levels brought,
+-- and of one more for each turn that there may be, of the top context, and of its own prototype.
 abbrev pub most_patterns : SyntaxSet → List ℕ → Standing → ℕ → ℕ
 most_patterns set line state each =
     (prototypes_of state.levels + most_turns set line state + 2) * each
@@ -75,9 +78,9 @@ TakesMostSteps set line state before after =
     + most_turns set line state
     * turn_steps (most_patterns set line state each) most (length line)
 
--- ---- want of memory ----
+-- ---- out of memory ----
 
--- this holds, unless memory was wanting
+-- this holds, unless memory ran out
 abbrev pub UnlessWanting : Type 0 → ParsingError → Type 0
 UnlessWanting P error.Memory = Unit {0}
 UnlessWanting P e = P

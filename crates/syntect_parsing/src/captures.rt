@@ -24,8 +24,8 @@ pub struct Mark<'s> {
     pub scopes: &'s [Scope],
 }
 
-/// Where a group of a match stands, if a capture of it has effect: it was set to a stretch that isn't empty and lies in
-/// the match, and stands in no lookaround of the pattern that was searched.
+/// Where a group of a match stands, if a capture of it has effect: it was set to a stretch that
+/// isn't empty and lies in the match, and stands in no lookaround of the pattern that was searched.
 fn effect(taken: &Taken<'_, '_>, group: usize) -> Option<(usize, usize)>
     ensures stands { (scopes : Scopes)
         → option_map (λ at. record { start = at.0; end = at.1; scopes = scopes }) result
@@ -57,7 +57,8 @@ fn in_lookaround(m: &Candidate<'_>, group: usize) -> bool
     m.regex().group(group).unwrap_or(false)
 }
 
-/// The marks of the captures that have effect, in the order of the list, each with its end before its start.
+/// The marks of the captures that have effect, in the order of the list, each with its end before
+/// its start.
 fn collect_marks<'s>(
     taken: &Taken<'_, '_>,
     captures: &'s [(usize, Seq<Scope>)],
@@ -94,7 +95,8 @@ fn sort_marks(marks: &mut Vec<Mark<'_>>) -> Result<(), AllocError>
     marks.sort_by_key(|m| m.place)
 }
 
-/// What the captures of a match push and pop, in order. Takes no memory where the pattern has no captures.
+/// What the captures of a match push and pop, in order. Takes no memory where the
+/// pattern has no captures.
 pub fn capture_marks<'s>(taken: &Taken<'s, '_>) -> Result<Vec<Mark<'s>>, AllocError>
     ensures { IfOk result (λ v. AreMarksOf taken.now.candidate.now
         (captures dialect (live_of taken.now)) v.items) }

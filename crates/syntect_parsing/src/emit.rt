@@ -31,7 +31,8 @@ fn top_of<'s>(set: &'s SyntaxSet, levels: &[Level]) -> Option<&'s Context>
     set.context_at(levels.last()?.context)
 }
 
-/// How many scopes of both kinds the top level's context has, its `meta_scope`s first, and how much it clears.
+/// How many scopes of both kinds the top level's context has, its `meta_scope`s first, and how much
+/// it clears.
 fn top_counts(set: &SyntaxSet, levels: &[Level]) -> (usize, usize, Option<ClearAmount>)
     ensures metas { result.0 ≡ length (top_part (λ c. c.meta_scope) set.now levels.now) }
     ensures contents { result.1 ≡ length (top_part (λ c. c.meta_content_scope) set.now levels.now) }

@@ -18,14 +18,15 @@ pub fn answers_more()
     ensures { AnswersMore }
 {}
 
-/// If what the first accepted line pushes makes the stack that of the levels, it is so before each line.
+/// If what the first accepted line pushes makes the stack that of the levels,
+/// it is so before each line.
 #[tactic(auto, using(crate::proofs::Open::stack_is_open))]
 pub fn stack_is_open()
     ensures { StackIsOpen }
 {}
 
-/// The groups of a match that stand in no lookaround lie in the match, and each two of them are apart or one in the other:
-/// so their scopes are pushed and popped as on a stack.
+/// The groups of a match that stand in no lookaround lie in the match, and each two of them are
+/// apart or one in the other: so their scopes are pushed and popped as on a stack.
 pub fn dialect_lays_groups_out()
     ensures { LaysGroupsOut dialect }
 {
@@ -33,13 +34,14 @@ pub fn dialect_lays_groups_out()
     syntect_pattern_laws::groups_are_numbered();
 }
 
-/// A text that begins in a context that is never left is refused exactly where a picked match names a reference without
-/// target, with the refusal of that reference.
+/// A text that begins in a context that is never left is refused exactly where a picked match names
+/// a reference without target, with the refusal of that reference.
 pub fn refuses_unresolved()
     ensures { RefusesUnresolved }
 {}
 
-/// A text that begins in a context with a scope that is never left has a scope on each byte of each accepted line.
+/// A text that begins in a context with a scope that is never left has a scope on each byte of each
+/// accepted line.
 #[tactic(auto, using(crate::proofs::StandingLaws::bytes_have_scopes))]
 pub fn bytes_have_scopes()
     ensures { BytesHaveScopes }

@@ -31,7 +31,7 @@ fn uses_backrefs(set: &SyntaxSet, id: ContextId) -> bool
     }
 }
 
-/// Whether one of these is.
+/// Whether one of these contexts is marked as using back references.
 fn any_uses_backrefs(set: &SyntaxSet, ids: &[ContextId]) -> bool
     ensures { result ≡ list_any (uses_backrefs set.now) ids.now }
 {

@@ -1,6 +1,7 @@
 //! How a line is read with grammars that are linked.
 //!
-//! A `ParseState` reads text line by line with a `SyntaxSet`. The modules of grammars are those of `syntect_grammar`.
+//! A `ParseState` reads text line by line with a `SyntaxSet`.
+//! The modules of grammars are those of `syntect_grammar`.
 #![tactic(auto)]
 
 mod captures;

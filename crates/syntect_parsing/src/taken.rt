@@ -8,8 +8,8 @@ use syntect_grammar::syntax_set::SyntaxSet;
 use syntect_regex::region::Region;
 use syntect_winner::search::Candidate;
 
-/// A match that a turn takes: the set that it was found with, the line that it stands in, and its groups, which stand on
-/// boundaries of the line's characters.
+/// A match that a turn takes: the set that it was found with, the line that it stands in, and its
+/// groups, which stand on boundaries of the line's characters.
 #[derive(Clone, Copy)]
 pub struct Taken<'s, 't> {
     pub alloc: Global,

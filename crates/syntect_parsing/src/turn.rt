@@ -52,7 +52,8 @@ fn trim(alloc: Global, p: &mut Position)
     p.cuts = Seq::from_vec(cuts);
 }
 
-/// The best of the matches that a turn has to choose from, once cuts are dropped. The steps of the searches are counted.
+/// The best of the matches that a turn has to choose from, once cuts are dropped. The steps of the
+/// searches are counted.
 fn best_match<'s>(
     reader: &LineReader<'s, '_>,
     regions: &mut Regions,

@@ -8,8 +8,8 @@ use thiserror::Error;
 /// Which limit of a line was reached, and at which place of the line, a byte position.
 #[derive(Clone, Copy, Debug, PartialEq, Eq, Error)]
 pub enum LineLimit {
-    /// The line's searches made as many steps as they may, the last for the pattern at this index of the context; or too few were left
-    /// to put the texts of groups into it.
+    /// The line's searches made as many steps as they may, the last for the pattern at this index
+    /// of the context; or too few were left to put the texts of groups into it.
     #[error("too many steps at byte {place}, for entry {index} of the context with ID '{context:?}'")]
     Steps {
         context: ContextId,
@@ -38,10 +38,10 @@ pub enum LineLimit {
 /// Why a line was not read within limits.
 #[derive(Debug, Drop, PartialEq, Eq, Error)]
 pub enum ReadWithinError {
-    /// It is refused as it is without limits.
+    /// The line is refused as it is without limits.
     #[error("{0}")]
     Refused(ParsingError),
-    /// It reached a limit.
+    /// The line reached a limit.
     #[error("{0}")]
     LimitReached(LineLimit),
 }

@@ -1,4 +1,4 @@
-//! Spans behind a prefix.
+//! Spans with a prefix.
 use crate::found::equal;
 use syntect_classed::spans::line_tokens_to_classed_spans;
 use syntect_classed::style::ClassStyle;

@@ -1,7 +1,8 @@
-//! Tests of the crates that reading stands on, of styles and writers, and of spans with classes, regions, hooks and cleared
-//! scopes that no row of the bench holds, by values from outside.
+//! Tests of the crates that reading stands on, of styles and writers, and of spans with classes,
+//! regions, hooks and cleared scopes that no row of the bench holds, by values from outside.
 //!
-//! They stand in a crate of their own, since a crate that has tests is proved a second time with them.
+//! They stand in a crate of their own, since a crate that has tests is proved a
+//! second time with them.
 #![tactic(auto)]
 
 #[cfg(test)]

@@ -27,7 +27,8 @@ fn references(rt: HostRuntime) {
     holds(&rt, !refers_back("1\\a2\\"));
 }
 
-/// Adds 64 variables, each with a text of uses of the two before it. The uses stand for nothing, where `first` does.
+/// Adds 64 variables, each with a text of uses of the two before it. The uses stand for nothing,
+/// where `first` does.
 fn put_chain(rt: &impl Abort, alloc: Global, table: &mut Table<Text, Text>, first: &str) {
     put(rt, alloc, table, "v0", first);
     put(rt, alloc, table, "v1", "{{v0}}{{v0}}");

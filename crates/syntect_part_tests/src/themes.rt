@@ -63,7 +63,8 @@ fn bytes_that_are_no_text_are_no_theme(rt: HostRuntime) {
     holds(&rt, refused);
 }
 
-/// Rules of which two are refused: one whose last scope has nine atoms, and one whose colour is none. Both have new atoms.
+/// Rules of which two are refused: one whose last scope has nine atoms, and one whose colour is
+/// none. Both have new atoms.
 const WITH_REFUSED_RULES: &str =
     r##"{"settings":[{"settings":{}},{"scope":"a.b","settings":{"foreground":"#010101"}},{"scope":"c.d, 1.2.3.4.5.6.7.8.9","settings":{}},{"scope":"e","settings":{"foreground":"none"}},{"scope":"a.f","settings":{}}]}"##;
 

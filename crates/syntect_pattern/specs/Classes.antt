@@ -58,8 +58,9 @@ member t = do
 abbrev pub ends_side : Text → Bool
 ends_side t = begins "]" t || begins "&&" t
 
--- The character behind the `-` at the front, which makes a range of it, and what follows. There is none where the `-` is
--- last, or stands before a nested class, a POSIX bracket or an escape that is no character.
+-- The character after the `-` at the front, which makes a range of it, and what follows. There is
+-- none where the `-` is last, or stands before a nested class, a POSIX bracket or an escape that is
+-- no character.
 abbrev pub one_only : Member × Text → Option (ℕ × Text)
 one_only (one c, rest) = Some (c, rest)
 one_only (many a, rest) = None
@@ -150,7 +151,7 @@ module _ (fold : Bool) where
   abbrev pub adds : Class → Option (Set × Text) → Option Step
   adds c found = found >>= λ (a, rest). Some (on (with_set c a) rest)
 
-  -- `inner` reads a nested class, from behind its bracket on
+  -- `inner` reads a nested class, from just after its bracket on
   abbrev pub step : (Text → Option (Set × Text)) → Class → Text → Next → Option Step
   step inner c t closing = Some (over (drop 1 t))
   step inner c t intersecting = Some (on (next_side c) (drop 2 t))
@@ -170,7 +171,8 @@ module _ (fold : Bool) where
   abbrev pub negates : Bool → Option (Set × Text) → Option (Set × Text)
   negates caret found = found >>= λ (a, rest). Some (negate_if caret a, rest)
 
-  -- a class that stands in `depth` groups and classes, from behind its bracket on; `more` reads the rest of one
+  -- a class that stands in `depth` groups and classes, from just after its bracket on; `more` reads
+  -- the rest of one
   abbrev pub opened : (ℕ → Class → Text → Option (Set × Text)) → ℕ → Text → Option (Set × Text)
   opened more depth t = do
     nat_lt depth deepest
@@ -178,11 +180,12 @@ module _ (fold : Bool) where
     s ← first_item start.bracket start.rest
     negates start.caret (after_step (more (depth + 1)) empty_class s)
 
-  -- the rest of a class that stands `depth` deep; the number bounds the calls, each of which reads a character
+  -- the rest of a class that stands `depth` deep; the number bounds the calls, each of which reads
+  -- a character
   unfoldable pub class_rest : ℕ → ℕ → Class → Text → Option (Set × Text)
   class_rest zero depth c t = None
   class_rest (suc n) depth c t = step (opened (class_rest n) depth) c t (next_in t) >>= after_step (class_rest n depth) c
 
-  -- a class from behind its bracket on
+  -- a class from just after its bracket on
   unfoldable pub class : ℕ → Text → Option (Set × Text)
   class depth t = opened (class_rest (suc (length t))) depth t

@@ -83,7 +83,8 @@ set_letter c found = Some (set (negate_if (is_ascii_uppercase c) found))
 abbrev pub is_letter_or_digit : ℕ → Bool
 is_letter_or_digit c = in_group Letter (general_category c) || general_category_eq (general_category c) DecimalNumber
 
--- an escape of one character: but for these a letter or digit has none, and any other character is itself
+-- an escape of one character: but for these a letter or digit has none,
+-- and any other character is itself
 unfoldable pub one_letter : ℕ → Option Escape
 one_letter c =
     if c ∈ "wW" then set_letter c word

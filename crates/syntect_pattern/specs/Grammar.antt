@@ -20,7 +20,8 @@ pub record Flags : Type 0 where
 abbrev pub Names : Type 0
 Names = List (Option Text)
 
--- a place in the pattern: the flags that hold there, the groups opened before it, and the text from there on
+-- a place in the pattern: the flags that hold there, the groups opened before it, and the text from
+-- there on
 pub record Place : Type 0 where
   pub flags : Flags
   pub names : Names
@@ -30,7 +31,7 @@ pub record Place : Type 0 where
 abbrev pub forward : ℕ → Place → Place
 forward n p = record p { text = drop n p.text }
 
--- behind white space and comments, as the flag x wants it, and behind notes
+-- after white space and comments, as the flag x wants it, and after notes
 unfoldable pub passed : Place → Option Place
 passed p = option_map (λ t. record p { text = t }) (pass p.flags.spaced between p.text)
 
@@ -73,7 +74,8 @@ abbrev pub is_allowed : ℕ → Option ℕ → Bool
 is_allowed least None = nat_le least 1000
 is_allowed least (Some most) = nat_le least most && nat_le most 1000
 
--- With a `?` right behind it a quantifier is lazy; with a `+` behind `*`, `+` or `?` it gives nothing back.
+-- With a `?` right after it a quantifier is lazy; with a `+` after `*`,
+-- `+` or `?` it gives nothing back.
 unfoldable pub loop : Quantifier → Tree → Text → Tree × Text
 loop q a t =
     if begins "?" t then (repeat false q.least q.most a, drop 1 t)
@@ -87,7 +89,7 @@ looped a p (Some (q, rest)) = do
   let (tree, after) = loop q a rest
   Some (tree, record p { text = after })
 
--- the item with the quantifier behind it, if there is one
+-- the item with the quantifier after it, if there is one
 unfoldable pub quantified : Tree → Place → Option (Tree × Place)
 quantified a p = passed p >>= λ here. looped a here (quantifier here.text)
 
@@ -108,7 +110,8 @@ off_letters t = if not (begins "-" t) then Some ([], t) else (do
   not (is_empty letters)
   Some (letters, after))
 
--- the letters up to `:` or `)`: some that are turned on, then perhaps `-` and some that are turned off
+-- the letters up to `:` or `)`: some that are turned on, then perhaps `-` and some
+-- that are turned off
 unfoldable pub flags_at : Flags → Text → Option (Flags × Text)
 flags_at flags t = do
   let (on, middle) = run (λ c. c ∈ "imx") t
@@ -143,7 +146,7 @@ flag_group p = do
   begins ":" after || begins ")" after
   Some (if begins ")" after then setting else opens (λ a. a), record p { flags = flags; text = drop 1 after })
 
--- from behind the parenthesis up to what stands in the group
+-- from just after the parenthesis up to what stands in the group
 unfoldable pub opening : Place → Option (Opening × Place)
 opening p =
     let t = p.text in
@@ -210,8 +213,8 @@ abbrev pub number_of : Text → Names → Option ℕ
 number_of wanted [] = None
 number_of wanted (found ∷ rest) = if has_name wanted found then Some 1 else option_map suc (number_of wanted rest)
 
--- Back references, which have to name a group of the pattern. `known` has the groups of the whole text, and is None where
--- they are still to be found.
+-- Back references, which have to name a group of the pattern. `known` has the groups of the whole
+-- text, and is None where they are still to be found.
 abbrev pub by_number : Option Names → Bool → ℕ → Option Tree
 by_number None fold n = Some nothing
 by_number (Some known) fold n = nat_le n (length known) >> Some (same fold n)
@@ -241,7 +244,8 @@ module _ (known : Option Names) where
   escaped b p (number n) = by_number known p.flags.fold n >>= λ a. item b a p
   escaped b p (name found) = by_name known p.flags.fold found >>= λ a. item b a p
 
-  -- The group behind its opening; `inner` reads what stands in it up to its end. The flags of the outside come back there.
+  -- The group after its opening; `inner` reads what stands in it up to its end. The flags of the
+  -- outside come back there.
   abbrev pub grouped : (Place → Option (Tree × Place)) → ℕ → Body → Flags → Opening × Place → Option Step
   grouped inner depth b flags (setting, p) = Some (on b p)
   grouped inner depth b flags (opens make, p) = do
@@ -269,8 +273,8 @@ module _ (known : Option Names) where
   after_step more b (over p) = Some (tree_of_body b, p)
   after_step more b (on b' p) = more b' p
 
-  -- What stands in a group, `depth` groups deep, up to its parenthesis or the text's end; `b` is read already. The number
-  -- bounds the calls, each of which reads a character.
+  -- What stands in a group, `depth` groups deep, up to its parenthesis or the text's end; `b` is
+  -- read already. The number bounds the calls, each of which reads a character.
   unfoldable pub body : ℕ → ℕ → Body → Place → Option (Tree × Place)
   body zero depth b p = None
   body (suc n) depth b p =
@@ -283,7 +287,8 @@ module _ (known : Option Names) where
     is_empty last.text
     Some (tree, last.names)
 
--- The tree of the text; none for a text that is no pattern. It is read once for its groups, and then with them.
+-- The tree of the text; none for a text that is no pattern. It is read once for its groups, and
+-- then with them.
 unfoldable pub tree_of : Text → Option Tree
 tree_of text = do
   (_, names) ← whole None text

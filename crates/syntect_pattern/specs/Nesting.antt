@@ -1,4 +1,5 @@
--- How the groups of a match lie, but for those in lookarounds: inside the match, each two of them apart or one in the other.
+-- How the groups of a match lie, but for those in lookarounds: inside the match, each two of them
+-- apart or one in the other.
 use Rattle.std.specs.Prelude.{◌-◌, ◌<◌, Option, ◌≡◌, ℕ, suc, ◌≤◌, Bool, true, false, not, ◌&&◌, Some, List, length, slice_get, IsCharBoundary, IsUtf8}
 use Rattle.syntect_pattern.specs.Trees.{Tree, seq, alt, repeat, group, atomic, ahead, behind, in_look, group_in_look, group_count}
 use Rattle.syntect_pattern.specs.Matches.{Groups, matches, turns, found}
@@ -34,7 +35,8 @@ pub record IsLaidOut (s : List ℕ) (picks : ℕ → Bool) (low high : ℕ) (g :
 abbrev pub outside : Tree → ℕ → Bool
 outside tree n = not (in_look false tree n)
 
--- each group of the tree that stands in a lookaround fails the test; the flag says that the tree does
+-- each group of the tree that stands in a lookaround fails the test;
+-- the flag says that the tree does
 abbrev pub looks_fail : (ℕ → Bool) → Bool → Tree → Bool
 looks_fail picks look (seq a b) = looks_fail picks look a && looks_fail picks look b
 looks_fail picks look (alt a b) = looks_fail picks look a && looks_fail picks look b
@@ -45,8 +47,9 @@ looks_fail picks look (ahead negated a) = looks_fail picks true a
 looks_fail picks look (behind negated a) = looks_fail picks true a
 looks_fail picks look _ = true
 
--- What a search from a place on finds. Group 0 is the whole match. Each group that is set lies in the text and ends on
--- boundaries. The groups that stand in no lookaround lie in the match, and each two of them are nested or disjoint.
+-- What a search from a place on finds. Group 0 is the whole match. Each group that is set lies in
+-- the text and ends on boundaries. The groups that stand in no lookaround lie in the match, and
+-- each two of them are nested or disjoint.
 pub record IsMatch (s : List ℕ) (tree : Tree) (from : ℕ) (g : Groups) : Type 0 where
   pub start : ℕ
   pub end : ℕ

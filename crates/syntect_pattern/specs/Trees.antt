@@ -73,7 +73,8 @@ in_look look (ahead negated a) n = in_look true a n
 in_look look (behind negated a) n = in_look true a n
 in_look look _ n = false
 
--- `Regex::group`: whether the group stands in a lookaround, which group 0, the whole match, never does
+-- `Regex::group`: whether the group stands in a lookaround, which group 0, the whole match,
+-- never does
 abbrev pub group_in_look : Tree → ℕ → Option Bool
 group_in_look tree zero = Some false
 group_in_look tree (suc n) = if has_group tree (suc n) then Some (in_look false tree (suc n)) else None

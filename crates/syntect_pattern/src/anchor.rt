@@ -3,7 +3,7 @@
 /// A place where nothing is read.
 #[derive(Clone, Copy, Debug, PartialEq, Eq)]
 pub enum Anchor {
-    /// The text's start, and behind a newline that isn't last.
+    /// The text's start, and after a newline that isn't last.
     LineStart,
     /// The text's end, and before a newline.
     LineEnd,

@@ -27,7 +27,8 @@ fn first_from(pairs: &[(u32, u32)], number: u32) -> usize
     low
 }
 
-/// The pairs that the character is the first of: those with each other character that simple folding makes equal to it.
+/// The pairs that the character is the first of: those with each other character that simple
+/// folding makes equal to it.
 pub fn pairs_of(c: char) -> &'static [(u32, u32)]
     ensures { (f : ℕ × ℕ → Bool) → list_any (λ p. (p.0 == c) && f p) result.now
         ≡ list_any (λ p. (p.0 == c) && f p) fold_pairs }

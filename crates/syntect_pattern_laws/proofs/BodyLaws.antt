@@ -1,5 +1,5 @@
--- What is read of a group leaves no more of the text than there was, and the number that bounds the reading has no effect
--- where it is above the text's length.
+-- What is read of a group leaves no more of the text than there was, and the number that bounds the
+-- reading has no effect where it is above the text's length.
 use Rattle.std.proofs.Common.{◌≡◌, ℕ, zero, suc, ◌+◌, ◌≤◌, ◌<◌, [], ◌∷◌, length, drop, Option, Some, refl, ap, ◌∙◌, arith}
 use Rattle.std.specs.Prelude.{nat_lt}
 use Rattle.syntect_pattern.specs.Sets.{Set, from_to}

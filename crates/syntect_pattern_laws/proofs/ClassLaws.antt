@@ -1,4 +1,5 @@
--- A class leaves less of the text than there was, and the number that bounds its reading has no effect where it is large enough.
+-- A class leaves less of the text than there was, and the number that bounds its reading has no
+-- effect where it is large enough.
 use Rattle.std.proofs.Common.{◌≡◌, ℕ, zero, suc, ◌+◌, ◌≤◌, ◌<◌, [], ◌∷◌, length, drop, Bool, true, false, Option, Some, None, refl, ap, ◌∙◌, arith}
 use Rattle.std.specs.Prelude.{if◌then◌else◌, nat_lt}
 use Rattle.syntect_pattern.specs.Sets.{Set, negate_if}

@@ -16,8 +16,8 @@ use Rattle.syntect_pattern_laws.proofs.TextLemmas.{boundary-true}
 abbrev pub Step : Type 1
 Step = ℕ → Groups → ℕ → Groups → Type 0
 
--- What a family of steps is closed under; the flag says that the step is made in a lookaround. Groups that stand there
--- fail the test. A lookaround looks from its own place or from a boundary.
+-- What a family of steps is closed under; the flag says that the step is made in a lookaround.
+-- Groups that stand there fail the test. A lookaround looks from its own place or from a boundary.
 pub record IsClosed (s : List ℕ) (picks : ℕ → Bool) (R : Bool → Step) : Type 0 where
   pub here : (b : Bool) (i : ℕ) (g : Groups) → R b i g i g
   pub reads : (b : Bool) (i c : ℕ) (g : Groups) → char_at s i ≡ Some c → R b i g (i + len_utf8 c) g

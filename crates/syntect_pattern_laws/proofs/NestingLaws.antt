@@ -151,7 +151,8 @@ module _ (s : List ℕ) (picks : ℕ → Bool) (text : IsUtf8 s) where
   lays : IsClosed s picks Lays
   lays = record { here = lays-here; reads = lays-read; joins = lays-join; closes = lays-close; looks = lays-look }
 
-  -- from a fine place with fine groups, each member is fine, and each group stays or is set in the match
+  -- from a fine place with fine groups, each member is fine, and each group stays or is
+  -- set in the match
   pub matches-nested : (t : Tree) (i : ℕ) (g : Groups) → looks_fail picks false t ≡ true → Fine i g
       → Each (λ m. Grows i g m.0 m.1 × Fine m.0 m.1) (matches s t i g)
   matches-nested t i g e f =

@@ -13,7 +13,7 @@ first_of : (cs : List ℕ) (c : ℕ) → slice_get cs 0 ≡ Some c → (rest : L
 first_of [] c e = cc
 first_of (d ∷ cs) c e = (cs, ap (λ x. x ∷ cs) (some_same d c e))
 
--- the place behind a character is on a boundary
+-- the place after a character is on a boundary
 pub boundary-past : (s : List ℕ) (i c : ℕ) → IsUtf8 s → IsCharBoundary s i → char_at s i ≡ Some c → IsCharBoundary s (i + len_utf8 c)
 unfolding char_at
 boundary-past s i c u b e =

@@ -62,7 +62,7 @@ module _ (fold : Bool) where
     pub class-shorter : (c' : Class) (r : Text) → step fold (class fold depth) c t (next_in t) ≡ Some (on c' r) → length r < length t
     class-shorter c' r e = let l = (step_at-le fold (class fold depth) (class-le fold depth) c t).fits (on c' r) e in omega arith
 
-  -- what stands behind the beginning
+  -- what comes after the beginning
   after_start : ℕ → Start → Option (Set × Text)
   after_start depth start = first_item fold start.bracket start.rest >>= λ s. negates fold start.caret (after_step fold (rest_of fold (depth + 1)) empty_class s)
 

@@ -25,7 +25,7 @@ use Rattle.syntect_pattern_table.proofs.StartLaws.{char_at-past, char_at-ascii, 
 use Rattle.syntect_pattern_reader.specs.NeedViews.{BeginsIn, IsAmong, IsNeeded, Leads, is_one}
 use Rattle.syntect_pattern_reader.specs.declared.needs.Sought.{Sought}
 
--- -- Matches end behind their place, on boundaries
+-- -- Matches end after their place, on boundaries
 
 abbrev Ends : List ℕ → Bool → Step
 Ends s b i g j h = IsCharBoundary s i → (i ≤ j) × IsCharBoundary s j
@@ -91,7 +91,7 @@ pub need-begin : (p : Places) (next : ℕ → Bool) → ((x : ℕ) → next x �
 need-begin p next n t known s i g u at absent =
     dead s u p t known i at (and-no (is_in p (start_at s i)) (next (start_at s (suc i))) (absent i (omega arith)) (n (start_at s (suc i)))) g
 
--- of a character of ASCII and what stands behind it a match needs both, side by side
+-- of a character of ASCII and what comes after it a match needs both, side by side
 pub need-pair : (p q : Places) (x y : Tree) → is_one x ≡ true → p.wide ≡ false → BeginsIn p x → BeginsIn q y → Needs (is_in p) (is_in q) (seq x y)
 need-pair p q nothing y one narrow first second s i g u at absent = cc
 need-pair p q (anchor _) y one narrow first second s i g u at absent = cc
@@ -199,11 +199,11 @@ none_left (c ∷ cs) e = absurd (omega (arith, e))
 pub letter-begins : (p : Places) (a : Set) → ((x : ℕ) → x < 130 → is_in p x ≡ can_hold a x) → BeginsIn p (one_of a)
 letter-begins p a h x l = h x l ∙ sym (none-more (can_hold a x))
 
--- and one of it with anything behind it
+-- and one of it with anything after it
 pub letters-begin : (p : Places) (a : Set) (t : Tree) → ((x : ℕ) → x < 130 → is_in p x ≡ can_hold a x) → BeginsIn p (seq (one_of a) t)
 letters-begin p a t h x l = h x l ∙ sym (none-more (can_hold a x)) ∙ sym (none-more (can_hold a x || false))
 
--- what stands behind letters is needed with them
+-- what comes after letters is needed with them
 pub need-behind : (here next : ℕ → Bool) (fold : Bool) (cs : List ℕ) (t : Tree) → Needs here next t → Needs here next (letters_tree fold cs t)
 need-behind here next fold [] t n = n
 need-behind here next fold (c ∷ cs) t n = need-second here next (one_of (from_to fold c c)) (letters_tree fold cs t) (need-behind here next fold cs t n)
@@ -216,7 +216,7 @@ need-letters x q fold first second others more u e pair known =
     subst (λ (cs : List ℕ). IsNeeded x (letters_tree fold (first ∷ cs) u)) (sym e)
     (pair (letters_tree fold (second ∷ more) u) (letters-begin q (from_to fold second second) (letters_tree fold more u) known))
 
--- letters behind the first one are needed with it
+-- letters after the first one are needed with it
 pub leads-letters : (fold : Bool) (first second : ℕ) (others more : List ℕ) (u t : Tree) → others ≡ second ∷ more → Leads (letters_tree fold (first ∷ others) u) t
     → Leads (letters_tree fold (second ∷ more) u) t
 leads-letters fold first second others more u t e leads here next n =

@@ -72,7 +72,7 @@ refer-is known b c u names more rest o s q f n r =
 abbrev place_at : grammar.Flags → Names → Text → grammar.Place
 place_at flags names text = record { flags = flags; names = names; text = text }
 
--- an item behind a group, in a table that has grown
+-- an item after a group, in a table that has grown
 pub item-behind : (known : Option Names) (b c : grammar.Body) (t u : Tree) (flags : grammar.Flags) (names more : Names) (text v : Text) (s : Option grammar.Step)
     → u ≡ t → c ≡ b → more ≡ names → v ≡ text → grammar.item known c u (record { flags = flags; names = more; text = v }) ≡ s
     → grammar.item known b t (record { flags = flags; names = names; text = text }) ≡ s

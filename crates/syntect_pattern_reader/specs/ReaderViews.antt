@@ -34,7 +34,8 @@ tree_as r found = option_map (λ f. (tree_in r.builder.nodes f.0, place_as r.nam
 abbrev pub Keeps : Bool → Bool → Type 0
 Keeps before after = before ≡ true → after ≡ true
 
--- The groups that were known may be taken for these: they are the same, or no back reference was met.
+-- The groups that were known may be taken for these: they are the same,
+-- or no back reference was met.
 abbrev pub Serves : Bool → Option Names → Option Names → Type 0
 Serves refers known these = refers ≡ true → known ≡ these
 
@@ -42,7 +43,7 @@ Serves refers known these = refers ≡ true → known ≡ these
 abbrev pub WithGroups : Reader → Option Names → (Option Names → Type 0) → Type 0
 WithGroups r known Holds = (groups : Option Names) → Serves r.refers known groups → Holds groups
 
--- how what stands in a group is read, from the place behind its opening
+-- how what stands in a group is read, from the place after its opening
 abbrev pub Inner : Type 0
 Inner = grammar.Place → Option (Tree × grammar.Place)
 
@@ -50,7 +51,7 @@ Inner = grammar.Place → Option (Tree × grammar.Place)
 abbrev pub inner_of : Option Names → ℕ → Inner
 inner_of known depth = body_of known (depth + 1) grammar.empty_body
 
--- what the grammar reads from the place on, behind what is read of the group
+-- what the grammar reads from the place on, after what is read of the group
 module _ (old new : Reader) (body : Body) (place : Place) where
   -- this reading of the grammar goes on to what was found
   abbrev pub GoesOn : (grammar.Body → grammar.Place → Option grammar.Step)

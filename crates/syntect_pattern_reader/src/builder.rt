@@ -14,7 +14,7 @@ use syntect_pattern_words::members::Leaf;
 use syntect_pattern_words::tokens::Looping;
 use syntect_values::seq::Seq;
 
-/// The nodes so far, each behind its parts.
+/// The nodes so far, each after its parts.
 #[derive(Drop)]
 pub struct Builder {
     pub nodes: Seq<Node>,
@@ -30,7 +30,7 @@ pub enum Item {
     Letter { fold: bool, letter: u8 },
 }
 
-/// The end of a sequence: letters, if there are some, and the node at the place behind them.
+/// The end of a sequence: letters, if there are some, and the node at the place after them.
 #[derive(Clone, Copy)]
 struct End {
     letters: Option<Letters>,
@@ -59,7 +59,7 @@ impl Builder {
     ghost use Rattle.syntect_pattern_table.specs.Builder.{Grows, Holds, tree_in};
     ghost use Rattle.syntect_pattern_reader.specs.JoinViews.{AllBelow, AreItemsIn, IsEnd, IsItemIn, IsItemOf, end_tree, item_tree, item_trees, trees_in};
 
-    /// Puts a node last.
+    /// Appends a node.
     pub fn push(&mut self, node: Node) -> Result<usize, AllocError>
         requires { parts_before (length self.old.nodes) node ≡ true }
         ensures grows { OnOk result (Grows self.old.nodes self.new.nodes) }
@@ -71,7 +71,8 @@ impl Builder {
         Ok(place)
     }
 
-    /// Puts all branches together, one of which is tried after the other. They are taken off, and their memory stays.
+    /// Puts all branches together, one of which is tried after the other. They are taken off, and
+    /// their memory stays.
     pub fn branches(&mut self, parts: &mut Seq<usize>) -> Result<usize, AllocError>
         requires { AllBelow (length self.old.nodes) parts.old }
         ensures grows { OnOk result (Grows self.old.nodes self.new.nodes) }
@@ -150,7 +151,7 @@ impl Builder {
         }
     }
 
-    /// Puts all items together, one of which stands behind the other. They are taken off, and their memory stays.
+    /// Puts all items together, one after the other. They are taken off, and their memory stays.
     pub fn sequence(&mut self, items: &mut Seq<Item>) -> Result<usize, AllocError>
         requires { AreItemsIn (length self.old.nodes) items.old }
         ensures grows { OnOk result (Grows self.old.nodes self.new.nodes) }
@@ -171,7 +172,7 @@ impl Builder {
         self.push_end(end)
     }
 
-    /// Puts a class last.
+    /// Appends a class.
     pub fn push_class(&mut self, sets: SetBuilder, root: usize) -> Result<usize, AllocError>
         ensures grows { OnOk result (Grows self.old.nodes self.new.nodes) }
         ensures holds { IfOk result (λ k. Holds self.new.nodes k
@@ -182,7 +183,7 @@ impl Builder {
         self.push(Node::Class(class))
     }
 
-    /// Puts a set of characters last.
+    /// Appends a set of characters.
     pub fn push_leaf(&mut self, leaf: Leaf) -> Result<usize, AllocError>
         ensures grows { OnOk result (Grows self.old.nodes self.new.nodes) }
         ensures holds { IfOk result (λ k. Holds self.new.nodes k (one_of (leaf_set leaf))) }
@@ -197,7 +198,7 @@ impl Builder {
         self.push_class(sets, root)
     }
 
-    /// Puts a character last, with `fold` all of equal simple folding.
+    /// Appends a character, with `fold` all of equal simple folding.
     pub fn push_char(&mut self, fold: bool, c: char) -> Result<usize, AllocError>
         ensures grows { OnOk result (Grows self.old.nodes self.new.nodes) }
         ensures holds { IfOk result (λ k. Holds self.new.nodes k (one_of (from_to fold c c))) }
@@ -228,7 +229,7 @@ impl Builder {
         Ok(Item::Node(self.push_char(fold, c)?))
     }
 
-    /// Puts the node of a loop last.
+    /// Appends the node of a loop.
     pub fn push_looping(&mut self, looping: Looping, node: usize) -> Result<usize, AllocError>
         requires { node < length self.old.nodes }
         ensures grows { OnOk result (Grows self.old.nodes self.new.nodes) }

@@ -16,7 +16,7 @@ use syntect_values::seq::Seq;
 /// Groups and classes nest at most this deep.
 pub const DEEPEST: u32 = 200;
 
-/// The parts of sets so far, each behind those that it is made of.
+/// The parts of sets so far, each after those that it is made of.
 #[derive(Drop)]
 pub struct SetBuilder {
     pub parts: Seq<Part>,
@@ -72,7 +72,7 @@ pub fn part_of(leaf: Leaf) -> Option<Part>
     }
 }
 
-/// Whether the class is negated, and what stands behind the `^`.
+/// Whether the class is negated, and what comes after the `^`.
 #[tactic(auto, unfolding(syntect_pattern::specs::Classes::start_of))]
 fn start_of(text: &str) -> (bool, &str)
     ensures { definition.start_of (chars text.now) ≡ started result.0 (chars result.1.now) }
@@ -92,7 +92,7 @@ impl SetBuilder {
         })
     }
 
-    /// Puts a part last.
+    /// Appends a part.
     fn push(&mut self, part: Part) -> Result<usize, AllocError>
         requires { made_before (length self.old.parts) part ≡ true }
         ensures grows { OnOk result (SetsGrow self.old.parts self.new.parts) }
@@ -104,7 +104,7 @@ impl SetBuilder {
         Ok(place)
     }
 
-    /// Puts a set last, negated if wanted.
+    /// Appends a set, negated if wanted.
     fn negate_if(&mut self, negated: bool, set: usize) -> Result<usize, AllocError>
         requires { set < length self.old.parts }
         ensures grows { OnOk result (SetsGrow self.old.parts self.new.parts) }
@@ -132,7 +132,7 @@ impl SetBuilder {
         }
     }
 
-    /// Puts what an item adds last.
+    /// Appends what an item adds.
     pub fn push_leaf(&mut self, leaf: Leaf) -> Result<usize, AllocError>
         ensures grows { OnOk result (SetsGrow self.old.parts self.new.parts) }
         ensures has { IfOk result (λ k. HasSet self.new.parts k (leaf_set leaf)) }
@@ -187,7 +187,7 @@ impl SetBuilder {
         }
     }
 
-    /// The class behind `&&`.
+    /// The class after `&&`.
     fn next_side(&mut self, bracket: Bracket) -> Result<Bracket, AllocError>
         requires { IsBracketIn self.old.parts bracket }
         ensures grows { OnOk result (SetsGrow self.old.parts self.new.parts) }
@@ -224,7 +224,7 @@ impl SetBuilder {
         Ok(Some(Step::On(bracket, rest)))
     }
 
-    /// The class behind its bracket and `^`: a first `]` is a character.
+    /// The class after its bracket and `^`: a first `]` is a character.
     fn first_item<'a>(
         &mut self,
         fold: bool,
@@ -315,7 +315,7 @@ impl SetBuilder {
         }
     }
 
-    /// A class inside so many groups and classes, from behind its bracket on.
+    /// A class inside so many groups and classes, from just after its bracket on.
     #[cycle(class)]
     pub fn class<'a>(
         &mut self,

@@ -15,7 +15,8 @@ use syntect_pattern_table::starts::places_of;
 use syntect_pattern_words::openings::{Flags, Names, Place};
 use syntect_pattern_words::text::is_empty;
 
-/// For how many bytes of a text there is room for a node each from the start. Most texts make fewer.
+/// For how many bytes of a text there is room for a node each from the start.
+/// Most texts make fewer.
 const SHORT: usize = 1024;
 
 /// The program of a pattern's text. None if the text is no pattern.
@@ -29,7 +30,8 @@ pub fn compile(alloc: Global, pattern: &str) -> Result<Option<Program>, AllocErr
     Ok(Some(program))
 }
 
-/// What the text reads as. Only where a back reference was met is it read again, now with its groups.
+/// What the text reads as. Only where a back reference was met is it read again,
+/// now with its groups.
 fn read_text(alloc: Global, text: &str) -> Result<Option<(Reader, usize)>, AllocError>
     ensures inside { IfOk result (λ f. IfSome f (λ x. x.1 < length x.0.builder.nodes)) }
     ensures reads { IfOk result (λ f. tree_of (chars text.now) ≡ tree_read f) }

@@ -17,7 +17,8 @@ use syntect_pattern_table::starts::{Places, anywhere, either, places_of_char, pl
 /// The characters that make up four fifths of usual texts: most small letters, spaces and newlines.
 const FREQUENT: u128 = 0x003d_f37a_0000_0000_0000_0001_0000_0400;
 
-/// Those that make up most of the rest: other small letters, some capital ones, brackets, and signs between words.
+/// The characters that make up most of the rest of usual texts: other small letters, some capital
+/// ones, brackets, and signs between words.
 const USUAL: u128 = 0x2bc0_0884_801d_522a_7c00_f304_0000_0200;
 
 /// How much a need weighs at most that is worth to be looked for.
@@ -26,7 +27,8 @@ const LIMIT: u32 = 12000;
 /// How much a need weighs that is met so seldom that no other is looked for.
 const SELDOM: u32 = 90;
 
-/// One of these, with one of those right behind it, and a weight that grows with how often that is met in usual texts.
+/// One of these, with one of those right after it, and a weight that grows with how often that is
+/// met in usual texts.
 #[derive(Clone, Copy)]
 struct Sought {
     here: Places,
@@ -95,7 +97,8 @@ fn is_single(node: &Node) -> bool
     matches!(node, Node::Char(_) | Node::Class(_))
 }
 
-/// The first of two parts in a row with what the other begins with, if the first is a character of ASCII.
+/// The first of two parts in a row with what the other begins with,
+/// if the first is a character of ASCII.
 fn pair_of(nodes: &[Node], firsts: &PlaceList, first: usize, second: usize) -> Option<Sought>
     requires table { IsTable nodes.now firsts.now }
     requires first { first < length nodes.now }
@@ -110,7 +113,8 @@ fn pair_of(nodes: &[Node], firsts: &PlaceList, first: usize, second: usize) -> O
     Some(weighed(here, places_at(firsts, second)))
 }
 
-/// What stands at a character with one of these behind it, of which nothing is told where the character may be beyond ASCII.
+/// What stands at a character with one of these after it, of which nothing is known where the
+/// character may be beyond ASCII.
 fn pair_at(here: Places, next: Places) -> Sought
     ensures { (a : Set) (u : Tree) → BeginsIn here (one_of a) → BeginsIn next u
         → IsNeeded result (seq (one_of a) u) }
@@ -133,7 +137,7 @@ fn pair_of_letters(fold: bool, first: u8, others: &[u8], behind: Places) -> Soug
     }
 }
 
-/// What matches of the node at the place begin with, and what stands behind that where it is known.
+/// What matches of the node at the place begin with, and what comes after that where it is known.
 fn leading(nodes: &[Node], firsts: &PlaceList, place: usize) -> Sought
     requires table { IsTable nodes.now firsts.now }
     requires inside { place < length nodes.now }
@@ -152,7 +156,8 @@ fn leading(nodes: &[Node], firsts: &PlaceList, place: usize) -> Sought
     }
 }
 
-/// The part that each match of the node matches as well, at its place or behind it, if the node is no sequence.
+/// The part that each match of the node matches as well, at its place or after it, if the node is
+/// no sequence.
 fn part_needed(node: &Node) -> Option<usize>
     ensures before { IfSome result (λ part. (place : ℕ) → parts_before place node.now ≡ true
         → part < place) }
@@ -276,8 +281,8 @@ impl Found {
         }
     }
 
-    /// Adds what matches of the node at the place need at their place or behind it. Parts stand in a row on the right, and nest
-    /// elsewhere no deeper than groups do.
+    /// Adds what matches of the node at the place need at their place or after it. Parts stand in a
+    /// row on the right, and nest elsewhere no deeper than groups do.
     #[cycle(needs)]
     fn add_needs(&mut self, nodes: &[Node], firsts: &PlaceList, root: usize)
         requires table { IsTable nodes.now firsts.now }
@@ -354,8 +359,8 @@ fn need_of(found: Sought) -> Need
     }
 }
 
-/// What matches of the node at the place need at their place or behind it: two of the needs that are known, those that are met
-/// least often.
+/// What matches of the node at the place need at their place or after it: two of the needs that are
+/// known, those that are met least often.
 pub fn needs_of(nodes: &[Node], firsts: &PlaceList, root: usize) -> TwoNeeds
     requires table { IsTable nodes.now firsts.now }
     requires inside { root < length nodes.now }

@@ -43,7 +43,8 @@ pub struct Body {
 pub struct Reader {
     pub builder: Builder,
     pub names: Names,
-    /// Whether a back reference was met. Where none was, it makes no difference which groups are known.
+    /// Whether a back reference was met. Where none was,
+    /// it makes no difference which groups are known.
     pub refers: bool,
     /// Whether a lookbehind was met.
     pub looks_back: bool,
@@ -66,7 +67,7 @@ impl Reader {
         })
     }
 
-    /// Puts the node of a group last.
+    /// Appends the node of a group.
     fn push_group(&mut self, wrap: Wrap, body: usize) -> Result<usize, AllocError>
         requires { body < length self.old.builder.nodes }
         ensures grows { OnOk result (Grows self.old.builder.nodes self.new.builder.nodes) }
@@ -108,7 +109,7 @@ impl Reader {
         Ok(Some((Body { before, items }, place)))
     }
 
-    /// An item, perhaps with a quantifier behind it.
+    /// An item, perhaps with a quantifier after it.
     fn item<'a>(
         &mut self,
         body: Body,
@@ -300,7 +301,8 @@ impl Reader {
         self.builder.branches(&mut before)
     }
 
-    /// What a back reference to the number stands for, if it names a group. While the groups aren't known it is nothing.
+    /// What a back reference to the number stands for, if it names a group. While the groups aren't
+    /// known it is nothing.
     fn by_number(
         &mut self,
         known: &Option<Names>,
@@ -329,7 +331,8 @@ impl Reader {
         ))
     }
 
-    /// The same for a name.
+    /// What a back reference to the name stands for, if it names a group. While the groups aren't
+    /// known it is nothing.
     fn by_name(
         &mut self,
         known: &Option<Names>,

@@ -89,7 +89,8 @@ pub refused_depth_classes : list_all (λ s. is_none (tree_of (codes s)))
 unfolding tree_of whole body passed pass quantified quantifier count loop off_letters flags_at named_group flag_group opening next_char escape one_letter hex_escape hex_fixed category_escape named_set name_in run first char_of class class_rest next_in posix_form class_escape member range_end start_of plain_item posix_item general_category general_category_rows value_in
 refused_depth_classes = refl
 
--- whether a group stands in a lookaround: of `(?=(a))(b)` the first does, the second doesn't, and there is no third
+-- whether a group stands in a lookaround: of `(?=(a))(b)` the first does, the second doesn't, and
+-- there is no third
 pub looks : (elim (tree_of (codes "(?=(a))(b)")) as (λ _. List (Option Bool)) [
   | Some tree ↦ group_in_look tree 0 ∷ group_in_look tree 1 ∷ group_in_look tree 2 ∷ group_in_look tree 3 ∷ []
   | None ↦ []

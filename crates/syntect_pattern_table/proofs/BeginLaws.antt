@@ -113,7 +113,7 @@ front true false b e = refl
 front false false b e = refl
 front r true b e = cc
 
--- what stands behind it doesn't matter
+-- what comes after it doesn't matter
 pub front-begins : (x : ℕ) (p : Places) (t u : Tree) → begins_at x (read_there p) ≡ begins x t → begins_at x (read_there p) ≡ begins x (seq t u)
 front-begins x p t u h = front (is_in p x) (is_in none_there x) (begins x u) (none_in x) ∙ ap (λ (b : Begins). sequence_begins b (begins x u)) h
 

@@ -21,7 +21,7 @@ use Rattle.syntect_pattern_table.proofs.LookLaws.{tree-is, first-before, second-
 abbrev can_begin : ℕ → Tree → Bool
 can_begin x t = reads t x || stays t x
 
--- branches behind branches
+-- branches after branches
 branches-more : (m n : ℕ) (t : Tree) → HasBranches m t → branches (m + n) t ≡ branches m t ++ branches n (tree_behind m t)
 branches-more zero n t h = ap (λ (k : ℕ). branches k t) (omega arith)
 branches-more (suc m) n (alt a b) h =

@@ -34,7 +34,7 @@ each-all : (p : Member → Bool) (ms : List Member) → Each (λ m. p m ≡ true
 each-all p [] e = refl
 each-all p (m ∷ ms) e = both_true (p m) (list_all p ms) e.0 (each-all p ms e.1)
 
--- no member ends before this place, and none behind it
+-- no member ends before this place, and none after it
 abbrev From : ℕ → List Member → Type 0
 From n = Each (λ m. n ≤ m.0)
 

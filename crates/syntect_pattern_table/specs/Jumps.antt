@@ -12,7 +12,7 @@ abbrev pub branches : ℕ → Tree → List Tree
 branches (suc n) (alt a b) = a ∷ branches n b
 branches n t = []
 
--- what stands behind them
+-- what comes after them
 abbrev pub tree_behind : ℕ → Tree → Tree
 tree_behind (suc n) (alt a b) = tree_behind n b
 tree_behind n t = t
@@ -29,7 +29,7 @@ places_of j = record { ascii = j.ascii; wide = j.wide; end = j.end }
 abbrev pub jump_to : ℕ → ℕ → Places → Jump
 jump_to to count p = record { ascii = p.ascii; to = to; count = count; wide = p.wide; end = p.end }
 
--- the jump leads from the node behind its first branches, and it tells where matches of those begin
+-- the jump leads from the node after its first branches, and it tells where matches of those begin
 pub record IsJump (ts : List Tree) (k : ℕ) (j : Jump) : Type 0 where
   pub back : j.to + j.count ≤ k
   pub there : HasBranches j.count (slice_index_or ts k nothing)
@@ -42,7 +42,7 @@ abbrev pub AreJumps : ℕ → List Jump → List Tree → Type 0
 AreJumps from js ts = (k : ℕ) (d : Jump) → k < length js
     → IsJump ts (from + k) (slice_index_or js k d)
 
--- the rest stands behind branches of the tree that have no match at the place
+-- the rest comes after branches of the tree that have no match at the place
 pub record LeadsPast (s : List ℕ) (i : ℕ) (t rest : Tree) : Type 0 where
   pub count : ℕ
   pub some : 0 < count

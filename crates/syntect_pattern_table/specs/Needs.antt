@@ -6,7 +6,7 @@ use Rattle.syntect_pattern_table.specs.Starts.{is_in, start_at}
 use Rattle.syntect_pattern_table.specs.declared.needs.Need.{Need}
 use Rattle.syntect_pattern_table.specs.declared.needs.TwoNeeds.{TwoNeeds}
 
--- at the place stands one of the first, and right behind it one of the second
+-- at the place stands one of the first, and right after it one of the second
 abbrev pub stands : (ℕ → Bool) → (ℕ → Bool) → List ℕ → ℕ → Bool
 stands here next s k = here (start_at s k) && next (start_at s (suc k))
 
@@ -14,7 +14,7 @@ stands here next s k = here (start_at s k) && next (start_at s (suc k))
 abbrev pub IsAbsent : (ℕ → Bool) → (ℕ → Bool) → List ℕ → ℕ → Type 0
 IsAbsent here next s i = (k : ℕ) → i ≤ k → stands here next s k ≡ false
 
--- a match of the tree needs both at its place or behind it, be it only to look ahead
+-- a match of the tree needs both at its place or after it, be it only to look ahead
 abbrev pub Needs : (ℕ → Bool) → (ℕ → Bool) → Tree → Type 0
 Needs here next t =
     (s : List ℕ) (i : ℕ) (g : Groups) → IsUtf8 s → IsCharBoundary s i → IsAbsent here next s i

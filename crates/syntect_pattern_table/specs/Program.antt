@@ -13,13 +13,14 @@ use Rattle.syntect_pattern_table.specs.declared.program.Program.{Program}
 abbrev pub trees_of : Program → List Tree
 trees_of p = trees p.nodes
 
--- what is found at the place: a node whose tree is made of those of its parts, or none, where the tree is the empty one
+-- what is found at the place: a node whose tree is made of those of its parts, or none, where the
+-- tree is the empty one
 abbrev pub IsNodeOf : List Tree → ℕ → Option (Bor Node) → Type 0
 IsNodeOf ts place found = MatchOption found (slice_index_or ts place nothing ≡ nothing)
     (λ n. slice_index_or ts place nothing ≡ node_tree ts n.now)
 
--- the program is that of the tree: its root is the whole match, and it knows how many groups there are, what matches begin
--- with and perhaps what they need
+-- the program is that of the tree: its root is the whole match, and it knows how many groups there
+-- are, what matches begin with and perhaps what they need
 pub record IsProgramOf (p : Program) (tree : Tree) : Type 0 where
   pub root : slice_index_or (trees_of p) p.root nothing ≡ group 0 tree
   pub groups : p.groups ≡ suc (group_count tree)

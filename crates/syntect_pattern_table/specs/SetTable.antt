@@ -1,4 +1,4 @@
--- The sets of a table of parts, each of which stands behind those that it is made of.
+-- The sets of a table of parts, each of which comes after those that it is made of.
 use Rattle.std.specs.Prelude.{◌≡◌, ℕ, ◌<◌, ◌≤◌, Bool, true, false, ◌&&◌, ◌||◌, ◌==◌, nat_le, nat_lt, List, [], ◌∷◌, ◌++◌, length, slice_index_or}
 use Rattle.std.specs.Int.{bit_at}
 use Rattle.syntect_pattern.specs.Sets.{Set, none, range, alike, either, both, negated, is_within, holds}
@@ -44,12 +44,12 @@ made_before k (Part.Negated a) = nat_lt a k
 made_before k (Part.Either a b) = nat_lt a k && nat_lt b k
 made_before k (Part.Both a b) = nat_lt a k && nat_lt b k
 
--- each part stands behind those that it is made of
+-- each part comes after those that it is made of
 abbrev pub AreOrdered : List Part → Type 0
 AreOrdered parts = (k : ℕ) → k < length parts
     → made_before k (slice_index_or parts k Part.Nothing) ≡ true
 
--- more parts, behind those that were there
+-- more parts, after those that were there
 pub record SetsGrow (old new : List Part) : Type 0 where
   pub longer : length old ≤ length new
   pub kept : (k : ℕ) → k < length old → set_in new k ≡ set_in old k
@@ -63,7 +63,8 @@ pub record HasSet (parts : List Part) (k : ℕ) (a : Set) : Type 0 where
 abbrev pub AreFlags : ℕ → Set → Type 0
 AreFlags bits a = (x : ℕ) → x < 128 → (bit_at bits x == 1) ≡ holds a x
 
--- the range holds `K`, `S`, `k` or `s`: simple folding makes these alone of ASCII equal to a character beyond it
+-- the range holds `K`, `S`, `k` or `s`: simple folding makes these alone of ASCII equal to a
+-- character beyond it
 abbrev pub folds_beyond : ℕ → ℕ → Bool
 folds_beyond low high = is_within low high 0x4B
     || (is_within low high 0x53 || (is_within low high 0x6B || is_within low high 0x73))

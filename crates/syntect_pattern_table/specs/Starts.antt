@@ -60,7 +60,7 @@ pub record Begins : Type 0 where
 abbrev pub begins : ℕ → Tree → Begins
 begins x t = record { read = reads t x; stay = stays t x }
 
--- a part behind another, one of two parts, a loop, a lookahead
+-- a part after another, one of two parts, a loop, a lookahead
 abbrev pub sequence_begins : Begins → Begins → Begins
 sequence_begins a b = record { read = a.read || (a.stay && b.read); stay = a.stay && b.stay }
 
@@ -85,7 +85,8 @@ begins_at x f = record { read = is_in f.read x; stay = is_in f.stay x }
 abbrev pub none_there : Places
 none_there = record { ascii = 0; wide = false; end = false }
 
--- how a part begins that has this row, if it has one: else no match of it reads nothing, and these are its places
+-- how a part begins that has this row, if it has one: else no match of it reads nothing, and these
+-- are its places
 abbrev pub row_at : Places → List Firsts → ℕ → Firsts
 row_at p fs zero = record { read = p; stay = none_there }
 row_at p fs (suc n) = slice_index_or fs n (record { read = none_there; stay = none_there })

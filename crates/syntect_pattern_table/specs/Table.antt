@@ -1,4 +1,4 @@
--- The trees of a table of nodes, each of which stands behind its parts.
+-- The trees of a table of nodes, each of which comes after its parts.
 use Rattle.std.specs.Prelude.{◌≡◌, ℕ, ◌<◌, Bool, true, false, ◌&&◌, nat_lt, List, [], ◌∷◌, ◌++◌, length, slice_index_or}
 use Rattle.syntect_pattern.specs.Sets.{Set, range}
 use Rattle.syntect_pattern.specs.Trees.{Tree, nothing, one_of, anchor, same, seq, alt, repeat, group, atomic, ahead, behind}
@@ -56,7 +56,7 @@ parts_before k (Node.Atomic a) = nat_lt a k
 parts_before k (Node.Ahead negated a) = nat_lt a k
 parts_before k (Node.Behind negated a) = nat_lt a k
 
--- each node stands behind its parts
+-- each node comes after its parts
 abbrev pub IsOrdered : List Node → Type 0
 IsOrdered nodes = (k : ℕ) → k < length nodes
     → parts_before k (slice_index_or nodes k Node.Nothing) ≡ true

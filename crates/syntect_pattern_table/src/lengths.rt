@@ -21,7 +21,7 @@ pub struct Lengths {
     pub most: Option<u32>,
 }
 
-/// So many bytes.
+/// Exactly so many bytes.
 fn exactly(count: u32) -> Lengths
     ensures least { result.least ≡ count }
     ensures most { result.most ≡ Some count }
@@ -87,7 +87,7 @@ fn lengths_of_one(wide: bool) -> Lengths
     }
 }
 
-/// Of the one behind the other.
+/// Of the one after the other.
 fn in_sequence(a: Lengths, b: Lengths) -> Lengths
     ensures { (t u : Tree) → HasLengths t a → HasLengths u b → HasLengths (seq t u) result }
 {
@@ -172,8 +172,8 @@ fn lengths_of(node: &Node, before: &[Lengths]) -> Lengths
     }
 }
 
-/// The lengths of each node, if they are wanted: none are kept of a table without a lookbehind, since nothing else asks for
-/// them.
+/// The lengths of each node, if they are wanted: none are kept of a table without a lookbehind,
+/// since nothing else asks for them.
 pub fn lengths_in(alloc: Global, nodes: &[Node], wanted: bool) -> Result<Seq<Lengths>, AllocError>
     requires { IsOrdered nodes.now }
     ensures { IfOk result (λ ls. AreLengths ls (trees nodes.now)) }

@@ -1,4 +1,5 @@
-//! The tree of a pattern as a table of nodes, its sets of characters, and what its matches begin with.
+//! The tree of a pattern as a table of nodes, its sets of characters,
+//! and what its matches begin with.
 #![tactic(auto)]
 
 mod ascii;

@@ -1,12 +1,12 @@
-//! What each match needs, at its place or behind it.
+//! What each match needs, at its place or after it.
 use crate::starts::Places;
 
-/// What stands at the place of each match or behind it, with one of `next` right behind.
+/// What stands at the place of each match or after it, with one of `next` right after that.
 #[derive(Clone, Copy)]
 pub enum Need {
     /// Nothing is known of it.
     Unknown,
-    /// This ASCII character.
+    /// An ASCII character.
     Byte { byte: u8, next: Places },
     /// One of these, of which the end is none.
     One { here: Places, next: Places },

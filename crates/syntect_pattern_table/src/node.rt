@@ -1,4 +1,4 @@
-//! The tree of a pattern as a table of nodes, each of which stands behind its parts.
+//! The tree of a pattern as a table of nodes, each of which comes after its parts.
 pub use crate::sets::Class;
 pub use syntect_letters::letters::Letters;
 pub use syntect_pattern::anchor::Anchor;
@@ -8,7 +8,7 @@ pub use syntect_pattern::anchor::Anchor;
 pub enum Node {
     /// Reads nothing.
     Nothing,
-    /// This character.
+    /// A single character.
     Char(char),
     /// One character of the class.
     Class(Class),
@@ -28,7 +28,8 @@ pub enum Node {
     Sequence(usize, usize),
     /// One of two parts, of which the first is preferred.
     Alternation(usize, usize),
-    /// Turns of the part, at least so many and at most so many, if there is a limit. A greedy loop prefers more.
+    /// Turns of the part, at least so many and at most so many, if there is a limit. A greedy loop
+    /// prefers more.
     Repeat {
         greedy: bool,
         least: u32,

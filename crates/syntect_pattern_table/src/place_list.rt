@@ -6,11 +6,12 @@ use crate::starts::Places;
 use std::alloc::{AllocError, Global};
 use std::marker::Model;
 
-/// Numbers of places, each in the slot that a sum over those gives. Where two share a slot, the first is no longer found there,
-/// and is kept once more if it comes again.
+/// Numbers of places, each in the slot that a sum over those gives. Where two share a slot, the
+/// first is no longer found there, and is kept once more if it comes again.
 pub type Slots = [u32; 256];
 
-/// Where matches of nodes can begin, seen as the list of a node's each. Most of what is equal is kept once.
+/// Where matches of nodes can begin, seen as the list of a node's each. Most of what is equal is
+/// kept once.
 #[derive(Drop)]
 pub struct PlaceList {
     known: Vec<Places>,
@@ -49,8 +50,8 @@ fn is_known(known: &[Places], number: u32, wanted: &Places) -> bool
     }
 }
 
-/// The slot of these. Multiplying by an odd number without pattern mixes the bits, so that places that differ in few seldom share
-/// one.
+/// The slot of these. Multiplying by an odd number without pattern mixes the bits, so that places
+/// that differ in few seldom share one.
 fn slot_of(places: &Places) -> usize
     ensures { result < 256 }
 {
@@ -62,8 +63,8 @@ fn slot_of(places: &Places) -> usize
     (sum >> 32) as usize % 256
 }
 
-/// The number of these, which are added where their slot has another's. More than such numbers can tell apart have no place in
-/// memory.
+/// The number of these, which are added where their slot has another's. More than such numbers can
+/// tell apart have no place in memory.
 fn number_of(known: &mut Vec<Places>, slots: &mut Slots, wanted: Places) -> Result<u32, AllocError>
     ensures number { IfOk result (λ n. slice_get known.new.items n ≡ Some wanted) }
     ensures stays { (n : ℕ) (p : APlaces) → slice_get known.old.items n ≡ Some p
@@ -93,7 +94,8 @@ impl PlaceList {
         })
     }
 
-    /// Puts the places of one more node last. The slots are those of this list so far; others, or empty ones, only find less.
+    /// Appends the places of one more node. The slots are those of this list so far; others, or
+    /// empty ones, only find less.
     pub fn push(&mut self, slots: &mut Slots, places: Places) -> Result<(), AllocError>
         ensures ok { OnOk result (self.new ≡ self.old ++ places ∷ []) }
         ensures err { OnErr result (self.new ≡ self.old) }

@@ -61,7 +61,8 @@ fn part_at(parts: &[Part], place: usize) -> Part
     parts.get(place).copied().unwrap_or(Part::Nothing)
 }
 
-/// Whether the part at the place holds the character. Sets nest on the right alone, and no deeper than classes do.
+/// Whether the part at the place holds the character. Sets nest on the right alone, and no deeper
+/// than classes do.
 fn holds_at(parts: &[Part], root: usize, c: char) -> bool
     requires { AreOrdered parts.now }
     ensures { result ≡ holds (set_in parts.now root) c }
@@ -108,8 +109,8 @@ fn is_named_wide(named: Named) -> bool
     }
 }
 
-/// Whether simple folding makes a character beyond ASCII equal to one from the first to the last. Two such characters fold to
-/// ASCII letters, to `k` and to `s`.
+/// Whether simple folding makes a character beyond ASCII equal to one from the first to the last.
+/// Two such characters fold to ASCII letters, to `k` and to `s`.
 pub(crate) fn is_alike_wide(low: char, high: char) -> bool
     ensures { result ≡ is_wide (alike low high) }
 {
@@ -171,8 +172,8 @@ struct ClassBody {
     ghost widened: { wide ≡ is_wide (set_in (listed parts) root) },
 }
 
-/// A set of characters, made of parts, with its ASCII characters beside. It stands in a place of its own: most nodes of a
-/// table are no classes, and are to be small.
+/// A set of characters, made of parts, with its ASCII characters beside. It stands in a place of
+/// its own: most nodes of a table are no classes, and are to be small.
 #[derive(Debug, Drop)]
 pub struct Class {
     body: Box<ClassBody>,
@@ -218,7 +219,7 @@ impl Class {
         })
     }
 
-    /// The same class.
+    /// A copy of the class.
     pub fn copy(&self, alloc: Global) -> Result<Class, AllocError>
         ensures { IfOk result (λ s. set_of s ≡ set_of self.now) }
     {

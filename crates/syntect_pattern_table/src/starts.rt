@@ -193,7 +193,7 @@ fn places_of_anchor(anchor: Anchor) -> Places
     }
 }
 
-/// Where the one behind the other can begin.
+/// Where the one after the other can begin.
 pub fn in_sequence(a: Firsts, b: Firsts) -> Firsts
     ensures { (x : ℕ) → begins_at x result ≡ sequence_begins (begins_at x a) (begins_at x b) }
 {
@@ -239,7 +239,8 @@ pub fn ahead(a: Firsts, negated: bool) -> Firsts
     }
 }
 
-/// Where the node at a place can begin, by the places of the nodes so far, their rows, and the rows' list.
+/// Where the node at a place can begin, by the places of the nodes so far, their rows, and the
+/// rows' list.
 #[inline]
 fn at(places: &PlaceList, rows: &[usize], firsts: &[Firsts], place: usize) -> Firsts
     requires inside { place < length places.now }
@@ -267,8 +268,8 @@ fn at(places: &PlaceList, rows: &[usize], firsts: &[Firsts], place: usize) -> Fi
     }
 }
 
-/// Where the part at the one place can begin with that at the other behind it, which counts only where the first one can read
-/// nothing.
+/// Where the part at the one place can begin with that at the other after it, which counts only
+/// where the first one can read nothing.
 fn sequence_at(
     places: &PlaceList,
     rows: &[usize],
@@ -347,7 +348,8 @@ pub fn start_at(text: &str, place: usize) -> u8
     }
 }
 
-/// The row of a node that begins so: a new one, or none, which is 0, where no match of it reads nothing.
+/// The row of a node that begins so: a new one, or none, which is 0,
+/// where no match of it reads nothing.
 #[inline]
 fn row_of(firsts: &mut Vec<Firsts>, next: Firsts) -> Result<usize, AllocError>
     ensures kept { OnOk result (GoesOn firsts.old.items firsts.new.items) }
@@ -363,9 +365,9 @@ fn row_of(firsts: &mut Vec<Firsts>, next: Firsts) -> Result<usize, AllocError>
     Ok(firsts.len())
 }
 
-/// Where matches of each node can begin. Few nodes have a match that reads nothing, and have a row for where they read something
-/// and where they don't: of the others all matches begin where they read something. Most of those are characters, and sequences
-/// that begin with one.
+/// Where matches of each node can begin. Few nodes have a match that reads nothing, and have a row
+/// for where they read something and where they don't: of the others all matches begin where they
+/// read something. Most of those are characters, and sequences that begin with one.
 pub fn places_of(alloc: Global, nodes: &[Node]) -> Result<PlaceList, AllocError>
     requires { IsOrdered nodes.now }
     ensures count { IfOk result (λ ps. length ps ≡ length nodes.now) }

@@ -39,7 +39,7 @@ rest-more text rest more c r b = record {
   whole = r.whole ∙ ap (λ t. r.front ++ t) b.whole ∙ sym (append_assoc r.front (encode_utf8 c) more);
 }
 
--- so many less one behind the first
+-- so many less one after the first
 pub drop-more : (rest more : List ℕ) (c n : ℕ) → 0 < n → BeginsWith rest c more → drop (n - 1) (chars more) ≡ drop n (chars rest)
 drop-more rest more c n l b =
     let same : n ≡ suc (n - 1) = omega arith in

@@ -103,7 +103,7 @@ module _ (a : Tree) (flags : Flags) (names : Names) (t : Text) where
           ∙ ap (λ (b : Bool). b >> (let (tree, after) = loop q a r in Some (tree, record { flags = flags; names = names; text = after }))) f
           ∙ ap (λ (x : Tree × Text). Some (x.0, record { flags = flags; names = names; text = x.1 })) l
 
--- -- What stands behind a quantifier
+-- -- What comes after a quantifier
 
 module _ (q : Quantifier) (a : Tree) (t : Text) where
   after_sign : Bool → Bool → Tree × Text

@@ -4,7 +4,7 @@ use Rattle.syntect_pattern.specs.Trees.{Tree}
 use Rattle.syntect_pattern.specs.Grammar.{Names, Next, end, closer, over, on}
 use Rattle.syntect_pattern.specs.Grammar as grammar
 
--- what stands in a group from a place on, behind what is read of it
+-- what stands in a group from a place on, after what is read of it
 abbrev pub body_of : Option Names → ℕ → grammar.Body → grammar.Place → Option (Tree × grammar.Place)
 body_of known depth b p = grammar.body known (suc (length p.text)) depth b p
 

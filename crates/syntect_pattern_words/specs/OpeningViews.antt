@@ -13,7 +13,7 @@ use Rattle.syntect_pattern_words.specs.declared.openings.Opening.{Opening}
 abbrev pub flags_as : Flags → grammar.Flags
 flags_as f = record { fold = f.fold; any = f.any; spaced = f.spaced }
 
--- the place, behind these groups
+-- the place, after these groups
 abbrev pub place_as : Names → Place → grammar.Place
 place_as names p = record { flags = flags_as p.flags; names = names; text = chars p.text.now }
 

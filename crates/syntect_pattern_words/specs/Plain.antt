@@ -11,8 +11,8 @@ is_plain c = is_name_char c || c ∈ "-=:;,<>!/'\"@%&~"
 abbrev pub is_firm : ℕ → Bool
 is_firm c = is_plain c || c ∈ "|)[\\.^$"
 
--- the text begins with this character, which stands for itself: nothing is passed over before it or behind it, and nothing
--- repeats it
+-- the text begins with this character, which stands for itself: nothing is passed over before it or
+-- after it, and nothing repeats it
 pub record BeginsPlainly (t : Text) (c : ℕ) (rest : Text) : Type 0 where
   pub letters : t ≡ c ∷ rest
   pub before : (spaced : Bool) → pass spaced between t ≡ Some t

@@ -13,7 +13,7 @@ passing_as Passing.Between = between
 passing_as Passing.Note = note
 passing_as Passing.Comment = comment
 
--- what is passed over behind the character, unless it isn't passed over itself; the flag is `x`
+-- what is passed over after the character, unless it isn't passed over itself; the flag is `x`
 abbrev pub goes_on : Bool → reading.Passing → ℕ → Text → Option reading.Passing
 goes_on spaced between c t = passing_at spaced c t
 goes_on spaced note c t = Some (if c ∈ ")" then between else note)

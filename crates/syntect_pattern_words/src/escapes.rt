@@ -41,7 +41,7 @@ fn are_hexadecimal(text: &str) -> bool
     text.chars().all(|c| c.is_digit(16))
 }
 
-/// So many digits of a hexadecimal number.
+/// A hexadecimal number of so many digits.
 #[tactic(auto, unfolding(syntect_pattern::specs::Escapes::hex_fixed))]
 fn hex_fixed(text: &str, count: usize) -> Option<(Escape<'_>, &str)>
     ensures { hex_fixed count (chars text.now) ≡ escaped result }
@@ -54,7 +54,7 @@ fn hex_fixed(text: &str, count: usize) -> Option<(Escape<'_>, &str)>
     Some((Escape::Char(c), after(text, count)))
 }
 
-/// Behind `\x`: two digits, or one to eight in braces.
+/// After `\x`: two digits, or one to eight in braces.
 #[tactic(auto, unfolding(syntect_pattern::specs::Escapes::hex_escape))]
 fn hex_escape(text: &str) -> Option<(Escape<'_>, &str)>
     ensures { hex_escape (chars text.now) ≡ escaped result }
@@ -70,7 +70,7 @@ fn hex_escape(text: &str) -> Option<(Escape<'_>, &str)>
     Some((Escape::Char(c), after(rest, 1)))
 }
 
-/// Behind `\p` or `\P`: a category in braces.
+/// After `\p` or `\P`: a category in braces.
 #[tactic(auto, unfolding(syntect_pattern::specs::Escapes::category_escape))]
 fn category_escape(text: &str, upper: bool) -> Option<(Escape<'_>, &str)>
     ensures { category_escape upper (chars text.now) ≡ escaped result }
@@ -192,7 +192,7 @@ fn are_name_chars(text: &str) -> bool
     text.chars().all(|c| Test::Name.passes(c))
 }
 
-/// A name, and what stands behind the `>` that ends it.
+/// A name, and what comes after the `>` that ends it.
 #[tactic(auto, unfolding(syntect_pattern::specs::Reading::name_in))]
 pub fn name_in(text: &str) -> Option<(&str, &str)>
     ensures { name_in (chars text.now) ≡ named_text result }
@@ -204,7 +204,7 @@ pub fn name_in(text: &str) -> Option<(&str, &str)>
     Some((name, after(rest, 1)))
 }
 
-/// What follows a backslash, and what stands behind that.
+/// What follows a backslash, and what comes after that.
 #[tactic(auto, unfolding(syntect_pattern::specs::Escapes::escape))]
 pub fn read_escape(text: &str) -> Option<(Escape<'_>, &str)>
     ensures { escape (chars text.now) ≡ escaped result }

@@ -46,7 +46,7 @@ fn member_of(escape: Escape<'_>) -> Option<Member>
     }
 }
 
-/// An escape, from behind its backslash.
+/// An escape, from just after its backslash.
 #[tactic(auto, unfolding(syntect_pattern::specs::Classes::class_escape))]
 fn class_escape(text: &str) -> Option<(Member, &str)>
     ensures { definition.class_escape (chars text.now) ≡ membered result }

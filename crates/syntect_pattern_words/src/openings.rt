@@ -75,7 +75,7 @@ fn has_x(letters: &str) -> bool
     letters.chars().any(|c| c == 'x')
 }
 
-/// The letters that are turned off, behind `-`.
+/// The letters that are turned off, after `-`.
 #[tactic(auto, unfolding(syntect_pattern::specs::Grammar::off_letters))]
 fn off_letters(text: &str) -> Option<(&str, &str)>
     ensures { grammar.off_letters (chars text.now) ≡ letters_as result }
@@ -90,7 +90,7 @@ fn off_letters(text: &str) -> Option<(&str, &str)>
     Some((letters, rest))
 }
 
-/// The flags behind letters that are turned on or off.
+/// The flags after letters that are turned on or off.
 #[tactic(auto, unfolding(syntect_pattern::specs::Grammar::flags_at))]
 fn flags_at(flags: Flags, text: &str) -> Option<(Flags, &str)>
     ensures { grammar.flags_at (flags_as flags) (chars text.now) ≡ flagged_as result }
@@ -189,7 +189,7 @@ fn flag_group(place: Place<'_>) -> Option<(Opening, Place<'_>)>
     }
 }
 
-/// From behind the parenthesis up to what stands in the group.
+/// From after the parenthesis up to what stands in the group.
 #[tactic(auto, unfolding(syntect_pattern::specs::Grammar::opening))]
 pub fn read_opening<'a>(
     names: &mut Names,

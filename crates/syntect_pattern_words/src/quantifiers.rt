@@ -7,7 +7,8 @@ ghost use Rattle.syntect_pattern.specs.Grammar as grammar;
 
 use crate::text::{Test, after, begins, head, is_empty, number, run, split_first};
 
-/// The least and the greatest number of turns, and whether it is `*`, `+` or `?` and not a count. Large numbers are cut.
+/// The least and the greatest number of turns, and whether it is `*`, `+` or `?` and not a count.
+/// Large numbers are cut.
 #[derive(Clone, Copy)]
 pub struct Quantifier {
     pub least: u32,
@@ -38,7 +39,7 @@ fn passing_at(spaced: bool, c: char, rest: &str) -> Option<Passing>
     }
 }
 
-/// What is passed over behind the character, unless it isn't passed over itself.
+/// What is passed over after the character, unless it isn't passed over itself.
 fn go_on(spaced: bool, passing: Passing, c: char, rest: &str) -> Option<Passing>
     ensures { goes_on spaced (passing_as passing) c (chars rest.now) ≡ option_map passing_as result }
 {
@@ -61,7 +62,7 @@ fn go_on(spaced: bool, passing: Passing, c: char, rest: &str) -> Option<Passing>
     }
 }
 
-/// The text behind white space and comments, where they are passed over, and behind notes.
+/// The text after white space and comments, where they are passed over, and after notes.
 pub fn pass(spaced: bool, text: &str) -> Option<&str>
     ensures { pass spaced between (chars text.now) ≡ option_map (λ rest. chars rest.now) result }
 {

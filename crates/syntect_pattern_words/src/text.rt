@@ -156,7 +156,7 @@ pub fn spells(text: &str, word: &str) -> bool
     is_empty(rest)
 }
 
-/// What stands behind the characters at the front that pass the test.
+/// What comes after the characters at the front that pass the test.
 fn behind_run(text: &str, test: Test) -> &str
     ensures rest { IsRest text.now result.now }
     ensures value { (run (passes test) (chars text.now)).1 ≡ chars result.now }

@@ -84,14 +84,14 @@ pub enum Looping {
     },
 }
 
-/// Whether a `+` behind a quantifier that is no count makes it possessive.
+/// Whether a `+` after a quantifier that is no count makes it possessive.
 fn gives_nothing_back(short: bool, text: &str) -> bool
     ensures { result ≡ (short && begins "+" (chars text.now)) }
 {
     short && begins(text, &['+'])
 }
 
-/// The loop of a quantifier, as the sign behind it wants it, and what follows.
+/// The loop of a quantifier, as the sign after it wants it, and what follows.
 fn looped(quantifier: Quantifier, text: &str) -> (Looping, &str)
     ensures { (a : Tree) → grammar.loop (quantifier_as quantifier) a (chars text.now) ≡ (looped_tree result.0 a, chars result.1.now) }
 {
@@ -163,7 +163,8 @@ fn is_plain(c: char) -> bool
     has_bit(PLAIN, c)
 }
 
-/// Whether neither a quantifier stands next nor anything that is passed over, as the first character tells.
+/// Whether neither a quantifier stands next nor anything that is passed over, as the first
+/// character tells.
 #[tactic(auto, using(crate::proofs::PlainLaws::firm_bits))]
 fn is_firm(text: &str) -> bool
     ensures { result ≡ option_map_or is_firm (first (chars text.now)) true }
@@ -174,8 +175,8 @@ fn is_firm(text: &str) -> bool
     }
 }
 
-/// A character that stands for itself, and what follows it. Most of a pattern is read so, without a look for what is passed
-/// over and for quantifiers.
+/// A character that stands for itself, and what follows it. Most of a pattern is read so, without a
+/// look for what is passed over and for quantifiers.
 #[inline]
 pub fn plain_in(text: &str) -> Option<(char, &str)>
     ensures { IfSome result (λ x. BeginsPlainly (chars text.now) x.0 (chars x.1.now)) }

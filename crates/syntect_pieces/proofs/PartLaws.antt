@@ -14,7 +14,7 @@ fits n m h = grind (arith, nat_tests)
 too_long : (n m : ℕ) → nat_le m n ≡ false → n < m
 too_long n m h = grind (arith, nat_tests)
 
--- ---- places in a text behind another, and in its front ----
+-- ---- places in a text after another, and in its front ----
 
 behind : (xs ys : List ℕ) (i : ℕ) → length xs < i → IsCharBoundary (xs ++ ys) i → IsCharBoundary ys (i - length xs)
 behind xs ys i h b =
@@ -107,7 +107,7 @@ module _ {A : Type 0} where
     longest = λ t. longest c.front n ps t c.cuts;
   }
 
-  -- pieces that are cut behind the whole ones
+  -- pieces that are cut after the whole ones
   pub cut_behind : (n left : ℕ) (pieces rest front first second : List (A × List ℕ)) → whole n pieces ≡ front → others n pieces ≡ rest → bytes_left n pieces ≡ left
       → (f : ℕ) × CutsFirst f left rest × (first ≡ front ++ cut_front f left rest) × (second ≡ cut_back f left rest) → IsCut n pieces first second
   cut_behind n left pieces rest front first second w o b c = record { front = c.0; cuts = rw (o, b) c.1; first_is = rw (w, o, b) c.2; second_is = rw (o, b) c.3 }

@@ -23,12 +23,12 @@ module _ {A : Type 0} where
   whole n [] = []
   whole n (p ∷ ps) = if nat_le (length p.1) n then p ∷ whole (n - length p.1) ps else []
 
-  -- how many of the bytes are left behind them
+  -- how many of the bytes are left after them
   abbrev pub bytes_left : ℕ → List (A × List ℕ) → ℕ
   bytes_left n [] = n
   bytes_left n (p ∷ ps) = if nat_le (length p.1) n then bytes_left (n - length p.1) ps else n
 
-  -- the pieces behind them
+  -- the pieces after them
   abbrev pub others : ℕ → List (A × List ℕ) → List (A × List ℕ)
   others n [] = []
   others n (p ∷ ps) = if nat_le (length p.1) n then others (n - length p.1) ps else p ∷ ps
@@ -49,8 +49,8 @@ module _ {A : Type 0} where
   CutsFirst front (suc n) [] = Unit {0}
   CutsFirst front (suc n) (p ∷ ps) = IsFront p.1 (suc n) front
 
-  -- Pieces that are cut at a byte: whole pieces as long as they fit, then a front of the next one where bytes are left,
-  -- and the rest.
+  -- Pieces that are cut at a byte: whole pieces as long as they fit, then a front of the next one
+  -- where bytes are left, and the rest.
   pub record IsCut (n : ℕ) (ps first second : List (A × List ℕ)) : Type 0 where
     pub front : ℕ
     pub cuts : CutsFirst front (bytes_left n ps) (others n ps)
@@ -72,8 +72,8 @@ module _ {A : Type 0} where
   AreTexts [] = Unit {0}
   AreTexts (p ∷ ps) = IsUtf8 p.1 × AreTexts ps
 
-  -- Two parts of pieces: they join to the text, and each byte keeps its attribute. The text of the first is the longest
-  -- front of whole characters with at most so many bytes.
+  -- Two parts of pieces: they join to the text, and each byte keeps its attribute. The text of the
+  -- first is the longest front of whole characters with at most so many bytes.
   pub record IsParted (n : ℕ) (ps first second : List (A × List ℕ)) : Type 0 where
     pub text : joined first ++ joined second ≡ joined ps
     pub attributes : shown first ++ shown second ≡ shown ps
@@ -83,7 +83,8 @@ module _ {A : Type 0} where
 abbrev pub changed : StyleModifier → List (Style × List ℕ) → List (Style × List ℕ)
 changed modifier ps = map (λ p. (restyled modifier p.0, p.1)) ps
 
--- pieces between two bytes are changed: they are cut at the first, and what is behind it at the second
+-- pieces between two bytes are changed: they are cut at the first,
+-- and what is after it at the second
 pub record IsModified (start end : ℕ) (modifier : StyleModifier)
     (ps new : List (Style × List ℕ)) : Type 0 where
   pub before : List (Style × List ℕ)

@@ -6,7 +6,7 @@ use std::alloc::{AllocError, Global};
 use std::ops::Range;
 use syntect_theme::style::{Style, StyleModifier};
 
-/// Puts a piece of a copied attribute last.
+/// Appends a piece of a copied attribute.
 fn push_piece<'a, A: Clone + Drop>(
     out: &mut Vec<(A, &'a str)>,
     attribute: &A,
@@ -34,7 +34,8 @@ fn push_all<'a, A: Clone + Drop>(
     Ok(())
 }
 
-/// How many pieces lie in the first so many bytes as a whole, and how many of the bytes are left behind them.
+/// How many pieces lie in the first so many bytes as a whole, and how many of the bytes are left
+/// after them.
 fn whole_pieces<A>(v: &[(A, &str)], split_i: usize) -> (usize, usize)
     ensures within { result.0 ≤ length v.now }
     ensures whole { take result.0 (plain v.now) ≡ whole split_i (plain v.now) }
@@ -79,10 +80,11 @@ fn cut_first<'a, A: Clone + Drop>(
     Ok(after)
 }
 
-/// Cuts pieces at a byte position of their text: the first part has as many whole pieces as fit, and of the next one the
-/// longest front of whole characters; the second part has the rest. Nothing is cut where the position is the end of a
-/// piece. So both parts join to the text, each byte keeps its attribute, and the text of the first part is the longest
-/// front of whole characters that fits. Each attribute's clone has to be equal to it.
+/// Cuts pieces at a byte position of their text: the first part has as many whole pieces as fit,
+/// and of the next one the longest front of whole characters; the second part has the rest. Nothing
+/// is cut where the position is the end of a piece. So both parts join to the text, each byte keeps
+/// its attribute, and the text of the first part is the longest front of whole characters that
+/// fits. Each attribute's clone has to be equal to it.
 pub fn split_at<'a, A: Clone + Drop>(
     alloc: Global,
     v: &[(A, &'a str)],
@@ -102,8 +104,8 @@ pub fn split_at<'a, A: Clone + Drop>(
     Ok((before, after))
 }
 
-/// Changes the styles of pieces between two byte positions of their text: they are cut at the first, and what is behind
-/// it is cut at as many bytes more.
+/// Changes the styles of pieces between two byte positions of their text: they are cut at the
+/// first, and what is after it is cut at as many bytes more.
 pub fn modify_range<'a>(
     alloc: Global,
     v: &[(Style, &'a str)],

@@ -55,7 +55,7 @@ module _ (ts : List Tree) (cells : List Cell) where
       let Q : ℕ → Type 0 = λ x. IsSame ts cells k t x in
       subst P e (subst Q n s)
 
-  -- the cell of the same item before what goes on behind it alone
+  -- the cell of the same item before what goes on after it alone
   pub partner-is : AreBuilt ts cells → (k : ℕ) (t : Tree) (f g : ℕ) → IsPart ts cells k t f g → IsSame ts cells (partner_of cells k) t g
   partner-is b k t f g p = by (cell_at cells k).source (b.sources k p.cell.inside)
     where
@@ -172,7 +172,7 @@ module _ (ts : List Tree) (old new : List Cell) (c : Cell) (n : new ≡ old ++ c
         cost = cost-push;
       }
 
--- a cell for a node before the same at its place and behind it
+-- a cell for a node before the same at its place and after it
 pub adds-own : (ts : List Tree) (old new : List Cell) (node g k : ℕ) → k ≡ length old → new ≡ old ++ (record { item = Node node; empty = g; next = g; source = Own }) ∷ []
     → AreBuilt ts old → g < length old → is_free (slice_index_or ts node nothing) ≡ true
     → Adds ts old (slice_index_or ts node nothing) g g (cells_of (slice_index_or ts node nothing)) k new
@@ -221,7 +221,7 @@ adds-beside ts old new node cell empty next partner k f g r e q number n b l p =
     let R : ℕ → Type 0 = λ x. Adds ts old t empty g x k new in
     subst R (others-all t r) (subst Q on a)
 
--- -- The loop behind a turn
+-- -- The loop after a turn
 
 and-none : (b : Bool) (most : Option ℕ) → (b && is_none most) ≡ true → most ≡ None
 and-none b None e = refl

@@ -44,7 +44,7 @@ facts-none fs e n = rw e (none n)
     none zero = refl
     none (suc n) = refl
 
--- a character and what is known of a part behind it
+-- a character and what is known of a part after it
 abbrev pub read_first : Facts → Facts
 read_first f = record { reads = true; plain = f.plain; free = f.free; bare = f.bare; calm = f.calm }
 

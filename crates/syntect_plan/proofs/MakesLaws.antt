@@ -19,7 +19,7 @@ pub makes-none : (ts : List Tree) (old : List Cell) (bs cs : List ℕ) (f g : �
     → AreBuilt ts old → IsStep ts old cs f g p t → cost ≡ 1 → Makes ts old bs f g t cost p old cs
 makes-none ts old bs cs f g t cost p looks b s e = record { extends = extends-same ts old b; looks = looks; step = s; cost = omega (arith, e) }
 
--- -- The same goes on at the place and behind it
+-- -- The same goes on at the place and after it
 
 module _ (ts : List Tree) (old : List Cell) (bs : List ℕ) (number g : ℕ) (b : AreBuilt ts old) where
   next-inside : (t : Tree) → IsSame ts old number t g → g < length old
@@ -174,7 +174,7 @@ step-same ts cells bs k p t g h s =
     let R : ℕ → Type 0 = λ x. IsStep ts cells bs (cell_at cells k).empty x p (item_tree ts (cell_at cells k).item) in
     subst P h.tree (subst Q h.empty (subst R h.next s))
 
--- a loop that takes a turn at least has the parts of the loop behind it
+-- a loop that takes a turn at least has the parts of the loop after it
 pub makes-shared : (ts : List Tree) (cells : List Cell) (bs : List ℕ) (k : ℕ) (c : Cell) (q : ℕ) (p : Parts) → AreBuilt ts cells → IsShared ts cells k c q → IsStepOf ts cells bs q p
     → Makes ts cells bs c.empty c.next (item_tree ts c.item) 1 p cells bs
 makes-shared ts cells bs k c q p b h s =

@@ -38,7 +38,7 @@ if-same false o = refl
 pub moved-same : (i j : ℕ) (f : Onward) → moved i f f j ≡ f j
 moved-same i j f = if-same (j == i) (f j)
 
--- at the place or behind it
+-- at the place or after it
 pub at-or-past : (i j : ℕ) → i ≤ j → ((j ≡ i) ⊎ (i < j))
 at-or-past i j l = grind arith
 
@@ -121,7 +121,7 @@ module _ (s : List ℕ) where
     unfolding onward
     onward-alike t F G i c h = reaches-alike (Ahead i) F G (matches s t i []) (matches-forward s u t i [] c) (λ m p. h m.0 p.0 p.1)
 
-    -- where a tree always reads, only what goes on behind the place counts
+    -- where a tree always reads, only what goes on after the place counts
     pub onward-reads : (t : Tree) (f f' g : Onward) (i : ℕ) → reads t ≡ true → IsCharBoundary s i → onward s t (moved i f g) i ≡ onward s t (moved i f' g) i
     unfolding onward
     onward-reads t f f' g i r c =
@@ -138,7 +138,7 @@ module _ (s : List ℕ) where
     onward-then a b e F i c =
         reaches-flat_map (Ahead i) F (onward s b F) (λ m. matches s b m.0 m.1) (matches s a i []) (matches-forward s u a i [] c) (leads b e F (Ahead i))
 
-    -- what follows the first part, at the place and behind it
+    -- what follows the first part, at the place and after it
     abbrev pub following : Tree → Onward → Onward → Onward
     following b f g j = onward s b (moved j f g) j
 
@@ -160,7 +160,7 @@ module _ (s : List ℕ) where
         onward-then a b e (moved i f g) i c
         ∙ onward-alike a (onward s b (moved i f g)) (moved i (following b f g) (following b g g)) i c (λ j l d. then-moved b f g i j l d)
 
-    -- a turn more, from behind the place
+    -- a turn more, from just after the place
     pub turn-room : (greedy : Bool) (least : ℕ) (most : Option ℕ) (a : Tree) (i j : ℕ) (h : Groups) → IsCharBoundary s j → i < j
         → turns (matches s a) greedy (length s - i) least most j h ≡ matches s (repeat greedy least most a) j h
     turn-room greedy least most a i j h c l =

@@ -103,7 +103,7 @@ heights-none ts ns e n = rw e (none n)
     none zero = refl
     none (suc n) = refl
 
--- one cell more behind its height
+-- one cell more after its height
 pub levels-more : (ts : List Tree) (cells : List Cell) (old new : List (ℕ × ℕ)) (hs : List ℕ) (n k : ℕ) → AreCapped hs (heights_from ts [] cells) → n ≡ get_or hs k 0
     → old ≡ levels ts cells k → new ≡ old ++ (n, k) ∷ [] → new ≡ levels ts cells (suc k)
 unfolding height

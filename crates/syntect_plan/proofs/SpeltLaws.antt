@@ -23,12 +23,13 @@ use Rattle.syntect_plan.specs.Spelt.{AllBelow, ArePlaces, place_at}
 
 -- -- One node more
 
--- what holds of the list before and of the one to come holds of the list after a push, whether it had memory or not
+-- what holds of the list before and of the one to come holds of the list after a push, whether it
+-- had memory or not
 pub after-push : {A E : Type 0} (P : List Node → Type 0) (r : Result A E) (old more new : List Node) → OnOk r (new ≡ more) → OnErr r (new ≡ old) → P old → P more → P new
 after-push P (Ok x) old more new ok err h m = subst P (sym ok) m
 after-push P (Err x) old more new ok err h m = subst P (sym err) h
 
--- a node behind its parts keeps the order
+-- a node after its parts keeps the order
 pub ordered-push : (ns : List Node) (n : Node) → parts_before (length ns) n ≡ true → IsOrdered ns → IsOrdered (ns ++ n ∷ [])
 ordered-push ns n b h k l =
     elim (cases_lt k (length ns)) [

@@ -187,7 +187,7 @@ plain-bare (behind negated a) e = cc
 -- -- A tree that reads goes on
 
 module _ (s : List ℕ) (u : IsUtf8 s) where
-  -- each member ends behind the place
+  -- each member ends after the place
   abbrev pub Behind : ℕ → List Member → Type 0
   Behind i = Each (λ m. i < m.0)
 
@@ -246,7 +246,7 @@ module _ (s : List ℕ) (u : IsUtf8 s) where
       (e i g c))))
       (onto-only (least == 0) i g c)
 
-  -- behind a part that goes on
+  -- after a part that goes on
   abbrev Far : ℕ → Member → Type 0
   Far i m = (i < m.0) × IsCharBoundary s m.0
 
@@ -273,7 +273,7 @@ module _ (s : List ℕ) (u : IsUtf8 s) where
   none-if zero e = cc
   none-if (suc n) e = grind arith
 
-  -- what goes on from a boundary before a place behind it
+  -- what goes on from a boundary before a place after it
   pub behind-matches : (t : Tree) → reads t ≡ true → (i : ℕ) (g : Groups) → IsCharBoundary s i → Behind i (matches s t i g)
   behind-matches nothing e i g c = absurd cc
   behind-matches (one_of a) e i g c = behind-past (holds a) (char_at s i) i g

@@ -1,4 +1,4 @@
--- How a plan is made: the cells of a cell's parts, behind those that are there.
+-- How a plan is made: the cells of a cell's parts, after those that are there.
 use Rattle.std.specs.Prelude.{◌≡◌, ◌&&◌, ◌==◌, ℕ, suc, ◌+◌, ◌<◌, if◌then◌else◌, sum_by, is_none, Bool, false, List, length, Option, None, slice_index_or}
 use Rattle.syntect_pattern.specs.Trees.{Tree, nothing, repeat}
 use Rattle.syntect_plan.specs.Cells.{cell_at, cell_tree, item_tree, is_end}
@@ -13,7 +13,7 @@ use Rattle.syntect_plan.specs.declared.plan.Plan.{Plan}
 abbrev pub tree_at : List Tree → ℕ → Tree
 tree_at ts n = slice_index_or ts n nothing
 
--- the cell has the tree, and the same goes on at its place and behind it
+-- the cell has the tree, and the same goes on at its place and after it
 pub record IsSame (ts : List Tree) (cells : List Cell) (k : ℕ) (t : Tree) (g : ℕ) : Type 0 where
   pub inside : k < length cells
   pub real : is_end (cell_at cells k).item ≡ false
@@ -30,7 +30,7 @@ pub record IsShared (ts : List Tree) (cells : List Cell) (k : ℕ) (c : Cell) (p
   pub tree : item_tree ts c.item ≡ repeat greedy 0 None body
   pub same : IsSame ts cells p (repeat greedy 1 None body) c.next
 
--- the earlier cell has the tree before what goes on behind this one
+-- the earlier cell has the tree before what goes on after this one
 pub record IsBeside (ts : List Tree) (cells : List Cell) (k : ℕ) (c : Cell) (p : ℕ) : Type 0 where
   pub below : p < k
   pub same : IsSame ts cells p (item_tree ts c.item) c.next
@@ -66,14 +66,15 @@ cell_cells ts c = source_cells c.source (item_tree ts c.item)
 abbrev pub all_cells : List Tree → List Cell → ℕ
 all_cells ts cells = sum_by (cell_cells ts) cells
 
--- the cell is there for the tree, before f at its place and g behind it, and takes so many
+-- the cell is there for the tree, before f at its place and g after it, and takes so many
 pub record Adds (ts : List Tree) (old : List Cell) (t : Tree) (f g w k : ℕ) (new : List Cell)
     : Type 0 where
   pub extends : Extends ts old new
   pub part : IsPart ts new k t f g
   pub cost : all_cells ts new ≡ all_cells ts old + w
 
--- the loop behind a turn has a cell, which may be the loop's own; with a turn and the loop it takes what the loop takes
+-- the loop after a turn has a cell, which may be the loop's own; with a turn and the loop it takes
+-- what the loop takes
 pub record AddsMore (ts : List Tree) (old : List Cell) (g : ℕ) (greedy : Bool) (least : ℕ)
     (most : Option ℕ) (a : Tree) (more : ℕ) (new : List Cell) : Type 0 where
   pub extends : Extends ts old new
@@ -81,11 +82,12 @@ pub record AddsMore (ts : List Tree) (old : List Cell) (g : ℕ) (greedy : Bool)
   pub cost : suc (all_cells ts new + (cells_of a + others_of a))
       ≡ all_cells ts old + cells_of (repeat greedy least most a)
 
--- where the loop behind a turn has its parts from
+-- where the loop after a turn has its parts from
 abbrev pub turn_source : ℕ → ℕ → Option ℕ → Source
 turn_source number least most = if (least == 1) && is_none most then Shared number else Own
 
--- the cells of the tree's parts are there, before f at its place and g behind it; the tree takes so many with its own
+-- the cells of the tree's parts are there, before f at its place and g after it; the tree takes so
+-- many with its own
 pub record Makes (ts : List Tree) (old : List Cell) (olds : List ℕ) (f g : ℕ) (t : Tree) (w : ℕ)
     (p : Parts) (new : List Cell) (news : List ℕ) : Type 0 where
   pub extends : Extends ts old new
@@ -93,12 +95,12 @@ pub record Makes (ts : List Tree) (old : List Cell) (olds : List ℕ) (f g : ℕ
   pub step : IsStep ts new news f g p t
   pub cost : suc (all_cells ts new) ≡ all_cells ts old + w
 
--- the parts of the tree, before what goes on at its place and behind it
+-- the parts of the tree, before what goes on at its place and after it
 abbrev pub MakesOwn : List Tree → Plan → ℕ → ℕ → Tree → Parts → Plan → Type 0
 MakesOwn ts old number g t p new = AreBuilt ts old.cells → IsSame ts old.cells number t g
     → Makes ts old.cells old.behinds g g t (cells_of t) p new.cells new.behinds
 
--- the parts of the tree, beside those where what goes on behind it goes on at its place too
+-- the parts of the tree, beside those where what goes on after it goes on at its place too
 abbrev pub MakesBeside : List Tree → Plan → ℕ → ℕ → Tree → Parts → Parts → Plan → Type 0
 MakesBeside ts old f g t parts p new = AreBuilt ts old.cells → f < length old.cells
     → IsStep ts old.cells old.behinds g g parts t

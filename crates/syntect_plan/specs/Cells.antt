@@ -23,7 +23,7 @@ beside_or k Own = k
 beside_or k (Shared p) = k
 beside_or k (Beside p) = p
 
--- the cell of the same item before what goes on behind this one alone, which may be this one
+-- the cell of the same item before what goes on after this one alone, which may be this one
 abbrev pub partner_of : List Cell → ℕ → ℕ
 partner_of cells k = beside_or k (cell_at cells k).source
 
@@ -57,7 +57,8 @@ abbrev pub cell_tree : List Tree → List Cell → ℕ → Tree
 cell_tree ts cells k = item_tree ts (cell_at cells k).item
 
 module _ (s : List ℕ) (ts : List Tree) where
-  -- where the whole match ends that goes on with the item, before what goes on at the place and behind it
+  -- where the whole match ends that goes on with the item, before what goes on at the place and
+  -- after it
   abbrev pub item_end : Onward → Onward → Item → Onward
   item_end f g End i = Some i
   item_end f g (Node n) i = onward s (item_tree ts (Node n)) (moved i f g) i
@@ -84,7 +85,8 @@ is_end End = true
 is_end _ = false
 
 module _ (ts : List Tree) where
-  -- how much of the pattern can be gone through at one place from the item on, before what goes on at the place
+  -- how much of the pattern can be gone through at one place from the item on, before what goes on
+  -- at the place
   abbrev pub item_height : ℕ → Item → ℕ
   item_height rest End = zero
   item_height rest (Node n) = tree_height rest (item_tree ts (Node n))

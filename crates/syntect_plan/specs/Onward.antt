@@ -5,7 +5,8 @@ use Rattle.syntect_pattern.specs.Trees.{Tree, nothing, one_of, anchor, same, seq
 use Rattle.syntect_pattern.specs.Matches.{Member, matches}
 use Rattle.syntect_pattern.specs.Nesting.{looks_fail}
 
--- for each place where the whole match ends, if what follows goes on from there; none where it has no match
+-- for each place where the whole match ends, if what follows goes on from there; none where it has
+-- no match
 abbrev pub Onward : Type 0
 Onward = ℕ → Option ℕ
 
@@ -19,7 +20,7 @@ abbrev pub chosen : Onward → List Member → Option Member
 chosen F [] = None
 chosen F (m ∷ ms) = if is_some (F m.0) then Some m else chosen F ms
 
--- the one where nothing was read from the place on, and the other one behind it
+-- the one where nothing was read from the place on, and the other one after it
 abbrev pub moved : ℕ → Onward → Onward → Onward
 moved i f g j = if j == i then f j else g j
 
@@ -56,7 +57,8 @@ is_calm (atomic a) = is_calm a
 is_calm (ahead negated a) = negated || is_bare a
 is_calm _ = true
 
--- there is no back reference, what lookbehinds look for is plain, and no lookahead in a loop sets groups
+-- there is no back reference, what lookbehinds look for is plain,
+-- and no lookahead in a loop sets groups
 abbrev pub is_free : Tree → Bool
 is_free (same fold n) = false
 is_free (seq a b) = is_free a && is_free b
@@ -69,7 +71,8 @@ is_free (behind negated a) = plain a
 is_free _ = true
 
 module _ (s : List ℕ) where
-  -- the end of the whole match, where the tree is matched from the place on and then what follows goes on
+  -- the end of the whole match, where the tree is matched from the place on and then what follows
+  -- goes on
   unfoldable pub onward : Tree → Onward → Onward
   onward t F i = reaches F (matches s t i [])
 

@@ -8,7 +8,7 @@ use Rattle.syntect_plan.specs.declared.cells.Cell.{Cell}
 unfoldable pub capped : ℕ → ℕ
 capped n = min n (2 ^ 64 - 1)
 
--- the cells below the number, each behind its height
+-- the cells below the number, each after its height
 abbrev pub levels : List Tree → List Cell → ℕ → List (ℕ × ℕ)
 levels ts cells zero = []
 levels ts cells (suc k) = levels ts cells k ++ (capped (height ts cells k), k) ∷ []

@@ -4,7 +4,8 @@ use Rattle.syntect_pattern.specs.Trees.{Tree, nothing, seq, alt, repeat, group, 
 use Rattle.syntect_plan.specs.Cells.{tree_size}
 use Rattle.syntect_plan.specs.Order.{capped}
 
--- one pass for each node of what a lookbehind looks for: it goes from the places before the node to those behind it
+-- one pass for each node of what a lookbehind looks for: it goes from the places before the node to
+-- those after it
 abbrev pub passes : Tree → ℕ
 passes (seq a b) = passes a + passes b
 passes (alt a b) = passes a + passes b

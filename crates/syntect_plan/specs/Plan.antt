@@ -7,14 +7,15 @@ use Rattle.syntect_plan.specs.declared.cells.Item.{Item}
 use Rattle.syntect_plan.specs.declared.cells.Cell.{Cell}
 use Rattle.syntect_plan.specs.declared.cells.Parts.{Parts}
 
--- how many cells a loop takes, by those of a turn: one for itself, and one more for each turn that is counted
+-- how many cells a loop takes, by those of a turn: one for itself, and one more for each turn that
+-- is counted
 abbrev pub loop_cells : ℕ → ℕ → Option ℕ → ℕ
 loop_cells w least (Some most) = suc (most * suc w)
 loop_cells w zero None = suc w
 loop_cells w (suc least) None = suc (suc least * suc w)
 
--- how many cells a tree takes, which may read nothing, for what else goes on at its place than behind it, beside those that
--- it takes where the same goes on; a part that reads takes none
+-- how many cells a tree takes, which may read nothing, for what else goes on at its place than
+-- after it, besides those that it takes where the same goes on; a part that reads takes none
 abbrev pub others : Tree → ℕ
 others (seq a b) = suc ((if reads a then 0 else others a) + (if reads b then 0 else others b))
 others (alt a b) = suc ((if reads a then 0 else others a) + (if reads b then 0 else others b))
@@ -27,7 +28,7 @@ others _ = 1
 abbrev pub others_of : Tree → ℕ
 others_of t = if reads t then 0 else others t
 
--- how many cells a tree takes where the same goes on at its place and behind it
+-- how many cells a tree takes where the same goes on at its place and after it
 abbrev pub cells_of : Tree → ℕ
 cells_of (seq a b) = suc (cells_of a + cells_of b)
 cells_of (alt a b) = suc (cells_of a + cells_of b)
@@ -41,8 +42,8 @@ cells_of _ = 1
 abbrev pub plan_cells : Tree → ℕ
 plan_cells t = suc (cells_of t)
 
--- The pattern has no plan of at most so many cells: it has a back reference, or a lookbehind looks for what isn't plain, or
--- a lookahead in a loop sets groups, or it takes more cells.
+-- The pattern has no plan of at most so many cells: it has a back reference, or a lookbehind looks
+-- for what isn't plain, or a lookahead in a loop sets groups, or it takes more cells.
 abbrev pub IsHard : ℕ → Tree → Type 0
 IsHard most t = (is_free t ≡ false) ⊎ (most < plan_cells t)
 
@@ -51,7 +52,7 @@ pub record IsEasy (most : ℕ) (t : Tree) : Type 0 where
   pub free : is_free t ≡ true
   pub few : plan_cells t ≤ most
 
--- cell 0 is the end, each other one stands behind those that go on, and the trees are free
+-- cell 0 is the end, each other one comes after those that go on, and the trees are free
 pub record AreCells (ts : List Tree) (cells : List Cell) : Type 0 where
   pub some : 0 < length cells
   pub last : cell_at cells 0 ≡ last_cell
@@ -59,7 +60,7 @@ pub record AreCells (ts : List Tree) (cells : List Cell) : Type 0 where
   pub next : (k : ℕ) → 0 < k → k < length cells → (cell_at cells k).next < k
   pub free : (k : ℕ) → is_free (cell_tree ts cells k) ≡ true
 
--- more cells, behind those that were there
+-- more cells, after those that were there
 pub record Grows (old new : List Cell) : Type 0 where
   pub longer : length old ≤ length new
   pub kept : (k : ℕ) → k < length old → cell_at new k ≡ cell_at old k
@@ -88,11 +89,11 @@ pub record IsSequence (ts : List Tree) (cells : List Cell) (f g first : ℕ) (a 
   pub second_is : IsPart ts cells behind_it b g g
   pub again_is : reads a ≡ false → IsPart ts cells at b f g
 
--- the loop behind a turn
+-- the loop after a turn
 abbrev pub loop_behind : Bool → ℕ → Option ℕ → Tree → Tree
 loop_behind greedy least most a = repeat greedy (least - 1) (option_map (λ k. k - 1) most) a
 
--- a turn of a loop: what reads nothing leaves it, and behind it the loop goes on
+-- a turn of a loop: what reads nothing leaves it, and after it the loop goes on
 pub record IsTurn (ts : List Tree) (cells : List Cell) (f g first : ℕ) (greedy : Bool)
     (least : ℕ) (most : Option ℕ) (a : Tree) : Type 0 where
   pub more : ℕ

@@ -7,7 +7,8 @@ use Rattle.syntect_plan.specs.Facts.{AreFacts}
 use Rattle.syntect_plan.specs.Plan.{IsPlanned}
 use Rattle.syntect_plan.specs.declared.plan.Plan.{Plan}
 
--- the plan has all cells of the program, none of whose nodes holds letters in a row, and their parts
+-- the plan has all cells of the program, none of whose nodes holds letters in a row,
+-- and their parts
 pub record IsPlanOf (p : Program) (plan : Plan) : Type 0 where
   pub spelt : AreSpelt p.nodes
   pub facts_are : AreFacts plan.facts (trees_of p)

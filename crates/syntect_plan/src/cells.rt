@@ -21,15 +21,18 @@ pub enum Item {
 /// Where the cells of a cell's parts come from.
 #[derive(Clone, Copy)]
 pub enum Source {
-    /// They are its own: the same goes on at its place and behind it.
+    /// The cell's own: the same goes on at its place and after it.
     Own,
-    /// They are those of the cell, a loop that takes one turn at least where this one may take none.
+    /// The cells of the parts of another cell, a loop that takes one turn at least where this one
+    /// may take none.
     Shared(usize),
-    /// They stand beside those of the cell, which has the same item before what goes on behind this one alone.
+    /// Besides its own, those of another cell, which has the same item before what goes on after
+    /// this one alone.
     Beside(usize),
 }
 
-/// An item, the cell that goes on at its place where it reads nothing, and the one that goes on behind it.
+/// An item, the cell that goes on at its place where it reads nothing, and the one that goes on
+/// after it.
 #[derive(Clone, Copy)]
 pub struct Cell {
     pub item: Item,
@@ -58,7 +61,7 @@ pub fn cell_at(cells: &[Cell], cell: usize) -> Cell
     })
 }
 
-/// The cell of the same item before what goes on behind this one alone, which may be this one.
+/// The cell of the same item before what goes on after this one alone, which may be this one.
 pub fn partner_of(cells: &[Cell], cell: usize) -> usize
     ensures { result ≡ spec.partner_of cells.now cell }
 {

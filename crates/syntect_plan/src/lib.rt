@@ -1,4 +1,5 @@
-//! The plan of a pattern: its parts with what goes on behind each, by which a search needn't back up.
+//! The plan of a pattern: its parts with what goes on after each,
+//! by which a search needn't back up.
 #![tactic(auto)]
 
 pub mod cells;

@@ -1,8 +1,9 @@
 //! The order in which the cells of a plan are gone through at a place.
 //!
-//! What a cell has to know at a place it learns from lower ones: the cells of its parts, and the one that goes on at the
-//! place. With the lowest first, each is known when it is asked for, so that calls lie in one another but one deep, however
-//! deep the pattern is. What is found does not depend on the order.
+//! What a cell has to know at a place it learns from lower ones: the cells of its parts, and the
+//! one that goes on at the place. With the lowest first, each is known when it is asked for, so
+//! that calls lie in one another but one deep, however deep the pattern is. What is found does not
+//! depend on the order.
 ghost use Rattle.std.specs.Prelude.{◌≡◌, ◌+◌, ◌&&◌, ℕ, suc, nat_lt, if◌then◌else◌, [], IfOk, IsPermutation, IsSorted, List, false, length, slice_index_or};
 ghost use Rattle.syntect_pattern.specs.Trees.{Tree};
 ghost use Rattle.syntect_pattern_table.specs.Program.{trees_of};
@@ -50,7 +51,8 @@ fn larger(size: usize, more: usize) -> usize
     size.saturating_add(more)
 }
 
-/// How many nodes a node has with those of its parts, and one more for a part that is matched on its own.
+/// How many nodes a node has with those of its parts, and one more for a part that is matched on
+/// its own.
 #[tactic(auto, unfolding(crate::specs::Order::capped))]
 pub(crate) fn node_size(node: &Node, before: &[usize]) -> usize
     ensures { (ts : List Tree) → AreSizes before.now ts → is_text node.now ≡ false
@@ -69,7 +71,7 @@ pub(crate) fn node_size(node: &Node, before: &[usize]) -> usize
     }
 }
 
-/// The same of each node.
+/// Of each node, how many nodes it has with those of its parts, as `node_size` counts them.
 fn sizes_of(alloc: Global, nodes: &[Node]) -> Result<Vec<usize>, AllocError>
     ensures { IfOk result (λ sizes. AreSpelt nodes.now → AreSizes sizes.items (trees nodes.now)) }
 {
@@ -81,7 +83,8 @@ fn sizes_of(alloc: Global, nodes: &[Node]) -> Result<Vec<usize>, AllocError>
     Ok(sizes)
 }
 
-/// How much can be gone through at one place of a part so large, before so much that goes on at the place.
+/// How much can be gone through at one place of a part so large, before so much that goes
+/// on at the place.
 #[tactic(auto, unfolding(crate::specs::Order::capped))]
 fn height_from(size: usize, reads: bool, rest: usize) -> usize
     ensures { (a b : ℕ) → size ≡ capped a → rest ≡ capped b
@@ -124,7 +127,7 @@ fn cell_height(cell: Cell, sizes: &[usize], facts: &[Facts], before: &[usize]) -
     }
 }
 
-/// The same of each cell.
+/// Of each cell, how much of the pattern can be gone through at one place from it on.
 fn heights_of(alloc: Global, plan: &Plan, sizes: &[usize]) -> Result<Vec<usize>, AllocError>
     ensures heights { IfOk result (λ heights. (ts : List Tree) → AreFacts plan.now.facts ts
         → AreSizes sizes.now ts → AreCapped heights.items (heights_from ts [] plan.now.cells)) }
@@ -139,7 +142,7 @@ fn heights_of(alloc: Global, plan: &Plan, sizes: &[usize]) -> Result<Vec<usize>,
     Ok(heights)
 }
 
-/// The cells, each behind its height, the lowest first.
+/// The cells, each after its height, the lowest first.
 pub fn order_of(
     alloc: Global,
     program: &Program,

@@ -12,7 +12,7 @@ use std::alloc::{AllocError, Global};
 use syntect_pattern_table::node::Node;
 use syntect_pattern_table::program::Program;
 
-/// Those of two parts.
+/// How many passes two parts take, by those of each, at most the largest number.
 #[tactic(auto, unfolding(crate::specs::Order::capped))]
 fn sum_of(first: usize, second: usize) -> usize
     ensures { (a b : ℕ) → first ≡ capped a → second ≡ capped b → result ≡ capped (a + b) }
@@ -20,7 +20,8 @@ fn sum_of(first: usize, second: usize) -> usize
     first.saturating_add(second)
 }
 
-/// How many passes the lookbehinds of a node take, by the sizes of the nodes before it and by their passes.
+/// How many passes the lookbehinds of a node take, by the sizes of the nodes before it
+/// and by their passes.
 #[tactic(auto, unfolding(crate::specs::Order::capped))]
 fn node_passes(node: &Node, sizes: &[usize], before: &[usize]) -> usize
     ensures { (ts : List Tree) → AreSizes sizes.now ts → ArePasses before.now ts
@@ -38,8 +39,8 @@ fn node_passes(node: &Node, sizes: &[usize], before: &[usize]) -> usize
     }
 }
 
-/// How many passes over a text the lookbehinds of a program take, none of whose nodes holds letters in a row: one for each node
-/// of what they look for.
+/// How many passes over a text the lookbehinds of a program take, none of whose nodes holds letters
+/// in a row: one for each node of what they look for.
 pub fn passes_of(alloc: Global, program: &Program) -> Result<usize, AllocError>
     requires { AreSpelt program.now.nodes }
     ensures { IfOk result (λ n. n

@@ -1,9 +1,10 @@
 //! The plan of a search: the cells of a pattern.
 //!
-//! What may read nothing can stand before one thing that goes on at its place and another behind it: the body of a loop
-//! does, since a turn that reads nothing leaves the loop. Such a cell stands beside one of the same item before what goes on
-//! behind it alone, and their parts share their cells as far as each match of a part reads something. So a part takes one
-//! cell, and one more for each loop around it that it lets through without reading; only turns that are counted take cells
+//! What may read nothing can stand before one thing that goes on at its place and another after it:
+//! the body of a loop does, since a turn that reads nothing leaves the loop. Such a cell stands
+//! beside one of the same item before what goes on after it alone, and their parts share their
+//! cells as far as each match of a part reads something. So a part takes one cell, and one more for
+//! each loop around it that it lets through without reading; only turns that are counted take cells
 //! for each.
 ghost use Rattle.std.specs.Prelude.{◌≡◌, ℕ, ◌<◌, ◌≤◌, ◌+◌, ◌-◌, [], ◌∷◌, ◌++◌, Bool, IfOk, IfNone, IfSome, OnOk, is_some, List, length, option_map, slice_index_or, is_none, ◌&&◌, ◌==◌, Some, true, false};
 ghost use Rattle.syntect_plan.specs.Build as build;
@@ -61,7 +62,7 @@ impl Plan {
         Ok(number)
     }
 
-    /// A cell for the node, before the same at its place and behind it.
+    /// A cell for the node, before the same at its place and after it.
     fn push_own(&mut self, node: usize, next: usize) -> Result<usize, AllocError>
         ensures cell { IfOk result (λ k. (ts : List Tree) → AreBuilt ts self.old.cells
             → next < length self.old.cells → is_free (tree_at ts node) ≡ true
@@ -78,8 +79,9 @@ impl Plan {
         })
     }
 
-    /// A cell for the node, which has a cell already, before something else at its place. Where each match of the node reads
-    /// something nothing goes on at its place, so the cell that it has will do.
+    /// A cell for the node, which has a cell already, before something else at its place. Where
+    /// each match of the node reads something nothing goes on at its place, so the cell that it has
+    /// will do.
     fn push_beside(&mut self, node: usize, cell: usize, empty: usize) -> Result<usize, AllocError>
         ensures cell { IfOk result (λ k. (ts : List Tree) (f g : ℕ) → AreFacts self.old.facts ts
             → AreBuilt ts self.old.cells → empty < length self.old.cells
@@ -101,7 +103,7 @@ impl Plan {
         })
     }
 
-    /// The cell of a loop behind a turn, which may be the loop's own.
+    /// The cell of a loop after a turn, which may be the loop's own.
     fn push_more(
         &mut self,
         number: usize,
@@ -135,7 +137,7 @@ impl Plan {
         })
     }
 
-    /// The parts of a loop, before the same at its place and behind it.
+    /// The parts of a loop, before the same at its place and after it.
     fn own_turns(
         &mut self,
         number: usize,
@@ -159,7 +161,7 @@ impl Plan {
         Ok(Parts { first, second: 0 })
     }
 
-    /// The parts of a sequence, before the same at its place and behind it.
+    /// The parts of a sequence, before the same at its place and after it.
     fn own_sequence(
         &mut self,
         next: usize,
@@ -205,7 +207,8 @@ impl Plan {
         Ok(Parts { first, second: 0 })
     }
 
-    /// The number of what a lookbehind looks for. In a loop that is spelt out it is the same for each turn.
+    /// The number of what a lookbehind looks for. In a loop that is spelt out it is the same for
+    /// each turn.
     fn look_for(&mut self, body: usize) -> Result<usize, AllocError>
         ensures there { IfOk result (λ k. (ts : List Tree)
             → LooksFor ts self.new.behinds k (tree_at ts body)) }
@@ -223,7 +226,7 @@ impl Plan {
         Ok(number)
     }
 
-    /// The parts of a node, before the same at its place and behind it.
+    /// The parts of a node, before the same at its place and after it.
     fn own_node(&mut self, node: &Node, number: usize, next: usize) -> Result<Parts, AllocError>
         requires spelt { is_text node.now ≡ false }
         ensures step { IfOk result (λ p. (ts : List Tree) → AreFacts self.old.facts ts
@@ -286,7 +289,7 @@ impl Plan {
         }
     }
 
-    /// The parts of a sequence, beside those that it has before what goes on behind it alone.
+    /// The parts of a sequence, beside those that it has before what goes on after it alone.
     fn beside_sequence(
         &mut self,
         empty: usize,
@@ -305,7 +308,7 @@ impl Plan {
         Ok(Parts { first, second: 0 })
     }
 
-    /// The same of two branches.
+    /// The parts of two branches, beside those that they have before what goes on after them alone.
     fn beside_branches(
         &mut self,
         empty: usize,
@@ -323,7 +326,8 @@ impl Plan {
         Ok(Parts { first, second })
     }
 
-    /// The same of a loop. Behind a turn the loop goes on as it does there, since something was read then.
+    /// The parts of a loop, beside those that it has before what goes on after it alone. After a
+    /// turn the loop goes on as it does there, since something was read then.
     fn beside_turns(
         &mut self,
         empty: usize,
@@ -343,7 +347,7 @@ impl Plan {
         Ok(Parts { first, second: 0 })
     }
 
-    /// The same of a group.
+    /// The parts of a group, beside those that it has before what goes on after it alone.
     fn beside_group(&mut self, empty: usize, parts: Parts, body: usize) -> Result<Parts, AllocError>
         ensures step { IfOk result (λ p. (ts : List Tree) (g n : ℕ) → AreFacts self.old.facts ts
             → MakesBeside ts self.old empty g (group n (tree_at ts body)) parts p self.new) }
@@ -353,7 +357,8 @@ impl Plan {
         Ok(Parts { first, second: 0 })
     }
 
-    /// The same of a node. What is matched on its own does not depend on what goes on, so its part is there already.
+    /// The parts of a node, beside those that it has before what goes on after it alone. What is
+    /// matched on its own does not depend on what goes on, so its part is there already.
     fn beside_node(&mut self, node: &Node, empty: usize, parts: Parts) -> Result<Parts, AllocError>
         requires spelt { is_text node.now ≡ false }
         ensures step { IfOk result (λ p. (ts : List Tree) (g : ℕ) → AreFacts self.old.facts ts
@@ -376,7 +381,7 @@ impl Plan {
         }
     }
 
-    /// The same of a cell's item.
+    /// The parts of a cell's item, beside those that it has before what goes on after it alone.
     fn beside_parts(
         &mut self,
         program: &Program,
@@ -460,9 +465,10 @@ impl Plan {
         Ok(plan)
     }
 
-    /// The plan of a program none of whose nodes holds letters in a row, in a step for each cell. There is none for a
-    /// pattern that has a back reference, a lookbehind for more than characters, anchors, sequences and branches, or a
-    /// lookahead in a loop that sets groups, nor where too many cells are needed.
+    /// The plan of a program none of whose nodes holds letters in a row, in a step for each cell.
+    /// There is none for a pattern that has a back reference, a lookbehind for more than
+    /// characters, anchors, sequences and branches, or a lookahead in a loop that sets groups, nor
+    /// where too many cells are needed.
     pub fn new(
         alloc: Global,
         program: &Program,
@@ -502,14 +508,15 @@ impl Plan {
     }
 }
 
-/// Whether a loop is the same behind a turn.
+/// Whether a loop is the same after a turn.
 fn stays_same(least: u32, most: Option<u32>) -> bool
     ensures { result ≡ ((least == 0) && is_none most) }
 {
     least == 0 && most.is_none()
 }
 
-/// Where the loop behind a turn has its parts from: behind its one turn a loop without a limit has the parts that it had.
+/// Where the loop after a turn has its parts from: after its one turn a loop without a limit has
+/// the parts that it had.
 fn turn_source(number: usize, least: u32, most: Option<u32>) -> Source
     ensures { result ≡ build.turn_source number least most }
 {

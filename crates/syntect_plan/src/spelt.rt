@@ -29,8 +29,8 @@ fn place_at(places: &[usize], node: usize) -> usize
     places.get(node).copied().unwrap_or(0)
 }
 
-/// The node with its parts at their new places: it has the same tree wherever these hold the trees of its parts. Letters in a
-/// row, which have no copy, give an empty node.
+/// The node with its parts at their new places: it has the same tree wherever these hold the trees
+/// of its parts. Letters in a row, which have no copy, give an empty node.
 fn copy_of(alloc: Global, node: &Node, places: &[usize]) -> Result<Node, AllocError>
     ensures spelt { IfOk result (λ copy. is_text copy ≡ false) }
     ensures before { IfOk result (λ copy. (n : ℕ) → AllBelow n places.now
@@ -82,7 +82,7 @@ impl Spelling {
     ghost use Rattle.syntect_letters.specs.Letters.{letters_tree};
     ghost use Rattle.syntect_pattern_table.specs.Builder.{Grows, Holds, tree_in};
 
-    /// Puts a node last.
+    /// Appends a node.
     fn push(&mut self, node: Node) -> Result<usize, AllocError>
         requires before { parts_before (length self.old.nodes) node ≡ true }
         requires spelt { is_text node ≡ false }
@@ -95,7 +95,7 @@ impl Spelling {
         Ok(place)
     }
 
-    /// Puts a letter last.
+    /// Appends a letter.
     fn push_letter(&mut self, fold: bool, letter: u8) -> Result<usize, AllocError>
         ensures grows { OnOk result (Grows self.old.nodes self.new.nodes) }
         ensures holds { IfOk result (λ k. Holds self.new.nodes k
@@ -125,7 +125,7 @@ impl Spelling {
         self.push(Node::Sequence(first, rest))
     }
 
-    /// Puts the same as the node last, whose parts have these new places.
+    /// Appends a copy of the node, whose parts have these new places.
     fn push_node(&mut self, node: &Node, places: &[usize]) -> Result<usize, AllocError>
         requires below { AllBelow (length self.old.nodes) places.now }
         requires before { parts_before (length places.now) node.now ≡ true }
@@ -159,7 +159,7 @@ impl Spelling {
     }
 }
 
-/// The same program with each letter in a node of its own.
+/// The program with each letter in a node of its own.
 pub fn spelt(alloc: Global, program: &Program) -> Result<Program, AllocError>
     ensures spelt { IfOk result (λ p. AreSpelt p.nodes) }
     ensures root { IfOk result (λ p. slice_index_or (trees_of p) p.root nothing

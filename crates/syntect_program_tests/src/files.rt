@@ -1,4 +1,4 @@
-//! Files of grammars and themes: a page by them, and what is told where they were not loaded.
+//! Files of grammars and themes: a page by them, and what is reported where they were not loaded.
 use crate::found::{equal, holds};
 use std::os::unix::fs::symlink;
 use std::path::{Path, PathBuf};
@@ -11,7 +11,7 @@ use syntect::highlighting::ThemeSet;
 use syntect::parsing::{ScopeRepository, SyntaxSetBuilder};
 use syntect_folder_page::folder::page_by_folder;
 
-/// A grammar in which each word behind a space is a `word`.
+/// A grammar in which each word after a space is a `word`.
 const GRAMMAR: &str = r#"%YAML 1.2
 ---
 scope: source.t
@@ -39,7 +39,8 @@ pub fn folder(rt: &(impl Env + Files + AllocGlobal + Abort), name: &str) -> Path
     folder
 }
 
-/// A line about the grammars of a folder, without the folder's path. It is empty where they are loaded.
+/// A line about the grammars of a folder, without the folder's path.
+/// It is empty where they are loaded.
 fn told_of_grammars(rt: &(impl Files + AllocGlobal + Abort), folder: Path<'_>) -> String {
     let alloc = rt.alloc();
     let mut repository = ScopeRepository::new(alloc);
@@ -50,7 +51,8 @@ fn told_of_grammars(rt: &(impl Files + AllocGlobal + Abort), folder: Path<'_>) -
     }
 }
 
-/// The same about the theme in a file.
+/// A line about the theme in a file, without the file's path.
+/// It is empty where the theme is loaded.
 fn told_of_theme(rt: &(impl Files + AllocGlobal + Abort), path: Path<'_>) -> String {
     let alloc = rt.alloc();
     let mut repository = ScopeRepository::new(alloc);
@@ -60,7 +62,7 @@ fn told_of_theme(rt: &(impl Files + AllocGlobal + Abort), path: Path<'_>) -> Str
     }
 }
 
-/// What is told of a refusal, without the path that it begins with.
+/// What is reported of a refusal, without the path that it begins with.
 fn told(rt: &(impl Files + AllocGlobal + Abort), path: Path<'_>, e: &LoadingError) -> String {
     let alloc = rt.alloc();
     let text = why_not_loaded(rt, alloc, path, e).expect(rt, "memory");
@@ -69,7 +71,7 @@ fn told(rt: &(impl Files + AllocGlobal + Abort), path: Path<'_>, e: &LoadingErro
     String::from_str(alloc, rest).expect(rt, "memory")
 }
 
-/// Texts of a grammar's file, and what is told of them.
+/// Texts of a grammar's file, and what is reported of them.
 const GRAMMARS: [(&str, &str); 2] = [
     (
         "scope: s\n",
@@ -81,7 +83,7 @@ const GRAMMARS: [(&str, &str); 2] = [
     ),
 ];
 
-/// Texts of a theme's file, and what is told of them.
+/// Texts of a theme's file, and what is reported of them.
 const THEMES: [(&str, &str); 4] = [
     (
         "<?xml version=\"1.0\"?>\n<plist/>\n",
@@ -122,7 +124,8 @@ fn grammars_are_named_with_line_and_column(rt: HostRuntime) {
     );
 }
 
-/// Grammars are added while the folder is walked: of two faults the earlier is told, and the grammars before it stay.
+/// Grammars are added while the folder is walked: of two faults the earlier is reported, and the
+/// grammars before it stay.
 #[test]
 fn the_first_fault_is_told(rt: HostRuntime) {
     let alloc = rt.alloc();

@@ -1,4 +1,5 @@
-//! Grammars of a folder that are loaded within limits, and what is answered where one passes a limit or is faulty.
+//! Grammars of a folder that are loaded within limits, and what is answered where one passes a
+//! limit or is faulty.
 use crate::files::within;
 use crate::found::{equal, holds};
 use crate::metadata::{File, written};
@@ -12,8 +13,8 @@ use syntect::parsing::{
     add_from_folder_within,
 };
 
-/// Two grammars, of 47 and 89 bytes. The patterns of `main` of the second have 1 and 4 bytes with their variables expanded,
-/// and for the last one 2 variables are used: it counts as 132 bytes.
+/// Two grammars, of 47 and 89 bytes. The patterns of `main` of the second have 1 and 4 bytes with
+/// their variables expanded, and for the last one 2 variables are used: it counts as 132 bytes.
 const GRAMMARS: [File; 2] = [
     (
         "A.sublime-syntax",

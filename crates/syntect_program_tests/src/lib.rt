@@ -1,4 +1,5 @@
-//! Tests of what programs meet: what refusals tell, what `?` makes of them, and a page by a folder of grammars.
+//! Tests of what programs meet: what refusals tell, what `?` makes of them, and a page by a folder
+//! of grammars.
 #![tactic(auto)]
 
 #[cfg(test)]

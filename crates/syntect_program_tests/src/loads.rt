@@ -1,5 +1,5 @@
-//! Sets of a folder's grammars and of its themes, each loaded by one call; what is answered where a file of them is faulty, and
-//! where no syntax fits a file.
+//! Sets of a folder's grammars and of its themes, each loaded by one call; what is answered where a
+//! file of them is faulty, and where no syntax fits a file.
 use crate::files::within;
 use crate::found::{equal, holds};
 use crate::metadata::{File, written};
@@ -166,7 +166,7 @@ fn a_folder_that_is_missing(rt: HostRuntime) {
     holds(&rt, is_no_walk(grammars));
 }
 
-/// A grammar whose files are told by their first line, and such a file.
+/// A grammar whose files are recognised by their first line, and such a file.
 const SCRIPT: [File; 2] = [
     (
         "S.sublime-syntax",
@@ -175,8 +175,8 @@ const SCRIPT: [File; 2] = [
     ("script", "#!a tool\nx\n"),
 ];
 
-/// What a file's highlighter answers to its first line: there is one only where the first line was asked, since the set has
-/// no plain text.
+/// What a file's highlighter answers to its first line: there is one only where the first line was
+/// asked, since the set has no plain text.
 #[test]
 fn a_script_without_an_extension(rt: HostRuntime) {
     let folder = written(&rt, "syntect_script", &SCRIPT);
@@ -234,7 +234,8 @@ fn a_grammar_that_is_no_text(rt: HostRuntime) {
     holds(&rt, matches!(set.err(), Some(LoadingError::Io(_))));
 }
 
-/// What is found for a file within the usual limits: whether there is a syntax, or whether it was not read.
+/// What is found for a file within the usual limits: whether there is a syntax, or whether it was
+/// not read.
 fn found_within(
     rt: &(impl Files + AllocGlobal + Abort),
     set: &SyntaxSet,
@@ -254,7 +255,8 @@ fn found_within(
     }
 }
 
-/// A script that is told by its first line within limits, one whose first line takes more steps, and one that isn't there.
+/// A script that is recognised by its first line within limits, one whose first line takes more
+/// steps, and one that isn't there.
 #[test]
 fn a_script_within_limits(rt: HostRuntime) {
     let folder = written(&rt, "syntect_script_within", &SCRIPT);

@@ -1,4 +1,5 @@
-//! Metadata from folders: which files are read, which are passed over, and which sets replace others.
+//! Metadata from folders: which files are read, which are passed over,
+//! and which sets replace others.
 use crate::files::{folder, within};
 use std::fs;
 use std::path::PathBuf;
@@ -9,8 +10,8 @@ use syntect::parsing::{Scope, ScopeRepository, SyntaxSet, SyntaxSetBuilder};
 /// A file's name and text.
 pub type File = (&'static str, &'static str);
 
-/// Two files of one scope, of which the later counts key by key; one of another scope; a property list; and a file whose name
-/// has no extension.
+/// Two files of one scope, of which the later counts key by key; one of another scope; a property
+/// list; and a file whose name has no extension.
 const FIRST: [File; 5] = [
     (
         "one.tmPreferences",
@@ -34,7 +35,8 @@ const FIRST: [File; 5] = [
     ),
 ];
 
-/// A set that replaces one of the first folder; two that are refused, so that they replace none; and a file without a scope.
+/// A set that replaces one of the first folder; two that are refused, so that they replace none;
+/// and a file without a scope.
 const SECOND: [File; 4] = [
     (
         "new.tmPreferences",
@@ -68,7 +70,8 @@ pub fn written(
     folder
 }
 
-/// What is asked of a scope's metadata: whether a line after this one is indented more, and how a comment begins.
+/// What is asked of a scope's metadata: whether a line after this one is indented more, and how a
+/// comment begins.
 type Row = (&'static str, &'static str, bool, &'static str);
 
 /// Whether one set is for the row's scope, and answers so.

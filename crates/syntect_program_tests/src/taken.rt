@@ -90,7 +90,7 @@ fn shown<T: Drop>(rt: &impl Abort, alloc: Global, answer: Result<T, Error>) -> S
     format!(in alloc; "{e:?}").expect(rt, "memory")
 }
 
-/// What is told of a line's refusal, with the scopes' names.
+/// What is reported of a line's refusal, with the scopes' names.
 fn explained(
     rt: &impl Abort,
     alloc: Global,

@@ -13,7 +13,7 @@ enum Before {
     Braced(u32),
 }
 
-/// The character that is meant behind a backslash.
+/// The character that is meant after a backslash.
 fn named(c: char) -> char {
     match c {
         'n' => '\n',

@@ -18,7 +18,8 @@ fn count_patterns(alloc: Global, texts: &[&str]) -> u32 {
     patterns
 }
 
-/// How many of the texts, with a line `%%` between two, are patterns, and the least time of some rounds, in microseconds.
+/// How many of the texts, with a line `%%` between two, are patterns, and the least time of some
+/// rounds, in microseconds.
 fn least_time(rt: &(impl AllocGlobal + Clock), text: &str, rounds: u32) -> io::Result<(u32, u64)> {
     let texts: Vec<&str> = text.split("\n%%\n").collect(rt.alloc())?;
     let mut least = u64::MAX;
@@ -32,8 +33,9 @@ fn least_time(rt: &(impl AllocGlobal + Clock), text: &str, rounds: u32) -> io::R
     Ok((patterns, least))
 }
 
-/// Prints how long the patterns of a file, with a line `%%` between two, take to be compiled, by the least of some rounds,
-/// and how much that is of the time that another engine takes for them, which is given in microseconds.
+/// Prints how long the patterns of a file, with a line `%%` between two, take to be compiled, by
+/// the least of some rounds, and how much that is of the time that another engine takes for them,
+/// which is given in microseconds.
 pub fn time_patterns(
     rt: &(impl Print + Eprint + AllocGlobal + Files + Clock),
     path: &str,

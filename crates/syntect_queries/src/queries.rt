@@ -1,5 +1,6 @@
-//! Queries to the pattern engine from a file: a line of it has a pattern, a text and the byte position to search from, with
-//! tabs between. In pattern and text a backslash, a tab, a line feed and the like are escaped as in Rust.
+//! Queries to the pattern engine from a file: a line of it has a pattern, a text and the byte
+//! position to search from, with tabs between. In pattern and text a backslash, a tab, a line feed
+//! and the like are escaped as in Rust.
 use crate::escapes::unescaped;
 use std::alloc::Global;
 use std::process::ExitCode;
@@ -123,8 +124,8 @@ fn answers_of(alloc: Global, text: &str) -> io::Result<String> {
     Ok(out)
 }
 
-/// Prints the answer to each query of a file: `BAD` for no pattern, `NONE` where nothing is found, or where the groups
-/// stand, each with a space behind it, `-` for one that is not set.
+/// Prints the answer to each query of a file: `BAD` for no pattern, `NONE` where nothing is found,
+/// or where the groups stand, each with a space after it, `-` for one that is not set.
 pub fn answers(
     rt: &(impl Print + Eprint + AllocGlobal + Files),
     path: &str,
@@ -151,7 +152,7 @@ fn read_data(rt: &(impl AllocGlobal + Files), name: &str) -> io::Result<String> 
     }
 }
 
-/// Whether the query of a line, which stands behind its answer, is answered so.
+/// Whether the query of a line, which comes after its answer, is answered so.
 fn is_answered(alloc: Global, line: &str) -> io::Result<bool> {
     let Some((wanted, query)) = line.split_once('\t') else {
         return Ok(false);
@@ -161,7 +162,8 @@ fn is_answered(alloc: Global, line: &str) -> io::Result<bool> {
     Ok(out.as_str().trim_end() == wanted)
 }
 
-/// How many of the queries of a text, each of which stands behind its answer, are answered so, and how many otherwise.
+/// How many of the queries of a text, each of which comes after its answer, are answered so, and
+/// how many otherwise.
 fn count_lines(alloc: Global, text: &str) -> io::Result<(u32, u32)> {
     let mut answered = 0u32;
     let mut others = 0u32;
@@ -175,7 +177,8 @@ fn count_lines(alloc: Global, text: &str) -> io::Result<(u32, u32)> {
     Ok((answered, others))
 }
 
-/// The same of the queries of a file.
+/// How many of the queries of a file, each of which comes after its answer, are answered so, and
+/// how many otherwise.
 pub fn count_answers(rt: &(impl AllocGlobal + Files), name: &str) -> io::Result<(u32, u32)> {
     count_lines(rt.alloc(), read_data(rt, name)?.as_str())
 }
@@ -196,7 +199,7 @@ pub fn count_texts(alloc: Global, text: &str) -> io::Result<(u32, u32)> {
     Ok((patterns, others))
 }
 
-/// The same of the texts of a file.
+/// How many texts of a file, with a line `%%` between two, are patterns, and how many are none.
 pub fn count_patterns(rt: &(impl AllocGlobal + Files), name: &str) -> io::Result<(u32, u32)> {
     count_texts(rt.alloc(), read_data(rt, name)?.as_str())
 }
@@ -249,8 +252,8 @@ fn times_of(rt: &(impl AllocGlobal + Clock), text: &str, rounds: u32) -> io::Res
     Ok(times)
 }
 
-/// Prints the sum of times, of which the least come first, the sum without the slowest hundredth, the median, what 99 of
-/// 100 lie below, and the slowest.
+/// Prints the sum of times, of which the least come first, the sum without the slowest hundredth,
+/// the median, what 99 of 100 lie below, and the slowest.
 fn show_times(rt: &impl Print, times: &[u64]) -> io::Result<()> {
     let most = times.len() - times.len() / 100;
     let all = sum(times);

@@ -75,7 +75,7 @@ find_in : (line : List ℕ) (place : ℕ) (test : Live → Bool) (ms : List Live
 find_in line place test [] no_more = tt
 find_in line place test (m ∷ ms) (and_more h r) = either_in line place (test m) m (find test ms) h (find_in line place test ms r)
 
--- ---- a step from a place moves on by as many bytes as it gives scopes, within the line, or to its end ----
+-- ---- a step moves on by as many bytes as it gives scopes, within the line, or to its end ----
 
 abbrev InOrder : List ℕ → ℕ → Step → Type 0
 InOrder line place (Goes bytes q) = (place + length bytes ≡ q.place) × (q.place ≤ length line)

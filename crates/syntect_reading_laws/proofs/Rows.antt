@@ -266,7 +266,8 @@ reads_hides : Reads dialect hides (codes "xpp") (at_start at_first) (tops ([] �
 unfolding turn tree_of whole body passed pass quantified quantifier count loop off_letters flags_at named_group flag_group opening next_char escape one_letter hex_escape hex_fixed category_escape named_set name_in run first char_of class class_rest next_in posix_form class_escape member range_end start_of plain_item posix_item found found_at char_at char_before is_boundary is_word_edge is_word is_alike same_fold chars general_category general_category_rows value_in simple_folding simple_folding_rows
 reads_hides = sound dialect hides (codes "xpp") 20 (at_start at_first)
 
--- a set keeps the left level's prototypes on the first new level, its own `with_prototype` is for the last
+-- a set keeps the left level's prototypes on the first new level, its own `with_prototype` is for
+-- the last
 abbrev pub sets : SyntaxSet
 sets = grammar (with_prototype (codes "x") (to 3) (Direct (id 5)) ∷ [])
     (context [] [] (Match (record (plain (codes "y") [] (op.Set (to 4 ++ to 4))) { with_prototype = Some (Direct (id 6)) }) ∷ [])
@@ -380,7 +381,8 @@ plain_start set id c e m l k = rw e (rw (m, k) (ap (λ (xs : Scopes). bare xs) (
 
 -- ---- includes ----
 
--- A context that includes itself: one that the set doesn't hold is followed once, and is then on its own include path,
+-- A context that includes itself: one that the set doesn't hold is followed once, and is then on
+-- its own include path,
 abbrev pub around : Context
 around = context [] [] (pattern (codes "x") [] op.None ∷ Include (Direct (id 0)) ∷ Include (Direct (id 9)) ∷ Include nowhere ∷ [])
 
@@ -429,7 +431,8 @@ refuses_no_prototype : Refuses dialect no_prototype (codes "a") (at_start at_fir
 unfolding turn tree_of whole body passed pass quantified quantifier count loop off_letters flags_at named_group flag_group opening next_char escape one_letter hex_escape hex_fixed category_escape named_set name_in run first char_of class class_rest next_in posix_form class_escape member range_end start_of plain_item posix_item found found_at char_at char_before is_boundary is_word_edge is_word is_alike same_fold chars general_category general_category_rows value_in simple_folding simple_folding_rows
 refuses_no_prototype = sound dialect no_prototype (codes "a") 20 (at_start at_first)
 
--- a match that names no contexts is not refused for its `with_prototype`, a push of an empty list is
+-- a match that names no contexts is not refused for its `with_prototype`,
+-- a push of an empty list is
 abbrev pub empty_list : MatchOperation → SyntaxSet
 empty_list operation = one_pattern (Match (record (plain (codes "x") [] operation) { with_prototype = Some nowhere }))
 

@@ -1,5 +1,5 @@
-//! More laws of reading, which no other crate calls: each is the contract of a function that does nothing. And readings of
-//! small grammars, computed by their definitions.
+//! More laws of reading, which no other crate calls: each is the contract of a function that does
+//! nothing. And readings of small grammars, computed by their definitions.
 #![tactic(auto)]
 
 ghost use Rattle.syntect_parsing.specs.Laws.{AnswersJoin, AnswersPart};
@@ -41,16 +41,16 @@ pub fn places_are_boundaries()
     ensures { PlacesAreBoundaries }
 {}
 
-/// The answers to a list of lines are those to its first lines and then those to the others, from the state that these lead
-/// to.
+/// The answers to a list of lines are those to its first lines and then those to the others, from
+/// the state that these lead to.
 #[tactic(auto, using(syntect_parsing::proofs::AnswerLaws::answers_join, syntect_parsing::proofs::AnswerLaws::answers_part))]
 pub fn answers_join_and_part()
     ensures join { AnswersJoin }
     ensures part { AnswersPart }
 {}
 
-/// The stack that the levels make has their visible scopes. Where no context of a set clears, these are the open ones, and the
-/// stack remembers nothing.
+/// The stack that the levels make has their visible scopes. Where no context of a set clears, these
+/// are the open ones, and the stack remembers nothing.
 #[tactic(auto, using(syntect_parsing::proofs::StackLaws::stack_has_visible, syntect_parsing::proofs::StackLaws::open_is_visible))]
 pub fn stack_has_visible_scopes()
     ensures visible { StackHasVisible }

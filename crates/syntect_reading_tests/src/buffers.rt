@@ -69,7 +69,8 @@ fn has_pieces(
     }
 }
 
-/// A line of a buffer reaches the limit; the next line, and a short one in its place, are read as the first one is.
+/// A line of a buffer reaches the limit; the next line, and a short one in its place, are read as
+/// the first one is.
 fn lines_reach(rt: &impl Abort, alloc: Global, limits: Limits, line: &str, limit: LineLimit) {
     let set = set_of(rt, alloc);
     let theme = Theme::default(alloc);

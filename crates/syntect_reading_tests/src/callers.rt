@@ -9,7 +9,7 @@ use syntect_callers::classed::classed_page_of;
 use syntect_callers::third::third_line;
 use syntect_callers::whole::{page_of, third_line_of};
 
-/// A string that begins with a word behind `<<`, and ends at the line of that word.
+/// A string that begins with a word after `<<`, and ends at the line of that word.
 const HEREDOC: &str =
     "name: T\nscope: source.t\ncontexts:\n  main: [{match: '<<(\\w+)', push: doc}]\n  doc:\n    - meta_scope: string.doc\n    - {match: '^\\1$', pop: true}\n";
 

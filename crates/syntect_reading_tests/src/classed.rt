@@ -1,5 +1,5 @@
-//! Pages of spans with classes: the values of syntect's own tests, and its answers for this grammar. A line that needs a
-//! context which is not there is refused.
+//! Pages of spans with classes: the values of syntect's own tests, and its answers for this
+//! grammar. A line that needs a context which is not there is refused.
 use crate::found::{equal, holds};
 use std::alloc::Global;
 use std::process::Abort;
@@ -9,7 +9,8 @@ use syntect::parsing::{ScopeRepository, SyntaxDefinition, SyntaxSet, SyntaxSetBu
 use syntect::util::LinesWithEndings;
 use syntect_parsing::parser::ParsingError;
 
-/// A sign, names behind `fn` with a block each, notes to the line's end, and a context that is not there.
+/// A sign, names after `fn` with a block each, notes to the line's end,
+/// and a context that is not there.
 const GRAMMAR: &str = r"
 name: T
 scope: source.t

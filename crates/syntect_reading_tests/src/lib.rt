@@ -1,6 +1,7 @@
 //! Tests of reading, by values from outside, and calls of the proved callers.
 //!
-//! They stand in a crate of their own, since a crate that has tests is proved a second time with them.
+//! They stand in a crate of their own, since a crate that has tests is proved a
+//! second time with them.
 #![tactic(auto)]
 
 #[cfg(test)]

@@ -23,7 +23,8 @@ use syntect_scope::repository::ParseScopeError;
 use syntect_scope::stack::{ScopeStack, ScopeStackOp};
 use syntect_values::text::Text;
 
-/// `x` pushes a context that is not there; the other one is left by `x`. Files whose name is `null` are of this syntax.
+/// `x` pushes a context that is not there; the other one is left by `x`. Files whose name is `null`
+/// are of this syntax.
 const GRAMMAR: &str =
     "name: T\nscope: source.t\nfile_extensions: ['null']\ncontexts:\n  main: [{match: x, push: none}]\n  left: [{match: x, pop: true}]\n";
 
@@ -96,7 +97,7 @@ fn of_a_reading_within(e: ReadWithinError) -> Option<ParsingError> {
     }
 }
 
-/// A line of a set's first syntax, read with a set, behind lines that are accepted.
+/// A line of a set's first syntax, read with a set, after lines that are accepted.
 #[derive(Clone, Copy)]
 struct Reading<'s> {
     syntaxes: &'s SyntaxSet,
@@ -105,7 +106,7 @@ struct Reading<'s> {
     line: &'s str,
 }
 
-/// The states behind lines refuse the line so.
+/// The states after lines refuse the line so.
 fn states_refuse(rt: &impl Abort, alloc: Global, read: Reading<'_>, wanted: &ParsingError) {
     let syntax = read.syntaxes.syntaxes().first().expect(rt, "a syntax");
     let mut state = ParseState::new(alloc, syntax).expect(rt, "a state");
@@ -126,7 +127,7 @@ fn states_refuse(rt: &impl Abort, alloc: Global, read: Reading<'_>, wanted: &Par
     is_refused(rt, ops.err().and_then(of_a_reading_within), wanted);
 }
 
-/// A highlighter behind lines, and pages of the whole, are refused so.
+/// A highlighter after lines, and pages of the whole, are refused so.
 fn pages_refuse(rt: &impl Abort, alloc: Global, read: Reading<'_>, wanted: &ParsingError) {
     let theme = Theme::default(alloc);
     let syntax = read.syntaxes.syntaxes().first().expect(rt, "a syntax");
@@ -149,7 +150,7 @@ fn pages_refuse(rt: &impl Abort, alloc: Global, read: Reading<'_>, wanted: &Pars
     is_refused_line(rt, page, wanted);
 }
 
-/// A generator of pages with classes, behind lines, refuses the line so.
+/// A generator of pages with classes, after lines, refuses the line so.
 fn generators_refuse(rt: &impl Abort, alloc: Global, read: Reading<'_>, wanted: &ParsingError) {
     let repository = ScopeRepository::new(alloc);
     let syntax = read.syntaxes.syntaxes().first().expect(rt, "a syntax");

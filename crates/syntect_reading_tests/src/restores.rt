@@ -17,8 +17,8 @@ use syntect::parsing::{Limits, ScopeRepository, SyntaxReference, SyntaxSet};
 use syntect_buffer::answer::LineAnswer;
 use syntect_buffer::buffer::LineBuffer;
 
-/// The context that a text begins in here clears, so that `x`, which leaves it, restores. Files whose name is `cleared` are of
-/// this syntax.
+/// The context that a text begins in here clears, so that `x`, which leaves it, restores. Files
+/// whose name is `cleared` are of this syntax.
 const GRAMMAR: &str =
     "name: T\nscope: source.t\nfile_extensions: [cleared]\ncontexts:\n  main: []\n  left: [{clear_scopes: 1}, {match: x, pop: true}]\n";
 
@@ -31,7 +31,7 @@ fn is_refused<T: Drop>(rt: &impl Abort, found: Result<T, Error>) {
     holds(rt, matches!(&found, Err(Error::ScopeError(_))));
 }
 
-/// The same, of a line within limits.
+/// An operation of the line, which is read within limits, is refused.
 fn is_refused_within<T: Drop>(rt: &impl Abort, found: Result<T, HighlightWithinError>) {
     holds(
         rt,

@@ -38,7 +38,7 @@ fn built(rt: &impl Abort, alloc: Global, repository: &mut ScopeRepository) -> Sy
         .expect(rt, "a set")
 }
 
-/// A state and its copy read a line alike, and are alike again behind it.
+/// A state and its copy read a line alike, and are alike again after it.
 fn copies_read_alike(rt: &impl Abort, alloc: Global, set: &SyntaxSet) {
     let syntax = set.syntaxes().first().expect(rt, "a syntax");
     let mut state = ParseState::new(alloc, syntax).expect(rt, "an answer");
@@ -88,7 +88,7 @@ fn a_copied_set(rt: HostRuntime) {
     holds(&rt, ops.contains(&(7, ScopeStackOp::Push(b))));
 }
 
-/// A state stays where the one behind a line is asked for.
+/// A state stays where the one after a line is asked for.
 #[test]
 fn the_state_behind_a_line(rt: HostRuntime) {
     let alloc = rt.alloc();

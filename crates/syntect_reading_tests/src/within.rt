@@ -12,7 +12,8 @@ use syntect::parsing::{
 };
 use syntect_parsing::syntax_definition::ContextId;
 
-/// Letters before a `b`, of which the last ones stand twice, and each `z`; each `x` leaves one context more open, and so does `q`.
+/// Letters before a `b`, of which the last ones stand twice, and each `z`; each `x` leaves one
+/// context more open, and so does `q`.
 const GRAMMAR: &str =
     "name: T\nscope: source.t\nfirst_line_match: (a*)*\\1b\ncontexts:\n  main:\n    - match: z\n      scope: keyword.z\n    - match: (a*)*\\1b\n      scope: keyword.b\n    - match: x\n      set: [main, main]\n    - match: q\n      push: main\n";
 
@@ -22,7 +23,7 @@ pub const LETTERS: &str = "z aaaaaaaaaaaaaaaaaaaaaaaa b\n";
 /// More matches than three turns take.
 pub const MATCHES: &str = "zzzzz\n";
 
-/// Four contexts more, beside the two that the first turn leaves open.
+/// Four contexts more, besides the two that the first turn leaves open.
 const SETS: &str = "xxxx\n";
 
 /// A line with a match of each.
@@ -89,7 +90,8 @@ fn own_style(rt: &impl Abort, alloc: Global, theme: &Theme) -> Style {
         .get_default()
 }
 
-/// A highlighter reaches the limit, shows the line plain where that is asked, and goes on as a new one begins.
+/// A highlighter reaches the limit, shows the line plain where that is asked, and goes on as a new
+/// one begins.
 fn highlighters_reach(rt: &impl Abort, alloc: Global, set: &SyntaxSet, reached: Reached<'_>) {
     let Reached {
         limits,
@@ -165,7 +167,7 @@ pub fn main_of(rt: &impl Abort, set: &SyntaxSet) -> ContextId {
         .expect(rt, "a context")
 }
 
-/// The letters take more steps than the line has, at the first place behind the match.
+/// The letters take more steps than the line has, at the first place after the match.
 #[test]
 fn a_line_of_too_many_steps(rt: HostRuntime) {
     let set = set_of(&rt, rt.alloc());
@@ -235,7 +237,8 @@ fn a_line_of_too_many_operations(rt: HostRuntime) {
     all_reach(&rt, rt.alloc(), &set, reached);
 }
 
-/// The reader's state after a line that opens a context, and one that is shown plain; with `anew` it begins anew then.
+/// The reader's state after a line that opens a context, and one that is shown plain; with `anew`
+/// it begins anew then.
 fn state_after_plain(rt: &impl Abort, alloc: Global, set: &SyntaxSet, anew: bool) -> ParseState {
     let limits = Limits {
         steps: 2000,
@@ -266,7 +269,8 @@ fn after_a_plain_line(rt: HostRuntime) {
     holds(&rt, state_after_plain(&rt, alloc, &set, false) == state);
 }
 
-/// What is found by a first line within so many steps: a name, or the index of the syntax whose pattern reached the limit.
+/// What is found by a first line within so many steps: a name, or the index of the syntax whose
+/// pattern reached the limit.
 fn found_by_line(
     rt: &impl Abort,
     alloc: Global,

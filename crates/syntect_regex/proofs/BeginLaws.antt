@@ -52,7 +52,7 @@ edges-found pattern p is h s i out =
 -- ---- in runs ----
 
 module _ (blank : Bool) (pattern : List ℕ) (places : Places) where
-  -- what can stand behind runs by the root of a program
+  -- what can come after runs by the root of a program
   pub none-before : (p : Program) → IsCompiled pattern p → StandsBehind blank places (get_or (trees_of p) p.root nothing) → NoneBeginsBefore blank places pattern
   none-before p is behind s u i e run out =
       let x : ℕ = start_at s e in

@@ -373,7 +373,7 @@ no_group-whole nodes ordered n root inside first tree is =
     by (Node.Ahead negated a) p e = cc
     by (Node.Behind negated a) p e = cc
 
--- of a table without the root nothing is told
+-- of a table without the root nothing is known
 pub looks-outside : (nodes : List Node) (root : ℕ) (looks : List (Option Bool)) → length nodes ≤ root → AreLooks nodes root looks
 looks-outside nodes root looks l n tree e =
     let none : nothing ≡ group 0 tree = sym (get_or_past (trees nodes) root nothing (omega (arith, l, length-trees nodes))) ∙ e in

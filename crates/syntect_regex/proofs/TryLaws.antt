@@ -8,7 +8,7 @@ use Rattle.syntect_plan.specs.Linear.{is_linear}
 use Rattle.syntect_seek.specs.Bounds.{IsWithinTry, root_tree, tried_bound}
 use Rattle.syntect_regex.specs.Bounds.{is_linear_whole, pattern_is_linear, search_bound, whole_bound}
 
--- what a try counts beside its search is within the bound of any pattern
+-- what a try counts besides its search is within the bound of any pattern
 pub try-alone : (pattern : List ℕ) (long before after few : ℕ) → after ≤ before + few → few ≤ 14001 + long → after ≤ before + search_bound pattern long
 try-alone pattern long before after few h f = by (pattern_tree pattern)
   where

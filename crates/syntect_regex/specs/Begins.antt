@@ -23,7 +23,8 @@ abbrev pub BeginsAtEdges : List ℕ → Type 0
 BeginsAtEdges pattern = (s : List ℕ) → (place : ℕ) → is_word_edge s place ≡ false
     → pattern_found pattern s place ≡ pattern_found pattern s (place + 1)
 
--- no match of the pattern begins in white space, or else in a word, that has something behind it which is none of these
+-- no match of the pattern begins in white space, or else in a word, that has something after it
+-- which is none of these
 abbrev pub NoneBeginsBefore : Bool → Places → List ℕ → Type 0
 NoneBeginsBefore blank places pattern = (s : List ℕ) → IsUtf8 s → (place e : ℕ)
     → IsRunUpTo blank s place e → is_in places (start_at s e) ≡ false

@@ -12,7 +12,8 @@ use Rattle.syntect_regex.specs.declared.details.Rare.TheVariants.{Free, Groups, 
 abbrev pub anything : Places
 anything = record { ascii = 2 ^ 128 - 1; wide = true; end = true }
 
--- anything can stand behind words and white space: there is no more than groups, which stand in lookarounds or not
+-- anything can come after words and white space: there is no more than groups, which stand in
+-- lookarounds or not
 abbrev pub groups_alone : Option (List (Option Bool)) → Detail
 groups_alone looks = record { words = anything; blanks = anything; looks = looks }
 
@@ -22,7 +23,8 @@ detail_in (Free count) = groups_alone (Some (free_groups count))
 detail_in (Groups looks) = groups_alone looks.value
 detail_in (All detail) = detail.value
 
--- whether the group of the number stands in a lookaround, by what is kept of all but the whole match, which never does
+-- whether the group of the number stands in a lookaround, by what is kept of all but the whole
+-- match, which never does
 abbrev pub look_of : List (Option Bool) → ℕ → Option Bool
 look_of looks zero = Some false
 look_of looks (suc n) = slice_index_or looks (suc n) None

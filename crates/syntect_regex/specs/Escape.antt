@@ -7,7 +7,7 @@ use Rattle.syntect_pattern.specs.Reading.{◌∈◌}
 unfoldable pub is_special : ℕ → Bool
 is_special c = c ∈ "\\.+*?()|[]{}^$#&-~"
 
--- behind a backslash, if it can
+-- after a backslash, if it can
 abbrev pub escaped_char : ℕ → List ℕ
 escaped_char c = if is_special c then 0x5C ∷ c ∷ [] else c ∷ []
 

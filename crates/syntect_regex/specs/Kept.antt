@@ -3,7 +3,8 @@ use Rattle.std.specs.Prelude.{ℕ, List}
 use Rattle.syntect_pattern_reader.specs.Compiled.{Compiles}
 use Rattle.syntect_regex.specs.declared.compiled.Kept.{Kept}
 
--- a program that was made with the pattern is that of its text; of one that is made later nothing is known before
+-- a program that was made with the pattern is that of its text; of one that is made later nothing
+-- is known before
 abbrev pub IsKeptOf : List ℕ → Kept → Type 0
 IsKeptOf pattern (Kept.Own program) = Compiles pattern program.value
 IsKeptOf pattern (Kept.Late cell) = Unit {0}

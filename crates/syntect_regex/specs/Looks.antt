@@ -4,13 +4,15 @@ use Rattle.syntect_pattern.specs.Trees.{Tree, nothing, seq, alt, repeat, group, 
 use Rattle.syntect_pattern_table.specs.Builder.{tree_in}
 use Rattle.syntect_pattern_table.specs.declared.node.Node.{Node}
 
--- it is kept of each group but the whole match whether it is there, and whether it stands in a lookaround
+-- it is kept of each group but the whole match whether it is there,
+-- and whether it stands in a lookaround
 abbrev pub AreLooks : List Node → ℕ → List (Option Bool) → Type 0
 AreLooks nodes root looks = (n : ℕ) (tree : Tree) → tree_in nodes root ≡ group 0 tree
     → slice_index_or looks (suc n) None ≡ group_in_look tree (suc n)
 
 -- -- A walk from the root to the parts
--- A mark tells of a node or a group whether it was met, and if so whether it was within a lookaround.
+-- A mark tells of a node or a group whether it was met, and if so whether it
+-- was within a lookaround.
 
 -- both marks
 abbrev pub joined : Option Bool → Option Bool → Option Bool

@@ -25,7 +25,8 @@ same_span-equiv = and_equiv (on_equiv (λ x. x.0) nat_eq_equiv) (on_equiv (λ x.
 pub same_groups-equiv : IsEquivalence same_groups
 same_groups-equiv = lists_equiv (options_equiv same_span-equiv)
 
--- the answer says whether there is a match, and the new groups are its, or the old ones where there is none
+-- the answer says whether there is a match, and the new groups are its, or the old ones where there
+-- is none
 abbrev pub TakesMatch : Option Groups → Groups → Bool → Groups → Type 0
 TakesMatch match old answer new = (answer ≡ is_some match) × (new ≡ unwrap_or match old)
 
@@ -39,8 +40,8 @@ abbrev pub BeginsAt : Groups → ℕ → Type 0
 BeginsAt groups place = (start end : ℕ) → slice_index_or groups 0 None ≡ Some (start, end)
     → start ≡ place
 
--- The answer says whether a match begins at the place: then the new groups are the match's, and else the old ones stay, and
--- what is found from the place on is found from behind it.
+-- The answer says whether a match begins at the place: then the new groups are the match's, and
+-- else the old ones stay, and what is found from the place on is found from just after it.
 abbrev pub TakesAt : (ℕ → Option Groups) → ℕ → Groups → Bool → Groups → Type 0
 TakesAt match place old true new = (match place ≡ Some new) × BeginsAt new place
 TakesAt match place old false new = (new ≡ old) × (match place ≡ match (place + 1))

@@ -53,8 +53,9 @@ pub(crate) fn program_in<'a>(
     }
 }
 
-/// What is made of the text, as the cell has it, or else made now and kept there. Of what stands in a cell nothing is known but
-/// its type, so it carries its text, and this one is compared with that.
+/// What is made of the text, as the cell has it, or else made now and kept there. Of what stands in
+/// a cell nothing is known but its type, so it carries its text,
+/// and this one is compared with that.
 #[inline]
 fn late_program<'a>(
     alloc: Global,

@@ -1,4 +1,5 @@
-//! What not every pattern has: what can stand behind words and white space in which matches begin, and groups.
+//! What not every pattern has: what can come after words and white space in which matches begin,
+//! and groups.
 ghost use Rattle.std.specs.Prelude.{◌≡◌, ℕ, IfOk, IfSome, List, Some, None, false, length, option_and_then, replicate, slice_index_or, true};
 ghost use Rattle.syntect_pattern.specs.Trees.{group_in_look};
 ghost use Rattle.syntect_pattern.specs.Pattern.{pattern_tree};
@@ -26,7 +27,8 @@ enum GroupLooks {
     Each(Box<Option<Seq<Option<bool>>>>),
 }
 
-/// The same, the whole match aside, seen as one list, or none where the text is no pattern.
+/// Of each group, the whole match aside, whether it stands in a lookaround, seen as one list, or
+/// none where the text is no pattern.
 #[derive(Drop)]
 struct Looks {
     groups: GroupLooks,
@@ -41,10 +43,10 @@ impl Model for Looks {
     ghost view = { λ a. groups_in a.groups };
 }
 
-/// What is kept of a pattern beside where its matches begin.
+/// What is kept of a pattern besides where its matches begin.
 #[derive(Drop)]
 struct Detail {
-    /// What can stand behind a word in which a match begins, and behind white space in which one does.
+    /// What can come after a word in which a match begins, and after white space in which one does.
     words: Places,
     blanks: Places,
     looks: Looks,
@@ -53,16 +55,18 @@ struct Detail {
 /// What not every pattern has.
 #[derive(Drop)]
 enum Rare {
-    /// Anything can stand behind words and white space, and none of so many groups stands in a lookaround, as in most patterns.
+    /// Anything can come after words and white space, and none of so many groups stands in a
+    /// lookaround, as in most patterns.
     Free(u32),
-    /// Groups alone: of each whether it stands in a lookaround, or None if the text is no pattern. (`Looks` in its place would
-    /// make each pattern larger.)
+    /// Groups alone: of each whether it stands in a lookaround, or None if the text is no pattern.
+    /// (`Looks` in its place would make each pattern larger.)
     Groups(Box<Option<Seq<Option<bool>>>>),
-    /// Something that can't stand behind words or white space.
+    /// Something that can't come after words or white space.
     All(Box<Detail>),
 }
 
-/// The same, seen as a `Detail`. What a pattern has of it stands in a place of its own, so that a pattern is small.
+/// What not every pattern has, seen as a `Detail`. It stands in a place of its own, so that a
+/// pattern is small.
 #[derive(Drop)]
 pub(crate) struct Details {
     rare: Rare,
@@ -78,7 +82,8 @@ impl Model for Details {
 }
 
 impl Details {
-    /// What can stand behind words, and what behind white space, and of each group whether it stands in a lookaround.
+    /// What can come after words, and what after white space, and of each group whether it stands
+    /// in a lookaround.
     pub(crate) fn new(
         alloc: Global,
         words: Places,
@@ -99,7 +104,7 @@ impl Details {
         Ok(Details { rare })
     }
 
-    /// Those of a pattern where anything can stand behind words and white space.
+    /// The details of a pattern where anything can come after words and white space.
     fn of_groups(alloc: Global, looks: Option<Seq<Option<bool>>>) -> Result<Details, AllocError>
         ensures { IfOk result (λ d. d ≡ groups_alone looks) }
     {
@@ -110,7 +115,7 @@ impl Details {
         Ok(Details { rare })
     }
 
-    /// Equal ones.
+    /// A copy of the details.
     pub(crate) fn clone(&self, alloc: Global) -> Result<Details, AllocError>
         ensures { IfOk result (λ d. d ≡ self.now) }
     {
@@ -122,7 +127,7 @@ impl Details {
         Ok(Details { rare })
     }
 
-    /// What can stand behind a word in which a match begins.
+    /// What can come after a word in which a match begins.
     pub(crate) fn words(&self) -> Places
         ensures { result ≡ self.now.words }
     {
@@ -132,7 +137,7 @@ impl Details {
         }
     }
 
-    /// What can stand behind white space in which one does.
+    /// What can come after white space in which one does.
     pub(crate) fn blanks(&self) -> Places
         ensures { result ≡ self.now.blanks }
     {
@@ -142,7 +147,8 @@ impl Details {
         }
     }
 
-    /// Whether the group of the number stands in a lookaround, which group 0 never does. None without such a group.
+    /// Whether the group of the number stands in a lookaround, which group 0 never does. None
+    /// without such a group.
     pub(crate) fn group(&self, number: usize) -> Option<bool>
         ensures { (pattern : List ℕ) → KnowsGroups pattern self.now.looks
             → result ≡ option_and_then (λ tree. group_in_look tree number) (pattern_tree pattern) }
@@ -167,7 +173,7 @@ impl Looks {
         Ok(Looks { groups })
     }
 
-    /// The same once more.
+    /// A copy of the list.
     fn clone(&self, alloc: Global) -> Result<Looks, AllocError>
         ensures { IfOk result (λ l. l ≡ self.now) }
     {
@@ -193,7 +199,8 @@ impl Looks {
     }
 }
 
-/// Whether the group of the number stands in a lookaround, where none of so many does. None without such a group.
+/// Whether the group of the number stands in a lookaround, where none of so many does. None without
+/// such a group.
 fn free_group(count: u32, number: usize) -> Option<bool>
     ensures { result ≡ look_of (free_groups count) number }
 {
@@ -255,7 +262,7 @@ fn look_at(looks: &[Option<bool>], number: usize) -> Option<bool>
     looks.get(number).copied().unwrap_or(None)
 }
 
-/// What is kept of groups, once more.
+/// A copy of what is kept of groups.
 fn copied_looks(
     alloc: Global,
     looks: &Option<Seq<Option<bool>>>,
@@ -268,7 +275,7 @@ fn copied_looks(
     }
 }
 
-/// An equal one.
+/// A copy of the detail.
 fn copied(alloc: Global, detail: &Detail) -> Result<Detail, AllocError>
     ensures { IfOk result (λ d. d ≡ detail.now) }
 {

@@ -9,7 +9,8 @@ use syntect_pattern_table::node::Node;
 use syntect_pattern_table::program::Program;
 use syntect_values::seq::Seq;
 
-/// The mark, and that it was met so. A mark tells whether a node or a group was met, and if so whether within a lookaround.
+/// The mark, and that it was met so. A mark tells whether a node or a group was met, and if so
+/// whether within a lookaround.
 fn joined(mark: Option<bool>, within: bool) -> Option<bool>
     ensures { result ≡ spec.joined mark (Some within) }
 {
@@ -108,7 +109,7 @@ fn pass_on(
     Ok(())
 }
 
-/// So many marks of what was not met.
+/// A list of so many marks, none of which is set yet.
 fn unmarked(alloc: Global, count: usize) -> Result<Vec<Option<bool>>, AllocError>
     ensures { IfOk result (λ marks. marks.items ≡ replicate count None) }
 {
@@ -140,9 +141,9 @@ fn first_group(nodes: &[Node], root: usize) -> usize
     place
 }
 
-/// Of each group whether it stands in a lookaround, and none of what is no group. Each node stands behind its parts, so one
-/// walk from the root to the first group meets each of them after all nodes that it is a part of. Of many patterns the root
-/// is the only group, and none is met.
+/// Of each group whether it stands in a lookaround, and none of what is no group. Each node comes
+/// after its parts, so one walk from the root to the first group meets each of them after all nodes
+/// that it is a part of. Of many patterns the root is the only group, and none is met.
 fn looks_of(
     alloc: Global,
     nodes: &[Node],
@@ -168,7 +169,8 @@ fn looks_of(
     Ok(Seq::from_vec(looks))
 }
 
-/// The same of the groups of a program. Of one that has no group but the whole match nothing is kept.
+/// Of each group of a program whether it stands in a lookaround. Nothing is kept of a program that
+/// has no group but the whole match.
 pub(crate) fn looks_in(alloc: Global, program: &Program) -> Result<Seq<Option<bool>>, AllocError>
     ensures { IfOk result (λ looks. AreLooks program.now.nodes program.now.root looks) }
 {

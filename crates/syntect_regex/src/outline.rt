@@ -18,7 +18,8 @@ use syntect_pattern_table::starts::{Places, anywhere, nowhere};
 use syntect_values::seq::Seq;
 use syntect_word_ends::ends::behind_runs;
 
-/// Where matches of a pattern can begin, and what else is kept of it. It is small beside a program.
+/// Where matches of a pattern can begin, and what else is kept of it.
+/// It is small compared with a program.
 #[derive(Drop)]
 pub(crate) struct Outline {
     /// What can stand at a place where a match begins.
@@ -71,8 +72,8 @@ fn edges_of(program: &Option<Program>) -> bool
     }
 }
 
-/// What can stand behind white space, or else behind a word, in which a match of the program begins; anything where there is
-/// none.
+/// What can come after white space, or else after a word, in which a match of the program begins;
+/// anything where there is none.
 fn behind_of(alloc: Global, blank: bool, program: &Option<Program>) -> Result<Places, AllocError>
     ensures { IfOk result (λ places. (p : Program) → program.now ≡ Some p
         → StandsBehind blank places (slice_index_or (trees_of p) p.root nothing)) }

@@ -40,23 +40,26 @@ use syntect_seek::prospect::Prospect;
 use syntect_seek::seek::begins_known;
 use syntect_turns::count::TurnCount;
 
-/// A pattern of more bytes than this is compiled for searches when it is made, since each search would compare its text.
+/// A pattern of more bytes than this is compiled for searches when it is made, since each search
+/// would compare its text.
 const LONG: usize = 4096;
 
 /// A pattern. It is its text: equal texts are equal patterns.
 ///
-/// A text is compiled when the pattern is made, for what is asked of patterns that aren't searched, and again when it is first
-/// searched, for its program, which is kept from then on. So patterns that are never searched take little memory. Of those of more
-/// than 4096 bytes the program is kept when they are made.
+/// A text is compiled when the pattern is made, for what is asked of patterns that aren't searched,
+/// and again when it is first searched, for its program, which is kept from then on. So patterns
+/// that are never searched take little memory. Of those of more than 4096 bytes the program is kept
+/// when they are made.
 pub struct Regex {
     body: Box<RegexBody>,
 }
 
-/// What a pattern keeps, in a place of its own: an entry of a context has room for a pattern also where it holds none, and that
-/// room is to be small.
+/// What a pattern keeps, in a place of its own: an entry of a context has room for a pattern also
+/// where it holds none, and that room is to be small.
 #[derive(Drop)]
 struct RegexBody {
-    /// What can stand at a place where a match begins, part by part, since that takes less room than `Places`.
+    /// What can stand at a place where a match begins, part by part, since that takes less room
+    /// than `Places`.
     ascii: u128,
     text: String,
     kept: Kept,
@@ -129,7 +132,8 @@ impl Regex {
     pub fn new(alloc: Global, text: String) -> Result<Regex, AllocError>
         ensures { IfOk result (λ r. r ≡ string_bytes text) }
     {
-        // Texts that grew as they were read have up to twice the room that they need, and patterns of grammars are kept long
+        // Texts that grew as they were read have up to twice the room that they need, and patterns
+        // of grammars are kept long
         let mut text = text;
         text.shrink_to_fit();
         if text.len() > LONG {
@@ -142,8 +146,8 @@ impl Regex {
         Ok(Regex { body })
     }
 
-    /// The same, compiled for searches at once: a pattern that is searched soon is so compiled a single time, and its searches
-    /// take a little less.
+    /// The pattern of the text, compiled for searches at once: a pattern that is searched soon is
+    /// so compiled a single time, and its searches take a little less.
     pub fn ready(alloc: Global, text: String) -> Result<Regex, AllocError>
         ensures { IfOk result (λ r. r ≡ string_bytes text) }
     {
@@ -166,7 +170,7 @@ impl Regex {
         Ok(program.as_ref())
     }
 
-    /// Why the text is no pattern, if it is none: `NotAPattern`, or `Memory` where that was wanting.
+    /// Why the text is no pattern, if it is none: `NotAPattern`, or `Memory` where memory ran out.
     pub fn try_compile(alloc: Global, text: &str) -> Option<PatternError>
         ensures some { IfSome result
             (λ e. e ≡ PatternError.NotAPattern → pattern_tree text.now ≡ None) }
@@ -186,8 +190,9 @@ impl Regex {
         self.body.text.as_str()
     }
 
-    /// Whether a lookaround holds the group with this number. None holds group 0, since that is the whole match. There is no
-    /// answer where the pattern has no such group, nor where the text is no pattern.
+    /// Whether a lookaround holds the group with this number. None holds group 0, since that is the
+    /// whole match. There is no answer where the pattern has no such group, nor where the text is
+    /// no pattern.
     pub fn group(&self, number: usize) -> Option<bool>
         ensures { result ≡ option_and_then (λ tree. group_in_look tree number)
             (pattern_tree self.now) }
@@ -202,34 +207,34 @@ impl Regex {
         self.body.begins()
     }
 
-    /// Whether the pattern is seen at once to begin with `\b`: then no match of it begins in the midst of a word. Without it
-    /// nothing is known.
+    /// Whether the pattern is seen at once to begin with `\b`: then no match of it begins in the
+    /// midst of a word. Without it nothing is known.
     pub fn begins_at_edges(&self) -> bool
         ensures { result ≡ true → BeginsAtEdges self.now }
     {
         self.body.at_edges
     }
 
-    /// What can stand behind a word in which a match begins: in a word that has something else behind it none begins. The
-    /// word's characters are those of ASCII.
+    /// What can come after a word in which a match begins: in a word that has something else after
+    /// it none begins. The word's characters are those of ASCII.
     pub fn behind_words(&self) -> Places
         ensures { NoneBeginsBefore false result self.now }
     {
         self.body.details.words()
     }
 
-    /// What can stand behind white space in which a match begins: in white space that has something else behind it none
-    /// begins. It is tabs, line feeds and spaces.
+    /// What can come after white space in which a match begins: in white space that has something
+    /// else after it none begins. It is tabs, line feeds and spaces.
     pub fn behind_blanks(&self) -> Places
         ensures { NoneBeginsBefore true result self.now }
     {
         self.body.details.blanks()
     }
 
-    /// Whether each search takes steps in proportion to the text: those of a pattern without back references, whose
-    /// lookbehinds look for nothing but characters, anchors, sequences and branches, in which no lookahead in a loop sets
-    /// groups, and which is not too large with its counted loops written out. A text that is no pattern is searched in no
-    /// step.
+    /// Whether each search takes steps in proportion to the text: those of a pattern without back
+    /// references, whose lookbehinds look for nothing but characters, anchors, sequences and
+    /// branches, in which no lookahead in a loop sets groups, and which is not too large with its
+    /// counted loops written out. A text that is no pattern is searched in no step.
     pub fn is_linear(&self, alloc: Global) -> Result<bool, AllocError>
         ensures { IfOk result (λ linear. linear ≡ pattern_is_linear self.now) }
     {
@@ -258,12 +263,13 @@ impl Regex {
         Ok(Regex { body })
     }
 
-    /// Searches `text[..end]` from `begin` on, both being byte positions: whether the pattern matches at some place there.
-    /// The least place counts, and the first match at it. Where there is one, the region has its groups; else, and where
-    /// memory is wanting, the region stays.
+    /// Searches `text[..end]` from `begin` on, both being byte positions: whether the pattern
+    /// matches at some place there. The least place counts, and the first match at it. Where there
+    /// is one, the region has its groups; else, and where memory runs out, the region stays.
     ///
-    /// Group 0 is the whole match. Each group that is set lies in the text and between characters. Those that stand in no
-    /// lookaround lie in the match, and each two of them lie apart or one in the other.
+    /// Group 0 is the whole match. Each group that is set lies in the text and between characters.
+    /// Those that stand in no lookaround lie in the match, and each two of them lie apart or one in
+    /// the other.
     pub fn search_into(
         &self,
         text: &str,
@@ -285,12 +291,14 @@ impl Regex {
         self.search_counted(text, begin, end, region, &mut TurnCount::none())
     }
 
-    /// Searches as `search_into` does, and counts its steps. Of a linear pattern they are within a bound that goes by the
-    /// pattern and the length of what is searched. A step is one of the search that backs up, which may read letters in a row at
-    /// once, or one at a cell of the pattern's plan; a stretch of characters counts one, and one more for each eight of them, and
-    /// a plan's pass over the text for what lookbehinds look for one for each four bytes. What is passed over before a place
-    /// where a match may begin isn't counted, nor are a plan's passes over the pattern's nodes and the ordering of its cells. The
-    /// count never falls, and a search that finds something has counted a step at least.
+    /// Searches as `search_into` does, and counts its steps. Of a linear pattern they are within a
+    /// bound that goes by the pattern and the length of what is searched. A step is one of the
+    /// search that backs up, which may read letters in a row at once, or one at a cell of the
+    /// pattern's plan; a stretch of characters counts one, and one more for each eight of them, and
+    /// a plan's pass over the text for what lookbehinds look for one for each four bytes. What is
+    /// passed over before a place where a match may begin isn't counted, nor are a plan's passes
+    /// over the pattern's nodes and the ordering of its cells. The count never falls, and a search
+    /// that finds something has counted a step at least.
     pub fn search_counted(
         &self,
         text: &str,
@@ -322,8 +330,8 @@ impl Regex {
         }
     }
 
-    /// Searches as `search_counted` does, its steps made by the meter: where it has too few left, the search stops once it has
-    /// made them, and the region stays.
+    /// Searches as `search_counted` does, its steps made by the meter: where it has too few left,
+    /// the search stops once it has made them, and the region stays.
     pub fn search_by_meter(
         &self,
         text: &str,
@@ -354,9 +362,9 @@ impl Regex {
         region.find(program, size, text.split_at(end).0, begin, meter)
     }
 
-    /// Whether a match begins at the place, a byte position. Where one does, the region has the groups of the first one; else,
-    /// and where memory is wanting, the region stays, and a search from behind the place on finds what one from the place on
-    /// does.
+    /// Whether a match begins at the place, a byte position. Where one does, the region has the
+    /// groups of the first one; else, and where memory runs out, the region stays, and a search
+    /// from just after the place on finds what one from the place on does.
     pub fn match_at(
         &self,
         text: &str,
@@ -369,7 +377,8 @@ impl Regex {
         self.match_at_counted(text, place, region, &mut TurnCount::none())
     }
 
-    /// Tells as `match_at` does, and counts the steps as `search_counted` does, and as `match_at_known` does those of a try.
+    /// Tells as `match_at` does, and counts the steps as `search_counted` does, and as
+    /// `match_at_known` does those of a try.
     pub fn match_at_counted(
         &self,
         text: &str,
@@ -398,14 +407,16 @@ impl Regex {
         }
     }
 
-    /// Tells as `match_at` does, with what is known of the pattern in this text, of which more may be known after: nothing is
-    /// searched at a place where no match can begin by that. To try a pattern at place after place of one text, hand in what was
-    /// left the last time. Patterns that backed up too often leave the plans that they go on by in `depths`, which may be handed
-    /// in for all patterns that are tried in the text.
+    /// Tells as `match_at` does, with what is known of the pattern in this text, of which more may
+    /// be known after: nothing is searched at a place where no match can begin by that. To try a
+    /// pattern at place after place of one text, hand in what was left the last time. Patterns that
+    /// backed up too often leave the plans that they go on by in `depths`, which may be handed in
+    /// for all patterns that are tried in the text.
     ///
-    /// The steps are made by the meter: where it has too few left, the search stops once it has made them, and the region stays.
-    /// Each try is a step, whatever it finds; it counts one more for each 256 bytes of the pattern's text, as far as these are
-    /// 14000, and one for each 64 bytes of the text that are looked at for what matches need.
+    /// The steps are made by the meter: where it has too few left, the search stops once it has
+    /// made them, and the region stays. Each try is a step, whatever it finds; it counts one more
+    /// for each 256 bytes of the pattern's text, as far as these are 14000, and one for each 64
+    /// bytes of the text that are looked at for what matches need.
     pub fn match_at_known(
         &self,
         text: &str,
@@ -445,7 +456,8 @@ impl Regex {
         region.find_known(program, pattern, text, place, known, depths, meter)
     }
 
-    /// Searches as `search_into` does, where a region is perhaps lent. Without one the memory of the search is let go.
+    /// Searches as `search_into` does, where a region is perhaps lent. Without one the memory of
+    /// the search is dropped.
     pub fn search(
         &self,
         alloc: Global,
@@ -501,13 +513,14 @@ impl Regex {
     }
 }
 
-/// At a try a pattern's text may be compared with that of its program, and with those of plans: so many bytes count as a step.
+/// At a try a pattern's text may be compared with that of its program, and with those of plans: so
+/// many bytes count as a step.
 const COMPARED_A_STEP: usize = 256;
 
 /// But no more steps than so many.
 const MOST_COMPARED: usize = 14000;
 
-/// As how many steps a try of a pattern of so many bytes counts, beside those of its search.
+/// As how many steps a try of a pattern of so many bytes counts, besides those of its search.
 #[inline]
 fn try_steps(size: usize) -> usize
     ensures counted { 0 < result }
@@ -543,7 +556,7 @@ fn is_special(c: char) -> bool
     )
 }
 
-/// Puts the character last, escaped if it can have a meaning of its own.
+/// Appends the character, escaped if it can have a meaning of its own.
 fn push_escaped(pattern: &mut String, c: char) -> Result<(), AllocError>
     ensures { OnOk result (string_bytes pattern.new
         ≡ string_bytes pattern.old ++ encode_utf8_all (escaped_char c)) }
@@ -554,8 +567,8 @@ fn push_escaped(pattern: &mut String, c: char) -> Result<(), AllocError>
     pattern.push(c)
 }
 
-/// The text as a pattern: a backslash stands before each character that can have a meaning in one. White space stays as it is,
-/// so where the flag `x` is set, the pattern passes over it.
+/// The text as a pattern: a backslash stands before each character that can have a meaning in one.
+/// White space stays as it is, so where the flag `x` is set, the pattern passes over it.
 pub fn escape(alloc: Global, text: &str) -> Result<String, AllocError>
     ensures { IfOk result (λ t. string_bytes t ≡ escaped text.now) }
 {

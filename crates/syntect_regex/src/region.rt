@@ -20,8 +20,8 @@ use syntect_seek::depths::Depths;
 use syntect_seek::prospect::Prospect;
 use syntect_seek::seek::{begins_known, find};
 
-/// Where each group of a match stands, from 0, which is the whole match. A region also keeps the memory of the last search
-/// for the next one: to search many times, hand in the same one.
+/// Where each group of a match stands, from 0, which is the whole match. A region also keeps the
+/// memory of the last search for the next one: to search many times, hand in the same one.
 pub struct Region {
     positions: Vec<Option<Span>>,
     search: Search,
@@ -63,15 +63,15 @@ impl Region {
         Region::new(alloc)
     }
 
-    /// The place where the group of that number begins and the place behind it, both in bytes. None for a group that is
-    /// unset and for a number that is no group's.
+    /// The place where the group of that number begins and the place after it, both in bytes. None
+    /// for a group that is unset and for a number that is no group's.
     pub fn pos(&self, group: usize) -> Option<(usize, usize)>
         ensures { result ≡ slice_index_or self.now group None }
     {
         self.positions.get(group).copied().unwrap_or(None)
     }
 
-    /// An equal region.
+    /// A copy of the region.
     pub fn clone(&self, alloc: Global) -> Result<Region, AllocError>
         ensures { IfOk result (λ r. r ≡ self.now) }
     {
@@ -81,8 +81,9 @@ impl Region {
         })
     }
 
-    /// Searches the text from `begin` on: whether the program matches at some place there, of which the least counts. Where
-    /// it does, the region has the groups of that match. The pattern's text has so many bytes as `size` says.
+    /// Searches the text from `begin` on: whether the program matches at some place there, of which
+    /// the least counts. Where it does, the region has the groups of that match. The pattern's text
+    /// has so many bytes as `size` says.
     pub(crate) fn find(
         &mut self,
         program: &Program,
@@ -106,8 +107,9 @@ impl Region {
         Ok(found)
     }
 
-    /// The same for this place alone of a text in which the pattern is tried at place after place, by what is known of it there,
-    /// of which more is known after. The program is the pattern's.
+    /// Whether the program matches at this place alone of a text in which the pattern is tried at
+    /// place after place, by what is known of it there, of which more is known after. Where it
+    /// does, the region has the groups of that match. The program is the pattern's.
     pub(crate) fn find_known(
         &mut self,
         program: &Program,

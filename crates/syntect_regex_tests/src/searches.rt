@@ -71,7 +71,8 @@ fn finds(rt: &(impl Abort + AllocGlobal), regex: &Regex) {
     equal(rt, regex.group(3), None);
 }
 
-/// A pattern is compiled by its first search; then it is searched as it was compiled, and a copy is compiled anew.
+/// A pattern is compiled by its first search; then it is searched as it was compiled, and a copy is
+/// compiled anew.
 #[test]
 fn finds_alike_when_searched_again(rt: HostRuntime) {
     let pattern = "(b+)c?|(?=(x))";
@@ -140,8 +141,8 @@ fn tells_which_patterns_are_linear(rt: HostRuntime) {
     }
 }
 
-/// A pattern, a character that stands behind white space or else behind a word in which a match of it is to begin, and whether
-/// one can begin there.
+/// A pattern, a character that comes after white space or else after a word in which a match of it
+/// is to begin, and whether one can begin there.
 const BEHIND: [(&str, bool, u8, bool); 13] = [
     ("\\s*(?=\\|)", true, b'|', true),
     ("\\s*(?=\\|)", true, b'a', false),
@@ -184,7 +185,8 @@ fn tells_which_patterns_begin_at_edges(rt: HostRuntime) {
     }
 }
 
-/// Sixteen loops in one another, through which a search that backs up has as many ways as there are.
+/// Sixteen loops in one another, through which a search that backs up has as many
+/// ways as there are.
 #[test]
 fn searches_loops_in_one_another(rt: HostRuntime) {
     let pattern = "((((((((((((((((a*)*)*)*)*)*)*)*)*)*)*)*)*)*)*)*)*b";
@@ -216,8 +218,8 @@ fn counts_the_steps_of_a_search(rt: HostRuntime) {
     equal(&rt, region.pos(0), Some((1, 3)));
 }
 
-/// A pattern that is tried at place after place of one text begins where its matches do, also where what they need no longer
-/// stands behind.
+/// A pattern that is tried at place after place of one text begins where its matches do, also where
+/// what they need no longer follows.
 #[test]
 fn tries_a_pattern_by_what_is_known(rt: HostRuntime) {
     let text = String::from_str(rt.alloc(), "a+b").expect(&rt, "memory");
@@ -251,7 +253,8 @@ fn pattern_of(rt: &(impl Abort + AllocGlobal), text: &str) -> Regex {
     Regex::new(rt.alloc(), text).expect(rt, "memory")
 }
 
-/// A pattern that backs up too often begins where its matches do, by a plan that is kept of the line.
+/// A pattern that backs up too often begins where its matches do, by a plan that is
+/// kept of the line.
 #[test]
 fn tries_a_pattern_by_a_plan_that_is_kept(rt: HostRuntime) {
     let regex = pattern_of(&rt, "(a+)+c");
@@ -273,7 +276,8 @@ fn tries_a_pattern_by_a_plan_that_is_kept(rt: HostRuntime) {
     equal(&rt, found.expect(&rt, "memory"), false);
 }
 
-/// A second pattern that backs up too often goes by a plan of its own, not by the one that is kept of the first.
+/// A second pattern that backs up too often goes by a plan of its own, not by the one that is kept
+/// of the first.
 #[test]
 fn tries_each_pattern_by_its_own_plan(rt: HostRuntime) {
     let first = pattern_of(&rt, "(a+)+c");
@@ -294,7 +298,8 @@ fn tries_each_pattern_by_its_own_plan(rt: HostRuntime) {
     equal(&rt, region.pos(0), Some((41, 44)));
 }
 
-/// A search stops where its steps are spent, also one of a pattern that has no plan, and leaves the region as it was.
+/// A search stops where its steps are spent, also one of a pattern that has no plan, and leaves the
+/// region as it was.
 #[test]
 fn stops_where_no_step_is_left(rt: HostRuntime) {
     let texts = ["(a+)+c", "(a+)+\\1c"];
@@ -327,8 +332,9 @@ fn answers_within_its_steps(rt: HostRuntime) {
     holds(&rt, meter.left() != Some(0));
 }
 
-/// A plan of some 36000 cells, each of which goes on with the next where the line ends. What each comes to there is worked out
-/// in an order in which no call waits for many others: a stack of 1 MB would not hold them.
+/// A plan of some 36000 cells, each of which goes on with the next where the line ends. What each
+/// comes to there is worked out in an order in which no call waits for many others: a stack of 1 MB
+/// would not hold them.
 #[test]
 fn fills_a_long_row(rt: HostRuntime) {
     let mut text = String::from_str(rt.alloc(), "(?:a+)+b|a+").expect(&rt, "memory");

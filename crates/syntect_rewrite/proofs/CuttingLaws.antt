@@ -34,7 +34,7 @@ parts-none len part (c ∷ t) none = absurd (omega arith)
 pub flat-cons : {A : Type 0} (f : A → List ℕ) (len : List ℕ → ℕ) (part : List ℕ → A) (t : List ℕ) → 0 < length t → 0 < len t → flat_map f (parts len part t) ≡ f (part t) ++ flat_map f (parts len part (drop (len t) t))
 flat-cons f len part t some h = ap (flat_map f) (parts-cons len part t some h)
 
--- a text may be cut behind its first character
+-- a text may be cut after its first character
 pub char_boundary : (t : List ℕ) → IsCharBoundary t (char_len t)
 char_boundary [] = (omega arith, λ h. absurd (omega arith))
 char_boundary (c ∷ t) =
@@ -74,7 +74,7 @@ step F whole out new t back w n turn rest more so_far =
 escaped_boundary : (t : List ℕ) → 0 < length t → IsCharBoundary t (1 + char_len (drop 1 t))
 escaped_boundary t some = IsCharBoundary-from_rest t 1 (char_len (drop 1 t)) (omega arith) (char_boundary (drop 1 t))
 
--- a text may be cut behind its first sign
+-- a text may be cut after its first sign
 pub sign_boundary : (t : List ℕ) → IsCharBoundary t (sign_len t)
 unfolding sign_len
 sign_boundary [] = char_boundary []

@@ -123,7 +123,8 @@ vanishes-fewer gone vs name e =
     sym (value_room n (without gone vs) name (lookup (bytes_eq name) (without gone vs)) (omega (arith, without-le gone vs)))
     ∙ fewer-value n gone vs name (fewer n gone) (value_room n vs name (lookup (bytes_eq name) vs) (omega arith) ∙ e)
 
--- a use that stands for nothing without a variable does so with it, if the use of that one stands for nothing
+-- a use that stands for nothing without a variable does so with it, if the use of that one stands
+-- for nothing
 pub vanishes-more : (more : List ℕ) (vs : Variables) (name : List ℕ) → Vanishes vs more → Vanishes (without more vs) name → Vanishes vs name
 vanishes-more more vs name g e =
     let n = suc (length vs) in

@@ -17,8 +17,8 @@ c ∈ s = is_among c (codes s)
 abbrev pub first : List ℕ → ℕ
 first t = slice_index t 0
 
--- The parts of a text, where the first k bytes belong to a part before them. Of what is left, `len` says how many bytes
--- are its first part, at least one, and `part` says what that part is.
+-- The parts of a text, where the first k bytes belong to a part before them. Of what is left, `len`
+-- says how many bytes are its first part, at least one, and `part` says what that part is.
 abbrev pub parts_behind : {A : Type 0} → (List ℕ → ℕ) → (List ℕ → A) → ℕ → List ℕ → List A
 parts_behind len part k [] = []
 parts_behind len part (suc k) (c ∷ t) = parts_behind len part k t
@@ -37,7 +37,8 @@ abbrev pub char_len : List ℕ → ℕ
 char_len [] = 0
 char_len (c ∷ t) = 1 + prefix_len goes_on t
 
--- how many bytes the first sign has: a sign is a backslash with its next character, or one character
+-- how many bytes the first sign has: a sign is a backslash with its next character,
+-- or one character
 unfoldable pub sign_len : List ℕ → ℕ
 sign_len t = if first t ∈ "\\" then 1 + char_len (drop 1 t) else char_len t
 

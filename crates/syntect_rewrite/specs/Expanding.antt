@@ -11,7 +11,8 @@ abbrev pub inner : Variables → List Frame → Variables
 inner variables [] = variables
 inner variables (f ∷ fs) = inner (without f.name variables) fs
 
--- what is left to write: the text that is read in the last frame, then what follows the use that each frame was opened for
+-- what is left to write: the text that is read in the last frame, then what follows the use that
+-- each frame was opened for
 abbrev pub left : List ℕ → Variables → List Frame → List ℕ → List ℕ
 left mark variables [] t = marked mark variables t
 left mark variables (f ∷ fs) t =
@@ -43,8 +44,8 @@ pub record AreOpen (marks : List (List ℕ × Bool)) (fs : List Frame) : Type 0 
 abbrev pub use_value : Variables → List ℕ → List ℕ
 use_value variables name = value_by expanded variables name (lookup (bytes_eq name) variables)
 
--- the use of the name stands for nothing: as its variable's text has nothing but uses that stand for nothing in it, or as
--- there is no such variable
+-- the use of the name stands for nothing: as its variable's text has nothing but uses that stand
+-- for nothing in it, or as there is no such variable
 abbrev pub Vanishes : Variables → List ℕ → Type 0
 Vanishes variables name = use_value variables name ≡ []
 
@@ -52,31 +53,32 @@ Vanishes variables name = use_value variables name ≡ []
 abbrev pub AllVanish : Variables → List (List ℕ × Bool) → Type 0
 AllVanish variables known = All (Vanishes variables) (keys_of known)
 
--- Of each frame: `start` is at most how much is written, and where it is that, so that nothing was written since the frame
--- was opened, then what is left to write in the frame is all that its use stands for.
+-- Of each frame: `start` is at most how much is written, and where it is that, so that nothing was
+-- written since the frame was opened, then what is left to write in the frame is all that its use
+-- stands for.
 abbrev pub AreTraced : Variables → List Frame → List ℕ → ℕ → Type 0
 AreTraced variables [] t written = ⊤
 AreTraced variables (f ∷ fs) t written =
     (f.start ≡ written → left [] (without f.name variables) fs t ≡ use_value variables f.name)
     × (f.start ≤ written) × AreTraced (without f.name variables) fs t written
 
--- the text t begins with the use of a variable of this name, behind which another follows
+-- the text t begins with the use of a variable of this name, after which another follows
 abbrev pub BeginsWithUse : List ℕ → List ℕ → List ℕ → Type 0
 BeginsWithUse name after t =
     (mark : List ℕ) (us : Variables)
     → marked mark us t
     ≡ marked_value mark (marked mark) us name (lookup (bytes_eq name) us) ++ marked mark us after
 
--- Behind the use of a variable the text `after` follows. From the frames fs a step is made to the frames gs and what is read
--- there, by which the use's mark alone is written.
+-- After the use of a variable the text `after` follows. From the frames fs a step is made to the
+-- frames gs and what is read there, by which the use's mark alone is written.
 abbrev pub GoesInto : Variables → List Frame → List ℕ → List ℕ → List Frame → List ℕ → Type 0
 GoesInto variables fs name after gs next =
     (t : List ℕ)
     → BeginsWithUse name after t
     → (mark : List ℕ) → left mark variables fs t ≡ mark ++ left mark variables gs next
 
--- Behind the use of a variable the text `after` follows. From the frames fs a step is made to the frames gs and what is read
--- there, by which nothing is written, and which is one of the turns.
+-- After the use of a variable the text `after` follows. From the frames fs a step is made to the
+-- frames gs and what is read there, by which nothing is written, and which is one of the turns.
 abbrev pub Enters : Variables → List Frame → List (List ℕ × Bool) → ℕ → List ℕ → List ℕ → List Frame
     → List ℕ → Type 0
 Enters variables fs known written name after gs next =
@@ -87,8 +89,8 @@ Enters variables fs known written name after gs next =
     × (turns variables gs next < turns variables fs t) × AreTraced variables gs next written
     × AllVanish (inner variables gs) known
 
--- at the end of a text a step is made from the frames fs to the frames gs and what is read there, by which nothing is
--- written
+-- at the end of a text a step is made from the frames fs to the frames gs and what is read there,
+-- by which nothing is written
 abbrev pub Closes : List Frame → List (List ℕ × Bool) → ℕ → List Frame → List (List ℕ × Bool)
     → List ℕ → Type 0
 Closes fs known written gs later next =

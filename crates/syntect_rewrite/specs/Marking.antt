@@ -20,7 +20,7 @@ marked_within mark zero variables t = []
 marked_within mark (suc n) variables t =
     flat_map (marked_part mark (marked_within mark n) variables) (parts part_len part t)
 
--- a text with its variables expanded, with a mark for each use: those of the text, and those of a variable's text each time
--- that it is used
+-- a text with its variables expanded, with a mark for each use: those of the text, and those of a
+-- variable's text each time that it is used
 unfoldable pub marked : List ℕ → Variables → List ℕ → List ℕ
 marked mark variables t = marked_within mark (suc (length variables)) variables t

@@ -17,8 +17,8 @@ anchored t = flat_map anchored_token (tokens t)
 abbrev pub begins_optional : List ℕ → Bool
 begins_optional t = starts_with ◌==◌ t (codes "(?:\\n)?")
 
--- The tokens of a text for lines that have no newline: a newline that may be missing is one, and is the end of the text
--- that may be missing.
+-- The tokens of a text for lines that have no newline: a newline that may be missing is one, and is
+-- the end of the text that may be missing.
 abbrev pub line_token_len : List ℕ → ℕ
 line_token_len t = if begins_optional t then 7 else token_len t
 
@@ -33,8 +33,8 @@ abbrev pub next : List Token → ℕ
 next [] = 0
 next (k ∷ ks) = first (text k)
 
--- A token `\n` that isn't repeated becomes the end of the text. A class that takes a newline, and isn't optional, takes
--- the end of the text as well.
+-- A token `\n` that isn't repeated becomes the end of the text. A class that takes a newline, and
+-- isn't optional, takes the end of the text as well.
 abbrev pub ended_token : Token → ℕ → List ℕ
 ended_token (plain s) after = if is_newline s && not (after ∈ "?+*") then codes "$" else s
 ended_token (class true s) after = if after ∈ "?" then s else codes "(?:" ++ s ++ codes "|$)"

@@ -4,7 +4,8 @@ use Rattle.syntect_rewrite.specs.Variables.{Variables, expanded}
 use Rattle.syntect_rewrite.specs.Replacing.{replaced, brackets}
 use Rattle.syntect_rewrite.specs.Newlines.{anchored, ended}
 
--- its variables are expanded, then brackets are named by categories, then the ends of lines are written as lines have them
+-- its variables are expanded, then brackets are named by categories, then the ends of lines are
+-- written as lines have them
 unfoldable pub rewritten : Variables → Bool → List ℕ → List ℕ
 rewritten variables lines_include_newline t =
     let named = replaced brackets (expanded variables t) in

@@ -18,7 +18,7 @@ opening_len t =
 abbrev pub closes : ℕ → List ℕ → Bool
 closes depth s = depth == 0 && first s ∈ "]"
 
--- how many classes within the class are open behind a sign
+-- how many classes within the class are open after a sign
 abbrev pub open_after : ℕ → List ℕ → ℕ
 open_after depth s = if first s ∈ "[" then depth + 1 else if first s ∈ "]" then depth - 1 else depth
 

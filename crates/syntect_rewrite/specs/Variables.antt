@@ -13,7 +13,7 @@ Variables = List (List ℕ × List ℕ)
 abbrev pub is_name : ℕ → Bool
 is_name c = is_ascii_alphanumeric c || c ∈ "_"
 
--- how long the name behind two braces is
+-- how long the name after two braces is
 abbrev pub name_len : List ℕ → ℕ
 name_len t = prefix_len is_name (drop 2 t)
 
@@ -46,8 +46,8 @@ abbrev pub value_by : (Variables → List ℕ → List ℕ) → Variables → Li
 value_by expand variables name None = []
 value_by expand variables name (Some text) = expand (without name variables) text
 
--- For the use of a variable its text is written, in which uses are expanded in turn, but not of that variable. A name
--- that is no variable's stands for nothing.
+-- For the use of a variable its text is written, in which uses are expanded in turn, but not of
+-- that variable. A name that is no variable's stands for nothing.
 abbrev pub written_by : (Variables → List ℕ → List ℕ) → Variables → Part → List ℕ
 written_by expand variables (itself c) = c
 written_by expand variables (use_of name) =

@@ -22,7 +22,8 @@ abbrev pub token_of : Bool → List ℕ → Token
 token_of true s = class true s
 token_of false s = plain s
 
--- the first token of a text for lines that have no newline, by its text and by whether it is a class that takes one
+-- the first token of a text for lines that have no newline, by its text and by whether it is a
+-- class that takes one
 abbrev pub IsLineToken : List ℕ → List ℕ → Bool → Type 0
 IsLineToken t s takes =
     (after : ℕ) → ended_token (line_token t) after ≡ ended_token (token_of takes s) after

@@ -5,7 +5,8 @@ ghost use Rattle.syntect_rewrite.specs.Tokens as tokens;
 
 use crate::signs::{byte_at, first, sign_len, skip};
 
-/// The first token of a text: how many bytes it has, and whether it is a class that takes a newline.
+/// The first token of a text: how many bytes it has, and whether it is a class
+/// that takes a newline.
 #[derive(Clone, Copy)]
 pub(crate) struct Token {
     pub len: usize,
@@ -45,7 +46,7 @@ fn finds_newline(found: bool, depth: usize, sign: &str) -> bool
     found || (depth == 0 && is_newline(sign))
 }
 
-/// How many classes within a class are open behind a sign.
+/// How many classes within a class are open after a sign.
 fn open_after(depth: usize, sign: &str) -> usize
     requires { depth + 1 < 2 ^ 64 }
     ensures value { result ≡ tokens.open_after depth sign.now }
@@ -58,7 +59,8 @@ fn open_after(depth: usize, sign: &str) -> usize
     }
 }
 
-/// The rest of a class: how many of these bytes belong to it, and whether `\n` is one of its own members.
+/// The rest of a class: how many of these bytes belong to it, and whether `\n` is one
+/// of its own members.
 fn rest_of_class(text: &str) -> Token
     ensures len { result.len ≡ tokens.rest_len 0 (cutting.signs text.now) }
     ensures newline { result.takes_newline ≡ tokens.has_newline 0 (cutting.signs text.now) }

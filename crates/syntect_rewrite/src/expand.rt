@@ -41,7 +41,7 @@ fn run_len(bytes: &[u8]) -> usize
     bytes.iter().take_while(|byte| is_name(**byte)).count()
 }
 
-/// How long the name behind two braces is.
+/// How long the name after two braces is.
 fn name_len(bytes: &[u8]) -> usize
     ensures len { result ≡ uses.name_len bytes.now }
     ensures within { 0 < result → result + 2 ≤ length bytes.now }
@@ -61,7 +61,7 @@ pub(crate) fn used(text: &str) -> Option<(&str, &str)>
     ensures rest { IfSome result (λ p. p.1.now ≡ drop (uses.name_len text.now + 4) text.now) }
 {
     let bytes = text.as_bytes();
-    // only a name behind two braces is measured, so that a long run of letters costs one pass
+    // only a name after two braces is measured, so that a long run of letters costs one pass
     if first(text) != b'{' || byte_at(bytes, 1) != b'{' {
         return None;
     }
@@ -149,8 +149,8 @@ pub(crate) fn go_into<'a>(
     }
 }
 
-/// Goes into the text of a variable, unless that is being read or its use is remembered to stand for nothing: what is to be
-/// read next.
+/// Goes into the text of a variable, unless that is being read or its use is remembered to stand
+/// for nothing: what is to be read next.
 fn enter<'a>(
     variables: &'a Table<Text, Text>,
     frames: &mut Vec<Frame<'a>>,
@@ -182,8 +182,9 @@ fn remember(known: &mut Table<Text, bool>, name: Text) -> Result<(), AllocError>
     }
 }
 
-/// Remembers whether the use of a name stands for nothing, when its variable's text is over: if it does, what is remembered
-/// from within that text holds outside of it too, and else nothing is remembered.
+/// Remembers whether the use of a name stands for nothing, when its variable's text is over: if it
+/// does, what is remembered from within that text holds outside of it too,
+/// and else nothing is remembered.
 fn settle(
     alloc: Global,
     known: &mut Table<Text, bool>,
@@ -284,9 +285,10 @@ fn turn<'a>(
 
 /// A text with its variables expanded.
 ///
-/// Each use that is gone into and writes nothing is remembered until one that wrote something is over. So of as many
-/// variables as there are, each is gone into at most once for nothing between two that write, and each character is written
-/// in at most as many of them: how long it takes is bounded by what is written and the number of variables.
+/// Each use that is gone into and writes nothing is remembered until one that wrote something is
+/// over. So of as many variables as there are, each is gone into at most once for nothing between
+/// two that write, and each character is written in at most as many of them: how long it takes is
+/// bounded by what is written and the number of variables.
 pub(crate) fn expand(
     alloc: Global,
     text: &str,

@@ -1,4 +1,5 @@
-//! How long texts are once their variables are expanded, and how many uses of variables there are, counted without writing.
+//! How long texts are once their variables are expanded, and how many uses of variables there are,
+//! counted without writing.
 ghost use Rattle.std.specs.Prelude.{◌≡◌, ◌<◌, ◌≤◌, ◌+◌, IfOk, IfSome, MatchOption, length, None};
 ghost use Rattle.syntect_rewrite.specs.Expanding.{left, turns, AreOpen};
 ghost use Rattle.syntect_rewrite.specs.Lengths.{length_within, use_mark, with_uses};
@@ -25,7 +26,8 @@ fn added(sum: usize, more: usize, most: usize) -> Option<usize>
     }
 }
 
-/// Counts the text's first part, or goes back at its end: what is to be read next, unless the count would pass the most.
+/// Counts the text's first part, or goes back at its end: what is to be read next, unless the count
+/// would pass the most.
 fn count_part<'a>(
     alloc: Global,
     variables: &'a Table<Text, Text>,
@@ -72,12 +74,13 @@ fn count_part<'a>(
     Ok(Some(after))
 }
 
-/// How many bytes a text has with its variables expanded, and 64 more for each use of a variable that is come to for that,
-/// if those are at most so many together.
+/// How many bytes a text has with its variables expanded, and 64 more for each use of a variable
+/// that is come to for that, if those are at most so many together.
 ///
-/// Nothing is written: no more memory is taken than the names of the variables that are gone into and the places of those
-/// within one another take. It ends at the first character or use that would pass the most, so that how long it takes is
-/// bounded by that number, with a look-up by name for each use.
+/// Nothing is written: no more memory is taken than the names of the variables that are gone into
+/// and the places of those within one another take. It ends at the first character or use that
+/// would pass the most, so that how long it takes is bounded by that number, with a look-up by name
+/// for each use.
 pub fn counted_len(
     alloc: Global,
     text: &str,

@@ -38,7 +38,7 @@ pub(crate) fn anchored(alloc: Global, text: &str) -> Result<String, AllocError>
     Ok(out)
 }
 
-/// Adds a token, behind which a byte stands, as it is written for lines that have no newline.
+/// Adds a token, after which a byte stands, as it is written for lines that have no newline.
 fn push_ended(
     out: &mut String,
     token: &str,
@@ -63,8 +63,9 @@ fn push_ended(
     }
 }
 
-/// The first token of a text for lines that have no newline, whether it is a class that takes a newline, and what follows
-/// it. `(?:\n)?` is one token, and is the end of the text that may be missing.
+/// The first token of a text for lines that have no newline, whether it is a class that takes a
+/// newline, and what follows it. `(?:\n)?` is one token, and is the end of the text
+/// that may be missing.
 #[tactic(auto, using(crate::proofs::NewlineLaws::optional_token, crate::proofs::NewlineLaws::other_token))]
 fn line_token(text: &str) -> (&str, bool, &str)
     requires { 0 < length text.now }

@@ -21,8 +21,9 @@ fn push_tested(out: &mut String, sign: &str) -> Result<(), AllocError>
     }
 }
 
-/// The text that is tested as a pattern: the text with `<placeholder_D>` in place of each `\D`, D being an ASCII digit
-/// and the backslash not escaped itself. An error comes only where memory ran out.
+/// The text that is tested as a pattern: the text with `<placeholder_D>` in place of each `\D`, D
+/// being an ASCII digit and the backslash not escaped itself.
+/// An error comes only where memory ran out.
 pub fn tested(alloc: Global, text: &str) -> Result<String, AllocError>
     ensures { IfOk result (λ s. string_bytes s ≡ testing.tested_text text.now) }
 {
@@ -44,7 +45,7 @@ fn is_decimal(c: char) -> bool
     GeneralCategory::for_char(c) == GeneralCategory::DecimalNumber
 }
 
-/// Whether a character of category Nd stands behind a backslash.
+/// Whether a character of category Nd comes after a backslash.
 fn is_referred(escaped: bool, c: char) -> bool
     ensures { result ≡ (escaped && testing.is_decimal c) }
 {

@@ -21,7 +21,7 @@ fn bracket(text: &str) -> Option<&'static str>
         (λ w. IsWord replacing.brackets text.now 9 w.now) }
     ensures last { MatchOption result (result ≡ result) (λ w. slice_index text.now 8 ≡ 93) }
 {
-    // most characters are told by this one look
+    // most characters are settled by this one look
     if first(text) != b'[' {
         None
     } else if begins(text, "[:alpha:]") {
@@ -49,7 +49,8 @@ fn word(text: &str) -> Option<(&'static str, &str)>
     Some((written, skip(text, 9)))
 }
 
-/// What is written for the name at the front of a text, or else the first character, and what follows that.
+/// What is written for the name at the front of a text, or else the first character, and what
+/// follows that.
 fn next_part(text: &str) -> (&str, &str)
     requires { 0 < length text.now }
     ensures turn { replacing.replaced replacing.brackets text.now ≡ result.0.now

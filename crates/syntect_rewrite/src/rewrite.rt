@@ -9,8 +9,9 @@ use std::alloc::{AllocError, Global};
 use syntect_values::table::Table;
 use syntect_values::text::Text;
 
-/// The text of a pattern as it is compiled: with its variables expanded, `[:alpha:]` and its like named by categories, and
-/// the ends of lines written for lines that have their newline or have none. An error comes only where memory ran out.
+/// The text of a pattern as it is compiled: with its variables expanded, `[:alpha:]` and its like
+/// named by categories, and the ends of lines written for lines that have their newline or have
+/// none. An error comes only where memory ran out.
 #[tactic(auto, unfolding(crate::specs::Rewriting::rewritten))]
 pub fn rewrite(
     alloc: Global,

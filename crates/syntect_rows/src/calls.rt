@@ -54,7 +54,7 @@ const ROWS: [(&str, Row); 12] = [
     ("R13.2", Row::ThemeReaders),
 ];
 
-/// Whether an example comes out as it is written. Want of memory counts as no.
+/// Whether an example comes out as it is written. Lack of memory counts as no.
 fn holds(alloc: Global, row: Row) -> bool {
     let outcome = match row {
         Row::FirstLine => first_line(alloc),
@@ -73,7 +73,8 @@ fn holds(alloc: Global, row: Row) -> bool {
     outcome.unwrap_or(false)
 }
 
-/// Runs the examples, and prints of each whether it comes out as it is written. Answers whether all do.
+/// Runs the examples, and prints of each whether it comes out as it is written.
+/// Answers whether all do.
 pub fn run_calls(rt: &(impl Print + AllocGlobal)) -> io::Result<bool> {
     let mut all = true;
     for (label, row) in &ROWS {

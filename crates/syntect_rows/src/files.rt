@@ -1,5 +1,5 @@
-//! Texts in files by the grammars of a folder: their scopes, the ten that lie with the program, and what is found of other
-//! folders, to compare it with what other programs make of them.
+//! Texts in files by the grammars of a folder: their scopes, the ten that lie with the program, and
+//! what is found of other folders, to compare it with what other programs make of them.
 use crate::finding::write_unlinked;
 use crate::given::Given;
 use crate::runs::write_scopes;
@@ -101,7 +101,8 @@ fn has_scopes(
     Some(out == wanted)
 }
 
-/// Prints of each text whether its scopes come out. False if one does not, or if the grammars are not loaded.
+/// Prints of each text whether its scopes come out. False if one does not, or if the grammars are
+/// not loaded.
 pub fn run_scope_rows(rt: &(impl Print + AllocGlobal + Files)) -> io::Result<bool> {
     let mut repository = ScopeRepository::new(rt.alloc());
     let Some(set) = set_with_plain_text(rt, rt.alloc(), GRAMMARS, &mut repository) else {
@@ -174,7 +175,8 @@ fn write_asked(
     }
 }
 
-/// Prints what is asked of the grammars of a folder. The status is 1 where they are not loaded or a file is not read.
+/// Prints what is asked of the grammars of a folder. The status is 1 where they are not loaded or a
+/// file is not read.
 pub fn show_asked(
     rt: &(impl Print + Eprint + AllocGlobal + Files),
     folder: &str,

@@ -42,8 +42,8 @@ fn write_of_file(files: &impl Files, given: Given<'_>, path: &str, out: &mut Str
     }
 }
 
-/// Adds the name of the syntax that is found so: by `extension`, `token`, `name`, `scope`, `first_line`, `path` or `file`,
-/// with a space and what is asked for behind it, or by `plain_text`.
+/// Adds the name of the syntax that is found so: by `extension`, `token`, `name`, `scope`,
+/// `first_line`, `path` or `file`, with a space and what is asked for after it, or by `plain_text`.
 pub fn write_found(
     files: &impl Files,
     given: Given<'_>,
@@ -125,7 +125,8 @@ fn write_place(index: usize, pattern: Option<&Pattern>, out: &mut String) -> Opt
     }
 }
 
-/// Adds the places of the patterns of the first syntax's `__main`: of a copy of it in the set's builder, and by the set.
+/// Adds the places of the patterns of the first syntax's `__main`: of a copy of it in the set's
+/// builder, and by the set.
 pub fn write_places(given: Given<'_>, out: &mut String) -> Option<()> {
     let copy = given.set.clone().ok()?;
     let builder = copy.into_builder(given.alloc).ok()?;

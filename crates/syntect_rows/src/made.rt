@@ -36,7 +36,7 @@ const FIRST: [Line; 2] = [
     ("[a-z]+", "scope.other", Does::Nothing),
 ];
 
-/// The same behind a pattern that pushes a context which is not there.
+/// The patterns of the first context, after one that pushes a context which is not there.
 const UNRESOLVED: [Line; 3] = [
     ("x", "", Does::Push("none")),
     ("A", "scope.a.first", Does::Push("a")),

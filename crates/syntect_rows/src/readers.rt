@@ -122,7 +122,7 @@ pub fn readers(alloc: Global) -> Option<bool> {
     Some(holds)
 }
 
-/// Faults behind a line: of several the first in the order of lines.
+/// Faults after a line: of several the first in the order of lines.
 pub fn faults_behind_lines(alloc: Global) -> Option<bool> {
     let set = leading_out(alloc)?;
     let late: &[u8] = b"a\n\xff\n";
@@ -140,7 +140,8 @@ const HALF_A_THEME: &str = "{\"settings\":[{\"set";
 /// A theme that ends.
 const A_THEME: &str = "{\"settings\":[{\"settings\":{}}]}";
 
-/// A theme's reader that fails where its bytes end, one that ends there, and one that gives a byte at a time.
+/// A theme's reader that fails where its bytes end, one that ends there, and one that gives a byte
+/// at a time.
 pub fn theme_readers(alloc: Global) -> Option<bool> {
     let mut repository = ScopeRepository::new(alloc);
     let mut bytes = HALF_A_THEME.as_bytes();

@@ -21,10 +21,11 @@ use syntect_tables::written::{write_html, write_latex, write_sheet, write_termin
 /// The folder of the rows.
 const ROWS: &str = "rows";
 
-/// Classes behind a prefix that HTML escapes.
+/// Classes with a prefix that HTML escapes.
 const PREFIXED: ClassStyle = ClassStyle::SpacedPrefixed { prefix: "p<" };
 
-/// Adds what is found for a part of a writer: spans with classes, sheets, texts of given pieces; or for another part.
+/// Adds what is found for a part of a writer: spans with classes, sheets, texts of given pieces; or
+/// for another part.
 fn write_written(
     files: &impl Files,
     given: Given<'_>,
@@ -77,7 +78,8 @@ fn write_found(
     }
 }
 
-/// Whether a part's text is what is found. What is found ends with a newline, and the part's text without it.
+/// Whether a part's text is what is found. What is found ends with a newline, and the part's text
+/// without it.
 fn is_found(
     files: &impl Files,
     given: Given<'_>,
@@ -120,8 +122,8 @@ fn write_all(
     Some(())
 }
 
-/// Whether the row of a file's text comes out as it is written; where an output is given, what is found is added to it in
-/// place of that.
+/// Whether the row of a file's text comes out as it is written; where an output is given, what is
+/// found is added to it in place of that.
 fn run_row(
     files: &impl Files,
     alloc: Global,
@@ -152,7 +154,8 @@ fn run_row(
     }
 }
 
-/// Runs the row of a file, and prints whether it comes out as it is written. Answers whether it does.
+/// Runs the row of a file, and prints whether it comes out as it is written.
+/// Answers whether it does.
 fn run_file(rt: &(impl Print + AllocGlobal + Files), path: &str) -> io::Result<bool> {
     let text = fs::read_to_string(rt, path)?;
     let holds = run_row(rt, rt.alloc(), text.as_str(), None) == Some(true);
@@ -161,7 +164,8 @@ fn run_file(rt: &(impl Print + AllocGlobal + Files), path: &str) -> io::Result<b
     Ok(holds)
 }
 
-/// Runs the rows of the files, in byte order of their names. Answers whether all come out as they are written.
+/// Runs the rows of the files, in byte order of their names. Answers whether all come out as they
+/// are written.
 pub fn run_row_files(rt: &(impl Print + AllocGlobal + Files)) -> io::Result<bool> {
     let Ok(paths) = files_below(rt, rt.alloc(), Path::new(ROWS)) else {
         return Ok(false);

@@ -68,7 +68,8 @@ fn resumed<'t>(
     HighlightLines::from_state(alloc, theme, highlight_state, parse_state).ok()
 }
 
-/// The same by a highlighter that is taken up again behind each line, with the scopes that are open there.
+/// Adds the styled pieces of a text's lines, by a highlighter that is taken up again after each
+/// line, with the scopes that are open there.
 pub fn write_resumed_pieces(
     given: Given<'_>,
     repository: &ScopeRepository,
@@ -98,7 +99,7 @@ pub fn write_page(given: Given<'_>, repository: &ScopeRepository, out: &mut Stri
     }
 }
 
-/// Adds the text of a generator of spans with classes, behind its lines.
+/// Adds the text of a generator of spans with classes, after its lines.
 fn write_lines_of(
     given: Given<'_>,
     mut generator: ClassedHTMLGenerator<'_>,

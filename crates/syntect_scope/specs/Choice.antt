@@ -8,8 +8,8 @@ use Rattle.syntect_scope.specs.declared.stack.ScopeStack.{ScopeStack}
 
 -- ---- choices ----
 
--- All choices for a path in the part of a stack that begins at a place: rising places, one for each scope of the
--- path, which is a prefix of the scope of the stack there.
+-- All choices for a path in the part of a stack that begins at a place: rising places, one for each
+-- scope of the path, which is a prefix of the scope of the stack there.
 abbrev pub choices : List (List ℕ) → List (List ℕ) → ℕ → List (List ℕ)
 choices [] stack at = [] ∷ []
 choices (s ∷ path) [] at = []

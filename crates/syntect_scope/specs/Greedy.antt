@@ -3,7 +3,7 @@ use Rattle.std.specs.Prelude.{ℕ, suc, ◌+◌, ◌*◌, ◌^◌, Bool, true, f
 use Rattle.std.specs.Option.{option_map}
 use Rattle.syntect_scope.specs.Atoms.{is_prefix}
 
--- each scope of the path at the first place behind the one before it
+-- each scope of the path at the first place after the one before it
 abbrev pub greedy : List (List ℕ) → List (List ℕ) → ℕ → Option (List ℕ)
 greedy [] stack at = Some []
 greedy (s ∷ path) [] at = None

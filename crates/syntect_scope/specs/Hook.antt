@@ -24,8 +24,8 @@ additions scopes (s ∷ more) = (Added s, scopes ++ s ∷ []) ∷ additions (sco
 abbrev pub last_cleared : ScopeStack → List (List ℕ)
 last_cleared s = unwrap_or (slice_get s.clear_stack (length s.clear_stack - 1)) []
 
--- what an operation really pushes and removes, in order, each with the stack that the hook is shown: the one after
--- that push or removal, and for `Clear` the one that is left in the end
+-- what an operation really pushes and removes, in order, each with the stack that the hook is
+-- shown: the one after that push or removal, and for `Clear` the one that is left in the end
 abbrev pub hook_calls : ScopeStackOp → ScopeStack → List (BasicScopeStackOp × List (List ℕ))
 hook_calls (Push scope) s = additions s.scopes (scope ∷ [])
 hook_calls (Pop count) s = removals (min count (length s.scopes)) s.scopes
@@ -33,7 +33,8 @@ hook_calls (Clear amount) s = replicate (length s.scopes - kept amount s) (Remov
 hook_calls Restore s = additions s.scopes (last_cleared s)
 hook_calls Noop s = []
 
--- a hook is called with what was pushed or removed and a reference to the stack, and is then this one
+-- a hook is called with what was pushed or removed and a reference to the stack,
+-- and is then this one
 pub record Hears {F : Type 0} (g : Mut F (BasicScopeStackOp × (Bor (List (List ℕ)) × Unit {0})) (Unit {0})) (hook : F) (call : BasicScopeStackOp × List (List ℕ)) (after : F) : Type 0 where
   pub shown : Bor (List (List ℕ))
   pub shows : shown.now ≡ call.1

@@ -1,4 +1,5 @@
--- Texts of scopes and the repository of atoms: the list of the atoms' texts, where atom k is the k-th text, from 1.
+-- Texts of scopes and the repository of atoms: the list of the atoms' texts, where atom k is the
+-- k-th text, from 1.
 use Rattle.std.specs.Prelude.{◌≡◌, ℕ, zero, suc, ◌==◌, nat_lt, ◌+◌, ◌≤◌, Bool, false, List, [], ◌∷◌, ◌++◌, length, map, is_some, if◌then◌else◌, Option, Some, None, unwrap_or, slice_get}
 use Rattle.std.specs.Option.{option_map_or}
 use Rattle.std.specs.List.{slice_split, position_from, list_any, join_with_byte}
@@ -69,8 +70,8 @@ with_scopes repo (text ∷ texts) = with_scopes (with_atoms repo (atom_texts tex
 abbrev pub is_too_long : List ℕ → Bool
 is_too_long text = nat_lt 8 (length (atom_texts text))
 
--- the refusal of the first of the scopes that a repository can't take, if there is one: too many atoms in the text, or
--- more in the repository than it can hold
+-- the refusal of the first of the scopes that a repository can't take, if there is one: too many
+-- atoms in the text, or more in the repository than it can hold
 abbrev pub first_refusal : List (List ℕ) → List (List ℕ) → Option ParseScopeError
 first_refusal repo [] = None
 first_refusal repo (text ∷ texts) =
@@ -78,7 +79,7 @@ first_refusal repo (text ∷ texts) =
     else if nat_lt 65534 (length (with_atoms repo (atom_texts text))) then Some TooManyAtoms
     else first_refusal (with_atoms repo (atom_texts text)) texts
 
--- want of memory, or this refusal
+-- lack of memory, or this refusal
 abbrev pub MayRefuse : Option ParseScopeError → ParseScopeError → Type 0
 MayRefuse o Memory = Unit {0}
 MayRefuse o TooLong = o ≡ Some TooLong

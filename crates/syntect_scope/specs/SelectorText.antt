@@ -13,7 +13,7 @@ use Rattle.syntect_scope.specs.declared.stack.ScopeStack.{ScopeStack}
 abbrev pub union_parts : List ℕ → List (List ℕ)
 union_parts text = flat_map (slice_split (λ b. b == 124)) (slice_split (λ b. b == 44) text)
 
--- the parts of a selector: at each space with a hyphen behind it
+-- the parts of a selector: at each space with a hyphen after it
 abbrev pub hyphen_parts : List ℕ → List (List ℕ)
 hyphen_parts [] = [] ∷ []
 hyphen_parts (b ∷ []) = (b ∷ []) ∷ []

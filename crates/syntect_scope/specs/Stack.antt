@@ -12,7 +12,8 @@ abbrev pub kept : ClearAmount → ScopeStack → ℕ
 kept (TopN n) s = length s.scopes - n
 kept All s = 0
 
--- the stack after an operation: `Clear` remembers what it takes as one list, `Restore` puts the last one back
+-- the stack after an operation: `Clear` remembers what it takes as one list, `Restore` puts the
+-- last one back
 abbrev pub applied : ScopeStackOp → ScopeStack → ScopeStack
 applied (Push scope) s = record s { scopes = s.scopes ++ scope ∷ [] }
 applied (Pop count) s = record s { scopes = take (length s.scopes - count) s.scopes }

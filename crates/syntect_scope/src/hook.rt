@@ -1,4 +1,4 @@
-//! Operations on a stack of which a hook hears.
+//! Operations on a stack that are reported to a hook.
 ghost use Rattle.std.specs.Prelude.{◌≡◌, ◌≤◌, ◌-◌, ◌↔◌, [], length, take, drop, replicate, is_ok, if◌then◌else◌, IsTrue, IsOk, OnOk, OnErr, IsErrOf};
 ghost use Rattle.std.specs.List.{FoldsTo};
 ghost use Rattle.syntect_scope.specs.Hook.{Hears, removals, additions, hook_calls};
@@ -49,9 +49,9 @@ impl ScopeStack {
         }
     }
 
-    /// Applies an operation as `apply` does, and calls the hook once for each scope that is really pushed or removed,
-    /// with the stack after that; for `Clear` it is each time the stack that is left. A refusal changes nothing and
-    /// calls no hook.
+    /// Applies an operation as `apply` does, and calls the hook once for each scope that is really
+    /// pushed or removed, with the stack after that; for `Clear` it is each time the stack that is
+    /// left. A refusal changes nothing and calls no hook.
     pub fn apply_telling<F: FnMut(BasicScopeStackOp, &[Scope])>(
         &mut self,
         op: &ScopeStackOp,
@@ -83,7 +83,7 @@ impl ScopeStack {
         Ok(())
     }
 
-    /// `apply_telling` with a hook that isn't wanted back.
+    /// Applies an operation as `apply_telling` does, with a hook that is handed over by value.
     pub fn apply_with_hook<F: FnMut(BasicScopeStackOp, &[Scope])>(
         &mut self,
         op: &ScopeStackOp,

@@ -1,7 +1,8 @@
 //! Scopes, the repository of their atoms, stacks of scopes, selectors and their scores.
 //!
-//! A scope names a piece of text, as `string.quoted.double.json`: up to eight atoms, from the general to the
-//! particular. A repository numbers the atoms, so that a scope is a short list of numbers.
+//! A scope names a piece of text, as `string.quoted.double.json`: up to eight atoms, from the
+//! general to the particular. A repository numbers the atoms, so that a scope is a
+//! short list of numbers.
 #![tactic(auto)]
 
 pub mod hook;

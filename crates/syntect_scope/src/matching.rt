@@ -26,8 +26,8 @@ fn is_found(path: &[Scope], stack: &[Scope]) -> bool
     rest.is_empty()
 }
 
-/// The score of a path in a stack, if it is found there: each of its scopes at the first place behind the one before
-/// it.
+/// The score of a path in a stack, if it is found there: each of its scopes at the first place
+/// after the one before it.
 fn path_power(
     alloc: Global,
     path: &[Scope],
@@ -70,8 +70,8 @@ fn greater(a: Option<MatchPower>, b: Option<MatchPower>) -> Option<MatchPower>
 }
 
 impl ScopeStack {
-    /// The score of this stack as a path in another one, the bottom scope first, if it is found there. A stack of no
-    /// scopes is found nowhere.
+    /// The score of this stack as a path in another one, the bottom scope first, if it is found
+    /// there. A stack of no scopes is found nowhere.
     pub fn does_match(&self, stack: &[Scope]) -> Result<Option<MatchPower>, AllocError>
         ensures { IfOk result (λ power. power ≡ stack_score self.now.scopes stack.now) }
     {
@@ -83,8 +83,8 @@ impl ScopeStack {
 }
 
 impl ScopeSelector {
-    /// The score of this selector in a stack, the bottom scope first: none where an exclusion is empty or found, or
-    /// the path isn't found; 1 for an empty path.
+    /// The score of this selector in a stack, the bottom scope first: none where an exclusion is
+    /// empty or found, or the path isn't found; 1 for an empty path.
     pub fn does_match(&self, stack: &[Scope]) -> Result<Option<MatchPower>, AllocError>
         ensures { IfOk result (λ power. power ≡ selector_score self.now stack.now) }
     {
@@ -102,7 +102,8 @@ impl ScopeSelector {
 }
 
 impl ScopeSelectors {
-    /// The greatest of the scores of the selectors in a stack, the bottom scope first, if one has a score.
+    /// The greatest of the scores of the selectors in a stack, the bottom scope first,
+    /// if one has a score.
     pub fn does_match(&self, stack: &[Scope]) -> Result<Option<MatchPower>, AllocError>
         ensures { IfOk result (λ power. power ≡ union_score self.now.selectors stack.now) }
     {

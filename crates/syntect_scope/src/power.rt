@@ -10,8 +10,8 @@ use std::alloc::{AllocError, Global};
 use std::cmp::Ordering;
 use std::marker::Model;
 
-/// The score of a selector, an exact whole number. The score of a path is a sum of `count * 8^place`, and the place
-/// is a depth in a stack, so that no machine number holds it.
+/// The score of a selector, an exact whole number. The score of a path is a sum of
+/// `count * 8^place`, and the place is a depth in a stack, so that no machine number holds it.
 #[derive(Debug, Drop)]
 pub struct MatchPower {
     /// The base-8 digits, the lowest first, without zeros at the end.
@@ -49,8 +49,8 @@ fn pad(digits: &mut Vec<u8>, n: usize)
     }
 }
 
-/// Adds a number that isn't 0 at a place up to the end of the digits, with room for the sum. The highest digit isn't 0
-/// then, if the place is the end or it wasn't 0 before.
+/// Adds a number that isn't 0 at a place up to the end of the digits, with room for the sum. The
+/// highest digit isn't 0 then, if the place is the end or it wasn't 0 before.
 fn add_at(digits: &mut Vec<u8>, count: u32, place: usize)
     requires some { 0 < count }
     requires within { place ≤ length digits.old.items }
@@ -108,7 +108,7 @@ fn small_number(digits: &[u8]) -> Option<u64>
 }
 
 impl MatchPower {
-    /// Nought. Takes no memory.
+    /// Zero. Takes no memory.
     pub fn new(alloc: Global) -> MatchPower
         ensures { result ≡ 0 }
     {
@@ -130,7 +130,7 @@ impl MatchPower {
         Ok(MatchPower { digits })
     }
 
-    /// The same number once more.
+    /// A copy of the number.
     pub fn clone(&self) -> Result<MatchPower, AllocError>
         ensures { IfOk result (λ power. power ≡ self.now) }
     {

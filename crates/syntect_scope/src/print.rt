@@ -10,8 +10,8 @@ use std::io;
 use std::io::Write;
 
 impl Scope {
-    /// Writes the text of the scope in a repository, as `build_string` has it. Takes no memory; an `Err` is the
-    /// writer's.
+    /// Writes the text of the scope in a repository, as `build_string` has it. Takes no memory; an
+    /// `Err` is the writer's.
     pub fn write_to<W: Write>(self, repository: &ScopeRepository, writer: &mut W) -> io::Result<()>
         ensures { OnOk result (Appends (W.contents writer.old) (W.contents writer.new)
             (scope_text repository.now self)) }
@@ -27,8 +27,8 @@ impl Scope {
 }
 
 impl ScopeStack {
-    /// Writes the texts of the scopes in a repository, the bottom one first, each followed by one space, and a newline
-    /// behind them. Takes no memory; an `Err` is the writer's.
+    /// Writes the texts of the scopes in a repository, the bottom one first, each followed by one
+    /// space, and a newline after them. Takes no memory; an `Err` is the writer's.
     pub fn debug_print<W: Write>(
         &self,
         repository: &ScopeRepository,

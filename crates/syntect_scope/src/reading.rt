@@ -75,9 +75,10 @@ fn stacks_of(
 }
 
 impl ScopeSelector {
-    /// The selector that a text names. The text is cut at each space with a hyphen behind it: first comes the path,
-    /// then come the exclusions, each of scopes separated by white space. A refusal is that of the first scope that
-    /// is refused, or want of memory; the repository may then have more atoms, and the old ones keep their numbers.
+    /// The selector that a text names. The text is cut at each space with a hyphen after it: first
+    /// comes the path, then come the exclusions, each of scopes separated by white space. A refusal
+    /// is that of the first scope that is refused, or lack of memory; the repository may then have
+    /// more atoms, and the old ones keep their numbers.
     pub fn from_text(
         alloc: Global,
         s: &str,

@@ -20,7 +20,7 @@ use thiserror::Error;
 /// Why a text is no scope. The repository is then as it was.
 #[derive(Debug, Drop, PartialEq, Eq, Error)]
 pub enum ParseScopeError {
-    /// It has more than eight atoms. This is tested before anything else.
+    /// The text has more than eight atoms. This is tested before anything else.
     #[error("Too long scope. Scopes can be at most 8 atoms long.")]
     TooLong,
     /// The repository has no room for all of the text's atoms that it lacks.
@@ -50,7 +50,8 @@ impl<T: Drop> From<AllocFailed<T>> for ParseScopeError {
 /// How many atoms a repository can hold: their numbers are those of `u16` but 0 and the last.
 const MAX_ATOMS: usize = 65534;
 
-/// The texts of the atoms, numbered from 1 in the order in which they came. Contracts see the list of the texts.
+/// The texts of the atoms, numbered from 1 in the order in which they came. Contracts see the list
+/// of the texts.
 #[derive(Debug)]
 pub struct ScopeRepository {
     atoms: Vec<Text>,
@@ -108,7 +109,7 @@ pub fn words_of(alloc: Global, s: &str) -> Result<Vec<&str>, AllocError>
     s.split_whitespace().collect(alloc)
 }
 
-/// Puts a copy of a text last.
+/// Appends a copy of a text.
 fn push_text(atoms: &mut Vec<Text>, part: &str) -> Result<(), AllocError>
     ensures ok { OnOk result (atoms.new.items ≡ atoms.old.items ++ part.now ∷ []) }
     ensures err { OnErr result (atoms.new.items ≡ atoms.old.items) }
@@ -146,7 +147,7 @@ impl ScopeRepository {
         }
     }
 
-    /// The same atoms with the same numbers once more.
+    /// A copy of the repository: the same atoms have the same numbers.
     pub fn clone(&self) -> Result<ScopeRepository, AllocError>
         ensures { IfOk result (λ copy. copy ≡ self.now) }
     {
@@ -178,7 +179,7 @@ impl ScopeRepository {
         self.numbers.get(part).copied()
     }
 
-    /// The number of an atom, which it takes up unless it has it.
+    /// The number of an atom, which is added if the repository lacks it.
     fn number(&mut self, part: &str) -> Result<u16, ParseScopeError>
         ensures ok { IfOk result (λ n. (self.new ≡ with_atom self.old part.now) × (n ≡ number_in self.new part.now)) }
         ensures positive { IfOk result (λ n. 0 < n) }
@@ -206,15 +207,15 @@ impl ScopeRepository {
         }
     }
 
-    /// Holds at most 65534 texts, each once. It does nothing: it is for callers whose contracts say so of a repository
-    /// that they were handed.
+    /// Holds at most 65534 texts, each once. It does nothing: it is for callers whose contracts say
+    /// so of a repository that they were handed.
     pub fn is_whole(&self)
         ensures { IsRepository self.now }
     {
         let _ = &self.atoms;
     }
 
-    /// Takes the last atom back.
+    /// Removes the last atom.
     fn forget_last(&mut self)
         ensures { self.new ≡ take (length self.old - 1) self.old }
     {
@@ -230,8 +231,9 @@ impl ScopeRepository {
         self.atoms.len()
     }
 
-    /// Takes back the atoms behind the first `held`, for a caller that took them up and then refused what has them. A scope
-    /// that has such an atom is another one afterwards, or none; every other scope stays what it is. Takes no memory.
+    /// Removes the atoms after the first `held`, for a caller that added them and then refused what
+    /// has them. A scope that has such an atom is another one afterwards, or none; every other
+    /// scope stays what it is. Takes no memory.
     pub fn forget(&mut self, held: usize)
         ensures { self.new ≡ take held self.old }
     {
@@ -240,8 +242,8 @@ impl ScopeRepository {
         }
     }
 
-    /// The numbers of a text's parts between its dots, which it takes up. After an `Err` it may have more atoms at its
-    /// end.
+    /// The numbers of a text's parts between its dots, which are added where they are lacking.
+    /// After an `Err` it may have more atoms at its end.
     fn numbers(&mut self, text: &str) -> Result<Scope, ParseScopeError>
         requires { length (between_dots text.now) ≤ 8 }
         ensures ok { IfOk result (λ s. (self.new ≡ with_atoms self.old (between_dots text.now))
@@ -263,7 +265,7 @@ impl ScopeRepository {
         Ok(scope)
     }
 
-    /// Whether it would lack a part once it had taken up those before it, so many, in the same text.
+    /// Whether it would lack a part once it had added those before it, so many, in the same text.
     fn lacks(&self, text: &str, before: usize, part: &str) -> bool
         ensures { result ≡ not (is_some
             (place_in (with_atoms self.now (take before (between_dots text.now))) part.now)) }
@@ -288,7 +290,8 @@ impl ScopeRepository {
         count
     }
 
-    /// Why it does not take up a text's parts between its dots: they are too many, or else there was no memory.
+    /// Why it does not add a text's parts between its dots: they are too many,
+    /// or else there was no memory.
     fn refusal(&self, text: &str) -> ParseScopeError
         requires { length (between_dots text.now) ≤ 8 }
         ensures { result ≡ (if nat_lt 65534 (length (with_atoms self.now (between_dots text.now)))
@@ -301,10 +304,11 @@ impl ScopeRepository {
         }
     }
 
-    /// The scope of a text: its parts between dots are the atoms. Dots at the end are cut, empty parts before them
-    /// are atoms, and the empty text names the scope of no atoms. Atoms that the repository lacks are taken up. A
-    /// text of more than eight atoms is `TooLong`, whatever else there is to say of it, and one of which there is no room for all
-    /// atoms `TooManyAtoms`, also where there is no memory.
+    /// The scope of a text: its parts between dots are the atoms. Dots at the end are cut, empty
+    /// parts before them are atoms, and the empty text names the scope of no atoms. Atoms that the
+    /// repository lacks are added. A text of more than eight atoms is `TooLong`, whatever else
+    /// there is to say of it, and one of which there is no room for all atoms `TooManyAtoms`, also
+    /// where there is no memory.
     pub fn build(&mut self, s: &str) -> Result<Scope, ParseScopeError>
         ensures atoms { OnOk result (self.new ≡ with_atoms self.old (atom_texts s.now)) }
         ensures scope { IfOk result (λ scope. scope ≡ scope_in self.new s.now) }
@@ -357,8 +361,8 @@ impl ScopeRepository {
         Ok(())
     }
 
-    /// The text of a scope: the texts of its atoms, joined by dots. An atom number that the repository does not
-    /// have is written as `?`.
+    /// The text of a scope: the texts of its atoms, joined by dots. An atom number that the
+    /// repository does not have is written as `?`.
     pub fn to_string(&self, scope: Scope) -> Result<String, AllocError>
         ensures { IfOk result (λ text. string_bytes text ≡ scope_text self.now scope) }
     {
@@ -369,7 +373,8 @@ impl ScopeRepository {
 }
 
 impl Scope {
-    /// The scope of a text, without the white space around it. Refusals are those of `ScopeRepository::build`.
+    /// The scope of a text, without the white space around it.
+    /// Refusals are those of `ScopeRepository::build`.
     pub fn new(s: &str, repository: &mut ScopeRepository) -> Result<Scope, ParseScopeError>
         ensures atoms { OnOk result (repository.new ≡ with_atoms repository.old (atom_texts (trim s.now))) }
         ensures scope { IfOk result (λ scope. scope ≡ scope_in repository.new (trim s.now)) }
@@ -393,9 +398,9 @@ impl Scope {
 }
 
 impl ScopeStack {
-    /// The scopes that a text names, separated by white space, the bottom one first. A refusal is that of the first
-    /// scope that is refused, or want of memory; the repository may then have more atoms, and the old ones keep
-    /// their numbers.
+    /// The scopes that a text names, separated by white space, the bottom one first. A refusal is
+    /// that of the first scope that is refused, or lack of memory; the repository may then have
+    /// more atoms, and the old ones keep their numbers.
     pub fn from_text(
         alloc: Global,
         s: &str,

@@ -23,8 +23,8 @@ const ATOM_BITS: u32 = 16;
 /// How many atoms one word holds.
 const WORD_ATOMS: u32 = 4;
 
-/// A list of at most eight atom numbers of one repository. They stand in two words, the first one in the highest bits,
-/// and unused bits are 0: the order of the words is that of the lists.
+/// A list of at most eight atom numbers of one repository. They stand in two words, the first one
+/// in the highest bits, and unused bits are 0: the order of the words is that of the lists.
 #[derive(Clone, Copy, Debug)]
 pub struct Scope {
     high: u64,
@@ -139,7 +139,8 @@ impl Scope {
         }
     }
 
-    /// Whether its atoms begin the list of atoms of `s`: `string.quoted` is a prefix of `string.quoted.json`.
+    /// Whether its atoms begin the list of atoms of `s`:
+    /// `string.quoted` is a prefix of `string.quoted.json`.
     pub fn is_prefix_of(self, s: Scope) -> bool
         ensures { result ≡ is_prefix self s }
     {

@@ -12,7 +12,7 @@ use syntect_values::seq::Seq;
 pub struct ScopeSelector {
     /// The scopes of the path, the outermost first.
     pub path: ScopeStack,
-    /// The exclusions: no stack in which one of them is found is meant.
+    /// The exclusions: a stack in which one of them is found is not matched.
     pub excludes: Seq<ScopeStack>,
 }
 
@@ -34,7 +34,7 @@ impl ScopeSelector {
         }
     }
 
-    /// The same selector once more.
+    /// A copy of the selector.
     pub fn clone(&self) -> Result<ScopeSelector, AllocError>
         ensures { IfOk result (λ selector. selector ≡ self.now) }
     {
@@ -85,7 +85,7 @@ impl ScopeSelectors {
         }
     }
 
-    /// The same selectors once more.
+    /// A copy of the selectors.
     pub fn clone(&self) -> Result<ScopeSelectors, AllocError>
         ensures { IfOk result (λ selectors. selectors ≡ self.now) }
     {

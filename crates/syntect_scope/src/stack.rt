@@ -40,7 +40,7 @@ impl<T: Drop> From<AllocFailed<T>> for ScopeError {
 /// How many scopes `Clear` takes off the top.
 #[derive(Clone, Copy, Debug, PartialEq, Eq)]
 pub enum ClearAmount {
-    /// So many, or all if there are fewer.
+    /// The topmost so many scopes, or all if there are fewer.
     TopN(usize),
     /// All.
     All,
@@ -106,7 +106,7 @@ impl ScopeStack {
         ScopeStack::new(alloc)
     }
 
-    /// The same stack once more, with the scopes that it remembers.
+    /// A copy of the stack, with the scopes that it remembers.
     pub fn clone(&self) -> Result<ScopeStack, AllocError>
         ensures { IfOk result (λ s. s ≡ self.now) }
     {
@@ -142,7 +142,7 @@ impl ScopeStack {
         self.scopes.len()
     }
 
-    /// Whether there are none.
+    /// Whether there are no scopes.
     pub fn is_empty(&self) -> bool
         ensures { IsTrue result ↔ (self.now.scopes ≡ []) }
     {

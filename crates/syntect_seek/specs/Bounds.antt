@@ -6,15 +6,16 @@ use Rattle.syntect_pattern_table.specs.declared.program.Program.{Program}
 use Rattle.syntect_linear.specs.Linear.{planned_steps}
 use Rattle.syntect_plan.specs.Linear.{is_linear, most_cells}
 
--- A search by a pattern of so many bytes, in a text so long, backs up in at most sixty-four steps for each byte of the text,
--- for each byte of the pattern sixteen, or as many as the text has bytes where it has fewer, and 16384 beside them; as many
--- bytes of the pattern count as a plan has cells at most. Where they don't suffice, it goes on by the tree's plan.
+-- A search by a pattern of so many bytes, in a text so long, backs up in at most sixty-four steps
+-- for each byte of the text, for each byte of the pattern sixteen, or as many as the text has bytes
+-- where it has fewer, and 16384 besides; as many bytes of the pattern count as a plan has cells at
+-- most. Where they don't suffice, it goes on by the tree's plan.
 abbrev pub tree_bound : Tree → ℕ → ℕ → ℕ
 tree_bound t size long =
     long * 64 + min size most_cells * min long 16 + 16384 + planned_steps t long
 
--- The same of a try, of many at place after place: it backs up in at most eight steps for each byte of the text, and 2048 beside
--- them and those for the pattern.
+-- The same of a try, of many at place after place: it backs up in at most eight steps for each byte
+-- of the text, and 2048 besides them and those for the pattern.
 abbrev pub tried_bound : Tree → ℕ → ℕ → ℕ
 tried_bound t size long = long * 8 + min size most_cells * min long 16 + 2048 + planned_steps t long
 
@@ -22,7 +23,8 @@ tried_bound t size long = long * 8 + min size most_cells * min long 16 + 2048 + 
 abbrev pub root_tree : Program → Tree
 root_tree p = slice_index_or (trees_of p) p.root nothing
 
--- the steps of a search are within the bound, by a pattern of so many bytes in a text so long, where the program is linear
+-- the steps of a search are within the bound, by a pattern of so many bytes in a text so long,
+-- where the program is linear
 abbrev pub IsWithinBound : Program → ℕ → ℕ → ℕ → ℕ → Type 0
 IsWithinBound p size long before after = is_linear (root_tree p) ≡ true
     → after ≤ before + tree_bound (root_tree p) size long

@@ -1,4 +1,5 @@
-//! What is kept of patterns that backed up too often, while a text is read: their plans, with the marks of the text.
+//! What is kept of patterns that backed up too often, while a text is read: their plans, with the
+//! marks of the text.
 ghost use Rattle.std.specs.Prelude.{◌≡◌, ◌≤◌, ◌<◌, ◌+◌, ◌*◌, ℕ, List, IfErr, IfNone, IfOk, IfSome, OnOk, Some, false, true, length, string_bytes};
 ghost use Rattle.syntect_meter.specs.Meter.{Advances, StopsAt};
 ghost use Rattle.syntect_pattern.specs.Trees.{Tree, group};
@@ -18,7 +19,8 @@ use syntect_linear::walk::Span;
 use syntect_meter::meter::Meter;
 use syntect_meter::stop::Stop;
 
-/// So many places are marked of all that are kept, but for the last one's: with more all earlier ones are let go.
+/// How many places are marked of all that are kept, but for the last one's: with more all earlier
+/// ones are dropped.
 const MOST: usize = 4_000_000;
 
 /// A pattern's plan with the marks of a text, or none where the pattern is not linear.
@@ -94,8 +96,8 @@ impl Depths {
         }
     }
 
-    /// Whether a match of the pattern begins at the place of the text, where that is marked. Where one does, the groups are the
-    /// match's.
+    /// Whether a match of the pattern begins at the place of the text, where that is marked. Where
+    /// one does, the groups are the match's.
     pub(crate) fn begins_at(
         &self,
         pattern: &str,

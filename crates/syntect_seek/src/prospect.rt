@@ -9,14 +9,16 @@ use syntect_pattern_table::program::Program;
 /// A try of so few steps is not counted.
 const FEW: usize = 16;
 
-/// So many bytes of the text that are looked at for what matches need count as a step.
+/// How many bytes of the text that are looked at for what matches need count as a step.
 const LOOKED_A_STEP: usize = 64;
 
-/// From where on no match of the pattern begins, how far what its matches need was met, and how many steps are left for its tries,
-/// or that its plan tells of the text. It is of one pattern in one text.
+/// From where on no match of the pattern begins, how far what its matches need was met, and how
+/// many steps are left for its tries, or that its plan tells of the text. It is of one pattern in
+/// one text.
 #[derive(Clone, Copy)]
 pub struct Prospect {
-    /// No match begins from here on to the text's end: the greatest number where nothing of that is known.
+    /// No match begins from here on to the text's end: the greatest number where nothing
+    /// of that is known.
     from: usize,
     met: Met,
     /// The greatest number before such a try, and 0 where the plan tells.
@@ -51,8 +53,8 @@ impl Prospect {
         self.from <= place && place < usize::MAX
     }
 
-    /// Whether what matches need stands at the place or behind it, as far as is known. Where it doesn't, that is known from
-    /// then on.
+    /// Whether what matches need stands at the place or after it, as far as is known. Where it
+    /// doesn't, that is known from then on.
     #[inline]
     pub fn is_left(&mut self, program: &Program, text: &str, place: usize) -> bool
         ensures none { result ≡ false → (pattern : List ℕ) → IsCompiled pattern program.now
@@ -67,7 +69,8 @@ impl Prospect {
         false
     }
 
-    /// As how many steps it counts that what matches need was looked for from the place on, by what was known before.
+    /// As how many steps it counts that what matches need was looked for from the place on, by what
+    /// was known before.
     #[inline]
     pub fn look_steps(&self, before: &Prospect, text: &str, place: usize) -> usize
         ensures { result ≤ length text.now }

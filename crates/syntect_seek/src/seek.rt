@@ -1,6 +1,6 @@
-//! Searches whose steps are bounded: one that backs up too often goes on by the pattern's plan, which doesn't back up at all. From
-//! the text's end on it is worked out which cells of the plan lead to the end of a match, which tells of each place whether one
-//! begins there.
+//! Searches whose steps are bounded: one that backs up too often goes on by the pattern's plan,
+//! which doesn't back up at all. From the text's end on it is worked out which cells of the plan
+//! lead to the end of a match, which tells of each place whether one begins there.
 ghost use Rattle.std.specs.Prelude.{◌≡◌, ◌≤◌, ◌<◌, ◌+◌, ◌*◌, IfErr, IfNone, IfOk, IfSome, OnOk, None, Some, false, true, length, min};
 ghost use Rattle.syntect_meter.specs.Meter.{Advances, StopsAt};
 ghost use Rattle.syntect_pattern_reader.specs.Compiled.{IsCompiled};
@@ -35,13 +35,15 @@ const STEPS_A_BYTE: usize = 64;
 
 const STEPS: usize = 16384;
 
-/// The same of the tries of a pattern at place after place of a text. Marking a place takes about as long as some steps, where the
-/// same stood at another place.
+/// In how many steps the tries of a pattern at place after place of a text may back up for each
+/// byte of it. Marking a place takes about as long as some steps,
+/// where the same stood at another place.
 const TRIED_A_BYTE: usize = 8;
 
 const TRIED: usize = 2048;
 
-/// In how many it may for each byte of the pattern, as a plan takes long to make, but in no more than the text has bytes.
+/// In how many it may for each byte of the pattern, as a plan takes long to make, but in no more
+/// than the text has bytes.
 const STEPS_A_PLAN: usize = 16;
 
 /// How many bytes of the pattern count at most: as many as a plan has cells at most.
@@ -58,7 +60,8 @@ fn steps_in(size: usize, text: &str) -> usize
     bytes.saturating_add(plan).saturating_add(STEPS)
 }
 
-/// The same of tries at place after place.
+/// In how many steps tries at place after place of the text may back up for a pattern
+/// of so many bytes.
 #[inline]
 fn tried_steps_in(size: usize, text: &str) -> usize
     ensures { result
@@ -69,7 +72,8 @@ fn tried_steps_in(size: usize, text: &str) -> usize
     bytes.saturating_add(plan).saturating_add(TRIED)
 }
 
-/// As how many steps so many passes over the text for lookbehinds count: a step for each four bytes of each.
+/// As how many steps so many passes over the text for lookbehinds count: a step for each four bytes
+/// of each.
 fn pass_steps(passes: usize, text: &str) -> usize
     ensures bound { result ≤ passes * (length text.now + 1) }
     ensures counted { passes ≤ result }
@@ -77,8 +81,8 @@ fn pass_steps(passes: usize, text: &str) -> usize
     passes.saturating_mul(text.len() / 4 + 1)
 }
 
-/// The program's plan in the text, if the program is linear. It costs a step for each of its cells, and those of the passes over
-/// the text for lookbehinds, which are paid for before they are made.
+/// The program's plan in the text, if the program is linear. It costs a step for each of its cells,
+/// and those of the passes over the text for lookbehinds, which are paid for before they are made.
 fn guide_of(
     alloc: Global,
     program: &Program,
@@ -110,8 +114,8 @@ fn guide_of(
     Ok(Some(Guide::new(alloc, spelt, plan, text)?))
 }
 
-/// Whether the program matches at the place or at a later one, of which the least counts. Where it does, the search's groups
-/// are the match's. The pattern's text has so many bytes as `size` says.
+/// Whether the program matches at the place or at a later one, of which the least counts. Where it
+/// does, the search's groups are the match's. The pattern's text has so many bytes as `size` says.
 #[inline]
 pub fn find(
     search: &mut Search,
@@ -135,7 +139,8 @@ pub fn find(
     }
 }
 
-/// The same by backing up in at most so many steps. None where they don't suffice.
+/// Whether the program matches at a place from `begin` on, by backing up in at most so many steps.
+/// None where they don't suffice.
 #[inline]
 fn find_within(
     search: &mut Search,
@@ -165,7 +170,7 @@ fn find_within(
     Ok(told)
 }
 
-/// The same by backing up to the end.
+/// Whether the program matches at a place from `begin` on, by backing up to the end.
 fn find_backing_up(
     search: &mut Search,
     program: &Program,
@@ -191,7 +196,8 @@ fn find_backing_up(
     }
 }
 
-/// The same where those steps didn't suffice.
+/// Whether the program matches at a place from `begin` on,
+/// where backing up in limited steps didn't tell.
 #[inline(never)]
 fn find_planned(
     search: &mut Search,
@@ -218,7 +224,7 @@ fn find_planned(
     find_marked(search, guide, text, begin, text.len(), meter)
 }
 
-/// The same by the marks of the places from `begin` on.
+/// Whether the program matches at a place from `begin` on, by the marks of these places.
 fn find_marked(
     search: &mut Search,
     guide: Guide,
@@ -245,9 +251,10 @@ fn find_marked(
     guide.find_up_to(text, begin, last, &mut search.groups, meter)
 }
 
-/// The same for this place alone of a text in which the pattern is tried at place after place, by what is known of it there, of
-/// which more is known after. The program is the pattern's. Its tries share so many steps: after that its plan tells of this place
-/// and all later ones whether a match begins there.
+/// Whether a match begins at this place alone of a text in which the pattern is tried at place
+/// after place, by what is known of it there, of which more is known after. The program is the
+/// pattern's. Its tries share so many steps: after that its plan tells of this place and all later
+/// ones whether a match begins there.
 #[inline]
 pub fn begins_known(
     search: &mut Search,
@@ -278,7 +285,8 @@ pub fn begins_known(
     begins_tried(search, program, pattern, text, place, known, depths, meter)
 }
 
-/// The same by the marks. Where these were let go, since others came, tries have all steps again before they are made anew.
+/// Whether a match begins at the place, by the marks. Where these were dropped, since others came,
+/// tries have all steps again before they are made anew.
 fn begins_settled(
     search: &mut Search,
     program: &Program,
@@ -309,7 +317,7 @@ fn begins_settled(
     begins_tried(search, program, pattern, text, place, known, depths, meter)
 }
 
-/// The same by backing up first.
+/// Whether a match begins at the place, by backing up first.
 #[inline]
 fn begins_tried(
     search: &mut Search,
@@ -339,7 +347,8 @@ fn begins_tried(
     let allowed = meter.allowed(granted);
     match begins_within(search, program, text, place, granted, meter)? {
         Some(found) => {
-            // A character of a stretch, which is gone through forth and back, counts as a step more here
+            // A character of a stretch, which is gone through back and forth,
+            // counts as a step more here
             let steps = allowed.saturating_sub(search.left);
             known.spend(all, steps.saturating_add(search.read));
             Ok(found)
@@ -351,7 +360,8 @@ fn begins_tried(
     }
 }
 
-/// The same by backing up in at most so many steps. None where they don't suffice.
+/// Whether a match begins at the place, by backing up in at most so many steps. None where they
+/// don't suffice.
 #[inline]
 fn begins_within(
     search: &mut Search,
@@ -382,7 +392,7 @@ fn begins_within(
     Ok(told)
 }
 
-/// The same where those steps didn't suffice.
+/// Whether a match begins at the place, where backing up in limited steps didn't tell.
 #[inline(never)]
 fn begins_after(
     search: &mut Search,
@@ -414,7 +424,8 @@ fn begins_after(
     begins_planned(search, program, pattern, text, place, known, depths, meter)
 }
 
-/// The same where nothing is kept of the pattern, or that it is not linear.
+/// Whether a match begins at the place, where no marks of the pattern are kept, by new ones if it
+/// is linear.
 fn begins_planned(
     search: &mut Search,
     program: &Program,
@@ -455,7 +466,8 @@ fn begins_planned(
     begins_marked(search, guide, pattern, text, place, depths, meter)
 }
 
-/// The same where the pattern is not linear: it backs up to the end.
+/// Whether a match begins at the place, by backing up to the end,
+/// as for a pattern that is not linear.
 fn backs_up(
     search: &mut Search,
     program: &Program,
@@ -481,7 +493,7 @@ fn backs_up(
     }
 }
 
-/// The same by the marks of this place and all later ones, which are kept.
+/// Whether a match begins at the place, by the marks of it and all later places, which are kept.
 fn begins_marked(
     search: &mut Search,
     guide: Guide,

@@ -1,11 +1,12 @@
-//! What the calls are given. It is made where there is memory: what is refused stands within a call.
+//! What the calls are given. It is made where there is memory:
+//! what is refused stands within a call.
 use std::alloc::Global;
 use syntect_grammar::syntax_definition::SyntaxDefinition;
 use syntect_grammar::syntax_set::{SyntaxSet, SyntaxSetBuilder};
 use syntect_scope::repository::ScopeRepository;
 
-/// A grammar with a prototype, a variable, captures, a text that ends with the word that it began with, and an include in
-/// another one.
+/// A grammar with a prototype, a variable, captures, a text that ends with the word that it began
+/// with, and an include in another one.
 pub const GRAMMAR: &str = r##"name: T
 scope: source.t
 file_extensions: [t]

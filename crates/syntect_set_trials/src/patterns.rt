@@ -56,7 +56,7 @@ fn regex_with_refs(rt: &(impl Print + AllocGlobal)) {
     }
 }
 
-/// The first place of a pattern that stands behind an include.
+/// The first place of a pattern that comes after an include.
 fn first_place(rt: &(impl Print + AllocGlobal), set: &SyntaxSet, context: &Context) {
     for _ in 0..TIMES {
         let mut places = context_iter(rt.alloc(), set, context);

@@ -12,7 +12,8 @@ fn write_mark(text: &str, is_asked: bool, out: &mut String) -> Option<()> {
     out.push_str(if is_asked { text } else { "" }).ok()
 }
 
-/// Adds ` #` and the context within a syntax that a reference names, if it names one, and a mark if it has a way out.
+/// Adds ` #` and the context within a syntax that a reference names, if it names one, and a mark if
+/// it has a way out.
 fn write_way(sub_context: &Option<Text>, with_escape: bool, out: &mut String) -> Option<()> {
     if let Some(name) = sub_context {
         write!(out, "#{}", name.as_str()).ok()?;
@@ -85,7 +86,7 @@ fn write_list(scopes: &[Scope], repository: &ScopeRepository, out: &mut String) 
     Some(())
 }
 
-/// Adds a line of these scopes behind a label; none without scopes.
+/// Adds a line of these scopes after a label; none without scopes.
 fn write_scopes(
     label: &str,
     scopes: &[Scope],
@@ -193,7 +194,7 @@ fn write_clearing(clear_scopes: Option<ClearAmount>, out: &mut String) -> Option
     }
 }
 
-/// Adds what stands in a context beside its scopes and patterns.
+/// Adds what stands in a context besides its scopes and patterns.
 fn write_marks(context: &Context, out: &mut String) -> Option<()> {
     let is_without = !context.meta_include_prototype;
     write_mark("  without prototype\n", is_without, out)?;
@@ -233,7 +234,7 @@ fn write_extensions(extensions: &[Text], out: &mut String) -> Option<()> {
     Some(())
 }
 
-/// Adds what stands in a definition beside its variables and contexts.
+/// Adds what stands in a definition besides its variables and contexts.
 fn write_head(
     definition: &SyntaxDefinition,
     repository: &ScopeRepository,

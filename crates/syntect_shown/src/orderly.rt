@@ -1,5 +1,5 @@
-//! Which syntaxes of a set put back what their contexts clear in the order in which it was cleared, by a look at their
-//! definitions alone.
+//! Which syntaxes of a set put back what their contexts clear in the order in which it was cleared,
+//! by a look at their definitions alone.
 use std::alloc::Global;
 use syntect_grammar::syntax_set::{SyntaxReference, SyntaxSet};
 use syntect_openings::syntax_definition::{
@@ -19,7 +19,7 @@ fn clears(set: &SyntaxSet, reference: &ContextReference) -> bool {
     }
 }
 
-/// Whether a context behind the first of a list clears.
+/// Whether a context after the first of a list clears.
 fn clears_behind_first(set: &SyntaxSet, references: &[ContextReference]) -> bool {
     let mut is_first = true;
     for reference in references {
@@ -45,7 +45,8 @@ fn is_orderly(set: &SyntaxSet, pattern: &Pattern, top_clears: bool) -> bool {
     }
 }
 
-/// Whether the matches of a context's patterns are orderly where the context on top clears, or doesn't.
+/// Whether the matches of a context's patterns are orderly where the context on top clears,
+/// or doesn't.
 fn are_orderly(
     alloc: Global,
     set: &SyntaxSet,
@@ -99,7 +100,8 @@ fn is_orderly_in(alloc: Global, set: &SyntaxSet, context: &Context) -> Option<bo
     are_orderly(alloc, set, context, top_clears)
 }
 
-/// Adds the name of a syntax, if contexts of it clear: how many do, and whether all its matches are orderly.
+/// Adds the name of a syntax, if contexts of it clear: how many do,
+/// and whether all its matches are orderly.
 fn write_orderly_of(
     alloc: Global,
     set: &SyntaxSet,
@@ -122,7 +124,8 @@ fn write_orderly_of(
     writeln!(out, "{name}\t{count}\t{told}").ok()
 }
 
-/// Adds the syntaxes of which contexts clear, each with how many do and whether all its matches are orderly.
+/// Adds the syntaxes of which contexts clear, each with how many do and whether all
+/// its matches are orderly.
 pub fn write_orderly(alloc: Global, set: &SyntaxSet, out: &mut String) -> Option<()> {
     for syntax in set.syntaxes() {
         write_orderly_of(alloc, set, syntax, out)?;

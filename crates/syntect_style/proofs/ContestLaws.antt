@@ -1,4 +1,5 @@
--- The better one of those that stand after the single rules and after the others is the first that none beats.
+-- The better one of those that stand after the single rules and after the others is the first that
+-- none beats.
 use Rattle.std.proofs.Common.{◌≡◌, ℕ, zero, suc, ◌<◌, ◌*◌, ◌^◌, cond, if◌then◌else◌, Bool, true, false, not, List, [], ◌∷◌, ◌++◌, length, get_or, Option, Some, None, refl, sym, ap, ◌∙◌, arith}
 use Rattle.std.specs.Prelude.{◌≢◌, find, IsSomeAnd}
 use Rattle.std.specs.Option.{option_map}
@@ -210,7 +211,8 @@ module _ {V : Type 0} (attribute : StyleModifier → Option V) (stack : List (Li
       ∙ sym (ap (λ b. against b (after_others attribute stack o (item_others item ++ flat_map item_others items))) (after_rules-append s (item_rules item) (flat_map item_rules items))
       ∙ ap (against (after_rules attribute stack (after_rules attribute stack s (item_rules item)) (flat_map item_rules items))) (others-append o (item_others item) (flat_map item_others items)))
 
-  -- the better one of those that stand after the single rules and after the others is the one that prevails
+  -- the better one of those that stand after the single rules and after the others is
+  -- the one that prevails
   stands_prevailing : (theme : Theme) (rules : List Rule) → rules ≡ single_rules theme
       → against (after_rules attribute stack None rules) (after_others attribute stack None (other_rules theme)) ≡ prevailing (candidates attribute theme stack)
   stands_prevailing theme rules e =

@@ -55,7 +55,7 @@ not_refused : (sts : List Stretch) → (Err NoClearedScopesToRestore ∷ []) ≡
 not_refused [] e = cc
 not_refused (x ∷ xs) e = cc
 
--- what is left behind the pieces of one stretch
+-- what is left after the pieces of one stretch
 rest_ok : (xs sts : List Stretch) (l : List (Result Stretch ScopeError)) → oks xs ++ l ≡ oks sts → (ys : List Stretch) × (l ≡ oks ys)
 rest_ok [] sts l e = (sts, e)
 rest_ok (x ∷ xs) [] l e = cc

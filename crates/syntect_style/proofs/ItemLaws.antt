@@ -172,7 +172,7 @@ gives-last {s} {m} {t} h e n v a p w =
       },
     )
 
--- a refused operation, or want of memory at it
+-- a refused operation, or lack of memory at it
 pub gives-error : {s m t : RangedHighlightIterator} {o : ℕ × ScopeStackOp} {os : List (ℕ × ScopeStackOp)} (e : ScopeError) → PassedOver s m → m.changes.now ≡ o ∷ os → Moved m t [] (length m.text.now)
     → stack_of t ≡ stack_of m → (e ≡ NoClearedScopesToRestore → is_refused o.1 (stack_of m) ≡ true) → Gives s (Some (Err e)) t
 gives-error {s} {m} {t} {o} {os} NoClearedScopesToRestore h c v a r =

@@ -95,7 +95,7 @@ put_known theme ks k place h w =
 
 -- ---- what decides for the other rules ----
 
--- a front of a list with more behind it
+-- a front of a list with more after it
 front_more : (n : ℕ) (xs ys : List (List ℕ)) → n ≤ length xs → take n (xs ++ ys) ≡ take n xs
 front_more zero xs ys l = refl
 front_more (suc n) [] ys l = absurd (omega (arith, l))

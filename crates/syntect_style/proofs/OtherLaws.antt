@@ -1,4 +1,5 @@
--- A scope on top that begins with none of the last scopes of a rule's path and exclusions leaves the rule's score.
+-- A scope on top that begins with none of the last scopes of a rule's path and exclusions leaves
+-- the rule's score.
 use Rattle.std.proofs.Common.{◌≡◌, ℕ, suc, ◌-◌, Bool, true, false, ◌||◌, if◌then◌else◌, List, [], ◌∷◌, ◌++◌, length, map, Option, Some, None, refl, sym, ap, ◌∙◌, arith}
 use Rattle.std.specs.Prelude.{IfSome, is_some}
 use Rattle.std.specs.List.{slice_get, find, list_all, list_any, flat_map}

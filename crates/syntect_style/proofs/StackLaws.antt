@@ -1,4 +1,4 @@
--- When two stacks are told to be equal.
+-- When two stacks are found to be equal.
 use Rattle.std.proofs.Common.{◌≡◌, ℕ, Bool, true, ◌&&◌, List, refl, ap, sym, ◌∙◌}
 use Rattle.std.specs.Prelude.{nat_eq}
 use Rattle.std.specs.Bool.{Decides}
@@ -11,7 +11,7 @@ use Rattle.syntect_scope.specs.declared.stack.ScopeStack.{ScopeStack}
 scope_decides : (a b : List ℕ) → Decides (pointwise nat_eq a b) (a ≡ b)
 scope_decides a b = slice_eq-Decides unsigned_Decides a b (pointwise nat_eq a b) refl
 
--- two scopes that are told to be equal are
+-- two scopes that are found to be equal are
 pub same_scope : (a b : List ℕ) (r : Bool) → r ≡ pointwise nat_eq a b → r ≡ true → a ≡ b
 same_scope a b r e t = (scope_decides a b).0 (sym e ∙ t)
 

@@ -115,12 +115,13 @@ abbrev pub IsUnder : {V : Type 0} → ℕ → Option (Candidate V) → Type 0
 IsUnder power None = Unit {0}
 IsUnder power (Some c) = c.score.power < power
 
--- nothing, where there is no place below; or this value with a power of nought, at the place right below
+-- nothing, where there is no place below; or this value with a power of zero,
+-- at the place right below
 abbrev pub IsJustBelow : {V : Type 0} → ℕ → V → Option (Candidate V) → Type 0
 IsJustBelow n v None = n ≡ 0
 IsJustBelow n v (Some c) = (c.value ≡ v) × (c.score.power ≡ 0) × ((p : ℕ) × (c.score.place ≡ Some p) × (suc p ≡ n))
 
--- rules of the scope of no atoms alone: of their powers all are nought, and their place is the top
+-- rules of the scope of no atoms alone: of their powers all are zero, and their place is the top
 pub record Noughts (V : Type 0) (n : ℕ) (a m b : Option (Candidate V)) : Type 0 where
   pub x : Candidate V
   pub y : Candidate V
@@ -134,7 +135,8 @@ pub record Noughts (V : Type 0) (n : ℕ) (a m b : Option (Candidate V)) : Type 
   pub z_place : z.score.place ≡ Some n
   pub value : x.value ≡ z.value
 
--- What stands by the places below the top, what stands at the top, and what stands with both: the better of the two.
+-- What stands by the places below the top, what stands at the top, and what stands with both: the
+-- better of the two.
 pub record Tracks (V : Type 0) (n : ℕ) (a m b : Option (Candidate V)) : Type 0 where
   pub low : IsBelow n a
   pub at_top : IsAt n m
@@ -227,7 +229,7 @@ module _ {V : Type 0} (n : ℕ) where
   just_below None v u = tt
   just_below (Some c) v u = (u.2.0, u.2.1, omega (arith, u.2.2))
 
-  -- nothing at the top beats what is there, with a power of nought
+  -- nothing at the top beats what is there, with a power of zero
   same_top : (y d : Candidate V) → y.score.place ≡ Some n → d.score.place ≡ Some n → d.score.power ≡ 0 → against (Some y) (Some d) ≡ Some y
   same_top y d i j z = keeps y d (higher_loses y.score d.score n n i j (omega arith) (omega arith))
 

@@ -24,8 +24,8 @@ pub record AreBuckets (rules : List Rule) (buckets : List (List Rule)) : Type 0 
   pub count : length buckets ≡ 32
   pub each : (b : ℕ) → b < 32 → slice_index_or buckets b [] ≡ filter (may_match b) rules
 
--- A theme made ready: its single rules in buckets, its other rules in their order, the last scopes of the paths and
--- exclusions of these in buckets too.
+-- A theme made ready: its single rules in buckets, its other rules in their order, the last scopes
+-- of the paths and exclusions of these in buckets too.
 pub record IsReady (theme : Theme) (buckets : List (List Rule))
     (others : List (ScopeSelector × StyleModifier)) (lasts : List (List Rule)) : Type 0 where
   pub singles : AreBuckets (single_rules theme) buckets

@@ -1,4 +1,5 @@
--- The selectors of a theme that set an attribute of a stack's style, and the one of them that prevails.
+-- The selectors of a theme that set an attribute of a stack's style,
+-- and the one of them that prevails.
 use Rattle.std.specs.Prelude.{ℕ, suc, ◌==◌, nat_lt, ◌*◌, ◌^◌, Bool, true, false, ◌&&◌, ◌||◌, not, List, [], ◌∷◌, length, find, Option, Some, None}
 use Rattle.std.specs.Option.{option_map}
 use Rattle.std.specs.List.{filter_map, flat_map, list_all}

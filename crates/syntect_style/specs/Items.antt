@@ -94,7 +94,7 @@ pub record GivesPiece (s t : RangedHighlightIterator)
   pub passes : Passes s t t.pos t.changes.now
   pub shows : Shows (theme_of s) s.text.now (Tells s) piece p
 
--- Want of memory: operations at the place were applied, and then it was met.
+-- Lack of memory: operations at the place were applied, and then it was met.
 pub record Stops (s t : RangedHighlightIterator) : Type 0 where
   pub others : List (ℕ × ScopeStackOp)
   pub passes : Passes s t s.pos others

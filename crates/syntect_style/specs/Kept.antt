@@ -28,13 +28,15 @@ AreSmall theme stack s =
     AreOthers theme stack (other_from s.foreground) (other_from s.background)
     (other_from s.font_style)
 
--- each of the other rules scores in so many of the lowest scopes of a stack what it scores in the stack
+-- each of the other rules scores in so many of the lowest scopes of a stack what it
+-- scores in the stack
 pub record IsBase (theme : Theme) (stack : List (List ℕ)) (base : ℕ) : Type 0 where
   pub within : base ≤ length stack
   pub alike : ScoreAlike (other_rules theme) (take base stack) stack
 
--- What is kept of a stack is true under the theme: what the single rules come to, its style, what the other rules come to,
--- and that none of these has another score in its lower part, up to the base.
+-- What is kept of a stack is true under the theme: what the single rules come to, its style, what
+-- the other rules come to, and that none of these has another score in its lower part,
+-- up to the base.
 pub record IsKnown (theme : Theme) (stack : List (List ℕ)) (k : Kept) : Type 0 where
   pub single : AreStanding theme stack k.single
   pub style : IfSome k.style (λ style. style ≡ style_of theme stack)

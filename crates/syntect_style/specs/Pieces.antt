@@ -19,8 +19,8 @@ use Rattle.syntect_style.specs.declared.state.HighlightState.{HighlightState}
 abbrev pub path_of : HighlightState → ScopeStack
 path_of s = s.path
 
--- What a state keeps is true under the theme, and as much of it as the state says is about lower parts of its stack. A
--- state has it from its making on, as long as one highlighter is used.
+-- What a state keeps is true under the theme, and as much of it as the state says is about lower
+-- parts of its stack. A state has it from its making on, as long as one highlighter is used.
 pub record Keeps (theme : Theme) (s : HighlightState) : Type 0 where
   pub known : AreKnown theme [] s.kept
   pub within : s.fits ≤ length s.kept
@@ -44,7 +44,8 @@ abbrev pub oks : List Stretch → List (Result Stretch ScopeError)
 oks [] = []
 oks (x ∷ xs) = Ok x ∷ oks xs
 
--- the stretches between the operations' places, from a place to the end, each with the stack at it; a refused operation ends them
+-- the stretches between the operations' places, from a place to the end, each with the stack at it;
+-- a refused operation ends them
 abbrev pub stretches : ℕ → ℕ → ScopeStack → List (ℕ × ScopeStackOp)
     → List (Result Stretch ScopeError)
 stretches end at s [] = oks (stretch at end s.scopes)

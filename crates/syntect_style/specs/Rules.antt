@@ -1,4 +1,5 @@
--- The rules of a theme, the single ones apart from the others, and the candidates among them in turn.
+-- The rules of a theme, the single ones apart from the others,
+-- and the candidates among them in turn.
 use Rattle.std.specs.Prelude.{◌≡◌, ℕ, ◌-◌, ◌*◌, ◌^◌, ◌<◌, List, [], ◌∷◌, ◌++◌, length, if◌then◌else◌, Option, Some, None}
 use Rattle.std.specs.Option.{option_to_list}
 use Rattle.std.specs.List.{filter_map, flat_map, slice_get}
@@ -80,8 +81,8 @@ abbrev pub IsBelow : {V : Type 0} → ℕ → Option (Candidate V) → Type 0
 IsBelow n None = Unit {0}
 IsBelow n (Some c) = (p : ℕ) × (c.score.place ≡ Some p) × (p < n)
 
--- It is worth what the single rule is worth that prevails in a stack. Its place is one of the stack, and where powers are
--- nought need not be that rule's.
+-- It is worth what the single rule is worth that prevails in a stack. Its place is one of the
+-- stack, and where powers are zero need not be that rule's.
 pub record Stands (V : Type 0) (attribute : StyleModifier → Option V) (theme : Theme)
     (stack : List (List ℕ)) (c : Option (Candidate V)) : Type 0 where
   pub same : worth c ≡ worth (after_rules attribute stack None (single_rules theme))

@@ -60,8 +60,8 @@ pub(crate) fn any_begins(rules: &[Rule], top: Scope) -> bool
     false
 }
 
-/// Puts the values of the rules that match a scope, at its place, in the place of the best ones so far, where their
-/// scores beat those.
+/// Puts the values of the rules that match a scope, at its place, in the place of the best ones so
+/// far, where their scores beat those.
 pub(crate) fn offer_rules(best: &mut Standings, rules: &[Rule], top: Scope, place: usize)
     requires { place + 1 < 2 ^ 64 }
     ensures foreground { candidate_from best.new.foreground

@@ -23,9 +23,10 @@ use syntect_values::seq::Seq;
 #[derive(Debug)]
 pub struct Highlighter<'a> {
     theme: &'a Theme,
-    /// The rules of one scope, which are scored without large numbers: those that can match a scope, by its first atom.
+    /// The rules of one scope, which are scored without large numbers: those that can match a
+    /// scope, by its first atom.
     buckets: Vec<Seq<Rule>>,
-    /// The other rules.
+    /// The rules that are not in `buckets`.
     others: Vec<Other>,
     /// The last scopes of their paths and exclusions, in the same way.
     lasts: Vec<Seq<Rule>>,
@@ -79,8 +80,8 @@ impl<'a> Highlighter<'a> {
         })
     }
 
-    /// The style of text that no rule styles: the theme's own colours, black where it has no foreground and white
-    /// where it has no background, without flags. Takes no memory.
+    /// The style of text that no rule styles: the theme's own colours, black where it has no
+    /// foreground and white where it has no background, without flags. Takes no memory.
     pub fn get_default(&self) -> Style
         ensures { result ≡ default_style self.now }
     {
@@ -91,9 +92,9 @@ impl<'a> Highlighter<'a> {
         }
     }
 
-    /// The style of a stack of scopes, the bottom one first: for each attribute the value of the rule that
-    /// prevails, and the default where no rule sets it. Of no scopes this is the default too, but for rules with an
-    /// empty path, which act everywhere.
+    /// The style of a stack of scopes, the bottom one first: for each attribute the value of the
+    /// rule that prevails, and the default where no rule sets it. Without scopes it is the default
+    /// too, but for rules with an empty path, which act everywhere.
     pub fn style_for_stack(&self, stack: &[Scope]) -> Result<Style, AllocError>
         ensures { IfOk result (λ s. s ≡ style_of self.now stack.now) }
     {
@@ -131,7 +132,8 @@ impl<'a> Highlighter<'a> {
         }
     }
 
-    /// Puts one scope more on top, at a place, of a stack for which these values stand after the single rules.
+    /// Puts one scope more on top, at a place, of a stack for which these values stand after the
+    /// single rules.
     pub(crate) fn raise(&self, standings: &mut Standings, top: Scope, place: usize)
         requires { place + 1 < 2 ^ 64 }
         ensures { (stack : List (List ℕ)) → length stack ≡ place
@@ -172,7 +174,8 @@ impl<'a> Highlighter<'a> {
         Ok(all)
     }
 
-    /// The values that prevail, where these stand after the single rules and those are what the other rules come to.
+    /// The values that prevail, where these stand after the single rules and those are what the
+    /// other rules come to.
     pub(crate) fn finished(
         &self,
         single: Standings,
@@ -189,7 +192,8 @@ impl<'a> Highlighter<'a> {
         })
     }
 
-    /// The same, where the other rules' scores are small.
+    /// The values that prevail, where `single` stand after the single rules, and the other rules'
+    /// scores are small.
     pub(crate) fn finished_small(&self, single: Standings, others: SmallStandings) -> StyleModifier
         ensures { (stack : List (List ℕ)) → AreStanding self.now stack single
             → AreSmall self.now stack others → result ≡ winners self.now stack }
@@ -202,8 +206,8 @@ impl<'a> Highlighter<'a> {
     }
 }
 
-/// A style in the making: for each attribute the score that was reached, `None` where no rule has set it yet, and the
-/// value.
+/// A style in the making: for each attribute the score that was reached, `None` where no rule has
+/// set it yet, and the value.
 #[derive(Debug, Drop, PartialEq, Eq)]
 pub struct ScoredStyle {
     /// The colour of the text.
@@ -215,7 +219,7 @@ pub struct ScoredStyle {
 }
 
 impl ScoredStyle {
-    /// The same once more.
+    /// A copy of the style with its scores.
     pub fn clone(&self) -> Result<ScoredStyle, AllocError>
         ensures { IfOk result (λ s. s ≡ self.now) }
     {

@@ -51,7 +51,7 @@ impl KeptStyles {
         }
     }
 
-    /// The same once more.
+    /// A copy of the styles that are kept.
     pub(crate) fn clone(&self) -> Result<KeptStyles, AllocError>
         ensures { IfOk result (λ kept. kept ≡ self.now) }
     {
@@ -60,7 +60,8 @@ impl KeptStyles {
         })
     }
 
-    /// Becomes the same as another one, in the memory that it has where that is enough; nothing after an `Err`.
+    /// Becomes the same as another one, in the memory that it has where that is enough; nothing
+    /// after an `Err`.
     pub(crate) fn clone_from(&mut self, source: &KeptStyles) -> Result<(), AllocError>
         ensures ok { OnOk result (self.new ≡ source.now) }
         ensures err { OnErr result (self.new ≡ []) }
@@ -124,8 +125,9 @@ impl KeptStyles {
         }
     }
 
-    /// Goes from a stack that is known to the one with this scope more on top. What is known of that one is taken up
-    /// again; else it is worked out, and what is known of other stacks above goes.
+    /// Goes from a stack that is known to the one with this scope more on top. What is known of
+    /// that one is taken up again; else it is worked out, and what is known of other stacks above
+    /// is dropped.
     pub(crate) fn push(
         &mut self,
         highlighter: &Highlighter<'_>,
@@ -157,7 +159,8 @@ impl KeptStyles {
         Ok(())
     }
 
-    /// What the other rules come to in the lowest so many scopes, if it is known and their scores are small.
+    /// What the other rules come to in the lowest so many scopes, if it is known and their scores
+    /// are small.
     fn others_at(&self, count: usize) -> Option<SmallStandings>
         ensures { IfSome result (λ others. (theme : Theme) → AreKnown theme [] self.now
             → AreSmall theme (lowest count self.now) others) }

@@ -6,8 +6,8 @@ ghost use Rattle.syntect_style.specs.Styling.{default_style, style_of, winners};
 ghost use Rattle.syntect_theme.specs.Modifying.{restyled};
 ghost use Rattle.syntect_theme.specs.declared.theme.Theme.{Theme};
 
-/// Where there is a candidate for an attribute, one prevails, and the default does not stand. It is among the
-/// candidates, and none of them beats it.
+/// Where there is a candidate for an attribute, one prevails, and the default does not stand. It is
+/// among the candidates, and none of them beats it.
 #[tactic(auto, using(crate::proofs::ContestLaws::one_prevails))]
 pub fn one_prevails<V>()
     ensures { (cs : List (Candidate V)) → cs ≢ [] → IsSomeAnd (prevailing cs) (IsGreatest V cs) }

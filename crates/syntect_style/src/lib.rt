@@ -1,7 +1,7 @@
 //! The styles that a theme gives.
 //!
-//! A `Highlighter` answers the style of a stack of scopes, and the highlight iterators cut a line at the operations
-//! that a parser gave for it, each piece with the style of the stack at it.
+//! A `Highlighter` answers the style of a stack of scopes, and the highlight iterators cut a line
+//! at the operations that a parser gave for it, each piece with the style of the stack at it.
 #![tactic(auto)]
 
 mod buckets;

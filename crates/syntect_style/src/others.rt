@@ -28,7 +28,7 @@ pub(crate) struct OtherStandings {
     pub(crate) font_style: Option<(MatchPower, FontStyle)>,
 }
 
-/// The same, where the scores are small.
+/// The values that stand so far, each with the score of its rule, where the scores are small.
 #[derive(Clone, Copy, Debug)]
 pub(crate) struct SmallStandings {
     pub(crate) foreground: Option<(u64, Color)>,
@@ -89,7 +89,8 @@ fn offer_all(
     offer(&mut best.font_style, power, style.font_style)
 }
 
-/// Whether a selector can have a score in a stack: where it has a path, its last scope begins one of the stack.
+/// Whether a selector can have a score in a stack: where it has a path, its last scope begins one
+/// of the stack.
 #[tactic(auto, using(crate::proofs::OtherLaws::no_score))]
 fn can_match(selector: &ScopeSelector, stack: &[Scope]) -> bool
     ensures { result ≡ false → selector_score selector.now stack.now ≡ None }
@@ -125,8 +126,8 @@ fn add_other(best: &mut OtherStandings, other: &Other, stack: &[Scope]) -> Resul
     }
 }
 
-/// For each attribute the value of the rule that prevails among those that are not single ones, and `None` where none
-/// sets it.
+/// For each attribute the value of the rule that prevails among those that are not single ones, and
+/// `None` where none sets it.
 pub(crate) fn others_of(others: &[Other], stack: &[Scope]) -> Result<OtherStandings, AllocError>
     ensures foreground { IfOk result (λ s. other_from s.foreground
         ≡ best_other (λ m. m.foreground) stack.now (map rule_from others.now)) }
@@ -159,7 +160,7 @@ fn small<V: Copy>(best: &Option<(MatchPower, V)>) -> Option<Option<(u64, V)>>
 }
 
 impl OtherStandings {
-    /// The same, if all scores are small.
+    /// These values with small scores, if all their scores are small.
     pub(crate) fn small(&self) -> Option<SmallStandings>
         ensures foreground { IfSome result (λ s. other_from s.foreground
             ≡ other_from self.now.foreground) }
@@ -176,7 +177,8 @@ impl OtherStandings {
     }
 }
 
-/// The value of the one with the greater score: of equal scores that of the single rule. The other one's score is small.
+/// The value of the one with the greater score: of equal scores that of the single rule. The other
+/// one's score is small.
 pub(crate) fn better_small<V: Copy>(
     single: Option<(SingleScore, V)>,
     other: Option<(u64, V)>,

@@ -16,9 +16,10 @@ use syntect_theme::style::Style;
 
 /// The pieces of a text, each with its style and its range of bytes in the text.
 ///
-/// A piece is a stretch that isn't empty between the places of the operations, from the text's start to its end,
-/// in the style of the stack at it. Where an operation is refused an `Err` is given for the piece up to it, as the last
-/// item, and the state keeps what the earlier operations made.
+/// A piece is a stretch that isn't empty between the places of the operations, from the text's
+/// start to its end, in the style of the stack at it. Where an operation is refused an `Err` is
+/// given for the piece up to it, as the last item, and the state keeps what
+/// the earlier operations made.
 #[derive(Debug, Drop)]
 pub struct RangedHighlightIterator<'a, 'b> {
     pos: usize,
@@ -61,8 +62,8 @@ fn piece_to<'b>(
 }
 
 impl<'a, 'b> RangedHighlightIterator<'a, 'b> {
-    /// The pieces of a text under operations whose places rise or stay, lie in the text and between its characters.
-    /// Takes no memory.
+    /// The pieces of a text under operations whose places rise or stay, lie in the text and between
+    /// its characters. Takes no memory.
     pub fn new(
         state: &'a mut HighlightState,
         changes: &'a [(usize, ScopeStackOp)],
@@ -122,7 +123,8 @@ impl<'a, 'b> Iterator for RangedHighlightIterator<'a, 'b> {
     }
 }
 
-/// All pieces of a text under operations that are in order. A refusal leaves the stack of the operations before it.
+/// All pieces of a text under operations that are in order. A refusal leaves the stack of the
+/// operations before it.
 pub fn collect_pieces<'b>(
     alloc: Global,
     highlighter: &Highlighter<'_>,
@@ -161,8 +163,8 @@ pub struct HighlightIterator<'a, 'b> {
 }
 
 impl<'a, 'b> HighlightIterator<'a, 'b> {
-    /// The pieces of a text under operations whose places rise or stay, lie in the text and between its characters.
-    /// Takes no memory.
+    /// The pieces of a text under operations whose places rise or stay, lie in the text and between
+    /// its characters. Takes no memory.
     pub fn new(
         state: &'a mut HighlightState,
         changes: &'a [(usize, ScopeStackOp)],

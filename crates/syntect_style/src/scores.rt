@@ -28,7 +28,8 @@ impl SingleScore {
     ghost use Rattle.syntect_style.specs.Candidates.{beats};
     ghost use Rattle.syntect_style.specs.Rules.{score_from};
 
-    /// The score as digits to the base of eight, of which at most one isn't zero: its place, and the digit.
+    /// The score as digits to the base of eight, of which at most one isn't zero: its place, and
+    /// the digit.
     fn leading(&self) -> (usize, u32)
         ensures value { result.1 * 8 ^ result.0 ≡ self.now.atoms * 8 ^ self.now.place }
         ensures digit { result.1 < 8 }

@@ -13,8 +13,9 @@ use syntect_scope::scope::Scope;
 use syntect_scope::stack::{ScopeError, ScopeStack, ScopeStackOp};
 use syntect_theme::style::Style;
 
-/// The stack of scopes after the texts so far. What is known of its style is kept with it, so a state belongs to
-/// one highlighter: the iterators take the same one for all texts. States are equal where their stacks are.
+/// The stack of scopes after the texts so far. What is known of its style is kept with it, so a
+/// state belongs to one highlighter: the iterators take the same one for all texts. States are
+/// equal where their stacks are.
 #[derive(Debug)]
 #[derive_where(PartialEq, Eq)]
 pub struct HighlightState {
@@ -72,7 +73,7 @@ impl HighlightState {
         stack
     }
 
-    /// The same state once more.
+    /// A copy of the state.
     pub fn clone(&self) -> Result<HighlightState, AllocError>
         ensures { IfOk result (λ s. s ≡ self.now) }
     {
@@ -83,8 +84,8 @@ impl HighlightState {
         })
     }
 
-    /// Becomes the same state as another one, in the memory that it has where that is enough. After an `Err` it has a stack
-    /// of which nothing is known.
+    /// Becomes the same state as another one, in the memory that it has where that is enough. After
+    /// an `Err` it has a stack of which nothing is known.
     pub fn clone_from(&mut self, source: &HighlightState) -> Result<(), AllocError>
         ensures ok { OnOk result (self.new ≡ source.now) }
         ensures err { (theme : ATheme) → OnErr result (Keeps theme self.new) }

@@ -1,4 +1,5 @@
-//! A line under operations that a row gives: as spans with classes, as text, and in ranges; and what hooks hear.
+//! A line under operations that a row gives: as spans with classes, as text, and in ranges; and
+//! what hooks hear.
 use crate::row_file::{Part, body_of};
 use crate::scoring::operation_of;
 use std::alloc::Global;
@@ -46,7 +47,7 @@ pub fn write_operation(
     }
 }
 
-/// Adds the spans of a line, and in the next line how many more of them are open behind it.
+/// Adds the spans of a line, and in the next line how many more of them are open after it.
 fn write_spans(
     alloc: Global,
     line: &str,
@@ -98,8 +99,8 @@ fn write_ranges(
     Some(())
 }
 
-/// Adds what is made of a line and the operations that the row gives: spans with classes, ranges, or the operations as
-/// text.
+/// Adds what is made of a line and the operations that the row gives: spans with classes, ranges,
+/// or the operations as text.
 pub fn write_changes(
     alloc: Global,
     parts: &[Part<'_>],
@@ -116,8 +117,8 @@ pub fn write_changes(
     }
 }
 
-/// Adds what a hook hears of an operation on a stack, the two with a comma between: of each call whether a scope is
-/// pushed or removed, and how many scopes it is shown.
+/// Adds what a hook hears of an operation on a stack, the two with a comma between: of each call
+/// whether a scope is pushed or removed, and how many scopes it is shown.
 pub fn write_hooks(
     alloc: Global,
     question: &str,

@@ -15,7 +15,8 @@ fn write_numbered(pieces: &[(u8, &str)], out: &mut String) -> Option<()> {
     Some(())
 }
 
-/// Adds both parts of pieces that are cut: the place, and each piece as its number and its text, have commas between.
+/// Adds both parts of pieces that are cut: the place, and each piece as its number and its text,
+/// have commas between.
 pub fn write_cut(alloc: Global, question: &str, out: &mut String) -> Option<()> {
     let (place, rest) = question.split_once(", ")?;
     let mut pieces = Vec::new(alloc);
@@ -45,8 +46,8 @@ fn write_styled(pieces: &[(Style, &str)], out: &mut String) -> Option<()> {
     Some(())
 }
 
-/// Adds pieces of which the foreground is changed from one place to another: the two places and the colour, and the
-/// pieces as rows give them, have commas between.
+/// Adds pieces of which the foreground is changed from one place to another: the two places and the
+/// colour, and the pieces as rows give them, have commas between.
 pub fn write_modified(alloc: Global, question: &str, out: &mut String) -> Option<()> {
     let (change, rest) = question.split_once(", ")?;
     let (places, color) = change.split_once(' ')?;

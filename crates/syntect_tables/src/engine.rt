@@ -34,7 +34,7 @@ pub fn write_escaped(alloc: Global, question: &str, out: &mut String) -> Option<
         .ok()
 }
 
-/// Adds each query to the pattern engine behind its answer.
+/// Adds each query to the pattern engine after its answer.
 pub fn write_queries(alloc: Global, body: &str, out: &mut String) -> Option<()> {
     let mut answered = String::new(alloc);
     for line in body.lines() {

@@ -1,5 +1,5 @@
-//! The examples of docs/EXAMPLES.md that need no grammar: parts of a row's file, and tables of questions with their
-//! answers.
+//! The examples of docs/EXAMPLES.md that need no grammar: parts of a row's file, and tables of
+//! questions with their answers.
 #![tactic(auto)]
 
 pub mod answers;

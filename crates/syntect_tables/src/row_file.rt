@@ -1,7 +1,8 @@
 //! The parts of a row's file.
 //!
-//! Its first line has the row's label, a colon, and what the row is about. Each part begins with a line of `%%` and its
-//! heading, and its text goes up to the next one, without the newline before that.
+//! Its first line has the row's label, a colon, and what the row is about. Each part begins with a
+//! line of `%%` and its heading, and its text goes up to the next one,
+//! without the newline before that.
 use std::alloc::Global;
 
 /// A part of a row's file.

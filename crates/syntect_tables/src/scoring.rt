@@ -38,7 +38,7 @@ fn write_power(alloc: Global, score: &MatchPower, out: &mut String) -> Option<()
     None
 }
 
-/// Adds the score of a union of selectors in a stack, which stands behind a tab.
+/// Adds the score of a union of selectors in a stack, which comes after a tab.
 pub fn write_score(
     alloc: Global,
     question: &str,
@@ -54,7 +54,7 @@ pub fn write_score(
     }
 }
 
-/// Adds the score of a stack as a path in a stack, which stands behind a tab.
+/// Adds the score of a stack as a path in a stack, which comes after a tab.
 pub fn write_path_score(
     alloc: Global,
     question: &str,
@@ -76,7 +76,7 @@ fn write_scopes(stack: &ScopeStack, repository: &ScopeRepository, out: &mut Stri
     out.push_str(scopes.as_str().trim_end()).ok()
 }
 
-/// Adds a selector: its path, and behind dashes what it excludes.
+/// Adds a selector: its path, and after dashes what it excludes.
 fn write_selector(
     selector: &ScopeSelector,
     repository: &ScopeRepository,
@@ -119,8 +119,8 @@ pub(crate) fn operation_of(text: &str, repository: &mut ScopeRepository) -> Opti
     }
 }
 
-/// Adds what a stack becomes by operations, and `refused` for each that is refused: the scopes and the operations have
-/// commas between.
+/// Adds what a stack becomes by operations, and `refused` for each that is refused: the scopes and
+/// the operations have commas between.
 pub fn write_stack(
     alloc: Global,
     question: &str,

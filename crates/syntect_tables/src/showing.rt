@@ -50,8 +50,8 @@ fn write_ranged(
     Some(())
 }
 
-/// Adds the styled pieces of a text under the operations that the row gives, from a new state on the stack that it gives,
-/// if it gives one.
+/// Adds the styled pieces of a text under the operations that the row gives, from a new state on
+/// the stack that it gives, if it gives one.
 pub fn write_shown(
     alloc: Global,
     theme: &Theme,

@@ -6,7 +6,8 @@ use syntect_style::highlighter::Highlighter;
 use syntect_theme::style::{Color, Style, StyleModifier};
 use syntect_theme::theme::Theme;
 
-/// Adds a colour by two hexadecimal digits a part, and a space; how opaque it is only where it isn't wholly so.
+/// Adds a colour by two hexadecimal digits a part, and a space; how opaque it is only where it
+/// isn't wholly so.
 fn write_color(color: Color, out: &mut String) -> Option<()> {
     let Color { r, g, b, a } = color;
     write!(out, "#{r:02x}{g:02x}{b:02x}").ok()?;

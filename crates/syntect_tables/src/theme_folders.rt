@@ -19,8 +19,8 @@ fn write_themes(set: &ThemeSet, out: &mut String) -> Option<()> {
     Some(())
 }
 
-/// Adds what adding folders of themes to one set comes to, `ok` or the refusal's message for each, and the themes of the
-/// set. The folders have spaces between.
+/// Adds what adding folders of themes to one set comes to, `ok` or the refusal's message for each,
+/// and the themes of the set. The folders have spaces between.
 pub fn write_theme_folders(
     files: &impl Files,
     alloc: Global,
@@ -38,7 +38,8 @@ pub fn write_theme_folders(
     write_themes(&set, out)
 }
 
-/// Adds the theme of a file: its name and the number of its rules, or `Io` or the refusal's message.
+/// Adds the theme of a file: its name and the number of its rules,
+/// or `Io` or the refusal's message.
 pub fn write_theme_file(
     files: &impl Files,
     alloc: Global,
@@ -53,7 +54,7 @@ pub fn write_theme_file(
     }
 }
 
-/// Adds the paths of the theme files in a folder, each with a semicolon behind it.
+/// Adds the paths of the theme files in a folder, each with a semicolon after it.
 pub fn write_theme_paths(
     files: &impl Files,
     alloc: Global,

@@ -15,7 +15,8 @@ fn write_setting(color: Option<Color>, out: &mut String) -> Option<()> {
     }
 }
 
-/// Adds a theme's name, the number of its rules, and its foreground, background, gutter and gutter foreground.
+/// Adds a theme's name, the number of its rules, and its foreground, background,
+/// gutter and gutter foreground.
 pub fn write_whole(theme: &Theme, out: &mut String) -> Option<()> {
     if let Some(name) = &theme.name {
         out.push_str(name.as_str()).ok()?;

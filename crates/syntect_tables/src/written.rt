@@ -12,7 +12,8 @@ use syntect_writers::latex::as_latex_escaped;
 use syntect_writers::lines::LinesWithEndings;
 use syntect_writers::terminal::as_24_bit_terminal_escaped;
 
-/// A piece and its style: the colours, the number of the flags and the text, with a space between each two.
+/// A piece and its style: the colours, the number of the flags and the text, with a space between
+/// each two.
 pub(crate) fn piece_of(line: &str) -> Option<(Style, &str)> {
     let (foreground, rest) = line.split_once(' ')?;
     let (background, rest) = rest.split_once(' ')?;
@@ -83,7 +84,7 @@ pub fn write_sheet(
     out.push_str(sheet.as_str()).ok()
 }
 
-/// Adds each line of a text, as Rust writes it, with a semicolon behind it.
+/// Adds each line of a text, as Rust writes it, with a semicolon after it.
 pub fn write_lines(alloc: Global, question: &str, out: &mut String) -> Option<()> {
     let text = unescaped(alloc, question).ok()?;
     for line in LinesWithEndings::from(text.as_str()) {

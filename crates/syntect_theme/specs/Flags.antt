@@ -44,7 +44,7 @@ color_text c =
 abbrev pub given : Bool → List ℕ → List (List ℕ)
 given is_there text = if is_there then text ∷ [] else []
 
--- these texts, each behind a bar
+-- these texts, each after a bar
 abbrev pub behind_bars : List (List ℕ) → List ℕ
 behind_bars [] = []
 behind_bars (text ∷ texts) = codes " | " ++ (text ++ behind_bars texts)
@@ -64,12 +64,13 @@ other_bits bits =
     if bits_without bits all_bits == 0 then []
     else (codes "0x" ++ digits 16 false (bits_without bits all_bits)) ∷ []
 
--- a text if it is there, behind a bar unless it is the first
+-- a text if it is there, after a bar unless it is the first
 abbrev pub part_text : Bool → Bool → List ℕ → List ℕ
 part_text is_first is_there text =
     if is_there then (if is_first then text else codes " | " ++ text) else []
 
--- the number of bits that are no flag's, behind a bar unless it is the first, and a word where there is nothing at all
+-- the number of bits that are no flag's, after a bar unless it is the first, and a word where there
+-- is nothing at all
 abbrev pub rest_text : Bool → ℕ → List ℕ
 rest_text is_first bits =
     if bits == 0 then (if is_first then codes "(empty)" else [])

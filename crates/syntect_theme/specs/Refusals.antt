@@ -3,6 +3,6 @@ use Rattle.std.specs.Prelude.{◌≡◌, ◌≢◌, Result, Err}
 use Rattle.syntect_base.specs.declared.theme.ParseThemeError.{ParseThemeError}
 use Rattle.syntect_base.specs.declared.theme.ParseThemeError.TheVariants.{Memory}
 
--- want of memory, or the refusal that the answer says
+-- lack of memory, or the refusal that the answer says
 abbrev pub Refuses : {X : Type 0} → Result X ParseThemeError → ParseThemeError → Type 0
 Refuses answer e = e ≢ Memory → answer ≡ Err e

@@ -56,21 +56,21 @@ impl FontStyle {
         self.bits() & other.bits() != 0
     }
 
-    /// Takes the flags of the other out.
+    /// Removes the flags of the other.
     pub fn remove(&mut self, other: FontStyle)
         ensures { bits_of self.new ≡ bits_without (bits_of self.old) (bits_of other) }
     {
         *self = self.difference(other);
     }
 
-    /// Takes the flags of the other out that are there, and puts those in that are not.
+    /// Removes the flags of the other that are there, and adds those that are not.
     pub fn toggle(&mut self, other: FontStyle)
         ensures { bits_of self.new ≡ bit_xor (bits_of self.old) (bits_of other) }
     {
         *self = self.symmetric_difference(other);
     }
 
-    /// Puts the flags of the other in, or takes them out.
+    /// Adds the flags of the other, or removes them.
     pub fn set(&mut self, other: FontStyle, value: bool)
         ensures { bits_of self.new
             ≡ (if value then bit_or (bits_of self.old) (bits_of other)

@@ -7,7 +7,8 @@ ghost use Rattle.syntect_theme.specs.Modifying.{bits_of};
 use crate::style::{Color, FontStyle};
 use std::fmt;
 
-/// On one line, also in the form of many lines, where the numbers stand right in three places.
+/// On one line, also in the form of many lines, where the numbers are aligned
+/// right in three columns.
 impl fmt::Debug for Color {
     ghost debug_output = { λ c. Some (color_text c) };
 
@@ -21,8 +22,8 @@ impl fmt::Debug for Color {
     }
 }
 
-/// Writes the name of a flag if it is there, and a bar before it unless it is the first. Answers whether what comes next is
-/// the first.
+/// Writes the name of a flag if it is there, and a bar before it unless it is the first. Answers
+/// whether what comes next is the first.
 fn write_flag<W: fmt::Write>(
     f: &mut fmt::Formatter<W>,
     is_first: bool,
@@ -44,7 +45,8 @@ fn write_flag<W: fmt::Write>(
     Ok(false)
 }
 
-/// Writes bits that are no flag's, and a bar before them unless they are the first; a word where there is nothing at all.
+/// Writes bits that are no flag's, and a bar before them unless they are the first; a word where
+/// there is nothing at all.
 fn write_others<W: fmt::Write>(f: &mut fmt::Formatter<W>, is_first: bool, others: u8) -> fmt::Result
     ensures { WritesOnOk W.write_str_gives f.old result (rest_text is_first others) f.new }
 {

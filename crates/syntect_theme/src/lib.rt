@@ -1,7 +1,7 @@
 //! Colours, flags of fonts, styles, and themes as values.
 //!
-//! A theme is a list of rules: a rule's selectors say on which scopes it acts, and its modifier which attributes of
-//! a style it sets.
+//! A theme is a list of rules: a rule's selectors say on which scopes it acts, and its modifier
+//! which attributes of a style it sets.
 #![tactic(auto)]
 
 mod flags;

@@ -2,7 +2,7 @@
 ghost use Rattle.std.specs.Prelude.{◌≡◌, ◌↔◌, IsTrue, bit_and, bit_or};
 ghost use Rattle.syntect_theme.specs.Modifying.{bits_of, no_flags, plain_style, restyled, merged};
 
-/// A colour, by its red, green, blue and opaque parts.
+/// A colour: red, green, blue, and how opaque it is.
 #[derive(Clone, Copy, PartialEq, Eq, Hash)]
 pub struct Color {
     /// Red.

@@ -13,8 +13,8 @@ use syntect_scope::repository::words_of;
 use syntect_values::text::Text;
 
 impl UnderlineOption {
-    /// The way of underlining that a text names: `underline`, `stippled_underline` or `squiggly_underline`. Any
-    /// other text is `IncorrectUnderlineOption`.
+    /// The way of underlining that a text names: `underline`, `stippled_underline` or
+    /// `squiggly_underline`. Any other text is `IncorrectUnderlineOption`.
     pub fn from_text(s: &str) -> Result<UnderlineOption, ParseThemeError>
         ensures { result ≡ ok_or (underline_of s.now) ParseThemeError.IncorrectUnderlineOption }
     {
@@ -60,7 +60,7 @@ fn color(r: Option<u8>, g: Option<u8>, b: Option<u8>, a: Option<u8>) -> Option<C
     }
 }
 
-/// The colour of the digits behind the number sign.
+/// The colour of the digits after the number sign.
 fn color_from_digits(digits: &[u8]) -> Option<Color>
     ensures { result ≡ color_of_digits digits.now }
 {
@@ -73,9 +73,9 @@ fn color_from_digits(digits: &[u8]) -> Option<Color>
 }
 
 impl Color {
-    /// The colour of a number sign and three, six or eight hexadecimal digits: one digit is the whole part, from 0
-    /// to 15, two are the part from 0 to 255. Without the fourth part it is opaque. Any other text is
-    /// `IncorrectColor`.
+    /// The colour of a number sign and three, six or eight hexadecimal digits: one digit is the
+    /// whole part, from 0 to 15, two are the part from 0 to 255. Without the fourth part it is
+    /// opaque. Any other text is `IncorrectColor`.
     pub fn from_text(s: &str) -> Result<Color, ParseThemeError>
         ensures { result ≡ ok_or (color_of s.now) ParseThemeError.IncorrectColor }
     {
@@ -105,8 +105,9 @@ fn flags_of(word: &str) -> Option<FontStyle>
 }
 
 impl FontStyle {
-    /// The flags of the words `bold`, `underline` and `italic`, separated by white space; `normal` and `regular`
-    /// stand for no flag. The first word that is none of these is `IncorrectFontStyle`.
+    /// The flags of the words `bold`, `underline` and `italic`, separated by white space; `normal`
+    /// and `regular` stand for no flag. The first word that is none
+    /// of these is `IncorrectFontStyle`.
     pub fn from_text(alloc: Global, s: &str) -> Result<FontStyle, ParseThemeError>
         ensures ok { IfOk result (λ flags. flags_of_text s.now ≡ Ok flags) }
         ensures err { IfErr result (Refuses (flags_of_text s.now)) }

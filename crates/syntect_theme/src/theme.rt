@@ -47,7 +47,8 @@ impl Drop for Theme {
     }
 }
 
-/// The colours of an editor. `foreground` and `background` are also those of text that no rule styles.
+/// The colours of an editor. `foreground` and `background` are also those of text
+/// that no rule styles.
 #[derive(Debug, Drop, PartialEq)]
 pub struct ThemeSettings {
     /// Text that no rule styles.
@@ -146,7 +147,7 @@ impl Theme {
         }
     }
 
-    /// The same theme once more.
+    /// A copy of the theme.
     pub fn clone(&self) -> Result<Theme, AllocError>
         ensures { IfOk result (λ t. t ≡ self.now) }
     {
@@ -206,7 +207,7 @@ impl ThemeSettings {
         }
     }
 
-    /// The same settings once more.
+    /// A copy of the settings.
     pub fn clone(&self) -> Result<ThemeSettings, AllocError>
         ensures { IfOk result (λ s. s ≡ self.now) }
     {
@@ -239,7 +240,7 @@ impl ThemeItem {
         }
     }
 
-    /// The same rule once more.
+    /// A copy of the rule.
     pub fn clone(&self) -> Result<ThemeItem, AllocError>
         ensures { IfOk result (λ i. i ≡ self.now) }
     {

@@ -61,7 +61,7 @@ some_bytes (Some xs) = (xs, refl)
 
 -- ---- reading ----
 
--- a fault that is told as such is not that memory was wanting
+-- a fault that is reported as such is not that memory ran out
 no_memory_fault : (e x : Error) → IsReadFault e (loading.Io x) → error_kind x ≢ OutOfMemory
 no_memory_fault e x f k =
     let i : loading.Io x ≡ loading.Io e = f.either (λ q. cc) in

@@ -29,6 +29,6 @@ without_rules t e = ap (λ (s : List ThemeItem). record t { scopes = s }) e
 pub refused_so : {X : Type 0} (answer : Result X ParseThemeError) (e : ParseThemeError) → answer ≡ Err e → RefusesExactly answer e
 refused_so answer e q = subst (λ (r : Result _ ParseThemeError). RefusesExactly r e) (sym q) refl
 
--- there is an answer, and memory is wanting
+-- there is an answer, and memory ran out
 pub memory_alone : {X : Type 0} (answer : Result X ParseThemeError) (x : X) → answer ≡ Ok x → RefusesExactly answer Memory
 memory_alone answer x q = subst (λ (r : Result _ ParseThemeError). RefusesExactly r Memory) (sym q) refl

@@ -241,7 +241,7 @@ first_settings no_items = Err error.UndefinedSettings
 first_settings (item d ds) =
     next (ok_or (get (codes "settings") d) error.UndefinedSettings) settings_at
 
--- the items behind the first
+-- the items after the first
 abbrev pub later_items : Items → Items
 later_items no_items = no_items
 later_items (item d ds) = ds
@@ -250,7 +250,7 @@ later_items (item d ds) = ds
 abbrev pub items_at : Data → Result Items ParseThemeError
 items_at d = ok_or (option_and_then as_array (get (codes "settings") d)) error.IncorrectSyntax
 
--- the items behind the first, where there are items
+-- the items after the first, where there are items
 abbrev pub all_later : Result Items ParseThemeError → Items
 all_later (Ok ds) = later_items ds
 all_later (Err e) = no_items
@@ -291,7 +291,8 @@ abbrev pub unless_refused : Result ThemeItem ParseThemeError → List (List ℕ)
 unless_refused (Ok rule) grown repo = grown
 unless_refused (Err e) grown repo = repo
 
--- the repository after a rule was read: with the rule's scopes, and as it was where the rule is refused
+-- the repository after a rule was read: with the rule's scopes, and as it was where
+-- the rule is refused
 abbrev pub after_rule : List (List ℕ) → Data → List (List ℕ)
 after_rule repo d = unless_refused (item_at repo d) (with_scopes repo (rule_words d)) repo
 
@@ -305,8 +306,9 @@ abbrev pub after_rules : List (List ℕ) → Items → List (List ℕ)
 after_rules repo no_items = repo
 after_rules repo (item d ds) = after_rules (after_rule repo d) ds
 
--- The theme of a value, read with a repository that becomes another one: what stands round the rules is the value's, and the
--- rules are those of its later items. The other repository has the scopes of these rules more, and no others.
+-- The theme of a value, read with a repository that becomes another one: what stands round the
+-- rules is the value's, and the rules are those of its later items. The other repository has the
+-- scopes of these rules more, and no others.
 pub record IsTheme (old : List (List ℕ)) (d : Data) (new : List (List ℕ))
     (theme : Theme) : Type 0 where
   pub head : head_at d ≡ Ok (record theme { scopes = [] })

@@ -3,7 +3,7 @@ use Rattle.std.specs.Prelude.{◌≡◌, Result, Ok, Err}
 use Rattle.syntect_base.specs.declared.theme.ParseThemeError.{ParseThemeError}
 use Rattle.syntect_base.specs.declared.theme.ParseThemeError.TheVariants.{Memory}
 
--- the refusal that the answer says, and want of memory only where it says none
+-- the refusal that the answer says, and lack of memory only where it says none
 abbrev pub RefusesExactly : {X : Type 0} → Result X ParseThemeError → ParseThemeError → Type 0
 RefusesExactly (Ok x) e = e ≡ Memory
 RefusesExactly (Err r) e = e ≡ r

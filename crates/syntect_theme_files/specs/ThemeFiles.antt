@@ -27,16 +27,16 @@ pub record IsThemeOf (old : List (List ℕ)) (bytes : List ℕ) (new : List (Lis
   pub settings : IsSettings bytes value
   pub is_theme : IsTheme old value new theme
 
--- why bytes give no theme: they are no settings, or what stands round the rules of their settings is no theme's; or there was
--- no memory
+-- why bytes give no theme: they are no settings, or what stands round the rules of their settings
+-- is no theme's; or there was no memory
 pub data RefusesTheme (bytes : List ℕ) : LoadingError → Type 0 where
   no_settings : ((d : Data) → ¬ (IsSettings bytes d)) → RefusesTheme bytes (ReadSettings Json)
   no_theme : {d : Data} {e : ParseThemeError} → IsSettings bytes d → head_at d ≡ Err e
       → RefusesTheme bytes (ParseTheme e)
   no_memory : RefusesTheme bytes Memory
 
--- why what a reader has left, where that is known, gives no theme: reading has a fault, which is not that memory was wanting, or
--- the bytes give none
+-- why what a reader has left, where that is known, gives no theme: reading has a fault, which is
+-- not that memory ran out, or the bytes give none
 pub data RefusesRead (left : Option (List ℕ)) : LoadingError → Type 0 where
   not_read : {e : Error} → error_kind e ≢ OutOfMemory → RefusesRead left (Io e)
   refused : {bytes : List ℕ} {e : LoadingError} → IfSome left (λ xs. bytes ≡ xs)
@@ -48,14 +48,16 @@ IsThemeFault e = RefusesRead None e
 
 -- ---- files ----
 
--- the name of the theme in a file: the file's name without its extension, which is `tmTheme` in any ASCII case
+-- the name of the theme in a file: the file's name without its extension, which is `tmTheme` in any
+-- ASCII case
 abbrev pub theme_name : List ℕ → Option (List ℕ)
 theme_name path =
     option_and_then (λ extension. if str_eq_ignore_ascii_case extension (codes "tmTheme")
     then path_file_stem path else None) (path_extension path)
 
--- Themes of files, one after another, go into a table by their names, in place of those of the same name. A file of another
--- kind is passed over. Of what a file holds nothing is known but that it gave a theme.
+-- Themes of files, one after another, go into a table by their names, in place of those of the same
+-- name. A file of another kind is passed over. Of what a file holds nothing is known but that it
+-- gave a theme.
 pub data AddsThemes : List (List ℕ) → List (List ℕ) → List (List ℕ × Theme) → List (List ℕ)
     → List (List ℕ × Theme) → Type 0 where
   no_more : {repo : List (List ℕ)} {themes : List (List ℕ × Theme)}
@@ -80,8 +82,8 @@ pub record StopsAtTheme (files : List (List ℕ)) (old : List (List ℕ))
   pub is_theme : is_some (theme_name path) ≡ true
   pub refuses : IsThemeFault e
 
--- Why the themes of a folder are not added, and what is added then: nothing where the walk has a fault, which leaves the
--- repository too; or those before a file that gives no theme.
+-- Why the themes of a folder are not added, and what is added then: nothing where the walk has a
+-- fault, which leaves the repository too; or those before a file that gives no theme.
 pub data RefusesThemes (folder : List ℕ) (old : List (List ℕ))
     (themes : List (List ℕ × Theme)) : LoadingError → List (List ℕ) → List (List ℕ × Theme)
     → Type 0 where

@@ -283,7 +283,7 @@ fn head(alloc: Global, value: &Value) -> Result<Theme, ParseThemeError>
     }
 }
 
-/// The items behind the first.
+/// The items after the first.
 fn later(items: &[Value]) -> &[Value]
     ensures { items_view result.now ≡ loading.later_items (items_view items.now) }
 {

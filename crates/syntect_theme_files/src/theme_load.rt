@@ -81,7 +81,8 @@ impl ParseSettings for FontStyle {
 impl ParseSettings for ScopeSelectors {
     type Error = ParseThemeError;
 
-    /// The selectors of a text; any other value is `ScopeSelectorIsNotString` with the value as compact JSON.
+    /// The selectors of a text; any other value is `ScopeSelectorIsNotString` with the value as
+    /// compact JSON.
     fn parse_settings(
         alloc: Global,
         settings: Settings,
@@ -103,8 +104,9 @@ impl ParseSettings for ScopeSelectors {
 impl ParseSettings for StyleModifier {
     type Error = ParseThemeError;
 
-    /// The changes that an object makes by `fontStyle`, `foreground` and `background`, each of which may be
-    /// missing. Any other value is `ColorShemeScopeIsNotObject`, and one of the three is refused as it is alone.
+    /// The changes that an object makes by `fontStyle`, `foreground` and `background`, each of
+    /// which may be missing. Any other value is `ColorShemeScopeIsNotObject`, and one of the three
+    /// is refused as it is alone.
     fn parse_settings(
         alloc: Global,
         settings: Settings,
@@ -121,8 +123,9 @@ impl ParseSettings for StyleModifier {
 impl ParseSettings for ThemeItem {
     type Error = ParseThemeError;
 
-    /// The rule of an object with `scope` and `settings`. Any other value is `ColorShemeScopeIsNotObject`; a
-    /// missing `scope` is `ScopeSelectorIsNotString` without text, and missing `settings` are `IncorrectSettings`.
+    /// The rule of an object with `scope` and `settings`. Any other value is
+    /// `ColorShemeScopeIsNotObject`; a missing `scope` is `ScopeSelectorIsNotString` without text,
+    /// and missing `settings` are `IncorrectSettings`.
     fn parse_settings(
         alloc: Global,
         settings: Settings,
@@ -162,10 +165,10 @@ impl ParseSettings for ThemeSettings {
 impl ParseSettings for Theme {
     type Error = ParseThemeError;
 
-    /// The theme of an object. Its first item has the settings, the later ones are rules, of which those that are
-    /// refused for another cause than memory are left out in silence, as one whose colour is none. `IncorrectSyntax`,
-    /// `UndefinedSettings` and `ColorShemeSettingsIsNotObject` speak of what stands round the rules, and are tested before
-    /// memory is taken.
+    /// The theme of an object. Its first item has the settings, the later ones are rules, of which
+    /// those that are refused for another cause than memory are silently left out, as one whose
+    /// colour is none. `IncorrectSyntax`, `UndefinedSettings` and `ColorShemeSettingsIsNotObject`
+    /// speak of what stands round the rules, and are tested before memory is taken.
     fn parse_settings(
         alloc: Global,
         settings: Settings,

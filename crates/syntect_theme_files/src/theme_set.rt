@@ -73,7 +73,8 @@ fn theme_read(
     }
 }
 
-/// The name of the theme in a file: the file's name without its extension, which is `tmTheme` in any ASCII case.
+/// The name of the theme in a file: the file's name without its extension, which is `tmTheme` in
+/// any ASCII case.
 fn theme_name(path: Path<'_>) -> Option<&str>
     ensures { option_copied result ≡ theme_name (path_bytes path.entry) }
 {
@@ -95,14 +96,14 @@ impl ThemeSet {
         }
     }
 
-    /// The same. Takes no memory.
+    /// No themes, as `new` gives them. Takes no memory.
     pub fn default(alloc: Global) -> ThemeSet
         ensures { result.themes ≡ [] }
     {
         ThemeSet::new(alloc)
     }
 
-    /// The same set once more.
+    /// A copy of the set.
     #[tactic(auto, using(crate::proofs::FileLaws::same_themes))]
     pub fn clone(&self) -> Result<ThemeSet, AllocError>
         ensures { IfOk result (λ set. set ≡ self.now) }
@@ -112,8 +113,9 @@ impl ThemeSet {
         })
     }
 
-    /// The paths of the theme files in a folder and in the folders below it, in the order of a walk. A theme file has the
-    /// extension `tmTheme`, in any ASCII case. A fault of the walk is `WalkDir`.
+    /// The paths of the theme files in a folder and in the folders below it, in the order of a
+    /// walk. A theme file has the extension `tmTheme`, in any ASCII case.
+    /// A fault of the walk is `WalkDir`.
     pub fn discover_theme_paths(
         files: &impl Files,
         alloc: Global,
@@ -137,7 +139,8 @@ impl ThemeSet {
         Ok(paths)
     }
 
-    /// The theme in a file. A fault of the file is `Io`, and what it holds is read as by `load_from_reader`.
+    /// The theme in a file. A fault of the file is `Io`, and what it holds is
+    /// read as by `load_from_reader`.
     #[tactic(auto, using(crate::proofs::FileLaws::not_opened, crate::proofs::FileLaws::of_file))]
     pub fn get_theme(
         files: &impl Files,
@@ -163,8 +166,9 @@ impl ThemeSet {
         ThemeSet::load_from_reader(alloc, &mut reader, repository)
     }
 
-    /// The theme of what a reader has left: the JSON of a theme, in which no number is a float. A fault of reading is `Io`,
-    /// other bytes are `ReadSettings`, and a value that is no theme is `ParseTheme`.
+    /// The theme of what a reader has left: the JSON of a theme, in which no number is a float. A
+    /// fault of reading is `Io`, other bytes are `ReadSettings`, and a value that is
+    /// no theme is `ParseTheme`.
     pub fn load_from_reader<R: BufRead>(
         alloc: Global,
         reader: &mut R,
@@ -206,9 +210,10 @@ impl ThemeSet {
         }
     }
 
-    /// Adds the themes in a folder and in the folders below it, each under its file's name without the extension. Of two
-    /// files of one name the later in the walk stays. A fault of the walk is `WalkDir`, and set and repository stay as
-    /// they are. A file that gives no theme is refused as by `get_theme`, and the themes before it stay.
+    /// Adds the themes in a folder and in the folders below it, each under its file's name without
+    /// the extension. Of two files of one name the later in the walk stays. A fault of the walk is
+    /// `WalkDir`, and set and repository stay as they are. A file that gives no theme is refused as
+    /// by `get_theme`, and the themes before it stay.
     pub fn add_from_folder(
         &mut self,
         files: &impl Files,

@@ -34,7 +34,8 @@ fn first_line(alloc: Global) -> Option<(SyntaxSet, Theme)> {
     Some((set, theme))
 }
 
-/// Adds a line for each piece of a line of text: the number of the line, the piece's bytes in it, and its colour.
+/// Adds a line for each piece of a line of text: the number of the line, the piece's bytes in it,
+/// and its colour.
 fn write_pieces(number: usize, pieces: &[(Style, &str)], out: &mut String) -> Option<()> {
     let mut from = 0usize;
     for (style, part) in pieces {
@@ -73,7 +74,8 @@ fn description(alloc: Global, text: &str) -> Option<String> {
     Some(out)
 }
 
-/// Prints the pieces of a file's lines, once all are known. The status is 1 if the file can't be read or is no text.
+/// Prints the pieces of a file's lines, once all are known. The status is 1 if the file can't be
+/// read or is no text.
 pub fn show(rt: &(impl Print + Eprint + AllocGlobal + Files), path: &str) -> io::Result<ExitCode> {
     let Ok(text) = fs::read_to_string(rt, path) else {
         eprintln!(rt; "syntect_bench: cannot read {path}")?;
@@ -114,7 +116,8 @@ fn a_second(number: u64, nanos: u64) -> u64 {
     }
 }
 
-/// How long a run over a text took, in nanoseconds, and how many lines it has; none where a line is refused.
+/// How long a run over a text took, in nanoseconds, and how many lines it has;
+/// none where a line is refused.
 fn timed_run(
     rt: &(impl AllocGlobal + Clock),
     text: &str,
@@ -129,8 +132,8 @@ fn timed_run(
     Ok(Some((u64::try_from(nanos).unwrap_or(u64::MAX), lines)))
 }
 
-/// How long each of some runs over a text took, in nanoseconds and in order, and how many lines a run has; none where a
-/// line is refused.
+/// How long each of some runs over a text took, in nanoseconds and in order, and how many lines a
+/// run has; none where a line is refused.
 fn times(
     rt: &(impl AllocGlobal + Clock),
     text: &str,

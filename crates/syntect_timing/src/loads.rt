@@ -40,8 +40,9 @@ fn load_one(
     Ok(())
 }
 
-/// Loads the files of a folder as grammars, and prints how many there are, how many of them are grammars for lines with
-/// their line feeds and for lines without, and how long both took. A fault of a file is answered as it is.
+/// Loads the files of a folder as grammars, and prints how many there are, how many of them are
+/// grammars for lines with their line feeds and for lines without, and how long both took. A fault
+/// of a file is answered as it is.
 pub fn time_loads(
     rt: &(impl Print + AllocGlobal + Files + Clock + Clone + Drop),
     folder: &str,

@@ -102,7 +102,8 @@ fn page_time(
     }
 }
 
-/// Reads and highlights a text so many rounds, and makes pages of it. The least time of each, in microseconds.
+/// Reads and highlights a text so many rounds, and makes pages of it. The least time of each,
+/// in microseconds.
 fn least_times(
     rt: &(impl AllocGlobal + Clock),
     text: &str,
@@ -131,7 +132,8 @@ fn least_times(
     })
 }
 
-/// Prints how long a file's lines take to be read, to be highlighted in a theme, and to be shown as a page.
+/// Prints how long a file's lines take to be read, to be highlighted in a theme, and to be shown as
+/// a page.
 fn time_lines(
     rt: &(impl Print + AllocGlobal + Files + Clock),
     set: &SyntaxSet,
@@ -170,8 +172,9 @@ fn timed_set(
     Ok(set)
 }
 
-/// Prints how long the grammars of a folder take to be loaded and linked, and a file's lines to be read, to be highlighted in a
-/// theme, and to be shown as a page: the least of so many rounds, in microseconds.
+/// Prints how long the grammars of a folder take to be loaded and linked, and a file's lines to be
+/// read, to be highlighted in a theme, and to be shown as a page: the least of so many rounds,
+/// in microseconds.
 pub fn time_file(
     rt: &(impl Print + AllocGlobal + Files + Clock),
     folder: &str,

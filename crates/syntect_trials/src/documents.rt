@@ -33,8 +33,8 @@ fn read_one(
     Ok(())
 }
 
-/// Reads the files of a folder as YAML, and prints how many there are, how many of them have a value, and how long it
-/// took. A fault of a file is answered as it is.
+/// Reads the files of a folder as YAML, and prints how many there are, how many of them have a
+/// value, and how long it took. A fault of a file is answered as it is.
 pub fn time_documents(
     rt: &(impl Print + AllocGlobal + Files + Clock + Clone + Drop),
     folder: &str,

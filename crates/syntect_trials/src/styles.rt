@@ -72,8 +72,9 @@ pub(crate) fn cannot_read(rt: &impl Eprint, path: &str) -> io::Result<ExitCode> 
     Ok(ExitCode::from(1))
 }
 
-/// Prints the style of each stack in a file: a line of it names the scopes of a stack, with blanks between, and has as its
-/// answer the foreground, the background and the number of the flags. The status is 1 if something can't be read.
+/// Prints the style of each stack in a file: a line of it names the scopes of a stack, with blanks
+/// between, and has as its answer the foreground, the background and the number of the flags. The
+/// status is 1 if something can't be read.
 pub fn show_styles(
     rt: &(impl Print + Eprint + AllocGlobal + Files),
     theme: &str,
@@ -131,7 +132,8 @@ fn time_stack(
     Ok(ExitCode::SUCCESS)
 }
 
-/// Prints how long it takes to make a theme ready, and to style a deep stack. The status is 1 if the file has no theme.
+/// Prints how long it takes to make a theme ready, and to style a deep stack. The status is 1 if
+/// the file has no theme.
 pub fn time_styles(
     rt: &(impl Print + Eprint + AllocGlobal + Files + Clock),
     path: &str,

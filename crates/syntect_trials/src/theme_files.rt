@@ -23,7 +23,8 @@ fn print_theme(rt: &impl Print, path: &str, theme: &Result<Theme, LoadingError>)
     }
 }
 
-/// Prints the name of a file's theme and the number of its rules, or why it has none. Answers whether it has one.
+/// Prints the name of a file's theme and the number of its rules, or why it has none. Answers
+/// whether it has one.
 fn show_theme(
     rt: &(impl Print + AllocGlobal + Files),
     path: &str,
@@ -34,8 +35,8 @@ fn show_theme(
     Ok(theme.is_ok())
 }
 
-/// Prints of each file of a folder the name of its theme and the number of the rules, or why it has none. The status is 1
-/// if one has none.
+/// Prints of each file of a folder the name of its theme and the number of the rules, or why it has
+/// none. The status is 1 if one has none.
 pub fn show_themes(
     rt: &(impl Print + Eprint + AllocGlobal + Files),
     folder: &str,

@@ -7,8 +7,8 @@ ghost use base.Fml.{ftrue};
 use std::alloc::AllocError;
 use std::marker::{Model, PhantomData};
 
-/// How many turns were made so far: a whole number without limit, which contracts alone see. It takes no bytes, and nothing
-/// is done for it at run time.
+/// How many turns were made so far: a whole number without limit, which contracts alone see. It
+/// takes no bytes, and nothing is done for it at run time.
 #[derive(Drop)]
 pub struct TurnCount {
     marker: PhantomData<()>,
@@ -57,7 +57,7 @@ impl TurnCount {
         ensures { self.new.made ≡ self.old.made + 1 }
     {}
 
-    /// So many more.
+    /// Adds so many turns.
     pub fn add(&mut self, more: usize)
         ensures { self.new.made ≡ self.old.made + more }
     {
@@ -66,7 +66,7 @@ impl TurnCount {
         }
     }
 
-    /// The same number once more.
+    /// A copy of the number.
     pub fn copy(&self) -> TurnCount
         ensures { result ≡ self.now }
     {

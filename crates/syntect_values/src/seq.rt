@@ -91,7 +91,8 @@ impl<T> Seq<T> {
         self.items.iter()
     }
 
-    /// Puts an element last. Without memory for it the elements stay, and the refusal holds the element.
+    /// Appends an element. Without memory for it the elements stay,
+    /// and the refusal holds the element.
     pub fn push(&mut self, x: T) -> Result<(), AllocFailed<T>>
         ensures ok { OnOk result (self.new ≡ self.old ++ x ∷ []) }
         ensures err { OnErr result (self.new ≡ self.old) }

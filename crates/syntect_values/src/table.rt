@@ -80,7 +80,8 @@ impl<K: Ord, V> Table<K, V> {
 }
 
 impl<K: Ord + Drop, V: Drop> Table<K, V> {
-    /// Puts a value at a key, in place of the one that is there. Without memory for it the map stays.
+    /// Puts a value at a key, in place of the one that is there.
+    /// Without memory for it the map stays.
     pub fn insert(&mut self, key: K, value: V) -> Result<Option<V>, AllocFailed<(K, V)>>
         ensures ok { OnOk result (self.new ≡ insert_entry K.cmp self.old key value) }
         ensures old { IfOk result (λ before. before ≡ lookup (is_at (K.cmp key)) self.old) }

@@ -10,7 +10,7 @@ use crate::text::char_at;
 use syntect_pattern_table::node::{Class, Letters};
 use syntect_pattern_table::sets::is_alike;
 
-/// The place behind the character at the place, if it is this one.
+/// The place after the character at the place, if it is this one.
 pub fn past_char(text: &str, place: usize, wanted: char) -> Option<usize>
     requires { IsCharBoundary text.now place }
     ensures value { result
@@ -25,7 +25,7 @@ pub fn past_char(text: &str, place: usize, wanted: char) -> Option<usize>
     }
 }
 
-/// The place behind the character at the place, if the class holds it.
+/// The place after the character at the place, if the class holds it.
 pub fn past_class(text: &str, place: usize, class: &Class) -> Option<usize>
     requires { IsCharBoundary text.now place }
     ensures value { result
@@ -40,7 +40,7 @@ pub fn past_class(text: &str, place: usize, class: &Class) -> Option<usize>
     }
 }
 
-/// The place behind the letter at the place, if it is this one.
+/// The place after the letter at the place, if it is this one.
 pub fn past_letter(text: &str, place: usize, fold: bool, letter: u8) -> Option<usize>
     requires { IsCharBoundary text.now place }
     ensures value { result
@@ -59,7 +59,7 @@ pub fn past_letter(text: &str, place: usize, fold: bool, letter: u8) -> Option<u
     }
 }
 
-/// The place behind the letters, if they stand at the place.
+/// The place after the letters, if they stand at the place.
 pub fn past_letters(text: &str, place: usize, letters: &Letters) -> Option<usize>
     requires { IsCharBoundary text.now place }
     ensures value { result

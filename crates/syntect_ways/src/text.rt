@@ -55,7 +55,7 @@ fn are_equal(fold: bool, c: char, d: char) -> bool
     c == d || (fold && same_fold(c, d))
 }
 
-/// The place behind the characters of the other text, where they stand at the place.
+/// The place after the characters of the other text, where they stand at the place.
 pub fn past_text(text: &str, place: usize, fold: bool, wanted: &str) -> Option<usize>
     requires { IsCharBoundary text.now place }
     ensures value { (g : Groups)

@@ -114,7 +114,7 @@ module _ (reader : LineReader) (i : ℕ) where
       from true t k f = omega (arith, h.here t, at o k f l)
       from false t k f = absurd (no_match b ms c h.best e t)
 
-  -- a member whose match begins behind the place changes nothing
+  -- a member whose match begins after the place changes nothing
   pub best_passed_by : (b : Best) (ms : List Live) (o : Option Live) → IsBestAt reader i ms b → IfSome o (λ k. i < k.start) → IsBestAt reader i (ms ++ cons_option o []) b
   best_passed_by b ms o h l = record { best = best_skipped reader.line.now reader.position.now i b ms o h.best l; here = h.here }
 

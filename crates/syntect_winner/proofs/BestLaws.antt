@@ -115,7 +115,8 @@ module _ (line : List ℕ) (p : Position) (last : ℕ) where
       stays (Some x) None z e f = cc
       stays (Some x) (Some y) z e f = e
 
-  -- a match that begins before the best so far, or at the same place where all so far loop, is the best
+  -- a match that begins before the best so far, or at the same place where all so far loop,
+  -- is the best
   abbrev pub Leads : Best → ℕ → Type 0
   Leads b s = (s < b.start) ⊎ ((s ≡ b.start) × (b.is_match ≡ true) × (b.candidate ≡ None))
 
@@ -195,7 +196,7 @@ module _ (line : List ℕ) (p : Position) (last : ℕ) where
   pub best_ends : (b : Best) → b.is_match ≡ false → b.candidate ≡ None → choice_by line p.place b ≡ End
   best_ends b e f = rw (e, f) refl
 
--- where all would begin behind the line, there is none
+-- where all would begin past the line, there is none
 pub none_left : (s n : ℕ) (ms : List Live) → n < s → list_all (λ k. nat_le s k.start) ms ≡ true → list_all (λ k. nat_le k.start n) ms ≡ true → ms ≡ []
 none_left s n [] l h i = refl
 none_left s n (m ∷ ms) l h i =

@@ -53,7 +53,7 @@ module _ (line : List ℕ) (p : Position) (last : ℕ) where
     from = h.from;
   }
 
-  -- a match behind the last place changes nothing
+  -- a match after the last place changes nothing
   pub best_skipped : (b : Best) (ms : List Live) (o : Option Live) → IsBest line p last ms b → IfSome o (λ k. last < k.start) → IsBest line p last (ms ++ cons_option o []) b
   best_skipped b ms o h n =
       best_same line p last b ms o h (λ k e.

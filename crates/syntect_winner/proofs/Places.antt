@@ -15,7 +15,7 @@ use Rattle.syntect_winner.specs.declared.position.Position.{Position}
 use Rattle.syntect_winner.specs.Turn.{Live, Choice, Take, Skip, End, counts, counted, matched, live, live_match, searched_text, group_at, choice_of, winner, is_least, loops, char_len}
 use Rattle.syntect_winner.specs.Found.{FindsInText, StandsIn}
 
--- ---- the place behind a character ----
+-- ---- the place after a character ----
 
 first_of : (cs : List ℕ) (c : ℕ) → slice_get cs 0 ≡ Some c → (rest : List ℕ) × (cs ≡ c ∷ rest)
 first_of [] c e = cc

@@ -150,7 +150,8 @@ places_begin old long place m =
 at_most : (x y : ℕ) → nat_le x y ≡ true → x ≤ y
 at_most x y e = grind (arith, nat_tests)
 
--- where each of a part's members has its text put in within so many steps, so has the pattern at an index
+-- where each of a part's members has its text put in within so many steps,
+-- so has the pattern at an index
 pub put_in_one : (set : SyntaxSet) (part : Part) (flats : List Flat) (put k : ℕ) (d : Flat) (m : MatchPattern) → AreFlatsOf set part.id flats → ArePutWithin put (part_members set part) → k < length flats
     → pattern_at set (get_or flats k d) ≡ Some m → putting m (option_copied part.opening) ≤ put
 put_in_one set part flats put k d m r all l e =

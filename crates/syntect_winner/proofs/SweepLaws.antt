@@ -225,7 +225,7 @@ module _ (finds : FindsInText dialect) (reader : LineReader) (i : ℕ) (run : Ru
       let other : k ≢ to = omega (arith, l) in
       subst (λ (t : Bool). IsAhead reader t at (part_member run.part m)) (sym (h k other)) (a k d m l z e)
 
-  -- what is known of those behind an index stays where one at that index is out,
+  -- what is known of those after an index stays where one at that index is out,
   pub known_behind : (old now new : List Bool) (index next : ℕ) → index + 1 ≤ next → ((k : ℕ) → index ≤ k → is_lost now k ≡ is_lost old k) → ((k : ℕ) → k ≢ index → is_lost new k ≡ is_lost now k)
       → (k : ℕ) → next ≤ k → is_lost new k ≡ is_lost old k
   known_behind old now new index next n h g k l =

@@ -39,13 +39,14 @@ AreReplaced set part flats replaced = (k : ℕ) (d : Flat) (m : MatchPattern) �
     → unwrap_or (slice_index_or replaced k None) m.regex
     ≡ searched_text dialect m (option_copied part.opening)
 
--- the flat list is that of the part's context, and its patterns are searched in the form that the opening match asks for
+-- the flat list is that of the part's context, and its patterns are searched in the form that the
+-- opening match asks for
 pub record IsRun (set : SyntaxSet) (run : Run) : Type 0 where
   pub flats : AreFlatsOf set run.part.id (list_in run.flats)
   pub replaced : AreReplaced set run.part (list_in run.flats) run.replaced.items
 
--- A search of a member from the reader's place on finds what one from this place on finds; or its first match from the reader's
--- place on doesn't count, so that it is out and has none that does.
+-- A search of a member from the reader's place on finds what one from this place on finds; or its
+-- first match from the reader's place on doesn't count, so that it is out and has none that does.
 abbrev pub IsAhead : LineReader → Bool → ℕ → Member → Type 0
 IsAhead reader lost i m =
     ((lost ≡ false) × (search_of reader reader.position.now.place m ≡ search_of reader i m))
@@ -82,21 +83,23 @@ pub record Sees (o : Outlook) (line : List ℕ) (i : ℕ) : Type 0 where
   pub behind : o.behind ≡ start_at line end
   pub edges : o.off_edges ≡ true → is_word_edge line i ≡ false
 
--- what is known of white space, or else a word that goes on at the place: up to where it does, and what stands behind it
+-- what is known of white space, or else a word that goes on at the place: up to where it does, and
+-- what comes after it
 abbrev pub Reaches : List ℕ → ℕ → Reach → Type 0
 Reaches line i r = i < r.end
     → (IsRunUpTo r.blank line i r.end) × (r.behind ≡ start_at line r.end) × (r.behind < 130)
 
--- something stands behind the white space, or the word, at the place that no match of the pattern has behind one in which it
--- begins
+-- something comes after the white space, or the word, at the place that no match of the pattern has
+-- after one in which it begins
 pub record IsCutOff (line : List ℕ) (i : ℕ) (flat : Flat) : Type 0 where
   pub blank : Bool
   pub end : ℕ
   pub run : IsRunUpTo blank line i end
   pub out : is_in (behind_of blank flat) (start_at line end) ≡ false
 
--- No match of the pattern begins at the place: nothing that stands there begins one, or the run there is cut off, or a word
--- goes on there and the pattern's matches begin only where one begins or ends.
+-- No match of the pattern begins at the place: nothing that stands there begins one, or the run
+-- there is cut off, or a word goes on there and the pattern's matches begin only where one begins
+-- or ends.
 abbrev pub IsRuledOut : List ℕ → ℕ → Flat → Type 0
 IsRuledOut line i flat =
     (is_in flat.begins (start_at line i) ≡ false)
@@ -115,12 +118,14 @@ BeginIn begins runs = (x : ℕ) → x < 130 → is_in begins x ≡ false → All
 abbrev pub run_members : SyntaxSet → Run → List Member
 run_members set run = part_members set run.part
 
--- the best of these matches, where all that begin before this place were looked for and there are none
+-- the best of these matches, where all that begin before this place were looked for
+-- and there are none
 pub record IsBestAt (reader : LineReader) (i : ℕ) (ms : List Live) (b : Best) : Type 0 where
   pub best : IsBest reader.line.now reader.position.now i ms b
   pub here : b.is_match ≡ true → b.start ≡ i
 
--- The best of some matches is now the best of them and of a member's; and as long as none is found here, the member is ahead.
+-- The best of some matches is now the best of them and of a member's; and as long as none is found
+-- here, the member is ahead.
 pub record AddsMember (reader : LineReader) (i : ℕ) (lost : Bool) (m : Member) (ms : List Live)
     (b : Best) : Type 0 where
   pub best : IsBestAt reader i (ms ++ cons_option (match_of reader m) []) b

@@ -9,7 +9,8 @@ use Rattle.syntect_contexts.specs.Substitution.{Groups}
 use Rattle.syntect_winner.specs.declared.search.Best.{Best}
 use Rattle.syntect_winner.specs.declared.search.Candidate.{Candidate}
 
--- what a turn does whose matches of least start are these, if there are any, by the first of them that doesn't loop
+-- what a turn does whose matches of least start are these, if there are any, by the first of them
+-- that doesn't loop
 abbrev pub decided : List ℕ → ℕ → Bool → Option Live → Choice
 decided line place is_match (Some m) = Take m
 decided line place true None =
@@ -23,8 +24,9 @@ choice_by line place b = decided line place b.is_match (option_map (seen line pl
 abbrev pub AreGroupsOf : List ℕ → ℕ → Option Candidate → Groups → Type 0
 AreGroupsOf line place o groups = (m : Candidate) → o ≡ Some m → groups ≡ (seen line place m).groups
 
--- The best of these matches that begin up to the last place: none begins before its start; where one begins there, it has
--- the first of them that doesn't loop; and else none begins up to the last place.
+-- The best of these matches that begin up to the last place: none begins before its start; where
+-- one begins there, it has the first of them that doesn't loop; and else none begins up
+-- to the last place.
 pub record IsBest (line : List ℕ) (p : Position) (last : ℕ) (ms : List Live)
     (b : Best) : Type 0 where
   pub least : list_all (λ k. nat_le b.start k.start) ms ≡ true

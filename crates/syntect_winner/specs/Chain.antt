@@ -15,7 +15,8 @@ use Rattle.syntect_winner.specs.declared.level.Level.{Level}
 
 -- ---- the chain of a turn ----
 
--- a pattern of the chain, with the opening match that it is searched with, and whether it is from a `with_prototype`
+-- a pattern of the chain, with the opening match that it is searched with,
+-- and whether it is from a `with_prototype`
 pub record Member : Type 0 where
   pub pattern : MatchPattern
   pub opening : Option Opening
@@ -37,8 +38,9 @@ last xs = slice_get xs (length xs - 1)
 abbrev pub in_sight : Position → List Level
 in_sight p = drop (unwrap_or (last p.cuts) 0) p.levels
 
--- Three parts after one another: what the levels in sight brought as prototypes, lowest level first and tied to its
--- opening match; the prototype of the top context, tied to none; and that context itself, tied to the top level's.
+-- Three parts after one another: what the levels in sight brought as prototypes, lowest level first
+-- and tied to its opening match; the prototype of the top context, tied to none; and that context
+-- itself, tied to the top level's.
 abbrev pub chain : SyntaxSet → Position → Level → Context → List Member
 chain set p top context =
     flat_map (λ l. flat_map (members set true l.opening) l.prototypes) (in_sight p)

@@ -4,7 +4,7 @@ use Rattle.syntect_meter.specs.Meter.{Reading}
 use Rattle.syntect_winner.specs.declared.halt.Halt.{Halt}
 use Rattle.syntect_winner.specs.declared.halt.Halt.TheVariants as halt
 
--- a turn that halts for want of steps has made all of them
+-- a turn that halts for lack of steps has made all of them
 abbrev pub HaltsAt : Reading → Halt → Type 0
 HaltsAt r halt.Memory = Unit {0}
 HaltsAt r (halt.Spent pattern place) = r.left ≡ Some 0

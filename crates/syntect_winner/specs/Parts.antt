@@ -14,7 +14,8 @@ use Rattle.syntect_winner.specs.declared.chain.Part.{Part}
 use Rattle.syntect_flats.specs.declared.flats.Flat.{Flat}
 use Rattle.syntect_winner.specs.declared.position.Position.{Position}
 
--- the context of a part, the opening match that its patterns are searched with, and whether it is from a `with_prototype`
+-- the context of a part, the opening match that its patterns are searched with, and whether it is
+-- from a `with_prototype`
 pub record Source : Type 0 where
   pub id : ContextId
   pub opening : Option Opening

@@ -19,8 +19,8 @@ use Rattle.syntect_winner.specs.declared.position.Position.{Position}
 
 -- ---- the live matches ----
 
--- a match of a member of the chain: its pattern, whether that is from a `with_prototype`, the text that was searched, and
--- the groups of the match and its ends
+-- a match of a member of the chain: its pattern, whether that is from a `with_prototype`, the text
+-- that was searched, and the groups of the match and its ends
 pub record Live : Type 0 where
   pub pattern : MatchPattern
   pub from_with_prototype : Bool
@@ -33,8 +33,8 @@ pub record Live : Type 0 where
 abbrev pub group_at : Groups → ℕ → Option (ℕ × ℕ)
 group_at groups n = option_flatten (slice_get groups n)
 
--- whether a match counts: one that reads nothing and does nothing is passed over, and so is a push once
--- as many levels are open as there may be
+-- whether a match counts: one that reads nothing and does nothing is passed over, and so is a push
+-- once as many levels are open as there may be
 abbrev pub counts : ℕ → MatchOperation → ℕ → ℕ → Bool
 counts height (op.Push refs) start end = nat_lt height MOST_LEVELS
 counts height (op.Set refs) start end = true
@@ -61,7 +61,8 @@ matched height member text None = None
 matched height member text (Some groups) = counted height member text groups (group_at groups 0)
 
 module _ (engine : Engine) where
-  -- the text that is searched: substituted where the pattern uses back references and there is an opening match
+  -- the text that is searched: substituted where the pattern uses back references and there is an
+  -- opening match
   abbrev pub searched_text : MatchPattern → Option Opening → List ℕ
   searched_text m None = m.regex
   searched_text m (Some o) =
@@ -107,7 +108,8 @@ pub data Choice : Type 0 where
 abbrev pub char_len : List ℕ → ℕ → ℕ
 char_len line place = option_map_or len_utf8 (char_at line place) 1
 
--- If all matches of least start loop, one character is passed over, or the line ends where at most one is left. Without matches it ends.
+-- If all matches of least start loop, one character is passed over, or the line ends where at most
+-- one is left. Without matches it ends.
 abbrev pub choice_of : List ℕ → ℕ → List Live → Option Live → Choice
 choice_of line place ms (Some m) = Take m
 choice_of line place [] None = End

@@ -14,7 +14,8 @@ use syntect_grammar::syntax_definition::{Context, ContextId};
 use syntect_grammar::syntax_set::SyntaxSet;
 use syntect_openings::opening::Opening;
 
-/// A part of the chain: a context's patterns, the opening match for them, and whether they are from a `with_prototype`.
+/// A part of the chain: a context's patterns, the opening match for them, and whether they are from
+/// a `with_prototype`.
 #[derive(Clone, Copy)]
 pub struct Part<'p> {
     pub id: ContextId,

@@ -8,7 +8,8 @@ use syntect_flats::flats::Origin;
 pub enum Halt {
     /// There was no memory.
     Memory,
-    /// No step was left, when this pattern was tried at this place of the line, a byte position, or was made for a turn from there.
+    /// No step was left, when this pattern was tried at this place of the line, a byte position, or
+    /// was made for a turn from there.
     Spent { pattern: Origin, place: usize },
 }
 

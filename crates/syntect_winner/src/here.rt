@@ -14,7 +14,8 @@ use syntect_flats::flats::Origin;
 use syntect_meter::stop::Stop;
 use syntect_regex::regex::Regex;
 
-/// The turn halts as a search stops, or as a text is put in, for the pattern that stands there and at the place.
+/// The turn halts as a search stops, or as a text is put in, for the pattern that stands there and
+/// at the place.
 pub fn halt_at(stop: Stop, pattern: Origin, place: usize) -> Halt
     ensures { (r : Reading) → StopsAt r stop → HaltsAt r result }
 {
@@ -24,7 +25,8 @@ pub fn halt_at(stop: Stop, pattern: Origin, place: usize) -> Halt
     }
 }
 
-/// Whether a match of what is searched in a pattern's place begins here. What is known of it is asked first, and kept in mind.
+/// Whether a match of what is searched in a pattern's place begins here. What is known of it is
+/// asked first, and kept in mind.
 fn is_replaced_here(
     reader: &LineReader<'_, '_>,
     regex: &Regex,
@@ -63,7 +65,8 @@ fn is_replaced_here(
     Ok(is_here)
 }
 
-/// Whether a match of what is searched for an entry begins at the place. What is known of it is asked first, and kept in mind.
+/// Whether a match of what is searched for an entry begins at the place. What is known of it is
+/// asked first, and kept in mind.
 pub fn is_here(
     reader: &LineReader<'_, '_>,
     entry: &Entry<'_, '_>,

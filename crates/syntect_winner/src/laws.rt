@@ -18,7 +18,8 @@ pub fn dialect_finds_on_boundaries()
     syntect_pattern_laws::pattern_matches_are_laid_out();
 }
 
-/// A push is passed over once a hundred levels are open, and at one place a thousand empty pushes and sets are made at most.
+/// A push is passed over once a hundred levels are open, and at one place a thousand empty pushes
+/// and sets are made at most.
 pub fn limits_of_reading()
     ensures levels { MOST_LEVELS ≡ 100 }
     ensures idle { MOST_IDLE ≡ 1000 }

@@ -1,5 +1,6 @@
-//! Which match a turn takes: the patterns that it looks at, what of them begins first, and where a reader of lines stands.
-//! It says nothing of what a match does, so that it is proved apart from that.
+//! Which match a turn takes: the patterns that it looks at, what of them begins first, and where a
+//! reader of lines stands. It says nothing of what a match does,
+//! so that it is proved apart from that.
 #![tactic(auto)]
 
 pub mod chain;

@@ -6,7 +6,8 @@ use crate::position::Position;
 use std::alloc::Global;
 use syntect_grammar::syntax_set::SyntaxSet;
 
-/// A line that is being read, the set that it is read with, and where its reader stands: before a character or at the end.
+/// A line that is being read, the set that it is read with, and where its reader stands: before a
+/// character or at the end.
 #[derive(Clone, Copy)]
 pub struct LineReader<'s, 't> {
     pub alloc: Global,

@@ -83,8 +83,8 @@ fn replacement(
     }
 }
 
-/// How many patterns of a list were passed over and not paid for, and whether a text was put into one of the list, from when on
-/// they are paid for.
+/// How many patterns of a list were passed over and not paid for, and whether a text was put into
+/// one of the list, from when on they are paid for.
 #[derive(Drop)]
 struct Passed {
     count: usize,
@@ -115,7 +115,8 @@ fn pay_for_passed(
     Ok(())
 }
 
-/// What is searched in place of the pattern, which is paid for, and so are those that were passed over.
+/// What is searched in place of the pattern, which is paid for,
+/// and so are those that were passed over.
 fn replacement_paid(
     reader: &LineReader<'_, '_>,
     part: &Part<'_>,
@@ -147,8 +148,8 @@ fn replacement_paid(
     Ok(found)
 }
 
-/// What is searched in place of each pattern of a part; nothing where each is searched as it stands. Where a text is put into one,
-/// to pass over each of the others is paid for.
+/// What is searched in place of each pattern of a part; nothing where each is searched as it
+/// stands. Where a text is put into one, to pass over each of the others is paid for.
 fn replaced_in(
     reader: &LineReader<'_, '_>,
     part: &Part<'_>,
@@ -207,7 +208,8 @@ fn is_repeated(a: &Part<'_>, b: &Part<'_>) -> bool
         && b.opening.is_none()
 }
 
-/// Whether one of the first runs has the same patterns as the part: then no match of the part is ever picked.
+/// Whether one of the first runs has the same patterns as the part: then no match of the part is
+/// ever picked.
 fn has_repeat(runs: &[Run<'_, '_>], part: &Part<'_>) -> bool
     ensures { result ≡ true → HasSame (map (λ r. r.part) runs.now) part.now }
 {
@@ -243,8 +245,8 @@ fn run_of<'s, 'p>(
     })
 }
 
-/// The parts of a chain with their patterns, but for those that have the patterns of an earlier one. To put the texts of groups
-/// into some is paid for.
+/// The parts of a chain with their patterns, but for those that have the patterns of an earlier
+/// one. To put the texts of groups into some is paid for.
 pub fn runs_of<'s, 'p>(
     reader: &LineReader<'s, '_>,
     parts: &[Part<'p>],

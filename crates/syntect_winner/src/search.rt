@@ -25,7 +25,9 @@ use syntect_regex::regex::Regex;
 use syntect_regex::region::Region;
 use syntect_ways::text::char_at;
 
-/// Where searches put the groups of their matches, those of the best match so far, the meter of their steps, what is known of the patterns in the line that is read, and patterns with the texts of groups put in.
+/// Where searches put the groups of their matches, those of the best match so far, the meter of
+/// their steps, what is known of the patterns in the line that is read, and patterns with the texts
+/// of groups put in.
 #[derive(Drop)]
 pub struct Regions {
     pub searched: Region,
@@ -60,7 +62,8 @@ impl Regions {
     }
 }
 
-/// A pattern of the chain, with the opening match that it is searched with, and whether it is from a `with_prototype`.
+/// A pattern of the chain, with the opening match that it is searched with, and whether it is from
+/// a `with_prototype`.
 #[derive(Clone, Copy)]
 pub struct Entry<'s, 'p> {
     pub pattern: &'s MatchPattern,
@@ -68,7 +71,8 @@ pub struct Entry<'s, 'p> {
     pub from_with_prototype: bool,
 }
 
-/// A pattern in a place of its own, so that what holds it is small and quickly moved. Seen as the pattern.
+/// A pattern in a place of its own, so that what holds it is small and quickly moved.
+/// Seen as the pattern.
 #[derive(Drop)]
 pub struct OwnRegex {
     regex: Box<Regex>,
@@ -169,7 +173,8 @@ pub fn counts(height: usize, operation: &MatchOperation, start: usize, end: usiz
     }
 }
 
-/// What is searched in place of the pattern where it uses back references and has an opening match, which is paid for.
+/// What is searched in place of the pattern where it uses back references and has an opening match,
+/// which is paid for.
 pub fn substituted(
     alloc: Global,
     pattern: &MatchPattern,
@@ -237,7 +242,7 @@ pub fn led_by<'s>(reader: &LineReader<'_, '_>, m: Candidate<'s>) -> Best<'s>
     }
 }
 
-/// The place behind the character that the reader stands before, or behind the end by one.
+/// The place after the character that the reader stands before, or past the end by one.
 fn past_character(reader: &LineReader<'_, '_>) -> usize
     ensures { result ≡ reader.now.position.now.place
         + char_len reader.now.line.now reader.now.position.now.place }
@@ -249,7 +254,8 @@ fn past_character(reader: &LineReader<'_, '_>) -> usize
     }
 }
 
-/// What a turn does: it takes the first match of least start that doesn't loop, or passes over a character, or ends.
+/// What a turn does: it takes the first match of least start that doesn't loop, or passes over a
+/// character, or ends.
 pub fn choose<'m, 's>(reader: &LineReader<'_, '_>, best: &'m Best<'s>) -> Choice<'m, 's>
     ensures chosen { chosen reader.now.line.now reader.now.position.now.place result
         ≡ choice_by reader.now.line.now reader.now.position.now.place best.now }

@@ -1,4 +1,5 @@
-//! What a turn finds: it goes place by place, and tries at each the patterns that can begin there, in the order of the chain.
+//! What a turn finds: it goes place by place, and tries at each the patterns that can begin there,
+//! in the order of the chain.
 ghost use Rattle.std.specs.Prelude.{◌≡◌, ◌≤◌, ◌<◌, ◌+◌, ◌*◌, Bool, List, ℕ, length, IfErr, IfOk, OnOk, Some, None, true, false, slice_index_or, unwrap_or};
 ghost use Rattle.std.specs.Option.{option_copied};
 ghost use Rattle.std.specs.List.{All, flat_map};
@@ -49,7 +50,7 @@ fn is_off_edges(line: &str, place: usize) -> bool
     is_boundary(line, place) && !stands(line, place, Anchor::WordEdge)
 }
 
-/// Up to where white space, or else a word goes on, and what stands behind it.
+/// Up to where white space, or else a word goes on, and what comes after it.
 #[derive(Clone, Copy)]
 pub struct Reach {
     pub blank: bool,
@@ -57,7 +58,8 @@ pub struct Reach {
     pub behind: u8,
 }
 
-/// Up to where the characters from a place on are white space, or a word's. Not all of a run that goes beyond `far` is looked at.
+/// Up to where the characters from a place on are white space, or a word's. Not all of a run that
+/// goes beyond `far` is looked at.
 fn run_as_far(line: &str, place: usize, blank: bool, far: usize) -> usize
     requires { place ≤ length line.now }
     ensures { IsRunUpTo blank line.now place result }
@@ -73,13 +75,15 @@ fn run_as_far(line: &str, place: usize, blank: bool, far: usize) -> usize
     end
 }
 
-/// How far from a place the end of a run is looked for by a turn that looked at so many places: the more, the farther, so that all
-/// that looking takes no longer than trying patterns at those places did.
+/// How far from a place the end of a run is looked for by a turn that looked at so many places: the
+/// more, the farther, so that all that looking takes no longer than trying patterns
+/// at those places did.
 fn far_from(place: usize, tried: usize) -> usize {
     place.saturating_add((tried / PLACES).saturating_mul(FAR))
 }
 
-/// How far what stands at the place goes on, white space, or else a word: as it is known, or else is looked for now.
+/// How far what stands at the place goes on, white space, or else a word: as it is known, or else
+/// is looked for now.
 fn reach_at(line: &str, place: usize, here: u8, known: Reach, tried: usize) -> Reach
     requires within { place ≤ length line.now }
     requires known { Reaches line.now place known }
@@ -99,8 +103,9 @@ fn reach_at(line: &str, place: usize, here: u8, known: Reach, tried: usize) -> R
     }
 }
 
-/// What is seen of a place; with `asks` what stands behind the white space or the word there too. That is looked for where
-/// it isn't known from an earlier place. The turn looked at `tried` places before.
+/// What is seen of a place; with `asks` what comes after the white space or the word there too.
+/// That is looked for where it isn't known from an earlier place.
+/// The turn looked at `tried` places before.
 fn outlook_of(line: &str, place: usize, asks: bool, reach: &mut Reach, tried: usize) -> Outlook
     requires within { place ≤ length line.now }
     requires reach { Reaches line.now place reach.old }
@@ -129,8 +134,9 @@ fn outlook_of(line: &str, place: usize, asks: bool, reach: &mut Reach, tried: us
     }
 }
 
-/// An index of a part, not below this one: no pattern from this one up to it can begin at a place of which this is seen. Of
-/// patterns that may be replaced a list tells nothing, so that none of them is passed over.
+/// An index of a part, not below this one: no pattern from this one up to it can begin at a place
+/// of which this is seen. Of patterns that may be replaced a list tells nothing, so that none of
+/// them is passed over.
 fn next_in(run: &Run<'_, '_>, outlook: Outlook, from: usize) -> usize
     requires here { outlook.here < 130 }
     requires behind { outlook.behind < 130 }
@@ -153,7 +159,8 @@ fn begins_of(runs: &[Run<'_, '_>]) -> Places
     begins
 }
 
-/// The first place, from this one on, with one of these; the line's end at the latest. None that was ahead has a match before it.
+/// The first place, from this one on, with one of these; the line's end at the latest. None that
+/// was ahead has a match before it.
 fn next_place(reader: &LineReader<'_, '_>, begins: Places, place: usize) -> usize
     requires { place ≤ length reader.now.line.now }
     ensures later { place ≤ result }
@@ -187,7 +194,8 @@ fn replaced_at<'r>(run: &'r Run<'_, '_>, index: usize) -> Option<&'r Regex>
     Some(run.replaced.get(index)?.as_ref()?.regex())
 }
 
-/// What is found with a member of the chain more, none of whose matches begins before the place. `lost`: one there doesn't count.
+/// What is found with a member of the chain more, none of whose matches begins before the place.
+/// `lost`: one there doesn't count.
 fn with_entry<'s>(
     reader: &LineReader<'_, '_>,
     entry: &Entry<'s, '_>,
@@ -246,7 +254,8 @@ fn with_entry<'s>(
     ))
 }
 
-/// What is found with the pattern of a part at an index more. One that is out for this turn isn't tried.
+/// What is found with the pattern of a part at an index more. One that is out for
+/// this turn isn't tried.
 fn with_pattern<'s>(
     reader: &LineReader<'s, '_>,
     run: &Run<'s, '_>,
@@ -302,7 +311,8 @@ fn with_pattern<'s>(
     Ok(best)
 }
 
-/// What is found with a part's patterns more, none of whose matches that count begins before the place, of which this is seen.
+/// What is found with a part's patterns more, none of whose matches that count begins before the
+/// place, of which this is seen.
 fn with_run<'s>(
     reader: &LineReader<'s, '_>,
     run: &Run<'s, '_>,
@@ -388,7 +398,8 @@ fn best_at<'s>(
     Ok(best)
 }
 
-/// What the runs of a chain have: places are gone through from the turn's own on, up to the first where a match that counts begins.
+/// What the runs of a chain have: places are gone through from the turn's own on, up to the first
+/// where a match that counts begins.
 fn best_of_runs<'s>(
     reader: &LineReader<'s, '_>,
     runs: &[Run<'s, '_>],
@@ -436,8 +447,8 @@ fn best_of_runs<'s>(
     }
 }
 
-/// What a chain has. What is searched in its patterns' places is paid for, and kept for later turns. Steps of linear patterns are
-/// within a bound.
+/// What a chain has. What is searched in its patterns' places is paid for, and kept for later
+/// turns. Steps of linear patterns are within a bound.
 pub fn best_of_chain<'s>(
     reader: &LineReader<'s, '_>,
     parts: &[Part<'_>],

@@ -1,5 +1,5 @@
--- What keeps within limits: how long the patterns of a grammar are with their variables expanded and the uses of these
--- counted, each and together.
+-- What keeps within limits: how long the patterns of a grammar are with their variables expanded
+-- and the uses of these counted, each and together.
 use Rattle.std.specs.Prelude.{◌≡◌, ℕ, ◌<◌, ◌≤◌, ◌+◌, false, List, [], ◌∷◌, ◌++◌, length, codes, flat_map, Option, Some, None, unwrap_or, Ok, Err}
 use Rattle.std.specs.List.{All, sum_by}
 use Rattle.syntect_yaml.specs.Node.{Node, text_of}
@@ -32,12 +32,13 @@ patterns_of v = flat_map of_top_entry (unwrap_or (at map_in (codes "contexts") v
 
 -- ---- what fits ----
 
--- how many bytes a text has with its variables expanded, and how many uses of variables are come to for that
+-- how many bytes a text has with its variables expanded, and how many uses of variables are come to
+-- for that
 abbrev pub counted_length : Variables → List ℕ → ℕ
 counted_length variables t = length (with_uses variables t)
 
--- with their variables expanded, and their uses counted, these patterns have at most as many bytes each as the limit lets
--- one have, and together at most so many
+-- with their variables expanded, and their uses counted, these patterns have at most as many bytes
+-- each as the limit lets one have, and together at most so many
 pub record Fit
     (limits : Limits) (variables : Variables) (most : ℕ) (patterns : List (List ℕ))
     : Type 0 where
@@ -51,7 +52,7 @@ pattern_at (reached.Pattern place) = place.pattern
 pattern_at (reached.Patterns place) = place.pattern
 pattern_at reached.Folder = []
 
--- the limit that is named is passed by the pattern there, behind these
+-- the limit that is named is passed by the pattern there, after these
 abbrev pub IsPassed : Limits → Variables → ℕ → List (List ℕ) → LimitReached → Type 0
 IsPassed limits variables most before reached.Text = ⊥
 IsPassed limits variables most before (reached.Pattern place) =
@@ -60,7 +61,8 @@ IsPassed limits variables most before (reached.Patterns place) =
     most < sum_by (counted_length variables) (before ++ place.pattern ∷ [])
 IsPassed limits variables most before reached.Folder = ⊥
 
--- of these patterns those before the one at which the limit is reached fit, and that one passes the limit
+-- of these patterns those before the one at which the limit is reached fit,
+-- and that one passes the limit
 pub record Passes
     (limits : Limits) (variables : Variables) (most : ℕ) (patterns : List (List ℕ))
     (r : LimitReached)
@@ -71,14 +73,16 @@ pub record Passes
   pub fit : Fit limits variables most before
   pub passed : IsPassed limits variables most before r
 
--- where something is left, the patterns fit and leave that; else they pass the limit that is reached
+-- where something is left, the patterns fit and leave that;
+-- else they pass the limit that is reached
 abbrev pub Tells : Limits → Variables → ℕ → List (List ℕ) → Left → Type 0
 Tells limits variables most patterns (Ok left) =
     Fit limits variables most patterns
     × (sum_by (counted_length variables) patterns + left ≡ most)
 Tells limits variables most patterns (Err r) = Passes limits variables most patterns r
 
--- Under limits of patterns a grammar is refused exactly where the patterns pass one, at the first that does.
+-- Under limits of patterns a grammar is refused exactly where the patterns pass one, at the first
+-- that does.
 abbrev pub LimitsTell : Type 0
 LimitsTell =
     (limits : Limits) (v : Node)

@@ -1,5 +1,5 @@
--- Where a limit is reached while a grammar's patterns are expanded, in order: what is left of the bytes of all patterns is
--- counted down. A use of a variable counts as a byte.
+-- Where a limit is reached while a grammar's patterns are expanded, in order: what is left of the
+-- bytes of all patterns is counted down. A use of a variable counts as a byte.
 use Rattle.std.specs.Prelude.{◌≡◌, ℕ, suc, ◌-◌, ◌^◌, ◌==◌, Bool, true, false, ◌&&◌, nat_le, nat_lt, min, if◌then◌else◌, List, [], ◌∷◌, length, codes, Option, Some, None, unwrap_or, Result, Ok, Err}
 use Rattle.syntect_yaml.specs.Node.{Node, text_of}
 use Rattle.syntect_yaml.specs.Yaml.{yaml_of, deepest}
@@ -44,8 +44,8 @@ left_after r left None = Err r
 
 -- over the limits and the variables
 module _ (limits : Limits) (variables : Variables) where
-  -- A pattern may have as many bytes, its uses of variables with them, as one may have, and as are left for all. Where it
-  -- has more, the smaller is reached.
+  -- A pattern may have as many bytes, its uses of variables with them, as one may have, and as are
+  -- left for all. Where it has more, the smaller is reached.
   abbrev pub count_pattern : List ℕ → ℕ → ℕ → List ℕ → Left
   count_pattern context item left pattern =
       left_after
@@ -101,8 +101,8 @@ Counts (Ok left) answer = answer ≡ Ok left
 Counts (Err (error.LimitReached r)) answer = answer ≡ Err r
 Counts (Err (error.Refused e)) answer = e ≡ Memory
 
--- Within the limits the result is the answer without them, and leaves this repository; where one is reached, that is the
--- result, unless memory ran out.
+-- Within the limits the result is the answer without them, and leaves this repository; where one is
+-- reached, that is the result, unless memory ran out.
 abbrev pub LoadsWithin : Left → Result (SyntaxDefinition × List (List ℕ)) Refusal
     → Result SyntaxDefinition LoadWithinError → List (List ℕ) → Type 0
 LoadsWithin (Ok left) answer (Ok d) repository = answer ≡ Ok (d, repository)

@@ -1,8 +1,9 @@
 //! Laws of limits.
 ghost use Rattle.syntect_within.specs.Fitting.{LimitsTell, BytesCounted};
 
-/// Within limits of patterns a grammar keeps exactly where its patterns do, with their variables expanded and the uses of
-/// these counted; where they don't, the limit that is named is passed by the pattern that is named, and those before it fit.
+/// Within limits of patterns a grammar keeps exactly where its patterns do, with their variables
+/// expanded and the uses of these counted; where they don't, the limit that is named is passed by
+/// the pattern that is named, and those before it fit.
 #[tactic(auto, using(crate::proofs::FittingLaws::limits_tell))]
 pub fn limits_tell()
     ensures { LimitsTell }

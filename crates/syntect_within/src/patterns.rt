@@ -1,4 +1,5 @@
-//! The texts of a grammar's patterns as they were written, each where the loader's `yaml_load_contexts` comes to it.
+//! The texts of a grammar's patterns as they were written, each where the loader's
+//! `yaml_load_contexts` comes to it.
 ghost use Rattle.std.specs.Prelude.{◌≡◌, ◌++◌, codes, flat_map, map, option_map, OnOk};
 ghost use Rattle.syntect_yaml.specs.Node.{get};
 ghost use Rattle.syntect_within.specs.Patterns as patterns;

@@ -233,14 +233,16 @@ fn definition_within(
 
 /// The definition of a grammar's text as `load_from_str` answers it, where it keeps within limits.
 ///
-/// Where it doesn't, `LimitReached` says which limit it would pass first, and at which pattern. The text's bytes are
-/// counted before it is read, and those of a pattern with its variables expanded before it is, with those of all
-/// patterns before it. It counts those that a grammar without a fault has, also after its first fault, and takes
-/// no more memory for it than the text takes. The repository is as it was then.
+/// Where it doesn't, `LimitReached` says which limit it would pass first, and at which pattern. The
+/// text's bytes are counted before it is read, and those of a pattern with its variables expanded
+/// before it is, with those of all patterns before it. It counts those that a grammar without a
+/// fault has, also after its first fault, and takes no more memory for it than the text takes. The
+/// repository is as it was then.
 ///
-/// What is counted is a pattern with its variables expanded. Then brackets are named by categories and the ends of
-/// lines are written, which makes a text at most six times as long, and references to groups have their places
-/// marked while the pattern is tested, which makes it at most eight times as long.
+/// What is counted is a pattern with its variables expanded. Then brackets are named by categories
+/// and the ends of lines are written, which makes a text at most six times as long, and references
+/// to groups have their places marked while the pattern is tested, which makes it at most eight
+/// times as long.
 pub fn load_from_str_within(
     alloc: Global,
     s: &str,

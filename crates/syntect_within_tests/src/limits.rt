@@ -8,13 +8,15 @@ use syntect_loader::definition::SyntaxDefinition;
 use syntect_scope::repository::ScopeRepository;
 use syntect_within::within::load_from_str_within;
 
-/// Of 130 bytes. The patterns of `main` have 5, 1 and 7 bytes with their variables expanded: `xyxyz`, `q` and `xyxyz\b`. For
-/// the first and the last 3 variables are used: with those they count as 197, 1 and 199 bytes, together 397.
+/// Of 130 bytes. The patterns of `main` have 5, 1 and 7 bytes with their variables expanded:
+/// `xyxyz`, `q` and `xyxyz\b`. For the first and the last 3 variables are used: with those they
+/// count as 197, 1 and 199 bytes, together 397.
 const PLAIN: &str =
     "scope: source.t\nvariables: {a: xy, b: '{{a}}{{a}}z'}\ncontexts:\n  main:\n    - match: '{{b}}'\n    - match: q\n    - match: '{{b}}\\b'\n";
 
-/// The patterns of `main` have 1, 2, 3 and 6 bytes: `e`, then `xy`, at which the `escape` leaves, `abc` and `(?=xy)`, which
-/// looks ahead for the `escape`. The second and the last use a variable: they count as 66 and 70 bytes, and all together as
+/// The patterns of `main` have 1, 2, 3 and 6 bytes: `e`, then `xy`, at which the `escape` leaves,
+/// `abc` and `(?=xy)`, which looks ahead for the `escape`. The second and the last use a variable:
+/// they count as 66 and 70 bytes, and all together as
 /// 140. An item that sets something has none.
 const ESCAPED: &str =
     "scope: source.t\nvariables: {a: xy}\ncontexts:\n  main:\n    - {meta_scope: m.t, match: none}\n    - match: e\n      embed: [{match: abc}]\n      escape: '{{a}}'\n";
@@ -169,8 +171,8 @@ fn texts_that_double(rt: HostRuntime) {
     equal(&rt, found, Found::Pattern(1));
 }
 
-/// A grammar in which each of so many variables uses the one before it, and the first stands for nothing; so many patterns use
-/// the last one, and come to nothing.
+/// A grammar in which each of so many variables uses the one before it, and the first stands for
+/// nothing; so many patterns use the last one, and come to nothing.
 fn chained(rt: &impl Abort, alloc: Global, variables: u32, patterns: u32) -> String {
     let mut text = String::from_str(alloc, "scope: source.t\nvariables:\n  v1: ''\n").expect(
         rt, "memory",
@@ -187,7 +189,8 @@ fn chained(rt: &impl Abort, alloc: Global, variables: u32, patterns: u32) -> Str
     text
 }
 
-/// A use counts, though its variable stands for nothing: each pattern uses 100 variables and has 1 byte.
+/// A use counts, though its variable stands for nothing: each pattern uses 100 variables
+/// and has 1 byte.
 #[test]
 fn variables_that_come_to_nothing(rt: HostRuntime) {
     let alloc = rt.alloc();

@@ -19,7 +19,7 @@ and-both : (a b : Bool) → a ≡ true → b ≡ true → (a && b) ≡ true
 and-both true b e h = h
 and-both false b e h = cc
 
--- The places from i to e are those of a run, behind which x stands.
+-- The places from i to e are those of a run, after which x stands.
 module _ (blank : Bool) (s : List ℕ) (i e x : ℕ) (st : Start s e x) (word : IsRunUpTo blank s i e) where
   abbrev Inside : ℕ → Type 0
   Inside j = (i ≤ j) × (j ≤ e)
@@ -45,7 +45,7 @@ module _ (blank : Bool) (s : List ℕ) (i e x : ℕ) (st : Start s e x) (word : 
     | inr z ↦ inr (z.0, g z.1)
   ]) h
 
-  -- one character of the run, or the one behind it
+  -- one character of the run, or the one after it
   char-keeps : (a : Set) (j : ℕ) (g : Groups) (c : ℕ) → char_at s j ≡ Some c → is_of blank c ≡ true → i ≤ j → j < e → AllKeep (can_hold a x) (has_one blank a) (past (holds a) (char_at s j) j g)
   char-keeps a j g c at is l h =
       subst (λ (o : Option ℕ). AllKeep (can_hold a x) (has_one blank a) (past (holds a) o j g)) (sym at)
@@ -90,7 +90,7 @@ module _ (blank : Bool) (s : List ℕ) (i e x : ℕ) (st : Start s e x) (word : 
   while-keeps (Some zero) turn r t j g h = tt
   while-keeps (Some (suc n)) turn r t j g h = h
 
-  -- a turn that reads nothing leaves the loop, and behind another one the loop goes on
+  -- a turn that reads nothing leaves the loop, and after another one the loop goes on
   turn-keeps : (b : Bool) (more : Way) (r t : Bool) (m : Member) → Inside m.0 → t ≡ true → AllKeep r t (more m.0 m.1) → AllKeep r t (after_turn b more m.0 m.1)
   turn-keeps true more r t m l y h = (inr (l, y), tt)
   turn-keeps false more r t m l y h = h
@@ -168,7 +168,7 @@ run-boundary blank s u i e b word = elim (cases_lt i e) [
   | inr h ↦ subst (IsCharBoundary s) (let is : i ≡ e = omega (arith, h, word.order) in is) b
 ]
 
--- no match begins in a run behind which something stands that it can't have there
+-- no match begins in a run after which something stands that it can't have there
 pub none-in_run : (blank : Bool) (s : List ℕ) → IsUtf8 s → (t : Tree) (i e : ℕ) → IsRunUpTo blank s i e → (passes blank t (start_at s e) || ends blank t (start_at s e)) ≡ false → found_at s t i ≡ None
 unfolding found_at
 none-in_run blank s u t i e word h = go (is_boundary s i) refl

@@ -1,4 +1,4 @@
--- What can stand behind runs, node by node.
+-- What can come after runs, node by node.
 use Rattle.std.proofs.Common.{◌≡◌, ◌++◌, ◌∷◌, [], ◌∙◌, ℕ, Bool, List, length, get_or, sym, ap, arith, below_more, length-append}
 use Rattle.std.proofs.Math.ListN.{get_or-append}
 use Rattle.std.proofs.Math.Seq.{get_or-append_seam}

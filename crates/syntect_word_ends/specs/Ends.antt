@@ -1,4 +1,4 @@
--- What can stand behind a word, or behind white space, in which a match begins.
+-- What can come after a word, or after white space, in which a match begins.
 use Rattle.std.specs.Prelude.{◌≡◌, ◌<◌, ◌≤◌, ℕ, Bool, true, false, ◌&&◌, ◌||◌, ◌==◌, List, ◌++◌, length, slice_index, slice_index_or}
 use Rattle.std.specs.List.{list_any}
 use Rattle.syntect_pattern.specs.Sets.{Set, holds, is_within, numbers_from}
@@ -42,8 +42,8 @@ pub record IsRunUpTo (blank : Bool) (s : List ℕ) (i e : ℕ) : Type 0 where
 unfoldable pub has_one : Bool → Set → Bool
 has_one blank a = list_any (holds a) (chars_of blank)
 
--- Of a match that begins in a run, behind which this stands: whether it can go on past the run's end, and whether it can
--- end in the run or where that ends.
+-- Of a match that begins in a run, after which this stands: whether it can go on past the run's
+-- end, and whether it can end in the run or where that ends.
 abbrev mutual
   pub passes : Bool → Tree → ℕ → Bool
   passes blank nothing x = false
@@ -81,7 +81,7 @@ Span blank x rs ss ts = (k : ℕ) (d : Places) → k < length rs
     → begins_at x (record { read = slice_index_or rs k d; stay = slice_index_or ss k d })
     ≡ spans blank x (slice_index_or ts k nothing)
 
--- what stands behind a run in which a match of the tree begins is one of these
+-- what comes after a run in which a match of the tree begins is one of these
 abbrev pub StandsBehind : Bool → Places → Tree → Type 0
 StandsBehind blank places tree =
     (x : ℕ) → x < 130 → is_in places x ≡ false → (passes blank tree x || ends blank tree x) ≡ false

@@ -27,8 +27,8 @@ is_space text = bytes_eq text (32 ∷ [])
 abbrev pub is_newline : List ℕ → Bool
 is_newline text = bytes_eq text (10 ∷ [])
 
--- a piece behind a group of this style: a space stays in the group, a newline is left out, and a piece of another style
--- ends the group and opens its own
+-- a piece after a group of this style: a space stays in the group, a newline is left out, and a
+-- piece of another style ends the group and opens its own
 abbrev pub latex_piece : Option Style → Style × Bor (List ℕ) → List ℕ
 latex_piece None p = latex_color p.0 ++ latex_text p.1.now
 latex_piece (Some style) p =
@@ -37,13 +37,13 @@ latex_piece (Some style) p =
     else if same_style p.0 style then latex_text p.1.now
     else 125 ∷ (latex_color p.0 ++ latex_text p.1.now)
 
--- the style of the group that is open behind the piece
+-- the style of the group that is open after the piece
 abbrev pub latex_style : Option Style → Style × Bor (List ℕ) → Style
 latex_style None p = p.0
 latex_style (Some style) p =
     if is_space p.1.now then style else if is_newline p.1.now then style else p.0
 
--- the rest of the pieces behind a group, and the end of the last group
+-- the rest of the pieces after a group, and the end of the last group
 abbrev pub latex_behind : Option Style → List (Style × Bor (List ℕ)) → List ℕ
 latex_behind last [] = 125 ∷ []
 latex_behind last (p ∷ ps) = latex_piece last p ++ latex_behind (Some (latex_style last p)) ps

@@ -35,7 +35,7 @@ are_lines (line ∷ (next ∷ lines)) = is_ended line && are_lines (next ∷ lin
 abbrev pub text_left : LinesWithEndings → List ℕ
 text_left s = s.input.now
 
--- a call gives the next line and leaves those behind it, or nothing at the end
+-- a call gives the next line and leaves those after it, or nothing at the end
 abbrev pub GivesLine : LinesWithEndings → Option (Bor (List ℕ)) → LinesWithEndings → Type 0
 GivesLine s None t = (lines_of (text_left s) ≡ []) × (lines_of (text_left t) ≡ [])
 GivesLine s (Some line) t = lines_of (text_left s) ≡ line.now ∷ lines_of (text_left t)

@@ -3,7 +3,7 @@ use Rattle.std.specs.Prelude.{ℕ, zero, suc, ◌==◌, Bool, not, ◌&&◌, Lis
 use Rattle.std.specs.List.{starts_with}
 use Rattle.std.specs.Option.{option_map_or}
 
--- the character whose name goes on so behind its `&`, and how many bytes of the name are there
+-- the character whose name goes on so after its `&`, and how many bytes of the name are there
 abbrev pub named : List ℕ → Option (ℕ × ℕ)
 named rest =
     if starts_with ◌==◌ rest (codes "lt;") then Some (60, 3)

@@ -1,4 +1,4 @@
--- A line while it is written: what is still to be written behind the spans so far.
+-- A line while it is written: what is still to be written after the spans so far.
 use Rattle.std.specs.Prelude.{ℕ, List, [], ◌∷◌, ◌++◌, codes, Option, Some, None, if◌then◌else◌}
 use Rattle.std.specs.List.{flat_map}
 use Rattle.syntect_theme.specs.declared.style.Style.{Style}

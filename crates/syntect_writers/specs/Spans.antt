@@ -57,7 +57,7 @@ same_style s t =
     (same_color s.foreground t.foreground && same_color s.background t.background)
     && bits_of s.font_style == bits_of t.font_style
 
--- the spans tell the colour behind their text
+-- the spans give the colour behind their text
 abbrev pub tells_background : IncludeBackground → Style → Bool
 tells_background No style = false
 tells_background Yes style = true
@@ -128,6 +128,6 @@ abbrev pub opening : Theme → List ℕ
 opening theme =
     codes "<pre style=\"background-color:" ++ (rgb_text (background_of theme) ++ codes ";\">\n")
 
--- and behind them
+-- and after them
 abbrev pub closing : List ℕ
 closing = codes "</pre>\n"

@@ -1,7 +1,7 @@
--- A text that is written behind another one.
+-- A text that is written after another one.
 use Rattle.std.specs.Prelude.{ℕ, List}
 
--- the text in front, and what is written behind it
+-- the text in front, and what is written after it
 pub record Written : Type 0 where
   pub front : List ℕ
   pub back : List ℕ

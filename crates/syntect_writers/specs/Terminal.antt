@@ -20,7 +20,8 @@ blended over under =
       a = 255;
     }
 
--- the escape sequence of a colour; the number is 38 for the colour of the text and 48 for the one behind it
+-- the escape sequence of a colour; the number is 38 for the colour of the text and 48 for the one
+-- behind it
 abbrev pub sequence : List ℕ → Color → List ℕ
 sequence number c =
     27 ∷ (codes "[" ++ (number ++ (codes ";2;"

@@ -26,7 +26,7 @@ pub(crate) fn name_of(byte: u8) -> &'static str
     }
 }
 
-/// Puts the text last, as HTML has it. Without memory a part of it may have been put there.
+/// Appends the text, as HTML has it. Without memory a part of it may have been put there.
 pub fn push_escaped(out: &mut String, text: &str) -> Result<(), AllocError>
     ensures { OnOk result (string_bytes out.new ≡ string_bytes out.old ++ escaped text.now) }
 {

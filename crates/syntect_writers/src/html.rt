@@ -11,18 +11,18 @@ use std::mem::replace;
 use syntect_theme::style::{Color, FontStyle, Style};
 use syntect_theme::theme::Theme;
 
-/// Whether spans tell the colour behind their text.
+/// Whether spans give the colour behind their text.
 #[derive(Clone, Copy, Debug, PartialEq, Eq)]
 pub enum IncludeBackground {
-    /// They don't.
+    /// Spans don't give it.
     No,
-    /// They do.
+    /// Spans give it.
     Yes,
-    /// They do where it is another colour than this one, which stands behind all of them.
+    /// Spans give it where it is another colour than this one, which stands behind all of them.
     IfDifferent(Color),
 }
 
-/// Puts the digits of a colour last, without how opaque it is.
+/// Appends the digits of a colour, without how opaque it is.
 #[tactic(auto, using(crate::proofs::SpanLaws::three_joined))]
 fn push_rgb_digits(out: &mut Tail, color: Color) -> Result<(), AllocError>
     ensures front { out.new.front ≡ out.old.front }
@@ -34,7 +34,7 @@ fn push_rgb_digits(out: &mut Tail, color: Color) -> Result<(), AllocError>
     Ok(())
 }
 
-/// Puts a colour last as CSS has it, without how opaque it is.
+/// Appends a colour as CSS has it, without how opaque it is.
 fn put_rgb(out: &mut Tail, color: Color) -> Result<(), AllocError>
     ensures front { out.new.front ≡ out.old.front }
     ensures back { OnOk result (out.new.back ≡ out.old.back ++ rgb_text color) }
@@ -43,7 +43,7 @@ fn put_rgb(out: &mut Tail, color: Color) -> Result<(), AllocError>
     push_rgb_digits(out, color)
 }
 
-/// Puts a colour last as CSS has it, without how opaque it is. Without memory the text is as it was.
+/// Appends a colour as CSS has it, without how opaque it is. Without memory the text is as it was.
 pub fn push_rgb(out: &mut String, color: Color) -> Result<(), AllocError>
     ensures text { OnOk result (string_bytes out.new ≡ string_bytes out.old ++ rgb_text color) }
     ensures err { OnErr result (string_bytes out.new ≡ string_bytes out.old) }
@@ -61,7 +61,7 @@ pub fn push_rgb(out: &mut String, color: Color) -> Result<(), AllocError>
     }
 }
 
-/// Puts the digits of a colour last.
+/// Appends the digits of a colour.
 fn push_digits(out: &mut Tail, color: Color) -> Result<(), AllocError>
     ensures front { out.new.front ≡ out.old.front }
     ensures back { OnOk result (out.new.back ≡ out.old.back ++ color_digits color) }
@@ -89,7 +89,7 @@ pub(crate) fn same_style(left: Style, right: Style) -> bool
         && left.font_style.bits() == right.font_style.bits()
 }
 
-/// Whether a span of this style tells the colour behind its text.
+/// Whether a span of this style gives the colour behind its text.
 fn tells_background(bg: IncludeBackground, style: Style) -> bool
     ensures { result ≡ tells_background bg style }
 {
@@ -100,7 +100,7 @@ fn tells_background(bg: IncludeBackground, style: Style) -> bool
     }
 }
 
-/// Puts the text last, if it is asked for.
+/// Appends the text, if it is asked for.
 #[tactic(auto, unfolding(crate::specs::Spans::asked_for))]
 fn push_if(out: &mut Tail, asked: bool, text: &str) -> Result<(), AllocError>
     ensures front { out.new.front ≡ out.old.front }
@@ -112,7 +112,7 @@ fn push_if(out: &mut Tail, asked: bool, text: &str) -> Result<(), AllocError>
     Ok(())
 }
 
-/// Puts the colour behind a text last.
+/// Appends the colour behind a text.
 fn push_ground(out: &mut Tail, color: Color) -> Result<(), AllocError>
     ensures front { out.new.front ≡ out.old.front }
     ensures back { OnOk result (out.new.back
@@ -124,7 +124,7 @@ fn push_ground(out: &mut Tail, color: Color) -> Result<(), AllocError>
     Ok(())
 }
 
-/// Puts the colour behind a text last, if it is told.
+/// Appends the colour behind a text, if it is written.
 #[tactic(auto, unfolding(crate::specs::Spans::background_text, crate::specs::Spans::asked_for))]
 fn push_background(out: &mut Tail, bg: IncludeBackground, style: Style) -> Result<(), AllocError>
     ensures front { out.new.front ≡ out.old.front }
@@ -136,7 +136,7 @@ fn push_background(out: &mut Tail, bg: IncludeBackground, style: Style) -> Resul
     Ok(())
 }
 
-/// Puts the flags of a font last, as CSS has them.
+/// Appends the flags of a font, as CSS has them.
 #[tactic(auto, using(crate::proofs::SpanLaws::three_joined), unfolding(crate::specs::Spans::flags_text))]
 fn push_flags(out: &mut Tail, font: FontStyle) -> Result<(), AllocError>
     ensures front { out.new.front ≡ out.old.front }
@@ -163,7 +163,7 @@ pub(crate) fn continues(before: Style, style: Style, text: &str) -> bool
     same_style(style, before) || (same_color(style.background, before.background) && is_blank(text))
 }
 
-/// Puts the tag last that opens a span of a style.
+/// Appends the tag that opens a span of a style.
 pub(crate) fn push_tag(
     out: &mut Tail,
     bg: IncludeBackground,
@@ -181,8 +181,8 @@ pub(crate) fn push_tag(
     Ok(())
 }
 
-/// Puts a line of styled pieces last, as spans with inline styles. A piece of white space goes into the span before it
-/// where the colour behind it is the same. Without memory the text is as it was.
+/// Appends a line of styled pieces, as spans with inline styles. A piece of white space goes into
+/// the span before it where the colour behind it is the same. Without memory the text is as it was.
 pub fn append_highlighted_html_for_styled_line(
     v: &[(Style, &str)],
     bg: IncludeBackground,

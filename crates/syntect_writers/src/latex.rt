@@ -6,7 +6,7 @@ use crate::html::same_style;
 use std::alloc::{AllocError, Global};
 use syntect_theme::style::{Color, Style};
 
-/// Puts a character last as LaTeX shows it.
+/// Appends a character as LaTeX shows it.
 fn push_char(out: &mut String, c: char) -> Result<(), AllocError>
     ensures { OnOk result (string_bytes out.new ≡ string_bytes out.old
         ++ encode_utf8_all (latex_char c)) }
@@ -17,7 +17,7 @@ fn push_char(out: &mut String, c: char) -> Result<(), AllocError>
     out.push(c)
 }
 
-/// Puts a text last as LaTeX shows it.
+/// Appends a text as LaTeX shows it.
 fn push_text(out: &mut String, text: &str) -> Result<(), AllocError>
     ensures { OnOk result (string_bytes out.new ≡ string_bytes out.old ++ latex_text text.now) }
 {
@@ -35,7 +35,7 @@ fn push_color(out: &mut String, style: Style) -> Result<(), AllocError>
     write!(out, "\\textcolor[RGB]{{{r},{g},{b}}}{{")
 }
 
-/// Puts a piece last behind the group of a style. Answers the style of the group that is then open.
+/// Appends a piece after the group of a style. Answers the style of the group that is then open.
 fn push_piece(
     out: &mut String,
     last: Option<Style>,
@@ -65,9 +65,9 @@ fn push_piece(
     Ok(style)
 }
 
-/// Styled pieces as LaTeX shows them, a group of `\textcolor[RGB]` for each stretch of one style. Behind the first piece
-/// a space alone stays in the group before it, and a newline alone is left out. The text ends with the last group, also
-/// where there are no pieces.
+/// Styled pieces as LaTeX shows them, a group of `\textcolor[RGB]` for each stretch of one style.
+/// After the first piece a space alone stays in the group before it, and a newline alone is left
+/// out. The text ends with the last group, also where there are no pieces.
 pub fn as_latex_escaped(alloc: Global, v: &[(Style, &str)]) -> Result<String, AllocError>
     ensures { IfOk result (λ t. string_bytes t ≡ latex_behind None v.now) }
 {

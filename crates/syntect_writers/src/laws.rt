@@ -11,8 +11,8 @@ pub fn escapes_show_the_text()
     ensures harmless { (text : List ℕ) → list_all is_harmless (escaped text) ≡ true }
 {}
 
-/// The lines of a text join to it; none is empty, each but the last ends with a newline, and a newline stands nowhere
-/// else in them.
+/// The lines of a text join to it; none is empty, each but the last ends with a newline, and a
+/// newline stands nowhere else in them.
 pub fn lines_join()
     ensures joined { (text : List ℕ) → concat (lines_of text) ≡ text }
     ensures ended { (text : List ℕ) → are_lines (lines_of text) ≡ true }

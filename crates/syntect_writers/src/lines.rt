@@ -7,7 +7,8 @@ use crate::text::split_line;
 
 /// The lines of a text, each with the newline that ends it.
 ///
-/// They join to the text, and none is empty; all but the last end with a newline, and it stands nowhere else in them.
+/// They join to the text, and none is empty; all but the last end with a newline, and it stands
+/// nowhere else in them.
 #[derive(Clone, Copy, Debug)]
 pub struct LinesWithEndings<'a> {
     input: &'a str,

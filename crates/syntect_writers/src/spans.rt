@@ -21,12 +21,12 @@ struct Tag {
     text: String,
 }
 
-/// Writes the lines of a page as spans. It keeps the tags of the first styles that it meets, so that each of these is put
-/// together once and not at each span.
+/// Writes the lines of a page as spans. It keeps the tags of the first styles that it meets, so
+/// that each of these is put together once and not at each span.
 #[derive(Drop)]
 pub struct SpanWriter {
     ground: IncludeBackground,
-    /// So many tags are kept at the most.
+    /// How many tags are kept at most.
     most: usize,
     kept: Vec<Tag>,
 }
@@ -73,7 +73,7 @@ fn tag_of(alloc: Global, ground: IncludeBackground, style: Style) -> Result<Stri
 }
 
 impl SpanWriter {
-    /// A writer of spans that tell the colour behind their text so. Takes no memory.
+    /// A writer of spans that give the colour behind their text so. Takes no memory.
     pub fn new(alloc: Global, bg: IncludeBackground) -> SpanWriter
         ensures { result ≡ bg }
     {
@@ -84,7 +84,8 @@ impl SpanWriter {
         }
     }
 
-    /// The same, where no tag is worth keeping. It never takes memory of its own.
+    /// A writer of spans that give the colour behind their text so, where no tag is worth keeping.
+    /// It never takes memory of its own.
     pub(crate) fn of_one_line(alloc: Global, bg: IncludeBackground) -> SpanWriter
         ensures { result ≡ bg }
     {
@@ -118,7 +119,7 @@ impl SpanWriter {
         Ok(())
     }
 
-    /// Puts the tag last that opens a span of a style.
+    /// Appends the tag that opens a span of a style.
     fn open_span(&mut self, out: &mut Tail, style: Style) -> Result<(), AllocError>
         ensures kept { self.new ≡ self.old }
         ensures front { out.new.front ≡ out.old.front }
@@ -131,7 +132,8 @@ impl SpanWriter {
         push_tag(out, self.ground, style)
     }
 
-    /// Puts a piece last, behind those whose span is open. Answers the style of the span that is then open.
+    /// Appends a piece, after those whose span is open. Answers the style of the span
+    /// that is then open.
     fn push_piece(
         &mut self,
         out: &mut Tail,
@@ -159,7 +161,7 @@ impl SpanWriter {
         }
     }
 
-    /// Puts a line of pieces last, as spans.
+    /// Appends a line of pieces, as spans.
     fn push_line(&mut self, out: &mut Tail, v: &[(Style, &str)]) -> Result<(), AllocError>
         ensures kept { self.new ≡ self.old }
         ensures front { out.new.front ≡ out.old.front }
@@ -177,8 +179,8 @@ impl SpanWriter {
         Ok(())
     }
 
-    /// Puts a line of styled pieces last, as `append_highlighted_html_for_styled_line` does. Without memory the text is as
-    /// it was.
+    /// Appends a line of styled pieces, as `append_highlighted_html_for_styled_line` does. Without
+    /// memory the text is as it was.
     pub fn append(&mut self, v: &[(Style, &str)], s: &mut String) -> Result<(), AllocError>
         ensures kept { self.new ≡ self.old }
         ensures ok { OnOk result

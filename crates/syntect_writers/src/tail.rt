@@ -1,4 +1,4 @@
-//! A text that is written behind another one.
+//! A text that is written after another one.
 ghost use Rattle.std.specs.Prelude.{◌≡◌, ◌++◌, [], string_bytes, encode_utf8, OnOk};
 ghost use Rattle.syntect_writers.specs.Entities.{escaped};
 
@@ -7,7 +7,8 @@ use crate::text::split_plain;
 use std::alloc::AllocError;
 use std::marker::Model;
 
-/// A text and what is written behind it. Whatever is refused, the text in front stays and can be had again.
+/// A text and what is written after it. Whatever is refused, the text in front stays and can be
+/// taken out again.
 #[derive(Drop)]
 pub(crate) struct Tail {
     text: String,
@@ -31,7 +32,7 @@ impl Model for Tail {
 }
 
 impl Tail {
-    /// Nothing behind a text. Takes no memory.
+    /// Nothing after a text. Takes no memory.
     #[tactic(auto, using(crate::proofs::TailLaws::ends_whole))]
     pub(crate) fn behind(text: String) -> Tail
         ensures front { result.front ≡ string_bytes text }
@@ -58,7 +59,7 @@ impl Tail {
         text
     }
 
-    /// Puts a text last.
+    /// Appends a text.
     pub(crate) fn push_str(&mut self, part: &str) -> Result<(), AllocError>
         ensures front { self.new.front ≡ self.old.front }
         ensures back { OnOk result (self.new.back ≡ self.old.back ++ part.now) }
@@ -66,7 +67,7 @@ impl Tail {
         self.text.push_str(part)
     }
 
-    /// Puts a character last.
+    /// Appends a character.
     pub(crate) fn push(&mut self, c: char) -> Result<(), AllocError>
         ensures front { self.new.front ≡ self.old.front }
         ensures back { OnOk result (self.new.back ≡ self.old.back ++ encode_utf8 c) }
@@ -74,7 +75,7 @@ impl Tail {
         self.text.push(c)
     }
 
-    /// Puts a text last, as HTML has it.
+    /// Appends a text, as HTML has it.
     pub(crate) fn push_escaped(&mut self, text: &str) -> Result<(), AllocError>
         ensures front { self.new.front ≡ self.old.front }
         ensures back { OnOk result (self.new.back ≡ self.old.back ++ escaped text.now) }

@@ -30,7 +30,7 @@ fn blend(over: Color, under: Color) -> Color
     }
 }
 
-/// Puts the escape sequence of a colour last.
+/// Appends the escape sequence of a colour.
 fn push_sequence(out: &mut String, number: &str, color: Color) -> Result<(), AllocError>
     ensures { OnOk result (string_bytes out.new
         ≡ string_bytes out.old ++ sequence number.now color) }
@@ -47,7 +47,7 @@ fn push_sequence(out: &mut String, number: &str, color: Color) -> Result<(), All
     Ok(())
 }
 
-/// Puts a piece last.
+/// Appends a piece.
 fn push_piece(out: &mut String, style: Style, text: &str, bg: bool) -> Result<(), AllocError>
     ensures { OnOk result (string_bytes out.new
         ≡ string_bytes out.old ++ piece_text bg (style, text.entry)) }
@@ -59,7 +59,8 @@ fn push_piece(out: &mut String, style: Style, text: &str, bg: bool) -> Result<()
     out.push_str(text)
 }
 
-/// Puts styled pieces last, as `as_24_bit_terminal_escaped` shows them. Without memory a part of them may have been put there.
+/// Puts styled pieces last, as `as_24_bit_terminal_escaped` shows them. Without memory a part of
+/// them may have been put there.
 pub fn push_24_bit_terminal_escaped(
     out: &mut String,
     v: &[(Style, &str)],
@@ -73,9 +74,9 @@ pub fn push_24_bit_terminal_escaped(
     Ok(())
 }
 
-/// Styled pieces with the escape sequences of a terminal that has 24 bit colours; `bg` asks for the colours behind the
-/// text as well. What is not opaque is shown over the colour behind it. Nothing is put back to the terminal's own
-/// colours at the end.
+/// Styled pieces with the escape sequences of a terminal that has 24 bit colours; `bg` asks for the
+/// colours behind the text as well. What is not opaque is shown over the colour behind it. Nothing
+/// is put back to the terminal's own colours at the end.
 pub fn as_24_bit_terminal_escaped(
     alloc: Global,
     v: &[(Style, &str)],

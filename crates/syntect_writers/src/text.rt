@@ -6,9 +6,9 @@ ghost use Rattle.syntect_writers.specs.Text.{test_of, SplitsAtFirst, FirstLine};
 /// Which bytes a front has.
 #[derive(Clone, Copy)]
 pub(crate) enum Front {
-    /// Those that stand in HTML as they are.
+    /// The bytes that stand in HTML as they are.
     Plain,
-    /// Those before a newline.
+    /// The bytes before a newline.
     InLine,
 }
 
@@ -31,8 +31,8 @@ fn front_len(bytes: &[u8], front: Front) -> usize
     bytes.iter().take_while(|byte| is_in(front, **byte)).count()
 }
 
-/// The text before its first byte that has a meaning in HTML, that byte, and the text behind it; none without such a
-/// byte.
+/// The text before its first byte that has a meaning in HTML, that byte, and the text after it;
+/// none without such a byte.
 #[inline(always)]
 pub(crate) fn split_plain(text: &str) -> Option<(&str, u8, &str)>
     ensures { SplitsAtFirst text.now result }
@@ -45,7 +45,7 @@ pub(crate) fn split_plain(text: &str) -> Option<(&str, u8, &str)>
     Some((text.split_at(len).0, bytes[len], text.split_at(len + 1).1))
 }
 
-/// The first line with its newline, and the text behind it.
+/// The first line with its newline, and the text after it.
 #[inline(always)]
 pub(crate) fn split_line(text: &str) -> (&str, &str)
     ensures { FirstLine text.now result.0.now result.1.now }

@@ -24,7 +24,8 @@ at_place v place = option_map (λ p. (v, p)) place
 unfoldable pub part : ℕ → Rest → Read Node
 part depth t = if first t ∈ "[{" then flow depth t else read_map node.scalar (scalar false t)
 
--- a value that begins on this line and is no block map or list; the lines of a literal scalar reach the least column
+-- a value that begins on this line and is no block map or list; the lines of a literal scalar reach
+-- the least column
 unfoldable pub inline : ℕ → ℕ → Rest → Found Node
 inline depth least t =
     if first t ∈ "|" then literal least t >>= (λ s. at_place (node.scalar (Text s.0)) (next s.1))
@@ -57,8 +58,8 @@ module _ (line : ℕ → Rest → Found Node) (inner : ℕ → Place → Found N
   value_on column t (Some after) = next after >>= (λ p. below (has_value column p) column p)
   value_on column t None = line (column + 1) (after_run is_space t)
 
-  -- behind the `:` of a key at the column: a value on the line; or below it a deeper node, or a list at the key's
-  -- column, or nothing
+  -- after the `:` of a key at the column: a value on the line; or below it a deeper node, or a list
+  -- at the key's column, or nothing
   unfoldable pub value : ℕ → Rest → Found Node
   value column t = value_on column t (line_tail false t)
 
@@ -68,7 +69,8 @@ module _ (line : ℕ → Rest → Found Node) (inner : ℕ → Place → Found N
       let n = prefix_len is_space t in
       inner (column + 1) (record { column = column + 1 + n; rest = drop n t })
 
-  -- behind the `-` of an item at the column: a node on the line, at its own column; or below it a deeper node, or nothing
+  -- after the `-` of an item at the column: a node on the line, at its own column; or below it a
+  -- deeper node, or nothing
   unfoldable pub item : ℕ → Rest → Found Node
   item column t = item_on column t (line_tail false t)
 
@@ -76,7 +78,8 @@ module _ (line : ℕ → Rest → Found Node) (inner : ℕ → Place → Found N
   items_on more true found p = more found (drop 1 p.rest)
   items_on more false found p = Some (found, p)
 
-  -- the rest of a list at the column, of fewer than n items, after those found, from behind a `-` on
+  -- the rest of a list at the column, of fewer than n items, after those found, from just after a
+  -- `-` on
   unfoldable pub items : ℕ → ℕ → Items → Rest → Found Items
   items column zero found t = None
   items column (suc n) found t =
@@ -88,8 +91,8 @@ module _ (line : ℕ → Rest → Found Node) (inner : ℕ → Place → Found N
   entries_on more true found p = key false p.rest >>= (λ k. more found k.0 k.1)
   entries_on more false found p = Some (found, p)
 
-  -- the rest of a map at the column, of fewer than n entries, after those found, from behind the key and its `:` on;
-  -- no key comes twice
+  -- the rest of a map at the column, of fewer than n entries, after those found, from just after
+  -- the key and its `:` on; no key comes twice
   unfoldable pub entries : ℕ → ℕ → Entries → Scalar → Rest → Found Entries
   entries column zero found k t = None
   entries column (suc n) found k t =

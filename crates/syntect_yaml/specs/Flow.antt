@@ -15,11 +15,11 @@ abbrev pub gap_on : Rest → Option Rest → Option Rest
 gap_on t (Some after) = option_map (λ p. p.rest) (next after)
 gap_on t None = Some (after_run is_space t)
 
--- the next part: behind spaces, or behind what is left of this line, and lines that are passed over
+-- the next part: after spaces, or after what is left of this line, and lines that are passed over
 unfoldable pub gap : Rest → Option Rest
 gap t = gap_on t (line_tail false t)
 
--- behind a part its comma is passed; the closing mark stays
+-- after a part its comma is passed; the closing mark stays
 unfoldable pub after_part : ℕ → Rest → Option Rest
 after_part closing t =
     gap t >>= (λ u. if first u ∈ "," then Some (drop 1 u) else if first u == closing then Some u
@@ -34,7 +34,7 @@ module _ (value : Rest → Read Node) where
       if first u ∈ "]" then Some (found, drop 1 u)
       else value u >>= (λ v. after_part 93 v.1 >>= items n (push_item found v.0)))
 
-  -- the value of an entry, behind its `:`
+  -- the value of an entry, after its `:`
   unfoldable pub entry_value : Rest → Read Node
   entry_value t = gap t >>= value
 

@@ -68,8 +68,8 @@ ends_line t =
 abbrev pub after_line : Rest → Rest
 after_line t = drop 1 (after_run is_in_line t)
 
--- A comment begins behind n characters of white space, of which the last is a space. The flag says that it may begin
--- with the first visible character.
+-- A comment begins after n characters of white space, of which the last is a space. The flag says
+-- that it may begin with the first visible character.
 abbrev pub opens_comment : Bool → ℕ → Rest → Bool
 opens_comment at_once n t = slice_index t n ∈ "#" && (at_once || slice_index t (n - 1) == space)
 
@@ -94,8 +94,9 @@ abbrev pub seek_on : (Rest → Option Place) → Rest → Option Rest → Option
 seek_on more t (Some after) = more after
 seek_on more t None = indented t
 
--- The first visible character from a line's start on, in one of fewer than n lines. Blank lines are passed over, and
--- lines whose first visible character begins a comment. At the text's end nothing is left to read.
+-- The first visible character from a line's start on, in one of fewer than n lines. Blank lines are
+-- passed over, and lines whose first visible character begins a comment. At the text's end nothing
+-- is left to read.
 unfoldable pub seek : ℕ → Rest → Option Place
 seek zero t = None
 seek (suc n) [] = Some (record { column = 0; rest = [] })
@@ -121,6 +122,6 @@ unmarked p = if p.column == 0 && is_marker p.rest then None else Some p
 unfoldable pub next : Rest → Option Place
 next t = seek (suc (length t)) t >>= unmarked
 
--- the first visible character behind something that ends on this line
+-- the first visible character after something that ends on this line
 unfoldable pub next_line : Rest → Option Place
 next_line t = line_tail false t >>= next

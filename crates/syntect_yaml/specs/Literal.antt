@@ -12,8 +12,8 @@ text_column (suc n) (c ∷ t) =
     let k = prefix_len is_space (c ∷ t) in
     if ends_line (drop k (c ∷ t)) then text_column n (after_line (c ∷ t)) else Some k
 
--- A line belongs to the text from this column on where it reaches the column, or is blank. A marker in the first column
--- belongs to no text.
+-- A line belongs to the text from this column on where it reaches the column, or is blank. A marker
+-- in the first column belongs to no text.
 unfoldable pub belongs : ℕ → Rest → Bool
 belongs column t =
     let k = prefix_len is_space t in
@@ -58,7 +58,8 @@ abbrev pub closed : List ℕ → List ℕ
 closed [] = []
 closed (c ∷ text) = (c ∷ text) ++ line_feed ∷ []
 
--- the text with the end that the header asks for: with `+` as it is, with `-` without a line feed, else with one
+-- the text with the end that the header asks for: with `+` as it is, with `-` without a line feed,
+-- else with one
 abbrev pub chomped : ℕ → List ℕ → List ℕ
 chomped mark text =
     if mark ∈ "+" then text else if mark ∈ "-" then stripped text else closed (stripped text)
@@ -70,7 +71,8 @@ text_from mark least t (Some column) =
     then option_map (λ p. (chomped mark p.0, p.1)) (lines column (suc (length t)) t)
     else Some ([], t)
 
--- the text from the line below the header on, whose lines reach the least column; none of them is no text
+-- the text from the line below the header on, whose lines reach the least column; none of them is
+-- no text
 abbrev pub text : ℕ → ℕ → Rest → Read (List ℕ)
 text mark least t = text_from mark least t (text_column (suc (length t)) t)
 

@@ -26,7 +26,7 @@ Reads f r expected = Gives (λ p. (f p.0, p.1.now)) r expected
 abbrev pub Shortens : {A : Type 0} → List ℕ → Result (A × Bor (List ℕ)) Refusal → Type 0
 Shortens t r = IfOk r (λ p. length p.1.now < length t)
 
--- the same of a value and the place behind it
+-- the same of a value and the place after it
 abbrev pub Finds : {A B : Type 0} → (A → B) → Result (A × Spot) Refusal → Option (B × Place)
     → Type 0
 Finds f r expected = Gives (λ p. (f p.0, place_of p.1)) r expected

@@ -7,7 +7,8 @@ use Rattle.syntect_yaml.specs.declared.read.LinePlace.{LinePlace}
 abbrev pub begins_character : ℕ → Bool
 begins_character b = nat_lt b 128 || nat_le 192 b
 
--- the place behind these bytes: one line for each line feed, one column for each character behind the last, both from 1 on
+-- the place after these bytes: one line for each line feed, one column for each character after the
+-- last, both from 1 on
 pub record IsPlaceBehind (before : List ℕ) (place : LinePlace) : Type 0 where
   pub line : place.line ≡ count_by (λ b. b == 10) before + 1
   pub column : place.column ≡ count_by begins_character (after_last (λ b. b == 10) before) + 1

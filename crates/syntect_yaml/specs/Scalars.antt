@@ -31,8 +31,8 @@ begins_plain t =
 abbrev pub ends_key : Bool → Rest → Bool
 ends_key flow t = (ends_line t || first t == space) || (flow && is_flow_mark (first t))
 
--- A plain scalar ends before this: at the line's end, before a comment, in flow before a mark, and before a `:` that
--- ends a key. The second flag says that a space stands before.
+-- A plain scalar ends before this: at the line's end, before a comment, in flow before a mark, and
+-- before a `:` that ends a key. The second flag says that a space stands before.
 unfoldable pub ends_plain : Bool → Bool → Rest → Bool
 ends_plain flow spaced t =
     ends_line t || ((spaced && first t ∈ "#")
@@ -105,7 +105,7 @@ single (suc n) t =
     else if slice_index u 1 ∈ "'" then prepend (front ++ codes "'") (single n (drop 2 u))
     else Some (front, drop 1 u)
 
--- the character that one behind a backslash stands for
+-- the character that one after a backslash stands for
 abbrev pub escaped : ℕ → Option ℕ
 escaped c =
     if c ∈ "\\\"/ " then Some c
@@ -137,7 +137,7 @@ hex_character n t =
     let c = digits_value 16 (take n t) in
     if nat_le n (prefix_len is_hex t) && is_scalar c then Some (c, drop n t) else None
 
--- the character that stands behind a backslash
+-- the character that comes after a backslash
 unfoldable pub escape : Rest → Read ℕ
 escape t =
     if nat_lt 0 (digit_count (first t)) then hex_character (digit_count (first t)) (drop 1 t)
@@ -162,7 +162,7 @@ scalar flow t =
     else if first t ∈ "\"" then option_map (λ p. (Text p.0, p.1)) (double (length t) (drop 1 t))
     else plain flow t
 
--- what follows the `:` behind a key, where one stands
+-- what follows the `:` after a key, where one stands
 unfoldable pub after_colon : Bool → Rest → Option Rest
 after_colon flow t =
     let u = drop (prefix_len is_white t) t in

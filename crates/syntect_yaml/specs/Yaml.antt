@@ -11,7 +11,8 @@ unfoldable pub unmasked : Rest → Rest
 unmasked t =
     if (first t == 0xEF && slice_index t 1 == 0xBB) && slice_index t 2 == 0xBF then drop 3 t else t
 
--- what the line at a place is before the node: one that begins with `%`, or `---`, or the node's first
+-- what the line at a place is before the node: one that begins with `%`, or `---`,
+-- or the node's first
 abbrev pub heading : Place → Heading
 heading p =
     if p.column == 0 && first p.rest ∈ "%" then Directive
@@ -23,8 +24,8 @@ begin_on more directed p Directive = more (after_line p.rest)
 begin_on more directed p Start = next (after_line p.rest)
 begin_on more directed p Body = if directed then None else unmarked p
 
--- where the node begins: fewer than n lines that begin with `%` and then a line `---` may stand before it; the flag says
--- that one with `%` did
+-- where the node begins: fewer than n lines that begin with `%` and then a line `---` may stand
+-- before it; the flag says that one with `%` did
 unfoldable pub begin : ℕ → Bool → Rest → Option Place
 begin zero directed t = None
 begin (suc n) directed t =

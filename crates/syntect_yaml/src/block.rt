@@ -110,7 +110,7 @@ fn below(
     }
 }
 
-/// The value of an entry, behind its `:`.
+/// The value of an entry, after its `:`.
 #[cycle(block)]
 fn value(
     alloc: Global,
@@ -135,7 +135,7 @@ fn value(
     }
 }
 
-/// An item, behind its `-`.
+/// An item, after its `-`.
 #[cycle(block)]
 fn item(alloc: Global, text: &str, column: usize, depth: usize) -> Result<(Yaml, Spot<'_>), Refusal>
     requires { column + 1 + length text.now < 2 ^ 63 }
@@ -162,7 +162,7 @@ fn item(alloc: Global, text: &str, column: usize, depth: usize) -> Result<(Yaml,
     }
 }
 
-/// The rest of a list, from behind a `-` on.
+/// The rest of a list, from just after a `-` on.
 #[cycle(block)]
 fn items(
     alloc: Global,
@@ -191,7 +191,7 @@ fn items(
     }
 }
 
-/// The rest of a map, from behind a key and its `:` on.
+/// The rest of a map, from just after a key and its `:` on.
 #[cycle(block)]
 fn entries(
     alloc: Global,

@@ -38,7 +38,7 @@ impl<T: Drop> From<AllocFailed<T>> for ReadError {
 /// Why a part of a text was not read.
 #[derive(Clone, Copy)]
 pub(crate) enum Refusal {
-    /// It is refused, so many bytes before the text's end.
+    /// The text is refused, so many bytes before its end.
     At(usize),
     /// Memory ran out.
     Memory,

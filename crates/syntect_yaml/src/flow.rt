@@ -29,7 +29,7 @@ fn gap(text: &str) -> Result<&str, Refusal>
     }
 }
 
-/// Behind a part its comma is passed.
+/// After a part its comma is passed.
 #[tactic(auto, unfolding(crate::specs::Flow::after_part))]
 fn after_part(text: &str, closing: u8) -> Result<&str, Refusal>
     ensures value { Gives (λ u. u.now) result (flow.after_part closing text.now) }
@@ -122,7 +122,7 @@ fn items(alloc: Global, text: &str, depth: usize) -> Result<(Vec<Yaml>, &str), R
     }
 }
 
-/// The value of an entry, behind its `:`.
+/// The value of an entry, after its `:`.
 #[cycle(flow)]
 fn entry_value(alloc: Global, text: &str, depth: usize) -> Result<(Yaml, &str), Refusal>
     ensures value { Reads view result (flow.entry_value (flow.flow depth) text.now) }

@@ -1,7 +1,7 @@
 //! The YAML of grammars: a text's one value, if it has one.
 //!
-//! A part of YAML is read, as its definition in `specs/` has it: block and flow maps and lists, plain and quoted
-//! scalars, literal scalars and comments. Every other text has no value.
+//! A part of YAML is read, as its definition in `specs/` has it: block and flow maps and lists,
+//! plain and quoted scalars, literal scalars and comments. Every other text has no value.
 #![tactic(auto)]
 
 mod block;

@@ -89,7 +89,7 @@ pub(crate) fn next(text: &str) -> Option<Spot<'_>>
     unmarked(seek(text)?)
 }
 
-/// The first visible character behind something that ends on this line.
+/// The first visible character after something that ends on this line.
 #[tactic(auto, unfolding(crate::specs::Lines::next_line))]
 pub(crate) fn next_line(text: &str) -> Option<Spot<'_>>
     ensures value { option_map place_of result ≡ lines.next_line text.now }
@@ -98,8 +98,8 @@ pub(crate) fn next_line(text: &str) -> Option<Spot<'_>>
     next(line_tail(text, false)?)
 }
 
-/// From a line's start on, the first line that has more than white space and a comment: where nothing is read from here on, it is
-/// the one that cannot be read.
+/// From a line's start on, the first line that has more than white space and a comment: where
+/// nothing is read from here on, it is the one that cannot be read.
 pub(crate) fn next_visible(text: &str) -> &str
     ensures { length result.now ≤ length text.now }
 {
@@ -113,8 +113,8 @@ pub(crate) fn next_visible(text: &str) -> &str
     rest
 }
 
-/// What cannot be read behind something that ends on this line: the line below that has more than white space and a comment, or
-/// else what is left of this one.
+/// What cannot be read after something that ends on this line: the line below that has more than
+/// white space and a comment, or else what is left of this one.
 pub(crate) fn unread_behind(text: &str) -> &str
     ensures { length result.now ≤ length text.now }
 {

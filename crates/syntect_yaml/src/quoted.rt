@@ -33,7 +33,7 @@ fn single(alloc: Global, text: &str) -> Result<(Text, &str), Refusal>
     }
 }
 
-/// The character that one behind a backslash stands for.
+/// The character that one after a backslash stands for.
 fn escaped(byte: u8) -> Option<char>
     ensures { result ≡ scalars.escaped byte }
 {
@@ -89,7 +89,7 @@ fn hex_character(text: &str, n: usize) -> Option<(char, &str)>
     Some((c, rest))
 }
 
-/// The character that stands behind a backslash.
+/// The character that comes after a backslash.
 #[tactic(auto, unfolding(crate::specs::Scalars::escape))]
 fn escape(text: &str) -> Option<(char, &str)>
     ensures value { option_map (λ p. (p.0, p.1.now)) result ≡ scalars.escape text.now }
@@ -147,7 +147,7 @@ pub(crate) fn scalar(alloc: Global, text: &str, flow: bool) -> Result<(Scalar, &
     plain(alloc, text, flow)
 }
 
-/// What follows the `:` behind a key, where one stands.
+/// What follows the `:` after a key, where one stands.
 #[tactic(auto, unfolding(crate::specs::Scalars::after_colon))]
 pub(crate) fn after_colon(text: &str, flow: bool) -> Option<&str>
     ensures value { option_map (λ u. u.now) result ≡ scalars.after_colon flow text.now }

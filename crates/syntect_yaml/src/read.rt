@@ -21,9 +21,9 @@ const DEEPEST: usize = 100;
 /// What a line is before the node.
 #[derive(Clone, Copy)]
 pub(crate) enum Heading {
-    /// It begins with `%`.
+    /// The line begins with `%`.
     Directive,
-    /// It is `---`.
+    /// The line is `---`.
     Start,
     /// The node begins with it.
     Body,
@@ -131,7 +131,7 @@ fn begins_character(byte: u8) -> bool
     byte < 0x80 || byte >= 0xC0
 }
 
-/// What stands behind the last line feed.
+/// What comes after the last line feed.
 fn last_line(bytes: &[u8]) -> &[u8]
     ensures { result.now ≡ after_last (λ b. b == 10) bytes.now }
 {
@@ -142,7 +142,7 @@ fn last_line(bytes: &[u8]) -> &[u8]
     bytes.split_at(from).1
 }
 
-/// The place behind these bytes.
+/// The place after these bytes.
 #[tactic(auto, using(crate::proofs::RefusedLaws::fits))]
 fn place_behind(before: &[u8]) -> LinePlace
     ensures { IsPlaceBehind before.now result }
@@ -158,7 +158,8 @@ fn place_behind(before: &[u8]) -> LinePlace
     }
 }
 
-/// Where a text is refused, if it has no value: at the latest part that could not be read. A byte order mark has no column.
+/// Where a text is refused, if it has no value: at the latest part that could not be read. A byte
+/// order mark has no column.
 pub fn refused_at(alloc: Global, text: &str) -> Result<Option<LinePlace>, AllocError>
     ensures refused { IfOk result (λ place. IsSome place ↔ (yaml_of text.now ≡ None)) }
     ensures place { IfOk result (λ found. IfSome found (IsPlaceIn (yaml.unmasked text.now))) }

@@ -109,7 +109,7 @@ pub(crate) fn after_line(text: &str) -> &str
     }
 }
 
-/// Whether a comment begins behind white space of `n` bytes.
+/// Whether a comment begins after white space of `n` bytes.
 #[inline]
 fn opens_comment(bytes: &[u8], n: usize, at_once: bool) -> bool
     ensures { result ≡ lines.opens_comment at_once n bytes.now }

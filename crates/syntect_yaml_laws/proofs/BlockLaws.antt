@@ -97,7 +97,7 @@ dash_opens t = record { byte = 45; more = 32 ∷ t; is = refl; passes = refl; ba
 
 -- ---- items
 
--- behind one space
+-- after one space
 behind_space : (t : Rest) → Opens t → (line_tail false (32 ∷ t) ≡ None) × (prefix_len is_space t ≡ 0)
 behind_space t b =
     let stand : stands b.byte ≡ true = line_stands b.byte b.passes in
@@ -171,7 +171,7 @@ literal_holds column literal s e =
     (grind (arith, nat_tests), parts.1)
 
 module _ (style : List ℕ → Style) where
-  -- ---- values that begin behind their keys
+  -- ---- values that begin after their keys
 
   -- what is found where such a value stands
   abbrev IsPart : ℕ → ℕ → Rest → Node → Place → Type 0

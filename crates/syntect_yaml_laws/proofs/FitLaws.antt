@@ -139,7 +139,7 @@ module _ (depth : ℕ) (value : Rest → Read Node) (each : (t : Rest) → IfSom
   unfolding entry_value
   entry_value_fits t = elim (cases_Option (gap t)) [ inl e ↦ rw e tt | inr u ↦ rw u.1 (each u.0) ]
 
-  -- one entry, and what is read behind it
+  -- one entry, and what is read after it
   entry_fits : (more : Entries → Rest → Read Entries) (found : Entries) (u : Rest) → EntriesFit found → entries_nesting found ≤ depth
       → ((es : Entries) (t : Rest) → EntriesFit es → entries_nesting es ≤ depth → IfSome (more es t) (EntriesWithin depth))
       → IfSome (key true u >>= (λ k. if has_key k.0 found then None else entry_value value k.1 >>= (λ v. after_part 125 v.1 >>= more (push_entry found k.0 v.0)))) (EntriesWithin depth)

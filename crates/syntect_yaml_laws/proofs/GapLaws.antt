@@ -53,7 +53,7 @@ value_stands c h = grind (arith, nat_tests)
 pub value_opens : (c : ℕ) → opens_value c ≡ true → ((c == 93) ≡ false) × ((c == 125) ≡ false)
 value_opens c h = (grind (arith, nat_tests), grind (arith, nat_tests))
 
--- behind a part, a comma or the mark that closes
+-- after a part, a comma or the mark that closes
 pub comma_passed : (closing : ℕ) (t : Rest) → after_part closing (44 ∷ t) ≡ Some t
 unfolding after_part
 comma_passed closing t = rw (gap_here 44 t refl)

@@ -89,7 +89,7 @@ module _ (style : List ℕ → Style) where
   abbrev entries_after : ℕ → Entries → Rest → Rest
   entries_after column es t = more_entries_lines style column es ++ t
 
-  -- what stands behind the colon of a key
+  -- what comes after the colon of a key
   abbrev value_rest : ℕ → Node → Rest → Rest
   value_rest column v t = before_value (column + 2) v ++ (block_text style (column + 2) v ++ t)
 

@@ -24,7 +24,7 @@ scalar_opens c h = grind (arith, nat_tests)
 scalar_begun : (t : List ℕ) → Begins opens_scalar t → Begins opens_value t
 scalar_begun t b = record { byte = b.byte; more = b.more; is = b.is; passes = scalar_opens b.byte b.passes; signed = b.signed }
 
--- a value's text, here or behind a space
+-- a value's text, here or after a space
 begun_here : (t : Rest) → Begins opens_value t → gap t ≡ Some t
 begun_here t b = rw b.is (gap_here b.byte b.more (value_stands b.byte b.passes))
 
@@ -98,7 +98,7 @@ module _ (style : List ℕ → Style) where
   value_begins (list vs) fits = record { byte = 91; more = items_text style vs ++ (93 ∷ []); is = refl; passes = refl; signed = λ e. absurd (omega arith) }
   value_begins (map es) fits = record { byte = 123; more = entries_text style es ++ (125 ∷ []); is = refl; passes = refl; signed = λ e. absurd (omega arith) }
 
-  -- what is left of a list behind a value, and behind its comma too
+  -- what is left of a list after a value, and after its comma too
   abbrev items_left : Items → Rest → Rest
   items_left vs t = more_items_text style vs ++ (93 ∷ t)
 
@@ -200,7 +200,7 @@ module _ (style : List ℕ → Style) where
   entry_begins : (k : Scalar) (v : Node) (es : Entries) (t : Rest) → ScalarFits k → Begins opens_value (entry_left k v es t)
   entry_begins k v es t fits = scalar_begun _ (begins_more opens_scalar (scalar_text style k) (58 ∷ 32 ∷ (flow_text style v ++ entries_left es t)) (scalar_begins style k fits))
 
-  -- an entry behind what was found, after a gap
+  -- an entry after what was found, after a gap
   entry_read : (depth n : ℕ) (found : Entries) (k : Scalar) (v : Node) (es : Entries) (s t : Rest) → ScalarFits k → Fits v → has_key k found ≡ false → 0 < n
       → gap s ≡ Some (entry_left k v es t) → flow depth (flow_text style v ++ entries_left es t) ≡ Some (v, entries_left es t)
       → entries (flow depth) n found s ≡ entries (flow depth) (n - 1) (push_entry found k v) (entries_next es t)

@@ -37,7 +37,7 @@ unfolding double
 pass zero c t e = refl
 pass (suc m) c t e = rw (e, one-add) (piece_onto m c (split_run is_double t).0 (split_run is_double t).1)
 
--- a byte behind a backslash, or by its number
+-- a byte after a backslash, or by its number
 slash : (m c : ℕ) (u t : Rest) → escape u ≡ Some (c, t) → double (suc m) (92 ∷ u) ≡ prepend (encode_utf8 c) (double m t)
 unfolding double
 slash m c u t e = rw e

@@ -141,7 +141,7 @@ found_at n c t h bare =
     let marked : (n == 0 && is_marker (c ∷ t)) ≡ false = rw (no_marker c t h bare) (never (n == 0)) in
     rw (seek_stands (suc (length line)) line (omega arith) some (tail_indented n c t stand), place_indented n c t stand, marked)
 
--- a node behind spaces at a line's start
+-- a node after spaces at a line's start
 pub node_below : (n : ℕ) (t : Rest) → Opens t → next (indent n ++ t) ≡ Some (record { column = n; rest = t })
 node_below n t b = rw b.is (found_at n b.byte b.more b.passes b.bare)
 

@@ -17,7 +17,7 @@ stands_literal column single_quotes s = false
 stands_literal column double_quotes s = false
 stands_literal column literal s = nat_lt 0 column && is_literal s
 
--- the value begins behind its key: a scalar, or a list or map without parts
+-- the value begins after its key: a scalar, or a list or map without parts
 abbrev pub is_short : Node → Bool
 is_short (scalar s) = true
 is_short (list no_items) = true
@@ -49,13 +49,13 @@ module _ (style : List ℕ → Style) where
     block_text column (list vs) = items_lines column vs
     block_text column (map es) = entries_lines column es
 
-    -- an item is a minus, a space and the value, which begins behind them
+    -- an item is a minus, a space and the value, which begins after them
     pub items_lines : ℕ → Items → List ℕ
     items_lines column no_items = codes "[]\n"
     items_lines column (item v vs) =
         codes "- " ++ (block_text (column + 2) v ++ more_items_lines column vs)
 
-    -- those behind the first, each on a line that begins with spaces
+    -- those after the first, each on a line that begins with spaces
     pub more_items_lines : ℕ → Items → List ℕ
     more_items_lines column no_items = []
     more_items_lines column (item v vs) =
@@ -71,7 +71,7 @@ module _ (style : List ℕ → Style) where
         ++ (before_value (column + 2) v
         ++ (block_text (column + 2) v ++ more_entries_lines column es)))
 
-    -- those behind the first, each on a line that begins with spaces
+    -- those after the first, each on a line that begins with spaces
     pub more_entries_lines : ℕ → Entries → List ℕ
     more_entries_lines column no_entries = []
     more_entries_lines column (entry k v es) =

@@ -28,7 +28,7 @@ module _ (style : List ℕ → Style) where
     items_text no_items = []
     items_text (item v vs) = flow_text v ++ more_items_text vs
 
-    -- those behind the first
+    -- those after the first
     pub more_items_text : Items → List ℕ
     more_items_text no_items = []
     more_items_text (item v vs) = codes ", " ++ (flow_text v ++ more_items_text vs)
@@ -40,7 +40,7 @@ module _ (style : List ℕ → Style) where
     entries_text (entry k v es) =
         scalar_text k ++ (codes ": " ++ (flow_text v ++ more_entries_text es))
 
-    -- those behind the first
+    -- those after the first
     pub more_entries_text : Entries → List ℕ
     more_entries_text no_entries = []
     more_entries_text (entry k v es) =

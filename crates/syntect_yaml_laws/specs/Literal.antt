@@ -19,7 +19,7 @@ ends_in_feed [] = false
 ends_in_feed (c ∷ []) = c == 10
 ends_in_feed (c ∷ d ∷ s) = ends_in_feed (d ∷ s)
 
--- the text ends with one line feed alone, behind something else
+-- the text ends with one line feed alone, after something else
 abbrev pub ends_in_one_feed : List ℕ → Bool
 ends_in_one_feed [] = false
 ends_in_one_feed (c ∷ []) = false

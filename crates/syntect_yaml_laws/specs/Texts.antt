@@ -58,7 +58,7 @@ single_quoted_text s = codes "'" ++ (flat_map single_byte_text s ++ codes "'")
 abbrev pub hex_digit : ℕ → ℕ
 hex_digit n = if nat_lt n 10 then 48 + n else 55 + n
 
--- a byte in double quotes: such a quote or a backslash behind a backslash, a control character by
+-- a byte in double quotes: such a quote or a backslash after a backslash, a control character by
 -- its number in two digits, each other byte as it is
 abbrev pub double_byte_text : ℕ → List ℕ
 double_byte_text c =

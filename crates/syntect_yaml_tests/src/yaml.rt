@@ -361,7 +361,8 @@ const PLACES: [(&str, usize, usize); 14] = [
     ("a: 1\n# é\nb: 'é' x", 3, 8),
     ("\u{feff}a: 1\nb: &c 2", 2, 4),
     ("a: 1\nb: 2\na: 3", 3, 3),
-    // What stops a block stands in a line of its own: a tab as indentation, or the end of the document.
+    // What stops a block stands in a line of its own: a tab as indentation,
+    // or the end of the document.
     ("a: 1\n\tb: 2", 2, 1),
     ("a:\n\tb: 1", 2, 1),
     ("- é\n\n# c\n\t- b", 4, 1),

@@ -1,4 +1,4 @@
--- `none` makes a token that takes no bytes, at nought.
+-- `none` makes a token that takes no bytes, at zero.
 use mathlib.Core.Path.{refl}
 use mathlib.Core.List.{[], ◌∷◌}
 use mir.Syntax.{Fn}
