@@ -29,9 +29,11 @@ RefusesOperations stack ops e = ⊥
 abbrev pub text_so_far : ClassedHTMLGenerator → List ℕ
 text_so_far g = string_bytes g.html
 
+-- its stack of scopes, for each of which a span is open
 abbrev pub stack_in : ClassedHTMLGenerator → ScopeStack
 stack_in g = g.scope_stack
 
+-- where its reader stands: the state from which the next line is read
 abbrev pub state_in : ClassedHTMLGenerator → Standing
 state_in g = standing g.parse_state
 
@@ -39,6 +41,7 @@ state_in g = standing g.parse_state
 abbrev pub turns_in : ClassedHTMLGenerator → ℕ
 turns_in g = turns_made g.parse_state
 
+-- how many steps the searches of its reader took so far
 abbrev pub steps_in : ClassedHTMLGenerator → ℕ
 steps_in g = steps_made g.parse_state
 
@@ -46,9 +49,11 @@ steps_in g = steps_made g.parse_state
 abbrev pub set_in : ClassedHTMLGenerator → SyntaxSet
 set_in g = g.syntax_set.now
 
+-- the texts of atoms, by their numbers, that it makes classes of
 abbrev pub repository_in : ClassedHTMLGenerator → List (List ℕ)
 repository_in g = g.repository.now
 
+-- the class style: whether its classes have a prefix, and which one
 abbrev pub style_in : ClassedHTMLGenerator → ClassStyle
 style_in g = g.style
 

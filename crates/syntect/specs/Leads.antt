@@ -31,9 +31,11 @@ use Rattle.syntect_grammar.specs.declared.error.Error.TheVariants as error
 abbrev pub theme_of : HighlightLines → Theme
 theme_of h = h.highlighter
 
+-- its styles: the stack of scopes after the lines so far, and what is known of their styles
 abbrev pub styles_of : HighlightLines → HighlightState
 styles_of h = h.highlight_state
 
+-- its reader: the parse state from which the next line is read
 abbrev pub reader_of : HighlightLines → ParseState
 reader_of h = h.parse_state
 
@@ -56,6 +58,7 @@ abbrev pub UnlessWanting : Type 0 → Error → Type 0
 UnlessWanting P error.Memory = Unit {0}
 UnlessWanting P e = P
 
+-- this holds, whether the result is an answer or an error, unless memory ran out
 abbrev pub UnlessMemory : {X : Type 0} → Result X Error → Type 0 → Type 0
 UnlessMemory (Ok x) P = P
 UnlessMemory (Err e) P = UnlessWanting P e

@@ -26,6 +26,7 @@ pub record Row : Type 0 where
   pub scopes : List (List (List ℕ))
   pub pieces : List (Style × Bor (List ℕ))
 
+-- the lines of rows, in order
 abbrev pub lines_in : List Row → List (List ℕ)
 lines_in rows = map (λ row. row.line) rows
 
@@ -45,6 +46,7 @@ pub record AreShown (set : SyntaxSet) (theme : Theme) (syntax : SyntaxReference)
   pub joins : AreJoined rows
   pub styled : RunsOrderly set syntax (lines_in rows) → AreStyled theme rows
 
+-- the answers to the lines of rows: each line is accepted, with its row's scopes
 abbrev pub answers_in : List Row → List Answer
 answers_in rows = map (λ row. Accepted row.scopes) rows
 

@@ -14,6 +14,7 @@ stands first c =
 abbrev pub identifier_char : Bool → ℕ → List ℕ
 identifier_char first c = if stands first c then c ∷ [] else 92 ∷ (digits 16 false c ++ 32 ∷ [])
 
+-- characters one after another as an identifier has them, the first as one that begins it
 abbrev pub identifier_chars : List ℕ → List ℕ
 identifier_chars [] = []
 identifier_chars (c ∷ cs) = identifier_char true c ++ flat_map (identifier_char false) cs

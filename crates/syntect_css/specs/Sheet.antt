@@ -65,6 +65,7 @@ abbrev pub flag_lines : Option FontStyle → List ℕ
 flag_lines None = []
 flag_lines (Some font) = font_lines font
 
+-- the lines for a text colour, a background colour and a font, of those that there are
 abbrev pub declarations : Option Color → Option Color → Option FontStyle → List ℕ
 declarations foreground background font =
     color_line (codes " color: ") foreground
@@ -86,6 +87,7 @@ abbrev pub rule_under : List (List ℕ) → StyleModifier → List ℕ
 rule_under [] style = []
 rule_under (p ∷ ps) style = joined_by (codes ", ") (p ∷ ps) ++ rule_body style
 
+-- a theme's item as a rule under its selectors that have a path, or nothing where none has one
 abbrev pub rule_text : List ℕ → List (List ℕ) → ThemeItem → List ℕ
 rule_text prefix repo item = rule_under (path_selectors prefix repo item.scope.selectors) item.style
 

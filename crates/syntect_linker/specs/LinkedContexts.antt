@@ -12,12 +12,14 @@ use Rattle.syntect_contexts.specs.declared.context.Pattern.TheVariants.{Match, I
 use Rattle.syntect_contexts.specs.declared.context.Context.{Context}
 use Rattle.syntect_contexts.specs.declared.syntax_reference.SyntaxReference.{SyntaxReference}
 
+-- an operation of the syntax of this index, with each of its references linked
 abbrev pub linked_operation : List SyntaxReference → ℕ → MatchOperation → MatchOperation
 linked_operation heads index (op.Push refs) = op.Push (map (linked_reference heads index) refs)
 linked_operation heads index (op.Set refs) = op.Set (map (linked_reference heads index) refs)
 linked_operation heads index op.Pop = op.Pop
 linked_operation heads index op.None = op.None
 
+-- a match pattern with its references linked: those of its operation, and its `with_prototype`
 abbrev pub linked_match : List SyntaxReference → ℕ → MatchPattern → MatchPattern
 linked_match heads index m =
     record m {
@@ -25,6 +27,7 @@ linked_match heads index m =
       with_prototype = option_map (linked_reference heads index) m.with_prototype;
     }
 
+-- a pattern of a context, a match or an include, with its references linked
 abbrev pub linked_pattern : List SyntaxReference → ℕ → Pattern → Pattern
 linked_pattern heads index (Match m) = Match (linked_match heads index m)
 linked_pattern heads index (Include r) = Include (linked_reference heads index r)

@@ -29,6 +29,7 @@ last_that test (x ∷ xs) =
 abbrev pub has_scope : List ℕ → SyntaxReference → Bool
 has_scope scope s = pointwise ◌==◌ s.scope scope
 
+-- whether a syntax has this name
 abbrev pub has_name : List ℕ → SyntaxReference → Bool
 has_name name s = pointwise ◌==◌ s.name name
 

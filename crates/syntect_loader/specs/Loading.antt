@@ -27,12 +27,15 @@ use Rattle.syntect_loader.specs.declared.definition.SyntaxDefinition.{SyntaxDefi
 abbrev pub prototype_name : List ℕ
 prototype_name = codes "prototype"
 
+-- the name of the context that every grammar has to define
 abbrev pub main_name : List ℕ
 main_name = codes "main"
 
+-- the name of the context that reading begins in
 abbrev pub start_name : List ℕ
 start_name = codes "__start"
 
+-- the name of the context that the start pushes, and that includes `main`
 abbrev pub outer_name : List ℕ
 outer_name = codes "__main"
 
@@ -40,6 +43,7 @@ outer_name = codes "__main"
 abbrev pub enter : List ℕ → Reading → Reading
 enter name s = record s { top = name; begun = [] }
 
+-- a context is read, if there are a name and items; at first all but `prototype` want a prototype
 abbrev pub top_context : Option (List ℕ) → Option (List Node) → Step (List ℕ)
 top_context (Some name) (Some items) =
     λ s. named_context (context deepest) name (not (bytes_eq name prototype_name)) items
@@ -51,6 +55,7 @@ top_context None items = give []
 abbrev pub top_entry : List ℕ → Scalar × Node → Step (List ℕ)
 top_entry found e = top_context (text_of e.0) (list_in e.1) >>= λ name. give []
 
+-- the top contexts among these entries are read, in order
 abbrev pub top_contexts : List (Scalar × Node) → Step (List ℕ)
 top_contexts es = each top_entry [] es
 
@@ -93,6 +98,7 @@ around_main top_scope main others =
     (put outer_name (outer_context main)
     (put start_name (start_context top_scope) others))
 
+-- these contexts with this `main` in its last form, and with those of the start
 abbrev pub with_start : List ℕ → Context → List (List ℕ × Context) → List (List ℕ × Context)
 with_start top_scope main contexts =
     around_main top_scope main (remove_entry (is_at (slice_cmp nat_cmp main_name)) contexts)
@@ -103,17 +109,21 @@ with_start top_scope main contexts =
 abbrev pub texts_in : Option (List Node) → List (List ℕ)
 texts_in items = unwrap_or (option_map (filter_map text_in) items) []
 
+-- the texts at `file_extensions`, and after them those at `hidden_file_extensions`
 abbrev pub extensions : Node → List (List ℕ)
 extensions v =
     texts_in (at list_in (codes "file_extensions") v)
     ++ texts_in (at list_in (codes "hidden_file_extensions") v)
 
+-- the text at `name`, else the fallback, else `Unnamed`
 abbrev pub name_of : Node → Option (List ℕ) → List ℕ
 name_of v fallback = unwrap_or (at text_in (codes "name") v) (unwrap_or fallback (codes "Unnamed"))
 
+-- the truth value at `hidden`, else false
 abbrev pub is_hidden : Node → Bool
 is_hidden v = unwrap_or (at truth_in (codes "hidden") v) false
 
+-- the variables found, with this text at this name, where there are both
 abbrev pub variable : List (List ℕ × List ℕ) → Option (List ℕ) → Option (List ℕ)
     → List (List ℕ × List ℕ)
 variable found (Some name) (Some text) = insert_entry (slice_cmp nat_cmp) found name text
@@ -125,6 +135,7 @@ abbrev pub variables_from : List (List ℕ × List ℕ) → List (Scalar × Node
 variables_from found [] = found
 variables_from found (e ∷ es) = variables_from (variable found (text_of e.0) (text_in e.1)) es
 
+-- the variables of a grammar: those entries at `variables` that are of text to text
 abbrev pub variables_at : Node → List (List ℕ × List ℕ)
 variables_at v = variables_from [] (unwrap_or (at map_in (codes "variables") v) [])
 
@@ -159,13 +170,16 @@ abbrev pub of_kind : {A : Type 0} → Option A → Result A Refusal
 of_kind None = Err wrong_kind
 of_kind (Some a) = Ok a
 
+-- the value at a key, refused where it is missing, and where it is of another kind
 abbrev pub wanted_by : {A : Type 0} → (Node → Option A) → List ℕ → Option Node → Result A Refusal
 wanted_by kind key None = Err (missing key)
 wanted_by kind key (Some v) = of_kind (kind v)
 
+-- the entries of the map that has to stand at `contexts`
 abbrev pub contexts_at : Node → Result (List (Scalar × Node)) Refusal
 contexts_at v = wanted_by map_in (codes "contexts") (get (codes "contexts") v)
 
+-- the text that has to stand at `scope`
 abbrev pub scope_text_at : Node → Result (List ℕ) Refusal
 scope_text_at v = wanted_by text_in (codes "scope") (get (codes "scope") v)
 
@@ -179,6 +193,7 @@ read_contexts v =
     (top_contexts contexts >>= λ none.
     give top_scope))))
 
+-- the definition of these contexts around this `main`, refused where there is none
 abbrev pub finished_with : Node → List (List ℕ × List ℕ) → Option (List ℕ) → List ℕ
     → List (List ℕ × Context) → Option Context → Result SyntaxDefinition Refusal
 finished_with v variables fallback top_scope contexts None = Err no_main
@@ -192,11 +207,13 @@ finished v variables fallback top_scope contexts =
     finished_with v variables fallback top_scope contexts
     (lookup (is_at (slice_cmp nat_cmp main_name)) contexts)
 
+-- a definition, and the repository that its reading leaves; or the refusal
 abbrev pub leaving : List (List ℕ) → Result SyntaxDefinition Refusal
     → Result (SyntaxDefinition × List (List ℕ)) Refusal
 leaving repository (Ok d) = Ok (d, repository)
 leaving repository (Err r) = Err r
 
+-- the answer, from what reading the contexts gave: a definition and the repository, or a refusal
 abbrev pub finish : Node → Option (List ℕ) → Result (List ℕ × Reading) Refusal
     → Result (SyntaxDefinition × List (List ℕ)) Refusal
 finish v fallback (Err r) = Err r
@@ -210,6 +227,7 @@ definition_of v lines_include_newline fallback repository =
     finish v fallback (read_contexts v (nothing_read
     (variables_at v) lines_include_newline repository))
 
+-- the definition of a text's value, refused where the text has no value, or has no node
 abbrev pub definition_in : Option (Option Node) → Bool → Option (List ℕ) → List (List ℕ)
     → Result (SyntaxDefinition × List (List ℕ)) Refusal
 definition_in None lines_include_newline fallback repository = Err no_value

@@ -31,6 +31,7 @@ anonymous top n = codes "#anon_" ++ top ++ codes "_" ++ decimal n
 abbrev pub begin_as : List ℕ → Step (List ℕ)
 begin_as name s = Ok (name, record s { begun = s.begun ++ name ∷ [] })
 
+-- the next context inside of a top context begins, numbered by how many have begun there before
 abbrev pub begin : Step (List ℕ)
 begin s = begin_as (anonymous s.top (length s.begun)) s
 
@@ -38,6 +39,7 @@ begin s = begin_as (anonymous s.top (length s.begun)) s
 abbrev pub put : List ℕ → Context → List (List ℕ × Context) → List (List ℕ × Context)
 put name c contexts = insert_entry (slice_cmp nat_cmp) contexts name c
 
+-- a step that records a context under this name, and finds the name
 abbrev pub keep : List ℕ → Context → Step (List ℕ)
 keep name c s = Ok (name, record s { contexts = put name c s.contexts })
 
@@ -48,12 +50,14 @@ abbrev pub amount : ℤ → ClearAmount
 amount (pos n) = TopN n
 amount (negsuc n) = TopN (2 ^ 64 - 1)
 
+-- the amount that a number says, else all scopes for `true`, else no amount
 abbrev pub cleared_by : Option Bool → Option ℤ → Option ClearAmount
 cleared_by truth (Some z) = Some (amount z)
 cleared_by (Some true) None = Some All
 cleared_by (Some false) None = None
 cleared_by None None = None
 
+-- the amount that an item's `clear_scopes` says, if it says one
 abbrev pub cleared : Node → Option ClearAmount
 cleared m =
     cleared_by (at truth_in (codes "clear_scopes") m) (at number_in (codes "clear_scopes") m)
@@ -74,6 +78,7 @@ or_else (Some x) b = Some x
 abbrev pub wants_prototype : Node → Bool → Bool
 wants_prototype m before = unwrap_or (at truth_in (codes "meta_include_prototype") m) before
 
+-- the context with what this item sets; what the item doesn't set stays as it was
 abbrev pub set : Context → Node → Step Context
 set c m =
     perhaps scopes c.meta_scope (at text_in (codes "meta_scope") m) >>= λ whole.
@@ -105,6 +110,7 @@ with_match c m =
       patterns = c.patterns ++ Match m ∷ [];
     }
 
+-- the context with an include of this reference, after its other patterns
 abbrev pub with_include : Context → ContextReference → Context
 with_include c r = record c { patterns = c.patterns ++ Include r ∷ [] }
 
@@ -116,6 +122,7 @@ captures_at m tested =
     perhaps (λ es. captures tested es >>= λ cs. give (Some cs)) None
     (at map_in (codes "captures") m)
 
+-- the text of the pattern at `match`, which has to be there, to be a text and to be a pattern
 abbrev pub pattern_by : Option Node → Reading → Result (List ℕ) Refusal
 pattern_by None s = Err (missing (codes "match"))
 pattern_by (Some v) s = raw_pattern (text_in v) s
@@ -133,9 +140,11 @@ pattern_at m s = pattern_by (get (codes "match") m) s
 -- over how a context without a name of its own is read from its items,
 -- and whether it wants a prototype
 module _ (inner : Bool → List Node → Step (List ℕ)) where
+  -- a reference to the context that is read from these items, by the name that it is given
   abbrev pub inline : Bool → List Node → Step ContextReference
   inline wants_prototype items = inner wants_prototype items >>= λ name. give (Inline name)
 
+  -- a reference by a text, else to the context of a list of items; refused where there is neither
   abbrev pub reference_by : Bool → Option (List ℕ) → Option (List Node) → Step ContextReference
   reference_by with_escape (Some text) items = text_reference with_escape text
   reference_by with_escape None (Some items) = inline true items
@@ -145,6 +154,7 @@ module _ (inner : Bool → List Node → Step (List ℕ)) where
   abbrev pub reference : Bool → Node → Step ContextReference
   reference with_escape v = reference_by with_escape (text_in v) (list_in v)
 
+  -- the references found, with that of this value after them
   abbrev pub add_reference : List ContextReference → Node → Step (List ContextReference)
   add_reference found v = reference false v >>= λ r. give (found ++ r ∷ [])
 
@@ -163,9 +173,11 @@ module _ (inner : Bool → List Node → Step (List ℕ)) where
       (reference true v >>= λ r.
       give (op.Push (out ∷ r ∷ [])))
 
+  -- the operation of an `embed` with this value, in an item that has to have an `escape` too
   abbrev pub embedded : Node → Node → Step MatchOperation
   embedded m v = embedded_until m v (get (codes "escape") m)
 
+  -- the operation of the first of these that there is: a pop, a push, a set, an embed, or none
   abbrev pub operation_by : Node → Option Node → Option Node → Option Node → Option Node
       → Step MatchOperation
   operation_by m (Some pop) push set embed = give op.Pop
@@ -180,12 +192,14 @@ module _ (inner : Bool → List Node → Step (List ℕ)) where
       operation_by m (get (codes "pop") m) (get (codes "push") m) (get (codes "set") m)
       (get (codes "embed") m)
 
+  -- a reference to a context that leaves ahead of the `escape`, a text; none without an `escape`
   abbrev pub ahead_of : Option Node → Step (Option ContextReference)
   ahead_of None = give None
   ahead_of (Some escape) =
       known wrong_kind (text_in escape) >>= λ text.
       (inline false (ahead_items text) >>= λ r. give (Some r))
 
+  -- a reference to a context of these items, else to one that leaves ahead of the `escape`, if any
   abbrev pub prototype_by : Option (List Node) → Option Node → Step (Option ContextReference)
   prototype_by (Some items) escape = inline false items >>= λ r. give (Some r)
   prototype_by None escape = ahead_of escape
@@ -211,6 +225,7 @@ module _ (inner : Bool → List Node → Step (List ℕ)) where
         with_prototype = p;
       })))))
 
+  -- the context with one more pattern: an include of this value, else the match that the item is
   abbrev pub entry_by : Context → Node → Option Node → Step Context
   entry_by c m (Some v) = reference false v >>= λ r. give (with_include c r)
   entry_by c m None = match m >>= λ p. give (with_match c p)
@@ -219,6 +234,7 @@ module _ (inner : Bool → List Node → Step (List ℕ)) where
   abbrev pub item_of : Context → Node → Step Context
   item_of c m = if is_setting m then set c m else entry_by c m (get (codes "include") m)
 
+  -- the context after one more of its items, which has to be a map
   abbrev pub item : Context → Node → Step Context
   item c v = known wrong_kind (map_in v) >>= λ es. item_of c v
 

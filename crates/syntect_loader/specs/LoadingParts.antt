@@ -23,6 +23,7 @@ use Rattle.syntect_contexts.specs.declared.context.ContextReference.TheVariants.
 abbrev pub with_repository : List (List ℕ) → Reading → Reading
 with_repository repository s = record s { repository = repository }
 
+-- the scopes of these texts in this repository, which is kept from here on; or the refusal
 abbrev pub scopes_unless : Option ParseScopeError → List (List ℕ) → List (List ℕ) → Step Scopes
 scopes_unless (Some e) repository texts s = Err (no_scope e)
 scopes_unless None repository texts s =
@@ -34,6 +35,7 @@ scopes text s =
     scopes_unless (first_refusal s.repository (words text)) (with_scopes s.repository (words text))
     (words text) s
 
+-- the scope of this text in this repository, which is kept from here on; or the refusal
 abbrev pub scope_unless : Option ParseScopeError → List (List ℕ) → List ℕ → Step (List ℕ)
 scope_unless (Some e) repository text s = Err (no_scope e)
 scope_unless None repository text s = Ok (scope_in repository text, with_repository repository s)
@@ -72,6 +74,7 @@ is_outside (Some false) = true
 is_outside (Some true) = false
 is_outside None = false
 
+-- the number, where the text is a pattern with a group of this number outside lookarounds
 abbrev pub group_outside : List ℕ → Option ℕ → Option ℕ
 group_outside text None = None
 group_outside text (Some n) =
@@ -82,6 +85,7 @@ group_outside text (Some n) =
 abbrev pub capture_group : List ℕ → Scalar → Option ℕ
 capture_group text key = group_outside text (natural (number_of key))
 
+-- the captures found, and one more where there are a group and a text that names scopes
 abbrev pub add_capture : List (ℕ × Scopes) → Option ℕ → Option (List ℕ) → Step (List (ℕ × Scopes))
 add_capture found (Some group) (Some text) = scopes text >>= λ ss. give (found ++ (group, ss) ∷ [])
 add_capture found (Some group) None = give found
@@ -97,6 +101,7 @@ captures text es = each (capture text) [] es
 
 -- ---- references by text ----
 
+-- a reference by the text of a scope; without one by a file's name, else by a context's
 abbrev pub reference_unless : Option (List ℕ) → Bool → List ℕ → Option (List ℕ)
     → Step ContextReference
 reference_unless (Some text) with_escape name sub =

@@ -63,6 +63,7 @@ Keeps before after = (old : List (List ℕ)) → Begins old before → Begins ol
 
 -- ---- steps ----
 
+-- a step: from what has been read so far, what it finds and what has been read then; or a refusal
 abbrev pub Step : Type 0 → Type 0
 Step A = Reading → Result (A × Reading) Refusal
 
@@ -70,9 +71,11 @@ Step A = Reading → Result (A × Reading) Refusal
 abbrev pub give : {A : Type 0} → A → Step A
 give a s = Ok (a, s)
 
+-- a step that refuses, whatever has been read
 abbrev pub refuse : {A : Type 0} → Refusal → Step A
 refuse r s = Err r
 
+-- the step that f makes of what was found, from what has been read; a refusal stays
 abbrev pub on : {A B : Type 0} → Result (A × Reading) Refusal → (A → Step B)
     → Result (B × Reading) Refusal
 on (Ok p) f = f p.0 p.1
@@ -80,6 +83,7 @@ on (Err r) f = Err r
 
 -- one step after another
 infixl 10 ◌>>=◌
+-- the step m, and then the one that f makes of what m finds; if m refuses, that is the answer
 abbrev pub ◌>>=◌ : {A B : Type 0} → Step A → (A → Step B) → Step B
 m >>= f = λ s. on (m s) f
 
@@ -88,6 +92,7 @@ abbrev pub found_in : {A : Type 0} → Result A Refusal → Step A
 found_in (Ok a) s = Ok (a, s)
 found_in (Err r) s = Err r
 
+-- what f finds in what has been read so far, without reading more
 abbrev pub finding : {A : Type 0} → (Reading → Result A Refusal) → Step A
 finding f s = found_in (f s) s
 

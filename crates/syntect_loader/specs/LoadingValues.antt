@@ -15,6 +15,7 @@ abbrev pub values : Items → List Node
 values no_items = []
 values (item v vs) = v ∷ values vs
 
+-- the entries of a map, in order
 abbrev pub pairs : Entries → List (Scalar × Node)
 pairs no_entries = []
 pairs (entry k v es) = (k, v) ∷ pairs es
@@ -23,15 +24,19 @@ pairs (entry k v es) = (k, v) ∷ pairs es
 abbrev pub text_in : Node → Option (List ℕ)
 text_in v = option_and_then text_of (as_scalar v)
 
+-- the truth value that a value is, if it is one
 abbrev pub truth_in : Node → Option Bool
 truth_in v = option_and_then truth_of (as_scalar v)
 
+-- the number that a value is, if it is one
 abbrev pub number_in : Node → Option ℤ
 number_in v = option_and_then number_of (as_scalar v)
 
+-- the values of a list, if the value is a list
 abbrev pub list_in : Node → Option (List Node)
 list_in v = option_map values (as_list v)
 
+-- the entries of a map, if the value is a map
 abbrev pub map_in : Node → Option (List (Scalar × Node))
 map_in v = option_map pairs (as_map v)
 
@@ -45,6 +50,7 @@ at kind key v = option_and_then kind (get key v)
 abbrev pub parts : ℕ → List ℕ → List (List ℕ)
 parts c text = slice_split (λ b. b == c) text
 
+-- the last of these texts, or t where there are none
 abbrev pub last_of : List ℕ → List (List ℕ) → List ℕ
 last_of t [] = t
 last_of t (u ∷ us) = last_of u us
@@ -53,12 +59,15 @@ last_of t (u ∷ us) = last_of u us
 abbrev pub head : List ℕ → List ℕ
 head text = unwrap_or (slice_get (parts 35 text) 0) []
 
+-- the text after the first `#`, up to the second or to the end, if there is a `#`
 abbrev pub sub_context : List ℕ → Option (List ℕ)
 sub_context text = slice_get (parts 35 text) 1
 
+-- what a reference by scope begins with
 abbrev pub scope_mark : List ℕ
 scope_mark = codes "scope:"
 
+-- what the name of a grammar's file ends with
 abbrev pub file_ending : List ℕ
 file_ending = codes ".sublime-syntax"
 
@@ -83,13 +92,16 @@ file_name text = without_ending (last_of [] (parts 47 text))
 
 -- ---- lists of references ----
 
+-- the value is a map
 abbrev pub is_map : Node → Bool
 is_map v = is_some (as_map v)
 
+-- the list has no member
 abbrev pub is_empty : {A : Type 0} → List A → Bool
 is_empty [] = true
 is_empty (x ∷ xs) = false
 
+-- the list has a first value, and it passes the test
 abbrev pub begins_with : (Node → Bool) → List Node → Bool
 begins_with p [] = false
 begins_with p (v ∷ vs) = p v
@@ -109,14 +121,17 @@ abbrev pub is_several : Node → Bool
 is_several =
     is_list_with (begins_with (λ v. is_some (text_in v) || is_list_with (begins_with is_map) v))
 
+-- the value is a list that begins with an empty list, and so names no context
 abbrev pub is_none : Node → Bool
 is_none = is_list_with (begins_with (is_list_with is_empty))
 
 -- ---- values that the loader makes ----
 
+-- the value that is this text
 abbrev pub text_node : List ℕ → Node
 text_node text = scalar (Text text)
 
+-- the value that is this truth value
 abbrev pub truth_node : Bool → Node
 truth_node b = scalar (Truth b)
 
@@ -125,6 +140,7 @@ abbrev pub entries_of : List (List ℕ × Node) → Entries
 entries_of [] = no_entries
 entries_of (e ∷ es) = entry (Text e.0) e.1 (entries_of es)
 
+-- the value that is a map of these entries, in order
 abbrev pub map_node : List (List ℕ × Node) → Node
 map_node es = node.map (entries_of es)
 
@@ -133,6 +149,7 @@ abbrev pub perhaps_entry : List ℕ → Option Node → List (List ℕ × Node)
 perhaps_entry key None = []
 perhaps_entry key (Some v) = (key, v) ∷ []
 
+-- a map of this one entry, where there is a value for it
 abbrev pub perhaps_map : List ℕ → Option Node → List Node
 perhaps_map key None = []
 perhaps_map key (Some v) = map_node ((key, v) ∷ []) ∷ []

@@ -107,6 +107,7 @@ comments_at vars =
 
 -- ---- patterns ----
 
+-- a pair of patterns, each of which may be missing
 abbrev pub pair : Option (List ℕ) → Option (List ℕ) → Pair
 pair first second = record { first = first; second = second }
 
@@ -126,6 +127,7 @@ patterns_of d =
 
 -- ---- items ----
 
+-- the items of these patterns, this `indentParens`, and these variables and comments
 abbrev pub items_with : Patterns → Option Bool → Comments → MetadataItems
 items_with patterns parens comments = record {
   increase_indent_pattern = patterns.indents.first;

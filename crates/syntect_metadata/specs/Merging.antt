@@ -58,6 +58,7 @@ pub record Merged : Type 0 where
   pub settings : Members
   pub variables : Option Members
 
+-- before any entry: no settings, and no variables
 abbrev pub nothing : Merged
 nothing = record { settings = no_members; variables = None }
 

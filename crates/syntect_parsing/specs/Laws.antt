@@ -86,10 +86,12 @@ longest_in [] = 1
 longest_in (Match m ∷ ps) = max (option_map_or length (list_of m.operation) 0) (longest_in ps)
 longest_in (Include r ∷ ps) = longest_in ps
 
+-- how many contexts one match of these contexts' patterns can open at most, and at least 1
 abbrev pub longest_of : List Context → ℕ
 longest_of [] = 1
 longest_of (c ∷ cs) = max (longest_in c.patterns) (longest_of cs)
 
+-- how many contexts one match can open at most in these syntaxes' contexts, and at least 1
 abbrev pub longest : List (List Context) → ℕ
 longest [] = 1
 longest (cs ∷ css) = max (longest_of cs) (longest css)

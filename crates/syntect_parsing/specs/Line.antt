@@ -143,6 +143,7 @@ start id =
 abbrev pub start_id : SyntaxReference → Option ContextId
 start_id syntax = named_in syntax.index syntax.names (codes "__start")
 
+-- the state that reading with a syntax begins with, if it has a `__start`
 abbrev pub start_of : SyntaxReference → Option Standing
 start_of syntax = option_map start (start_id syntax)
 

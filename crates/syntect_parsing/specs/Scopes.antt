@@ -14,9 +14,11 @@ pub record Capture : Type 0 where
   pub end : ℕ
   pub scopes : Scopes
 
+-- the byte at the place lies in the stretch of the capture
 abbrev pub covers : ℕ → Capture → Bool
 covers place c = nat_le c.start place && nat_lt place c.end
 
+-- the first of two captures is longer than the second
 abbrev pub is_longer : Capture → Capture → Bool
 is_longer c d = nat_lt (d.end - d.start) (c.end - c.start)
 
@@ -43,6 +45,7 @@ module _ (engine : Engine) where
       then Some (record { start = at.0; end = at.1; scopes = scopes })
       else None
 
+  -- the captures of a match that have effect, in the order of its pattern's list
   abbrev pub captures : Live → List Capture
   captures m =
       filter_map (λ entry. effect m entry.0 entry.1 (group_at m.groups entry.0))

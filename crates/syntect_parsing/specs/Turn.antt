@@ -44,6 +44,7 @@ new_levels set opening kept with_prototype (id ∷ []) =
 new_levels set opening kept with_prototype (id ∷ next ∷ ids) =
     new_level set opening id kept ∷ new_levels set opening [] with_prototype (next ∷ ids)
 
+-- a list without its last member
 abbrev pub without_last : {X : Type 0} → List X → List X
 without_last xs = take (length xs - 1) xs
 
@@ -85,6 +86,7 @@ abbrev pub idle_by : Position → ℕ → MatchOperation → ℕ
 idle_by p end operation =
     if end == p.place then p.idle + option_map_or (λ refs. 1) (list_of operation) 0 else 0
 
+-- what the next turn begins with, after a turn that took this match
 abbrev pub position_after : SyntaxSet → List ℕ → Position → Live → Position
 position_after set line p m =
     record {

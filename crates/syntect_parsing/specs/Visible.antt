@@ -20,6 +20,7 @@ use Rattle.syntect_winner.specs.declared.level.Level.{Level}
 abbrev pub top_clearing : SyntaxSet → List Level → Option ClearAmount
 top_clearing set levels = option_and_then (λ l. clearing set l.context) (last levels)
 
+-- these scopes of the top level's context, none where no level is open
 abbrev pub top_part : (Context → Scopes) → SyntaxSet → List Level → Scopes
 top_part part set levels = option_map_or (λ l. part_of part set l.context) (last levels) []
 

@@ -42,6 +42,7 @@ member_of (char c) = Some (one c)
 member_of (set a) = Some (many a)
 member_of _ = None
 
+-- a member of a class from just after its backslash on, where `\b` is U+0008, and what follows it
 unfoldable pub class_escape : Text → Option (Member × Text)
 class_escape t = if begins "b" t then Some (one 0x08, drop 1 t) else (do
   (e, rest) ← escape t
@@ -65,6 +66,7 @@ abbrev pub one_only : Member × Text → Option (ℕ × Text)
 one_only (one c, rest) = Some (c, rest)
 one_only (many a, rest) = None
 
+-- the character that ends a range, after the `-` at the front, and what follows; or none
 unfoldable pub range_end : Text → Option (ℕ × Text)
 range_end t = do
   begins "-" t
@@ -78,6 +80,7 @@ pub record Class : Type 0 where
   pub sides : Option Set
   pub side : Set
 
+-- the class with this set added to the side that is being read
 abbrev pub with_set : Class → Set → Class
 with_set c a = record c { side = either c.side a }
 
@@ -101,11 +104,13 @@ pub record Start : Type 0 where
   pub bracket : Bool
   pub rest : Text
 
+-- how a class starts, from just after its `[` on: perhaps `^`, and then perhaps a first `]`
 unfoldable pub start_of : Text → Start
 start_of t =
     let after = if begins "^" t then drop 1 t else t in
     record { caret = begins "^" t; bracket = begins "]" after; rest = after }
 
+-- a class of which nothing has been read yet
 abbrev pub empty_class : Class
 empty_class = record { sides = None; side = none }
 
@@ -113,6 +118,7 @@ empty_class = record { sides = None; side = none }
 pub data Next : Type 0 where
   closing intersecting nested posix plain : Next
 
+-- what stands next in a class: its end, `&&`, a POSIX bracket, a nested class, or anything else
 unfoldable pub next_in : Text → Next
 next_in t =
     if begins "]" t then closing
@@ -133,6 +139,7 @@ module _ (fold : Bool) where
   up_to low rest None = Some (from_to fold low low, rest)
   up_to low rest (Some (high, after)) = nat_le low high >> Some (from_to fold low high, after)
 
+  -- the set of a member, or of the range that it begins, and what follows
   abbrev pub ranged : Member × Text → Option (Set × Text)
   ranged (many a, rest) = Some (a, rest)
   ranged (one c, rest) = up_to c rest (range_end rest)
@@ -148,6 +155,7 @@ module _ (fold : Bool) where
     found ← named_set posix_names inside
     Some (negate_if caret found, rest)
 
+  -- a step that adds the set found to the class, and goes on with what follows it
   abbrev pub adds : Class → Option (Set × Text) → Option Step
   adds c found = found >>= λ (a, rest). Some (on (with_set c a) rest)
 
@@ -159,6 +167,7 @@ module _ (fold : Bool) where
   step inner c t posix = adds c (posix_item t)
   step inner c t plain = adds c (plain_item t)
 
+  -- after a step: the class, where it is over, and else what `more` reads from there
   abbrev pub after_step : (Class → Text → Option (Set × Text)) → Class → Step → Option (Set × Text)
   after_step more c (over rest) = Some (all_of c, rest)
   after_step more c (on c' rest) = more c' rest
@@ -168,6 +177,7 @@ module _ (fold : Bool) where
   first_item true t = adds empty_class (plain_item t)
   first_item false t = Some (on empty_class t)
 
+  -- the set found, negated where the class begins with `^`, and what follows it
   abbrev pub negates : Bool → Option (Set × Text) → Option (Set × Text)
   negates caret found = found >>= λ (a, rest). Some (negate_if caret a, rest)
 

@@ -43,6 +43,7 @@ pub record Quantifier : Type 0 where
   pub most : Option ℕ
   pub short : Bool
 
+-- the number that these digits write, or no limit where there are none
 abbrev pub limit : Text → Option ℕ
 limit digits = if is_empty digits then None else Some (value 10 digits)
 
@@ -58,6 +59,7 @@ count t = do
   not (is_empty low) || (comma && not (is_empty high))
   Some (record { least = value 10 low; most = if comma then limit high else limit low; short = false }, drop 1 close)
 
+-- the quantifier of one character, `*`, `+` or `?`, with these limits, and what follows it
 abbrev pub sign : ℕ → Option ℕ → Text → Option (Quantifier × Text)
 sign least most t = Some (record { least = least; most = most; short = true }, drop 1 t)
 
@@ -82,6 +84,7 @@ loop q a t =
     else if q.short && begins "+" t then (atomic (repeat true q.least q.most a), drop 1 t)
     else (repeat true q.least q.most a, t)
 
+-- the item with its quantifier, if there is one, which has to be allowed; and the place after it
 abbrev pub looped : Tree → Place → Option (Quantifier × Text) → Option (Tree × Place)
 looped a p None = Some (a, p)
 looped a p (Some (q, rest)) = do
@@ -119,6 +122,7 @@ flags_at flags t = do
   not (is_empty on && is_empty off)
   Some (turned false off (turned true on flags), after)
 
+-- what a parenthesis opens: a setting of flags, or a group
 pub data Opening : Type 0 where
   -- `(?i)`, which holds for the rest of the enclosing group
   setting : Opening
@@ -129,6 +133,7 @@ pub data Opening : Type 0 where
 abbrev pub numbered : Option Text → Place → Opening × Place
 numbered found p = (opens (group (suc (length p.names))), record p { names = p.names ++ found ∷ [] })
 
+-- the group has a name, and it is the wanted one
 abbrev pub has_name : Text → Option Text → Bool
 has_name wanted None = false
 has_name wanted (Some other) = pointwise nat_eq other wanted
@@ -140,6 +145,7 @@ named_group p = do
   not (list_any (has_name found) p.names)
   Some (numbered (Some found) (record p { text = after }))
 
+-- flags from just after `(?` on: `)` sets them for the rest of the group, `:` opens one with them
 unfoldable pub flag_group : Place → Option (Opening × Place)
 flag_group p = do
   (flags, after) ← flags_at p.flags p.text
@@ -168,12 +174,15 @@ pub record Body : Type 0 where
   pub before : List Tree
   pub items : List Tree
 
+-- a group of which nothing has been read yet
 abbrev pub empty_body : Body
 empty_body = record { before = []; items = [] }
 
+-- the group with one more item, at the end of the alternative that is being read
 abbrev pub with_item : Body → Tree → Body
 with_item b a = record b { items = b.items ++ a ∷ [] }
 
+-- the group after a `|`: the alternative read so far is over, and a new one begins
 abbrev pub next_alternative : Body → Body
 next_alternative b = record { before = b.before ++ seq_all b.items ∷ []; items = [] }
 
@@ -186,6 +195,7 @@ pub data Next : Type 0 where
   end bar closer opener bracket backslash dot caret dollar loops : Next
   plain : ℕ → Next
 
+-- what stands next, where the text begins with the character c; `plain` is c as itself
 unfoldable pub next_char : Text → ℕ → Next
 next_char t c =
     if c ∈ "|" then bar
@@ -199,6 +209,7 @@ next_char t c =
     else if is_some (quantifier t) then loops
     else plain c
 
+-- what stands next in the text, or that it ends
 abbrev pub next_of : Text → Next
 next_of [] = end
 next_of (c ∷ t) = next_char (c ∷ t) c
@@ -219,6 +230,7 @@ abbrev pub by_number : Option Names → Bool → ℕ → Option Tree
 by_number None fold n = Some nothing
 by_number (Some known) fold n = nat_le n (length known) >> Some (same fold n)
 
+-- a back reference by name, which a group has to have once the groups are known; the flag is i
 abbrev pub by_name : Option Names → Bool → Text → Option Tree
 by_name None fold wanted = Some nothing
 by_name (Some known) fold wanted = option_map (same fold) (number_of wanted known)
@@ -237,6 +249,7 @@ module _ (known : Option Names) where
   abbrev pub firm : Body → Tree → Place → Option Step
   firm b a p = Some (on (with_item b a) p)
 
+  -- the step for an escape: no quantifier may follow an anchor, and one may follow all else
   abbrev pub escaped : Body → Place → Escape → Option Step
   escaped b p (char c) = item b (one_of (from_to p.flags.fold c c)) p
   escaped b p (set a) = item b (one_of a) p
@@ -269,6 +282,7 @@ module _ (known : Option Names) where
   step inner depth b p dollar = firm b (anchor line_end) (forward 1 p)
   step inner depth b p (plain c) = item b (one_of (from_to p.flags.fold c c)) (forward 1 p)
 
+  -- after a step: the tree of the group, where it is over, and else what `more` reads from there
   abbrev pub after_step : (Body → Place → Option (Tree × Place)) → Body → Step → Option (Tree × Place)
   after_step more b (over p) = Some (tree_of_body b, p)
   after_step more b (on b' p) = more b' p

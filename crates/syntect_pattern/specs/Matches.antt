@@ -70,10 +70,12 @@ abbrev pub stay_unless : ℕ → Groups → List Member → List Member
 stay_unless i g [] = (i, g) ∷ []
 stay_unless i g (m ∷ rest) = []
 
+-- a lookaround stays at the place: where a member was found, or, negated, where none was
 abbrev pub look : Bool → ℕ → Groups → List Member → List Member
 look false i g found = stay i found
 look true i g found = stay_unless i g found
 
+-- the member, with group n set to what lies between i and the member's end
 abbrev pub close : ℕ → ℕ → Member → Member
 close n i (j, h) = (j, slice_set h n (Some (i, j)))
 
@@ -82,10 +84,12 @@ abbrev pub word_at : Option ℕ → Bool
 word_at None = false
 word_at (Some c) = is_word c
 
+-- one of the two is true, and the other is not
 abbrev pub differ : Bool → Bool → Bool
 differ true b = not b
 differ false b = b
 
+-- there is a character, and it is a newline
 abbrev pub is_newline : Option ℕ → Bool
 is_newline None = false
 is_newline (Some c) = c == 0x0A
@@ -96,6 +100,7 @@ equals true c d = same_fold c d
 equals false c d = c == d
 
 module _ (s : List ℕ) where
+  -- of the characters before and after the place just one is `\w`; one that is missing is not
   unfoldable pub is_word_edge : ℕ → Bool
   is_word_edge i = differ (word_at (char_before s i)) (word_at (char_at s i))
 
@@ -124,6 +129,7 @@ module _ (s : List ℕ) where
   ending_here body zero i g = ending_at i (body 0 g)
   ending_here body (suc k) i g = or_else (if is_boundary s (suc k) then ending_at i (body (suc k) g) else []) (ending_here body k i g)
 
+  -- the members of a tree from a place on with these groups, in order of priority
   abbrev pub matches : Tree → Way
   matches nothing i g = (i, g) ∷ []
   matches (one_of set) i g = past (holds set) (char_at s i) i g

@@ -3,6 +3,7 @@ use Rattle.ucd_category.specs.declared.GeneralCategoryGroup.TheVariants.{Letter,
 use Rattle.syntect_pattern.specs.Sets.{Set, range, category, categories, word, space, either, hex_digit}
 use Rattle.syntect_pattern.specs.declared.named.Named.{Named}
 
+-- the set that has this name
 abbrev pub set_of_named : Named → Set
 set_of_named (Named.Category k) = category k
 set_of_named (Named.Categories k) = categories k

@@ -8,6 +8,7 @@ use Rattle.syntect_pattern.specs.Matches.{Groups, matches, turns, found}
 abbrev pub Span : Type 0
 Span = ℕ × ℕ
 
+-- two spans are apart, or one lies in the other
 pub data AreNested (x y : Span) : Type 0 where
   is_before : x.1 ≤ y.0 → AreNested x y
   is_after : y.1 ≤ x.0 → AreNested x y

@@ -2,6 +2,7 @@
 use Rattle.std.specs.Prelude.{ℕ, zero, suc, ◌+◌, Bool, true, false, ◌&&◌, ◌||◌, List, [], ◌∷◌, ◌++◌, Option, Some, None, if◌then◌else◌, ◌==◌}
 use Rattle.syntect_pattern.specs.Sets.{Set}
 
+-- what an anchor asks of the place where it stands
 pub data Anchor : Type 0 where
   -- `^`, `$`
   line_start line_end : Anchor
@@ -10,6 +11,7 @@ pub data Anchor : Type 0 where
   -- `\b`, `\B`
   word_edge no_word_edge : Anchor
 
+-- a pattern as a tree: each part with the parts that it is made of
 pub data Tree : Type 0 where
   -- reads nothing
   nothing : Tree

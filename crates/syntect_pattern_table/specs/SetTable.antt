@@ -17,6 +17,7 @@ part_set before (Part.Either a b) =
     either (slice_index_or before a none) (slice_index_or before b none)
 part_set before (Part.Both a b) = both (slice_index_or before a none) (slice_index_or before b none)
 
+-- the sets of the parts before, and then that of each part in turn
 abbrev pub sets_from : List Set → List Part → List Set
 sets_from before [] = before
 sets_from before (p ∷ ps) = sets_from (before ++ part_set before p ∷ []) ps

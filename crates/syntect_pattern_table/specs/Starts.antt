@@ -39,6 +39,7 @@ abbrev mutual
   reads (ahead negated a) x = false
   reads (behind negated a) x = false
 
+  -- whether a match can be empty where this stands
   pub stays : Tree → ℕ → Bool
   stays nothing x = true
   stays (one_of a) x = false

@@ -32,6 +32,7 @@ node_tree before (Node.Atomic a) = atomic (slice_index_or before a nothing)
 node_tree before (Node.Ahead negated a) = ahead negated (slice_index_or before a nothing)
 node_tree before (Node.Behind negated a) = behind negated (slice_index_or before a nothing)
 
+-- the trees of the nodes before, and then that of each node in turn
 abbrev pub trees_from : List Tree → List Node → List Tree
 trees_from before [] = before
 trees_from before (n ∷ ns) = trees_from (before ++ node_tree before n ∷ []) ns

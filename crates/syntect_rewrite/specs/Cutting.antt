@@ -3,6 +3,7 @@ use Rattle.std.specs.Prelude.{ℕ, zero, suc, ◌+◌, ◌-◌, Bool, false, ◌
 use Rattle.std.specs.List.{prefix_len}
 use Prim.Native.String.{String}
 
+-- c is one of the numbers in this list
 abbrev pub is_among : ℕ → List ℕ → Bool
 is_among c [] = false
 is_among c (d ∷ []) = c == d
@@ -10,6 +11,7 @@ is_among c (d ∷ e ∷ rest) = c == d || is_among c (e ∷ rest)
 
 -- the byte is one of these characters
 infix 60 ◌∈◌
+-- c is one of the characters of s
 abbrev pub ◌∈◌ : ℕ → String → Bool
 c ∈ s = is_among c (codes s)
 

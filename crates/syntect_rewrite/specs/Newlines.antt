@@ -22,9 +22,11 @@ begins_optional t = starts_with ◌==◌ t (codes "(?:\\n)?")
 abbrev pub line_token_len : List ℕ → ℕ
 line_token_len t = if begins_optional t then 7 else token_len t
 
+-- the first token, for lines without a newline: `(?:$|)` in place of `(?:\n)?`
 abbrev pub line_token : List ℕ → Token
 line_token t = if begins_optional t then plain (codes "(?:$|)") else token t
 
+-- the tokens of a text, each `(?:\n)?` replaced by `(?:$|)`
 abbrev pub line_tokens : List ℕ → List Token
 line_tokens t = parts line_token_len line_token t
 
@@ -40,6 +42,7 @@ ended_token (plain s) after = if is_newline s && not (after ∈ "?+*") then code
 ended_token (class true s) after = if after ∈ "?" then s else codes "(?:" ++ s ++ codes "|$)"
 ended_token (class false s) after = s
 
+-- the text of these tokens, each as it is for lines that have no newline
 abbrev pub ended_tokens : List Token → List ℕ
 ended_tokens [] = []
 ended_tokens (k ∷ ks) = ended_token k (next ks) ++ ended_tokens ks

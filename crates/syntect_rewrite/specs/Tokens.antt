@@ -2,6 +2,7 @@
 use Rattle.std.specs.Prelude.{ℕ, ◌+◌, ◌-◌, Bool, false, not, ◌&&◌, ◌||◌, ◌==◌, if◌then◌else◌, List, [], ◌∷◌, length, take, drop, slice_index}
 use Rattle.syntect_rewrite.specs.Cutting.{◌∈◌, first, parts, sign_len, sign, signs}
 
+-- a token of a pattern's text: a sign, or a class in brackets
 pub data Token : Type 0 where
   -- a backslash with its next character, or one character
   plain : List ℕ → Token
@@ -42,6 +43,7 @@ has_newline depth (s ∷ ss) =
 unfoldable pub class_len : List ℕ → ℕ
 class_len t = opening_len t + rest_len 0 (signs (drop (opening_len t) t))
 
+-- the class at the front takes a newline: no `^` negates it, and `\n` is one of its own members
 unfoldable pub takes_newline : List ℕ → Bool
 takes_newline t = not (slice_index t 1 ∈ "^") && has_newline 0 (signs (drop (opening_len t) t))
 

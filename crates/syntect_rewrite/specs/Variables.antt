@@ -17,6 +17,7 @@ is_name c = is_ascii_alphanumeric c || c ∈ "_"
 abbrev pub name_len : List ℕ → ℕ
 name_len t = prefix_len is_name (drop 2 t)
 
+-- the name after two braces
 abbrev pub name : List ℕ → List ℕ
 name t = take (name_len t) (drop 2 t)
 
@@ -32,9 +33,11 @@ pub data Part : Type 0 where
   itself : List ℕ → Part
   use_of : List ℕ → Part
 
+-- how many bytes the first part has: the use of a variable, or one character
 abbrev pub part_len : List ℕ → ℕ
 part_len t = if is_use t then name_len t + 4 else char_len t
 
+-- the first part of a text: the use of a variable, or one character
 abbrev pub part : List ℕ → Part
 part t = if is_use t then use_of (name t) else itself (take (char_len t) t)
 
@@ -42,6 +45,7 @@ part t = if is_use t then use_of (name t) else itself (take (char_len t) t)
 abbrev pub without : List ℕ → Variables → Variables
 without name variables = filter (λ v. not (bytes_eq name v.0)) variables
 
+-- what the use of a variable stands for: its text, expanded without that variable, or nothing
 abbrev pub value_by : (Variables → List ℕ → List ℕ) → Variables → List ℕ → Option (List ℕ) → List ℕ
 value_by expand variables name None = []
 value_by expand variables name (Some text) = expand (without name variables) text

@@ -11,6 +11,7 @@ use Rattle.syntect_style.specs.declared.scores.Rule.{Rule}
 abbrev pub bucket_of : List ℕ → ℕ
 bucket_of scope = slice_index scope 0 % 32
 
+-- the scope has no atoms
 abbrev pub has_no_atoms : List ℕ → Bool
 has_no_atoms [] = true
 has_no_atoms (atom ∷ atoms) = false

@@ -56,6 +56,7 @@ pub record Candidate (V : Type 0) : Type 0 where
   pub value : V
   pub score : Score
 
+-- the candidate of a value and a score, where there are both
 abbrev pub candidate : {V : Type 0} → Option V → Option Score → Option (Candidate V)
 candidate (Some v) (Some score) = Some (record { value = v; score = score })
 candidate None score = None
@@ -77,6 +78,7 @@ goes_before (Some p) (Some q) = nat_lt p q
 goes_before (Some p) None = true
 goes_before None place = false
 
+-- the first score is of greater power than the second, or of equal power and goes before it
 abbrev pub beats : Score → Score → Bool
 beats a b = nat_lt b.power a.power || ((a.power == b.power) && goes_before a.place b.place)
 

@@ -9,12 +9,15 @@ use Rattle.syntect_theme.specs.declared.style.StyleModifier.{StyleModifier}
 abbrev pub bits_of : FontStyle → ℕ
 bits_of flags = flags.bits
 
+-- a font without flags
 abbrev pub no_flags : FontStyle
 no_flags = record { bits = 0 }
 
+-- black, opaque
 abbrev pub black : Color
 black = record { r = 0; g = 0; b = 0; a = 255 }
 
+-- white, opaque
 abbrev pub white : Color
 white = record { r = 255; g = 255; b = 255; a = 255 }
 

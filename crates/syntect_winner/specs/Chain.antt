@@ -31,6 +31,7 @@ as_members from opening ms =
 abbrev pub members : SyntaxSet → Bool → Option Opening → ContextId → List Member
 members set from opening id = as_members from opening (patterns_of set id)
 
+-- the last member of a list, if there is one
 abbrev pub last : {X : Type 0} → List X → Option X
 last xs = slice_get xs (length xs - 1)
 

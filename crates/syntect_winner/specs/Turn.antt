@@ -56,6 +56,7 @@ counted height member text groups (Some at) =
     })
     else None
 
+-- the match of a member in this text, if a search found groups and it counts
 abbrev pub matched : ℕ → Member → List ℕ → Option Groups → Option Live
 matched height member text None = None
 matched height member text (Some groups) = counted height member text groups (group_at groups 0)
@@ -80,6 +81,7 @@ module _ (engine : Engine) where
 
 -- ---- the winner ----
 
+-- there is a record, and it is of this place and of as many levels as are open
 abbrev pub is_at_record : Position → Option Record → Bool
 is_at_record p None = false
 is_at_record p (Some r) = (r.place == p.place) && (r.height == length p.levels)
@@ -91,6 +93,7 @@ turns_back p (op.Set refs) = p.idle == MOST_IDLE
 turns_back p op.Pop = is_at_record p p.last
 turns_back p op.None = false
 
+-- the match ends at the place where the turn begins, and would go round in circles there
 abbrev pub loops : Position → Live → Bool
 loops p m = (m.end == p.place) && turns_back p m.pattern.operation
 

@@ -13,6 +13,7 @@ use Rattle.syntect_writers.specs.declared.html.IncludeBackground.TheVariants.{No
 
 -- ---- colours ----
 
+-- the character of a hexadecimal digit, a letter in lower case from 10 on
 abbrev pub hex_digit : ℕ → ℕ
 hex_digit d = if nat_lt d 10 then 48 + d else 87 + d
 
@@ -36,6 +37,7 @@ color_digits c = rgb_digits c ++ (if c.a == 255 then [] else hex_pair c.a)
 abbrev pub color_text : Color → List ℕ
 color_text c = 35 ∷ color_digits c
 
+-- the two colours are equal, and equally opaque
 abbrev pub same_color : Color → Color → Bool
 same_color c d = ((c.r == d.r && c.g == d.g) && c.b == d.b) && c.a == d.a
 
@@ -52,6 +54,7 @@ flags_text bits =
     ++ (asked_for (bit_and bits 1 == 1) (codes "font-weight:bold;")
     ++ asked_for (bit_and bits 4 == 4) (codes "font-style:italic;"))
 
+-- the two styles have equal colours and flags
 abbrev pub same_style : Style → Style → Bool
 same_style s t =
     (same_color s.foreground t.foreground && same_color s.background t.background)
@@ -67,6 +70,7 @@ tells_background (IfDifferent c) style = not (same_color style.background c)
 unfoldable pub color_property : List ℕ → Color → List ℕ
 color_property name c = name ++ (color_text c ++ codes ";")
 
+-- the colour behind a span's text as CSS has it, where the spans give it
 unfoldable pub background_text : IncludeBackground → Style → List ℕ
 background_text bg style =
     asked_for (tells_background bg style)
@@ -96,6 +100,7 @@ spans_from style text (p ∷ ps) =
     if continues style p then spans_from style (text ++ p.1) ps
     else (style, text) ∷ spans_from p.0 p.1 ps
 
+-- the spans of a line's pieces, none where there are no pieces
 abbrev pub spans : List (Style × List ℕ) → List (Style × List ℕ)
 spans [] = []
 spans (p ∷ ps) = spans_from p.0 p.1 ps

@@ -14,9 +14,11 @@ use Rattle.syntect_yaml.specs.Flow.{read_map, flow}
 abbrev pub Found : Type 0 → Type 0
 Found A = Option (A × Place)
 
+-- what was found, under f, and the place after it
 abbrev pub found_map : {A B : Type 0} → (A → B) → Found A → Found B
 found_map f r = option_map (λ p. (f p.0, p.1)) r
 
+-- a value with the place after it, where there is such a place
 abbrev pub at_place : {A : Type 0} → A → Option Place → Found A
 at_place v place = option_map (λ p. (v, p)) place
 
@@ -54,6 +56,7 @@ module _ (line : ℕ → Rest → Found Node) (inner : ℕ → Place → Found N
   below true column p = inner (column + 1) p
   below false column p = Some (node.scalar Null, p)
 
+  -- the value of an entry at the column: below this line, where nothing is left of it, else on it
   abbrev value_on : ℕ → Rest → Option Rest → Found Node
   value_on column t (Some after) = next after >>= (λ p. below (has_value column p) column p)
   value_on column t None = line (column + 1) (after_run is_space t)
@@ -63,6 +66,7 @@ module _ (line : ℕ → Rest → Found Node) (inner : ℕ → Place → Found N
   unfoldable pub value : ℕ → Rest → Found Node
   value column t = value_on column t (line_tail false t)
 
+  -- an item of a list at the column: below this line, where nothing is left of it, else on it
   abbrev item_on : ℕ → Rest → Option Rest → Found Node
   item_on column t (Some after) = next after >>= (λ p. below (nat_lt column p.column) column p)
   item_on column t None =
@@ -74,6 +78,7 @@ module _ (line : ℕ → Rest → Found Node) (inner : ℕ → Place → Found N
   unfoldable pub item : ℕ → Rest → Found Node
   item column t = item_on column t (line_tail false t)
 
+  -- the list found, or what `more` finds after the next `-`, where the flag says that it goes on
   abbrev items_on : (Items → Rest → Found Items) → Bool → Items → Place → Found Items
   items_on more true found p = more found (drop 1 p.rest)
   items_on more false found p = Some (found, p)
@@ -86,6 +91,7 @@ module _ (line : ℕ → Rest → Found Node) (inner : ℕ → Place → Found N
       item column t >>= (λ v. items_on (items column n) (has_item column v.1)
       (push_item found v.0) v.1)
 
+  -- the map found, or what `more` finds after the next key, where the flag says that it goes on
   abbrev entries_on : (Entries → Scalar → Rest → Found Entries) → Bool → Entries → Place
       → Found Entries
   entries_on more true found p = key false p.rest >>= (λ k. more found k.0 k.1)
@@ -106,15 +112,18 @@ pub data Start : Type 0 where
   starts_entry : Scalar → Rest → Start
   starts_part : Start
 
+-- an item, where the flag says so, else an entry with the key that was read, else neither
 abbrev pub start_on : Bool → Read Scalar → Start
 start_on true k = starts_item
 start_on false (Some k) = starts_entry k.0 k.1
 start_on false None = starts_part
 
+-- what the text begins with: an item of a list, an entry of a map, or neither
 abbrev pub start : Rest → Start
 start t = start_on (begins_item t) (key false t)
 
 module _ (line : ℕ → Rest → Found Node) (inner : ℕ → Place → Found Node) where
+  -- the node that starts so: a list or a map at the place's column, or what `here` finds there
   abbrev pub node_on : (ℕ → Rest → Found Node) → ℕ → Place → Start → Found Node
   node_on here least p starts_item =
       found_map node.list (items line inner p.column (length p.rest) no_items (drop 1 p.rest))

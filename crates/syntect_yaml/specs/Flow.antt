@@ -11,6 +11,7 @@ use Rattle.syntect_yaml.specs.Scalars.{scalar, key}
 abbrev pub read_map : {A B : Type 0} → (A → B) → Read A → Read B
 read_map f r = option_map (λ p. (f p.0, p.1)) r
 
+-- what is left after the gap: on a line below, where this one is over, else after its spaces
 abbrev pub gap_on : Rest → Option Rest → Option Rest
 gap_on t (Some after) = option_map (λ p. p.rest) (next after)
 gap_on t None = Some (after_run is_space t)
@@ -57,6 +58,7 @@ abbrev pub opening_within : ℕ → Rest → Opening
 opening_within zero t = Nothing
 opening_within (suc depth) t = opening t
 
+-- a list or map of what `value` reads, or a scalar, by the mark that stands here
 abbrev pub part : (Rest → Read Node) → Opening → Rest → Read Node
 part value List t = read_map node.list (items value (length t) no_items (drop 1 t))
 part value Map t = read_map node.map (entries value (length t) no_entries (drop 1 t))

@@ -13,9 +13,11 @@ Read A = Option (A × Rest)
 
 -- one step after another, where each may find that the text has no value
 infixl 10 ◌>>=◌
+-- what f makes of the value of o, or None where there is none
 abbrev pub ◌>>=◌ : {A B : Type 0} → Option A → (A → Option B) → Option B
 o >>= f = option_and_then f o
 
+-- c is one of the numbers in this list
 abbrev pub is_among : ℕ → List ℕ → Bool
 is_among c [] = false
 is_among c (d ∷ []) = c == d
@@ -23,18 +25,23 @@ is_among c (d ∷ e ∷ rest) = c == d || is_among c (e ∷ rest)
 
 -- the character is one of these
 infix 60 ◌∈◌
+-- c is one of the characters of s
 abbrev pub ◌∈◌ : ℕ → String → Bool
 c ∈ s = is_among c (codes s)
 
+-- the tab, U+0009
 abbrev pub tab : ℕ
 tab = 9
 
+-- the line feed, U+000A, which ends a line
 abbrev pub line_feed : ℕ
 line_feed = 10
 
+-- the carriage return, U+000D, which may stand before a line feed
 abbrev pub carriage_return : ℕ
 carriage_return = 13
 
+-- the space, U+0020
 abbrev pub space : ℕ
 space = 32
 
@@ -42,12 +49,15 @@ space = 32
 abbrev pub first : Rest → ℕ
 first t = slice_index t 0
 
+-- the character is a space
 abbrev pub is_space : ℕ → Bool
 is_space c = c == space
 
+-- the character is white space: a space or a tab
 abbrev pub is_white : ℕ → Bool
 is_white c = c == space || c == tab
 
+-- the character is no line feed
 abbrev pub is_in_line : ℕ → Bool
 is_in_line c = not (c == line_feed)
 
@@ -55,6 +65,7 @@ is_in_line c = not (c == line_feed)
 abbrev pub split_run : (ℕ → Bool) → Rest → List ℕ × Rest
 split_run test t = (take (prefix_len test t) t, drop (prefix_len test t) t)
 
+-- what follows the characters at the front that pass the test
 abbrev pub after_run : (ℕ → Bool) → Rest → Rest
 after_run test t = drop (prefix_len test t) t
 
@@ -90,6 +101,7 @@ indented t =
     let n = prefix_len is_space t in
     if slice_index t n == tab then None else Some (record { column = n; rest = drop n t })
 
+-- what `more` finds from the next line on, where this one is passed over, else its place
 abbrev pub seek_on : (Rest → Option Place) → Rest → Option Rest → Option Place
 seek_on more t (Some after) = more after
 seek_on more t None = indented t

@@ -44,6 +44,7 @@ lines column (suc n) (c ∷ t) =
     then prepend (line_text column (c ∷ t)) (lines column n (after_line (c ∷ t)))
     else Some ([], c ∷ t)
 
+-- the character before the text, but for a line feed that nothing follows
 abbrev pub onto : ℕ → List ℕ → List ℕ
 onto c [] = if c == line_feed then [] else c ∷ []
 onto c (d ∷ text) = c ∷ d ∷ text
@@ -64,6 +65,7 @@ abbrev pub chomped : ℕ → List ℕ → List ℕ
 chomped mark text =
     if mark ∈ "+" then text else if mark ∈ "-" then stripped text else closed (stripped text)
 
+-- the text from the column on, where it reaches the least one, else no text; and what follows
 abbrev pub text_from : ℕ → ℕ → Rest → Option ℕ → Read (List ℕ)
 text_from mark least t None = Some ([], t)
 text_from mark least t (Some column) =

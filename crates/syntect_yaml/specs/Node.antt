@@ -37,6 +37,7 @@ number_of (Number z) = Some z
 number_of (Truth b) = None
 number_of Null = None
 
+-- the truth value of a scalar that is one
 abbrev pub truth_of : Scalar → Option Bool
 truth_of (Text s) = None
 truth_of (Number z) = None
@@ -55,11 +56,13 @@ as_scalar (scalar s) = Some s
 as_scalar (list vs) = None
 as_scalar (map es) = None
 
+-- the values of a node that is a list
 abbrev pub as_list : Node → Option Items
 as_list (scalar s) = None
 as_list (list vs) = Some vs
 as_list (map es) = None
 
+-- the entries of a node that is a map
 abbrev pub as_map : Node → Option Entries
 as_map (scalar s) = None
 as_map (list vs) = None
@@ -100,6 +103,7 @@ abbrev pub value_at : List ℕ → Entries → Option Node
 value_at t no_entries = None
 value_at t (entry k v es) = if is_text t k then Some v else value_at t es
 
+-- the value that a map has at the key of this text; other nodes have none
 abbrev pub get : List ℕ → Node → Option Node
 get t (scalar s) = None
 get t (list vs) = None

@@ -47,9 +47,11 @@ plain_len flow spaced (c ∷ t) =
 
 -- ---- kinds of plain scalars
 
+-- the text is of digits alone, and not empty
 abbrev pub is_whole : List ℕ → Bool
 is_whole s = nat_lt 0 (length s) && list_all is_ascii_digit s
 
+-- the text without a sign in front, if it has one
 abbrev pub unsigned : List ℕ → List ℕ
 unsigned s = if first s ∈ "+-" then drop 1 s else s
 
@@ -65,6 +67,7 @@ unfoldable pub number_of : List ℕ → Option ℤ
 number_of s =
     if is_whole (unsigned s) then fitting (first s ∈ "-") (digits_value 10 (unsigned s)) else None
 
+-- the number, if there is one, and else the text
 abbrev pub number_or_text : List ℕ → Option ℤ → Scalar
 number_or_text s (Some z) = Number z
 number_or_text s None = Text s
@@ -93,6 +96,7 @@ prepend front r = option_map (λ p. (front ++ p.0, p.1)) r
 abbrev pub is_single : ℕ → Bool
 is_single c = not (c == line_feed) && not (c ∈ "'")
 
+-- what stands for itself in double quotes
 abbrev pub is_double : ℕ → Bool
 is_double c = not (c == line_feed) && not (c ∈ "\"\\")
 
@@ -124,6 +128,7 @@ escaped c =
 abbrev pub digit_count : ℕ → ℕ
 digit_count c = if c ∈ "x" then 2 else if c ∈ "u" then 4 else if c ∈ "U" then 8 else 0
 
+-- the character is a hexadecimal digit
 abbrev pub is_hex : ℕ → Bool
 is_hex c = is_digit c 16
 

@@ -19,6 +19,7 @@ heading p =
     else if p.column == 0 && is_line_of 45 p.rest then Start
     else Body
 
+-- where the node begins, by what this line is; after one that begins with `%` a `---` has to come
 abbrev pub begin_on : (Rest → Option Place) → Bool → Place → Heading → Option Place
 begin_on more directed p Directive = more (after_line p.rest)
 begin_on more directed p Start = next (after_line p.rest)
@@ -39,6 +40,7 @@ deepest = 100
 abbrev pub alone : Node × Place → Option (Option Node)
 alone v = if length v.1.rest == 0 then Some (Some v.0) else None
 
+-- no node, where the flag says that the text is over, else the one here, if nothing stands below
 abbrev pub answer : Bool → Place → Option (Option Node)
 answer true p = Some None
 answer false p = block deepest 0 p >>= alone
