@@ -53,7 +53,7 @@ OnlyParsing P (error.ParsingError e) = P e
 OnlyParsing P error.Memory = Unit {0}
 OnlyParsing P e = ⊥
 
--- this holds of an answer, and of a refusal, unless memory ran out
+-- this holds, unless the error is that memory ran out
 abbrev pub UnlessWanting : Type 0 → Error → Type 0
 UnlessWanting P error.Memory = Unit {0}
 UnlessWanting P e = P

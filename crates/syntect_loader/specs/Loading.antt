@@ -23,7 +23,7 @@ use Rattle.syntect_loader.specs.declared.definition.SyntaxDefinition.{SyntaxDefi
 
 -- ---- the contexts ----
 
--- the names of the contexts that every grammar has
+-- the name of the context whose patterns stand in every other one
 abbrev pub prototype_name : List ℕ
 prototype_name = codes "prototype"
 

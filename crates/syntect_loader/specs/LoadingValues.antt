@@ -115,8 +115,8 @@ is_list_with p v = list_is (list_in v)
     list_is (Some vs) = p vs
 
 -- What a push or a set has is decided by the first member of its list. A text there is the first of
--- several names, a list with a map in front is the first of several contexts, and an empty list
--- means that nothing is pushed. All else is one reference.
+-- several names, and a list with a map in front is the first of several contexts. All else is one
+-- reference, or no reference at all.
 abbrev pub is_several : Node → Bool
 is_several =
     is_list_with (begins_with (λ v. is_some (text_in v) || is_list_with (begins_with is_map) v))

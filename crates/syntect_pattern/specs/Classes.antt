@@ -59,14 +59,14 @@ member t = do
 abbrev pub ends_side : Text → Bool
 ends_side t = begins "]" t || begins "&&" t
 
--- The character after the `-` at the front, which makes a range of it, and what follows. There is
--- none where the `-` is last, or stands before a nested class, a POSIX bracket or an escape that is
--- no character.
+-- a single character with what follows it, if the member is one
 abbrev pub one_only : Member × Text → Option (ℕ × Text)
 one_only (one c, rest) = Some (c, rest)
 one_only (many a, rest) = None
 
--- the character that ends a range, after the `-` at the front, and what follows; or none
+-- The character after the `-` at the front, which makes a range of it, and what follows. There is
+-- none where the `-` is last, or stands before a nested class, a POSIX bracket or an escape that is
+-- no character.
 unfoldable pub range_end : Text → Option (ℕ × Text)
 range_end t = do
   begins "-" t
@@ -97,7 +97,7 @@ all_of c = common c.sides c.side
 abbrev pub next_side : Class → Class
 next_side c = record { sides = Some (all_of c); side = none }
 
--- after `[`: whether `^` follows, and the class with a first `]`, which is itself
+-- How a class starts, after its `[`: whether `^` follows, whether a `]` comes first, and the rest.
 pub record Start : Type 0 where
   pub caret : Bool
   -- the first `]` is still to be read, as itself

@@ -37,7 +37,7 @@ passed p = option_map (λ t. record p { text = t }) (pass p.flags.spaced between
 
 -- -- Quantifiers
 
--- The flag says that it's `*`, `+` or `?`, and not a count.
+-- The least and the greatest number of turns; the flag says that it is `*`, `+` or `?`, and no count.
 pub record Quantifier : Type 0 where
   pub least : ℕ
   pub most : Option ℕ
