@@ -138,8 +138,7 @@ impl Search {
         }
     }
 
-    /// Goes on with the list at the place, if one of so many is left,
-    /// and keeps those before it for later.
+    /// Goes on with the list at the place, if one of so many is left, and keeps those before it.
     fn retreat(
         &mut self,
         list: usize,
@@ -163,8 +162,7 @@ impl Search {
         Ok(Next::Leave { list })
     }
 
-    /// Matches the node at the place, if one of so many is left,
-    /// and keeps those before it for later.
+    /// Matches the node at the place, if one of so many is left, and keeps those before it.
     fn restart(
         &mut self,
         text: &str,
@@ -229,9 +227,8 @@ impl Search {
         Ok(Some(next))
     }
 
-    /// A match is found: what follows it, if it is that of a part of which the first match counts
-    /// alone. What that part could still try is forgotten, and its cells are. None if the match is
-    /// the whole one.
+    /// What follows a found match of a part of which the first match counts alone: what that part
+    /// could still try is forgotten, and its cells are. None if the match is the whole one.
     pub fn finish(&mut self) -> Result<Option<Next>, AllocError>
         ensures whole { IfOk result
             (λ found. IfNone found ((bound_of (reverse self.old.frames.items) ≡ None)

@@ -12,8 +12,7 @@ use syntect_ways::past::{past_char, past_class, past_letters};
 /// How many parts are looked into.
 const LOOKS: u32 = 8;
 
-/// Whether it is seen at once that the node has no match at the place: what its matches begin with
-/// fails there.
+/// Whether the node is seen at once to have no match at the place, by what its matches begin with.
 pub fn is_dead(program: &Program, text: &str, place: usize, node: usize) -> bool
     requires { IsCharBoundary text.now place }
     ensures { result ≡ true → (g : Groups)

@@ -27,8 +27,7 @@ fn is_lost(program: &Program, text: &str, place: usize) -> bool
     is_dead(program, text, place, program.root)
 }
 
-/// Whether no match begins at a place where what stands there is known to be able to begin a match,
-/// unless the text ends there.
+/// As `is_lost`, where what stands at the place can begin a match, unless the text ends there.
 #[inline]
 fn is_lost_there(program: &Program, text: &str, place: usize) -> bool
     ensures lost { result ≡ true → FindsAt text.now program.now place None }
@@ -95,9 +94,8 @@ impl Search {
         }
     }
 
-    /// Takes steps until a match is found or nothing is left to try, at least one, and what
-    /// stretches count besides. None where the search is limited, and no step is left before that:
-    /// then it has taken all that were left.
+    /// Takes at least one step, until a match is found or nothing is left to try; what stretches
+    /// count comes on top. None where the search is limited and its steps run out before.
     fn run(
         &mut self,
         program: &Program,
@@ -136,10 +134,8 @@ impl Search {
         }
     }
 
-    /// Whether the program matches at the place, where a character begins or the text ends. Where
-    /// it does, the search's place is the match's end, and its groups are the match's. None where
-    /// it is limited, and the steps that are left don't suffice; they are all taken then. It takes
-    /// one step at least otherwise.
+    /// Whether the program matches at the place: then the search's place is the match's end, and
+    /// its groups the match's. None where a limited search has too few steps left, which it takes.
     fn is_at(
         &mut self,
         program: &Program,
@@ -169,10 +165,8 @@ impl Search {
         self.run(program, text, start, limited, count)
     }
 
-    /// Whether a match begins at the place, which it does on boundaries of characters alone. Where
-    /// it does, the search's groups are the match's. None where it is limited, and the steps that
-    /// are left don't suffice; they are all taken then. Where it finds one it takes
-    /// one step at least.
+    /// Whether a match begins at the place, as it does between characters alone: then the search's
+    /// groups are the match's. None where a limited search has too few steps left, which it takes.
     pub fn begins_at(
         &mut self,
         program: &Program,
@@ -196,8 +190,7 @@ impl Search {
         self.is_at(program, text, place, limited, count)
     }
 
-    /// Whether a match begins at the place, as `begins_at` tells it, where what stands there is
-    /// known to be able to begin a match, unless the text ends there.
+    /// As `begins_at`, where what stands at the place can be a start, unless the text ends there.
     fn begins_there(
         &mut self,
         program: &Program,
@@ -221,10 +214,7 @@ impl Search {
         self.is_at(program, text, place, limited, count)
     }
 
-    /// Whether the program matches at the place or at a later one, of which the least counts. Where
-    /// it does, the search's groups are the match's. None where it is limited, and the steps that
-    /// are left don't suffice; they are all taken then. Where it finds one it takes
-    /// one step at least.
+    /// Tells as `begins_at` does, of the place or of a later one, of which the least counts.
     pub fn find(
         &mut self,
         program: &Program,

@@ -15,12 +15,10 @@ use syntect_ways::anchor::stands;
 use syntect_ways::past::{past_char, past_class, past_letters};
 use syntect_ways::text::past_text;
 
-/// How many characters of stretches, and of the texts of groups that are looked for again, count as
-/// a step: they are gone through one by one, each much faster than a step is taken.
+/// How many characters of stretches, and of texts of groups that are compared, count as one step.
 const READ_A_STEP: usize = 8;
 
-/// The last place where a match of the node can begin that ends at the place, and at how many
-/// places, from that one backwards, one can.
+/// Where matches of the node that end at the place can begin: the last place, and how many back.
 fn starts_before(program: &Program, place: usize, node: usize) -> (usize, usize)
     requires { place < 2 ^ 64 - 1 }
     ensures { AreEnough
@@ -65,8 +63,7 @@ impl Search {
         Next::Enter { node, list }
     }
 
-    /// Matches the first part of the node, and then the second. A first part that is one character
-    /// or an anchor is looked at here: most parts are, and the second needs no cell then.
+    /// Matches both parts of the node: where the first is a character or an anchor, without a cell.
     fn enter_sequence(
         &mut self,
         program: &Program,
@@ -211,8 +208,7 @@ impl Search {
         }
     }
 
-    /// Goes on after the text of the group, where it stands again at the place. How long it is
-    /// counts, whether it does or not: a text may differ in its last character alone.
+    /// Goes on after the group's text, if it stands again at the place. Its length counts anyway.
     fn enter_same(
         &mut self,
         program: &Program,
@@ -311,9 +307,7 @@ impl Search {
         Ok(Next::Fail)
     }
 
-    /// The node, or where it is an alternation whose first branch is dead, its second one, and so
-    /// on: a long list of branches is gone through here, in jumps past many of them where the
-    /// program has some.
+    /// The node past the dead branches that it begins with, in jumps where the program has some.
     fn alive_branch(&self, program: &Program, text: &str, node: usize, list: usize) -> usize
         requires { Fits text.now (Next.Enter node list) self.now }
         ensures { FindsAlike text.now (trees_of program.now) (Next.Enter node list)
@@ -333,8 +327,7 @@ impl Search {
         branch
     }
 
-    /// Matches the first branch of the node, and keeps the second for later. A branch that is dead
-    /// is passed over.
+    /// Matches the node's first branch and keeps the second for later; a dead one is passed over.
     fn enter_branches(
         &mut self,
         program: &Program,
@@ -395,8 +388,7 @@ impl Search {
         Ok(Next::Turn { turns, list })
     }
 
-    /// Reads what a greedy loop over one character can, if it is a stretch of ASCII, and keeps its
-    /// ends for later, the last one first.
+    /// Reads a greedy one-character loop's stretch of ASCII and keeps its ends, the last one first.
     fn enter_stretch(
         &mut self,
         program: &Program,

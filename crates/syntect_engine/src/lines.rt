@@ -53,8 +53,7 @@ fn next_line(text: &str, place: usize, end: usize) -> usize
     }
 }
 
-/// The first place from this one on where a match can begin, as far as the bytes up to `end` tell,
-/// or `end`; with `lines` only where a line begins.
+/// The first place up to `end` where a match can begin, or `end`; with `lines` a line begins there.
 pub fn next_start(program: &Program, text: &str, place: usize, end: usize, lines: bool) -> usize
     requires order { place ≤ end }
     requires within { end ≤ length text.now }

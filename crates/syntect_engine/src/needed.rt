@@ -11,8 +11,7 @@ use syntect_pattern_table::needs::Need;
 use syntect_pattern_table::program::Program;
 use syntect_pattern_table::starts::{Places, is_in, start_at};
 
-/// Up to where it isn't looked again for each of the needs: after the places where they were met.
-/// It saves time alone: with whatever was met, in whatever text, what is said of a place is true.
+/// Up to where each need isn't looked for again. It saves time alone: whatever it is, answers hold.
 #[derive(Clone, Copy)]
 pub struct Met {
     rarest: usize,
@@ -46,9 +45,8 @@ impl Met {
         reached(self.rarest).max(reached(self.other))
     }
 
-    /// Whether what matches need stands at the place or after it, as far as is known: where it
-    /// doesn't, no match begins from here on. What was met after the place isn't looked for again,
-    /// so that a text is gone through once for each need.
+    /// Whether what matches need stands at the place or after it, as far as is known: else no match
+    /// begins from here on. What was met is kept, so that each need is looked for once in a text.
     #[inline]
     pub fn stands_behind(&mut self, program: &Program, text: &str, place: usize) -> bool
         requires { place ≤ length text.now }
@@ -71,8 +69,7 @@ impl Met {
 }
 
 /// The place after the next one, from this one on, where what is needed stands, or the greatest
-/// number if nothing is known of that. None where it stands nowhere, so that no match begins at the
-/// place or after it.
+/// number if nothing is known. None where it stands nowhere: no match begins from this place on.
 #[inline]
 fn behind_need(need: &Need, text: &str, place: usize) -> Option<usize>
     requires { place ≤ length text.now }
@@ -86,8 +83,7 @@ fn behind_need(need: &Need, text: &str, place: usize) -> Option<usize>
     }
 }
 
-/// The place after the next one, from this one on, where the byte stands with one of `next` right
-/// after it. None where there is none.
+/// The place after the next one from here on where the byte stands right before one of `next`.
 fn behind_byte(byte: u8, next: &Places, text: &str, place: usize) -> Option<usize>
     requires { place ≤ length text.now }
     ensures { IfNone result (byte < 128
@@ -106,8 +102,7 @@ fn behind_byte(byte: u8, next: &Places, text: &str, place: usize) -> Option<usiz
     }
 }
 
-/// The place after the next one, from this one on, where one of `here` stands with one of `next`
-/// right after it. None where there is none.
+/// The place after the next one from here on where one of `here` stands right before one of `next`.
 fn behind_one(here: &Places, next: &Places, text: &str, place: usize) -> Option<usize>
     ensures { IfNone result (here.now.end ≡ false
         → IsAbsent (starts.is_in here.now) (starts.is_in next.now) text.now place) }

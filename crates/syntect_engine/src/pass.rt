@@ -9,9 +9,8 @@ use syntect_pattern_table::node::Node;
 use syntect_pattern_table::program::Program;
 
 impl Search {
-    /// How many of these places, this one and those right before it, are passed over, the last one
-    /// first, until the list may find something, as the byte there tells. What reads nothing, an
-    /// anchor or a group's end, is looked past.
+    /// At how many of these places, this one and those right before it, the list finds nothing,
+    /// from the last on, as the byte there tells. Anchors and groups' ends are looked past.
     pub fn dead_ends(
         &self,
         program: &Program,

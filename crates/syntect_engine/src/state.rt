@@ -6,10 +6,9 @@ use std::alloc::{AllocError, Global};
 /// From one place to another.
 pub type Span = (usize, usize);
 
-/// The turns of a loop that are left.
+/// The turns of a loop that are left, and its node.
 #[derive(Clone, Copy)]
 pub struct Turns {
-    /// The loop's node.
     pub node: usize,
     /// More than the text has bytes left, as a bound.
     pub left: usize,
@@ -30,8 +29,7 @@ pub enum Item {
     EndsAt(usize),
 }
 
-/// A list of items: the first, and the number of the list of the others. Number 0 is the empty
-/// list, and cell n has the number n + 1.
+/// The first item of a list, and the others' number: 0 is the empty list, n + 1 is that of cell n.
 #[derive(Clone, Copy)]
 pub struct Cell {
     pub item: Item,
@@ -65,16 +63,14 @@ pub enum Frame {
         place: usize,
         cells: usize,
     },
-    /// Go on with the list at so many places: this one and those right before it,
-    /// the last one first.
+    /// Go on with the list at so many places: this one and those right before it, the last first.
     Stretch {
         list: usize,
         count: usize,
         place: usize,
         cells: usize,
     },
-    /// Match the node at so many places, as far as characters begin there: this one and those right
-    /// before it, the last one first.
+    /// Match the node at so many places, from this one back, as far as characters begin there.
     Starts {
         node: usize,
         list: usize,
@@ -118,8 +114,7 @@ pub struct Search {
     pub place: usize,
     /// How many steps are left, where the search is limited.
     pub left: usize,
-    /// How many characters were read in stretches since `begin`. Who asks sets it to 0 first, as a
-    /// try may end before that.
+    /// How many characters stretches have read since `begin`; who asks sets it to 0 before a try.
     pub read: usize,
     /// As how many steps these count, besides one for each stretch.
     pub worth: usize,

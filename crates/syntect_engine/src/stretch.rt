@@ -9,8 +9,7 @@ ghost use Rattle.syntect_engine.specs.Stretches.{IsStretch, IsStretchOf};
 use syntect_pattern_table::node::{Class, Node};
 use syntect_pattern_table::program::Program;
 
-/// The end of the stretch of this character that begins at the place. None if a character beyond
-/// ASCII comes after it.
+/// The end of the character's stretch from the place on. None if one beyond ASCII comes after it.
 fn char_stretch(text: &[u8], place: usize, wanted: char) -> Option<usize>
     requires { place ≤ length text.now }
     ensures { IfSome result (λ end. IsStretch text.now (range wanted wanted) place end) }
@@ -28,8 +27,7 @@ fn char_stretch(text: &[u8], place: usize, wanted: char) -> Option<usize>
     Some(end)
 }
 
-/// The end of the stretch of characters of the class that begins at the place. None if a character
-/// beyond ASCII stands after it.
+/// The end of the class's stretch from the place on. None if one beyond ASCII comes after it.
 fn class_stretch(text: &[u8], place: usize, class: &Class) -> Option<usize>
     requires { place ≤ length text.now }
     ensures { IfSome result (λ end. IsStretch text.now (set_of class.now) place end) }

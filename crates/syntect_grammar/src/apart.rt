@@ -55,9 +55,8 @@ fn definition_of(alloc: Global, syntax: SyntaxReference) -> Result<SyntaxDefinit
 }
 
 impl SyntaxSet {
-    /// A builder with the set's syntaxes as definitions, in their order, to which more can be
-    /// added. References that were linked keep their numbers, contexts keep their prototypes and
-    /// marks, and paths and metadata stay. Without memory the set is dropped.
+    /// A builder of the set's syntaxes, in order: linked references keep their numbers, contexts
+    /// their prototypes and marks; paths and metadata stay. Without memory the set is dropped.
     pub fn into_builder(self, alloc: Global) -> Result<SyntaxSetBuilder, AllocError>
         ensures definitions { IfOk result
             (λ builder. definitions_in builder ≡ map definition_of_syntax (syntaxes_in self)) }

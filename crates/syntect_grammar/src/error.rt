@@ -11,8 +11,7 @@ use syntect_scope::repository::ParseScopeError;
 use syntect_scope::stack::ScopeError;
 use thiserror::Error as ThisError;
 
-/// Why a call was refused that can be refused for several causes. `?` makes it from each refusal
-/// that a call answers.
+/// Why a call was refused for one of several causes. `?` makes it from each refusal of a call.
 #[derive(Drop, ThisError)]
 pub enum Error {
     /// A file or a folder was not loaded.
@@ -33,11 +32,10 @@ pub enum Error {
     /// No syntax fits a file.
     #[error("NoSyntax")]
     NoSyntax,
-    /// There was no memory.
+    /// There was no memory. `?` makes this of any refusal for lack of memory.
     #[error("Memory")]
     Memory,
-    /// A text is no syntax definition. `?` alone makes it, as of what
-    /// `SyntaxDefinition::load_from_str` answers.
+    /// No syntax definition. `?` alone makes it, of what `SyntaxDefinition::load_from_str` answers.
     #[error("Syntax error: {0}")]
     ParseSyntax(ParseSyntaxError),
     /// A text is no scope. `?` alone makes it.
@@ -48,8 +46,7 @@ pub enum Error {
     Pattern(PatternError),
 }
 
-/// The message, with the cause where the message leaves it out: `main` shows it of an
-/// error that it answers.
+/// The message, with the cause where it leaves that out: `main` shows it of an error it answers.
 impl fmt::Debug for Error {
     fn fmt<W: fmt::Write>(&self, f: &mut fmt::Formatter<W>) -> fmt::Result {
         match self {
@@ -82,7 +79,6 @@ impl<T: Drop> From<AllocFailed<T>> for Error {
     }
 }
 
-/// Lack of memory is passed on as such.
 impl From<LoadingError> for Error {
     ghost use Rattle.std.specs.Prelude.{◌≡◌};
     ghost use Rattle.syntect_grammar.specs.Passing.{from_loading};
@@ -97,7 +93,6 @@ impl From<LoadingError> for Error {
     }
 }
 
-/// Lack of memory is passed on as such.
 impl From<ParsingError> for Error {
     ghost use Rattle.std.specs.Prelude.{◌≡◌};
     ghost use Rattle.syntect_grammar.specs.Passing.{from_parsing};
@@ -112,7 +107,6 @@ impl From<ParsingError> for Error {
     }
 }
 
-/// Lack of memory is passed on as such.
 impl From<ScopeError> for Error {
     ghost use Rattle.std.specs.Prelude.{◌≡◌};
     ghost use Rattle.syntect_grammar.specs.Passing.{from_scope};
@@ -127,7 +121,6 @@ impl From<ScopeError> for Error {
     }
 }
 
-/// Lack of memory is passed on as such.
 impl From<io::Error> for Error {
     ghost use Rattle.std.specs.Prelude.{◌≡◌};
     ghost use Rattle.syntect_grammar.specs.Passing.{from_io};
@@ -154,7 +147,6 @@ impl From<fmt::Error> for Error {
     }
 }
 
-/// Lack of memory is passed on as such.
 impl From<ParseSyntaxError> for Error {
     ghost use Rattle.std.specs.Prelude.{◌≡◌};
     ghost use Rattle.syntect_grammar.specs.Passing.{from_syntax};
@@ -169,7 +161,6 @@ impl From<ParseSyntaxError> for Error {
     }
 }
 
-/// Lack of memory is passed on as such.
 impl From<ParseScopeError> for Error {
     ghost use Rattle.std.specs.Prelude.{◌≡◌};
     ghost use Rattle.syntect_grammar.specs.Passing.{from_scope_text};
@@ -184,7 +175,6 @@ impl From<ParseScopeError> for Error {
     }
 }
 
-/// Lack of memory is passed on as such.
 impl From<PatternError> for Error {
     ghost use Rattle.std.specs.Prelude.{◌≡◌};
     ghost use Rattle.syntect_grammar.specs.Passing.{from_pattern};

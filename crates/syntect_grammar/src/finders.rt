@@ -102,8 +102,7 @@ impl SyntaxSet {
             .find(|s| s.name.as_str() == name)
     }
 
-    /// The last syntax of this file extension, which a whole file name may be too. The case of
-    /// ASCII letters doesn't count. Takes no memory.
+    /// The last syntax of this extension or whole file name, ASCII case aside. Takes no memory.
     pub fn find_syntax_by_extension(&self, extension: &str) -> Option<&SyntaxReference>
         ensures { option_copied result ≡ found_by_extension self.now extension.now }
     {
@@ -113,8 +112,7 @@ impl SyntaxSet {
             .find(|s| has_extension(s, extension))
     }
 
-    /// The last syntax of this extension, or else the last of this name; the case of ASCII letters
-    /// doesn't count. Takes no memory.
+    /// The last syntax of this extension, or else of this name, ASCII case aside. Takes no memory.
     pub fn find_syntax_by_token(&self, token: &str) -> Option<&SyntaxReference>
         ensures { option_copied result ≡ found_by_token self.now token.now }
     {
@@ -180,8 +178,7 @@ impl SyntaxSet {
             .find(|entry| ends_in_path(entry.0.as_str(), path))
     }
 
-    /// The syntax that was loaded last from a file of this path. The path may be the whole one, or
-    /// its end after a slash.
+    /// The syntax loaded last from a file of this path: the whole one, or its end after a slash.
     pub fn find_syntax_by_path(&self, path: &str) -> Result<Option<&SyntaxReference>, AllocError>
         ensures answers { IsOk result }
         ensures found { IfOk result
@@ -204,10 +201,9 @@ impl SyntaxSet {
         }
     }
 
-    /// The syntax of a file: the last that has the file's whole name as extension, or else the last
-    /// of the name's extension, or else the last whose first-line pattern is found in the file's
-    /// first line. The file is opened, and the line read, only where its path tells nothing; `Io`
-    /// where that fails, or the line is not UTF-8.
+    /// The syntax of a file: as `find_syntax_by_file_name` finds it, or else the last whose
+    /// first-line pattern is found in the file's first line. The file is opened only where its path
+    /// tells nothing; `Io` where that fails, or the line can't be read or isn't UTF-8.
     pub fn find_syntax_for_file(
         &self,
         files: &impl Files,

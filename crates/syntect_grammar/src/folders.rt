@@ -40,16 +40,15 @@ pub fn is_metadata(path: &str) -> bool
 }
 
 impl SyntaxSetBuilder {
-    /// Adds the grammars and the metadata in a folder and in the folders below it, in the order of
-    /// a walk: each folder's entries in the byte order of their names, a subfolder's files at its
-    /// place. A grammar's file has the extension `sublime-syntax`, in this case; a syntax without a
-    /// name has that of its file. Each is kept under its path, which is the folder's text and the
-    /// names, joined by `/`. `lines_include_newline` is as for `load_from_str`. A file of metadata
-    /// has the extension `tmPreferences`; one that gives no entry is passed over.
+    /// Adds the grammars and metadata in a folder and those below it, in the order of a walk: a
+    /// folder's entries in byte order of their names, a subfolder's files at its place. A grammar's
+    /// file has the extension `sublime-syntax`, in this case; a syntax without a name has its
+    /// file's. Each is kept under its path: the folder's text and the names, joined by `/`.
+    /// Metadata has the extension `tmPreferences`; a file of it that gives no entry is passed over.
+    /// `lines_include_newline` is as for `load_from_str`.
     ///
-    /// Each file is added before the walk goes on. A fault of the walk is `WalkDir`; a file that
-    /// cannot be read, or isn't UTF-8, is `Io`, and one that is no grammar is `ParseSyntax` with
-    /// its path. What is before the first fault stays added.
+    /// A fault of the walk is `WalkDir`; a file that cannot be read, or isn't UTF-8, is `Io`, and
+    /// one that is no grammar is `ParseSyntax` with its path. What was met before stays added.
     pub fn add_from_folder(
         &mut self,
         files: &impl Files,
@@ -168,10 +167,9 @@ impl SyntaxSetBuilder {
 }
 
 impl SyntaxSet {
-    /// A set of the grammars and the metadata in a folder and in the folders below it, for lines
-    /// without their line feeds: as `add_from_folder` adds them to no definitions, and as `build`
-    /// links them. Lines that end with their line feeds, as those of `LinesWithEndings`, such
-    /// grammars colour wrongly and without notice: for these call `add_from_folder` with `true`.
+    /// The set of the grammars and metadata in and below a folder, for lines without line feeds: as
+    /// `add_from_folder` adds and `build` links them. Lines with line feeds, as `LinesWithEndings`
+    /// gives, it colours wrongly and without notice: call `add_from_folder` with `true` for them.
     #[tactic(auto, using(crate::proofs::FolderLaws::keeps_all))]
     pub fn load_from_folder(
         files: &impl Files,

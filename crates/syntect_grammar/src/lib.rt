@@ -1,8 +1,7 @@
 //! Grammars: how they are read from their text, their contexts, and sets of them that are linked.
 //!
-//! A `SyntaxDefinition` is a grammar as it was written: contexts by their names, each with patterns
-//! in order. A `SyntaxSetBuilder` links definitions into a `SyntaxSet`, whose contexts name one
-//! another by number.
+//! A `SyntaxDefinition` is a grammar as written: named contexts of patterns in order. A
+//! `SyntaxSetBuilder` links them into a `SyntaxSet`, whose contexts name one another by number.
 #![tactic(auto)]
 
 mod apart;

@@ -12,11 +12,9 @@ use syntect_base::syntax::ParseSyntaxError;
 use syntect_scope::repository::ScopeRepository;
 
 impl SyntaxSetBuilder {
-    /// Appends the syntax of plain text: its name is `Plain Text`, its file extension `txt` and its
-    /// scope `text.plain`, and no pattern of it gives a further scope.
-    ///
-    /// Where the repository has no room for the scope's atoms, `InvalidScope` is answered. After a
-    /// refusal the builder is as it was; the repository may have more atoms.
+    /// Appends the syntax of plain text: named `Plain Text`, with file extension `txt` and scope
+    /// `text.plain`, the only one that it gives. `InvalidScope` where the repository has no room
+    /// for its atoms. After a refusal the builder is as it was; the repository may have more atoms.
     pub fn add_plain_text_syntax(
         &mut self,
         alloc: Global,

@@ -1,8 +1,7 @@
 //! Grammars as they were written, their contexts and the patterns of these.
 //!
-//! The rules are those of Sublime Text's syntax definitions. A context has patterns that are tried
-//! in order; a match may open further contexts, put others in the place of the top one,
-//! or leave it.
+//! The rules are those of Sublime Text. A context's patterns are tried in order; a match may open
+//! further contexts, put others in the place of the top one, or leave it.
 pub use syntect_contexts::context::{
     CaptureMapping, Context, ContextId, ContextReference, HoldsContexts, MatchOperation,
     MatchPattern, Pattern,

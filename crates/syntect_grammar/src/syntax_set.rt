@@ -125,8 +125,7 @@ impl SyntaxSet {
         self.syntaxes.allocator()
     }
 
-    /// Its syntaxes, the paths of files that were loaded, each with the place of its syntax, and
-    /// its metadata.
+    /// Its syntaxes, the paths of loaded files, each with its syntax's place, and its metadata.
     pub(crate) fn into_parts(self) -> (Seq<SyntaxReference>, Seq<(Text, usize)>, Metadata)
         ensures syntaxes { result.0 ≡ syntaxes_in self }
         ensures paths { result.1 ≡ set_paths self }
@@ -147,18 +146,16 @@ impl SyntaxSet {
         self.syntaxes.context_at(id)
     }
 
-    /// The patterns of the walk of the context of a number, which stands on its own include path,
-    /// as far as anyone who looks for the first that passes a test can tell: a pattern that the
-    /// walk gives again may be left out. None where they are not kept: of a context that the set
-    /// lacks, and of grammars whose includes would make too many of them.
+    /// The patterns of the walk of a context, which stands on its own include path, enough to find
+    /// the first that passes a test: repeated ones may be left out. None where they aren't kept: of
+    /// a context that the set lacks, or where includes would make too many.
     pub fn flats_of(&self, id: ContextId) -> Option<&FlatList>
         ensures { IfSome result (λ flats. AreFlatsOf self.now id flats.now) }
     {
         self.syntaxes.flats_of(id)
     }
 
-    /// The patterns of the walk of any context, walked now, as far as anyone who looks for the
-    /// first that passes a test can tell.
+    /// The patterns of the walk of any context, walked now, as `flats_of` answers kept ones.
     pub fn flats_walked(&self, alloc: Global, id: ContextId) -> Result<FlatList, AllocError>
         ensures { IfOk result (λ flats. AreFlatsOf self.now id flats) }
     {
@@ -204,8 +201,7 @@ impl SyntaxSetBuilder {
         }
     }
 
-    /// The builder of these definitions, with the paths of files that were loaded, each with the
-    /// place of its definition, and with the metadata of a set.
+    /// A builder of definitions, loaded files' paths with their definitions' places, and metadata.
     pub(crate) fn from_parts(
         alloc: Global,
         syntaxes: Seq<SyntaxDefinition>,
@@ -235,8 +231,7 @@ impl SyntaxSetBuilder {
         SyntaxSetBuilder::new(alloc)
     }
 
-    /// Appends a definition. Without memory for it the builder stays as it is, and the definition
-    /// is dropped.
+    /// Appends a definition. Without memory the builder stays, and the definition is dropped.
     pub fn add(&mut self, syntax: SyntaxDefinition) -> Result<(), AllocError>
         ensures ok { OnOk result
             (definitions_in self.new ≡ definitions_in self.old ++ syntax ∷ []) }
@@ -260,8 +255,7 @@ impl SyntaxSetBuilder {
         self.raw_metadata.add_raw(entry)
     }
 
-    /// Appends a definition that was loaded from the file of this path. Without memory for both the
-    /// builder stays as it is.
+    /// Appends a definition loaded from the file of this path. Without memory the builder stays.
     pub fn add_loaded(&mut self, syntax: SyntaxDefinition, path: Text) -> Result<(), AllocError>
         ensures ok { OnOk result
             (definitions_in self.new ≡ definitions_in self.old ++ syntax ∷ []) }
@@ -289,20 +283,18 @@ impl SyntaxSetBuilder {
         self.syntaxes.as_slice()
     }
 
-    /// Links the definitions into a set. Contexts are numbered in the byte order of their names.
-    /// A reference by name is linked to the context of that name in its own syntax,
-    /// `$top_level_main` being `main`. A reference by scope or by the name of a syntax is linked to
-    /// the last syntax of it: to the sub context, or to `main`. With a way out, where there is no
-    /// such context, it is linked to `main` of the last syntax named `Plain Text`. A reference that
-    /// has a number keeps it, and what cannot be linked stays as it is, unresolved. A context
-    /// without a prototype of its own is given the context `prototype` of its syntax, if it wants
-    /// one and isn't reached from it. Contexts that include one with back references, over any
-    /// number of includes, are marked as it is. First-line patterns are compiled.
-    /// The metadata of files becomes sets, in the order of scope texts. A builder that was made of
-    /// a set keeps that set's metadata, and a new set of equal scope text takes the place
-    /// of an old one.
-    /// The repository is that of the definitions' scopes; it takes up the scopes of metadata, and
-    /// the old atoms keep their numbers. Without memory the definitions are dropped.
+    /// Links the definitions into a set. Contexts are numbered in the byte order of their names. A
+    /// reference by name is linked to that context of its own syntax, `$top_level_main` being
+    /// `main`. One by scope or by the name of a syntax is linked to the last syntax of it: to the
+    /// sub context, or to `main`; with a way out, where there is no such context, to `main` of the
+    /// last syntax named `Plain Text`. A reference that has a number keeps it, and what cannot be
+    /// linked stays unresolved. A context without a prototype of its own is given its syntax's
+    /// `prototype`, if it wants one and isn't reached from it. Contexts that include one with back
+    /// references, over any number of includes, are marked as it is. First-line patterns are
+    /// compiled. The metadata of files becomes sets, in the order of scope texts; a builder made of
+    /// a set keeps that set's, but new ones replace those of equal scope text. The repository is
+    /// that of the definitions' scopes; it takes up those of metadata, and old atoms keep their
+    /// numbers. Without memory the definitions are dropped.
     pub fn build(
         self,
         alloc: Global,

@@ -12,8 +12,7 @@ use syntect_contexts::syntax_reference::SyntaxReference;
 use syntect_flats::list::FlatList;
 use syntect_values::seq::Seq;
 
-/// Linked syntaxes, seen as their list. What is kept of them, so that it needn't be looked for
-/// again, stands here.
+/// Linked syntaxes, seen as their list, and what is kept of them so as not to be looked for again.
 #[derive(Drop)]
 pub struct Syntaxes {
     items: Seq<SyntaxReference>,

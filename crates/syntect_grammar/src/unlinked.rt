@@ -10,8 +10,7 @@ use syntect_linker::unlinked::add_syntax;
 use syntect_scope::repository::ScopeRepository;
 
 impl SyntaxSet {
-    /// What is said of the references in pushes and sets that linking left unresolved, each text
-    /// once. Their scopes are those of the repository.
+    /// Texts on unresolved references in pushes and sets, each once; scopes are the repository's.
     pub fn find_unlinked_contexts(
         &self,
         alloc: Global,

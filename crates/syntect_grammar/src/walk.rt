@@ -1,5 +1,4 @@
-//! The patterns of a context, includes walked. Each context is entered once: what it gives when it
-//! is included again, the walk has given before.
+//! The patterns of a context, includes walked, each once: what one gives again was given before.
 ghost use Rattle.std.specs.Prelude.{◌≡◌, ◌<◌, ◌++◌, ◌∷◌, [], length, true, false, None, IfOk, IfSome, OnOk};
 ghost use Rattle.std.specs.Option.{option_copied};
 ghost use Rattle.syntect_contexts.specs.Contexts.{target};
@@ -18,13 +17,11 @@ use syntect_flats::list::FlatList;
 use syntect_pattern_table::starts::anywhere;
 use syntect_values::seq::Seq;
 
-/// The flat lists of contexts, by the place of their syntax and their own in that: none of one
-/// whose walk was given up.
+/// The flat lists of contexts, by syntax and place in that: none of one whose walk was given up.
 pub(crate) type FlatTable = Seq<Seq<Option<FlatList>>>;
 
-/// How many steps the walks of a syntax's contexts may take for each entry, before no further lists
-/// are kept. Grammars that people write take a tenth of it; a long row of includes would ask for
-/// the square of its length.
+/// How many steps an entry the walks of a syntax may take before no more lists are kept: ten times
+/// what written grammars take, as a long row of includes would ask for the square of its length.
 const STEPS_AN_ENTRY: usize = 64;
 
 /// A context that is walked, and the index of the next of its entries.
@@ -60,8 +57,7 @@ fn entries(syntaxes: &[SyntaxReference], id: ContextId) -> &[Pattern]
     }
 }
 
-/// What is kept of a pattern with back references into an opening match: what is searched in its
-/// place may begin anywhere.
+/// A pattern that refers back into an opening match: what is searched for it may begin anywhere.
 fn open_flat(context: ContextId, index: usize) -> Flat
     ensures context { result.context ≡ context }
     ensures index { result.index ≡ index }
@@ -188,10 +184,8 @@ impl Walker {
         self.enter(id)
     }
 
-    /// Finds the patterns of the context of a number, which stands on its own include path, as far
-    /// as anyone who looks for the first that passes a test can tell: a pattern that the walk gives
-    /// again may be left out. Gives up, with `false`, where no step is left of those that are
-    /// allowed, if they are counted.
+    /// Walks a context, which stands on its own include path, far enough to find the first pattern
+    /// that passes a test: repeated ones may be left out. `false` where counted steps run out.
     fn walk(
         &mut self,
         syntaxes: &[SyntaxReference],

@@ -1,6 +1,5 @@
-//! The search of a pattern, in steps that are bounded by the pattern times the text: by the marks
-//! of a text it is known of each place whether a match begins there,
-//! and the match is read along them.
+//! The search of a pattern, in steps bounded by the pattern times the text: the marks of a text
+//! tell of each place whether a match begins there, and the match is read along them.
 ghost use Rattle.std.specs.Prelude.{◌≡◌, ◌≤◌, ◌+◌, ◌*◌, ◌<◌, IfErr, IfOk, OnErr, OnOk, true, None, if◌then◌else◌, length, replicate, slice_index_or};
 ghost use Rattle.syntect_linear.specs.Finds.{Covers, FindsAt, FindsUpTo, groups_of};
 ghost use Rattle.syntect_linear.specs.Guide.{IsGuideIn};
@@ -37,8 +36,7 @@ fn no_groups(alloc: Global, count: usize) -> Result<Vec<Option<Span>>, AllocErro
     Ok(groups)
 }
 
-/// Whether a match begins at the place, whose marks are there. Where one does,
-/// the groups are the match's.
+/// Whether a match begins at the place, whose marks are there. If so, the groups are the match's.
 fn begins_here(
     alloc: Global,
     ground: &Ground,

@@ -32,9 +32,8 @@ pub use syntect_winner::level::Level;
 use syntect_winner::position::Position;
 pub use syntect_winner::search::Regions;
 
-/// Where a reader of lines stands between two: the open levels, lowest first, the cuts, and whether
-/// no line was accepted. A cut is the height that a match from a `with_prototype` found; prototypes
-/// of levels below the last are out of sight.
+/// Where a reader stands between lines: open levels, lowest first, whether no line was accepted,
+/// and cuts: heights that `with_prototype` matches found; prototypes below the last are hidden.
 #[derive(Clone, Drop, PartialEq, Eq)]
 pub struct Standing {
     pub levels: Seq<Level>,
@@ -42,9 +41,8 @@ pub struct Standing {
     pub first_line: bool,
 }
 
-/// What is kept between two lines: where the reader stands, how many turns it made so far, and how
-/// many steps their searches took, which contracts alone see. Two states are equal that stand
-/// alike, whatever they count.
+/// What is kept between lines: where the reader stands, its turns so far, and their searches'
+/// steps, which contracts alone see. States that stand alike are equal, whatever they count.
 #[derive(Clone, PartialEq, Eq)]
 pub struct ParseState {
     standing: Standing,
@@ -74,8 +72,7 @@ fn start_id(syntax: &SyntaxReference) -> Option<ContextId>
 }
 
 impl ParseState {
-    /// The state before the first line of a syntax.
-    /// `MissingMainContext` where it has no context `__start`.
+    /// The state before the first line; `MissingMainContext` where the syntax has no `__start`.
     pub fn new(alloc: Global, syntax: &SyntaxReference) -> Result<ParseState, ParsingError>
         ensures found { IfOk result (λ state. start_of syntax.now ≡ Some (standing state)) }
         ensures none_made { IfOk result (λ state. turns_made state ≡ 0) }
@@ -103,24 +100,20 @@ impl ParseState {
     }
 
     /// Reads the next line, with its line feed if it has one. The operations, at byte positions in
-    /// order, give the scopes of the line when they are applied to the stack that the lines before
-    /// it left; the first accepted line begins on an empty stack. That holds where the syntax has a
-    /// plain `__start` and what contexts clear in the lines is put back in order; of every grammar
-    /// it holds that the operations are in order and are never refused.
-    /// A refusal leaves the state as it was: `MissingMainContext` where no context is open any
-    /// more, `UnresolvedContextReference` where a match that was picked names an unresolved
-    /// reference, `MissingContext` where the set lacks a context that the match names, or the
-    /// context on top, or a prototype that is to be looked at, and `Memory`. The state counts the
-    /// turns, each of which takes a match, passes over a character, or ends the line or refuses it:
-    /// an accepted line takes exactly those of its reading, a refused one no more, and neither more
-    /// than `levels + (r + 1) * 1001 * (bytes + 1)`, with `r` the longest list of contexts that a
-    /// match of the set opens, or 1. It counts the steps of their searches too, as
-    /// `Regex::search_counted` does. Where the patterns that the line's turns look at are linear,
-    /// they are at most `turns * patterns * most * (bytes + 1)`, unless memory ran out: `patterns`
-    /// is how many a turn looks at, and `most` how many steps a search of one takes (`steps`).
-    /// Where all patterns of the set are linear and none uses back references, a formula of the set
-    /// and the line's length bounds them (`most_steps`).
-    /// Neither number ever falls (`no_fewer`, `no_fewer_steps`).
+    /// order, are never refused. They give the line's scopes when applied to the stack that the
+    /// lines before left, empty before the first accepted one, if the syntax has a plain `__start`
+    /// and what contexts clear in the lines is put back in order. A refusal leaves the state as it
+    /// was: `MissingMainContext` where no context is open any more, `UnresolvedContextReference`
+    /// where a picked match names an unresolved reference, `MissingContext` where the set lacks a
+    /// context that it names, the one on top, or a prototype to be looked at, and `Memory`. The
+    /// state counts turns, which take a match, pass over a character, or end or refuse the line: an
+    /// accepted line takes those of its reading, a refused one no more, and neither more than
+    /// `levels + (r + 1) * 1001 * (bytes + 1)`, `r` the longest list of contexts that a match of
+    /// the set opens, or 1. It counts their searches' steps, as `Regex::search_counted` does: if
+    /// the patterns looked at are linear and memory suffices, at most
+    /// `turns * patterns * most * (bytes + 1)`, of `patterns` a turn and `most` steps a search of
+    /// one (`steps`); if all of the set are linear without back references, a formula of set and
+    /// line length bounds them (`most_steps`). Neither falls (`no_fewer`, `no_fewer_steps`).
     pub fn parse_line(
         &mut self,
         alloc: Global,
@@ -153,12 +146,10 @@ impl ParseState {
         }
     }
 
-    /// Reads the next line within limits. Its answer is that of `parse_line`, unless it makes more
-    /// steps or turns than `limits` has, opens more contexts, or has more operations: then it is
-    /// `LimitReached`, with the limit, and the state stays, as after any refusal. No line makes
-    /// more (`few_turns`, `few_steps`), whatever its grammar's patterns are, and none is accepted
-    /// that opens more or has more (`few_levels`, `few_operations`); where a limit was reached the
-    /// line had made as many, or had more (`reached`).
+    /// Reads the next line as `parse_line` does, unless its steps, turns, open contexts or
+    /// operations exceed `limits`: that is `LimitReached`, with the limit, and the state stays.
+    /// Whatever the patterns, no line makes more (`few_turns`, `few_steps`), none accepted has more
+    /// (`few_levels`, `few_operations`), and one so refused made as many or had more (`reached`).
     pub fn parse_line_within(
         &mut self,
         alloc: Global,
@@ -223,12 +214,10 @@ impl ParseState {
         Ok(ops)
     }
 
-    /// The state after the next line, and its operations, as `parse_line` leaves and answers them.
-    /// This state stays where it stands, so it needn't be copied where it may be wanted again. It
-    /// counts the turns and the steps as `parse_line` does, also where the line is refused, and the
-    /// state after the line has the same numbers. The searches' memory can be kept from line to
-    /// line; what is in it before doesn't matter, and after the line its count is that of the
-    /// line's steps, which are added to this state's (`added`). Refused as `parse_line` is.
+    /// The state after the next line, and its operations, as by `parse_line`, and refused as there.
+    /// This state stays where it stands, needs no copy, and counts turns and steps, even of a
+    /// refused line, as the state after does. The memory of searches can be kept between lines,
+    /// whatever it holds; its count becomes the line's steps, added to this state's (`added`).
     pub fn after_line(
         &mut self,
         alloc: Global,
@@ -263,8 +252,7 @@ impl ParseState {
         }
     }
 
-    /// The state after the next line, and its operations, as `after_line` answers them, read within
-    /// limits as `parse_line_within` reads it. Refused as that is.
+    /// `after_line` within limits: the line is read, and refused, as by `parse_line_within`.
     pub fn after_line_within(
         &mut self,
         alloc: Global,
@@ -330,9 +318,8 @@ impl ParseState {
     }
 }
 
-/// How many turns a line takes from a state, which stays as it is: the greatest number of a `u64`
-/// where it is more. No call of the crate: it is for those who look into what grammars cost. It is
-/// refused as `ParseState::parse_line` is.
+/// How many turns a line takes from a state, which stays: the greatest `u64` where it is more. No
+/// call of the crate: it is to look into what grammars cost. Refused as `ParseState::parse_line`.
 pub fn turns_of_line(
     alloc: Global,
     state: &ParseState,
@@ -391,7 +378,6 @@ fn first_operations(
     Ok(ops)
 }
 
-/// Where the reader stands at the start of a line.
 fn at_start(state: &Standing) -> Result<Position, AllocError>
     ensures { IfOk result (λ p. p ≡ at_start state.now) }
 {
@@ -427,8 +413,7 @@ fn is_passed(many: usize, limit: usize) -> bool
     many > limit
 }
 
-/// The limit that a line stands at after so many turns and operations, before its next turn, if it
-/// does at one.
+/// The limit at which a line stands after so many turns and operations, before its next turn.
 fn limit_at(p: &Position, turns: u64, operations: usize, limits: &Limits) -> Option<LineLimit>
     ensures some { IfSome result (StandsAt limits.now p.now turns operations) }
     ensures turns { IfNone result (IfSome (limit_of limits.now.turns) (λ most. turns < most)) }
@@ -478,8 +463,7 @@ fn meter_of(steps: usize) -> Meter
     }
 }
 
-/// The state after a line that begins on some level, its operations, and how many turns it took, as
-/// far as that can be known.
+/// The state after a line that begins on some level, its operations, and its turns, where known.
 fn read_line(
     alloc: Global,
     set: &SyntaxSet,
@@ -592,7 +576,6 @@ fn read_adding(
     }
 }
 
-/// A copy of the standing.
 fn copied(state: &Standing) -> Result<Standing, AllocError>
     ensures { IfOk result (λ s. s ≡ state.now) }
 {

@@ -27,8 +27,7 @@ const LIMIT: u32 = 12000;
 /// How much a need weighs that is met so seldom that no other is looked for.
 const SELDOM: u32 = 90;
 
-/// One of these, with one of those right after it, and a weight that grows with how often that is
-/// met in usual texts.
+/// One of these, with one of those right after it, and a weight that grows with how common it is.
 #[derive(Clone, Copy)]
 struct Sought {
     here: Places,
@@ -97,8 +96,7 @@ fn is_single(node: &Node) -> bool
     matches!(node, Node::Char(_) | Node::Class(_))
 }
 
-/// The first of two parts in a row with what the other begins with,
-/// if the first is a character of ASCII.
+/// The first of two parts in a row, if it is of ASCII, with what the other begins with.
 fn pair_of(nodes: &[Node], firsts: &PlaceList, first: usize, second: usize) -> Option<Sought>
     requires table { IsTable nodes.now firsts.now }
     requires first { first < length nodes.now }

@@ -43,8 +43,7 @@ pub struct Body {
 pub struct Reader {
     pub builder: Builder,
     pub names: Names,
-    /// Whether a back reference was met. Where none was,
-    /// it makes no difference which groups are known.
+    /// Whether a back reference was met. Else it makes no difference which groups are known.
     pub refers: bool,
     /// Whether a lookbehind was met.
     pub looks_back: bool,
@@ -204,7 +203,6 @@ impl Reader {
         Ok(self.item(body, node, place)?)
     }
 
-    /// An anchor.
     fn anchor_item<'a>(
         &mut self,
         body: Body,
@@ -301,8 +299,7 @@ impl Reader {
         self.builder.branches(&mut before)
     }
 
-    /// What a back reference to the number stands for, if it names a group. While the groups aren't
-    /// known it is nothing.
+    /// What a back reference to the number stands for, if to a group: nothing till those are known.
     fn by_number(
         &mut self,
         known: &Option<Names>,
@@ -331,8 +328,7 @@ impl Reader {
         ))
     }
 
-    /// What a back reference to the name stands for, if it names a group. While the groups aren't
-    /// known it is nothing.
+    /// What a back reference to the name stands for, if to a group: nothing till those are known.
     fn by_name(
         &mut self,
         known: &Option<Names>,

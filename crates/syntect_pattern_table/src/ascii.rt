@@ -104,8 +104,7 @@ fn tested_bits(named: Named) -> u128
     ascii
 }
 
-/// The characters whose simple folding is this one: it alone, or two letters of which
-/// the second is small.
+/// The characters whose simple folding is this one: it alone, or two letters, the second small.
 fn folded_bits(folded: u32) -> u128
     ensures { (x : ℕ) → x < 128 → (bit_at result x == 1) ≡ (folded == to_ascii_lowercase x) }
 {

@@ -11,8 +11,7 @@ use crate::starts::{Places, either, nowhere};
 use std::alloc::{AllocError, Global};
 use syntect_values::seq::Seq;
 
-/// How many alternations in a row, each the second part of the next, make a list for which jumps
-/// are kept.
+/// How many alternations in a row, each the second part of the next, make a list with jumps.
 const LONG: usize = 8;
 
 /// How many branches each of two jumps passes at most that are put together.
@@ -21,8 +20,7 @@ const FAR: u32 = 1 << 30;
 /// From a node to one after some of its branches.
 #[derive(Clone, Copy)]
 pub struct Jump {
-    /// Where matches of those branches can begin, part by part,
-    /// since that takes less room than `Places`.
+    /// Where matches of those branches can begin, in parts, which take less room than `Places`.
     ascii: u128,
     pub to: usize,
     /// How many branches are passed.
@@ -77,8 +75,7 @@ fn links(nodes: &[Node], low: usize, high: usize) -> usize {
     count
 }
 
-/// Where about the first long list of branches begins, or the end of the table. Not every node is
-/// looked at: of so many in a row one is.
+/// Where about the first long list of branches begins, or the table's end: not all nodes are seen.
 pub fn long_from(nodes: &[Node]) -> usize
     ensures { result ≤ length nodes.now }
 {
@@ -107,9 +104,8 @@ pub fn jump_of(jumps: &[Jump], from: usize, node: usize) -> Option<Jump>
     jumps.get(node - from).copied()
 }
 
-/// The jump of the node at the place: past the first branch of an alternation, and where two jumps
-/// of one length follow, past theirs. So a list of n branches is gone through in about log n jumps.
-/// Other nodes lead to themselves.
+/// The jump of the node: past the first branch of an alternation, and past what two jumps of one
+/// length that follow pass, so n branches take about log n jumps. Other nodes lead to themselves.
 fn jump_from(nodes: &[Node], place: usize, firsts: &PlaceList, before: &[Jump], from: usize) -> Jump
     requires ordered { IsOrdered nodes.now }
     requires inside { place < length nodes.now }

@@ -172,8 +172,7 @@ fn lengths_of(node: &Node, before: &[Lengths]) -> Lengths
     }
 }
 
-/// The lengths of each node, if they are wanted: none are kept of a table without a lookbehind,
-/// since nothing else asks for them.
+/// The lengths of each node, if wanted: none are kept of a table without a lookbehind.
 pub fn lengths_in(alloc: Global, nodes: &[Node], wanted: bool) -> Result<Seq<Lengths>, AllocError>
     requires { IsOrdered nodes.now }
     ensures { IfOk result (λ ls. AreLengths ls (trees nodes.now)) }

@@ -1,5 +1,4 @@
-//! The tree of a pattern as a table of nodes, its sets of characters,
-//! and what its matches begin with.
+//! The tree of a pattern as a table of nodes, its sets of characters, and what matches begin with.
 #![tactic(auto)]
 
 mod ascii;

@@ -10,8 +10,7 @@ use std::marker::Model;
 /// first is no longer found there, and is kept once more if it comes again.
 pub type Slots = [u32; 256];
 
-/// Where matches of nodes can begin, seen as the list of a node's each. Most of what is equal is
-/// kept once.
+/// Where matches of nodes can begin, seen as the list of each's. Most equal ones are kept once.
 #[derive(Drop)]
 pub struct PlaceList {
     known: Vec<Places>,
@@ -50,8 +49,7 @@ fn is_known(known: &[Places], number: u32, wanted: &Places) -> bool
     }
 }
 
-/// The slot of these. Multiplying by an odd number without pattern mixes the bits, so that places
-/// that differ in few seldom share one.
+/// The slot of these. An odd factor without pattern mixes the bits: similar ones seldom share one.
 fn slot_of(places: &Places) -> usize
     ensures { result < 256 }
 {
@@ -94,8 +92,7 @@ impl PlaceList {
         })
     }
 
-    /// Appends the places of one more node. The slots are those of this list so far; others, or
-    /// empty ones, only find less.
+    /// Appends the places of one more node. The slots are this list's; others only find less.
     pub fn push(&mut self, slots: &mut Slots, places: Places) -> Result<(), AllocError>
         ensures ok { OnOk result (self.new ≡ self.old ++ places ∷ []) }
         ensures err { OnErr result (self.new ≡ self.old) }

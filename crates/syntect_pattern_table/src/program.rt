@@ -23,15 +23,13 @@ pub struct Program {
     pub root: usize,
     /// How many groups there are, group 0 among them.
     pub groups: usize,
-    /// Whether a match can begin at a place where this stands: an ASCII character, 128 for any
-    /// other one, 129 for the text's end.
+    /// Whether a match can begin where this stands: ASCII, 128 for others, 129 for the text's end.
     pub starts: Seq<bool>,
     /// Where matches of each node can begin.
     pub firsts: PlaceList,
     /// The node whose jump is the first one.
     pub jumps_from: usize,
-    /// Jumps past branches, of the nodes from that one on. There are none where no list of branches
-    /// is long.
+    /// Jumps past branches, of the nodes from that one on; none where no list of branches is long.
     pub jumps: Seq<Jump>,
     /// What each match needs.
     pub needs: TwoNeeds,
@@ -51,9 +49,8 @@ impl Program {
     ghost use Rattle.syntect_pattern_table.specs.Lengths.{HasLengths};
     ghost use Rattle.syntect_pattern.specs.Matches.{Groups, matches};
 
-    /// The program whose whole match is the node at the root, with where matches of the nodes
-    /// begin, and what those of the whole need. Where it looks back, it keeps how many bytes
-    /// matches of its nodes read; one that isn't said to takes its lookbehinds to read any number.
+    /// The program whose whole match is the root's, with where matches begin and what they need. If
+    /// it looks back, it keeps how many bytes they read; else its lookbehinds may read any number.
     pub fn new(
         alloc: Global,
         nodes: Seq<Node>,
@@ -139,8 +136,7 @@ impl Program {
         Some(jump.to)
     }
 
-    /// How many of these places, this one and those right before it, are passed over, the last one
-    /// first, until the node may have a match, as what stands there tells.
+    /// How many of these places, from this one back, have no match of the node, as is seen there.
     pub fn dead_ends(&self, text: &str, place: usize, count: usize, node: usize) -> usize
         requires { (m : ℕ) → m < count → IsCharBoundary text.now (place - m) }
         ensures inside { result ≤ count }
@@ -155,8 +151,7 @@ impl Program {
         ends
     }
 
-    /// The first place from this one on where a match can begin, as far as the bytes up to `end`
-    /// tell, or `end`.
+    /// The first place from here to `end` where a match can begin, as the bytes tell, or `end`.
     pub fn next_start_up_to(&self, text: &str, place: usize, end: usize) -> usize
         requires order { place ≤ end }
         requires within { end ≤ length text.now }

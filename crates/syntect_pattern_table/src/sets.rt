@@ -61,8 +61,7 @@ fn part_at(parts: &[Part], place: usize) -> Part
     parts.get(place).copied().unwrap_or(Part::Nothing)
 }
 
-/// Whether the part at the place holds the character. Sets nest on the right alone, and no deeper
-/// than classes do.
+/// Whether the part holds the character. Sets nest on the right alone, no deeper than classes do.
 fn holds_at(parts: &[Part], root: usize, c: char) -> bool
     requires { AreOrdered parts.now }
     ensures { result ≡ holds (set_in parts.now root) c }
@@ -172,8 +171,7 @@ struct ClassBody {
     ghost widened: { wide ≡ is_wide (set_in (listed parts) root) },
 }
 
-/// A set of characters, made of parts, with its ASCII characters beside. It stands in a place of
-/// its own: most nodes of a table are no classes, and are to be small.
+/// A set of characters, of parts, with ASCII ones beside; in its own place, to keep nodes small.
 #[derive(Debug, Drop)]
 pub struct Class {
     body: Box<ClassBody>,

@@ -239,8 +239,7 @@ pub fn ahead(a: Firsts, negated: bool) -> Firsts
     }
 }
 
-/// Where the node at a place can begin, by the places of the nodes so far, their rows, and the
-/// rows' list.
+/// Where the node at a place can begin, by the nodes' places so far, their rows and the rows' list.
 #[inline]
 fn at(places: &PlaceList, rows: &[usize], firsts: &[Firsts], place: usize) -> Firsts
     requires inside { place < length places.now }
@@ -268,8 +267,7 @@ fn at(places: &PlaceList, rows: &[usize], firsts: &[Firsts], place: usize) -> Fi
     }
 }
 
-/// Where the part at the one place can begin with that at the other after it, which counts only
-/// where the first one can read nothing.
+/// Where a part can begin with another after it, which counts if the first can read nothing.
 fn sequence_at(
     places: &PlaceList,
     rows: &[usize],
@@ -348,8 +346,7 @@ pub fn start_at(text: &str, place: usize) -> u8
     }
 }
 
-/// The row of a node that begins so: a new one, or none, which is 0,
-/// where no match of it reads nothing.
+/// The row of a node that begins so: a new one, or 0, where no match of it reads nothing.
 #[inline]
 fn row_of(firsts: &mut Vec<Firsts>, next: Firsts) -> Result<usize, AllocError>
     ensures kept { OnOk result (GoesOn firsts.old.items firsts.new.items) }
@@ -365,9 +362,8 @@ fn row_of(firsts: &mut Vec<Firsts>, next: Firsts) -> Result<usize, AllocError>
     Ok(firsts.len())
 }
 
-/// Where matches of each node can begin. Few nodes have a match that reads nothing, and have a row
-/// for where they read something and where they don't: of the others all matches begin where they
-/// read something. Most of those are characters, and sequences that begin with one.
+/// Where matches of each node can begin. The few nodes that can read nothing have a row for where
+/// they read something and where they don't; all matches of others begin where they read something.
 pub fn places_of(alloc: Global, nodes: &[Node]) -> Result<PlaceList, AllocError>
     requires { IsOrdered nodes.now }
     ensures count { IfOk result (λ ps. length ps ≡ length nodes.now) }

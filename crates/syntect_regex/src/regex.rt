@@ -40,16 +40,14 @@ use syntect_seek::prospect::Prospect;
 use syntect_seek::seek::begins_known;
 use syntect_turns::count::TurnCount;
 
-/// A pattern of more bytes than this is compiled for searches when it is made, since each search
-/// would compare its text.
+/// A pattern of more bytes is compiled for searches when made: each would compare its text.
 const LONG: usize = 4096;
 
 /// A pattern. It is its text: equal texts are equal patterns.
 ///
 /// A text is compiled when the pattern is made, for what is asked of patterns that aren't searched,
-/// and again when it is first searched, for its program, which is kept from then on. So patterns
-/// that are never searched take little memory. Of those of more than 4096 bytes the program is kept
-/// when they are made.
+/// and again when it is first searched, for its program, which is kept from then on; so those never
+/// searched take little memory. One of more than 4096 bytes keeps its program at once.
 pub struct Regex {
     body: Box<RegexBody>,
 }
@@ -58,8 +56,7 @@ pub struct Regex {
 /// where it holds none, and that room is to be small.
 #[derive(Drop)]
 struct RegexBody {
-    /// What can stand at a place where a match begins, part by part, since that takes less room
-    /// than `Places`.
+    /// What can stand where a match begins, part by part, which takes less room than `Places`.
     ascii: u128,
     text: String,
     kept: Kept,
@@ -190,9 +187,8 @@ impl Regex {
         self.body.text.as_str()
     }
 
-    /// Whether a lookaround holds the group with this number. None holds group 0, since that is the
-    /// whole match. There is no answer where the pattern has no such group, nor where the text is
-    /// no pattern.
+    /// Whether a lookaround holds the group with this number; none holds group 0, the whole match.
+    /// No answer where the pattern has no such group, nor where the text is no pattern.
     pub fn group(&self, number: usize) -> Option<bool>
         ensures { result ≡ option_and_then (λ tree. group_in_look tree number)
             (pattern_tree self.now) }
@@ -456,8 +452,7 @@ impl Regex {
         region.find_known(program, pattern, text, place, known, depths, meter)
     }
 
-    /// Searches as `search_into` does, where a region is perhaps lent. Without one the memory of
-    /// the search is dropped.
+    /// Searches as `search_into` does, with a region if one is lent; else the memory is dropped.
     pub fn search(
         &self,
         alloc: Global,

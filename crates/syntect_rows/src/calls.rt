@@ -9,32 +9,22 @@ use std::io;
 use syntect_tables::engine::long_loop;
 use syntect_tables::styling::flags;
 
-/// An example.
+/// An example; the call of its name says what it is.
 #[derive(Clone, Copy)]
 enum Row {
-    /// A line by contexts that were made by calls.
     FirstLine,
-    /// A line that names a context which is not there.
     UnresolvedLine,
-    /// A syntax without a first context.
     NoStart,
-    /// Back references that give way to groups.
     References,
     /// A loop of many turns.
     LongLoop,
-    /// Pages of what readers give.
     Readers,
-    /// Pages of what readers give before a fault.
     FaultsBehindLines,
-    /// Themes of what readers give.
     ThemeReaders,
     /// Flags by their bits, and as texts.
     Flags,
-    /// A first context that a line leaves.
     LeftStart,
-    /// Captures without effect.
     Captures,
-    /// A line with another set.
     AnotherSet,
 }
 
@@ -73,8 +63,7 @@ fn holds(alloc: Global, row: Row) -> bool {
     outcome.unwrap_or(false)
 }
 
-/// Runs the examples, and prints of each whether it comes out as it is written.
-/// Answers whether all do.
+/// Runs the examples, prints of each whether it comes out as written, and answers whether all do.
 pub fn run_calls(rt: &(impl Print + AllocGlobal)) -> io::Result<bool> {
     let mut all = true;
     for (label, row) in &ROWS {

@@ -1,5 +1,4 @@
-//! Texts in files by the grammars of a folder: their scopes, the ten that lie with the program, and
-//! what is found of other folders, to compare it with what other programs make of them.
+//! Scopes of texts in files by folders of grammars: the ten that are here, and others to compare.
 use crate::finding::write_unlinked;
 use crate::given::Given;
 use crate::runs::write_scopes;
@@ -101,8 +100,7 @@ fn has_scopes(
     Some(out == wanted)
 }
 
-/// Prints of each text whether its scopes come out. False if one does not, or if the grammars are
-/// not loaded.
+/// Prints of each text whether its scopes come out. False if not all do, or no grammars are loaded.
 pub fn run_scope_rows(rt: &(impl Print + AllocGlobal + Files)) -> io::Result<bool> {
     let mut repository = ScopeRepository::new(rt.alloc());
     let Some(set) = set_with_plain_text(rt, rt.alloc(), GRAMMARS, &mut repository) else {
@@ -175,8 +173,7 @@ fn write_asked(
     }
 }
 
-/// Prints what is asked of the grammars of a folder. The status is 1 where they are not loaded or a
-/// file is not read.
+/// Prints what is asked of a folder's grammars. Status 1 where they aren't loaded or a file fails.
 pub fn show_asked(
     rt: &(impl Print + Eprint + AllocGlobal + Files),
     folder: &str,

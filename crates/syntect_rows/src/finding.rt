@@ -125,8 +125,7 @@ fn write_place(index: usize, pattern: Option<&Pattern>, out: &mut String) -> Opt
     }
 }
 
-/// Adds the places of the patterns of the first syntax's `__main`: of a copy of it in the set's
-/// builder, and by the set.
+/// Adds the places of patterns of the first syntax's `__main`: of a builder's copy, and by the set.
 pub fn write_places(given: Given<'_>, out: &mut String) -> Option<()> {
     let copy = given.set.clone().ok()?;
     let builder = copy.into_builder(given.alloc).ok()?;

@@ -6,8 +6,7 @@ use syntect_base::loading::LoadingError;
 use syntect_parsing::syntax_set::SyntaxSetBuilder;
 use syntect_scope::repository::ScopeRepository;
 
-/// Adds what adding a folder's grammars comes to, `ok` or the refusal's message, and the names of
-/// those that were added.
+/// Adds what adding a folder's grammars comes to, `ok` or the refusal, and the names of these.
 pub fn write_grammar_folder(
     files: &impl Files,
     given: Given<'_>,

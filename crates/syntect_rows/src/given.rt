@@ -55,8 +55,7 @@ fn add_grammar(
     builder.add(definition).ok()
 }
 
-/// Adds the grammars of a part: one of its text, those of the folder that it names, or that of
-/// plain text.
+/// Adds the grammars of a part: one of its text, those of a folder it names, or that of plain text.
 pub fn add_part(
     files: &impl Files,
     alloc: Global,
@@ -87,8 +86,7 @@ fn taken_apart(
     set.into_builder(alloc).ok()
 }
 
-/// The set of a row's grammars, in their order. What is before `taken apart` is built and taken
-/// apart there.
+/// The set of a row's grammars, in order. What is before `taken apart` is built and taken apart.
 pub fn set_of(
     files: &impl Files,
     alloc: Global,

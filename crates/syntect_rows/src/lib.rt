@@ -1,5 +1,4 @@
-//! The worked examples of docs/EXAMPLES.md: files that say what is given and what is to be found, a
-//! runner of them, and the few that are made by calls.
+//! The worked examples of docs/EXAMPLES.md: files of what is given and found, a runner, and calls.
 #![tactic(auto)]
 
 pub mod calls;

@@ -76,8 +76,7 @@ fn write_line(
     }
 }
 
-/// Adds the operations of a text's lines: of each line its number,
-/// and then each operation with its place.
+/// Adds the operations of a text's lines: each line's number, then each operation with its place.
 pub fn write_operations(
     given: Given<'_>,
     repository: &ScopeRepository,

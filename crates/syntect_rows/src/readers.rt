@@ -140,8 +140,7 @@ const HALF_A_THEME: &str = "{\"settings\":[{\"set";
 /// A theme that ends.
 const A_THEME: &str = "{\"settings\":[{\"settings\":{}}]}";
 
-/// A theme's reader that fails where its bytes end, one that ends there, and one that gives a byte
-/// at a time.
+/// Readers of a theme: one fails where its bytes end, one ends there, one gives a byte at a time.
 pub fn theme_readers(alloc: Global) -> Option<bool> {
     let mut repository = ScopeRepository::new(alloc);
     let mut bytes = HALF_A_THEME.as_bytes();

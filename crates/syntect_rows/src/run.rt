@@ -24,8 +24,7 @@ const ROWS: &str = "rows";
 /// Classes with a prefix that HTML escapes.
 const PREFIXED: ClassStyle = ClassStyle::SpacedPrefixed { prefix: "p<" };
 
-/// Adds what is found for a part of a writer: spans with classes, sheets, texts of given pieces; or
-/// for another part.
+/// Adds what is found for a writer's part (spans with classes, sheets, given pieces) or another.
 fn write_written(
     files: &impl Files,
     given: Given<'_>,
@@ -78,8 +77,7 @@ fn write_found(
     }
 }
 
-/// Whether a part's text is what is found. What is found ends with a newline, and the part's text
-/// without it.
+/// Whether a part's text is what is found, without the newline that this ends with.
 fn is_found(
     files: &impl Files,
     given: Given<'_>,
@@ -122,8 +120,7 @@ fn write_all(
     Some(())
 }
 
-/// Whether the row of a file's text comes out as it is written; where an output is given, what is
-/// found is added to it in place of that.
+/// Whether the row of a file's text comes out as written; an output gets what is found instead.
 fn run_row(
     files: &impl Files,
     alloc: Global,
@@ -154,8 +151,7 @@ fn run_row(
     }
 }
 
-/// Runs the row of a file, and prints whether it comes out as it is written.
-/// Answers whether it does.
+/// Runs the row of a file, and prints and answers whether it comes out as it is written.
 fn run_file(rt: &(impl Print + AllocGlobal + Files), path: &str) -> io::Result<bool> {
     let text = fs::read_to_string(rt, path)?;
     let holds = run_row(rt, rt.alloc(), text.as_str(), None) == Some(true);
@@ -164,8 +160,7 @@ fn run_file(rt: &(impl Print + AllocGlobal + Files), path: &str) -> io::Result<b
     Ok(holds)
 }
 
-/// Runs the rows of the files, in byte order of their names. Answers whether all come out as they
-/// are written.
+/// Runs the rows of the files, in byte order of names. Answers whether all come out as written.
 pub fn run_row_files(rt: &(impl Print + AllocGlobal + Files)) -> io::Result<bool> {
     let Ok(paths) = files_below(rt, rt.alloc(), Path::new(ROWS)) else {
         return Ok(false);

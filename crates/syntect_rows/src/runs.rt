@@ -15,8 +15,7 @@ struct Run {
     scopes: String,
 }
 
-/// Adds the stretch up to a place, whose bytes have the stack's scopes: to the one before it where
-/// that has the same.
+/// Adds the stretch up to a place, with the stack's scopes: to the one before it if that has them.
 fn add_run(
     runs: &mut Vec<Run>,
     to: usize,
@@ -90,9 +89,8 @@ fn write_line(
     }
 }
 
-/// Adds the scopes of each stretch of a text's lines: of each line its number and its length in
-/// bytes, and then of each of its stretches where it stands and its scopes, or why the line is
-/// refused. None where there is no syntax, where an operation is refused, or where memory runs out.
+/// Adds of each of a text's lines its number, its length in bytes, and each stretch's place and
+/// scopes, or why it is refused. None without a syntax or memory, or where an operation is refused.
 pub fn write_scopes(
     given: Given<'_>,
     repository: &ScopeRepository,

@@ -68,8 +68,7 @@ fn resumed<'t>(
     HighlightLines::from_state(alloc, theme, highlight_state, parse_state).ok()
 }
 
-/// Adds the styled pieces of a text's lines, by a highlighter that is taken up again after each
-/// line, with the scopes that are open there.
+/// Adds the pieces of a text's lines, by a highlighter taken up again after each, and open scopes.
 pub fn write_resumed_pieces(
     given: Given<'_>,
     repository: &ScopeRepository,

@@ -9,8 +9,7 @@ use syntect_scope::repository::ScopeRepository;
 use syntect_tables::answers::write_answer;
 use syntect_tables::row_file::Part;
 
-/// Adds what loading a grammar's text comes to: `ok` and its name, or the refusal's message. The
-/// fallback name is `F`.
+/// Adds what loading a grammar, with fallback name `F`, comes to: `ok` and its name, or why not.
 fn write_load(
     given: Given<'_>,
     question: &str,
