@@ -29,9 +29,12 @@ pub struct Memo {
 #[derive(Drop)]
 pub struct Memos {
     kept: Vec<Memo>,
-    /// Where a pattern's memo may stand. A slot is looked at before it is believed, so that none
-    /// need be wiped from line to line.
-    slots: [u16; SLOTS],
+    /// Where a pattern's memo may stand, as a number from `base` on. What a slot says is looked at
+    /// before it is believed, so that none need be wiped from line to line.
+    slots: [u32; SLOTS],
+    /// It rises with each line by as many as memos are kept at most, so that what earlier lines left
+    /// in the slots leads to none.
+    base: u32,
 }
 
 /// The slot of the pattern that stands there.
@@ -108,6 +111,7 @@ impl Memos {
         Memos {
             kept: Vec::new(alloc),
             slots: [0; SLOTS],
+            base: 1,
         }
     }
 
@@ -116,6 +120,15 @@ impl Memos {
         ensures { (set : SyntaxSet) (line : List ℕ) → AreKnown set line self.new }
     {
         self.kept.clear();
+        self.base = self.base.wrapping_add(2048);
+    }
+
+    /// The number of the memo to which the slot leads, and that of none where it leads nowhere.
+    #[inline]
+    fn number_in(&self, slot: usize) -> usize
+        requires { slot < 2048 }
+    {
+        self.slots[slot].wrapping_sub(self.base) as usize
     }
 
     /// Where what is known of the pattern that stands there is kept.
@@ -127,7 +140,7 @@ impl Memos {
     {
         let slot = slot_of(origin);
         for look in 0..LOOKS {
-            let number = self.slots[(slot + look) % SLOTS] as usize;
+            let number = self.number_in((slot + look) % SLOTS);
             if number >= self.kept.len() {
                 return None;
             }
@@ -144,6 +157,22 @@ impl Memos {
         ensures { (set : SyntaxSet) (line : List ℕ) → AreKnown set line self.now
             → IsKnownAt set line origin result }
     {
+        let number = self.number_in(slot_of(origin));
+        let Some(memo) = self.kept.get(number) else {
+            return Prospect::new();
+        };
+        if is_same(memo.origin, origin) {
+            return memo.prospect;
+        }
+        self.recall_beside(origin)
+    }
+
+    /// What is known of a pattern whose own slot leads to another one's memo.
+    #[inline(never)]
+    fn recall_beside(&self, origin: Origin) -> Prospect
+        ensures { (set : SyntaxSet) (line : List ℕ) → AreKnown set line self.now
+            → IsKnownAt set line origin result }
+    {
         match self.place_of(origin) {
             Some(number) => self.kept[number].prospect,
             None => Prospect::new(),
@@ -154,7 +183,7 @@ impl Memos {
     fn is_taken(&self, slot: usize) -> bool
         requires { slot < 2048 }
     {
-        let number = self.slots[slot] as usize;
+        let number = self.number_in(slot);
         if number >= self.kept.len() {
             return false;
         }
@@ -177,6 +206,37 @@ impl Memos {
         slot
     }
 
+    /// Keeps one more, to which the slot leads, where there is room.
+    fn push(&mut self, memo: Memo, slot: usize)
+        requires { slot < 2048 }
+        ensures { (set : SyntaxSet) (line : List ℕ) → AreKnown set line self.old
+            → IsKnownAt set line memo.origin memo.prospect → AreKnown set line self.new }
+    {
+        let next = self.kept.len();
+        if next < SLOTS && self.kept.push(memo).is_ok() {
+            self.slots[slot] = self.base.wrapping_add(next as u32);
+        }
+    }
+
+    /// Keeps a memo where something stands in its pattern's own slot.
+    #[inline(never)]
+    fn keep_beside(&mut self, memo: Memo)
+        ensures { (set : SyntaxSet) (line : List ℕ) → AreKnown set line self.old
+            → IsKnownAt set line memo.origin memo.prospect → AreKnown set line self.new }
+    {
+        if let Some(number) = self.place_of(memo.origin) {
+            self.kept[number] = memo;
+            return;
+        }
+        let slot = self.room_for(memo.origin);
+        let number = self.number_in(slot);
+        if self.is_taken(slot) && number < self.kept.len() {
+            self.kept[number] = memo;
+            return;
+        }
+        self.push(memo, slot);
+    }
+
     /// Keeps in mind what is known of the pattern that stands there, in place of another one where
     /// there is no room.
     pub fn keep(&mut self, origin: Origin, prospect: Prospect)
@@ -184,19 +244,11 @@ impl Memos {
             → IsKnownAt set line origin prospect → AreKnown set line self.new }
     {
         let memo = Memo { origin, prospect };
-        if let Some(number) = self.place_of(origin) {
-            self.kept[number] = memo;
+        let slot = slot_of(origin);
+        if self.number_in(slot) >= self.kept.len() {
+            self.push(memo, slot);
             return;
         }
-        let slot = self.room_for(origin);
-        let number = self.slots[slot] as usize;
-        if self.is_taken(slot) && number < self.kept.len() {
-            self.kept[number] = memo;
-            return;
-        }
-        let next = self.kept.len();
-        if next < SLOTS && self.kept.push(memo).is_ok() {
-            self.slots[slot] = next as u16;
-        }
+        self.keep_beside(memo);
     }
 }

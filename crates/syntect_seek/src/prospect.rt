@@ -75,6 +75,9 @@ impl Prospect {
     pub fn look_steps(&self, before: &Prospect, text: &str, place: usize) -> usize
         ensures { result ≤ length text.now }
     {
+        if text.len().saturating_sub(place) < LOOKED_A_STEP {
+            return 0;
+        }
         let seen = if self.from <= place {
             text.len()
         } else {
