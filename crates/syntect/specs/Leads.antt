@@ -82,9 +82,10 @@ BeginsPlain set syntax = (start : Standing) → start_of syntax ≡ Some start �
 
 -- ---- lines one after another ----
 
--- What contexts clear in these lines, as far as they are accepted, read one after another from the
--- start of the syntax, is put back in the order in which it was cleared. In a set that clears
--- nothing all lines are so: a law.
+-- Orderly lines: none of them that is accepted, read one after another from the start of the syntax,
+-- picks a `set` that leaves a context that clears, nor a push or a set that has such a context after
+-- its first. Then what is cleared is put back in order. In a set that clears nothing all lines are
+-- so: a law.
 abbrev pub RunsOrderly : SyntaxSet → SyntaxReference → List (List ℕ) → Type 0
 RunsOrderly set syntax lines =
     (start : Standing) → start_of syntax ≡ Some start → IsOrderlyRun dialect set lines start

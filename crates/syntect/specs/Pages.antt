@@ -66,8 +66,8 @@ abbrev pub body_text : Theme → List Row → List ℕ
 body_text theme rows =
     flat_map (λ row. line_text (IfDifferent (background_of theme)) row.pieces) rows
 
--- The page shows the text's lines, each read from the state that the lines before it leave, between
--- the theme's frame.
+-- The page shows the text's lines, all accepted, each read from the state that the lines before it
+-- leave, between the theme's frame; where they are orderly, each byte in the theme's style.
 pub record IsPage (set : SyntaxSet) (theme : Theme) (syntax : SyntaxReference)
     (text page : List ℕ) : Type 0 where
   pub rows : List Row
@@ -92,7 +92,7 @@ pub record IsRefusedAtALine (set : SyntaxSet) (syntax : SyntaxReference) (text :
   pub run : AnswersAll dialect set (lines_in rows ++ line ∷ []) start
       (answers_in rows ++ RefusedBy e ∷ []) after
 
--- there is no page: the syntax has no `__start`, or a line is refused, or there was no memory
+-- why no page is made: the syntax has no `__start`, or a line is refused, or memory ran out
 abbrev pub HasNoPage : SyntaxSet → SyntaxReference → List ℕ → Error → Type 0
 HasNoPage set syntax text =
     OnlyParsing (λ e. LacksStart syntax (error.ParsingError e) ⊎ IsRefusedAtALine set syntax text e)

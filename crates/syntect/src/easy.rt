@@ -154,7 +154,8 @@ impl<'a> HighlightLines<'a> {
     /// The styled pieces of the next line, which join to it. The set has to be that of the syntax.
     /// A refusal, that of the line's reading or lack of memory, changes nothing. The line is read
     /// once: the reader counts its turns and the steps of their searches, as
-    /// `ParseState::parse_line` does, also where the line is refused.
+    /// `ParseState::parse_line` does, also where the line is refused. Each byte has the theme's
+    /// style where the lines are orderly (`RunsOrderly`), as they all are where no context clears.
     pub fn highlight_line<'b>(
         &mut self,
         alloc: Global,
@@ -162,14 +163,15 @@ impl<'a> HighlightLines<'a> {
         syntax_set: &SyntaxSet,
     ) -> Result<Vec<(Style, &'b str)>, Error>
         // For each past that fits what is held, in a set that was built of plain definitions: the
-        // pieces join to the line, each byte has the theme's style where all lines are orderly, and
-        // the line joins the past; or it has the refusal of its reading, or memory ran out.
+        // pieces join to the line, and each byte has the theme's style where all lines are orderly;
+        // or it has the refusal of its reading. Either way the line joins the past with its answer,
+        // unless memory ran out.
         ensures answered { (past : Past) → IsPast past syntax_set.now self.old
             → Continues past syntax_set.now line.entry self.new result }
         ensures joins { IfOk result (λ pieces. Joins line.entry.now pieces.items) }
-        // Where the definitions' references are all by name, and no pattern leaves `__start`: it is
-        // refused exactly where a match is picked that names an unresolved reference, and with that
-        // one, unless memory ran out.
+        // Where no match of the definitions names a context by its number, none gives a context a
+        // prototype, and no pattern leaves `__start`: it is refused exactly where a match is picked
+        // that names an unresolved reference, and with that one, unless memory ran out.
         ensures refused { (past : Past) → IsPast past syntax_set.now self.old
             → AreByName past.definitions → StaysInStart syntax_set.now past.syntax
             → RefusedExactly syntax_set.now line.entry.now self.old result }

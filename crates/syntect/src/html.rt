@@ -33,9 +33,10 @@ use syntect_writers::spans::SpanWriter;
 /// What ends a page.
 const CLOSING: &str = "</pre>\n";
 
-/// A text's lines as HTML with inline styles, in a `pre` of the theme's background. The set has to
-/// be that of the syntax. Where a line is refused, the text is, with that line's refusal;
-/// `MissingMainContext` where the syntax has no context `__start`.
+/// A text's lines as HTML with inline styles, in a `pre` of the theme's background: each byte has
+/// the theme's style where the lines are orderly (`RunsOrderly`), as they all are where no context
+/// clears. The set has to be that of the syntax. Where a line is refused, the text is, with that
+/// line's refusal; `MissingMainContext` where the syntax has no context `__start`.
 pub fn highlighted_html_for_string(
     alloc: Global,
     s: &str,

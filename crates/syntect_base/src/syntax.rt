@@ -10,7 +10,7 @@ pub enum ParseSyntaxError {
     /// The text is not of the YAML that is read.
     #[error("Invalid YAML file syntax")]
     InvalidYaml,
-    /// The text has no value.
+    /// The text has no node.
     #[error("The file must contain at least one YAML document")]
     EmptyFile,
     /// The text lacks this key, which it must have.

@@ -48,7 +48,8 @@ abbrev pub Gives : {A B : Type 0} → (A → B) → Result A ParseSyntaxError �
 Gives f (Ok a) after answer = answer ≡ Ok (f a, after)
 Gives f (Err e) after answer = Fails answer e
 
--- the same of a result that leaves what has been read
+-- The result, seen by f, is what the definition answers; an error is its refusal, unless memory
+-- ran out. What has been read stays.
 abbrev pub Finds : {A B : Type 0} → (A → B) → Result A ParseSyntaxError → Result B Refusal → Type 0
 Finds f (Ok a) answer = answer ≡ Ok (f a)
 Finds f (Err e) answer = Fails answer e
@@ -57,7 +58,7 @@ Finds f (Err e) answer = Fails answer e
 abbrev pub Begins : List (List ℕ) → List (List ℕ) → Type 0
 Begins old repository = take (length old) repository ≡ old
 
--- whatever began the one repository begins the other
+-- the repository after begins with all that begins the one before, so atoms keep their numbers
 abbrev pub Keeps : List (List ℕ) → List (List ℕ) → Type 0
 Keeps before after = (old : List (List ℕ)) → Begins old before → Begins old after
 

@@ -27,7 +27,7 @@ KnowNoNumber [] = Unit {0}
 KnowNoNumber (entry ∷ entries) =
     (entry.1.prototype ≡ None) × NamesNoNumber entry.1.patterns × KnowNoNumber entries
 
--- definitions whose references are all by name, and that give no context a prototype
+-- no match names a context by its number, and no context is given a prototype (includes are free)
 abbrev pub AreByName : List SyntaxDefinition → Type 0
 AreByName [] = Unit {0}
 AreByName (d ∷ ds) = KnowNoNumber d.contexts × AreByName ds

@@ -29,8 +29,8 @@ LooksWithin set line state patterns most put =
     × AreWithin (length line) most (chain_at set (trimmed p))
     × ArePutWithin put (chain_at set (trimmed p))
 
--- from the number before the line to the one after it the searches of so many turns took at most
--- those steps of each turn
+-- For all numbers within which the line looks, all patterns there being linear: from the number
+-- before the line to the one after it the searches of so many turns took at most those steps a turn.
 abbrev pub TakesSteps : SyntaxSet → List ℕ → Standing → ℕ → ℕ → ℕ → Type 0
 TakesSteps set line state turns before after = (patterns most put : ℕ)
     → LooksWithin set line state patterns most put
