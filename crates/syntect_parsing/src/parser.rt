@@ -103,18 +103,18 @@ impl ParseState {
     /// order, are not refused on the stack that the lines before left, empty before the first, nor
     /// on any that remembers a list for each open level that clears. There they give the line's
     /// scopes if the syntax has a plain `__start` and the lines are orderly. A refusal leaves the
-    /// state as it was: `MissingMainContext` where no context is open any more, `UnresolvedContextReference`
-    /// where a picked match names an unresolved reference, `MissingContext` where the set lacks a
-    /// context that it names, the one on top, or a prototype to be looked at, and `Memory`. The
-    /// state counts turns, which take a match, pass over a character, or end or refuse the line: an
-    /// accepted line takes those of its reading, a refused one no more, and neither more than
-    /// `levels + (r + 1) * 1001 * (bytes + 1)`, `r` the longest list of contexts that a match of
-    /// the set opens, or 1. It counts their searches' steps, as `Regex::search_counted` does: if
-    /// the patterns looked at are linear and memory suffices, at most
-    /// `turns * patterns * (put + most * (bytes + 1))`, of `patterns` a turn, `most` steps a search
-    /// of one and `put` for texts put into it (`steps`); if all of the set are linear without back
-    /// references, a formula of set, line length and open levels bounds them (`most_steps`).
-    /// Neither falls (`no_fewer`, `no_fewer_steps`).
+    /// state as it was: `MissingMainContext` where no context is open any more,
+    /// `UnresolvedContextReference` where a picked match names an unresolved reference,
+    /// `MissingContext` where the set lacks a context that it names, the one on top, or a prototype
+    /// to be looked at, and `Memory`. The state counts turns, which take a match, pass over a
+    /// character, or end or refuse the line: an accepted line takes those of its reading, a refused
+    /// one no more, and neither more than `levels + (r + 1) * 1001 * (bytes + 1)`, `r` the longest
+    /// list of contexts that a match of the set opens, or 1. It counts their searches' steps, as
+    /// `Regex::search_counted` does: if the patterns looked at are linear and memory suffices, at
+    /// most `turns * patterns * (put + most * (bytes + 1))`, of `patterns` a turn, `most` steps a
+    /// search of one and `put` for texts put into it (`steps`); if all of the set are linear
+    /// without back references, a formula of set, line length and open levels bounds them
+    /// (`most_steps`). Neither falls (`no_fewer`, `no_fewer_steps`).
     pub fn parse_line(
         &mut self,
         alloc: Global,
