@@ -28,11 +28,11 @@ TOP = pathlib.Path(__file__).resolve().parent.parent
 PAGE = TOP / "docs" / "BELIEVED.md"
 # the main calls: a title, and functions by the names of their types, "" for those of none
 ENTRIES = [
-    ("A line's pieces", [("HighlightLines", "highlight_line")]),
+    ("A search", [("Regex", "search")]),
     ("A line's operations", [("ParseState", "parse_line")]),
+    ("A line's pieces", [("HighlightLines", "highlight_line")]),
     ("A grammar's text", [("SyntaxDefinition", "load_from_str")]),
     ("A set of grammars", [("SyntaxSetBuilder", "build")]),
-    ("A search", [("Regex", "search")]),
     ("Pages", [
         ("", "highlighted_html_for_string"),
         ("ClassedHTMLGenerator", "new_with_class_style"),
@@ -829,9 +829,10 @@ def shown(place):
 
 
 def heading_of(path):
-    """A file's name, and what its first line says of it."""
-    first = text_of(path).split("\n", 1)[0]
-    words = re.sub(r"^(?:--|//!) ?", "", first) if first.startswith(("--", "//!")) else ""
+    """A file's name, and what its first sentence says of it."""
+    above = re.match(r"(?:(?:--|//!) ?\S.*\n)*", text_of(path))[0]
+    words = re.sub(r"^(?:--|//!) ?", "", above, flags=re.M).replace("\n", " ").strip()
+    words = re.match(r"(?:.*?[.:](?= |$))?", words)[0].rstrip(":") or words
     return f"**`{crate_of(path)}`, {path.stem}**" + (f": {plain(words)}" if words else "")
 
 
@@ -945,6 +946,8 @@ INTRODUCTION = """\
 A proof says that the code does what its contract says. Whether the contract says what one wants is for a reader to judge, and a contract is written in words that are defined elsewhere. This page has, for each main call, all definitions that its contract rests on; nobody needs to read another one of `specs/` to know what the call promises. `DEFINITIONS.md` says the same in words, by notion. The kit and the machine are believed too: [what is believed](NOT_PROMISED.md#what-is-believed).
 
 First come the names that the contract itself cites, and then what these rest on, by file, in the order in which a reader meets the files. A definition stands here once, and a later call refers to it. Behind each name is the comment above it, which is a help and no part of the promise. A type that has a *view* stands in contracts for the value that its `Model` gives; the other types are what their declarations say, and are listed at the end. An *invariant* holds of every value of its type, and no caller can break it: one can judge what is promised without it, so what invariants alone rest on stands apart. What is of the standard library and of its crates is named last.
+
+How to read a path: `Rattle.syntect_scope.specs.Stack` is `crates/syntect_scope/specs/Stack.antt`; `declared.stack.ScopeStack` is the type `ScopeStack` of `src/stack.rt`, and `TheVariants` are the variants of an enum. In a clause `x.old` and `x.new` are what a `&mut` refers to before and after the call, `x.now` what a `&` refers to, `x.entry` and `x.exit` an argument itself before and after; `IfOk r P` says P of an answer and nothing of an error, `OnOk r P` says P where there is an answer, `IfErr` and `OnErr` the same of errors.
 
 Lines are those of definitions, without comments and `use`. The page is made by `python3 scripts/believed.py`, which says how names are found."""
 

@@ -152,7 +152,7 @@ def wanted():
         (r"([\d.]+) GB of memory, ([\d.]+) GB of disk", needs),
         (r"some (\d+) minutes on four processors, to prove (\d+) crates", [*minutes, len(crates_below("syncat"))]),
         (r"(\d+) edits that each .*? these and (\d+) more", [edits("gate"), edits("more")]),
-        (r"(\w+) small grammars and (\w+) themes", [files("examples/grammars/*"), files("examples/*.json")]),
+        (r"grammars of (\d+) languages in `grammars`", [files("grammars/*.sublime-syntax")]),
         (r"with (\d+) grammars loaded, takes at most ([\d.]+) of the crate's memory on each of (\d+) texts",
          [grammars, memory, texts]),
         (r"tested\]\(docs/TESTED.md\) on (\d+) real files", figure("docs/TESTED.md", r"(\d+) real files")),
