@@ -226,10 +226,10 @@ for n in NEW:
         for o, t in sorted(LIBS.get((n, f'{kind}/Lib.antt'), [])):
             for l in t.splitlines():
                 l = ghost_canon(l, o)
-                m = re.match(r'pub mod (\w+)', l)
+                m = re.match(r'(pub )?mod (\w+)', l)
                 if m:
-                    l = 'pub mod ' + ren(o, kind, m.group(1))
-                    if kind == 'proofs' and m.group(1) in MODS[o]: l = 'pub mod ' + ren(o, 'src', m.group(1))
+                    l = (m.group(1) or '') + 'mod ' + ren(o, kind, m.group(2))
+                    if kind == 'proofs' and m.group(2) in MODS[o]: l = (m.group(1) or '') + 'mod ' + ren(o, 'src', m.group(2))
                 if re.match(rf'pub use Rattle\.{n}\.', l): continue
                 if l.strip() and l not in lines: lines.append(l)
         if LIBS.get((n, f'{kind}/Lib.antt')): LIBA[n, kind] = lines
