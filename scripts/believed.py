@@ -5,7 +5,7 @@
     python3 scripts/believed.py --check     compares it; the status is 1 where it is another one
     python3 scripts/believed.py --lines     prints the numbers alone
     python3 scripts/believed.py --missing   the definitions of the page that have no line of words above them
-    python3 scripts/believed.py --mixed     the files of specs/ that hold what a public contract rests on, and other things
+    python3 scripts/believed.py --mixed     the definitions that stand under another heading than they should
     python3 scripts/believed.py --why NAME  for each main call, how its contract comes to the definitions of this name
 
 A contract is the clauses `requires` and `ensures` of a function. Its names are resolved by the `ghost use` lines of its file
@@ -15,7 +15,9 @@ a definition or a clause that was reached names the field. What the invariants o
 is not of this repository is named and not followed. Not seen: members of traits at a bound, as `R.remaining` in a clause, and
 what a derive or an impl says of equality or copies, as `is_clone`.
 
-For --mixed a public function is a `pub fn` of a `pub mod` path, or of what such a path passes on, in a crate that a main
+In a file of specs/ stands first what public contracts rest on, then, under a heading, what invariants alone rest on, and
+under another what proofs and private functions alone use; the status of --mixed is 1 where one stands elsewhere. There a
+public function is a `pub fn` of a `pub mod` path, or of what such a path passes on, in a crate that a main
 call stands on or in a crate of laws; the members and clauses of the traits of public types are public too.
 """
 import collections
@@ -26,6 +28,8 @@ import sys
 
 TOP = pathlib.Path(__file__).resolve().parent.parent
 PAGE = TOP / "docs" / "BELIEVED.md"
+# the headings in a file of specs/
+HEADINGS = ["-- ---- What invariants alone rest on ----", "-- ---- For proofs and private functions alone ----"]
 # the main calls: a title, and functions by the names of their types, "" for those of none
 ENTRIES = [
     ("A search", [("Regex", "search")]),
@@ -434,11 +438,25 @@ def module_file(crate, words):
 
 
 @functools.lru_cache(maxsize=None)
+def inner_module(crate, words):
+    """What a module that stands whole in another one's file brings in, by name; None where there is no such module."""
+    file = module_file(crate, words[:-1]) if words else None
+    found = file and re.search(rf"^pub mod {words[-1]} \{{\n(.*?)^\}}", bare(file), flags=re.M | re.S)
+    if not found:
+        return None
+    uses = re.findall(r"^ +pub use ([^;]*);", found[1], flags=re.M)
+    return {name: path for it in uses for name, path in trees(" ".join(it.split()))}
+
+
+@functools.lru_cache(maxsize=None)
 def item(crate, words, name):
     """What a module has under a name: a type, or a module as its crate and path."""
     file = module_file(crate, words)
     if file is None:
-        return None
+        path = (inner_module(crate, words) or {}).get(name)
+        return path and at_path(crate, words, path)
+    if inner_module(crate, words + (name,)) is not None:
+        return crate, words + (name,)
     found = declared(file, name)
     if found:
         return found
@@ -947,7 +965,7 @@ A proof says that the code does what its contract says. Whether the contract say
 
 First come the names that the contract itself cites, and then what these rest on, by file, in the order in which a reader meets the files. A definition stands here once, and a later call refers to it. Behind each name is the comment above it, which is a help and no part of the promise. A type that has a *view* stands in contracts for the value that its `Model` gives; the other types are what their declarations say, and are listed at the end. An *invariant* holds of every value of its type, and no caller can break it: one can judge what is promised without it, so what invariants alone rest on stands apart. What is of the standard library and of its crates is named last.
 
-How to read a path: `Rattle.syntect_scope.specs.Stack` is `crates/syntect_scope/specs/Stack.antt`; `declared.stack.ScopeStack` is the type `ScopeStack` of `src/stack.rt`, and `TheVariants` are the variants of an enum. In a clause `x.old` and `x.new` are what a `&mut` refers to before and after the call, `x.now` what a `&` refers to, `x.entry` and `x.exit` an argument itself before and after; `IfOk r P` says P of an answer and nothing of an error, `OnOk r P` says P where there is an answer, `IfErr` and `OnErr` the same of errors.
+How to read a path: `Rattle.syntect_parsing.specs.syntect_scope.Stack` is `crates/syntect_scope/specs/Stack.antt`, since a crate passes on those that it stands on; `declared.stack.ScopeStack` is the type `ScopeStack` of `src/stack.rt`, and `TheVariants` are the variants of an enum. In a clause `x.old` and `x.new` are what a `&mut` refers to before and after the call, `x.now` what a `&` refers to, `x.entry` and `x.exit` an argument itself before and after; `IfOk r P` says P of an answer and nothing of an error, `OnOk r P` says P where there is an answer, `IfErr` and `OnErr` the same of errors.
 
 Lines are those of definitions, without comments and `use`. The page is made by `python3 scripts/believed.py`, which says how names are found."""
 
@@ -999,7 +1017,7 @@ def library():
     text = text_of(TOP / "crates.txt")
     uses = {it[1]: it[2].split() for it in re.finditer(r"^(\w+)(?: \S+)*:(.*)$", text, flags=re.M)}
     left = [crate_of(entry(*it).file) for _, calls in ENTRIES for it in calls]
-    left += [it for it in crates() if it.endswith("_laws")]
+    left += [it for it in crates() if it.endswith("laws")]
     found = set()
     while left:
         name = left.pop()
@@ -1053,25 +1071,26 @@ def public_functions():
                     yield Function(path, trait, owner, trait, True, 0, "", texts, ghosts(path, start, end))
 
 
+def wanted_heading(place, believed, others):
+    """Under which heading a definition is to stand: 0 is none."""
+    return 0 if place in believed else 1 if place in others else 2
+
+
 def print_mixed():
+    """The definitions that stand under another heading than they should, and how many stand where."""
     closure, _ = closure_of(public_functions())
     believed, others = set(closure.items(True)), set(closure.items(False))
-    files = collections.defaultdict(lambda: ([], [], []))
+    counts, wrong = collections.Counter(), 0
     for it in all_definitions():
-        place = Place("def", it.file, it.name)
-        files[it.file][0 if place in believed else 1 if place in others else 2].append(it.name)
-    kinds = collections.Counter()
-    for path, parts in files.items():
-        kinds[tuple(map(bool, parts))] += 1
-        if sum(map(bool, parts)) > 1:
-            said = [f"{len(parts[0])} of {sum(map(len, parts))} believed"]
-            kept_alone, not_reached = map(", ".join, parts[1:])
-            said += [f"by invariants alone: {kept_alone}"] * bool(kept_alone) + [f"not: {not_reached}"] * bool(not_reached)
-            print(f"{path.relative_to(TOP)}: {'; '.join(said)}")
-    mixed = sum(count for kind, count in kinds.items() if sum(kind) > 1)
-    print(f"{mixed} of {len(files)} files are mixed, {kinds[True, True, False]} of these by invariants alone")
-    print(f"of one kind: believed {kinds[True, False, False]}, by invariants alone {kinds[False, True, False]}, "
-          f"neither {kinds[False, False, True]}")
+        lines = text_of(it.file).splitlines()[: it.line]
+        stands = max((n for n, heading in enumerate(HEADINGS, 1) if heading in lines), default=0)
+        wanted = wanted_heading(Place("def", it.file, it.name), believed, others)
+        counts[wanted] += 1
+        if stands != wanted:
+            print(f"{it.file.relative_to(TOP)}:{it.line}: {it.name} belongs {('before all headings', *HEADINGS)[wanted]}")
+            wrong += 1
+    print(f"public contracts rest on {counts[0]} definitions, invariants alone on {counts[1]} more, and {counts[2]} are for the inside alone")
+    return 1 if wrong else 0
 
 
 def main():
@@ -1080,7 +1099,7 @@ def main():
     if len(words) == 2 and words[0] == "--why":
         print_why(words[1])
     elif len(words) == 1 and words[0] in said:
-        said[words[0]]()
+        return said[words[0]]() or 0
     elif words == ["--check"]:
         if not PAGE.is_file() or text_of(PAGE) != page():
             print("docs/BELIEVED.md is not up to date: python3 scripts/believed.py", file=sys.stderr)

@@ -14,7 +14,7 @@ error and nothing on standard output. It has 20 seconds, 2 GB of memory and 1 MB
 inputs are kept in the folder KEEP (broken_inputs in the current one), and the status is 1. At the end the answers are
 counted by what was broken.
 
-With --calls FAULTS is the built syntect_faults, and COUNT inputs are made of each file of FOLDER (its data/broken): grammars,
+With --calls FAULTS is the built syntect_check_faults, and COUNT inputs are made of each file of FOLDER (its data/broken): grammars,
 themes, settings, patterns and texts, each of which the library has to answer. Each input has the same limits. One that is not
 answered is kept in KEEP under its number and its file's name, and one that ends the program or runs past its time under that
 of its run; `FAULTS input FILE` tries it again.

@@ -16,20 +16,20 @@ import sys
 
 HERE = os.path.dirname(os.path.dirname(os.path.abspath(__file__)))
 CRATES = (
-    "scope regex metadata theme theme_files style classed contexts loader within grammar folders first_lines openings parsing buffer"
+    "scope regex metadata theme theme_files style writers grammar_contexts grammar_loader grammar grammar_limits reading_state parsing buffer"
 ).split()
 # each error with the file that has it
 ERRORS = {
     "ParseScopeError": "syntect_scope/src/repository.rt",
     "ScopeError": "syntect_scope/src/stack.rt",
     "PatternError": "syntect_pattern/src/error.rt",
-    "ParsingError": "syntect_contexts/src/error.rt",
+    "ParsingError": "syntect_grammar_contexts/src/error.rt",
     "ParseSyntaxError": "syntect_base/src/syntax.rt",
     "LoadWithinError": "syntect_base/src/limits.rt",
-    "FolderWithinError": "syntect_folders/src/error.rt",
-    "FindWithinError": "syntect_first_lines/src/error.rt",
+    "FolderWithinError": "syntect_grammar_limits/src/folder_error.rt",
+    "FindWithinError": "syntect_grammar_limits/src/first_line_error.rt",
     "ReadWithinError": "syntect_parsing/src/within.rt",
-    "HighlightWithinError": "syntect/src/within.rt",
+    "HighlightWithinError": "syntect_easy/src/within.rt",
     "ParseThemeError": "syntect_base/src/theme.rt",
     "LoadingError": "syntect_base/src/loading.rt",
     "MetadataError": "syntect_metadata/src/error.rt",
@@ -81,7 +81,7 @@ def calls_in(crate, path):
 def public_calls():
     """Each call, with its error and its crate."""
     calls = {}
-    for crate in [f"syntect_{name}" for name in CRATES] + ["syntect"]:
+    for crate in [f"syntect_{name}" for name in CRATES] + ["syntect_easy"]:
         folder = f"crates/{crate}/src"
         root = text_of(f"{folder}/lib.rt")
         open_files = {f"{name}.rt" for name in re.findall(r"^pub mod (\w+);", root, re.M)} | {"lib.rt"}
@@ -101,8 +101,8 @@ def labels():
         place = os.path.join(HERE, "crates/syntect_bench/data", folder)
         for name in os.listdir(place):
             found.add(text_of(f"crates/syntect_bench/data/{folder}/{name}").split("\n", 1)[0].split(":", 1)[0])
-    for name in os.listdir(os.path.join(HERE, "crates/syntect_rows/src")):
-        found.update(re.findall(r'"(R?\d+(?:\.\d+)?(?: [a-z ]+)?)"', text_of(f"crates/syntect_rows/src/{name}")))
+    for name in os.listdir(os.path.join(HERE, "crates/syntect_check_rows/src")):
+        found.update(re.findall(r'"(R?\d+(?:\.\d+)?(?: [a-z ]+)?)"', text_of(f"crates/syntect_check_rows/src/{name}")))
     return found
 
 
@@ -111,7 +111,7 @@ def tests():
     found = set()
     for crate in os.listdir(os.path.join(HERE, "crates")):
         folder = os.path.join(HERE, "crates", crate, "src")
-        if not crate.endswith("_tests"):
+        if not crate.startswith("syntect_test_"):
             continue
         for name in os.listdir(folder):
             found.update(re.findall(r"#\[test\]\nfn (\w+)", text_of(f"crates/{crate}/src/{name}")))

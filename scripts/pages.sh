@@ -4,7 +4,7 @@
 #
 #   sh scripts/pages.sh [FOLDER]
 #
-# FOLDER is where they are put; without the word it is examples/pages. The program syntect_pages is proved and built first,
+# FOLDER is where they are put; without the word it is examples/pages. The program syntect_example_pages is proved and built first,
 # with the Rattle kit's command rt, where it isn't yet.
 set -eu
 
@@ -14,9 +14,9 @@ mkdir -p "$folder"
 folder=$(cd "$folder" && pwd)
 
 # the first run proves and builds the program
-cd "$here/crates/syntect_pages"
+cd "$here/crates/syntect_example_pages"
 rt run -- css "$here/examples/dawn.json" "$here/examples/dusk.json" > /dev/null
-pages=$here/crates/syntect_pages/out/syntect_pages
+pages=$here/crates/syntect_example_pages/out/syntect_example_pages
 
 cd "$here/examples"
 "$pages" html grammars texts/orbit.rs pages.css > "$folder/orbit.html"

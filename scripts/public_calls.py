@@ -15,10 +15,9 @@ import sys
 
 HERE = os.path.dirname(os.path.dirname(os.path.abspath(__file__)))
 CRATES = (
-    "scope regex metadata theme theme_files style writers classed css pieces operations contexts loader within grammar folders first_lines openings parsing"
-    " buffer blocks"
+    "scope regex metadata theme theme_files style writers operations grammar_contexts grammar_loader grammar grammar_limits reading_state parsing buffer blocks"
 ).split()
-TRIALS = ["call", "copy", "set", "fault"]
+TRIALS = ["calls", "sets", "faults"]
 REFUSALS = re.compile(
     r"\b(AllocError|ParseScopeError|ScopeError|ParsingError|ParseSyntaxError|LoadWithinError|FolderWithinError|FindWithinError|ReadWithinError|HighlightWithinError|ParseThemeError|LoadingError|MetadataError|"
     r"PatternError|SettingsError|Error)\b"
@@ -28,7 +27,7 @@ ITEM = re.compile(r"^(?:impl\b[^{;]*|(?:    )?(?:pub )?(?:const )?fn [^{;]*|#\[d
 
 def folders():
     """The crates' names and folders."""
-    for name in [f"syntect_{crate}" for crate in CRATES] + ["syntect"]:
+    for name in [f"syntect_{crate}" for crate in CRATES] + ["syntect_easy"]:
         yield name, os.path.join(HERE, "crates", name, "src")
 
 
@@ -100,7 +99,7 @@ def tried_calls():
     """The names in the crates of trials, without what stands in brackets behind them."""
     tried = set()
     for crate in TRIALS:
-        source = os.path.join(HERE, "crates", f"syntect_{crate}_trials", "src")
+        source = os.path.join(HERE, "crates", f"syntect_check_{crate}", "src")
         for name in os.listdir(source):
             with open(os.path.join(source, name)) as file:
                 for names in re.findall(r"^pub const NAMES: \[&str; \d+\] = \[(.*?)\];", file.read(), re.M | re.S):

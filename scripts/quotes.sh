@@ -3,8 +3,8 @@
 #
 #   sh scripts/quotes.sh
 #
-# docs/CALLING.md quotes the program crates/syntect_pager/src/main.rt and its line of crates.txt, whole, and the proof of
-# crates/syntect_folder_page/src/folder.rt. Ends with status 1, and shows where they differ, if they do.
+# docs/CALLING.md quotes the program crates/syntect_example_pager/src/main.rt and its line of crates.txt, whole, and the proof of
+# crates/syntect_example_folder_page/src/folder.rt. Ends with status 1, and shows where they differ, if they do.
 set -eu
 
 cd "$(dirname "$0")/.."
@@ -19,10 +19,10 @@ same() {
     quoted "$1" "$2" | diff -u "$3" - || { echo "quotes.sh: $1 does not quote $3" >&2; status=1; }
 }
 
-same docs/CALLING.md rust crates/syntect_pager/src/main.rt
-same docs/CALLING.md antt crates/syntect_folder_page/proofs/folder/page_by_folder/Answers.antt
-grep -qFx "    $(grep '^syntect_pager:' crates.txt)" docs/CALLING.md || {
-    echo "quotes.sh: docs/CALLING.md does not quote the line of syntect_pager in crates.txt" >&2
+same docs/CALLING.md rust crates/syntect_example_pager/src/main.rt
+same docs/CALLING.md antt crates/syntect_example_folder_page/proofs/folder/page_by_folder/Answers.antt
+grep -qFx "    $(grep '^syntect_example_pager:' crates.txt)" docs/CALLING.md || {
+    echo "quotes.sh: docs/CALLING.md does not quote the line of syntect_example_pager in crates.txt" >&2
     status=1
 }
 exit "$status"

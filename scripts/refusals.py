@@ -8,7 +8,7 @@ PROGRAM is run with these words, as syncat with its four: each run has to end as
 not even its words can be read), one line on standard error and, unless a write fails, nothing on standard output. A short read
 or write must change nothing.
 
-With --calls PROGRAM is syntect_faults, run in crates/syntect_faults/data: with the word `calls` it prints the names of calls, with
+With --calls PROGRAM is syntect_check_faults, run in crates/syntect_check_faults/data: with the word `calls` it prints the names of calls, with
 `call NAME` it makes one three times over. Of each call, or of those named here, only the requests and reads between the start and
 the end of the first call are disturbed. The call then has to answer as undisturbed, or that there is no memory (of a read: that it
 failed) with what it left as it was before; and made again it has to answer as undisturbed. Calls that look for a syntax in a

@@ -3,20 +3,13 @@
 //!
 //! `easy::HighlightLines` takes lines one after another and answers styled pieces. The modules
 //! `parsing` and `highlighting` have the parts that it is made of.
+//! `buffer::LineBuffer` keeps the styles of a text that is edited, and `values` has the types of lists, texts and tables
+//! that fields have.
 #![tactic(auto)]
 
-mod classed;
-pub mod easy;
-pub mod explain;
-pub mod highlighting;
-pub mod html;
-pub mod laws;
-mod memory;
-pub mod parsing;
-pub mod reading;
-pub mod util;
-mod within;
+pub mod buffer;
+pub mod values;
 
-pub use syntect_base::loading::LoadingError;
-pub use syntect_parsing::error::Error;
-pub use syntect_writers::escape;
+pub use syntect_buffer::below::easy::{
+    Error, LoadingError, easy, escape, explain, highlighting, html, laws, parsing, reading, util,
+};

@@ -2,7 +2,7 @@
 use Rattle.std.proofs.Common.{◌≡◌, ℕ, List, [], ◌∷◌, ◌++◌, map, reverse, refl, ap, sym, ◌∙◌, append_assoc, subst}
 use Rattle.std.proofs.lemmas.List.{append-nil, reverse-append, reverse-reverse}
 use Rattle.syntect_base.specs.Ahead.{Ahead}
-use Rattle.syntect_base.specs.Walks.{joined, InByteOrder, Walks, IsWalk, Visits, GoesOn, GivesFile, ended, passed_over, file, subfolder, none_ahead, passes_over, takes, enters}
+use Rattle.syntect_base.specs.Walks.{joined, InByteOrder, Walks, IsWalk, Visits, IsWalkSoFar, GivesFile, ended, passed_over, file, subfolder, none_ahead, passes_over, takes, enters}
 
 -- a folder's entries and what is after them, visited in order, are the folder's walk and what is
 -- after it
@@ -51,11 +51,11 @@ passes_all [] = none_ahead
 passes_all (path ∷ ahead) = passes_over (passes_all ahead)
 
 -- the files found so far are a walk
-pub so_far : (folder : List ℕ) (found : List (List ℕ)) (ahead : Ahead) → GoesOn folder found ahead → IsWalk folder found
+pub so_far : (folder : List ℕ) (found : List (List ℕ)) (ahead : Ahead) → IsWalkSoFar folder found ahead → IsWalk folder found
 so_far folder found ahead walk = subst (λ (xs : List (List ℕ)). IsWalk folder xs) (append-nil found) (walk [] (passes_all ahead.paths))
 
 -- one file more
-pub one_more : (folder : List ℕ) (found : List (List ℕ)) (before after : Ahead) (path : List ℕ) → GoesOn folder found before → GivesFile before after path → GoesOn folder (found ++ path ∷ []) after
+pub one_more : (folder : List ℕ) (found : List (List ℕ)) (before after : Ahead) (path : List ℕ) → IsWalkSoFar folder found before → GivesFile before after path → IsWalkSoFar folder (found ++ path ∷ []) after
 one_more folder found before after path walk gives rest v =
     subst (λ (xs : List (List ℕ)). IsWalk folder xs) (sym (append_assoc found (path ∷ []) rest)) (walk (path ∷ rest) (gives.first rest v))
 

@@ -4,3 +4,5 @@ pub mod Limiting
 pub mod Refusals
 pub mod Settings
 pub mod Walks
+pub use Rattle.syntect_pattern.specs as syntect_pattern
+pub use Rattle.syntect_scope.specs as syntect_scope

@@ -5,6 +5,8 @@ use Rattle.std.specs.Str.{is_utf8, str_eq_ignore_ascii_case}
 use Rattle.syntect_base.specs.declared.utils.Sought.{Sought}
 use Rattle.syntect_base.specs.declared.utils.Sought.TheVariants.{Grammars, Themes}
 
+-- ---- For proofs and private functions alone ----
+
 -- the name may be that of a file that is looked for
 abbrev pub is_sought : Sought → List ℕ → Bool
 is_sought Grammars name = ends_with ◌==◌ name (codes ".sublime-syntax")

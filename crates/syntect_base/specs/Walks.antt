@@ -41,8 +41,8 @@ pub data Visits : List (List ℕ) → List (List ℕ) → Type 0 where
       → Visits ahead files → Visits (path ∷ ahead) (inner ++ files)
 
 -- these files, and then those that what is ahead gives, are a folder's walk
-abbrev pub GoesOn : List ℕ → List (List ℕ) → Ahead → Type 0
-GoesOn folder found ahead =
+abbrev pub IsWalkSoFar : List ℕ → List (List ℕ) → Ahead → Type 0
+IsWalkSoFar folder found ahead =
     (rest : List (List ℕ)) → Visits ahead.paths rest → IsWalk folder (found ++ rest)
 
 -- what was ahead gives the file, and then what what is ahead now gives

@@ -8,3 +8,7 @@ pub mod settings;
 pub mod syntax;
 pub mod theme;
 pub mod utils;
+
+pub use syntect_pattern;
+pub use syntect_scope;
+pub use syntect_scope::syntect_values;

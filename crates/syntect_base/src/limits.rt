@@ -3,9 +3,9 @@ ghost use Rattle.std.specs.Prelude.{◌≡◌};
 ghost use Rattle.syntect_base.specs.Limiting.{unlimited, usual};
 
 use crate::syntax::ParseSyntaxError;
+use crate::syntect_values::text::Text;
 use std::alloc::{AllocError, AllocFailed};
 use std::fmt;
-use syntect_values::text::Text;
 use thiserror::Error;
 
 /// How much a grammar may ask for, as it is loaded and as a line is read by it.

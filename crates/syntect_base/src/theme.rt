@@ -1,7 +1,7 @@
 //! Why a value is no theme.
+use crate::syntect_values::text::Text;
 use std::alloc::{AllocError, AllocFailed};
 use syntect_scope::repository::ParseScopeError;
-use syntect_values::text::Text;
 use thiserror::Error;
 
 /// Why a value is no theme, or no part of one.

@@ -9,14 +9,14 @@ ghost use Rattle.syntect_base.specs.Walks.{joined, InByteOrder, IsWalk, IsWalkFa
 ghost use Rattle.syntect_base.specs.declared.loading.LoadingError.TheVariants.{WalkDir, Memory};
 
 use crate::loading::LoadingError;
+use crate::syntect_values::seq::Seq;
+use crate::syntect_values::text::Text;
 use std::alloc::{AllocError, Global};
 use std::io::{BufReader, ErrorKind, Read};
 use std::marker::Model;
 use std::path::Path;
 use std::rt::Files;
 use std::{fs, io, str};
-use syntect_values::seq::Seq;
-use syntect_values::text::Text;
 
 /// What a walk looks for.
 #[derive(Clone, Copy)]
@@ -309,7 +309,7 @@ impl Model for Walk {
 }
 
 impl Walk {
-    ghost use Rattle.syntect_base.specs.Walks.{GoesOn};
+    ghost use Rattle.syntect_base.specs.Walks.{IsWalkSoFar};
 
     /// The walk through a folder. One that cannot be read is `WalkDir`.
     pub fn new(
@@ -318,7 +318,7 @@ impl Walk {
         folder: Path<'_>,
         sought: Sought,
     ) -> Result<Walk, LoadingError>
-        ensures ok { IfOk result (GoesOn (path_bytes folder.entry) []) }
+        ensures ok { IfOk result (IsWalkSoFar (path_bytes folder.entry) []) }
         ensures err { IfErr result IsWalkFault }
     {
         let mut ahead = Seq::new(alloc);

@@ -3,28 +3,29 @@
 //! pieces of that text file's lines by the contexts and the theme of example 17.
 #![tactic(auto)]
 
+mod below;
 mod modes;
 
+use crate::below::check_queries::patterns::time_patterns;
+use crate::below::check_queries::queries::{answers, count_answers, count_patterns, time_queries};
+use crate::below::check_queries::searches::time_searches;
 use crate::modes::{MODES, Runs, fits, number_at, word_at};
 use std::process::ExitCode;
 use std::rt::{Clock, Files};
 use std::{env, io};
-use syntect_edit_trials::rows::run_edit_rows;
-use syntect_edit_trials::shown::show_edits;
-use syntect_edit_trials::tried::{time_edits_of, try_file};
-use syntect_queries::patterns::time_patterns;
-use syntect_queries::queries::{answers, count_answers, count_patterns, time_queries};
-use syntect_queries::searches::time_searches;
-use syntect_rows::calls::run_calls;
-use syntect_rows::files::{Asked, run_scope_rows, show_asked};
-use syntect_rows::run::{run_row_files, show_row};
-use syntect_timing::first::{show, time};
-use syntect_timing::loads::time_loads;
-use syntect_timing::reading::time_file;
-use syntect_trials::atoms::time_atoms;
-use syntect_trials::documents::time_documents;
-use syntect_trials::styles::{show_styles, time_styles};
-use syntect_trials::theme_files::show_themes;
+use syntect_check_edits::rows::run_edit_rows;
+use syntect_check_edits::shown::show_edits;
+use syntect_check_edits::tried::{time_edits_of, try_file};
+use syntect_check_rows::calls::run_calls;
+use syntect_check_rows::files::{Asked, run_scope_rows, show_asked};
+use syntect_check_rows::run::{run_row_files, show_row};
+use syntect_check_speed::atoms::time_atoms;
+use syntect_check_speed::documents::time_documents;
+use syntect_check_speed::first::{show, time};
+use syntect_check_speed::loads::time_loads;
+use syntect_check_speed::reading::time_file;
+use syntect_check_speed::styles::{show_styles, time_styles};
+use syntect_check_speed::theme_files::show_themes;
 
 fn main(rt: HostRuntime) -> io::Result<ExitCode> {
     let words: Vec<String> = env::args(&rt)?.skip(1).collect(rt.alloc())?;

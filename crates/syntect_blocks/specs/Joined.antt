@@ -7,6 +7,8 @@ use Rattle.std.specs.List.{flat_map}
 abbrev pub joined : {X : Type 0} → List (Vec X) → List X
 joined blocks = flat_map (λ b. b.items) blocks
 
+-- ---- For proofs and private functions alone ----
+
 -- The gap before the element at this index, or after the last, is the one in this block after so
 -- many of its elements.
 pub record IsGap {X : Type 0} (blocks : List (Vec X)) (index block at : ℕ) : Type 0 where

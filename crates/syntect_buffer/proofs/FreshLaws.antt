@@ -2,20 +2,20 @@
 use Rattle.std.proofs.Common.{◌≡◌, ℕ, ◌+◌, ◌≤◌, zero, suc, List, [], ◌∷◌, ◌++◌, length, take, drop, Some, Result, Ok, Err, IfOk, OnOk, OnErr, refl, sym, ap, subst, ◌∙◌, arith, append_assoc, length-append, length-drop}
 use Rattle.std.specs.List.{slice_get}
 use Rattle.std.proofs.lemmas.List.{take-append-le, take_all, length-take-le}
-use Rattle.syntect_theme.specs.declared.theme.Theme.{Theme}
-use Rattle.syntect_winner.specs.Engine.{dialect}
-use Rattle.syntect_parsing.specs.Line.{Answer, AnswersAll}
-use Rattle.syntect_parsing.specs.States.{standing}
-use Rattle.syntect_parsing.specs.declared.parser.Standing.{Standing}
-use Rattle.syntect_loader.specs.declared.definition.SyntaxDefinition.{SyntaxDefinition}
-use Rattle.syntect_contexts.specs.declared.syntax_reference.SyntaxReference.{SyntaxReference}
-use Rattle.syntect_grammar.specs.declared.syntax_set.SyntaxSet.{SyntaxSet}
-use Rattle.syntect.specs.Built.{IsBuiltOf}
-use Rattle.syntect.specs.Leads.{Past, RunsOrderly, reader_of}
+use Rattle.syntect_buffer.specs.syntect_theme.declared.theme.Theme.{Theme}
+use Rattle.syntect_buffer.specs.syntect_reading_choice.Engine.{dialect}
+use Rattle.syntect_buffer.specs.syntect_parsing.Line.{Answer, AnswersAll}
+use Rattle.syntect_buffer.specs.syntect_parsing.States.{standing}
+use Rattle.syntect_buffer.specs.syntect_parsing.declared.parser.Standing.{Standing}
+use Rattle.syntect_buffer.specs.syntect_grammar_loader.declared.definition.SyntaxDefinition.{SyntaxDefinition}
+use Rattle.syntect_buffer.specs.syntect_grammar_contexts.declared.syntax_reference.SyntaxReference.{SyntaxReference}
+use Rattle.syntect_buffer.specs.syntect_grammar.declared.syntax_set.SyntaxSet.{SyntaxSet}
+use Rattle.syntect_easy.specs.Built.{IsSyntaxOfBuilt}
+use Rattle.syntect_easy.specs.Leads.{Past, RunsOrderly, reader_of}
 use Rattle.syntect_buffer.specs.Answers.{HasNoLimit, TellsOf, UnlessLimit, given_lines}
-use Rattle.syntect_buffer.specs.Fresh.{IsAnswerAt, IsWhole, LeadTo, StartApart, ReadsAgain, given_in}
+use Rattle.syntect_buffer.specs.Fresh.{IsAnswerAt, IsWhole, LeadTo, AllStartApart, ReadsAgain, given_in}
 use Rattle.syntect_buffer.specs.States.{Holds, StandSame, no_lines, and_all}
-use Rattle.syntect_buffer.specs.Kept.{Continues, GoesOn, IsAnswered, AllTell, AreMarked, IsReadFrom, AreReadFrom, IsKept, IsEdited, answers_of, ending, lines_in, seen}
+use Rattle.syntect_buffer.specs.Kept.{IsReadingAfter, IsAnsweredUnlessLimited, IsAnswered, AllTell, AreMarked, IsReadFrom, AreReadFrom, IsKept, IsEdited, answers_of, ending, lines_in, buffer_view}
 use Rattle.syntect_buffer.specs.declared.answer.LineAnswer.{LineAnswer}
 use Rattle.syntect_buffer.specs.declared.answer.LineAnswer.TheVariants as answer
 use Rattle.syntect_buffer.specs.declared.states.LineStates.{LineStates}
@@ -44,13 +44,13 @@ module _ (set : SyntaxSet) (theme : Theme) (syntax : SyntaxReference) where
   told_of kept place r k e = told_at kept.limits kept.readings place r k.told e
 
   -- without limits no line is left out
-  pub whole : (kept : Kept) → IsKept set theme syntax kept → HasNoLimit kept.limits → IsWhole (seen syntax set theme kept)
+  pub whole : (kept : Kept) → IsKept set theme syntax kept → HasNoLimit kept.limits → IsWhole (buffer_view syntax set theme kept)
   whole kept k h = λ n. lines_whole kept.limits (lines_in kept) kept.readings n h k.count k.told
 
 module _ (definitions : List SyntaxDefinition) (set : SyntaxSet) (theme : Theme) (syntax : SyntaxReference) where
   -- the past after the first lines of a buffer
-  led_to : (kept : Kept) (n : ℕ) → IsKept set theme syntax kept → IsBuiltOf set syntax definitions
-      → Led (no_lines definitions theme syntax) set (given_in (seen syntax set theme kept) n) (ending kept.start (take n kept.readings))
+  led_to : (kept : Kept) (n : ℕ) → IsKept set theme syntax kept → IsSyntaxOfBuilt set syntax definitions
+      → Led (no_lines definitions theme syntax) set (given_in (buffer_view syntax set theme kept) n) (ending kept.start (take n kept.readings))
   led_to kept n k b =
       subst (λ (bs : List LineAnswer). Led (no_lines definitions theme syntax) set (given_lines (take n (lines_in kept)) bs) (ending kept.start (take n kept.readings)))
       (take_map (λ (r : Reading). r.answer) n kept.readings)
@@ -58,8 +58,8 @@ module _ (definitions : List SyntaxDefinition) (set : SyntaxSet) (theme : Theme)
       (read_front theme set n kept.start (lines_in kept) kept.readings (k.read definitions b)))
 
   -- and where these lines lead
-  lead_to : (kept : Kept) (n : ℕ) → IsKept set theme syntax kept → IsBuiltOf set syntax definitions
-      → LeadTo (seen syntax set theme kept) n (standing (ending kept.start (take n kept.readings)).reader)
+  lead_to : (kept : Kept) (n : ℕ) → IsKept set theme syntax kept → IsSyntaxOfBuilt set syntax definitions
+      → LeadTo (buffer_view syntax set theme kept) n (standing (ending kept.start (take n kept.readings)).reader)
   lead_to kept n k b =
       let d = led_to kept n k b in
       let l = d.holds.is_past.leads in
@@ -67,7 +67,7 @@ module _ (definitions : List SyntaxDefinition) (set : SyntaxSet) (theme : Theme)
         start = l.start;
         answers = d.answers;
         begins = l.begins;
-        run = subst (λ (s : Standing). AnswersAll dialect set (given_in (seen syntax set theme kept) n) l.start d.answers s) d.holds.reader l.run;
+        run = subst (λ (s : Standing). AnswersAll dialect set (given_in (buffer_view syntax set theme kept) n) l.start d.answers s) d.holds.reader l.run;
       }
 
   -- the reading at a place
@@ -85,8 +85,8 @@ module _ (definitions : List SyntaxDefinition) (set : SyntaxSet) (theme : Theme)
 
   -- the answer to a line after those that are given
   answered_at : (kept : Kept) (place : ℕ) (answers : List Answer) (line : List ℕ) (a : LineAnswer) (after : LineStates) → slice_get (lines_in kept) place ≡ Some line
-      → IsAnswered (and_all (no_lines definitions theme syntax) (given_in (seen syntax set theme kept) place) answers) set line a after
-      → IsAnswerAt (seen syntax set theme kept) (given_in (seen syntax set theme kept) place) place a
+      → IsAnswered (and_all (no_lines definitions theme syntax) (given_in (buffer_view syntax set theme kept) place) answers) set line a after
+      → IsAnswerAt (buffer_view syntax set theme kept) (given_in (buffer_view syntax set theme kept) place) place a
   answered_at kept place answers line a after e c =
       let l = c.holds.is_past.leads in
       record {
@@ -102,37 +102,37 @@ module _ (definitions : List SyntaxDefinition) (set : SyntaxSet) (theme : Theme)
       }
 
   goes_on_at : (kept : Kept) (place : ℕ) (answers : List Answer) (line : List ℕ) (a : LineAnswer) (after : LineStates) → slice_get (lines_in kept) place ≡ Some line
-      → GoesOn (and_all (no_lines definitions theme syntax) (given_in (seen syntax set theme kept) place) answers) set line a after
-      → UnlessLimit a (IsAnswerAt (seen syntax set theme kept) (given_in (seen syntax set theme kept) place) place a)
+      → IsAnsweredUnlessLimited (and_all (no_lines definitions theme syntax) (given_in (buffer_view syntax set theme kept) place) answers) set line a after
+      → UnlessLimit a (IsAnswerAt (buffer_view syntax set theme kept) (given_in (buffer_view syntax set theme kept) place) place a)
   goes_on_at kept place answers line (answer.Pieces ps) after e c = answered_at kept place answers line (answer.Pieces ps) after e c
   goes_on_at kept place answers line (answer.Refused x) after e c = answered_at kept place answers line (answer.Refused x) after e c
   goes_on_at kept place answers line (answer.LimitReached l) after e c = tt
 
-  pub answer_at : (kept : Kept) (place : ℕ) (r : Reading) → IsKept set theme syntax kept → IsBuiltOf set syntax definitions → slice_get kept.readings place ≡ Some r
-      → UnlessLimit r.answer (IsAnswerAt (seen syntax set theme kept) (given_in (seen syntax set theme kept) place) place r.answer)
+  pub answer_at : (kept : Kept) (place : ℕ) (r : Reading) → IsKept set theme syntax kept → IsSyntaxOfBuilt set syntax definitions → slice_get kept.readings place ≡ Some r
+      → UnlessLimit r.answer (IsAnswerAt (buffer_view syntax set theme kept) (given_in (buffer_view syntax set theme kept) place) place r.answer)
   answer_at kept place r k b e =
       let a = read_at kept.start (lines_in kept) kept.readings place r (k.read definitions b) e in
       let d = led_to kept place k b in
-      let past : Past = and_all (no_lines definitions theme syntax) (given_in (seen syntax set theme kept) place) d.answers in
-      let c : Continues past set a.line r = a.read.continues past refl d.holds in
+      let past : Past = and_all (no_lines definitions theme syntax) (given_in (buffer_view syntax set theme kept) place) d.answers in
+      let c : IsReadingAfter past set a.line r = a.read.continues past refl d.holds in
       goes_on_at kept place d.answers a.line r.answer r.after a.line_is c
 
-  all_given : (kept : Kept) (place : ℕ) (a : LineAnswer) → HasNoLimit kept.limits → TellsOf kept.limits a → IsWhole (seen syntax set theme kept)
-      → UnlessLimit a (IsAnswerAt (seen syntax set theme kept) (given_in (seen syntax set theme kept) place) place a)
-      → IsAnswerAt (seen syntax set theme kept) (take place (lines_in kept)) place a
-  all_given kept place (answer.Pieces ps) h t w e = subst (λ (ls : List (List ℕ)). IsAnswerAt (seen syntax set theme kept) ls place (answer.Pieces ps)) (w place) e
-  all_given kept place (answer.Refused x) h t w e = subst (λ (ls : List (List ℕ)). IsAnswerAt (seen syntax set theme kept) ls place (answer.Refused x)) (w place) e
+  all_given : (kept : Kept) (place : ℕ) (a : LineAnswer) → HasNoLimit kept.limits → TellsOf kept.limits a → IsWhole (buffer_view syntax set theme kept)
+      → UnlessLimit a (IsAnswerAt (buffer_view syntax set theme kept) (given_in (buffer_view syntax set theme kept) place) place a)
+      → IsAnswerAt (buffer_view syntax set theme kept) (take place (lines_in kept)) place a
+  all_given kept place (answer.Pieces ps) h t w e = subst (λ (ls : List (List ℕ)). IsAnswerAt (buffer_view syntax set theme kept) ls place (answer.Pieces ps)) (w place) e
+  all_given kept place (answer.Refused x) h t w e = subst (λ (ls : List (List ℕ)). IsAnswerAt (buffer_view syntax set theme kept) ls place (answer.Refused x)) (w place) e
   all_given kept place (answer.LimitReached l) h t w e = absurd (no_limit kept.limits l h t)
 
-  pub answer_of_all : (kept : Kept) (place : ℕ) (r : Reading) → IsKept set theme syntax kept → IsBuiltOf set syntax definitions → HasNoLimit kept.limits
-      → slice_get kept.readings place ≡ Some r → IsAnswerAt (seen syntax set theme kept) (take place (lines_in kept)) place r.answer
+  pub answer_of_all : (kept : Kept) (place : ℕ) (r : Reading) → IsKept set theme syntax kept → IsSyntaxOfBuilt set syntax definitions → HasNoLimit kept.limits
+      → slice_get kept.readings place ≡ Some r → IsAnswerAt (buffer_view syntax set theme kept) (take place (lines_in kept)) place r.answer
   answer_of_all kept place r k b h e = all_given kept place r.answer h (told_of set theme syntax kept place r k e) (whole set theme syntax kept k h) (answer_at kept place r k b e)
 
 -- ---- before and after an edit ----
 
 module _ (set : SyntaxSet) (theme : Theme) (syntax : SyntaxReference) (old new : Kept) (place behind : ℕ) (own : List (List ℕ)) (number : ℕ) where
   -- what the edit leaves was read one after another
-  read_on : (definitions : List SyntaxDefinition) → IsBuiltOf set syntax definitions → IsKept set theme syntax old → (e : IsEdited set theme old new place behind own number)
+  read_on : (definitions : List SyntaxDefinition) → IsSyntaxOfBuilt set syntax definitions → IsKept set theme syntax old → (e : IsEdited set theme old new place behind own number)
       → AreReadFrom set theme old.start (take place (lines_in old) ++ (own ++ drop behind (lines_in old)))
       (take place old.readings ++ (e.readings ++ (e.again ++ drop (length e.again) (drop behind old.readings))))
   read_on definitions b k e =
@@ -232,9 +232,9 @@ module _ (set : SyntaxSet) (theme : Theme) (syntax : SyntaxReference) (old new :
 
   -- the lines that are read again are those that start from another state,
   -- up to the first that doesn't
-  pub starts_apart : (definitions : List SyntaxDefinition) (at : ℕ) → IsBuiltOf set syntax definitions → IsKept set theme syntax old → (e : IsEdited set theme old new place behind own number)
+  pub starts_apart : (definitions : List SyntaxDefinition) (at : ℕ) → IsSyntaxOfBuilt set syntax definitions → IsKept set theme syntax old → (e : IsEdited set theme old new place behind own number)
       → place ≤ length old.readings → behind ≤ length old.readings → at ≡ place + length own
-      → StartApart (seen syntax set theme old) (seen syntax set theme new) behind at (length e.again)
+      → AllStartApart (buffer_view syntax set theme old) (buffer_view syntax set theme new) behind at (length e.again)
   starts_apart definitions at b k e l m a = record {
     within = omega (arith, count_new, e.read_again.within);
     first = λ oo on j lt. record {
@@ -246,8 +246,8 @@ module _ (set : SyntaxSet) (theme : Theme) (syntax : SyntaxReference) (old new :
           (drop behind (lines_in old)) (drop behind old.readings) e.again e.read_again.on j lt
           (subst (λ (s : LineStates). StandSame s (ending (ending (ending old.start (take place old.readings)) e.readings) (take j e.again))) (old_state j)
           (subst (λ (s : LineStates). StandSame (ending old.start (take (behind + j) old.readings)) s) (new_state e at j a l (omega arith))
-          (stand_same theme set (and_all (no_lines definitions theme syntax) (given_in (seen syntax set theme old) (behind + j)) (was j).answers)
-          (and_all (no_lines definitions theme syntax) (given_in (seen syntax set theme new) (at + j)) (now j).answers)
+          (stand_same theme set (and_all (no_lines definitions theme syntax) (given_in (buffer_view syntax set theme old) (behind + j)) (was j).answers)
+          (and_all (no_lines definitions theme syntax) (given_in (buffer_view syntax set theme new) (at + j)) (now j).answers)
           (ending old.start (take (behind + j) old.readings)) (ending new.start (take (at + j) new.readings)) refl (was j).holds (now j).holds
           (orderly_take set syntax (lines_in old) (answers_of old.readings) (behind + j) oo) (orderly_take set syntax (lines_in new) (answers_of new.readings) (at + j) on) same)));
     };
@@ -260,7 +260,7 @@ module _ (set : SyntaxSet) (theme : Theme) (syntax : SyntaxReference) (old new :
         record {
           state = standing (ending old.start (take (behind + count) old.readings)).reader;
           leads_old = lead_to definitions set theme syntax old (behind + count) k b;
-          leads_new = subst (λ (s : Standing). LeadTo (seen syntax set theme new) (at + count) s)
+          leads_new = subst (λ (s : Standing). LeadTo (buffer_view syntax set theme new) (at + count) s)
               (ap (λ (s : LineStates). standing s.reader) q ∙ sym same.reader ∙ sym (ap (λ (s : LineStates). standing s.reader) (old_state count)))
               (lead_to definitions set theme syntax new (at + count) kn b);
         };
@@ -269,10 +269,10 @@ module _ (set : SyntaxSet) (theme : Theme) (syntax : SyntaxReference) (old new :
       kn : IsKept set theme syntax new
       kn = kept_edited l m k e
 
-      was : (j : ℕ) → Led (no_lines definitions theme syntax) set (given_in (seen syntax set theme old) (behind + j)) (ending old.start (take (behind + j) old.readings))
+      was : (j : ℕ) → Led (no_lines definitions theme syntax) set (given_in (buffer_view syntax set theme old) (behind + j)) (ending old.start (take (behind + j) old.readings))
       was j = led_to definitions set theme syntax old (behind + j) k b
 
-      now : (j : ℕ) → Led (no_lines definitions theme syntax) set (given_in (seen syntax set theme new) (at + j)) (ending new.start (take (at + j) new.readings))
+      now : (j : ℕ) → Led (no_lines definitions theme syntax) set (given_in (buffer_view syntax set theme new) (at + j)) (ending new.start (take (at + j) new.readings))
       now j = led_to definitions set theme syntax new (at + j) kn b
 
       count_new : length (lines_in new) ≡ at + length (drop behind (lines_in old))
@@ -296,8 +296,8 @@ module _ {E : Type 0} (set : SyntaxSet) (theme : Theme) (syntax : SyntaxReferenc
 
   pub number_after : (r : Result ℕ E) (at : ℕ) → place ≤ length old.readings → behind ≤ length old.readings → at ≡ place + length own → IsKept set theme syntax old
       → IfOk r (λ number. IsEdited set theme old new place behind own number)
-      → IfOk r (λ number. (definitions : List SyntaxDefinition) → IsBuiltOf set syntax definitions
-      → ReadsAgain (seen syntax set theme old) (seen syntax set theme new) (length own) behind at number)
+      → IfOk r (λ number. (definitions : List SyntaxDefinition) → IsSyntaxOfBuilt set syntax definitions
+      → ReadsAgain (buffer_view syntax set theme old) (buffer_view syntax set theme new) (length own) behind at number)
   number_after (Ok number) at l m a k e = λ definitions b.
       (length e.again, e.number_is, starts_apart set theme syntax old new place behind own number definitions at b k e l m a)
   number_after (Err x) at l m a k e = tt
@@ -309,7 +309,7 @@ module _ {E : Type 0} (set : SyntaxSet) (theme : Theme) (syntax : SyntaxReferenc
   -- without limits nothing is left out
   pub whole_after : (r : Result ℕ E) → place ≤ length old.readings → behind ≤ length old.readings → IsKept set theme syntax old
       → IfOk r (λ number. IsEdited set theme old new place behind own number) → OnErr r (new ≡ old)
-      → HasNoLimit old.limits → IsWhole (seen syntax set theme old) × IsWhole (seen syntax set theme new)
+      → HasNoLimit old.limits → IsWhole (buffer_view syntax set theme old) × IsWhole (buffer_view syntax set theme new)
   whole_after r l m k e same h =
       (whole set theme syntax old k h, whole set theme syntax new (kept_after r l m k e same) (subst HasNoLimit (sym (limits_after r e same)) h))
 
@@ -318,6 +318,6 @@ module _ {E : Type 0} (set : SyntaxSet) (theme : Theme) (syntax : SyntaxReferenc
   lines_after (Ok number) e = e.lines_are
   lines_after (Err x) e = tt
 
-  pub seen_after : (r : Result ℕ E) → OnErr r (new ≡ old) → OnErr r (seen syntax set theme new ≡ seen syntax set theme old)
+  pub seen_after : (r : Result ℕ E) → OnErr r (new ≡ old) → OnErr r (buffer_view syntax set theme new ≡ buffer_view syntax set theme old)
   seen_after (Ok number) same = tt
-  seen_after (Err x) same = ap (seen syntax set theme) same
+  seen_after (Err x) same = ap (buffer_view syntax set theme) same

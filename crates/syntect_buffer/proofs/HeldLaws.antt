@@ -5,19 +5,19 @@ use Rattle.std.specs.Option.{option_map}
 use Rattle.std.proofs.lemmas.Bool.{false≢true}
 use Rattle.std.proofs.lemmas.Option.{slice_get-map}
 use Rattle.std.proofs.lemmas.List.{take_all}
-use Rattle.syntect_scope.specs.declared.stack.ScopeStack.{ScopeStack}
-use Rattle.syntect_style.specs.Pieces.{Keeps, path_of}
-use Rattle.syntect_theme.specs.declared.theme.Theme.{Theme}
-use Rattle.syntect_winner.specs.Engine.{dialect}
-use Rattle.syntect_parsing.specs.Line.{Answer, AnswersAll, stack_before}
-use Rattle.syntect_parsing.specs.Stacks.{Remembers}
-use Rattle.syntect_parsing.specs.States.{standing}
-use Rattle.syntect_parsing.specs.declared.parser.Standing.{Standing}
-use Rattle.syntect_grammar.specs.declared.syntax_set.SyntaxSet.{SyntaxSet}
-use Rattle.syntect.specs.Leads.{Past, RunsOrderly, and_then, styles_of, reader_of}
+use Rattle.syntect_buffer.specs.syntect_scope.declared.stack.ScopeStack.{ScopeStack}
+use Rattle.syntect_buffer.specs.syntect_style.Pieces.{KeepsTrueStyles, path_of}
+use Rattle.syntect_buffer.specs.syntect_theme.declared.theme.Theme.{Theme}
+use Rattle.syntect_buffer.specs.syntect_reading_choice.Engine.{dialect}
+use Rattle.syntect_buffer.specs.syntect_parsing.Line.{Answer, AnswersAll, stack_before}
+use Rattle.syntect_buffer.specs.syntect_parsing.Stacks.{Remembers}
+use Rattle.syntect_buffer.specs.syntect_parsing.States.{standing}
+use Rattle.syntect_buffer.specs.syntect_parsing.declared.parser.Standing.{Standing}
+use Rattle.syntect_buffer.specs.syntect_grammar.declared.syntax_set.SyntaxSet.{SyntaxSet}
+use Rattle.syntect_easy.specs.Leads.{Past, RunsOrderly, and_then, styles_of, reader_of}
 use Rattle.syntect_buffer.specs.Answers.{given_line, given_lines}
 use Rattle.syntect_buffer.specs.States.{Holds, StandSame, and_all}
-use Rattle.syntect_buffer.specs.Kept.{GoesOn, IsMarked, AreMarked, IsReadFrom, AreReadFrom, ReadsOn, answers_of, ending}
+use Rattle.syntect_buffer.specs.Kept.{IsAnsweredUnlessLimited, IsMarked, AreMarked, IsReadFrom, AreReadFrom, ReadsOn, answers_of, ending}
 use Rattle.syntect_buffer.specs.declared.answer.LineAnswer.{LineAnswer}
 use Rattle.syntect_buffer.specs.declared.answer.LineAnswer.TheVariants as answer
 use Rattle.syntect_buffer.specs.declared.states.LineStates.{LineStates}
@@ -63,7 +63,7 @@ holds_same theme set was past o n t u ho hn same =
               subst (λ (s : Standing). Remembers set s.levels (path_of (styles_of h))) e
               (subst (λ (stack : ScopeStack). Remembers set (standing (reader_of hn.holder)).levels stack) p (l.remembers b));
           theme_is = ho.is_past.leads.theme_is ∙ k;
-          keeps = subst (λ (x : Theme). Keeps x (styles_of h)) k ho.is_past.leads.keeps;
+          keeps = subst (λ (x : Theme). KeepsTrueStyles x (styles_of h)) k ho.is_past.leads.keeps;
         };
       };
       styles = ho.styles;
@@ -85,7 +85,7 @@ read_from_same theme set was o n t ho same (l ∷ ls) (r ∷ rs) h =
 
 -- a line's answer goes on to the states before it where those after it stand alike
 pub goes_on_same : (theme : Theme) (set : SyntaxSet) (past : Past) (before after : LineStates) (line : List ℕ) (a : LineAnswer) → past.theme ≡ theme → Holds past set before
-    → StandSame before after → GoesOn past set line a after → GoesOn past set line a before
+    → StandSame before after → IsAnsweredUnlessLimited past set line a after → IsAnsweredUnlessLimited past set line a before
 goes_on_same theme set past before after line (answer.LimitReached l) t k same c = k
 goes_on_same theme set past before after line (answer.Pieces ps) t k same c = record {
   given = c.given;
@@ -128,7 +128,7 @@ past_more past ls bs others more =
     ∙ ap (λ (xs : List Answer). record past { lines = past.lines ++ (ls ++ others); answers = xs }) (append_assoc past.answers bs more)
 
 -- a line's answer leads on, and leaves the line out where it reached a limit
-pub led_on : (past : Past) (set : SyntaxSet) (line : List ℕ) (a : LineAnswer) (after : LineStates) → GoesOn past set line a after → Led past set (given_line line a) after
+pub led_on : (past : Past) (set : SyntaxSet) (line : List ℕ) (a : LineAnswer) (after : LineStates) → IsAnsweredUnlessLimited past set line a after → Led past set (given_line line a) after
 led_on past set line (answer.Pieces ps) after c = record { answers = c.given ∷ []; holds = c.holds }
 led_on past set line (answer.Refused e) after c = record { answers = c.given ∷ []; holds = c.holds }
 led_on past set line (answer.LimitReached l) after c = record { answers = []; holds = subst (λ (p : Past). Holds p set after) (sym (past_none past)) c }

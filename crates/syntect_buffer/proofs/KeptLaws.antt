@@ -4,8 +4,8 @@ use Rattle.std.specs.Prelude.{string_bytes, slice_set}
 use Rattle.std.proofs.lemmas.List.{length-map}
 use Rattle.std.specs.List.{insert, remove}
 use Rattle.std.proofs.lemmas.List.Edits.{sets}
-use Rattle.syntect_theme.specs.declared.theme.Theme.{Theme}
-use Rattle.syntect_grammar.specs.declared.syntax_set.SyntaxSet.{SyntaxSet}
+use Rattle.syntect_buffer.specs.syntect_theme.declared.theme.Theme.{Theme}
+use Rattle.syntect_buffer.specs.syntect_grammar.declared.syntax_set.SyntaxSet.{SyntaxSet}
 use Rattle.syntect_buffer.specs.Answers.{TellsOf}
 use Rattle.syntect_buffer.specs.Kept.{IsReadFrom, AreReadAgain, IsEdited, ending, lines_in}
 use Rattle.syntect_buffer.specs.declared.reading.Reading.{Reading}

@@ -4,22 +4,22 @@ use Rattle.std.specs.Borrow.{Bor}
 use Rattle.std.proofs.lemmas.Bool.{false≢true}
 use Rattle.std.specs.Global.{Vec}
 use Rattle.std.specs.declared.ops.Range.{Range}
-use Rattle.syntect_theme.specs.declared.style.Style.{Style}
-use Rattle.syntect_theme.specs.declared.theme.Theme.{Theme}
-use Rattle.syntect_scope.specs.declared.stack.ScopeError.{ScopeError}
-use Rattle.syntect_parsing.specs.Line.{Accepted, RefusedBy}
-use Rattle.syntect_parsing.specs.States.{standing}
-use Rattle.syntect_parsing.specs.declared.within.LineLimit.{LineLimit}
-use Rattle.syntect_contexts.specs.declared.error.ParsingError.{ParsingError}
-use Rattle.syntect_grammar.specs.declared.syntax_set.SyntaxSet.{SyntaxSet}
-use Rattle.syntect_grammar.specs.declared.error.Error.{Error}
-use Rattle.syntect_grammar.specs.declared.error.Error.TheVariants as error
-use Rattle.syntect.specs.Leads.{Past, HoldsSame, IsPast, styles_of, reader_of}
-use Rattle.syntect.specs.Leads as leads
-use Rattle.syntect.specs.declared.easy.HighlightLines.{HighlightLines}
+use Rattle.syntect_buffer.specs.syntect_theme.declared.style.Style.{Style}
+use Rattle.syntect_buffer.specs.syntect_theme.declared.theme.Theme.{Theme}
+use Rattle.syntect_buffer.specs.syntect_scope.declared.stack.ScopeError.{ScopeError}
+use Rattle.syntect_buffer.specs.syntect_parsing.Line.{Accepted, RefusedBy}
+use Rattle.syntect_buffer.specs.syntect_parsing.States.{standing}
+use Rattle.syntect_buffer.specs.syntect_parsing.declared.within.LineLimit.{LineLimit}
+use Rattle.syntect_buffer.specs.syntect_grammar_contexts.declared.error.ParsingError.{ParsingError}
+use Rattle.syntect_buffer.specs.syntect_grammar.declared.syntax_set.SyntaxSet.{SyntaxSet}
+use Rattle.syntect_buffer.specs.syntect_grammar.declared.error.Error.{Error}
+use Rattle.syntect_buffer.specs.syntect_grammar.declared.error.Error.TheVariants as error
+use Rattle.syntect_easy.specs.Leads.{Past, HoldsSame, IsPast, styles_of, reader_of}
+use Rattle.syntect_easy.specs.Leads as leads
+use Rattle.syntect_easy.specs.declared.easy.HighlightLines.{HighlightLines}
 use Rattle.syntect_buffer.specs.Answers.{Follow, IsRefusal, styles_in, total, ranges_from}
 use Rattle.syntect_buffer.specs.States.{Holds, StandSame, IsLeft}
-use Rattle.syntect_buffer.specs.Kept.{GoesOn, IsReadFrom}
+use Rattle.syntect_buffer.specs.Kept.{IsAnsweredUnlessLimited, IsReadFrom}
 use Rattle.syntect_buffer.specs.declared.answer.LineAnswer.{LineAnswer}
 use Rattle.syntect_buffer.specs.declared.answer.LineAnswer.TheVariants as answer
 use Rattle.syntect_buffer.specs.declared.states.LineStates.{LineStates}
@@ -58,7 +58,7 @@ accepted_line set theme before line h new pieces ranges after resumed given cut 
 }
 
 -- a refusal goes on to states that are held after it
-goes_on : (set : SyntaxSet) (past : Past) (line : List ℕ) (e : ParsingError) (a : LineAnswer) (after : LineStates) → IsRefusal e a → Holds (leads.and_then past line (RefusedBy e)) set after → GoesOn past set line a after
+goes_on : (set : SyntaxSet) (past : Past) (line : List ℕ) (e : ParsingError) (a : LineAnswer) (after : LineStates) → IsRefusal e a → Holds (leads.and_then past line (RefusedBy e)) set after → IsAnsweredUnlessLimited past set line a after
 goes_on set past line e (answer.Pieces ps) after r h = record { given = RefusedBy e; holds = h; answer = r }
 goes_on set past line e (answer.Refused x) after r h = record { given = RefusedBy e; holds = h; answer = r }
 goes_on set past line e (answer.LimitReached l) after r h = absurd (never_limit e l r)
@@ -102,10 +102,10 @@ pub left_read : (set : SyntaxSet) (theme : Theme) (before : LineStates) (line : 
     → IsReadFrom set theme before line (record { answer = a; after = left; ends_alike = alike })
 left_read set theme before line a after left alike h (inr e) = record {
   marked = λ m. absurd (false≢true (sym e.2 ∙ m));
-  continues = λ past t k. subst (λ (s : LineStates). GoesOn past set line a s) (sym e.0) (h.continues past t k);
+  continues = λ past t k. subst (λ (s : LineStates). IsAnsweredUnlessLimited past set line a s) (sym e.0) (h.continues past t k);
 }
 left_read set theme before line a after left alike h (inl same) = record {
   marked = λ m. subst (λ (s : LineStates). StandSame before s) (sym same.0) (alike_here before);
   continues = λ past t k.
-      subst (λ (s : LineStates). GoesOn past set line a s) (sym same.0) (goes_on_same theme set past before after line a t k same.1 (h.continues past t k));
+      subst (λ (s : LineStates). IsAnsweredUnlessLimited past set line a s) (sym same.0) (goes_on_same theme set past before after line a t k same.1 (h.continues past t k));
 }

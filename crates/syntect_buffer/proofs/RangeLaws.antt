@@ -4,7 +4,7 @@ use Rattle.std.specs.Borrow.{Bor}
 use Rattle.std.specs.List.{flat_map}
 use Rattle.std.specs.declared.ops.Range.{Range}
 use Rattle.std.proofs.lemmas.List.{drop_more}
-use Rattle.syntect_theme.specs.declared.style.Style.{Style}
+use Rattle.syntect_buffer.specs.syntect_theme.declared.style.Style.{Style}
 use Rattle.syntect_buffer.specs.Answers.{Follow, styles_in, total, ranges_from}
 
 total_cons : (p : Style × Bor (List ℕ)) (ps : List (Style × Bor (List ℕ))) → total (p ∷ ps) ≡ length p.1.now + total ps

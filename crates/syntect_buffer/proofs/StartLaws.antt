@@ -1,12 +1,12 @@
 -- A buffer without lines.
 use Rattle.std.proofs.Common.{◌≡◌, List, [], Some, None, length, map, sym, ap, subst, ◌∙◌, string_bytes, String, Global}
-use Rattle.syntect_theme.specs.declared.theme.Theme.{Theme}
-use Rattle.syntect_parsing.specs.States.{standing}
-use Rattle.syntect_contexts.specs.declared.syntax_reference.SyntaxReference.{SyntaxReference}
-use Rattle.syntect_grammar.specs.declared.syntax_set.SyntaxSet.{SyntaxSet}
-use Rattle.syntect_grammar.specs.declared.error.Error.TheVariants as error
-use Rattle.syntect.specs.Leads.{Leads, LacksStart, styles_of, reader_of}
-use Rattle.syntect.specs.declared.easy.HighlightLines.{HighlightLines}
+use Rattle.syntect_buffer.specs.syntect_theme.declared.theme.Theme.{Theme}
+use Rattle.syntect_buffer.specs.syntect_parsing.States.{standing}
+use Rattle.syntect_buffer.specs.syntect_grammar_contexts.declared.syntax_reference.SyntaxReference.{SyntaxReference}
+use Rattle.syntect_buffer.specs.syntect_grammar.declared.syntax_set.SyntaxSet.{SyntaxSet}
+use Rattle.syntect_buffer.specs.syntect_grammar.declared.error.Error.TheVariants as error
+use Rattle.syntect_easy.specs.Leads.{Leads, LacksStart, styles_of, reader_of}
+use Rattle.syntect_easy.specs.declared.easy.HighlightLines.{HighlightLines}
 use Rattle.syntect_buffer.specs.Kept.{AllTell, AreMarked, AreReadFrom, IsKept, lines_in}
 use Rattle.syntect_buffer.specs.declared.reading.Reading.{Reading}
 use Rattle.syntect_buffer.specs.declared.reading.Kept.{Kept}

@@ -1,13 +1,13 @@
 -- Limits that are reported, and the lines that are left out.
 use Rattle.std.proofs.Common.{◌≡◌, ℕ, zero, suc, List, [], ◌∷◌, ◌++◌, length, take, drop, Some, refl, sym, ap, subst, ◌∙◌, arith, append_assoc}
 use Rattle.std.specs.List.{slice_get}
-use Rattle.syntect_base.specs.declared.limits.Limits.{Limits}
-use Rattle.syntect_parsing.specs.declared.within.LineLimit.{LineLimit}
-use Rattle.syntect_parsing.specs.declared.within.LineLimit.TheVariants.{Steps, Turns, Levels, Operations}
-use Rattle.syntect_contexts.specs.declared.error.ParsingError.{ParsingError}
-use Rattle.syntect_contexts.specs.declared.error.ParsingError.TheVariants as parsing
-use Rattle.syntect.specs.Within.{ReachesLimit}
-use Rattle.syntect.specs.declared.within.HighlightWithinError.TheVariants as within
+use Rattle.syntect_buffer.specs.syntect_base.declared.limits.Limits.{Limits}
+use Rattle.syntect_buffer.specs.syntect_parsing.declared.within.LineLimit.{LineLimit}
+use Rattle.syntect_buffer.specs.syntect_parsing.declared.within.LineLimit.TheVariants.{Steps, Turns, Levels, Operations}
+use Rattle.syntect_buffer.specs.syntect_grammar_contexts.declared.error.ParsingError.{ParsingError}
+use Rattle.syntect_buffer.specs.syntect_grammar_contexts.declared.error.ParsingError.TheVariants as parsing
+use Rattle.syntect_easy.specs.Within.{ReachesLimit}
+use Rattle.syntect_easy.specs.declared.within.HighlightWithinError.TheVariants as within
 use Rattle.syntect_buffer.specs.Answers.{HasLimit, HasNoLimit, IsRefusal, TellsOf, given_line, given_lines}
 use Rattle.syntect_buffer.specs.Kept.{AllTell, answers_of}
 use Rattle.syntect_buffer.specs.declared.answer.LineAnswer.{LineAnswer}

@@ -3,18 +3,18 @@ use Rattle.std.specs.Prelude.{◌≡◌, ◌≢◌, ℕ, ◌+◌, ◌-◌, ◌<�
 use Rattle.std.specs.Borrow.{Bor}
 use Rattle.std.specs.List.{flat_map}
 use Rattle.std.specs.declared.ops.Range.{Range}
-use Rattle.syntect_base.specs.Limiting.{limit_of}
-use Rattle.syntect_base.specs.declared.limits.Limits.{Limits}
-use Rattle.syntect_style.specs.Styling.{shown}
-use Rattle.syntect_theme.specs.declared.style.Style.{Style}
-use Rattle.syntect_theme.specs.declared.theme.Theme.{Theme}
-use Rattle.syntect_parsing.specs.Line.{Answer, Accepted, RefusedBy}
-use Rattle.syntect_parsing.specs.declared.within.LineLimit.{LineLimit}
-use Rattle.syntect_parsing.specs.declared.within.LineLimit.TheVariants.{Steps, Turns, Levels, Operations}
-use Rattle.syntect_contexts.specs.declared.error.ParsingError.{ParsingError}
-use Rattle.syntect_contexts.specs.declared.error.ParsingError.TheVariants as parsing
-use Rattle.syntect_grammar.specs.declared.error.Error.{Error}
-use Rattle.syntect_grammar.specs.declared.error.Error.TheVariants as error
+use Rattle.syntect_buffer.specs.syntect_base.Limiting.{limit_of}
+use Rattle.syntect_buffer.specs.syntect_base.declared.limits.Limits.{Limits}
+use Rattle.syntect_buffer.specs.syntect_style.Styling.{shown_style}
+use Rattle.syntect_buffer.specs.syntect_theme.declared.style.Style.{Style}
+use Rattle.syntect_buffer.specs.syntect_theme.declared.theme.Theme.{Theme}
+use Rattle.syntect_buffer.specs.syntect_parsing.Line.{Answer, Accepted, RefusedBy}
+use Rattle.syntect_buffer.specs.syntect_parsing.declared.within.LineLimit.{LineLimit}
+use Rattle.syntect_buffer.specs.syntect_parsing.declared.within.LineLimit.TheVariants.{Steps, Turns, Levels, Operations}
+use Rattle.syntect_buffer.specs.syntect_grammar_contexts.declared.error.ParsingError.{ParsingError}
+use Rattle.syntect_buffer.specs.syntect_grammar_contexts.declared.error.ParsingError.TheVariants as parsing
+use Rattle.syntect_buffer.specs.syntect_grammar.declared.error.Error.{Error}
+use Rattle.syntect_buffer.specs.syntect_grammar.declared.error.Error.TheVariants as error
 use Rattle.syntect_buffer.specs.declared.answer.LineAnswer.{LineAnswer}
 use Rattle.syntect_buffer.specs.declared.answer.LineAnswer.TheVariants as answer
 
@@ -29,17 +29,6 @@ Follow from (p ∷ ps) to = (p.1.start ≡ from) × (from < p.1.end) × Follow p
 abbrev pub styles_in : List (Style × Range ℕ) → List Style
 styles_in ps = flat_map (λ p. replicate (p.1.end - p.1.start) p.0) ps
 
--- how many bytes pieces have together
-abbrev pub total : List (Style × Bor (List ℕ)) → ℕ
-total pieces = length (flat_map (λ p. p.1.now) pieces)
-
--- the ranges of pieces, the first of which begins at this place
-abbrev pub ranges_from : ℕ → List (Style × Bor (List ℕ)) → List (Style × Range ℕ)
-ranges_from from [] = []
-ranges_from from (p ∷ ps) =
-    (p.0, record { start = from; end = from + length p.1.now })
-    ∷ ranges_from (from + length p.1.now) ps
-
 -- ---- answers ----
 
 -- The refusal is that of the reading, which is not lack of memory.
@@ -53,7 +42,7 @@ IsRefusal e a = ⊥
 -- theme's style for its scopes.
 abbrev pub IsAnswer : Type 0 → Theme → List ℕ → Answer → LineAnswer → Type 0
 IsAnswer orderly theme line (Accepted bytes) (answer.Pieces ps) =
-    Follow 0 ps.items (length line) × (orderly → styles_in ps.items ≡ map (shown theme) bytes)
+    Follow 0 ps.items (length line) × (orderly → styles_in ps.items ≡ map (shown_style theme) bytes)
 IsAnswer orderly theme line (Accepted bytes) (answer.Refused e) = ⊥
 IsAnswer orderly theme line (Accepted bytes) (answer.LimitReached l) = ⊥
 IsAnswer orderly theme line (RefusedBy e) a = IsRefusal e a
@@ -96,3 +85,16 @@ abbrev pub given_lines : List (List ℕ) → List LineAnswer → List (List ℕ)
 given_lines [] bs = []
 given_lines (l ∷ ls) [] = []
 given_lines (l ∷ ls) (a ∷ bs) = given_line l a ++ given_lines ls bs
+
+-- ---- For proofs and private functions alone ----
+
+-- how many bytes pieces have together
+abbrev pub total : List (Style × Bor (List ℕ)) → ℕ
+total pieces = length (flat_map (λ p. p.1.now) pieces)
+
+-- the ranges of pieces, the first of which begins at this place
+abbrev pub ranges_from : ℕ → List (Style × Bor (List ℕ)) → List (Style × Range ℕ)
+ranges_from from [] = []
+ranges_from from (p ∷ ps) =
+    (p.0, record { start = from; end = from + length p.1.now })
+    ∷ ranges_from (from + length p.1.now) ps

@@ -1,13 +1,13 @@
 -- A buffer against a fresh run over its lines.
 use Rattle.std.specs.Prelude.{◌≡◌, ◌≢◌, ℕ, ◌+◌, ◌<◌, ◌≤◌, List, [], ◌∷◌, ◌++◌, length, take, Some, slice_get}
-use Rattle.syntect_base.specs.declared.limits.Limits.{Limits}
-use Rattle.syntect_theme.specs.declared.theme.Theme.{Theme}
-use Rattle.syntect_winner.specs.Engine.{dialect}
-use Rattle.syntect_parsing.specs.Line.{Answer, AnswersAll, start_of}
-use Rattle.syntect_parsing.specs.declared.parser.Standing.{Standing}
-use Rattle.syntect_contexts.specs.declared.syntax_reference.SyntaxReference.{SyntaxReference}
-use Rattle.syntect_grammar.specs.declared.syntax_set.SyntaxSet.{SyntaxSet}
-use Rattle.syntect.specs.Leads.{RunsOrderly}
+use Rattle.syntect_buffer.specs.syntect_base.declared.limits.Limits.{Limits}
+use Rattle.syntect_buffer.specs.syntect_theme.declared.theme.Theme.{Theme}
+use Rattle.syntect_buffer.specs.syntect_reading_choice.Engine.{dialect}
+use Rattle.syntect_buffer.specs.syntect_parsing.Line.{Answer, AnswersAll, start_of}
+use Rattle.syntect_buffer.specs.syntect_parsing.declared.parser.Standing.{Standing}
+use Rattle.syntect_buffer.specs.syntect_grammar_contexts.declared.syntax_reference.SyntaxReference.{SyntaxReference}
+use Rattle.syntect_buffer.specs.syntect_grammar.declared.syntax_set.SyntaxSet.{SyntaxSet}
+use Rattle.syntect_easy.specs.Leads.{RunsOrderly}
 use Rattle.syntect_buffer.specs.Answers.{IsAnswer, given_lines}
 use Rattle.syntect_buffer.specs.declared.answer.LineAnswer.{LineAnswer}
 
@@ -80,7 +80,7 @@ pub record StartsApart (before after : Buffer) (old new : ℕ) : Type 0 where
 -- An edit left the lines unchanged that stood from `old` on, and now stand from `new` on. The first
 -- `count` of them start from another state than before (where all lines but those that reached a
 -- limit are orderly, before and after), and the next one, if there is one, from the same.
-pub record StartApart (before after : Buffer) (old new count : ℕ) : Type 0 where
+pub record AllStartApart (before after : Buffer) (old new count : ℕ) : Type 0 where
   pub within : new + count ≤ length after.lines
   pub first : RunsOrderly before.set before.syntax (given_in before (length before.lines))
       → RunsOrderly after.set after.syntax (given_in after (length after.lines))
@@ -91,4 +91,4 @@ pub record StartApart (before after : Buffer) (old new count : ℕ) : Type 0 whe
 -- them that start from another state than before.
 abbrev pub ReadsAgain : Buffer → Buffer → ℕ → ℕ → ℕ → ℕ → Type 0
 ReadsAgain before after own old new number =
-    (count : ℕ) × (number ≡ own + count) × StartApart before after old new count
+    (count : ℕ) × (number ≡ own + count) × AllStartApart before after old new count

@@ -1,13 +1,13 @@
 -- What a buffer keeps of its lines, and what is read again.
 use Rattle.std.specs.Prelude.{◌≡◌, true, ℕ, ◌+◌, ◌<◌, ◌≤◌, List, [], ◌∷◌, ◌++◌, length, take, drop, map, string_bytes}
-use Rattle.syntect_base.specs.declared.limits.Limits.{Limits}
-use Rattle.syntect_theme.specs.declared.theme.Theme.{Theme}
-use Rattle.syntect_parsing.specs.Line.{Answer}
-use Rattle.syntect_loader.specs.declared.definition.SyntaxDefinition.{SyntaxDefinition}
-use Rattle.syntect_contexts.specs.declared.syntax_reference.SyntaxReference.{SyntaxReference}
-use Rattle.syntect_grammar.specs.declared.syntax_set.SyntaxSet.{SyntaxSet}
-use Rattle.syntect.specs.Built.{IsBuiltOf}
-use Rattle.syntect.specs.Leads.{Past, RunsOrderly, and_then}
+use Rattle.syntect_buffer.specs.syntect_base.declared.limits.Limits.{Limits}
+use Rattle.syntect_buffer.specs.syntect_theme.declared.theme.Theme.{Theme}
+use Rattle.syntect_buffer.specs.syntect_parsing.Line.{Answer}
+use Rattle.syntect_buffer.specs.syntect_grammar_loader.declared.definition.SyntaxDefinition.{SyntaxDefinition}
+use Rattle.syntect_buffer.specs.syntect_grammar_contexts.declared.syntax_reference.SyntaxReference.{SyntaxReference}
+use Rattle.syntect_buffer.specs.syntect_grammar.declared.syntax_set.SyntaxSet.{SyntaxSet}
+use Rattle.syntect_easy.specs.Built.{IsSyntaxOfBuilt}
+use Rattle.syntect_easy.specs.Leads.{Past, RunsOrderly, and_then}
 use Rattle.syntect_buffer.specs.Answers.{IsAnswer, TellsOf}
 use Rattle.syntect_buffer.specs.Fresh.{Buffer}
 use Rattle.syntect_buffer.specs.States.{Holds, StandSame, no_lines}
@@ -16,6 +16,30 @@ use Rattle.syntect_buffer.specs.declared.answer.LineAnswer.TheVariants as answer
 use Rattle.syntect_buffer.specs.declared.states.LineStates.{LineStates}
 use Rattle.syntect_buffer.specs.declared.reading.Reading.{Reading}
 use Rattle.syntect_buffer.specs.declared.reading.Kept.{Kept}
+
+-- ---- lines one after another ----
+
+-- the texts of the lines
+abbrev pub lines_in : Kept → List (List ℕ)
+lines_in k = map string_bytes k.lines
+
+-- the answers of readings
+abbrev pub answers_of : List Reading → List LineAnswer
+answers_of rs = map (λ r. r.answer) rs
+
+-- what is seen of a buffer
+abbrev pub buffer_view : SyntaxReference → SyntaxSet → Theme → Kept → Buffer
+buffer_view syntax set theme k =
+    record {
+      syntax = syntax;
+      set = set;
+      theme = theme;
+      limits = k.limits;
+      lines = lines_in k;
+      answers = answers_of k.readings;
+    }
+
+-- ---- What invariants alone rest on ----
 
 -- ---- one line ----
 
@@ -28,14 +52,14 @@ pub record IsAnswered (past : Past) (set : SyntaxSet) (line : List ℕ) (a : Lin
       (past.lines ++ line ∷ [])) past.theme line given a
 
 -- or it reached a limit, and the states are still those after the past
-abbrev pub GoesOn : Past → SyntaxSet → List ℕ → LineAnswer → LineStates → Type 0
-GoesOn past set line (answer.Pieces ps) after = IsAnswered past set line (answer.Pieces ps) after
-GoesOn past set line (answer.Refused e) after = IsAnswered past set line (answer.Refused e) after
-GoesOn past set line (answer.LimitReached l) after = Holds past set after
+abbrev pub IsAnsweredUnlessLimited : Past → SyntaxSet → List ℕ → LineAnswer → LineStates → Type 0
+IsAnsweredUnlessLimited past set line (answer.Pieces ps) after = IsAnswered past set line (answer.Pieces ps) after
+IsAnsweredUnlessLimited past set line (answer.Refused e) after = IsAnswered past set line (answer.Refused e) after
+IsAnsweredUnlessLimited past set line (answer.LimitReached l) after = Holds past set after
 
 -- the reading of a line after a past
-abbrev pub Continues : Past → SyntaxSet → List ℕ → Reading → Type 0
-Continues past set line r = GoesOn past set line r.answer r.after
+abbrev pub IsReadingAfter : Past → SyntaxSet → List ℕ → Reading → Type 0
+IsReadingAfter past set line r = IsAnsweredUnlessLimited past set line r.answer r.after
 
 -- a reading that begins with these states ends alike where its mark says so
 abbrev pub IsMarked : LineStates → Reading → Type 0
@@ -46,14 +70,7 @@ pub record IsReadFrom (set : SyntaxSet) (theme : Theme) (before : LineStates) (l
     (r : Reading) : Type 0 where
   pub marked : IsMarked before r
   pub continues : (past : Past) → past.theme ≡ theme → Holds past set before
-      → Continues past set line r
-
--- ---- lines one after another ----
-
--- the states after readings that begin with these
-abbrev pub ending : LineStates → List Reading → LineStates
-ending s [] = s
-ending s (r ∷ rs) = ending r.after rs
+      → IsReadingAfter past set line r
 
 -- each line was read from the states that the reading before it left
 abbrev pub AreReadFrom : SyntaxSet → Theme → LineStates → List (List ℕ) → List Reading → Type 0
@@ -72,26 +89,6 @@ abbrev pub AllTell : Limits → List Reading → Type 0
 AllTell limits [] = Unit {0}
 AllTell limits (r ∷ rs) = TellsOf limits r.answer × AllTell limits rs
 
--- the texts of the lines
-abbrev pub lines_in : Kept → List (List ℕ)
-lines_in k = map string_bytes k.lines
-
--- the answers of readings
-abbrev pub answers_of : List Reading → List LineAnswer
-answers_of rs = map (λ r. r.answer) rs
-
--- what is seen of a buffer
-abbrev pub seen : SyntaxReference → SyntaxSet → Theme → Kept → Buffer
-seen syntax set theme k =
-    record {
-      syntax = syntax;
-      set = set;
-      theme = theme;
-      limits = k.limits;
-      lines = lines_in k;
-      answers = answers_of k.readings;
-    }
-
 -- What a buffer keeps: there are as many readings as lines, their marks hold, they tell the
 -- buffer's limits alone, and for all definitions that the set is built of, the first states are
 -- those before a text, and each line was read from the states that the one before it left.
@@ -100,10 +97,17 @@ pub record IsKept (set : SyntaxSet) (theme : Theme) (syntax : SyntaxReference)
   pub count : length (lines_in kept) ≡ length kept.readings
   pub marked : AreMarked kept.start kept.readings
   pub told : AllTell kept.limits kept.readings
-  pub starts : (definitions : List SyntaxDefinition) → IsBuiltOf set syntax definitions
+  pub starts : (definitions : List SyntaxDefinition) → IsSyntaxOfBuilt set syntax definitions
       → Holds (no_lines definitions theme syntax) set kept.start
-  pub read : (definitions : List SyntaxDefinition) → IsBuiltOf set syntax definitions
+  pub read : (definitions : List SyntaxDefinition) → IsSyntaxOfBuilt set syntax definitions
       → AreReadFrom set theme kept.start (lines_in kept) kept.readings
+
+-- ---- For proofs and private functions alone ----
+
+-- the states after readings that begin with these
+abbrev pub ending : LineStates → List Reading → LineStates
+ending s [] = s
+ending s (r ∷ rs) = ending r.after rs
 
 -- ---- lines read again ----
 

@@ -2,14 +2,14 @@
 ghost use Rattle.std.specs.Prelude.{◌≡◌, ◌<◌, ◌^◌, IfOk};
 ghost use Rattle.syntect_buffer.specs.Answers.{IsRefusal, total, ranges_from};
 ghost use Rattle.syntect_buffer.specs.declared.answer.LineAnswer.TheVariants.{Refused};
-ghost use Rattle.syntect_grammar.specs.declared.error.Error.TheVariants as AnError;
+ghost use Rattle.syntect_buffer.specs.syntect_grammar.declared.error.Error.TheVariants as AnError;
 
+use crate::below::parsing::error::{Error, ParsingError};
+use crate::below::parsing::within::LineLimit;
+use crate::below::scope::stack::ScopeError;
+use crate::below::theme::style::Style;
 use std::alloc::{AllocError, Global};
 use std::ops::Range;
-use syntect_parsing::error::{Error, ParsingError};
-use syntect_parsing::within::LineLimit;
-use syntect_scope::stack::ScopeError;
-use syntect_theme::style::Style;
 
 /// What a highlighter answers to a line.
 #[derive(Drop)]

@@ -1,24 +1,24 @@
 //! The lines of an editor's text.
 ghost use Rattle.std.specs.Prelude.{◌≡◌, ◌+◌, ◌<◌, ◌≤◌, List, [], insert, remove, take, length, slice_get, slice_set, string_bytes, Some, IfOk, IfErr, OnOk, OnErr};
-ghost use Rattle.syntect_base.specs.Limiting.{unlimited};
-ghost use Rattle.syntect.specs.Built.{IsBuiltOf};
-ghost use Rattle.syntect.specs.Leads.{LacksStart};
-ghost use Rattle.syntect_loader.specs.declared.definition.SyntaxDefinition.{SyntaxDefinition as ADefinition};
+ghost use Rattle.syntect_buffer.specs.syntect_base.Limiting.{unlimited};
+ghost use Rattle.syntect_easy.specs.Built.{IsSyntaxOfBuilt};
+ghost use Rattle.syntect_easy.specs.Leads.{LacksStart};
+ghost use Rattle.syntect_buffer.specs.syntect_grammar_loader.declared.definition.SyntaxDefinition.{SyntaxDefinition as ADefinition};
 ghost use Rattle.syntect_buffer.specs.Answers.{HasNoLimit, TellsOf, UnlessLimit};
 ghost use Rattle.syntect_buffer.specs.Fresh.{IsReadWith, IsAnswerAt, IsWhole, ReadsAgain, given_in};
 
 use crate::answer::LineAnswer;
+use crate::below::base::limits::Limits;
+use crate::below::parsing::error::Error;
+use crate::below::parsing::syntax_set::{SyntaxReference, SyntaxSet};
+use crate::below::theme::theme::Theme;
 use crate::edits::{insert_at, remove_at, set_at};
 use crate::reading::Kept;
 use crate::states::{LineStates, SharedStates};
 use std::alloc::{AllocError, Global};
 use std::marker::Model;
-use syntect::easy::HighlightLines;
-use syntect_base::limits::Limits;
 use syntect_blocks::blocks::Blocks;
-use syntect_parsing::error::Error;
-use syntect_parsing::syntax_set::{SyntaxReference, SyntaxSet};
-use syntect_theme::theme::Theme;
+use syntect_easy::easy::HighlightLines;
 
 /// The lines of a text that is edited, each with what a highlighter answers to it.
 #[derive(Drop)]
@@ -34,9 +34,9 @@ impl<'a> Model for LineBuffer<'a> {
 
     ghost Value = { Buffer };
 
-    ghost use Rattle.syntect_buffer.specs.Kept.{IsKept, seen};
+    ghost use Rattle.syntect_buffer.specs.Kept.{IsKept, buffer_view};
 
-    ghost view = { λ b. seen b.syntax.now b.syntax_set.now b.theme.now b.kept };
+    ghost view = { λ b. buffer_view b.syntax.now b.syntax_set.now b.theme.now b.kept };
 
     ghost invariant = { λ b. IsKept b.syntax_set.now b.theme.now b.syntax.now b.kept };
 }
@@ -114,12 +114,12 @@ impl<'a> LineBuffer<'a> {
         // is given, in order, the lines up to this one but those that reached a limit; or this one
         // reached a limit itself
         ensures fresh { (definitions : List ADefinition)
-            → IsBuiltOf self.now.set self.now.syntax definitions
+            → IsSyntaxOfBuilt self.now.set self.now.syntax definitions
             → UnlessLimit result.now
             (IsAnswerAt self.now (given_in self.now place) place result.now) }
         // without limits it is the answer of one that is given all lines in order
         ensures all { (definitions : List ADefinition)
-            → IsBuiltOf self.now.set self.now.syntax definitions
+            → IsSyntaxOfBuilt self.now.set self.now.syntax definitions
             → HasNoLimit self.now.limits
             → IsAnswerAt self.now (take place self.now.lines) place result.now }
         // a limit that it tells is one of the buffer's
@@ -143,7 +143,7 @@ impl<'a> LineBuffer<'a> {
         ensures limits { self.new.limits ≡ self.old.limits }
         ensures all { HasNoLimit self.old.limits → IsWhole self.old × IsWhole self.new }
         ensures number { IfOk result (λ number. (definitions : List ADefinition)
-            → IsBuiltOf self.old.set self.old.syntax definitions
+            → IsSyntaxOfBuilt self.old.set self.old.syntax definitions
             → ReadsAgain self.old self.new 1 place (place + 1) number) }
         ensures err { OnErr result (self.new ≡ self.old) }
     {
@@ -172,7 +172,7 @@ impl<'a> LineBuffer<'a> {
         ensures limits { self.new.limits ≡ self.old.limits }
         ensures all { HasNoLimit self.old.limits → IsWhole self.old × IsWhole self.new }
         ensures number { IfOk result (λ number. (definitions : List ADefinition)
-            → IsBuiltOf self.old.set self.old.syntax definitions
+            → IsSyntaxOfBuilt self.old.set self.old.syntax definitions
             → ReadsAgain self.old self.new 1 (place + 1) (place + 1) number) }
         ensures err { OnErr result (self.new ≡ self.old) }
     {
@@ -194,7 +194,7 @@ impl<'a> LineBuffer<'a> {
         ensures limits { self.new.limits ≡ self.old.limits }
         ensures all { HasNoLimit self.old.limits → IsWhole self.old × IsWhole self.new }
         ensures number { IfOk result (λ number. (definitions : List ADefinition)
-            → IsBuiltOf self.old.set self.old.syntax definitions
+            → IsSyntaxOfBuilt self.old.set self.old.syntax definitions
             → ReadsAgain self.old self.new 0 (place + 1) place number) }
         ensures err { OnErr result (self.new ≡ self.old) }
     {

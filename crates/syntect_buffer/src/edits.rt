@@ -2,10 +2,10 @@
 ghost use Rattle.std.specs.Prelude.{◌≡◌, ◌+◌, ◌<◌, ◌≤◌, [], ◌∷◌, length, insert, string_bytes, IfOk, OnOk, OnErr};
 ghost use Rattle.syntect_buffer.specs.Kept.{AreMarked, IsEdited};
 
+use crate::below::parsing::syntax_set::SyntaxSet;
+use crate::below::theme::theme::Theme;
 use crate::reading::{Kept, Reading, read, read_again, renew, states_at};
 use std::alloc::{AllocError, Global};
-use syntect_parsing::syntax_set::SyntaxSet;
-use syntect_theme::theme::Theme;
 
 /// Puts a line and its reading before those at a place, or after the last.
 /// Without memory nothing changes.

@@ -4,6 +4,7 @@
 #![tactic(auto)]
 
 pub mod answer;
+pub mod below;
 pub mod buffer;
 mod edits;
 mod reading;

@@ -6,14 +6,14 @@ ghost use Rattle.syntect_buffer.specs.Kept.{IsReadFrom, AreReadAgain, ending, li
 ghost use Rattle.syntect_buffer.specs.States.{StandSame};
 
 use crate::answer::{LineAnswer, ranges_of, refusal, refused_operation};
+use crate::below::base::limits::Limits;
+use crate::below::parsing::error::Error;
+use crate::below::parsing::syntax_set::SyntaxSet;
+use crate::below::theme::theme::Theme;
 use crate::states::{LineStates, SharedStates, copied, left, stand_same};
 use std::alloc::{AllocError, Global};
-use syntect::easy::{HighlightLines, HighlightWithinError};
-use syntect_base::limits::Limits;
 use syntect_blocks::blocks::Blocks;
-use syntect_parsing::error::Error;
-use syntect_parsing::syntax_set::SyntaxSet;
-use syntect_theme::theme::Theme;
+use syntect_easy::easy::{HighlightLines, HighlightWithinError};
 
 /// A line's answer, and the states after the line.
 #[derive(Drop)]

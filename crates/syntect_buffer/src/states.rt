@@ -2,11 +2,11 @@
 ghost use Rattle.std.specs.Prelude.{◌≡◌, ◌↔◌, IsTrue, IfOk};
 ghost use Rattle.syntect_buffer.specs.States.{IsLeft, StandSame};
 
+use crate::below::parsing::parser::{self, ParseState};
+use crate::below::style::state::{self, HighlightState};
 use std::alloc::{AllocError, Global};
 use std::marker::Model;
 use std::rc::Rc;
-use syntect_parsing::parser::{self, ParseState};
-use syntect_style::state::{self, HighlightState};
 
 /// The states of the styles and of the reader of lines, at the start of a line.
 #[derive(Drop)]

@@ -1,25 +1,25 @@
 -- A page with classes while it is written.
 use Rattle.std.proofs.Common.{◌≡◌, ℕ, List, [], ◌∷◌, ◌++◌, map, refl, sym, ap, subst, ◌∙◌, append_assoc, append-nil, inl, inr}
 use Rattle.std.specs.List.{concat}
-use Rattle.syntect_scope.specs.Stack.{plain}
+use Rattle.syntect_callers.specs.syntect_scope.Stack.{plain}
 use Rattle.std.specs.Prelude.{Some, None}
-use Rattle.syntect_winner.specs.Engine.{dialect}
-use Rattle.syntect_parsing.specs.Laws.{AnswersMore}
-use Rattle.syntect_parsing.specs.Line.{Answer, Accepted, RefusedBy, AnswersAll, RefusesLine, none, one_more, refuses, start_of}
-use Rattle.syntect_parsing.specs.declared.parser.Standing.{Standing}
-use Rattle.syntect_writers.specs.Lines.{lines_of}
-use Rattle.syntect_classed.specs.Classes.{prefix_of}
-use Rattle.syntect_classed.specs.declared.style.ClassStyle.{ClassStyle}
-use Rattle.syntect_contexts.specs.declared.error.ParsingError.{ParsingError}
-use Rattle.syntect_contexts.specs.declared.syntax_reference.SyntaxReference.{SyntaxReference}
-use Rattle.syntect_grammar.specs.declared.syntax_set.SyntaxSet.{SyntaxSet}
-use Rattle.syntect_grammar.specs.declared.error.Error.{Error}
-use Rattle.syntect_grammar.specs.declared.error.Error.TheVariants as error
-use Rattle.syntect.specs.Classed.{text_so_far, stack_in, state_in, set_in, repository_in, style_in, AddsLine, RefusesLineOf, closed_text}
-use Rattle.syntect.specs.ClassedPages.{IsGiven, no_lines, accepted, StandsAfter, GivenStands, IsClassedPage, ShowsScopes, ClosedIsPage}
-use Rattle.syntect.specs.Leads.{BeginsPlain, LacksStart, RunsOrderly}
-use Rattle.syntect.specs.Pages.{Row, IsRefusedAtALine, HasNoPage, lines_in, answers_in}
-use Rattle.syntect.specs.declared.classed.ClassedHTMLGenerator.{ClassedHTMLGenerator}
+use Rattle.syntect_callers.specs.syntect_reading_choice.Engine.{dialect}
+use Rattle.syntect_callers.specs.syntect_parsing.Laws.{AnswersMore}
+use Rattle.syntect_callers.specs.syntect_parsing.Line.{Answer, Accepted, RefusedBy, AnswersAll, RefusesLine, none, one_more, refuses, start_of}
+use Rattle.syntect_callers.specs.syntect_parsing.declared.parser.Standing.{Standing}
+use Rattle.syntect_callers.specs.syntect_writers.Lines.{lines_of}
+use Rattle.syntect_callers.specs.syntect_writers.Classes.{prefix_of}
+use Rattle.syntect_callers.specs.syntect_writers.declared.class_style.ClassStyle.{ClassStyle}
+use Rattle.syntect_callers.specs.syntect_grammar_contexts.declared.error.ParsingError.{ParsingError}
+use Rattle.syntect_callers.specs.syntect_grammar_contexts.declared.syntax_reference.SyntaxReference.{SyntaxReference}
+use Rattle.syntect_callers.specs.syntect_grammar.declared.syntax_set.SyntaxSet.{SyntaxSet}
+use Rattle.syntect_callers.specs.syntect_grammar.declared.error.Error.{Error}
+use Rattle.syntect_callers.specs.syntect_grammar.declared.error.Error.TheVariants as error
+use Rattle.syntect_easy.specs.Classed.{text_so_far, stack_in, state_in, set_in, repository_in, style_in, AddsLine, RefusesLineOf, closed_text}
+use Rattle.syntect_easy.specs.ClassedPages.{IsGiven, no_lines, accepted, StandsAfter, GivenStands, IsClassedPage, ShowsScopes, ClosedIsPage}
+use Rattle.syntect_easy.specs.Leads.{BeginsPlain, LacksStart, RunsOrderly}
+use Rattle.syntect_easy.specs.Pages.{Row, IsRefusedAtALine, IsWhyNoPage, lines_in, answers_in}
+use Rattle.syntect_easy.specs.declared.classed.ClassedHTMLGenerator.{ClassedHTMLGenerator}
 use Rattle.syntect_callers.specs.ClassedPages.{IsClassedPageOf, HasNoClassedPage}
 
 -- the lines up to those that are left were given to the generator, which accepted them
@@ -148,7 +148,7 @@ module _ (set : SyntaxSet) (syntax : SyntaxReference) (repository : List (List �
 
   -- in a set whose syntax begins plain a line is refused by its reading alone
   pub no_page : (left line : List ℕ) (rest : List (List ℕ)) (g : ClassedHTMLGenerator) (e : Error) → AnswersMore → GivenStands → BeginsPlain set syntax
-      → ClassedSoFar set syntax repository style text left g → lines_of left ≡ line ∷ rest → RefusesLineOf g line e → HasNoPage set syntax text e
+      → ClassedSoFar set syntax repository style text left g → lines_of left ≡ line ∷ rest → RefusesLineOf g line e → IsWhyNoPage set syntax text e
   no_page left line rest g (error.ParsingError e) more stands plain s l r =
       inr (refused_at line rest g e r.0 s.lines more (stands set syntax repository style s.lines g s.given) (ap (λ xs. s.lines ++ xs) (sym l) ∙ s.all) r.1)
   no_page left line rest g (error.ScopeError e) more stands plain s l r = absurd (r.0 ((stands set syntax repository style s.lines g s.given).restores plain))
@@ -162,7 +162,7 @@ module _ (set : SyntaxSet) (syntax : SyntaxReference) (repository : List (List �
   no_page left line rest g (error.Pattern e) more stands plain s l r = absurd r
 
 -- there is no page where the syntax has no `__start`
-pub no_start : (set : SyntaxSet) (syntax : SyntaxReference) (text : List ℕ) (e : Error) → LacksStart syntax e → HasNoPage set syntax text e
+pub no_start : (set : SyntaxSet) (syntax : SyntaxReference) (text : List ℕ) (e : Error) → LacksStart syntax e → IsWhyNoPage set syntax text e
 no_start set syntax text (error.ParsingError e) l = inl l
 no_start set syntax text error.Memory l = tt
 no_start set syntax text (error.ScopeError e) l = absurd l

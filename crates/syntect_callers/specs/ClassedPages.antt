@@ -1,17 +1,19 @@
 -- What a caller of the page with classes of a text is told.
 use Rattle.std.specs.Prelude.{◌≡◌, ◌⊎◌, ℕ, List, ◌∷◌, ◌++◌, map, Some}
 use Rattle.std.specs.List.{concat}
-use Rattle.syntect_winner.specs.Engine.{dialect}
-use Rattle.syntect_parsing.specs.Line.{Accepted, AnswersAll, start_of}
-use Rattle.syntect_parsing.specs.declared.parser.Standing.{Standing}
-use Rattle.syntect_writers.specs.Lines.{lines_of}
-use Rattle.syntect_contexts.specs.declared.syntax_reference.SyntaxReference.{SyntaxReference}
-use Rattle.syntect_grammar.specs.declared.syntax_set.SyntaxSet.{SyntaxSet}
-use Rattle.syntect_grammar.specs.declared.error.Error.{Error}
-use Rattle.syntect.specs.Classed.{state_in, set_in, RefusesLineOf}
-use Rattle.syntect.specs.ClassedPages.{IsClassedPage}
-use Rattle.syntect.specs.Leads.{LacksStart}
-use Rattle.syntect.specs.declared.classed.ClassedHTMLGenerator.{ClassedHTMLGenerator}
+use Rattle.syntect_callers.specs.syntect_reading_choice.Engine.{dialect}
+use Rattle.syntect_callers.specs.syntect_parsing.Line.{Accepted, AnswersAll, start_of}
+use Rattle.syntect_callers.specs.syntect_parsing.declared.parser.Standing.{Standing}
+use Rattle.syntect_callers.specs.syntect_writers.Lines.{lines_of}
+use Rattle.syntect_callers.specs.syntect_grammar_contexts.declared.syntax_reference.SyntaxReference.{SyntaxReference}
+use Rattle.syntect_callers.specs.syntect_grammar.declared.syntax_set.SyntaxSet.{SyntaxSet}
+use Rattle.syntect_callers.specs.syntect_grammar.declared.error.Error.{Error}
+use Rattle.syntect_easy.specs.Classed.{state_in, set_in, RefusesLineOf}
+use Rattle.syntect_easy.specs.ClassedPages.{IsClassedPage}
+use Rattle.syntect_easy.specs.Leads.{LacksStart}
+use Rattle.syntect_easy.specs.declared.classed.ClassedHTMLGenerator.{ClassedHTMLGenerator}
+
+-- ---- For proofs and private functions alone ----
 
 -- It is the page of the text's lines, which join to the text.
 pub record IsClassedPageOf (premise : Type 0) (set : SyntaxSet) (syntax : SyntaxReference)

@@ -1,17 +1,19 @@
 -- What a caller of a grammar's text is told.
 use Rattle.std.specs.Prelude.{◌≡◌, ℕ, true, List, [], ◌∷◌, Some, None, Ok, slice_get}
 use Rattle.std.specs.Borrow.{Bor}
-use Rattle.syntect_theme.specs.declared.style.Style.{Style}
-use Rattle.syntect_grammar.specs.declared.error.Error.{Error}
-use Rattle.syntect_grammar.specs.declared.error.Error.TheVariants as error
+use Rattle.syntect_callers.specs.syntect_theme.declared.style.Style.{Style}
+use Rattle.syntect_callers.specs.syntect_grammar.declared.error.Error.{Error}
+use Rattle.syntect_callers.specs.syntect_grammar.declared.error.Error.TheVariants as error
 use Rattle.syntect_callers.specs.Third.{IsOf, IsThirdLine, IsRefusal}
-use Rattle.syntect_theme.specs.declared.theme.Theme.{Theme}
-use Rattle.syntect_grammar.specs.Link.{syntaxes_in}
-use Rattle.syntect_grammar.specs.declared.syntax_set.SyntaxSet.{SyntaxSet}
-use Rattle.syntect_loader.specs.Loading.{loaded}
-use Rattle.syntect_loader.specs.declared.definition.SyntaxDefinition.{SyntaxDefinition}
-use Rattle.syntect_contexts.specs.declared.syntax_reference.SyntaxReference.{SyntaxReference}
-use Rattle.syntect.specs.Pages.{IsPage}
+use Rattle.syntect_callers.specs.syntect_theme.declared.theme.Theme.{Theme}
+use Rattle.syntect_callers.specs.syntect_grammar.Link.{syntaxes_in}
+use Rattle.syntect_callers.specs.syntect_grammar.declared.syntax_set.SyntaxSet.{SyntaxSet}
+use Rattle.syntect_callers.specs.syntect_grammar_loader.Loading.{loaded}
+use Rattle.syntect_callers.specs.syntect_grammar_loader.declared.definition.SyntaxDefinition.{SyntaxDefinition}
+use Rattle.syntect_callers.specs.syntect_grammar_contexts.declared.syntax_reference.SyntaxReference.{SyntaxReference}
+use Rattle.syntect_easy.specs.Pages.{IsPage}
+
+-- ---- For proofs and private functions alone ----
 
 -- The grammar's text has a definition in the repository, and the page shows the text in its syntax,
 -- whose set was built of it alone: each line is read from the state that the lines before it leave,

@@ -2,23 +2,25 @@
 use Rattle.std.specs.Prelude.{◌≡◌, ℕ, List, [], ◌∷◌, ◌++◌, map, Option, Some, None, Result, IfOk, slice_get}
 use Rattle.std.specs.Borrow.{Bor}
 use Rattle.std.specs.Global.{Vec}
-use Rattle.syntect_style.specs.Pieces.{Joins, IsStyled}
-use Rattle.syntect_theme.specs.declared.style.Style.{Style}
-use Rattle.syntect_theme.specs.declared.theme.Theme.{Theme}
-use Rattle.syntect_winner.specs.Engine.{dialect}
-use Rattle.syntect_grammar.specs.Link.{linked, syntaxes_in}
-use Rattle.syntect_grammar.specs.declared.syntax_set.SyntaxSet.{SyntaxSet}
-use Rattle.syntect_parsing.specs.Line.{Accepted, AnswersAll, start_of}
-use Rattle.syntect_parsing.specs.Refusals.{NamesUnresolved}
-use Rattle.syntect_parsing.specs.declared.parser.Standing.{Standing}
-use Rattle.syntect_loader.specs.declared.definition.SyntaxDefinition.{SyntaxDefinition}
-use Rattle.syntect_contexts.specs.declared.error.ParsingError.{ParsingError}
-use Rattle.syntect_contexts.specs.declared.error.ParsingError.TheVariants as parsing
-use Rattle.syntect_contexts.specs.declared.syntax_reference.SyntaxReference.{SyntaxReference}
-use Rattle.syntect.specs.Built.{StaysInStart}
-use Rattle.syntect.specs.Leads.{RunsOrderly}
-use Rattle.syntect_grammar.specs.declared.error.Error.{Error}
-use Rattle.syntect_grammar.specs.declared.error.Error.TheVariants as error
+use Rattle.syntect_callers.specs.syntect_style.Pieces.{Joins, IsStyled}
+use Rattle.syntect_callers.specs.syntect_theme.declared.style.Style.{Style}
+use Rattle.syntect_callers.specs.syntect_theme.declared.theme.Theme.{Theme}
+use Rattle.syntect_callers.specs.syntect_reading_choice.Engine.{dialect}
+use Rattle.syntect_callers.specs.syntect_grammar.Link.{linked, syntaxes_in}
+use Rattle.syntect_callers.specs.syntect_grammar.declared.syntax_set.SyntaxSet.{SyntaxSet}
+use Rattle.syntect_callers.specs.syntect_parsing.Line.{Accepted, AnswersAll, start_of}
+use Rattle.syntect_callers.specs.syntect_parsing.Refusals.{NamesUnresolved}
+use Rattle.syntect_callers.specs.syntect_parsing.declared.parser.Standing.{Standing}
+use Rattle.syntect_callers.specs.syntect_grammar_loader.declared.definition.SyntaxDefinition.{SyntaxDefinition}
+use Rattle.syntect_callers.specs.syntect_grammar_contexts.declared.error.ParsingError.{ParsingError}
+use Rattle.syntect_callers.specs.syntect_grammar_contexts.declared.error.ParsingError.TheVariants as parsing
+use Rattle.syntect_callers.specs.syntect_grammar_contexts.declared.syntax_reference.SyntaxReference.{SyntaxReference}
+use Rattle.syntect_easy.specs.Built.{StaysInStart}
+use Rattle.syntect_easy.specs.Leads.{RunsOrderly}
+use Rattle.syntect_callers.specs.syntect_grammar.declared.error.Error.{Error}
+use Rattle.syntect_callers.specs.syntect_grammar.declared.error.Error.TheVariants as error
+
+-- ---- For proofs and private functions alone ----
 
 -- the set was built of these definitions
 abbrev pub IsOf : List SyntaxDefinition → SyntaxSet → Type 0

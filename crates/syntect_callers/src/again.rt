@@ -1,11 +1,11 @@
 //! A caller of the highlighter that takes it apart and makes it again.
 ghost use Rattle.std.specs.Prelude.{◌≡◌, IfOk};
-ghost use Rattle.syntect.specs.Leads.{HoldsSame, theme_of};
+ghost use Rattle.syntect_easy.specs.Leads.{HoldsSame, theme_of};
 
 use std::alloc::{AllocError, Global};
-use syntect::easy::HighlightLines;
-use syntect::highlighting::Theme;
-use syntect::laws::states_go_on;
+use syntect_easy::easy::HighlightLines;
+use syntect_easy::highlighting::Theme;
+use syntect_easy::laws::states_go_on;
 
 /// The highlighter of the states that another one gives away, under its theme: it stands where that
 /// one stood.

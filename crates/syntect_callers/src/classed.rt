@@ -1,22 +1,22 @@
 //! A caller of the generator of pages with classes, from a text to what a reader of its page sees.
 ghost use Rattle.std.specs.Prelude.{IfOk, IfErr, List, string_bytes};
-ghost use Rattle.syntect_classed.specs.Classes.{prefix_of};
-ghost use Rattle.syntect_loader.specs.declared.definition.SyntaxDefinition.{SyntaxDefinition as ADefinition};
-ghost use Rattle.syntect_writers.specs.Lines.{lines_of};
-ghost use Rattle.syntect.specs.Built.{IsBuiltOf};
-ghost use Rattle.syntect.specs.ClassedPages.{ShowsScopes};
-ghost use Rattle.syntect.specs.Leads.{RunsOrderly};
-ghost use Rattle.syntect.specs.Pages.{HasNoPage};
+ghost use Rattle.syntect_callers.specs.syntect_writers.Classes.{prefix_of};
+ghost use Rattle.syntect_callers.specs.syntect_grammar_loader.declared.definition.SyntaxDefinition.{SyntaxDefinition as ADefinition};
+ghost use Rattle.syntect_callers.specs.syntect_writers.Lines.{lines_of};
+ghost use Rattle.syntect_easy.specs.Built.{IsSyntaxOfBuilt};
+ghost use Rattle.syntect_easy.specs.ClassedPages.{ShowsScopes};
+ghost use Rattle.syntect_easy.specs.Leads.{RunsOrderly};
+ghost use Rattle.syntect_easy.specs.Pages.{IsWhyNoPage};
 ghost use Rattle.syntect_callers.specs.ClassedPages.{IsClassedPageOf, HasNoClassedPage};
 
+use crate::below::parsing::laws::answers_more;
+use crate::below::writers::laws::lines_join;
 use std::alloc::Global;
-use syntect::Error;
-use syntect::html::{ClassStyle, ClassedHTMLGenerator};
-use syntect::laws::{closed_texts_are_pages, operations_are_never_refused};
-use syntect::parsing::{ScopeRepository, SyntaxReference, SyntaxSet};
-use syntect::util::LinesWithEndings;
-use syntect_parsing::laws::answers_more;
-use syntect_writers::laws::lines_join;
+use syntect_easy::Error;
+use syntect_easy::html::{ClassStyle, ClassedHTMLGenerator};
+use syntect_easy::laws::{closed_texts_are_pages, operations_are_never_refused};
+use syntect_easy::parsing::{ScopeRepository, SyntaxReference, SyntaxSet};
+use syntect_easy::util::LinesWithEndings;
 
 /// The page with classes of a text, in a syntax of the set. Its contract is what a reader of the
 /// page sees: the text, and nothing else outside tags, and every span closed; each byte under the
@@ -31,12 +31,12 @@ pub fn classed_page_of(
     repository: &ScopeRepository,
     style: ClassStyle,
 ) -> Result<String, Error>
-    ensures page { (definitions : List ADefinition) → IsBuiltOf set.now syntax.now definitions
+    ensures page { (definitions : List ADefinition) → IsSyntaxOfBuilt set.now syntax.now definitions
         → IfOk result (λ page.
         IsClassedPageOf (RunsOrderly set.now syntax.now (lines_of text.now)) set.now syntax.now
         repository.now (prefix_of style) text.now (string_bytes page)) }
-    ensures refused { (definitions : List ADefinition) → IsBuiltOf set.now syntax.now definitions
-        → IfErr result (HasNoPage set.now syntax.now text.now) }
+    ensures refused { (definitions : List ADefinition) → IsSyntaxOfBuilt set.now syntax.now definitions
+        → IfErr result (IsWhyNoPage set.now syntax.now text.now) }
     // of any set
     ensures any_page { IfOk result (λ page.
         IsClassedPageOf (ShowsScopes set.now syntax.now (lines_of text.now)) set.now syntax.now

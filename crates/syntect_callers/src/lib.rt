@@ -5,6 +5,7 @@
 #![tactic(auto)]
 
 pub mod again;
+pub mod below;
 pub mod classed;
 pub mod third;
 pub mod whole;

@@ -1,15 +1,15 @@
 //! A caller of the highlighter, from definitions to the pieces of lines.
 ghost use Rattle.std.specs.Prelude.{◌≡◌, All, IfErr, List, ℕ, [], ◌∷◌};
-ghost use Rattle.syntect_grammar.specs.Link.{definitions_in};
-ghost use Rattle.syntect.specs.Built.{IsPlain};
-ghost use Rattle.syntect_parsing.specs.Refusals.{AreByName};
+ghost use Rattle.syntect_callers.specs.syntect_grammar.Link.{definitions_in};
+ghost use Rattle.syntect_easy.specs.Built.{IsPlain};
+ghost use Rattle.syntect_callers.specs.syntect_parsing.Refusals.{AreByName};
 ghost use Rattle.syntect_callers.specs.Third.{GivesThird, FirstStays, IsRefusal};
 
 use std::alloc::Global;
-use syntect::Error;
-use syntect::easy::HighlightLines;
-use syntect::highlighting::{Style, Theme};
-use syntect::parsing::{ScopeRepository, SyntaxSetBuilder};
+use syntect_easy::Error;
+use syntect_easy::easy::HighlightLines;
+use syntect_easy::highlighting::{Style, Theme};
+use syntect_easy::parsing::{ScopeRepository, SyntaxSetBuilder};
 
 /// The pieces of the third of three lines of text in the first syntax of a set that is built of
 /// these definitions. For plain definitions its contract is the whole promise: the three lines were

@@ -3,14 +3,14 @@
 ghost use Rattle.std.specs.Prelude.{IfOk, IfErr, IfSome, string_bytes, [], ◌∷◌};
 ghost use Rattle.syntect_callers.specs.Grammars.{IsPageOf, IsThirdOf, IsRefusalOf};
 
+use crate::below::parsing::syntax_definition::SyntaxDefinition;
 use crate::third::third_line;
 use std::alloc::Global;
-use syntect::Error;
-use syntect::highlighting::{Style, Theme};
-use syntect::html::highlighted_html_for_string;
-use syntect::laws::{loaded_is_plain, loaded_sets_stay};
-use syntect::parsing::{ScopeRepository, SyntaxSetBuilder};
-use syntect_parsing::syntax_definition::SyntaxDefinition;
+use syntect_easy::Error;
+use syntect_easy::highlighting::{Style, Theme};
+use syntect_easy::html::highlighted_html_for_string;
+use syntect_easy::laws::{loaded_is_plain, loaded_sets_stay};
+use syntect_easy::parsing::{ScopeRepository, SyntaxSetBuilder};
 
 /// The page of a text in the syntax of a grammar, whose lines are given with their newlines; none
 /// where the grammar's text has no definition. Its contract is the promise from the grammar's text

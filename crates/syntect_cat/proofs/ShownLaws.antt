@@ -3,26 +3,26 @@ use Rattle.std.proofs.Common.{◌≡◌, ℕ, Bool, true, false, List, [], ◌�
 use Rattle.std.specs.Prelude.{Option, None, ◌⊎◌}
 use Rattle.std.specs.Global.{Global}
 use Rattle.std.proofs.lemmas.List.Elements.{All-append, All-cons, All-nil}
-use Rattle.syntect_theme.specs.declared.theme.Theme.{Theme}
-use Rattle.syntect_grammar.specs.Folders.{AddsSyntaxes, no_more, other, grammar, metadata, entry_added, passed_over}
-use Rattle.syntect_grammar.specs.Folders.{no_definitions}
-use Rattle.syntect_grammar.specs.Link.{definitions_in, paths_in, syntaxes_in, set_paths, linked}
-use Rattle.syntect_grammar.specs.Metadata.{entries_in, kept_sets, metadata_in, IsMergedOf}
-use Rattle.syntect_loader.specs.Loading.{loaded}
-use Rattle.syntect_grammar.specs.PlainText.{plain_text, AddsPlainText}
-use Rattle.syntect_loader.specs.declared.definition.SyntaxDefinition.{SyntaxDefinition}
-use Rattle.syntect_grammar.specs.declared.syntax_set.SyntaxSet.{SyntaxSet}
-use Rattle.syntect_grammar.specs.declared.syntax_set.SyntaxSetBuilder.{SyntaxSetBuilder}
-use Rattle.syntect.specs.Built.{IsPlain, IsBuilt}
-use Rattle.syntect_theme_files.specs.ThemeFiles.{IsThemeOf}
-use Rattle.syntect_grammar.specs.declared.error.Error.{Error}
-use Rattle.syntect_grammar.specs.declared.error.Error.TheVariants as error
-use Rattle.syntect_base.specs.Limiting.{usual}
-use Rattle.syntect_base.specs.declared.limits.Limits.{Limits}
-use Rattle.syntect_base.specs.declared.limits.LimitReached.{LimitReached}
-use Rattle.syntect_folders.specs.FoldersWithin.{AddsFolderWithin, RefusesFolderWithin}
-use Rattle.syntect_folders.specs.declared.error.FolderWithinError.TheVariants as folder_error
-use Rattle.syntect_folders.proofs.FolderLaws.{added_within}
+use Rattle.syntect_cat.specs.syntect_theme.declared.theme.Theme.{Theme}
+use Rattle.syntect_cat.specs.syntect_grammar.Folders.{AddsSyntaxes, no_more, other, grammar, metadata, entry_added, passed_over}
+use Rattle.syntect_cat.specs.syntect_grammar.Folders.{no_definitions}
+use Rattle.syntect_cat.specs.syntect_grammar.Link.{definitions_in, paths_in, syntaxes_in, set_paths, linked}
+use Rattle.syntect_cat.specs.syntect_grammar.Metadata.{entries_in, kept_sets, metadata_in, IsMergedOf}
+use Rattle.syntect_cat.specs.syntect_grammar_loader.Loading.{loaded}
+use Rattle.syntect_cat.specs.syntect_grammar.PlainText.{plain_text, AddsPlainText}
+use Rattle.syntect_cat.specs.syntect_grammar_loader.declared.definition.SyntaxDefinition.{SyntaxDefinition}
+use Rattle.syntect_cat.specs.syntect_grammar.declared.syntax_set.SyntaxSet.{SyntaxSet}
+use Rattle.syntect_cat.specs.syntect_grammar.declared.syntax_set.SyntaxSetBuilder.{SyntaxSetBuilder}
+use Rattle.syntect_easy.specs.Built.{IsPlain, IsBuilt}
+use Rattle.syntect_cat.specs.syntect_theme_files.ThemeFiles.{IsThemeOf}
+use Rattle.syntect_cat.specs.syntect_grammar.declared.error.Error.{Error}
+use Rattle.syntect_cat.specs.syntect_grammar.declared.error.Error.TheVariants as error
+use Rattle.syntect_cat.specs.syntect_base.Limiting.{usual}
+use Rattle.syntect_cat.specs.syntect_base.declared.limits.Limits.{Limits}
+use Rattle.syntect_cat.specs.syntect_base.declared.limits.LimitReached.{LimitReached}
+use Rattle.syntect_cat.specs.syntect_grammar_limits.FoldersWithin.{AddsFolderWithin, RefusesFolderWithin}
+use Rattle.syntect_cat.specs.syntect_grammar_limits.declared.folder_error.FolderWithinError.TheVariants as folder_error
+use Rattle.syntect_cat.proofs.syntect_grammar_limits_proofs.FolderLaws.{added_within}
 use Rattle.syntect_cat.specs.Faults.{fault_of, fault_line, plain_line, without_limit}
 use Rattle.syntect_cat.specs.declared.note.Note.{Note}
 use Rattle.syntect_cat.specs.Shown.{IsSetOf, PassesLimit, HasReason, HasReasonFor, IsShown, IsAskedFor}

@@ -4,23 +4,23 @@ use Rattle.std.specs.Prelude.{Option, Some, None, IfOk, ◌⊎◌}
 use Rattle.std.specs.Global.{Vec}
 use Rattle.std.proofs.lemmas.Grind.{flat_map-append}
 use Rattle.std.proofs.lemmas.List.{length_push}
-use Rattle.syntect_base.specs.Limiting.{usual}
-use Rattle.syntect_base.specs.declared.limits.Limits.{Limits}
-use Rattle.syntect_theme.specs.declared.style.Style.{Style}
-use Rattle.syntect_theme.specs.declared.theme.Theme.{Theme}
-use Rattle.syntect_contexts.specs.declared.syntax_reference.SyntaxReference.{SyntaxReference}
-use Rattle.syntect_grammar.specs.declared.syntax_set.SyntaxSet.{SyntaxSet}
-use Rattle.syntect_grammar.specs.declared.error.Error.{Error}
-use Rattle.syntect_loader.specs.declared.definition.SyntaxDefinition.{SyntaxDefinition}
-use Rattle.syntect_parsing.specs.declared.within.LineLimit.{LineLimit}
-use Rattle.syntect_writers.specs.declared.html.IncludeBackground.{IncludeBackground}
-use Rattle.syntect.specs.Built.{IsBuilt, IsBuiltOf}
-use Rattle.syntect.specs.Files.{IsSyntaxWithin}
-use Rattle.syntect_first_lines.specs.declared.error.FirstLineLimit.{FirstLineLimit}
-use Rattle.syntect.specs.Pages.{past_of}
-use Rattle.syntect.specs.PlainLines.{AreLinesSoFar, ContinuesWithin, LinesEnd, LinesGoOn, Shown, read, plain, first_plain, limit_in, pieces_in, rows_in}
-use Rattle.syntect.specs.Rows.{GivesNext, IsTextOf}
-use Rattle.syntect.specs.declared.easy.HighlightLines.{HighlightLines}
+use Rattle.syntect_cat.specs.syntect_base.Limiting.{usual}
+use Rattle.syntect_cat.specs.syntect_base.declared.limits.Limits.{Limits}
+use Rattle.syntect_cat.specs.syntect_theme.declared.style.Style.{Style}
+use Rattle.syntect_cat.specs.syntect_theme.declared.theme.Theme.{Theme}
+use Rattle.syntect_cat.specs.syntect_grammar_contexts.declared.syntax_reference.SyntaxReference.{SyntaxReference}
+use Rattle.syntect_cat.specs.syntect_grammar.declared.syntax_set.SyntaxSet.{SyntaxSet}
+use Rattle.syntect_cat.specs.syntect_grammar.declared.error.Error.{Error}
+use Rattle.syntect_cat.specs.syntect_grammar_loader.declared.definition.SyntaxDefinition.{SyntaxDefinition}
+use Rattle.syntect_cat.specs.syntect_parsing.declared.within.LineLimit.{LineLimit}
+use Rattle.syntect_cat.specs.syntect_writers.declared.html.IncludeBackground.{IncludeBackground}
+use Rattle.syntect_easy.specs.Built.{IsBuilt, IsSyntaxOfBuilt}
+use Rattle.syntect_easy.specs.Files.{IsSyntaxWithin}
+use Rattle.syntect_cat.specs.syntect_grammar_limits.declared.first_line_error.FirstLineLimit.{FirstLineLimit}
+use Rattle.syntect_easy.specs.Pages.{past_of}
+use Rattle.syntect_easy.specs.PlainLines.{AreLinesSoFar, ContinuesWithin, LinesEnd, LinesGoOn, Shown, read, plain, first_plain, limit_in, pieces_in, rows_in}
+use Rattle.syntect_easy.specs.Rows.{GivesNext, IsTextOf}
+use Rattle.syntect_easy.specs.declared.easy.HighlightLines.{HighlightLines}
 use Rattle.syntect_cat.specs.Notes.{Tells, note_of}
 use Rattle.syntect_cat.specs.declared.note.Note.{Note}
 use Rattle.syntect_cat.specs.Texts.{IsWritten, ShowsFile, end_of, first_of, front_of, ground_of, line_of, lines_text}

@@ -1,11 +1,13 @@
 -- The lines that tell of faults.
 use Rattle.std.specs.Prelude.{ℕ, List, ◌++◌, codes, decimal, string_bytes}
-use Rattle.syntect_base.specs.declared.limits.LimitReached.{LimitReached}
-use Rattle.syntect_base.specs.declared.limits.LimitReached.TheVariants as reached
-use Rattle.syntect_grammar.specs.declared.error.Error.{Error}
-use Rattle.syntect_grammar.specs.declared.error.Error.TheVariants as error
+use Rattle.syntect_cat.specs.syntect_base.declared.limits.LimitReached.{LimitReached}
+use Rattle.syntect_cat.specs.syntect_base.declared.limits.LimitReached.TheVariants as reached
+use Rattle.syntect_cat.specs.syntect_grammar.declared.error.Error.{Error}
+use Rattle.syntect_cat.specs.syntect_grammar.declared.error.Error.TheVariants as error
 use Rattle.syntect_cat.specs.declared.fault.Fault.{Fault}
 use Rattle.syntect_cat.specs.declared.fault.Fault.TheVariants.{Syntaxes, Limit, Theme, File, Highlighting, Writing}
+
+-- ---- For proofs and private functions alone ----
 
 -- the line after words that ask for nothing
 abbrev pub usage_line : List ℕ

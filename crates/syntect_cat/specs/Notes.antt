@@ -1,11 +1,13 @@
 -- What is reported of a text in which limits were reached.
 use Rattle.std.specs.Prelude.{ℕ, List, ◌++◌, codes, decimal, Option, Some, None, ◌⊎◌}
-use Rattle.syntect_first_lines.specs.declared.error.FirstLineLimit.{FirstLineLimit}
+use Rattle.syntect_cat.specs.syntect_grammar_limits.declared.first_line_error.FirstLineLimit.{FirstLineLimit}
 use Rattle.syntect_cat.specs.Written.{Begins}
 use Rattle.syntect_cat.specs.declared.note.Note.{Note}
 use Rattle.syntect_cat.specs.declared.note.Note.TheVariants.{Syntax, Line}
-use Rattle.syntect_parsing.specs.declared.within.LineLimit.{LineLimit}
-use Rattle.syntect_parsing.specs.declared.within.LineLimit.TheVariants.{Steps, Turns, Levels, Operations}
+use Rattle.syntect_cat.specs.syntect_parsing.declared.within.LineLimit.{LineLimit}
+use Rattle.syntect_cat.specs.syntect_parsing.declared.within.LineLimit.TheVariants.{Steps, Turns, Levels, Operations}
+
+-- ---- For proofs and private functions alone ----
 
 -- which limit a line reached, and at which byte of it
 abbrev pub reached_text : LineLimit → List ℕ

@@ -1,24 +1,26 @@
 -- The text that shows a file.
 use Rattle.std.specs.Prelude.{◌≡◌, ℕ, true, List, [], Option, String}
-use Rattle.syntect_theme_files.specs.ThemeFiles.{IsThemeOf}
-use Rattle.syntect_theme.specs.declared.theme.Theme.{Theme}
+use Rattle.syntect_cat.specs.syntect_theme_files.ThemeFiles.{IsThemeOf}
+use Rattle.syntect_cat.specs.syntect_theme.declared.theme.Theme.{Theme}
 use Rattle.std.specs.Global.{Global}
-use Rattle.syntect_base.specs.Limiting.{usual}
-use Rattle.syntect_base.specs.declared.limits.LimitReached.{LimitReached as AReached}
-use Rattle.syntect_folders.specs.FoldersWithin.{AddsFolderWithin, RefusesFolderWithin}
-use Rattle.syntect_folders.specs.declared.error.FolderWithinError.TheVariants.{LimitReached}
-use Rattle.syntect_grammar.specs.Folders.{no_definitions}
-use Rattle.syntect_grammar.specs.Link.{definitions_in, paths_in, syntaxes_in, set_paths, linked}
-use Rattle.syntect_grammar.specs.Metadata.{entries_in, kept_sets, metadata_in, IsMergedOf}
-use Rattle.syntect_grammar.specs.PlainText.{AddsPlainText}
-use Rattle.syntect_grammar.specs.declared.syntax_set.SyntaxSet.{SyntaxSet}
-use Rattle.syntect_grammar.specs.declared.syntax_set.SyntaxSetBuilder.{SyntaxSetBuilder}
+use Rattle.syntect_cat.specs.syntect_base.Limiting.{usual}
+use Rattle.syntect_cat.specs.syntect_base.declared.limits.LimitReached.{LimitReached as AReached}
+use Rattle.syntect_cat.specs.syntect_grammar_limits.FoldersWithin.{AddsFolderWithin, RefusesFolderWithin}
+use Rattle.syntect_cat.specs.syntect_grammar_limits.declared.folder_error.FolderWithinError.TheVariants.{LimitReached}
+use Rattle.syntect_cat.specs.syntect_grammar.Folders.{no_definitions}
+use Rattle.syntect_cat.specs.syntect_grammar.Link.{definitions_in, paths_in, syntaxes_in, set_paths, linked}
+use Rattle.syntect_cat.specs.syntect_grammar.Metadata.{entries_in, kept_sets, metadata_in, IsMergedOf}
+use Rattle.syntect_cat.specs.syntect_grammar.PlainText.{AddsPlainText}
+use Rattle.syntect_cat.specs.syntect_grammar.declared.syntax_set.SyntaxSet.{SyntaxSet}
+use Rattle.syntect_cat.specs.syntect_grammar.declared.syntax_set.SyntaxSetBuilder.{SyntaxSetBuilder}
 use Rattle.syntect_cat.specs.Texts.{ShowsFile}
 use Rattle.syntect_cat.specs.Words.{words_for}
 use Rattle.syntect_cat.specs.declared.fault.Fault.{Fault}
 use Rattle.syntect_cat.specs.declared.fault.Fault.TheVariants.{Limit}
 use Rattle.syntect_cat.specs.declared.job.Format.{Format}
 use Rattle.syntect_cat.specs.declared.note.Note.{Note}
+
+-- ---- For proofs and private functions alone ----
 
 -- The set links the syntax of plain text and the grammars in a folder, read for lines with newlines
 -- and within the usual limits, and has the metadata there.

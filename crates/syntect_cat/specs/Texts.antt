@@ -2,24 +2,26 @@
 use Rattle.std.specs.Prelude.{◌≡◌, ℕ, ◌+◌, List, true, [], ◌∷◌, ◌++◌, Option, Some, None, codes, IsUtf8}
 use Rattle.std.specs.Borrow.{Bor}
 use Rattle.std.specs.List.{flat_map}
-use Rattle.syntect_base.specs.Limiting.{usual}
-use Rattle.syntect_base.specs.declared.limits.Limits.{Limits}
-use Rattle.syntect_contexts.specs.declared.syntax_reference.SyntaxReference.{SyntaxReference}
-use Rattle.syntect_grammar.specs.declared.syntax_set.SyntaxSet.{SyntaxSet}
-use Rattle.syntect_parsing.specs.declared.within.LineLimit.{LineLimit}
-use Rattle.syntect_theme.specs.declared.style.Style.{Style}
-use Rattle.syntect_theme.specs.declared.theme.Theme.{Theme}
-use Rattle.syntect_writers.specs.Spans.{line_text, opening, closing, background_of}
-use Rattle.syntect_writers.specs.Terminal.{terminal_text}
-use Rattle.syntect_writers.specs.declared.html.IncludeBackground.{IncludeBackground}
-use Rattle.syntect_writers.specs.declared.html.IncludeBackground.TheVariants.{IfDifferent}
-use Rattle.syntect.specs.Files.{IsSyntaxWithin}
-use Rattle.syntect_first_lines.specs.declared.error.FirstLineLimit.{FirstLineLimit}
+use Rattle.syntect_cat.specs.syntect_base.Limiting.{usual}
+use Rattle.syntect_cat.specs.syntect_base.declared.limits.Limits.{Limits}
+use Rattle.syntect_cat.specs.syntect_grammar_contexts.declared.syntax_reference.SyntaxReference.{SyntaxReference}
+use Rattle.syntect_cat.specs.syntect_grammar.declared.syntax_set.SyntaxSet.{SyntaxSet}
+use Rattle.syntect_cat.specs.syntect_parsing.declared.within.LineLimit.{LineLimit}
+use Rattle.syntect_cat.specs.syntect_theme.declared.style.Style.{Style}
+use Rattle.syntect_cat.specs.syntect_theme.declared.theme.Theme.{Theme}
+use Rattle.syntect_cat.specs.syntect_writers.Spans.{line_text, opening, closing, background_of}
+use Rattle.syntect_cat.specs.syntect_writers.Terminal.{terminal_text}
+use Rattle.syntect_cat.specs.syntect_writers.declared.html.IncludeBackground.{IncludeBackground}
+use Rattle.syntect_cat.specs.syntect_writers.declared.html.IncludeBackground.TheVariants.{IfDifferent}
+use Rattle.syntect_easy.specs.Files.{IsSyntaxWithin}
+use Rattle.syntect_cat.specs.syntect_grammar_limits.declared.first_line_error.FirstLineLimit.{FirstLineLimit}
 use Rattle.syntect_cat.specs.Notes.{note_of}
 use Rattle.syntect_cat.specs.declared.note.Note.{Note}
-use Rattle.syntect.specs.PlainLines.{AreLinesOf, Shown, first_plain, pieces_in}
+use Rattle.syntect_easy.specs.PlainLines.{AreLinesOf, Shown, first_plain, pieces_in}
 use Rattle.syntect_cat.specs.declared.job.Format.{Format}
 use Rattle.syntect_cat.specs.declared.job.Format.TheVariants.{Html, Terminal}
+
+-- ---- For proofs and private functions alone ----
 
 -- when spans of HTML give the colour behind them: where it isn't the one behind the theme's text; a
 -- terminal has no spans

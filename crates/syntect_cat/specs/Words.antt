@@ -4,6 +4,8 @@ use Rattle.syntect_cat.specs.declared.job.Format.{Format}
 use Rattle.syntect_cat.specs.declared.job.Format.TheVariants.{Html, Terminal}
 use Rattle.syntect_cat.specs.declared.job.Job.{Job}
 
+-- ---- For proofs and private functions alone ----
+
 -- the word of a format
 abbrev pub format_word : Format → List ℕ
 format_word Html = codes "html"

@@ -4,6 +4,7 @@
 //! `run` is the whole program `syncat` over its words, the file system and two writers.
 #![tactic(auto)]
 
+pub mod below;
 pub mod fault;
 pub mod job;
 mod lines;

@@ -1,13 +1,17 @@
 //! The lines of a file, highlighted within limits.
 ghost use Rattle.std.specs.Prelude.{◌≡◌, ◌<◌, ◌-◌, ◌^◌, ℕ, List, [], IfOk, IsUtf8, string_bytes};
 ghost use Rattle.std.specs.Path.{path_bytes};
-ghost use Rattle.syntect_loader.specs.declared.definition.SyntaxDefinition.{SyntaxDefinition as ADefinition};
-ghost use Rattle.syntect_contexts.specs.declared.syntax_reference.SyntaxReference.{SyntaxReference as ASyntax};
-ghost use Rattle.syntect.specs.Built.{IsBuilt, IsBuiltOf};
-ghost use Rattle.syntect.specs.Leads.{Leads};
-ghost use Rattle.syntect.specs.Rows.{IsTextOf};
+ghost use Rattle.syntect_cat.specs.syntect_grammar_loader.declared.definition.SyntaxDefinition.{SyntaxDefinition as ADefinition};
+ghost use Rattle.syntect_cat.specs.syntect_grammar_contexts.declared.syntax_reference.SyntaxReference.{SyntaxReference as ASyntax};
+ghost use Rattle.syntect_easy.specs.Built.{IsBuilt, IsSyntaxOfBuilt};
+ghost use Rattle.syntect_easy.specs.Leads.{Leads};
+ghost use Rattle.syntect_easy.specs.Rows.{IsTextOf};
 ghost use Rattle.syntect_cat.specs.Texts.{IsWritten, ShowsFile, first_of};
 
+use crate::below::base::limits::Limits;
+use crate::below::parsing::syntax_set::SyntaxSet;
+use crate::below::parsing::within::LineLimit;
+use crate::below::theme::theme::Theme;
 use crate::job::Format;
 use crate::note::{Note, note_of};
 use crate::writer::TextWriter;
@@ -15,14 +19,10 @@ use std::alloc::Global;
 use std::io::{BufRead, Error as IoError, ErrorKind};
 use std::path::Path;
 use std::rt::Files;
-use syntect::Error;
-use syntect::easy::{HighlightFile, HighlightLines};
-use syntect::laws::lines_within_limits;
-use syntect::reading::{next_line, text_of};
-use syntect_base::limits::Limits;
-use syntect_parsing::syntax_set::SyntaxSet;
-use syntect_parsing::within::LineLimit;
-use syntect_theme::theme::Theme;
+use syntect_easy::Error;
+use syntect_easy::easy::{HighlightFile, HighlightLines};
+use syntect_easy::laws::lines_within_limits;
+use syntect_easy::reading::{next_line, text_of};
 
 /// The number of a line, from 1, and the limit that it reached, so that it is shown plain.
 pub(crate) type PlainLine = (u64, LineLimit);
@@ -71,7 +71,7 @@ fn text_of_lines<R: BufRead + Drop>(
     limits: &Limits,
 ) -> Result<(String, Option<PlainLine>), Error>
     ensures { (definitions : List ADefinition) (syntax : ASyntax)
-        → IsBuiltOf set.now syntax definitions
+        → IsSyntaxOfBuilt set.now syntax definitions
         → Leads set.now theme.now syntax [] [] highlighter.entry
         → IfOk result (λ r. (text : List ℕ) × IsTextOf (R.remaining reader) text × IsUtf8 text
         × IsWritten limits.now format set.now theme.now syntax text (string_bytes r.0) r.1) }

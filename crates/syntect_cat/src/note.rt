@@ -3,12 +3,12 @@ ghost use Rattle.std.specs.Prelude.{◌≡◌, ◌⊎◌, IfOk, string_bytes};
 ghost use Rattle.syntect_cat.specs.Notes.{Tells, note_line, note_of, reached_text, short_note, syntax_note};
 ghost use Rattle.syntect_cat.specs.Written.{Begins};
 
+use crate::below::grammar_limits::first_line_error::FirstLineLimit;
+use crate::below::parsing::within::LineLimit;
 use crate::lines::PlainLine;
 use crate::put::put;
 use std::alloc::{AllocError, Global};
 use std::io::Write;
-use syntect_first_lines::error::FirstLineLimit;
-use syntect_parsing::within::LineLimit;
 
 /// What is reported of a text in which limits were reached: the foremost of these.
 #[derive(Clone, Copy)]

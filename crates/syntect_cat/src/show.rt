@@ -1,10 +1,17 @@
 //! From files to the text that shows one.
 ghost use Rattle.std.specs.Prelude.{◌≡◌, ◌≢◌, ℕ, List, [], IfOk, IfErr, string_bytes};
-ghost use Rattle.syntect_theme_files.specs.ThemeFiles.{IsThemeOf};
+ghost use Rattle.syntect_cat.specs.syntect_theme_files.ThemeFiles.{IsThemeOf};
 ghost use Rattle.syntect_cat.specs.Shown.{IsSetOf, HasReason, IsShown};
 ghost use Rattle.syntect_cat.specs.declared.fault.Fault.TheVariants.{Writing};
 ghost use Rattle.syntect_cat.specs.declared.fault.Fault.TheVariants.{Theme as FaultOfTheme};
 
+use crate::below::base::limits::Limits;
+use crate::below::grammar_limits::folder_error::FolderWithinError;
+use crate::below::grammar_limits::folders::add_from_folder_within;
+use crate::below::parsing::syntax_set::{SyntaxSet, SyntaxSetBuilder};
+use crate::below::scope::repository::ScopeRepository;
+use crate::below::theme::theme::Theme;
+use crate::below::theme_files::theme_set::ThemeSet;
 use crate::fault::Fault;
 use crate::job::Job;
 use crate::lines::text_of_file;
@@ -12,14 +19,7 @@ use crate::note::Note;
 use std::alloc::Global;
 use std::path::Path;
 use std::rt::Files;
-use syntect::laws::loaded_is_plain;
-use syntect_base::limits::Limits;
-use syntect_folders::error::FolderWithinError;
-use syntect_folders::folders::add_from_folder_within;
-use syntect_parsing::syntax_set::{SyntaxSet, SyntaxSetBuilder};
-use syntect_scope::repository::ScopeRepository;
-use syntect_theme::theme::Theme;
-use syntect_theme_files::theme_set::ThemeSet;
+use syntect_easy::laws::loaded_is_plain;
 
 /// Plain text and the grammars and metadata in a folder, linked, for lines with newlines. The
 /// grammars are loaded within `Limits::default`.

@@ -2,14 +2,14 @@
 ghost use Rattle.std.specs.Prelude.{◌≡◌, ◌++◌, IfOk, OnOk, string_bytes};
 ghost use Rattle.syntect_cat.specs.Texts.{front_of, ground_of, line_of, end_of};
 
+use crate::below::theme::style::Style;
+use crate::below::theme::theme::Theme;
+use crate::below::writers::spans::SpanWriter;
 use crate::job::Format;
 use std::alloc::Global;
-use syntect::Error;
-use syntect::html::{IncludeBackground, start_highlighted_html_snippet};
-use syntect::util::push_24_bit_terminal_escaped;
-use syntect_theme::style::Style;
-use syntect_theme::theme::Theme;
-use syntect_writers::spans::SpanWriter;
+use syntect_easy::Error;
+use syntect_easy::html::{IncludeBackground, start_highlighted_html_snippet};
+use syntect_easy::util::push_24_bit_terminal_escaped;
 
 /// What ends a page of HTML.
 const CLOSING: &str = "</pre>\n";

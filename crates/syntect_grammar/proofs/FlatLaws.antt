@@ -9,20 +9,20 @@ use Rattle.std.proofs.lemmas.Bool.{cases_lt}
 use Rattle.std.proofs.lemmas.List.{get_or_past}
 use Rattle.std.proofs.lemmas.List.Elements.{All-append, All-cons, All-nil, filter_map-append}
 use Rattle.std.proofs.lemmas.Option.{get_or_from_slice_get, slice_get-get_or, unwrap_or-slice_get}
-use Rattle.syntect_pattern_table.specs.Starts.{is_in}
-use Rattle.syntect_regex.specs.Begins.{BeginsAtEdges, NoneBeginsBefore, NoneBeginsOutside}
-use Rattle.syntect_contexts.specs.Contexts.{is_same, match_in, match_of, target}
+use Rattle.syntect_grammar.specs.syntect_pattern_table.Starts.{is_in}
+use Rattle.syntect_grammar.specs.syntect_regex.Begins.{BeginsAtEdges, NoneBeginsBefore, NoneBeginsOutside}
+use Rattle.syntect_grammar.specs.syntect_grammar_contexts.Contexts.{is_same, match_in, match_of, target}
 use Rattle.syntect_grammar.specs.Contexts.{context_at, set_of, syntaxes_in}
 use Rattle.syntect_grammar.specs.Flats.{AreFlatsOf, AreListsOf, IsOpen, IsTableOf, Tells, flats_at, pattern_at}
 use Rattle.syntect_grammar.specs.Patterns.{entries, included, patterns_of, room_in, walk, walk_patterns}
 use Rattle.syntect_grammar.specs.Walk.{FindsSame}
-use Rattle.syntect_flats.specs.Told.{AreCoarser, IsCoarser}
-use Rattle.syntect_flats.specs.declared.flats.Flat.{Flat}
-use Rattle.syntect_contexts.specs.declared.context.Context.{Context}
-use Rattle.syntect_contexts.specs.declared.context.ContextId.{ContextId}
-use Rattle.syntect_contexts.specs.declared.context.MatchPattern.{MatchPattern}
-use Rattle.syntect_contexts.specs.declared.context.Pattern.{Pattern}
-use Rattle.syntect_contexts.specs.declared.context.Pattern.TheVariants.{Match, Include}
+use Rattle.syntect_grammar_lists.specs.Told.{AreCoarser, IsCoarser}
+use Rattle.syntect_grammar_lists.specs.declared.flats.Flat.{Flat}
+use Rattle.syntect_grammar.specs.syntect_grammar_contexts.declared.context.Context.{Context}
+use Rattle.syntect_grammar.specs.syntect_grammar_contexts.declared.context.ContextId.{ContextId}
+use Rattle.syntect_grammar.specs.syntect_grammar_contexts.declared.context.MatchPattern.{MatchPattern}
+use Rattle.syntect_grammar.specs.syntect_grammar_contexts.declared.context.Pattern.{Pattern}
+use Rattle.syntect_grammar.specs.syntect_grammar_contexts.declared.context.Pattern.TheVariants.{Match, Include}
 use Rattle.syntect_grammar.specs.declared.syntax_set.SyntaxSet.{SyntaxSet}
 
 -- ---- where a pattern stands ----

@@ -1,19 +1,19 @@
 -- Grammars added from files.
 use Rattle.std.proofs.Common.{◌≡◌, ℕ, Bool, true, false, List, [], ◌∷◌, ◌++◌, length, take, sym, refl, ap, ◌∙◌, subst, arith}
-use Rattle.syntect_base.specs.Ahead.{Ahead}
-use Rattle.syntect_base.specs.Walks.{IsWalkFault, GoesOn, GivesFile, ended}
-use Rattle.syntect_base.proofs.WalkLaws.{so_far, one_more}
-use Rattle.syntect_base.specs.declared.loading.LoadingError.{LoadingError}
-use Rattle.syntect_base.specs.declared.loading.LoadingError.TheVariants as loading
+use Rattle.syntect_grammar.specs.syntect_base.Ahead.{Ahead}
+use Rattle.syntect_grammar.specs.syntect_base.Walks.{IsWalkFault, IsWalkSoFar, GivesFile, ended}
+use Rattle.syntect_grammar.proofs.syntect_base_proofs.WalkLaws.{so_far, one_more}
+use Rattle.syntect_grammar.specs.syntect_base.declared.loading.LoadingError.{LoadingError}
+use Rattle.syntect_grammar.specs.syntect_base.declared.loading.LoadingError.TheVariants as loading
 use Rattle.syntect_grammar.specs.Folders.{is_grammar_path, is_metadata_path, with_loaded, with_entry, AddsMetadata, entry_added, AddsSyntaxes, no_more, other, grammar, metadata, StopsFile, at_metadata, AddsFolder, RefusesFolder, no_walk, no_syntax}
 use Rattle.syntect_grammar.specs.Link.{definitions_in, paths_in}
 use Rattle.syntect_grammar.specs.Metadata.{entries_in, kept_sets}
 use Rattle.syntect_metadata.specs.Entries.{IsEntryOf}
 use Rattle.syntect_metadata.specs.declared.raw.RawMetadataEntry.{RawMetadataEntry}
 use Rattle.syntect_metadata.specs.declared.set.MetadataSet.{MetadataSet}
-use Rattle.syntect_loader.specs.Files.{IsSyntaxOf}
-use Rattle.syntect_loader.specs.LoadingSteps.{Keeps}
-use Rattle.syntect_loader.specs.declared.definition.SyntaxDefinition.{SyntaxDefinition}
+use Rattle.syntect_grammar_loader.specs.Files.{IsSyntaxOf}
+use Rattle.syntect_grammar_loader.specs.LoadingSteps.{KeepsAtoms}
+use Rattle.syntect_grammar_loader.specs.declared.definition.SyntaxDefinition.{SyntaxDefinition}
 use Rattle.syntect_grammar.specs.declared.syntax_set.SyntaxSetBuilder.{SyntaxSetBuilder}
 use Rattle.syntect_metadata.proofs.SetLaws.{keeps_on}
 
@@ -66,7 +66,7 @@ module _ (newlines : Bool) where
 module _ (newlines : Bool) (folder : List ℕ) (old : List (List ℕ)) (builder : SyntaxSetBuilder) where
   -- the files that a walk has found so far are added
   abbrev pub Added : Ahead → List (List ℕ) → SyntaxSetBuilder → Type 0
-  Added ahead new all = (found : List (List ℕ)) × GoesOn folder found ahead × AddsSyntaxes newlines found old builder new all
+  Added ahead new all = (found : List (List ℕ)) × IsWalkSoFar folder found ahead × AddsSyntaxes newlines found old builder new all
 
   pub next_added : (before after : Ahead) (path text : List ℕ) (left new : List (List ℕ)) (some all : SyntaxSetBuilder) → Added before left some → GivesFile before after path → text ≡ path
       → AddsSyntaxes newlines (text ∷ []) left some new all → Added after new all
@@ -95,5 +95,5 @@ module _ (newlines : Bool) (folder : List ℕ) (old : List (List ℕ)) (builder 
 -- ---- repositories ----
 
 -- what keeps the old atoms keeps whatever began them
-pub keeps_all : (old left new : List (List ℕ)) → Keeps old left → take (length left) new ≡ left → Keeps old new
+pub keeps_all : (old left new : List (List ℕ)) → KeepsAtoms old left → take (length left) new ≡ left → KeepsAtoms old new
 keeps_all old left new k h first b = keeps_on first left new (k first b) h

@@ -1,16 +1,16 @@
 -- The turns of a walk, by the frames that the code keeps.
 use Rattle.std.proofs.Common.{◌≡◌, ◌+◌, ◌<◌, ◌≤◌, List, [], ◌∷◌, ◌++◌, length, map, drop, Some, None, refl, ap, sym, ◌∙◌, subst}
 use Rattle.std.proofs.lemmas.List.{drop_all}
-use Rattle.syntect_contexts.specs.Contexts.{target}
+use Rattle.syntect_grammar.specs.syntect_grammar_contexts.Contexts.{target}
 use Rattle.syntect_grammar.specs.Walk.{FindsSame, frame, frame_of, entering}
 use Rattle.syntect_grammar.specs.declared.walk.Frame.{Frame}
 use Rattle.syntect_grammar.proofs.WalkLaws.{Visit, IsWalk, work, walk_begins, walk_pops, walk_takes, walk_passes, walk_enters, walk_ends, work_pops, work_passes, work_enters}
 use Rattle.syntect_grammar.specs.Patterns.{entries, patterns_of}
-use Rattle.syntect_contexts.specs.declared.context.ContextId.{ContextId}
-use Rattle.syntect_contexts.specs.declared.context.ContextReference.{ContextReference}
-use Rattle.syntect_contexts.specs.declared.context.MatchPattern.{MatchPattern}
-use Rattle.syntect_contexts.specs.declared.context.Pattern.{Pattern}
-use Rattle.syntect_contexts.specs.declared.context.Pattern.TheVariants.{Match, Include}
+use Rattle.syntect_grammar.specs.syntect_grammar_contexts.declared.context.ContextId.{ContextId}
+use Rattle.syntect_grammar.specs.syntect_grammar_contexts.declared.context.ContextReference.{ContextReference}
+use Rattle.syntect_grammar.specs.syntect_grammar_contexts.declared.context.MatchPattern.{MatchPattern}
+use Rattle.syntect_grammar.specs.syntect_grammar_contexts.declared.context.Pattern.{Pattern}
+use Rattle.syntect_grammar.specs.syntect_grammar_contexts.declared.context.Pattern.TheVariants.{Match, Include}
 use Rattle.syntect_grammar.specs.declared.syntax_set.SyntaxSet.{SyntaxSet}
 
 map_top : {X Y : Type 0} (f : X → Y) (xs : List X) (x : X) → map f (xs ++ x ∷ []) ≡ map f xs ++ f x ∷ []

@@ -3,11 +3,11 @@ use Rattle.std.proofs.Common.{◌≡◌, ℕ, ◌+◌, List, [], ◌∷◌, ◌+
 use Rattle.std.specs.List.{zip}
 use Rattle.std.proofs.lemmas.List.{map-append}
 use Rattle.syntect_grammar.specs.Link.{head_of, heads_from, body_of, linked_from}
-use Rattle.syntect_linker.specs.Gifts.{gifts_in, gifts_from, given_all, given_from, put_together}
-use Rattle.syntect_linker.proofs.LinkLaws.{contexts_together}
-use Rattle.syntect_contexts.specs.declared.context.Context.{Context}
-use Rattle.syntect_loader.specs.declared.definition.SyntaxDefinition.{SyntaxDefinition}
-use Rattle.syntect_contexts.specs.declared.syntax_reference.SyntaxReference.{SyntaxReference}
+use Rattle.syntect_grammar_linker.specs.Gifts.{gifts_in, gifts_from, given_all, given_from, put_together}
+use Rattle.syntect_grammar_linker.proofs.LinkLaws.{contexts_together}
+use Rattle.syntect_grammar.specs.syntect_grammar_contexts.declared.context.Context.{Context}
+use Rattle.syntect_grammar_loader.specs.declared.definition.SyntaxDefinition.{SyntaxDefinition}
+use Rattle.syntect_grammar.specs.syntect_grammar_contexts.declared.syntax_reference.SyntaxReference.{SyntaxReference}
 
 -- ---- heads ----
 

@@ -1,17 +1,17 @@
 -- An include path has no context twice, so there is always room.
 use Rattle.std.proofs.Common.{◌≡◌, ℕ, zero, suc, ◌+◌, ◌≤◌, ◌<◌, Bool, true, false, not, ◌&&◌, ◌||◌, List, [], ◌∷◌, ◌++◌, length, Option, Some, None, refl, ap, sym, ◌∙◌, arith, if◌then◌else◌}
 use Rattle.std.specs.List.{list_any}
-use Rattle.syntect_contexts.specs.Contexts.{is_same, target}
+use Rattle.syntect_grammar.specs.syntect_grammar_contexts.Contexts.{is_same, target}
 use Rattle.syntect_grammar.specs.Contexts.{context_at, contexts_of}
 use Rattle.syntect_grammar.specs.Patterns.{RoomIsNotFeltAt, entries, included, walk_patterns, walk, room_in, GivesNothing, unresolved, lacking, around, Walks, ended, own, passed_over, followed}
 use Rattle.syntect_grammar.specs.Patterns.{RoomIsNotFelt}
-use Rattle.syntect_contexts.specs.declared.context.ContextId.{ContextId}
-use Rattle.syntect_contexts.specs.declared.context.ContextReference.{ContextReference}
-use Rattle.syntect_contexts.specs.declared.context.MatchPattern.{MatchPattern}
-use Rattle.syntect_contexts.specs.declared.context.Pattern.{Pattern}
-use Rattle.syntect_contexts.specs.declared.context.Pattern.TheVariants.{Match, Include}
-use Rattle.syntect_contexts.specs.declared.context.Context.{Context}
-use Rattle.syntect_linker.proofs.Numbers.{number, numbers_from, length_from, any_append, is_same_self, same_id, listed_from}
+use Rattle.syntect_grammar.specs.syntect_grammar_contexts.declared.context.ContextId.{ContextId}
+use Rattle.syntect_grammar.specs.syntect_grammar_contexts.declared.context.ContextReference.{ContextReference}
+use Rattle.syntect_grammar.specs.syntect_grammar_contexts.declared.context.MatchPattern.{MatchPattern}
+use Rattle.syntect_grammar.specs.syntect_grammar_contexts.declared.context.Pattern.{Pattern}
+use Rattle.syntect_grammar.specs.syntect_grammar_contexts.declared.context.Pattern.TheVariants.{Match, Include}
+use Rattle.syntect_grammar.specs.syntect_grammar_contexts.declared.context.Context.{Context}
+use Rattle.syntect_grammar_linker.proofs.Numbers.{number, numbers_from, length_from, any_append, is_same_self, same_id, listed_from}
 use Rattle.syntect_grammar.specs.declared.syntax_set.SyntaxSet.{SyntaxSet}
 
 pub listed : (set : SyntaxSet) (id : ContextId) (c : Context) → context_at set id ≡ Some c → list_any (is_same id) (numbers_from 0 (contexts_of set)) ≡ true

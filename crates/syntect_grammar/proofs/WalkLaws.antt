@@ -3,19 +3,19 @@
 use Rattle.std.proofs.Common.{◌≡◌, ℕ, suc, ◌+◌, ◌≤◌, ◌<◌, Bool, true, false, ◌||◌, ◌==◌, List, [], ◌∷◌, ◌++◌, length, map, find, Option, Some, None, refl, ap, sym, ◌∙◌, subst, arith, append_assoc, append-nil, length-append, if◌then◌else◌}
 use Rattle.std.specs.List.{list_any}
 use Rattle.std.proofs.lemmas.Bool.Decides.{nat_tests}
-use Rattle.syntect_contexts.specs.Contexts.{is_same, target}
+use Rattle.syntect_grammar.specs.syntect_grammar_contexts.Contexts.{is_same, target}
 use Rattle.syntect_grammar.specs.Contexts.{context_at, contexts_of}
 use Rattle.syntect_grammar.specs.Patterns.{entries, patterns_of, unresolved, lacking, around, Walks, ended, own, passed_over, followed}
 use Rattle.syntect_grammar.proofs.Room.{listed, room_is_not_felt_at}
-use Rattle.syntect_linker.proofs.Numbers.{any_append, is_same_self, same_id, numbers_from}
+use Rattle.syntect_grammar_linker.proofs.Numbers.{any_append, is_same_self, same_id, numbers_from}
 use Rattle.syntect_grammar.specs.Walk.{FindsSame, frame_of, entering}
 use Rattle.syntect_grammar.proofs.SameLaws.{found_past, none_first, none_left, none_right, none_here}
-use Rattle.syntect_contexts.specs.declared.context.ContextId.{ContextId}
-use Rattle.syntect_contexts.specs.declared.context.ContextReference.{ContextReference}
-use Rattle.syntect_contexts.specs.declared.context.MatchPattern.{MatchPattern}
-use Rattle.syntect_contexts.specs.declared.context.Pattern.{Pattern}
-use Rattle.syntect_contexts.specs.declared.context.Pattern.TheVariants.{Match, Include}
-use Rattle.syntect_contexts.specs.declared.context.Context.{Context}
+use Rattle.syntect_grammar.specs.syntect_grammar_contexts.declared.context.ContextId.{ContextId}
+use Rattle.syntect_grammar.specs.syntect_grammar_contexts.declared.context.ContextReference.{ContextReference}
+use Rattle.syntect_grammar.specs.syntect_grammar_contexts.declared.context.MatchPattern.{MatchPattern}
+use Rattle.syntect_grammar.specs.syntect_grammar_contexts.declared.context.Pattern.{Pattern}
+use Rattle.syntect_grammar.specs.syntect_grammar_contexts.declared.context.Pattern.TheVariants.{Match, Include}
+use Rattle.syntect_grammar.specs.syntect_grammar_contexts.declared.context.Context.{Context}
 use Rattle.syntect_grammar.specs.declared.syntax_set.SyntaxSet.{SyntaxSet}
 
 -- ---- contexts among others ----

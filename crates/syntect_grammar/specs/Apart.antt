@@ -4,9 +4,9 @@ use Rattle.std.specs.List.{zip, fold}
 use Rattle.std.specs.BTreeMap.{insert_entry}
 use Rattle.std.specs.Cmp.Lexicographic.{slice_cmp}
 use Rattle.std.specs.Ordering.{nat_cmp}
-use Rattle.syntect_contexts.specs.declared.context.Context.{Context}
-use Rattle.syntect_loader.specs.declared.definition.SyntaxDefinition.{SyntaxDefinition}
-use Rattle.syntect_contexts.specs.declared.syntax_reference.SyntaxReference.{SyntaxReference}
+use Rattle.syntect_grammar.specs.syntect_grammar_contexts.declared.context.Context.{Context}
+use Rattle.syntect_grammar_loader.specs.declared.definition.SyntaxDefinition.{SyntaxDefinition}
+use Rattle.syntect_grammar.specs.syntect_grammar_contexts.declared.syntax_reference.SyntaxReference.{SyntaxReference}
 
 -- one context entered by its name
 abbrev pub entered : List (List ℕ × Context) → List ℕ × Context → List (List ℕ × Context)

@@ -5,11 +5,11 @@ use Rattle.std.specs.List.{list_any, starts_with, ends_with}
 use Rattle.std.specs.Path.{path_file_name, path_extension}
 use Rattle.std.specs.Str.{str_eq_ignore_ascii_case}
 use Rattle.std.specs.Cmp.Lexicographic.{pointwise}
-use Rattle.syntect_pattern.specs.Pattern.{pattern_found}
+use Rattle.syntect_grammar.specs.syntect_pattern.Pattern.{pattern_found}
 use Rattle.syntect_grammar.specs.Link.{syntaxes_in, set_paths}
 use Rattle.syntect_grammar.specs.declared.error.Error.{Error}
 use Rattle.syntect_grammar.specs.declared.error.Error.TheVariants.{Io, Memory}
-use Rattle.syntect_contexts.specs.declared.syntax_reference.SyntaxReference.{SyntaxReference}
+use Rattle.syntect_grammar.specs.syntect_grammar_contexts.declared.syntax_reference.SyntaxReference.{SyntaxReference}
 use Rattle.syntect_grammar.specs.declared.syntax_set.SyntaxSet.{SyntaxSet}
 
 -- the last of a list that passes a test

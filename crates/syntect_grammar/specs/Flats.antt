@@ -2,15 +2,15 @@
 use Rattle.std.specs.Prelude.{◌≡◌, ℕ, ◌<◌, ◌≤◌, true, false, List, [], length, Option, None, IfSome, slice_index_or}
 use Rattle.std.specs.List.{All, filter_map}
 use Rattle.std.specs.Option.{option_and_then}
-use Rattle.syntect_pattern_table.specs.Starts.{is_in}
-use Rattle.syntect_regex.specs.Begins.{BeginsAtEdges, NoneBeginsBefore, NoneBeginsOutside}
-use Rattle.syntect_contexts.specs.Contexts.{match_of}
+use Rattle.syntect_grammar.specs.syntect_pattern_table.Starts.{is_in}
+use Rattle.syntect_grammar.specs.syntect_regex.Begins.{BeginsAtEdges, NoneBeginsBefore, NoneBeginsOutside}
+use Rattle.syntect_grammar.specs.syntect_grammar_contexts.Contexts.{match_of}
 use Rattle.syntect_grammar.specs.Contexts.{context_at}
 use Rattle.syntect_grammar.specs.Patterns.{patterns_of}
 use Rattle.syntect_grammar.specs.Walk.{FindsSame}
-use Rattle.syntect_contexts.specs.declared.context.ContextId.{ContextId}
-use Rattle.syntect_contexts.specs.declared.context.MatchPattern.{MatchPattern}
-use Rattle.syntect_flats.specs.declared.flats.Flat.{Flat}
+use Rattle.syntect_grammar.specs.syntect_grammar_contexts.declared.context.ContextId.{ContextId}
+use Rattle.syntect_grammar.specs.syntect_grammar_contexts.declared.context.MatchPattern.{MatchPattern}
+use Rattle.syntect_grammar_lists.specs.declared.flats.Flat.{Flat}
 use Rattle.syntect_grammar.specs.declared.syntax_set.SyntaxSet.{SyntaxSet}
 
 -- the match pattern that stands at the place, if there is one
@@ -41,16 +41,20 @@ pub record AreFlatsOf (set : SyntaxSet) (id : ContextId) (flats : List Flat) : T
   pub few : length flats ≤ length (patterns_of set id)
   pub tells : All (Tells set) flats
 
+-- ---- What invariants alone rest on ----
+
 -- those that a table holds for a context, if it holds any
 abbrev pub flats_at : List (List (Option (List Flat))) → ContextId → Option (List Flat)
 flats_at table id = slice_index_or (slice_index_or table id.syntax_index []) id.context_index None
+
+-- the lists that are kept of all contexts
+abbrev pub IsTableOf : SyntaxSet → List (List (Option (List Flat))) → Type 0
+IsTableOf set table = (id : ContextId) → IfSome (flats_at table id) (AreFlatsOf set id)
+
+-- ---- For proofs and private functions alone ----
 
 -- the lists that are kept of the contexts of the syntax of this index
 abbrev pub AreListsOf : SyntaxSet → ℕ → List (Option (List Flat)) → Type 0
 AreListsOf set index lists = (k : ℕ) → k < length lists
     → IfSome (slice_index_or lists k None)
     (AreFlatsOf set (record { syntax_index = index; context_index = k }))
-
--- the lists that are kept of all contexts
-abbrev pub IsTableOf : SyntaxSet → List (List (Option (List Flat))) → Type 0
-IsTableOf set table = (id : ContextId) → IfSome (flats_at table id) (AreFlatsOf set id)

@@ -3,13 +3,13 @@ use Rattle.std.specs.Prelude.{◌≡◌, ◌≢◌, ℕ, ◌==◌, Bool, true, f
 use Rattle.std.specs.Cmp.Lexicographic.{pointwise}
 use Rattle.std.specs.Option.{option_map_or}
 use Rattle.std.specs.Path.{path_extension}
-use Rattle.syntect_base.specs.Walks.{IsWalk, IsWalkFault}
-use Rattle.syntect_base.specs.declared.loading.LoadingError.{LoadingError}
-use Rattle.syntect_base.specs.declared.loading.LoadingError.TheVariants.{Memory}
+use Rattle.syntect_grammar.specs.syntect_base.Walks.{IsWalk, IsWalkFault}
+use Rattle.syntect_grammar.specs.syntect_base.declared.loading.LoadingError.{LoadingError}
+use Rattle.syntect_grammar.specs.syntect_base.declared.loading.LoadingError.TheVariants.{Memory}
 use Rattle.syntect_grammar.specs.Link.{definitions_in, paths_in}
 use Rattle.syntect_grammar.specs.Metadata.{entries_in}
-use Rattle.syntect_loader.specs.Files.{IsSyntaxOf, RefusesRead}
-use Rattle.syntect_loader.specs.declared.definition.SyntaxDefinition.{SyntaxDefinition}
+use Rattle.syntect_grammar_loader.specs.Files.{IsSyntaxOf, RefusesRead}
+use Rattle.syntect_grammar_loader.specs.declared.definition.SyntaxDefinition.{SyntaxDefinition}
 use Rattle.syntect_metadata.specs.Entries.{IsEntryOf, IsEntryFault}
 use Rattle.syntect_metadata.specs.declared.raw.RawMetadataEntry.{RawMetadataEntry}
 use Rattle.syntect_grammar.specs.declared.syntax_set.SyntaxSetBuilder.{SyntaxSetBuilder}

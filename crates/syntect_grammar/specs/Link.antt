@@ -1,10 +1,10 @@
 -- What linking makes of definitions.
 pub use Rattle.syntect_grammar.specs.Contexts.{syntaxes_in, set_paths}
 use Rattle.std.specs.Prelude.{ℕ, ◌+◌, List, [], ◌∷◌, map}
-use Rattle.syntect_linker.specs.LinkedContexts.{linked_contexts}
-use Rattle.syntect_contexts.specs.declared.context.Context.{Context}
-use Rattle.syntect_loader.specs.declared.definition.SyntaxDefinition.{SyntaxDefinition}
-use Rattle.syntect_contexts.specs.declared.syntax_reference.SyntaxReference.{SyntaxReference}
+use Rattle.syntect_grammar_linker.specs.LinkedContexts.{linked_contexts}
+use Rattle.syntect_grammar.specs.syntect_grammar_contexts.declared.context.Context.{Context}
+use Rattle.syntect_grammar_loader.specs.declared.definition.SyntaxDefinition.{SyntaxDefinition}
+use Rattle.syntect_grammar.specs.syntect_grammar_contexts.declared.syntax_reference.SyntaxReference.{SyntaxReference}
 use Rattle.syntect_grammar.specs.declared.syntax_set.SyntaxSetBuilder.{SyntaxSetBuilder}
 
 -- the definitions that a builder holds

@@ -1,6 +1,6 @@
 -- The metadata of a set, and of a builder.
 use Rattle.std.specs.Prelude.{◌≡◌, ℕ, List}
-use Rattle.syntect_metadata.specs.Sets.{IsOfEntries, replaced}
+use Rattle.syntect_metadata.specs.Sets.{IsOfEntries, merged_sets}
 use Rattle.syntect_metadata.specs.declared.raw.RawMetadataEntry.{RawMetadataEntry}
 use Rattle.syntect_metadata.specs.declared.set.MetadataSet.{MetadataSet}
 use Rattle.syntect_grammar.specs.declared.syntax_set.SyntaxSet.{SyntaxSet}
@@ -23,4 +23,4 @@ kept_sets builder = builder.metadata.scoped_metadata
 abbrev pub IsMergedOf : List (List ℕ) → SyntaxSetBuilder → List (List ℕ) → List MetadataSet → Type 0
 IsMergedOf old builder new sets =
     (fresh : List MetadataSet) × IsOfEntries old (entries_in builder) new fresh
-    × (sets ≡ replaced (kept_sets builder) fresh)
+    × (sets ≡ merged_sets (kept_sets builder) fresh)

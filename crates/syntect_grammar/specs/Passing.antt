@@ -1,19 +1,19 @@
 -- How refusals of the layers below are passed on.
-use Rattle.syntect_contexts.specs.declared.error.ParsingError.{ParsingError}
-use Rattle.syntect_contexts.specs.declared.error.ParsingError.TheVariants as parsing
-use Rattle.syntect_base.specs.declared.loading.LoadingError.{LoadingError}
-use Rattle.syntect_base.specs.declared.loading.LoadingError.TheVariants as loading
-use Rattle.syntect_scope.specs.declared.stack.ScopeError.{ScopeError}
-use Rattle.syntect_scope.specs.declared.stack.ScopeError.TheVariants as scope
-use Rattle.syntect_scope.specs.declared.repository.ParseScopeError.{ParseScopeError}
-use Rattle.syntect_scope.specs.declared.repository.ParseScopeError.TheVariants as scope_text
-use Rattle.syntect_base.specs.declared.syntax.ParseSyntaxError.{ParseSyntaxError}
-use Rattle.syntect_base.specs.declared.syntax.ParseSyntaxError.TheVariants as syntax
-use Rattle.syntect_base.specs.declared.theme.ParseThemeError.{ParseThemeError}
-use Rattle.syntect_base.specs.declared.loading.SettingsError.{SettingsError}
-use Rattle.syntect_base.specs.Refusals.{from_theme, from_settings}
-use Rattle.syntect_pattern.specs.declared.error.PatternError.{PatternError}
-use Rattle.syntect_pattern.specs.declared.error.PatternError.TheVariants as pattern
+use Rattle.syntect_grammar.specs.syntect_grammar_contexts.declared.error.ParsingError.{ParsingError}
+use Rattle.syntect_grammar.specs.syntect_grammar_contexts.declared.error.ParsingError.TheVariants as parsing
+use Rattle.syntect_grammar.specs.syntect_base.declared.loading.LoadingError.{LoadingError}
+use Rattle.syntect_grammar.specs.syntect_base.declared.loading.LoadingError.TheVariants as loading
+use Rattle.syntect_grammar.specs.syntect_scope.declared.stack.ScopeError.{ScopeError}
+use Rattle.syntect_grammar.specs.syntect_scope.declared.stack.ScopeError.TheVariants as scope
+use Rattle.syntect_grammar.specs.syntect_scope.declared.repository.ParseScopeError.{ParseScopeError}
+use Rattle.syntect_grammar.specs.syntect_scope.declared.repository.ParseScopeError.TheVariants as scope_text
+use Rattle.syntect_grammar.specs.syntect_base.declared.syntax.ParseSyntaxError.{ParseSyntaxError}
+use Rattle.syntect_grammar.specs.syntect_base.declared.syntax.ParseSyntaxError.TheVariants as syntax
+use Rattle.syntect_grammar.specs.syntect_base.declared.theme.ParseThemeError.{ParseThemeError}
+use Rattle.syntect_grammar.specs.syntect_base.declared.loading.SettingsError.{SettingsError}
+use Rattle.syntect_grammar.specs.syntect_base.Refusals.{from_theme, from_settings}
+use Rattle.syntect_grammar.specs.syntect_pattern.declared.error.PatternError.{PatternError}
+use Rattle.syntect_grammar.specs.syntect_pattern.declared.error.PatternError.TheVariants as pattern
 use Rattle.std.specs.IoError.{error_kind}
 use Rattle.std.specs.declared.io.Error.{Error as IoError}
 use Rattle.std.specs.declared.io.ErrorKind.{ErrorKind}

@@ -5,10 +5,10 @@ use Rattle.std.specs.BTreeMap.{is_at}
 use Rattle.std.specs.Map.{lookup}
 use Rattle.std.specs.Cmp.Lexicographic.{slice_cmp}
 use Rattle.std.specs.Ordering.{nat_cmp}
-use Rattle.syntect_scope.specs.Repository.{scope_in}
+use Rattle.syntect_grammar.specs.syntect_scope.Repository.{scope_in}
 use Rattle.syntect_grammar.specs.Link.{definitions_in, paths_in}
-use Rattle.syntect_loader.specs.Loading.{loaded}
-use Rattle.syntect_loader.specs.declared.definition.SyntaxDefinition.{SyntaxDefinition}
+use Rattle.syntect_grammar_loader.specs.Loading.{loaded}
+use Rattle.syntect_grammar_loader.specs.declared.definition.SyntaxDefinition.{SyntaxDefinition}
 use Rattle.syntect_grammar.specs.declared.syntax_set.SyntaxSetBuilder.{SyntaxSetBuilder}
 
 -- its grammar

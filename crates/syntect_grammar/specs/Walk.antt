@@ -1,10 +1,10 @@
 -- The patterns of a context, each context that includes lead to entered once.
 use Rattle.std.specs.Prelude.{◌≡◌, ◌==◌, ◌||◌, Bool, List, length, drop, find, Option, Some, None, if◌then◌else◌}
 use Rattle.std.specs.List.{list_any}
-use Rattle.syntect_contexts.specs.Contexts.{is_same}
+use Rattle.syntect_grammar.specs.syntect_grammar_contexts.Contexts.{is_same}
 use Rattle.syntect_grammar.specs.Patterns.{entries}
-use Rattle.syntect_contexts.specs.declared.context.ContextId.{ContextId}
-use Rattle.syntect_contexts.specs.declared.context.Pattern.{Pattern}
+use Rattle.syntect_grammar.specs.syntect_grammar_contexts.declared.context.ContextId.{ContextId}
+use Rattle.syntect_grammar.specs.syntect_grammar_contexts.declared.context.Pattern.{Pattern}
 use Rattle.syntect_grammar.specs.declared.syntax_set.SyntaxSet.{SyntaxSet}
 use Rattle.syntect_grammar.specs.declared.walk.Frame.{Frame}
 
@@ -12,6 +12,8 @@ use Rattle.syntect_grammar.specs.declared.walk.Frame.{Frame}
 -- members, and the first places of these come in the same order.
 abbrev pub FindsSame : {X : Type 0} → List X → List X → Type 0
 FindsSame {X = X} xs ys = (test : X → Bool) → find test xs ≡ find test ys
+
+-- ---- For proofs and private functions alone ----
 
 -- a context that is walked and those of its entries that are left; all of them, when it is entered
 abbrev pub frame : SyntaxSet → Frame → ContextId × List Pattern

@@ -5,12 +5,12 @@ ghost use Rattle.syntect_grammar.specs.Apart.{by_names, definition_of_syntax};
 ghost use Rattle.syntect_grammar.specs.Link.{definitions_in, paths_in, syntaxes_in, set_paths};
 ghost use Rattle.syntect_grammar.specs.Metadata.{entries_in, kept_sets, metadata_in};
 
+use crate::below::values::seq::Seq;
+use crate::below::values::table::Table;
+use crate::below::values::text::Text;
 use crate::syntax_definition::{Context, SyntaxDefinition};
 use crate::syntax_set::{SyntaxReference, SyntaxSet, SyntaxSetBuilder};
 use std::alloc::{AllocError, Global};
-use syntect_values::seq::Seq;
-use syntect_values::table::Table;
-use syntect_values::text::Text;
 
 /// Contexts by their names.
 fn by_names(

@@ -1,14 +1,14 @@
 //! What can go wrong.
+use crate::below::base::loading::{LoadingError, SettingsError};
+use crate::below::base::syntax::ParseSyntaxError;
+use crate::below::base::theme::ParseThemeError;
+pub use crate::below::grammar_contexts::error::ParsingError;
+use crate::below::regexes::error::PatternError;
+use crate::below::scope::repository::ParseScopeError;
+use crate::below::scope::stack::ScopeError;
 use std::alloc::{AllocError, AllocFailed};
 use std::io::ErrorKind;
 use std::{fmt, io};
-use syntect_base::loading::{LoadingError, SettingsError};
-use syntect_base::syntax::ParseSyntaxError;
-use syntect_base::theme::ParseThemeError;
-pub use syntect_contexts::error::ParsingError;
-use syntect_regex::error::PatternError;
-use syntect_scope::repository::ParseScopeError;
-use syntect_scope::stack::ScopeError;
 use thiserror::Error as ThisError;
 
 /// Why a call was refused for one of several causes. `?` makes it from each refusal of a call.

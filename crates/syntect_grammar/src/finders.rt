@@ -8,6 +8,9 @@ ghost use Rattle.std.specs.Str.{str_eq_ignore_ascii_case};
 ghost use Rattle.syntect_grammar.specs.Finding.{found_by_scope, found_by_name, found_by_extension, found_by_token, found_plain_text, has_extension, last_fitting, without_mark, fits_line, found_by_first_line, ends_in_path, found_by_path, found_by_file_name, found_for_file, NotFoundFor};
 ghost use Rattle.syntect_grammar.specs.Link.{syntaxes_in, set_paths};
 
+use crate::below::regexes::region::Region;
+use crate::below::scope::scope::Scope;
+use crate::below::values::text::Text;
 use crate::error::Error;
 use crate::syntax_set::{SyntaxReference, SyntaxSet};
 use std::alloc::{AllocError, Global};
@@ -15,9 +18,6 @@ use std::io::{BufRead, BufReader};
 use std::path::Path;
 use std::rt::Files;
 use std::{fs, io};
-use syntect_regex::region::Region;
-use syntect_scope::scope::Scope;
-use syntect_values::text::Text;
 
 /// Whether a syntax has an extension, the case of ASCII letters aside.
 fn has_extension(syntax: &SyntaxReference, extension: &str) -> bool

@@ -1,23 +1,23 @@
 //! Grammars and metadata from the files of folders.
 ghost use Rattle.std.specs.Prelude.{◌≡◌, ◌≢◌, ℕ, true, false, List, [], ◌∷◌, IfOk, OnOk, IfErr, OnErr};
 ghost use Rattle.std.specs.Path.{path_bytes};
-ghost use Rattle.syntect_base.specs.declared.loading.LoadingError.TheVariants.{Memory};
+ghost use Rattle.syntect_grammar.specs.syntect_base.declared.loading.LoadingError.TheVariants.{Memory};
 ghost use Rattle.syntect_grammar.specs.Folders.{is_grammar_path, is_metadata_path, AddsMetadata, AddsSyntaxes, StopsFile, AddsFolder, RefusesFolder, no_definitions};
 ghost use Rattle.syntect_grammar.specs.Link.{definitions_in, paths_in, syntaxes_in, set_paths, linked};
 ghost use Rattle.syntect_grammar.specs.Metadata.{metadata_in, IsMergedOf};
-ghost use Rattle.syntect_loader.specs.LoadingSteps.{Keeps};
+ghost use Rattle.syntect_grammar_loader.specs.LoadingSteps.{KeepsAtoms};
 ghost use Rattle.syntect_grammar.specs.declared.syntax_set.SyntaxSetBuilder.{SyntaxSetBuilder as ABuilder};
 
+use crate::below::base::loading::LoadingError;
+use crate::below::base::utils::{Sought, Walk};
+use crate::below::scope::repository::ScopeRepository;
+use crate::below::values::text::Text;
 use crate::syntax_set::{SyntaxSet, SyntaxSetBuilder};
 use std::alloc::Global;
 use std::path::Path;
 use std::rt::Files;
-use syntect_base::loading::LoadingError;
-use syntect_base::utils::{Sought, Walk};
-use syntect_loader::files::load_file;
+use syntect_grammar_loader::files::load_file;
 use syntect_metadata::raw::RawMetadataEntry;
-use syntect_scope::repository::ScopeRepository;
-use syntect_values::text::Text;
 
 /// Whether a file is a grammar's: its extension is `sublime-syntax`, in this case.
 pub fn is_grammar(path: &str) -> bool
@@ -62,7 +62,7 @@ impl SyntaxSetBuilder {
         ensures err { IfErr result
             (λ e. RefusesFolder lines_include_newline (path_bytes folder.entry)
             repository.old self.old e repository.new self.new) }
-        ensures kept { Keeps repository.old repository.new }
+        ensures kept { KeepsAtoms repository.old repository.new }
     {
         let mut walk = match Walk::new(files, alloc, folder, Sought::Grammars) {
             Ok(walk) => walk,
@@ -102,7 +102,7 @@ impl SyntaxSetBuilder {
             (path.now ∷ []) repository.old self.old repository.new self.new) }
         ensures err { OnErr result (self.new ≡ self.old) }
         ensures refusal { IfErr result (StopsFile lines_include_newline path.now repository.old) }
-        ensures kept { Keeps repository.old repository.new }
+        ensures kept { KeepsAtoms repository.old repository.new }
     {
         if is_grammar(path) {
             return self.add_grammar(files, alloc, path, lines_include_newline, repository);
@@ -150,7 +150,7 @@ impl SyntaxSetBuilder {
             (path.now ∷ []) repository.old self.old repository.new self.new) }
         ensures err { OnErr result (self.new ≡ self.old) }
         ensures refusal { IfErr result (StopsFile lines_include_newline path.now repository.old) }
-        ensures kept { Keeps repository.old repository.new }
+        ensures kept { KeepsAtoms repository.old repository.new }
     {
         let syntax = match load_file(files, alloc, path, lines_include_newline, repository) {
             Ok(syntax) => syntax,
@@ -185,7 +185,7 @@ impl SyntaxSet {
         ensures err { IfErr result (λ e. e ≢ Memory → (builder : ABuilder)
             × RefusesFolder false (path_bytes folder.entry) repository.old no_definitions e
             repository.new builder) }
-        ensures kept { Keeps repository.old repository.new }
+        ensures kept { KeepsAtoms repository.old repository.new }
     {
         let mut builder = SyntaxSetBuilder::new(alloc);
         match builder.add_from_folder(files, alloc, folder, false, repository) {

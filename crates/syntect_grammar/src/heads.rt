@@ -1,17 +1,17 @@
 //! Linking: what definitions become in a set.
 ghost use Rattle.std.specs.Prelude.{◌≡◌, map, IfOk};
-ghost use Rattle.syntect_linker.specs.Gifts.{put_together};
+ghost use Rattle.syntect_grammar_linker.specs.Gifts.{put_together};
 ghost use Rattle.syntect_grammar.specs.Link.{names_of, head_of, heads_from, body_of, linked_from};
 
+use crate::below::grammar_contexts::context_names::ContextNames;
+use crate::below::regexes::regex::Regex;
+use crate::below::values::seq::Seq;
+use crate::below::values::table::Table;
+use crate::below::values::text::Text;
 use crate::syntax_definition::{Context, SyntaxDefinition};
 use crate::syntax_set::SyntaxReference;
 use std::alloc::{AllocError, Global};
-use syntect_contexts::context_names::ContextNames;
-use syntect_linker::link::link_bodies;
-use syntect_regex::regex::Regex;
-use syntect_values::seq::Seq;
-use syntect_values::table::Table;
-use syntect_values::text::Text;
+use syntect_grammar_linker::link::link_bodies;
 
 /// The names of contexts, and the contexts, both in the order of the names.
 fn split(

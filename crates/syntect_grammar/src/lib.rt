@@ -5,6 +5,7 @@
 #![tactic(auto)]
 
 mod apart;
+pub mod below;
 pub mod error;
 pub mod finders;
 pub mod folders;
@@ -17,4 +18,4 @@ mod syntaxes;
 mod unlinked;
 mod walk;
 
-pub use syntect_loader::{laws, yaml_load};
+pub use syntect_grammar_loader::{laws, yaml_load};

@@ -1,15 +1,15 @@
 //! The syntax of text without markup.
 ghost use Rattle.std.specs.Prelude.{◌≡◌, false, None, IfErr, OnErr, OnOk};
-ghost use Rattle.syntect_loader.specs.Loading.{loaded};
-ghost use Rattle.syntect_loader.specs.LoadingSteps.{Fails, Keeps};
+ghost use Rattle.syntect_grammar_loader.specs.Loading.{loaded};
+ghost use Rattle.syntect_grammar_loader.specs.LoadingSteps.{Fails, KeepsAtoms};
 ghost use Rattle.syntect_grammar.specs.Metadata.{entries_in, kept_sets};
 ghost use Rattle.syntect_grammar.specs.PlainText.{plain_text, AddsPlainText};
 
+use crate::below::base::syntax::ParseSyntaxError;
+use crate::below::scope::repository::ScopeRepository;
 use crate::syntax_definition::SyntaxDefinition;
 use crate::syntax_set::SyntaxSetBuilder;
 use std::alloc::Global;
-use syntect_base::syntax::ParseSyntaxError;
-use syntect_scope::repository::ScopeRepository;
 
 impl SyntaxSetBuilder {
     /// Appends the syntax of plain text: named `Plain Text`, with file extension `txt` and scope
@@ -25,7 +25,7 @@ impl SyntaxSetBuilder {
         ensures entries { entries_in self.new ≡ entries_in self.old }
         ensures metadata { kept_sets self.new ≡ kept_sets self.old }
         ensures err { OnErr result (self.new ≡ self.old) }
-        ensures kept { Keeps repository.old repository.new }
+        ensures kept { KeepsAtoms repository.old repository.new }
     {
         let loaded = SyntaxDefinition::load_from_str(
             alloc,

@@ -1,13 +1,17 @@
 //! Syntaxes that are linked together.
 ghost use Rattle.std.specs.Prelude.{◌≡◌, [], ◌∷◌, ◌++◌, length, take, IfOk, IfSome, OnOk, OnErr};
 ghost use Rattle.std.specs.Option.{option_copied};
-ghost use Rattle.syntect_flats.specs.Slims.{origin_of};
+ghost use Rattle.syntect_grammar_lists.specs.Slims.{origin_of};
 ghost use Rattle.syntect_grammar.specs.Contexts.{context_at};
 ghost use Rattle.syntect_grammar.specs.Flats.{AreFlatsOf, pattern_at};
 ghost use Rattle.syntect_grammar.specs.Link.{definitions_in, paths_in, syntaxes_in, set_paths, linked};
 ghost use Rattle.syntect_grammar.specs.Metadata.{entries_in, kept_sets, metadata_in, IsMergedOf};
-ghost use Rattle.syntect_scope.specs.Repository.{IsRepository};
+ghost use Rattle.syntect_grammar.specs.syntect_scope.Repository.{IsRepository};
 
+pub use crate::below::grammar_contexts::syntax_reference::SyntaxReference;
+use crate::below::scope::repository::ScopeRepository;
+use crate::below::values::seq::Seq;
+use crate::below::values::text::Text;
 use crate::heads::link_definitions;
 use crate::syntax_definition::{
     Context, ContextId, HoldsContexts, MatchPattern, Pattern, SyntaxDefinition,
@@ -15,14 +19,10 @@ use crate::syntax_definition::{
 use crate::syntaxes::Syntaxes;
 use crate::walk::flats_walked;
 use std::alloc::{AllocError, AllocFailed, Global};
-pub use syntect_contexts::syntax_reference::SyntaxReference;
-use syntect_flats::flats::{Flat, Origin};
-use syntect_flats::list::FlatList;
+use syntect_grammar_lists::flats::{Flat, Origin};
+use syntect_grammar_lists::list::FlatList;
 use syntect_metadata::metadata::Metadata;
 use syntect_metadata::raw::{LoadMetadata, RawMetadataEntry};
-use syntect_scope::repository::ScopeRepository;
-use syntect_values::seq::Seq;
-use syntect_values::text::Text;
 
 /// Syntaxes whose contexts are linked.
 #[derive(Clone)]
@@ -175,7 +175,7 @@ impl SyntaxSet {
 }
 
 impl HoldsContexts for SyntaxSet {
-    ghost use Rattle.syntect_flats.specs.Slims.{origin_of};
+    ghost use Rattle.syntect_grammar_lists.specs.Slims.{origin_of};
     ghost use Rattle.syntect_grammar.specs.Contexts.{context_at};
 
     ghost contexts = { context_at };

@@ -4,13 +4,13 @@ ghost use Rattle.std.specs.Option.{option_copied};
 ghost use Rattle.syntect_grammar.specs.Contexts.{context_at, set_of};
 ghost use Rattle.syntect_grammar.specs.Flats.{AreFlatsOf, flats_at};
 
+use crate::below::grammar_contexts::syntax_reference::SyntaxReference;
+use crate::below::values::seq::Seq;
 use crate::syntax_definition::{Context, ContextId};
 use crate::walk::{FlatTable, context_at, flat_table};
 use std::alloc::{AllocError, Global};
 use std::marker::Model;
-use syntect_contexts::syntax_reference::SyntaxReference;
-use syntect_flats::list::FlatList;
-use syntect_values::seq::Seq;
+use syntect_grammar_lists::list::FlatList;
 
 /// Linked syntaxes, seen as their list, and what is kept of them so as not to be looked for again.
 #[derive(Drop)]
@@ -22,7 +22,7 @@ pub struct Syntaxes {
 
 impl Model for Syntaxes {
     ghost use Rattle.std.specs.Prelude.{List};
-    ghost use Rattle.syntect_contexts.specs.declared.syntax_reference.SyntaxReference.{SyntaxReference as ASyntax};
+    ghost use Rattle.syntect_grammar.specs.syntect_grammar_contexts.declared.syntax_reference.SyntaxReference.{SyntaxReference as ASyntax};
 
     ghost Value = { List ASyntax };
 

@@ -1,13 +1,13 @@
 //! What linking left unresolved in a set.
 ghost use Rattle.std.specs.Prelude.{◌≡◌, [], map, string_bytes, IfOk};
 ghost use Rattle.syntect_grammar.specs.Unlinked.{unlinked_in};
-ghost use Rattle.syntect_linker.specs.Unlinked.{with_texts};
+ghost use Rattle.syntect_grammar_linker.specs.Unlinked.{with_texts};
 
+use crate::below::scope::repository::ScopeRepository;
 use crate::syntax_set::SyntaxSet;
 use std::alloc::{AllocError, Global};
 use std::collections::BTreeSet;
-use syntect_linker::unlinked::add_syntax;
-use syntect_scope::repository::ScopeRepository;
+use syntect_grammar_linker::unlinked::add_syntax;
 
 impl SyntaxSet {
     /// Texts on unresolved references in pushes and sets, each once; scopes are the repository's.

@@ -1,21 +1,21 @@
 //! The patterns of a context, includes walked, each once: what one gives again was given before.
 ghost use Rattle.std.specs.Prelude.{◌≡◌, ◌<◌, ◌++◌, ◌∷◌, [], length, true, false, None, IfOk, IfSome, OnOk};
 ghost use Rattle.std.specs.Option.{option_copied};
-ghost use Rattle.syntect_contexts.specs.Contexts.{target};
+ghost use Rattle.syntect_grammar.specs.syntect_grammar_contexts.Contexts.{target};
 ghost use Rattle.syntect_grammar.specs.Contexts.{context_at, set_of};
 ghost use Rattle.syntect_grammar.specs.Flats.{AreFlatsOf, AreListsOf, IsOpen, IsTableOf};
 ghost use Rattle.syntect_grammar.specs.Patterns.{entries};
 ghost use Rattle.syntect_grammar.specs.Walk.{at_first, entering};
-ghost use Rattle.syntect_regex.specs.Begins.{BeginsAtEdges, NoneBeginsBefore, NoneBeginsOutside};
+ghost use Rattle.syntect_grammar.specs.syntect_regex.Begins.{BeginsAtEdges, NoneBeginsBefore, NoneBeginsOutside};
 
+use crate::below::grammar_contexts::syntax_reference::SyntaxReference;
+use crate::below::pattern_table::starts::anywhere;
+use crate::below::values::seq::Seq;
 use crate::syntax_definition::{Context, ContextId, ContextReference, MatchPattern, Pattern};
 use std::alloc::{AllocError, Global};
-use syntect_contexts::syntax_reference::SyntaxReference;
-use syntect_flats::entered::Entered;
-use syntect_flats::flats::Flat;
-use syntect_flats::list::FlatList;
-use syntect_pattern_table::starts::anywhere;
-use syntect_values::seq::Seq;
+use syntect_grammar_lists::entered::Entered;
+use syntect_grammar_lists::flats::Flat;
+use syntect_grammar_lists::list::FlatList;
 
 /// The flat lists of contexts, by syntax and place in that: none of one whose walk was given up.
 pub(crate) type FlatTable = Seq<Seq<Option<FlatList>>>;

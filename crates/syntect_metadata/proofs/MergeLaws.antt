@@ -11,7 +11,7 @@ use Rattle.serde_json.specs.View.{view, members_view, items_view}
 use Rattle.serde_json.specs.declared.value.Value.{Value}
 use Rattle.syntect_metadata.specs.Merging as merging
 use Rattle.syntect_metadata.specs.Merging.{with_variables, with_member, with_members, with_entry, with_entries, all_variables, variable_of, put_at, merged_at, nothing}
-use Rattle.syntect_metadata.specs.Seen.{seen, table_seen, named}
+use Rattle.syntect_metadata.specs.Seen.{merged_view, table_seen, named}
 use Rattle.syntect_metadata.specs.declared.merge.Merged.{Merged}
 use Rattle.syntect_metadata.specs.declared.raw.RawMetadataEntry.{RawMetadataEntry}
 
@@ -55,40 +55,40 @@ one_spoils done x xs all v e = sym (e ∙ ap (option_map (λ more. map named don
 
 -- ---- tables ----
 
-at_lookup : (b : Bool) (m : Merged) (rest : Option Merged) (other : Option merging.Merged) → other ≡ option_map seen rest → cond b (Some (seen m)) other ≡ option_map seen (cond b (Some m) rest)
+at_lookup : (b : Bool) (m : Merged) (rest : Option Merged) (other : Option merging.Merged) → other ≡ option_map merged_view rest → cond b (Some (merged_view m)) other ≡ option_map merged_view (cond b (Some m) rest)
 at_lookup true m rest other e = refl
 at_lookup false m rest other e = e
 
-lookup_seen : (test : List ℕ → Bool) (es : List (List ℕ × Merged)) → lookup test (table_seen es) ≡ option_map seen (lookup test es)
+lookup_seen : (test : List ℕ → Bool) (es : List (List ℕ × Merged)) → lookup test (table_seen es) ≡ option_map merged_view (lookup test es)
 lookup_seen test [] = refl
 lookup_seen test (e ∷ es) = at_lookup (test e.0) e.1 (lookup test es) (lookup test (table_seen es)) (lookup_seen test es)
 
-at_remove : (b : Bool) (e : List ℕ × Merged) (es rest : List (List ℕ × Merged)) (other : List (List ℕ × merging.Merged)) → other ≡ table_seen rest → cond b (table_seen es) ((e.0, seen e.1) ∷ other) ≡ table_seen (cond b es (e ∷ rest))
+at_remove : (b : Bool) (e : List ℕ × Merged) (es rest : List (List ℕ × Merged)) (other : List (List ℕ × merging.Merged)) → other ≡ table_seen rest → cond b (table_seen es) ((e.0, merged_view e.1) ∷ other) ≡ table_seen (cond b es (e ∷ rest))
 at_remove true e es rest other h = refl
-at_remove false e es rest other h = ap (λ t. (e.0, seen e.1) ∷ t) h
+at_remove false e es rest other h = ap (λ t. (e.0, merged_view e.1) ∷ t) h
 
 remove_seen : (test : List ℕ → Bool) (es : List (List ℕ × Merged)) → remove_entry test (table_seen es) ≡ table_seen (remove_entry test es)
 remove_seen test [] = refl
 remove_seen test (e ∷ es) = at_remove (test e.0) e es (remove_entry test es) (remove_entry test (table_seen es)) (remove_seen test es)
 
 at_insert : (o : Ordering) (k : List ℕ) (m : Merged) (e : List ℕ × Merged) (es rest : List (List ℕ × Merged)) (other : List (List ℕ × merging.Merged)) → other ≡ table_seen rest
-    → match_ordering o ((k, seen m) ∷ (e.0, seen e.1) ∷ table_seen es) ((e.0, seen m) ∷ table_seen es) ((e.0, seen e.1) ∷ other) ≡ table_seen (match_ordering o ((k, m) ∷ e ∷ es) ((e.0, m) ∷ es) (e ∷ rest))
+    → match_ordering o ((k, merged_view m) ∷ (e.0, merged_view e.1) ∷ table_seen es) ((e.0, merged_view m) ∷ table_seen es) ((e.0, merged_view e.1) ∷ other) ≡ table_seen (match_ordering o ((k, m) ∷ e ∷ es) ((e.0, m) ∷ es) (e ∷ rest))
 at_insert Less k m e es rest other h = refl
 at_insert Equal k m e es rest other h = refl
-at_insert Greater k m e es rest other h = ap (λ t. (e.0, seen e.1) ∷ t) h
+at_insert Greater k m e es rest other h = ap (λ t. (e.0, merged_view e.1) ∷ t) h
 
-insert_seen : (cmp : List ℕ → List ℕ → Ordering) (es : List (List ℕ × Merged)) (k : List ℕ) (m : Merged) → insert_entry cmp (table_seen es) k (seen m) ≡ table_seen (insert_entry cmp es k m)
+insert_seen : (cmp : List ℕ → List ℕ → Ordering) (es : List (List ℕ × Merged)) (k : List ℕ) (m : Merged) → insert_entry cmp (table_seen es) k (merged_view m) ≡ table_seen (insert_entry cmp es k m)
 insert_seen cmp [] k m = refl
-insert_seen cmp (e ∷ es) k m = at_insert (cmp k e.0) k m e es (insert_entry cmp es k m) (insert_entry cmp (table_seen es) k (seen m)) (insert_seen cmp es k m)
+insert_seen cmp (e ∷ es) k m = at_insert (cmp k e.0) k m e es (insert_entry cmp es k m) (insert_entry cmp (table_seen es) k (merged_view m)) (insert_seen cmp es k m)
 
 -- what was taken out of a table, or nothing
-pub taken_or_nothing : (text : List ℕ) (old : List (List ℕ × Merged)) (r : Option Merged) → r ≡ lookup (is_at (slice_cmp nat_cmp text)) old → unwrap_or (option_map seen r) nothing ≡ unwrap_or (merged_at text (table_seen old)) nothing
-taken_or_nothing text old r e = ap (λ (o : Option merging.Merged). unwrap_or o nothing) (ap (option_map seen) e ∙ sym (lookup_seen (is_at (slice_cmp nat_cmp text)) old))
+pub taken_or_nothing : (text : List ℕ) (old : List (List ℕ × Merged)) (r : Option Merged) → r ≡ lookup (is_at (slice_cmp nat_cmp text)) old → unwrap_or (option_map merged_view r) nothing ≡ unwrap_or (merged_at text (table_seen old)) nothing
+taken_or_nothing text old r e = ap (λ (o : Option merging.Merged). unwrap_or o nothing) (ap (option_map merged_view) e ∙ sym (lookup_seen (is_at (slice_cmp nat_cmp text)) old))
 
 -- what is put into a table from which it was taken out
 pub put_back : (text : List ℕ) (m : Merged) (old left new : List (List ℕ × Merged)) → left ≡ remove_entry (is_at (slice_cmp nat_cmp text)) old → new ≡ insert_entry (slice_cmp nat_cmp) left text m
-    → table_seen new ≡ put_at text (seen m) (table_seen old)
+    → table_seen new ≡ put_at text (merged_view m) (table_seen old)
 put_back text m old left new r i =
     ap table_seen (i ∙ ap (λ (es : List (List ℕ × Merged)). insert_entry (slice_cmp nat_cmp) es text m) r)
     ∙ sym (insert_seen (slice_cmp nat_cmp) (remove_entry (is_at (slice_cmp nat_cmp text)) old) text m)
-    ∙ ap (λ (es : List (List ℕ × merging.Merged)). insert_entry (slice_cmp nat_cmp) es text (seen m)) (sym (remove_seen (is_at (slice_cmp nat_cmp text)) old))
+    ∙ ap (λ (es : List (List ℕ × merging.Merged)). insert_entry (slice_cmp nat_cmp) es text (merged_view m)) (sym (remove_seen (is_at (slice_cmp nat_cmp text)) old))

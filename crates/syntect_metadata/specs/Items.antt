@@ -141,6 +141,16 @@ items_with patterns parens comments = record {
   block_comment = comments.block;
 }
 
+-- what an object says; a key's value of a wrong kind is refused, and other keys are not looked at
+abbrev pub items_of : Data → Result MetadataItems MetadataError
+items_of d =
+    next (patterns_of d) (λ patterns.
+    next (optional as_bool (get parens_key d)) (λ parens.
+    next (comments_at (get variables_key d)) (λ comments.
+    Ok (items_with patterns parens comments))))
+
+-- ---- For proofs and private functions alone ----
+
 -- the parts of items
 abbrev pub patterns_in : MetadataItems → Patterns
 patterns_in i = record {
@@ -152,11 +162,3 @@ patterns_in i = record {
 abbrev pub comments_in : MetadataItems → Comments
 comments_in i =
     record { variables = i.shell_variables; line = i.line_comment; block = i.block_comment }
-
--- what an object says; a key's value of a wrong kind is refused, and other keys are not looked at
-abbrev pub items_of : Data → Result MetadataItems MetadataError
-items_of d =
-    next (patterns_of d) (λ patterns.
-    next (optional as_bool (get parens_key d)) (λ parens.
-    next (comments_at (get variables_key d)) (λ comments.
-    Ok (items_with patterns parens comments))))

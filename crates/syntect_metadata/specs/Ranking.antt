@@ -4,7 +4,7 @@ use Rattle.std.specs.Option.{option_map_or}
 use Rattle.std.specs.List.Sorted.{IsPermutation, IsSortedBy, IsStableBy}
 use Rattle.std.specs.Ordering.{nat_cmp, is_lt}
 use Rattle.syntect_regex.specs.Region.{pattern_begins}
-use Rattle.syntect_scope.specs.Choice.{union_score}
+use Rattle.syntect_metadata.specs.syntect_scope.Choice.{union_score}
 use Rattle.syntect_metadata.specs.Items.{first_some}
 use Rattle.syntect_metadata.specs.declared.items.MetadataItems.{MetadataItems}
 use Rattle.syntect_metadata.specs.declared.scoped.Kind.{Kind}
@@ -43,6 +43,8 @@ first_of say (s ∷ ss) = first_some (say s.1.items) (first_of say ss)
 abbrev pub answer : (MetadataItems → Option (List ℕ)) → List (ℕ × MetadataSet) → List ℕ → Bool
 answer pattern ranked line =
     option_map_or (λ p. pattern_begins p line 0) (first_of pattern ranked) false
+
+-- ---- For proofs and private functions alone ----
 
 -- the pattern of a kind
 abbrev pub pattern_for : Kind → MetadataItems → Option (List ℕ)

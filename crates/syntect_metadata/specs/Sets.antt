@@ -4,10 +4,10 @@ use Rattle.std.specs.BTreeMap.{insert_entry}
 use Rattle.std.specs.Cmp.Lexicographic.{slice_cmp}
 use Rattle.std.specs.Ordering.{nat_cmp}
 use Rattle.serde_json.specs.Data.{Data}
-use Rattle.syntect_scope.specs.Repository.{with_scopes, first_refusal}
-use Rattle.syntect_scope.specs.SelectorText.{selectors_in, union_words}
-use Rattle.syntect_scope.specs.declared.repository.ParseScopeError.{ParseScopeError}
-use Rattle.syntect_scope.specs.declared.repository.ParseScopeError.TheVariants as scope
+use Rattle.syntect_metadata.specs.syntect_scope.Repository.{with_scopes, first_refusal}
+use Rattle.syntect_metadata.specs.syntect_scope.SelectorText.{selectors_in, union_words}
+use Rattle.syntect_metadata.specs.syntect_scope.declared.repository.ParseScopeError.{ParseScopeError}
+use Rattle.syntect_metadata.specs.syntect_scope.declared.repository.ParseScopeError.TheVariants as scope
 use Rattle.syntect_metadata.specs.Items.{next, has_known_key, items_of}
 use Rattle.syntect_metadata.specs.Merging.{Merged, object_of, IsByPath, with_entries}
 use Rattle.syntect_metadata.specs.declared.error.MetadataError.{MetadataError}
@@ -15,12 +15,6 @@ use Rattle.syntect_metadata.specs.declared.error.MetadataError.TheVariants.{Skip
 use Rattle.syntect_metadata.specs.declared.items.MetadataItems.{MetadataItems}
 use Rattle.syntect_metadata.specs.declared.raw.RawMetadataEntry.{RawMetadataEntry}
 use Rattle.syntect_metadata.specs.declared.set.MetadataSet.{MetadataSet}
-
--- a refusal of scopes, passed on
-abbrev pub scope_refusal : ParseScopeError → MetadataError
-scope_refusal scope.Memory = Memory
-scope_refusal scope.TooLong = BadSelector scope.TooLong
-scope_refusal scope.TooManyAtoms = BadSelector scope.TooManyAtoms
 
 -- a set of items, for the selectors that a scope text names in a repository that
 -- takes up their scopes
@@ -85,5 +79,13 @@ with_sets (set ∷ sets) table =
 
 -- old sets and new ones in the byte order of their scope texts, a new one in place of an old one of
 -- the same text
-abbrev pub replaced : List MetadataSet → List MetadataSet → List MetadataSet
-replaced old new = map (λ entry. entry.1) (with_sets new (with_sets old []))
+abbrev pub merged_sets : List MetadataSet → List MetadataSet → List MetadataSet
+merged_sets old new = map (λ entry. entry.1) (with_sets new (with_sets old []))
+
+-- ---- For proofs and private functions alone ----
+
+-- a refusal of scopes, passed on
+abbrev pub scope_refusal : ParseScopeError → MetadataError
+scope_refusal scope.Memory = Memory
+scope_refusal scope.TooLong = BadSelector scope.TooLong
+scope_refusal scope.TooManyAtoms = BadSelector scope.TooManyAtoms

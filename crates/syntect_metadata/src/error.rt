@@ -1,6 +1,6 @@
 //! Why settings give no set of metadata.
+use crate::below::scope::repository::ParseScopeError;
 use std::alloc::{AllocError, AllocFailed};
-use syntect_scope::repository::ParseScopeError;
 use thiserror::Error;
 
 /// Why the settings of a scope text give no set of metadata.

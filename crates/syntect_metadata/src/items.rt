@@ -8,13 +8,13 @@ ghost use Rattle.syntect_metadata.specs.Items as items;
 ghost use Rattle.syntect_metadata.specs.Sets.{Refuses};
 ghost use Rattle.syntect_metadata.specs.declared.error.MetadataError.{MetadataError};
 
+use crate::below::values::table::Table;
+use crate::below::values::text::Text;
 use crate::error::MetadataError;
 use serde_json::{Map, Value};
 use std::alloc::{AllocError, Global};
 use std::collections::BTreeMap;
 use syntect_regex::regex::Regex;
-use syntect_values::table::Table;
-use syntect_values::text::Text;
 
 /// What is said of the lines in a scope.
 #[derive(PartialEq, Eq)]

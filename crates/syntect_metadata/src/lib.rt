@@ -5,6 +5,7 @@
 //! first, say how a line there is indented and which marks its comments have.
 #![tactic(auto)]
 
+pub mod below;
 pub mod error;
 pub mod items;
 mod merge;

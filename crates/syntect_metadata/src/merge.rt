@@ -6,15 +6,15 @@ ghost use Rattle.serde_json.specs.Data.{object};
 ghost use Rattle.serde_json.specs.View.{view, items_view, members_view};
 ghost use Rattle.syntect_metadata.specs.Items.{pattern_keys, parens_key};
 ghost use Rattle.syntect_metadata.specs.Merging as merging;
-ghost use Rattle.syntect_metadata.specs.Seen.{seen, table_seen, named};
+ghost use Rattle.syntect_metadata.specs.Seen.{merged_view, table_seen, named};
 
+use crate::below::values::text::Text;
 use crate::raw::RawMetadataEntry;
 use crate::values::{member_of, put};
 use serde_json::{Map, Value};
 use std::alloc::{AllocError, Global};
 use std::collections::BTreeMap;
 use std::path::Path;
-use syntect_values::text::Text;
 
 /// What entries of one scope text say.
 #[derive(Drop)]
@@ -106,8 +106,8 @@ fn with_member(
     value: Value,
     merged: Merged,
 ) -> Result<Merged, AllocError>
-    ensures { IfOk result (λ m. seen m
-        ≡ merging.with_member (string_bytes key) (view value) (seen merged)) }
+    ensures { IfOk result (λ m. merged_view m
+        ≡ merging.with_member (string_bytes key) (view value) (merged_view merged)) }
 {
     let Merged {
         mut settings,
@@ -139,8 +139,8 @@ fn with_members(
     members: Map<String, Value>,
     merged: Merged,
 ) -> Result<Merged, AllocError>
-    ensures { IfOk result (λ m. seen m
-        ≡ merging.with_members (members_view members.entries) (seen merged)) }
+    ensures { IfOk result (λ m. merged_view m
+        ≡ merging.with_members (members_view members.entries) (merged_view merged)) }
 {
     let mut merged = merged;
     for (key, value) in members {
@@ -151,7 +151,7 @@ fn with_members(
 
 /// What entries before said, if there are some.
 fn or_nothing(alloc: Global, merged: Option<Merged>) -> Merged
-    ensures { seen result ≡ unwrap_or (option_map seen merged) merging.nothing }
+    ensures { merged_view result ≡ unwrap_or (option_map merged_view merged) merging.nothing }
 {
     match merged {
         Some(merged) => merged,
@@ -211,7 +211,7 @@ pub(crate) fn put_together(
 
 /// The members of all that is said: the variables stand in it as an object too.
 pub(crate) fn members_of(alloc: Global, merged: Merged) -> Result<Map<String, Value>, AllocError>
-    ensures { IfOk result (λ m. object (members_view m.entries) ≡ merging.object_of (seen merged)) }
+    ensures { IfOk result (λ m. object (members_view m.entries) ≡ merging.object_of (merged_view merged)) }
 {
     let Merged {
         mut settings,

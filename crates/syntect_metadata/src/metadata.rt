@@ -1,11 +1,16 @@
 //! All metadata: the sets, and those that match a stack of scopes.
 ghost use Rattle.std.specs.Prelude.{◌≡◌, ◌++◌, [], ℕ, List, length, take, map, IfOk, OnOk};
-ghost use Rattle.syntect_scope.specs.Repository.{IsRepository};
+ghost use Rattle.syntect_metadata.specs.syntect_scope.Repository.{IsRepository};
 ghost use Rattle.syntect_metadata.specs.Ranking.{matching, IsRanked};
 ghost use Rattle.syntect_metadata.specs.Seen.{table_seen};
-ghost use Rattle.syntect_metadata.specs.Sets.{ReadsSets, IsOfEntries, with_sets, replaced};
+ghost use Rattle.syntect_metadata.specs.Sets.{ReadsSets, IsOfEntries, with_sets, merged_sets};
 ghost use Rattle.syntect_metadata.specs.declared.set.MetadataSet.{MetadataSet as AMetadataSet};
 
+use crate::below::scope::power::MatchPower;
+use crate::below::scope::repository::ScopeRepository;
+use crate::below::scope::scope::Scope;
+use crate::below::values::seq::Seq;
+use crate::below::values::text::Text;
 use crate::error::MetadataError;
 use crate::merge::{Merged, members_of, put_together, sort_by_path};
 use crate::raw::LoadMetadata;
@@ -13,11 +18,6 @@ use crate::scoped::ScopedMetadata;
 use crate::set::MetadataSet;
 use std::alloc::{AllocError, Global};
 use std::collections::BTreeMap;
-use syntect_scope::power::MatchPower;
-use syntect_scope::repository::ScopeRepository;
-use syntect_scope::scope::Scope;
-use syntect_values::seq::Seq;
-use syntect_values::text::Text;
 
 /// All sets of metadata.
 #[derive(Drop)]
@@ -174,7 +174,7 @@ impl Metadata {
     ) -> Result<Metadata, AllocError>
         ensures ok { IfOk result (λ metadata. (fresh : List AMetadataSet)
             × IsOfEntries repository.old raw.loaded repository.new fresh
-            × (metadata.scoped_metadata ≡ replaced self.scoped_metadata fresh)) }
+            × (metadata.scoped_metadata ≡ merged_sets self.scoped_metadata fresh)) }
         ensures whole { IsRepository repository.new }
         ensures kept { take (length repository.old) repository.new ≡ repository.old }
     {

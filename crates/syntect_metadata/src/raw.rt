@@ -8,6 +8,8 @@ ghost use Rattle.syntect_base.specs.Refusals.{IsReadFault};
 ghost use Rattle.syntect_base.specs.declared.loading.LoadingError.{LoadingError};
 ghost use Rattle.syntect_metadata.specs.Entries.{is_entry, IsEntry, IsEntryOf, RefusesEntry, RefusesRead, IsEntryFault, AreAlike};
 
+use crate::below::values::seq::Seq;
+use crate::below::values::text::Text;
 use crate::values::member_of;
 use serde_json::{Map, Value};
 use std::alloc::{AllocError, Global};
@@ -17,8 +19,6 @@ use std::rt::Files;
 use std::{fs, io};
 use syntect_base::loading::LoadingError;
 use syntect_base::settings::settings_of;
-use syntect_values::seq::Seq;
-use syntect_values::text::Text;
 
 /// What a file of metadata has: settings for the scopes that selectors match.
 pub struct RawMetadataEntry {

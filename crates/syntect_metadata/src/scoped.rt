@@ -3,12 +3,12 @@ ghost use Rattle.std.specs.Prelude.{◌≡◌, ◌↔◌, [], map, option_map, I
 ghost use Rattle.std.specs.Option.{option_copied};
 ghost use Rattle.syntect_metadata.specs.Ranking.{first_of, answer, pattern_for};
 
+use crate::below::scope::power::MatchPower;
+use crate::below::values::seq::Seq;
 use crate::items::MetadataItems;
 use crate::set::MetadataSet;
 use std::alloc::AllocError;
 use syntect_regex::regex::Regex;
-use syntect_scope::power::MatchPower;
-use syntect_values::seq::Seq;
 
 /// The sets that match a stack of scopes, the best first, each with its score. A question goes to
 /// the first that can say something.

@@ -2,18 +2,18 @@
 ghost use Rattle.std.specs.Prelude.{◌≡◌, false, length, take, string_bytes, IfOk, OnOk, IfErr, Ok};
 ghost use Rattle.serde_json.specs.Data.{object};
 ghost use Rattle.serde_json.specs.View.{members_view, view};
-ghost use Rattle.syntect_scope.specs.Repository.{with_scopes, IsRepository};
-ghost use Rattle.syntect_scope.specs.SelectorText.{union_words};
+ghost use Rattle.syntect_metadata.specs.syntect_scope.Repository.{with_scopes, IsRepository};
+ghost use Rattle.syntect_metadata.specs.syntect_scope.SelectorText.{union_words};
 ghost use Rattle.syntect_metadata.specs.Items.{has_known_key};
 ghost use Rattle.syntect_metadata.specs.Sets.{set_with, set_of, scope_refusal, Refuses};
 
+use crate::below::scope::repository::{ParseScopeError, ScopeRepository};
+use crate::below::scope::selector::ScopeSelectors;
+use crate::below::values::text::Text;
 use crate::error::MetadataError;
 use crate::items::{MetadataItems, has_known_key, items};
 use serde_json::{Map, Value};
 use std::alloc::{AllocError, Global};
-use syntect_scope::repository::{ParseScopeError, ScopeRepository};
-use syntect_scope::selector::ScopeSelectors;
-use syntect_values::text::Text;
 
 /// What is said of the lines where selectors match.
 #[derive(PartialEq, Eq)]

@@ -1,2 +1,3 @@
 pub mod Print
 pub mod Ranges
+pub use Rattle.syntect_scope.specs as syntect_scope

@@ -5,3 +5,6 @@
 pub mod order;
 pub mod print;
 pub mod ranges;
+
+pub use syntect_scope;
+pub use syntect_scope::syntect_values;

@@ -1,13 +1,13 @@
 -- A line has no reading and a refusal, and answers go on.
 use Rattle.std.proofs.Common.{◌≡◌, ℕ, ◌+◌, List, [], ◌∷◌, ◌++◌, refl, ap, sym, ◌∙◌}
-use Rattle.syntect_winner.specs.Engine.{Engine}
+use Rattle.syntect_reading_choice.specs.Engine.{Engine}
 use Rattle.syntect_parsing.specs.Scopes.{Scopes}
 use Rattle.syntect_parsing.specs.Line.{Answer, Goes, Ends, Refused, turn, Reads, ends, goes, Refuses, now, later, ReadsLine, RefusesLine, no_level, in_turn, none, one_more, at_start}
 use Rattle.syntect_parsing.specs.Laws.{NeverBoth, AnswersMore, AnswersJoin, AnswersPart}
-use Rattle.syntect_grammar.specs.declared.syntax_set.SyntaxSet.{SyntaxSet}
-use Rattle.syntect_winner.specs.declared.position.Position.{Position}
+use Rattle.syntect_parsing.specs.syntect_grammar.declared.syntax_set.SyntaxSet.{SyntaxSet}
+use Rattle.syntect_reading_choice.specs.declared.position.Position.{Position}
 use Rattle.syntect_parsing.specs.States.{Standing}
-use Rattle.syntect_contexts.specs.declared.error.ParsingError.{ParsingError}
+use Rattle.syntect_parsing.specs.syntect_grammar_contexts.declared.error.ParsingError.{ParsingError}
 
 module _ (engine : Engine) (set : SyntaxSet) (line : List ℕ) where
   pub goes_of : (p q : Position) (b bytes : List Scopes) (after : Standing) (n : ℕ) → turn engine set line p ≡ Goes b q → Reads engine set line p bytes after n

@@ -1,17 +1,17 @@
 -- How many turns were made of a line so far.
 use Rattle.std.proofs.Common.{◌≡◌, ◌≢◌, ℕ, ◌+◌, ◌-◌, ◌*◌, ◌≤◌, ◌<◌, List, [], length, refl, sym, ◌∙◌, arith}
-use Rattle.syntect_grammar.specs.Contexts.{contexts_of}
-use Rattle.syntect_winner.specs.Engine.{dialect}
+use Rattle.syntect_parsing.specs.syntect_grammar.Contexts.{contexts_of}
+use Rattle.syntect_reading_choice.specs.Engine.{dialect}
 use Rattle.syntect_parsing.specs.Scopes.{Scopes}
 use Rattle.syntect_parsing.specs.Laws.{longest}
 use Rattle.syntect_parsing.specs.Line.{Goes, Ends, Refused, turn, Reads, ends, goes, Refuses, now, later, no_level, in_turn, at_start}
 use Rattle.syntect_parsing.specs.Step.{turns_left}
 use Rattle.syntect_parsing.specs.Bound.{TakesTurns, to_its_end, to_a_refusal, TakesAll, TakesNoMore, IsTold, most_turns}
 use Rattle.syntect_parsing.proofs.AnswerLaws.{goes_of}
-use Rattle.syntect_grammar.specs.declared.syntax_set.SyntaxSet.{SyntaxSet}
-use Rattle.syntect_winner.specs.declared.position.Position.{Position}
+use Rattle.syntect_parsing.specs.syntect_grammar.declared.syntax_set.SyntaxSet.{SyntaxSet}
+use Rattle.syntect_reading_choice.specs.declared.position.Position.{Position}
 use Rattle.syntect_parsing.specs.States.{Standing}
-use Rattle.syntect_contexts.specs.declared.error.ParsingError.{ParsingError}
+use Rattle.syntect_parsing.specs.syntect_grammar_contexts.declared.error.ParsingError.{ParsingError}
 
 -- from a position on the reading takes so many turns, up to the end or to a refusal
 pub data TakesFrom (set : SyntaxSet) (line : List ℕ) (p : Position) : ℕ → Type 0 where

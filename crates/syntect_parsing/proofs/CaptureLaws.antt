@@ -5,13 +5,13 @@ use Rattle.std.specs.Str.{IsCharBoundary}
 use Rattle.std.proofs.lemmas.List.{append-nil}
 use Rattle.std.proofs.lemmas.Grind.{common_steps}
 use Rattle.std.proofs.lemmas.Bool.Decides.{nat_tests}
-use Rattle.syntect_scope.specs.declared.stack.ScopeStackOp.{ScopeStackOp}
-use Rattle.syntect_scope.specs.declared.stack.ScopeStackOp.TheVariants.{Pop}
-use Rattle.syntect_scope.specs.Replay.{Replay, InOrder, replay, replayed, pushes}
-use Rattle.syntect_pattern.specs.Nesting.{AreNested, is_before, is_after, is_around, is_inside}
+use Rattle.syntect_parsing.specs.syntect_scope.declared.stack.ScopeStackOp.{ScopeStackOp}
+use Rattle.syntect_parsing.specs.syntect_scope.declared.stack.ScopeStackOp.TheVariants.{Pop}
+use Rattle.syntect_parsing.specs.syntect_scope.Replay.{Replay, InOrder, replay, replayed, pushes}
+use Rattle.syntect_parsing.specs.syntect_pattern.Nesting.{AreNested, is_before, is_after, is_around, is_inside}
 use Rattle.syntect_parsing.specs.Scopes.{Scopes, Capture, covers, is_longer, put, longer_first}
 use Rattle.syntect_parsing.specs.Operations.{captures_at, capture_operations}
-use Rattle.syntect_winner.proofs.ListLaws.{tested_true}
+use Rattle.syntect_reading_choice.proofs.ListLaws.{tested_true}
 use Rattle.syntect_parsing.proofs.CountLaws.{Counts, counts_nothing, counts_then, counts_pushes}
 use Rattle.syntect_parsing.proofs.OrderLaws.{order-append, order-pushes}
 use Rattle.syntect_parsing.proofs.ReplayLaws.{At, replay-append, at_op, at_pushes, at_move}

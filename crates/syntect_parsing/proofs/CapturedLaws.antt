@@ -5,16 +5,16 @@ use Rattle.std.specs.List.{filter_map, flat_map, cons_option}
 use Rattle.std.specs.Option.{option_map_or}
 use Rattle.std.specs.Str.{IsUtf8}
 use Rattle.std.proofs.lemmas.Bool.Decides.{nat_tests}
-use Rattle.syntect_winner.specs.Engine.{dialect}
-use Rattle.syntect_contexts.specs.Substitution.{Groups}
-use Rattle.syntect_winner.specs.Turn.{Live, group_at}
+use Rattle.syntect_reading_choice.specs.Engine.{dialect}
+use Rattle.syntect_parsing.specs.syntect_grammar_contexts.Substitution.{Groups}
+use Rattle.syntect_reading_choice.specs.Turn.{Live, group_at}
 use Rattle.syntect_parsing.specs.Scopes.{Scopes, Capture, effect, captures}
 use Rattle.syntect_parsing.specs.Laws.{LaysGroupsOut, LaysOut}
-use Rattle.syntect_parsing.specs.Candidates.{marks_of, seen_mark, mark_operations}
+use Rattle.syntect_parsing.specs.MatchViews.{marks_of, seen_mark, mark_operations}
 use Rattle.syntect_parsing.specs.Sorting.{in_order}
 use Rattle.syntect_parsing.specs.Operations.{capture_operations}
 use Rattle.syntect_parsing.specs.declared.captures.Mark.{Mark}
-use Rattle.syntect_contexts.proofs.SubstitutionLaws.{group_flat}
+use Rattle.syntect_parsing.proofs.syntect_grammar_contexts_proofs.SubstitutionLaws.{group_flat}
 use Rattle.syntect_parsing.proofs.CaptureLaws.{In, Each, AreLaidOut, EndOnBoundaries}
 use Rattle.syntect_parsing.proofs.MarkLaws.{LiesWithin, marks_make, none_make}
 

@@ -1,23 +1,23 @@
 -- A chain in which each test finds the same has the same winner.
 use Rattle.std.proofs.Common.{◌≡◌, ℕ, Bool, true, false, not, ◌&&◌, List, [], ◌∷◌, find, length, Option, Some, None, refl, ap, sym, ◌∙◌, if◌then◌else◌}
-use Rattle.syntect_grammar.specs.Walk.{FindsSame}
-use Rattle.syntect_grammar.proofs.SameLaws.{same_filter_map, same_all}
-use Rattle.syntect_winner.specs.Engine.{Engine}
-use Rattle.syntect_winner.specs.Chain.{Member, chain, last, prototypes_in}
+use Rattle.syntect_parsing.specs.syntect_grammar.Walk.{FindsSame}
+use Rattle.syntect_parsing.proofs.syntect_grammar_proofs.SameLaws.{same_filter_map, same_all}
+use Rattle.syntect_reading_choice.specs.Engine.{Engine}
+use Rattle.syntect_reading_choice.specs.Chain.{Member, chain, last, prototypes_in}
 use Rattle.std.specs.Prelude.{is_none}
 use Rattle.std.specs.Option.{option_map, option_map_or}
-use Rattle.syntect_contexts.specs.declared.error.ParsingError.TheVariants as error
-use Rattle.syntect_winner.specs.Engine.{dialect}
+use Rattle.syntect_parsing.specs.syntect_grammar_contexts.declared.error.ParsingError.TheVariants as error
+use Rattle.syntect_reading_choice.specs.Engine.{dialect}
 use Rattle.syntect_parsing.specs.Line.{step, turn_in, turn_on, unless_refused}
-use Rattle.syntect_winner.specs.declared.level.Level.{Level}
-use Rattle.syntect_winner.specs.Candidates.{live_in}
-use Rattle.syntect_winner.specs.Best.{choice_by}
-use Rattle.syntect_winner.specs.declared.search.Best.{Best}
-use Rattle.syntect_grammar.specs.Contexts.{context_at}
-use Rattle.syntect_contexts.specs.declared.context.Context.{Context}
-use Rattle.syntect_grammar.specs.declared.syntax_set.SyntaxSet.{SyntaxSet}
-use Rattle.syntect_winner.specs.Turn.{Live, live, live_match, is_least, loops, choice_of, winner}
-use Rattle.syntect_winner.specs.declared.position.Position.{Position}
+use Rattle.syntect_reading_choice.specs.declared.level.Level.{Level}
+use Rattle.syntect_reading_choice.specs.ChoiceViews.{live_in}
+use Rattle.syntect_reading_choice.specs.Best.{choice_by}
+use Rattle.syntect_reading_choice.specs.declared.search.Best.{Best}
+use Rattle.syntect_parsing.specs.syntect_grammar.Contexts.{context_at}
+use Rattle.syntect_parsing.specs.syntect_grammar_contexts.declared.context.Context.{Context}
+use Rattle.syntect_parsing.specs.syntect_grammar.declared.syntax_set.SyntaxSet.{SyntaxSet}
+use Rattle.syntect_reading_choice.specs.Turn.{Live, live, live_match, is_least, loops, choice_of, winner}
+use Rattle.syntect_reading_choice.specs.declared.position.Position.{Position}
 
 -- ---- its winner ----
 

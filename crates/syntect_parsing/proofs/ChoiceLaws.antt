@@ -2,28 +2,28 @@
 use Rattle.std.proofs.Common.{◌≡◌, ℕ, true, List, [], Option, Some, None, refl, sym, ◌∙◌, ap}
 use Rattle.std.specs.Option.{option_map_or}
 use Rattle.std.specs.Str.{IsUtf8}
-use Rattle.syntect_winner.specs.Engine.{dialect}
-use Rattle.syntect_winner.specs.Chain.{Member, chain, last}
+use Rattle.syntect_reading_choice.specs.Engine.{dialect}
+use Rattle.syntect_reading_choice.specs.Chain.{Member, chain, last}
 use Rattle.syntect_parsing.specs.Turn.{trimmed}
-use Rattle.syntect_winner.specs.Turn.{Live, Take, End, live, winner}
+use Rattle.syntect_reading_choice.specs.Turn.{Live, Take, End, live, winner}
 use Rattle.syntect_parsing.specs.Line.{Step, step}
-use Rattle.syntect_grammar.specs.declared.syntax_set.SyntaxSet.{SyntaxSet}
-use Rattle.syntect_winner.specs.Found.{FindsInText}
+use Rattle.syntect_parsing.specs.syntect_grammar.declared.syntax_set.SyntaxSet.{SyntaxSet}
+use Rattle.syntect_reading_choice.specs.Found.{FindsInText}
 use Rattle.syntect_parsing.specs.Refusals.{Picks}
 use Rattle.syntect_parsing.specs.Orderly.{is_orderly, IsOrderlyTurn}
-use Rattle.syntect_grammar.specs.Contexts.{context_at}
-use Rattle.syntect_contexts.specs.declared.context.Context.{Context}
-use Rattle.syntect_winner.specs.declared.level.Level.{Level}
-use Rattle.syntect_parsing.specs.Candidates.{StandsChosen}
-use Rattle.syntect_winner.specs.Candidates.{chosen, live_in}
-use Rattle.syntect_winner.proofs.Places.{winner_ends, IsChoiceOnBoundary}
-use Rattle.syntect_winner.specs.declared.position.Position.{Position}
-use Rattle.syntect_winner.specs.Best.{choice_by}
-use Rattle.syntect_winner.specs.declared.search.Best.{Best}
-use Rattle.syntect_winner.specs.declared.search.Choice.{Choice}
-use Rattle.syntect_winner.specs.declared.search.Choice.TheVariants as code
+use Rattle.syntect_parsing.specs.syntect_grammar.Contexts.{context_at}
+use Rattle.syntect_parsing.specs.syntect_grammar_contexts.declared.context.Context.{Context}
+use Rattle.syntect_reading_choice.specs.declared.level.Level.{Level}
+use Rattle.syntect_parsing.specs.MatchViews.{StandsChosen}
+use Rattle.syntect_reading_choice.specs.ChoiceViews.{choice_view, live_in}
+use Rattle.syntect_reading_choice.proofs.Places.{winner_ends, IsChoiceOnBoundary}
+use Rattle.syntect_reading_choice.specs.declared.position.Position.{Position}
+use Rattle.syntect_reading_choice.specs.Best.{choice_by}
+use Rattle.syntect_reading_choice.specs.declared.search.Best.{Best}
+use Rattle.syntect_reading_choice.specs.declared.search.Choice.{Choice}
+use Rattle.syntect_reading_choice.specs.declared.search.Choice.TheVariants as code
 
-by_kind : (finds : FindsInText dialect) (line : List ℕ) (u : IsUtf8 line) (place : ℕ) (c : Choice) → IsChoiceOnBoundary dialect finds line u place (chosen line place c) → StandsChosen line place c
+by_kind : (finds : FindsInText dialect) (line : List ℕ) (u : IsUtf8 line) (place : ℕ) (c : Choice) → IsChoiceOnBoundary dialect finds line u place (choice_view line place c) → StandsChosen line place c
 by_kind finds line u place (code.Take m) h = h
 by_kind finds line u place (code.Skip next) h = h
 by_kind finds line u place code.End h = h
@@ -41,7 +41,7 @@ members_of set line p = on (last p.levels)
     on (Some top) = within top (context_at set top.context)
 
 pub choice_stands : FindsInText dialect → (set : SyntaxSet) (line : List ℕ) → IsUtf8 line → (p : Position) (c : Choice)
-    → chosen line p.place c ≡ winner line p (live_in dialect set line p) → StandsChosen line p.place c
+    → choice_view line p.place c ≡ winner line p (live_in dialect set line p) → StandsChosen line p.place c
 choice_stands finds set line u p c f =
     let k = members_of set line p in
     by_kind finds line u p.place c (rw (f, k.1) (winner_ends dialect finds line u p k.0))
@@ -63,12 +63,12 @@ module _ (set : SyntaxSet) (line : List ℕ) (p : Position) (m : Live) where
 
 -- where the turn is orderly, so is the match that was taken
 pub taken_orderly : (set : SyntaxSet) (line : List ℕ) (p q : Position) (c : Choice) (m : Live) → q ≡ trimmed p
-    → chosen line q.place c ≡ winner line q (live_in dialect set line q) → chosen line q.place c ≡ Take m → IsOrderlyTurn dialect set line p → is_orderly set q.levels m.pattern.operation ≡ true
+    → choice_view line q.place c ≡ winner line q (live_in dialect set line q) → choice_view line q.place c ≡ Take m → IsOrderlyTurn dialect set line p → is_orderly set q.levels m.pattern.operation ≡ true
 taken_orderly set line p q c m t f g o =
     let w : winner line q (live_in dialect set line q) ≡ Take m = sym f ∙ g in
     rw t (o m (picked set line p m (rw t at w)))
 
 -- what was chosen is what the step takes
 pub step_chosen : (set : SyntaxSet) (line : List ℕ) (p : Position) (b : Best) (c : Choice) (s : Step) → s ≡ step dialect set line p (choice_by line p.place b)
-    → chosen line p.place c ≡ choice_by line p.place b → s ≡ step dialect set line p (chosen line p.place c)
+    → choice_view line p.place c ≡ choice_by line p.place b → s ≡ step dialect set line p (choice_view line p.place c)
 step_chosen set line p b c s k f = k ∙ ap (step dialect set line p) (sym f)

@@ -2,23 +2,23 @@
 use Rattle.std.proofs.Common.{◌≡◌, ℕ, zero, suc, Bool, true, false, not, ◌&&◌, List, [], ◌∷◌, ◌++◌, length, find, Option, Some, None, is_none, refl, ap, if◌then◌else◌}
 use Rattle.std.specs.List.{filter_map, flat_map, list_any}
 use Rattle.std.specs.Option.{option_map, option_to_list}
-use Rattle.syntect_winner.specs.Engine.{Engine}
-use Rattle.syntect_contexts.specs.Substitution.{Groups, Opening}
-use Rattle.syntect_grammar.specs.Contexts.{context_at}
-use Rattle.syntect_contexts.specs.Contexts.{target, is_same}
-use Rattle.syntect_winner.specs.Chain.{Member, chain, entries, patterns_of, walk, walk_patterns, included, members, in_sight, room_in}
-use Rattle.syntect_winner.specs.Turn.{Live, Take, Skip, End, live, live_match, matched, counted, counts, group_at, missing, named, searched_text, winner, choice_of, is_least, loops}
+use Rattle.syntect_reading_choice.specs.Engine.{Engine}
+use Rattle.syntect_parsing.specs.syntect_grammar_contexts.Substitution.{Groups, Opening}
+use Rattle.syntect_parsing.specs.syntect_grammar.Contexts.{context_at}
+use Rattle.syntect_parsing.specs.syntect_grammar_contexts.Contexts.{target, is_same}
+use Rattle.syntect_reading_choice.specs.Chain.{Member, chain, entries, patterns_of, walk, walk_patterns, included, members, in_sight, room_in}
+use Rattle.syntect_reading_choice.specs.Turn.{Live, Take, Skip, End, live, live_match, matched, counted, counts, group_at, missing, named, searched_text, winner, choice_of, is_least, loops}
 use Rattle.syntect_parsing.specs.Refusals.{NamesKnown, IsClosed}
 use Rattle.syntect_parsing.proofs.EachLaws.{Each, each-append, each-flat_map, each-map, each_always, each-filter_map, each-find, find-each, each-find_none}
-use Rattle.syntect_contexts.specs.declared.context.ContextId.{ContextId}
-use Rattle.syntect_contexts.specs.declared.context.MatchPattern.{MatchPattern}
-use Rattle.syntect_contexts.specs.declared.context.Pattern.{Pattern}
-use Rattle.syntect_contexts.specs.declared.context.Pattern.TheVariants.{Match, Include}
-use Rattle.syntect_contexts.specs.declared.context.Context.{Context}
-use Rattle.syntect_grammar.specs.declared.syntax_set.SyntaxSet.{SyntaxSet}
-use Rattle.syntect_winner.specs.declared.level.Level.{Level}
-use Rattle.syntect_winner.specs.declared.position.Position.{Position}
-use Rattle.syntect_contexts.specs.declared.error.ParsingError.TheVariants as error
+use Rattle.syntect_parsing.specs.syntect_grammar_contexts.declared.context.ContextId.{ContextId}
+use Rattle.syntect_parsing.specs.syntect_grammar_contexts.declared.context.MatchPattern.{MatchPattern}
+use Rattle.syntect_parsing.specs.syntect_grammar_contexts.declared.context.Pattern.{Pattern}
+use Rattle.syntect_parsing.specs.syntect_grammar_contexts.declared.context.Pattern.TheVariants.{Match, Include}
+use Rattle.syntect_parsing.specs.syntect_grammar_contexts.declared.context.Context.{Context}
+use Rattle.syntect_parsing.specs.syntect_grammar.declared.syntax_set.SyntaxSet.{SyntaxSet}
+use Rattle.syntect_reading_choice.specs.declared.level.Level.{Level}
+use Rattle.syntect_reading_choice.specs.declared.position.Position.{Position}
+use Rattle.syntect_parsing.specs.syntect_grammar_contexts.declared.error.ParsingError.TheVariants as error
 
 -- the set has the context
 abbrev pub Has : SyntaxSet → ContextId → Type 0

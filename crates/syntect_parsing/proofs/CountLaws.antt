@@ -3,15 +3,15 @@ use Rattle.std.proofs.Common.{◌≡◌, ℕ, zero, suc, ◌-◌, ◌+◌, false
 use Rattle.std.specs.Option.{option_to_list}
 use Rattle.std.specs.List.{filter_map, flat_map, cons_option}
 use Rattle.std.proofs.lemmas.List.{length-take}
-use Rattle.syntect_scope.specs.Stack.{is_refused, kept}
-use Rattle.syntect_scope.specs.declared.stack.ScopeStackOp.{ScopeStackOp}
-use Rattle.syntect_scope.specs.declared.stack.ScopeStackOp.TheVariants.{Push, Restore}
-use Rattle.syntect_scope.specs.declared.stack.ClearAmount.{ClearAmount}
-use Rattle.syntect_scope.specs.Replay.{Replay, AllApply, replay, replayed, pushes, pops}
-use Rattle.syntect_grammar.specs.Contexts.{part_of}
-use Rattle.syntect_contexts.specs.Contexts.{Scopes}
-use Rattle.syntect_contexts.specs.declared.context.ContextId.{ContextId}
-use Rattle.syntect_grammar.specs.declared.syntax_set.SyntaxSet.{SyntaxSet}
+use Rattle.syntect_parsing.specs.syntect_scope.Stack.{is_refused, kept}
+use Rattle.syntect_parsing.specs.syntect_scope.declared.stack.ScopeStackOp.{ScopeStackOp}
+use Rattle.syntect_parsing.specs.syntect_scope.declared.stack.ScopeStackOp.TheVariants.{Push, Restore}
+use Rattle.syntect_parsing.specs.syntect_scope.declared.stack.ClearAmount.{ClearAmount}
+use Rattle.syntect_parsing.specs.syntect_scope.Replay.{Replay, AllApply, replay, replayed, pushes, pops}
+use Rattle.syntect_parsing.specs.syntect_grammar.Contexts.{part_of}
+use Rattle.syntect_parsing.specs.syntect_grammar_contexts.Contexts.{Scopes}
+use Rattle.syntect_parsing.specs.syntect_grammar_contexts.declared.context.ContextId.{ContextId}
+use Rattle.syntect_parsing.specs.syntect_grammar.declared.syntax_set.SyntaxSet.{SyntaxSet}
 use Rattle.syntect_parsing.specs.Visible.{clearing}
 use Rattle.syntect_parsing.specs.Operations.{clears, restores, opens_below, opens_here}
 use Rattle.syntect_parsing.proofs.ReplayLaws.{replay-append}

@@ -5,18 +5,18 @@ use Rattle.std.specs.List.{list_any}
 use Rattle.std.specs.Option.{option_flatten}
 use Rattle.std.specs.Str.{IsUtf8}
 use Rattle.std.proofs.lemmas.List.Folds.{list_any-append}
-use Rattle.syntect_pattern.specs.Trees.{Tree, nothing, one_of, anchor, same, seq, alt, repeat, group, atomic, ahead, behind, numbers, has_group, in_look, group_in_look, group_count}
-use Rattle.syntect_pattern.specs.Sets.{numbers_from}
-use Rattle.syntect_pattern.specs.Matches.{found}
-use Rattle.syntect_pattern.specs.Grammar.{NumbersGroups}
-use Rattle.syntect_pattern.specs.Pattern.{pattern_tree}
-use Rattle.syntect_pattern.specs.Reading.{◌>>=◌}
-use Rattle.syntect_pattern.specs.Nesting.{FindsMatches, IsMatch, Span}
-use Rattle.syntect_winner.specs.Engine.{dialect}
-use Rattle.syntect_contexts.specs.Substitution.{Groups}
-use Rattle.syntect_winner.specs.Turn.{group_at}
+use Rattle.syntect_parsing.specs.syntect_pattern.Trees.{Tree, nothing, one_of, anchor, same, seq, alt, repeat, group, atomic, ahead, behind, numbers, has_group, in_look, group_in_look, group_count}
+use Rattle.syntect_parsing.specs.syntect_pattern.Sets.{numbers_from}
+use Rattle.syntect_parsing.specs.syntect_pattern.Matches.{found}
+use Rattle.syntect_parsing.specs.syntect_pattern.Grammar.{NumbersGroups}
+use Rattle.syntect_parsing.specs.syntect_pattern.Pattern.{pattern_tree}
+use Rattle.syntect_parsing.specs.syntect_pattern.Reading.{◌>>=◌}
+use Rattle.syntect_parsing.specs.syntect_pattern.Nesting.{FindsMatches, IsMatch, Span}
+use Rattle.syntect_reading_choice.specs.Engine.{dialect}
+use Rattle.syntect_parsing.specs.syntect_grammar_contexts.Substitution.{Groups}
+use Rattle.syntect_reading_choice.specs.Turn.{group_at}
 use Rattle.syntect_parsing.specs.Laws.{LaysGroupsOut, LaysOut}
-use Rattle.syntect_winner.proofs.ListLaws.{tested_false}
+use Rattle.syntect_reading_choice.proofs.ListLaws.{tested_false}
 
 -- ---- groups outside lookarounds ----
 

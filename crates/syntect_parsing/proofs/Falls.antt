@@ -3,34 +3,34 @@ use Rattle.std.proofs.Common.{◌≡◌, ◌≢◌, ℕ, zero, suc, ◌==◌, �
 use Rattle.std.proofs.lemmas.List.{length-take}
 use Rattle.std.proofs.lemmas.Str.{len_utf8_bounds}
 use Rattle.std.specs.Char.{len_utf8}
-use Rattle.syntect_pattern.specs.Text.{char_at}
+use Rattle.syntect_parsing.specs.syntect_pattern.Text.{char_at}
 use Rattle.std.proofs.lemmas.Bool.Decides.{nat_tests}
 use Rattle.std.proofs.Math.Nat.{mul-le-mul_left}
 use Rattle.std.specs.List.{filter_map, cons_option, flat_map, list_any}
 use Rattle.std.specs.Option.{option_map_or, option_and_then, option_to_list}
-use Rattle.syntect_winner.specs.Engine.{Engine}
-use Rattle.syntect_contexts.specs.Substitution.{Groups, Opening}
-use Rattle.syntect_contexts.specs.Contexts.{is_same, target}
-use Rattle.syntect_grammar.specs.Contexts.{context_at, contexts_of}
-use Rattle.syntect_winner.specs.Chain.{Member, last, entries, included, walk_patterns, walk, room_in, patterns_of, members, chain, in_sight, prototypes_in}
+use Rattle.syntect_reading_choice.specs.Engine.{Engine}
+use Rattle.syntect_parsing.specs.syntect_grammar_contexts.Substitution.{Groups, Opening}
+use Rattle.syntect_parsing.specs.syntect_grammar_contexts.Contexts.{is_same, target}
+use Rattle.syntect_parsing.specs.syntect_grammar.Contexts.{context_at, contexts_of}
+use Rattle.syntect_reading_choice.specs.Chain.{Member, last, entries, included, walk_patterns, walk, room_in, patterns_of, members, chain, in_sight, prototypes_in}
 use Rattle.syntect_parsing.specs.Turn.{new_levels, without_last, opened, levels_by, levels_after, idle_by, position_after, trimmed}
-use Rattle.syntect_winner.specs.Turn.{Live, Choice, Take, Skip, End, counts, counted, matched, live, live_match, searched_text, group_at, choice_of, winner, is_least, loops, turns_back, char_len, list_of, missing, refusal}
+use Rattle.syntect_reading_choice.specs.Turn.{Live, Choice, Take, Skip, End, counts, counted, matched, live, live_match, searched_text, group_at, choice_of, winner, is_least, loops, turns_back, char_len, list_of, missing, refusal}
 use Rattle.syntect_parsing.specs.Scopes.{Scopes, scopes_passed}
 use Rattle.syntect_parsing.specs.Line.{Step, Goes, Ends, Refused, turn, turn_on, turn_in, step, unless_refused}
 use Rattle.syntect_parsing.specs.Laws.{longest_in, longest_of, longest}
-use Rattle.syntect_winner.proofs.Finds.{FindsInOrder}
-use Rattle.syntect_contexts.specs.declared.context.ContextId.{ContextId}
-use Rattle.syntect_contexts.specs.declared.context.ContextReference.{ContextReference}
-use Rattle.syntect_contexts.specs.declared.context.MatchOperation.{MatchOperation}
-use Rattle.syntect_contexts.specs.declared.context.MatchOperation.TheVariants as op
-use Rattle.syntect_contexts.specs.declared.context.MatchPattern.{MatchPattern}
-use Rattle.syntect_contexts.specs.declared.context.Pattern.{Pattern}
-use Rattle.syntect_contexts.specs.declared.context.Pattern.TheVariants.{Match, Include}
-use Rattle.syntect_contexts.specs.declared.context.Context.{Context}
-use Rattle.syntect_grammar.specs.declared.syntax_set.SyntaxSet.{SyntaxSet}
-use Rattle.syntect_winner.specs.declared.level.Level.{Level}
-use Rattle.syntect_winner.specs.declared.position.Position.{Position}
-use Rattle.syntect_contexts.specs.declared.error.ParsingError.{ParsingError}
+use Rattle.syntect_reading_choice.proofs.Finds.{FindsInOrder}
+use Rattle.syntect_parsing.specs.syntect_grammar_contexts.declared.context.ContextId.{ContextId}
+use Rattle.syntect_parsing.specs.syntect_grammar_contexts.declared.context.ContextReference.{ContextReference}
+use Rattle.syntect_parsing.specs.syntect_grammar_contexts.declared.context.MatchOperation.{MatchOperation}
+use Rattle.syntect_parsing.specs.syntect_grammar_contexts.declared.context.MatchOperation.TheVariants as op
+use Rattle.syntect_parsing.specs.syntect_grammar_contexts.declared.context.MatchPattern.{MatchPattern}
+use Rattle.syntect_parsing.specs.syntect_grammar_contexts.declared.context.Pattern.{Pattern}
+use Rattle.syntect_parsing.specs.syntect_grammar_contexts.declared.context.Pattern.TheVariants.{Match, Include}
+use Rattle.syntect_parsing.specs.syntect_grammar_contexts.declared.context.Context.{Context}
+use Rattle.syntect_parsing.specs.syntect_grammar.declared.syntax_set.SyntaxSet.{SyntaxSet}
+use Rattle.syntect_reading_choice.specs.declared.level.Level.{Level}
+use Rattle.syntect_reading_choice.specs.declared.position.Position.{Position}
+use Rattle.syntect_parsing.specs.syntect_grammar_contexts.declared.error.ParsingError.{ParsingError}
 
 -- ---- each element of a list ----
 

@@ -3,11 +3,11 @@ use Rattle.std.proofs.Common.{◌≡◌, ◌≢◌, ℕ, ◌==◌, ◌+◌, ◌-
 use Rattle.std.proofs.lemmas.List.{append-nil}
 use Rattle.std.proofs.lemmas.Bool.Decides.{nat_tests}
 use Rattle.std.specs.Option.{option_to_list}
-use Rattle.syntect_contexts.specs.Substitution.{Opening}
+use Rattle.syntect_parsing.specs.syntect_grammar_contexts.Substitution.{Opening}
 use Rattle.syntect_parsing.specs.Turn.{new_level, new_levels}
-use Rattle.syntect_winner.proofs.ListLaws.{drop_at, tested_true, tested_false}
-use Rattle.syntect_contexts.specs.declared.context.ContextId.{ContextId}
-use Rattle.syntect_grammar.specs.declared.syntax_set.SyntaxSet.{SyntaxSet}
+use Rattle.syntect_reading_choice.proofs.ListLaws.{drop_at, tested_true, tested_false}
+use Rattle.syntect_parsing.specs.syntect_grammar_contexts.declared.context.ContextId.{ContextId}
+use Rattle.syntect_parsing.specs.syntect_grammar.declared.syntax_set.SyntaxSet.{SyntaxSet}
 
 one_of_rest : (set : SyntaxSet) (o : Opening) (kept : List ContextId) (w : Option ContextId) (id : ContextId) (rest : List ContextId)
     → new_levels set o kept w (id ∷ rest) ≡ new_level set o id (kept ++ (if length rest == 0 then option_to_list w else [])) ∷ new_levels set o [] w rest

@@ -31,3 +31,10 @@ pub mod WorkLaws
 pub mod PrototypeLaws
 pub mod LimitLaws
 pub mod WithinLaws
+pub use Rattle.syntect_reading_choice.proofs.syntect_count_proofs as syntect_count_proofs
+pub use Rattle.syntect_reading_choice.proofs.syntect_grammar_proofs as syntect_grammar_proofs
+pub use Rattle.syntect_reading_choice.proofs.syntect_grammar_contexts_proofs as syntect_grammar_contexts_proofs
+pub use Rattle.syntect_reading_choice.proofs.syntect_grammar_linker_proofs as syntect_grammar_linker_proofs
+pub use Rattle.syntect_reading_choice.proofs as syntect_reading_choice_proofs
+pub use Rattle.syntect_reading_choice.proofs.syntect_reading_state_proofs as syntect_reading_state_proofs
+pub use Rattle.syntect_reading_choice.proofs.syntect_yaml_proofs as syntect_yaml_proofs

@@ -2,7 +2,7 @@
 use Rattle.std.proofs.Common.{◌≡◌, ℕ, ◌≤◌, ◌<◌, Bool, true, false, nat_eq, Some, None, refl, arith, if◌then◌else◌}
 use Rattle.std.proofs.lemmas.Bool.Decides.{nat_tests}
 use Rattle.std.specs.Prelude.{IfSome}
-use Rattle.syntect_base.specs.Limiting.{limit_of, IsWithinLimit}
+use Rattle.syntect_parsing.specs.syntect_base.Limiting.{limit_of, IsWithinLimit}
 
 -- a number that is passed is a limit
 pub limit_set : (limit levels : ℕ) → limit < levels → levels < 18446744073709551616 → limit_of limit ≡ Some limit

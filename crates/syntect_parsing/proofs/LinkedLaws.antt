@@ -6,29 +6,29 @@ use Rattle.std.specs.List.{filter_map, cons_option, list_any}
 use Rattle.std.specs.Option.{option_map, option_map_or, option_to_list, option_and_then}
 use Rattle.std.proofs.lemmas.Option.{slice_get-map}
 use Rattle.std.proofs.lemmas.List.Quantifiers.{position-Some}
-use Rattle.syntect_grammar.specs.Contexts.{context_at, contexts_of}
-use Rattle.syntect_contexts.specs.Contexts.{target}
-use Rattle.syntect_winner.specs.Turn.{named, list_of}
-use Rattle.syntect_grammar.specs.Link.{syntaxes_in, linked, linked_from, linked_definition}
-use Rattle.syntect_linker.specs.LinkedContexts.{linked_contexts, linked_context, linked_pattern, linked_operation}
-use Rattle.syntect_grammar.specs.Link.{names_of, head_of, heads_from, body_of}
-use Rattle.syntect_contexts.specs.Contexts.{named_in}
-use Rattle.syntect_linker.specs.References.{context_named, meant, last_that, context_by, has_scope, has_name, or_plain_text, link_of, linked_reference}
-use Rattle.syntect_linker.specs.Reached.{unless_reached, is_reached, prototype_for}
+use Rattle.syntect_parsing.specs.syntect_grammar.Contexts.{context_at, contexts_of}
+use Rattle.syntect_parsing.specs.syntect_grammar_contexts.Contexts.{target}
+use Rattle.syntect_reading_choice.specs.Turn.{named, list_of}
+use Rattle.syntect_parsing.specs.syntect_grammar.Link.{syntaxes_in, linked, linked_from, linked_definition}
+use Rattle.syntect_parsing.specs.syntect_grammar_linker.LinkedContexts.{linked_contexts, linked_context, linked_pattern, linked_operation}
+use Rattle.syntect_parsing.specs.syntect_grammar.Link.{names_of, head_of, heads_from, body_of}
+use Rattle.syntect_parsing.specs.syntect_grammar_contexts.Contexts.{named_in}
+use Rattle.syntect_parsing.specs.syntect_grammar_linker.References.{context_named, meant, last_that, context_by, has_scope, has_name, or_plain_text, link_of, linked_reference}
+use Rattle.syntect_parsing.specs.syntect_grammar_linker.Reached.{unless_reached, is_reached, prototype_for}
 use Rattle.syntect_parsing.specs.Refusals.{NamesKnown, LinksClosed, AreByName, KnowNoNumber, NamesNoNumber, is_direct}
 use Rattle.syntect_parsing.proofs.EachLaws.{Each}
 use Rattle.syntect_parsing.proofs.ClosedLaws.{Has, misses_none}
-use Rattle.syntect_contexts.specs.declared.context.ContextId.{ContextId}
-use Rattle.syntect_contexts.specs.declared.context.ContextReference.{ContextReference}
-use Rattle.syntect_contexts.specs.declared.context.ContextReference.TheVariants as ref
-use Rattle.syntect_contexts.specs.declared.context.MatchOperation.{MatchOperation}
-use Rattle.syntect_contexts.specs.declared.context.MatchOperation.TheVariants as op
-use Rattle.syntect_contexts.specs.declared.context.Pattern.{Pattern}
-use Rattle.syntect_contexts.specs.declared.context.Pattern.TheVariants.{Match, Include}
-use Rattle.syntect_contexts.specs.declared.context.Context.{Context}
-use Rattle.syntect_loader.specs.declared.definition.SyntaxDefinition.{SyntaxDefinition}
-use Rattle.syntect_contexts.specs.declared.syntax_reference.SyntaxReference.{SyntaxReference}
-use Rattle.syntect_grammar.specs.declared.syntax_set.SyntaxSet.{SyntaxSet}
+use Rattle.syntect_parsing.specs.syntect_grammar_contexts.declared.context.ContextId.{ContextId}
+use Rattle.syntect_parsing.specs.syntect_grammar_contexts.declared.context.ContextReference.{ContextReference}
+use Rattle.syntect_parsing.specs.syntect_grammar_contexts.declared.context.ContextReference.TheVariants as ref
+use Rattle.syntect_parsing.specs.syntect_grammar_contexts.declared.context.MatchOperation.{MatchOperation}
+use Rattle.syntect_parsing.specs.syntect_grammar_contexts.declared.context.MatchOperation.TheVariants as op
+use Rattle.syntect_parsing.specs.syntect_grammar_contexts.declared.context.Pattern.{Pattern}
+use Rattle.syntect_parsing.specs.syntect_grammar_contexts.declared.context.Pattern.TheVariants.{Match, Include}
+use Rattle.syntect_parsing.specs.syntect_grammar_contexts.declared.context.Context.{Context}
+use Rattle.syntect_parsing.specs.syntect_grammar_loader.declared.definition.SyntaxDefinition.{SyntaxDefinition}
+use Rattle.syntect_parsing.specs.syntect_grammar_contexts.declared.syntax_reference.SyntaxReference.{SyntaxReference}
+use Rattle.syntect_parsing.specs.syntect_grammar.declared.syntax_set.SyntaxSet.{SyntaxSet}
 
 -- ---- definitions by their index ----
 

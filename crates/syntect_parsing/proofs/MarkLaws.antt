@@ -4,15 +4,15 @@ use Rattle.std.specs.List.{flat_map, range_with_len}
 use Rattle.std.proofs.lemmas.List.Concat.{flat_map-append}
 use Rattle.std.proofs.lemmas.List.Elements.{filter-append}
 use Rattle.std.proofs.lemmas.Bool.Decides.{nat_tests}
-use Rattle.syntect_scope.specs.declared.stack.ScopeStackOp.{ScopeStackOp}
-use Rattle.syntect_scope.specs.declared.stack.ScopeStackOp.TheVariants.{Pop}
-use Rattle.syntect_scope.specs.Replay.{pushes}
+use Rattle.syntect_parsing.specs.syntect_scope.declared.stack.ScopeStackOp.{ScopeStackOp}
+use Rattle.syntect_parsing.specs.syntect_scope.declared.stack.ScopeStackOp.TheVariants.{Pop}
+use Rattle.syntect_parsing.specs.syntect_scope.Replay.{pushes}
 use Rattle.syntect_parsing.specs.Scopes.{Scopes, Capture, is_longer, put, longer_first}
 use Rattle.syntect_parsing.specs.Operations.{captures_at, capture_operations}
 use Rattle.syntect_parsing.specs.Sorting.{put_behind, in_order}
-use Rattle.syntect_parsing.specs.Candidates.{end_mark, start_mark, marks_of, seen_mark, mark_operations}
-use Rattle.syntect_winner.proofs.ListLaws.{tested_true, tested_false}
-use Rattle.syntect_openings.proofs.OpenLaws.{pushes_append}
+use Rattle.syntect_parsing.specs.MatchViews.{end_mark, start_mark, marks_of, seen_mark, mark_operations}
+use Rattle.syntect_reading_choice.proofs.ListLaws.{tested_true, tested_false}
+use Rattle.syntect_parsing.proofs.syntect_reading_state_proofs.OpenLaws.{pushes_append}
 use Rattle.syntect_parsing.proofs.CaptureLaws.{Each, each_put}
 use Rattle.syntect_parsing.specs.declared.captures.Mark.{Mark}
 

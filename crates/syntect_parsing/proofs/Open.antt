@@ -1,21 +1,21 @@
 -- The stack before each line is the open scopes.
 use Rattle.std.proofs.Common.{◌≡◌, ℕ, false, List, Option, Some, None, refl, ap}
 use Rattle.std.proofs.lemmas.List.{append-nil}
-use Rattle.syntect_grammar.specs.Contexts.{context_at}
-use Rattle.syntect_winner.specs.Chain.{last, chain, prototypes_in}
-use Rattle.syntect_winner.specs.Engine.{Engine}
-use Rattle.syntect_winner.specs.declared.position.Position.{Position}
+use Rattle.syntect_parsing.specs.syntect_grammar.Contexts.{context_at}
+use Rattle.syntect_reading_choice.specs.Chain.{last, chain, prototypes_in}
+use Rattle.syntect_reading_choice.specs.Engine.{Engine}
+use Rattle.syntect_reading_choice.specs.declared.position.Position.{Position}
 use Rattle.syntect_parsing.specs.Turn.{position_after, trimmed}
-use Rattle.syntect_winner.specs.Turn.{Choice, Take, Skip, End, live, winner, missing, refusal}
+use Rattle.syntect_reading_choice.specs.Turn.{Choice, Take, Skip, End, live, winner, missing, refusal}
 use Rattle.syntect_parsing.specs.Scopes.{Scopes, scopes_passed}
 use Rattle.syntect_parsing.specs.Stacks.{stack_of}
 use Rattle.syntect_parsing.specs.Line.{Step, Goes, Ends, Refused, turn, turn_on, turn_in, step, unless_refused, Reads, ends, goes, at_start, Answer, Answers, accepts, refuses, none, one_more, HasPlainStart}
 use Rattle.syntect_parsing.specs.Laws.{StackIsOpen}
-use Rattle.syntect_contexts.specs.declared.context.Context.{Context}
-use Rattle.syntect_grammar.specs.declared.syntax_set.SyntaxSet.{SyntaxSet}
+use Rattle.syntect_parsing.specs.syntect_grammar_contexts.declared.context.Context.{Context}
+use Rattle.syntect_parsing.specs.syntect_grammar.declared.syntax_set.SyntaxSet.{SyntaxSet}
 use Rattle.syntect_parsing.specs.States.{Standing}
-use Rattle.syntect_winner.specs.declared.level.Level.{Level}
-use Rattle.syntect_contexts.specs.declared.error.ParsingError.{ParsingError}
+use Rattle.syntect_reading_choice.specs.declared.level.Level.{Level}
+use Rattle.syntect_parsing.specs.syntect_grammar_contexts.declared.error.ParsingError.{ParsingError}
 
 abbrev LeavesLater : Step → Type 0
 LeavesLater (Goes bytes q) = Unit {0}

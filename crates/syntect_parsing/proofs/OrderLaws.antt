@@ -2,18 +2,18 @@
 use Rattle.std.proofs.Common.{ℕ, zero, suc, ◌==◌, ◌+◌, ◌≤◌, Bool, true, false, ◌&&◌, List, [], ◌∷◌, ◌++◌, length, Option, Some, None, arith, if◌then◌else◌}
 use Rattle.std.specs.List.{filter_map, flat_map}
 use Rattle.std.specs.Str.{IsCharBoundary}
-use Rattle.syntect_scope.specs.declared.stack.ClearAmount.{ClearAmount}
-use Rattle.syntect_grammar.specs.Contexts.{part_of}
-use Rattle.syntect_contexts.specs.Contexts.{target}
-use Rattle.syntect_contexts.specs.declared.context.ContextId.{ContextId}
-use Rattle.syntect_contexts.specs.declared.context.MatchOperation.{MatchOperation}
-use Rattle.syntect_contexts.specs.declared.context.MatchOperation.TheVariants as op
-use Rattle.syntect_grammar.specs.declared.syntax_set.SyntaxSet.{SyntaxSet}
+use Rattle.syntect_parsing.specs.syntect_scope.declared.stack.ClearAmount.{ClearAmount}
+use Rattle.syntect_parsing.specs.syntect_grammar.Contexts.{part_of}
+use Rattle.syntect_parsing.specs.syntect_grammar_contexts.Contexts.{target}
+use Rattle.syntect_parsing.specs.syntect_grammar_contexts.declared.context.ContextId.{ContextId}
+use Rattle.syntect_parsing.specs.syntect_grammar_contexts.declared.context.MatchOperation.{MatchOperation}
+use Rattle.syntect_parsing.specs.syntect_grammar_contexts.declared.context.MatchOperation.TheVariants as op
+use Rattle.syntect_parsing.specs.syntect_grammar.declared.syntax_set.SyntaxSet.{SyntaxSet}
 use Rattle.syntect_parsing.specs.Visible.{clearing, top_clearing, top_part}
-use Rattle.syntect_parsing.specs.Operations.{clears, restores, opens_below, opens_here, operations_below, operations_behind, metas, contents, opens, none, clear_nothing, top_count}
-use Rattle.syntect_winner.specs.declared.level.Level.{Level}
-use Rattle.syntect_scope.specs.declared.stack.ScopeStackOp.{ScopeStackOp}
-use Rattle.syntect_scope.specs.Replay.{InOrder, AllApply, Replay, replay, replayed, pushes, pops}
+use Rattle.syntect_parsing.specs.Operations.{clears, restores, opens_below, opens_here, operations_below, operations_behind, metas, contents, opens, has_no_scope, clear_nothing, top_count}
+use Rattle.syntect_reading_choice.specs.declared.level.Level.{Level}
+use Rattle.syntect_parsing.specs.syntect_scope.declared.stack.ScopeStackOp.{ScopeStackOp}
+use Rattle.syntect_parsing.specs.syntect_scope.Replay.{InOrder, AllApply, Replay, replay, replayed, pushes, pops}
 
 pub order-append : (text : List ℕ) (a b c : ℕ) (xs ys : List (ℕ × ScopeStackOp)) → InOrder text a xs b → InOrder text b ys c → InOrder text a (xs ++ ys) c
 order-append text a b c [] [] h k = let m : a ≤ b = h in let n : b ≤ c = k in omega arith
@@ -60,11 +60,11 @@ order-if text at false ops h = h
 
 pub order-behind : (text : List ℕ) (at : ℕ) (set : SyntaxSet) (levels : List Level) (o : MatchOperation) → IsCharBoundary text at → InOrder text at (operations_behind at set levels o) at
 order-behind text at set levels (op.Push refs) b =
-    order-if text at (none (contents set refs)) (pops at (length (metas set refs)) ++ pushes at (opens set refs))
+    order-if text at (has_no_scope (contents set refs)) (pops at (length (metas set refs)) ++ pushes at (opens set refs))
     (order-append text at at at (pops at (length (metas set refs))) (pushes at (opens set refs)) (order-pops text at (length (metas set refs)) b) (order-pushes text at (opens set refs) b))
 order-behind text at set levels (op.Set refs) b =
     let n : ℕ = length (metas set refs) + top_count set levels in
-    order-if text at (none (contents set refs) && ((top_count set levels == 0) && clear_nothing set (filter_map target refs))) (pops at n ++ flat_map (opens_here at set) (filter_map target refs))
+    order-if text at (has_no_scope (contents set refs) && ((top_count set levels == 0) && clear_nothing set (filter_map target refs))) (pops at n ++ flat_map (opens_here at set) (filter_map target refs))
     (order-append text at at at (pops at n) (flat_map (opens_here at set) (filter_map target refs)) (order-pops text at n b)
     (order-each text at (opens_here at set) (λ id. order-append text at at at (clears at (clearing set id)) (pushes at (part_of (λ c. c.meta_scope ++ c.meta_content_scope) set id)) (order-clears text at (clearing set id) b) (order-pushes text at (part_of (λ c. c.meta_scope ++ c.meta_content_scope) set id) b)) (filter_map target refs)))
 order-behind text at set levels op.Pop b =

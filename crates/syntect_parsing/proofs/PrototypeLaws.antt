@@ -4,17 +4,17 @@ use Rattle.std.specs.List.{filter_map, flat_map}
 use Rattle.std.specs.Option.{option_and_then, option_map_or, option_to_list}
 use Rattle.std.proofs.lemmas.Bool.Decides.{nat_tests}
 use Rattle.std.proofs.lemmas.List.{length-map}
-use Rattle.syntect_regex.specs.Bounds.{search_bound}
-use Rattle.syntect_contexts.specs.Contexts.{target}
-use Rattle.syntect_contexts.specs.Substitution.{Opening}
-use Rattle.syntect_grammar.specs.Contexts.{context_at, contexts_of}
-use Rattle.syntect_grammar.specs.Patterns.{entries, patterns_of}
-use Rattle.syntect_winner.specs.Chain.{Member, chain, in_sight, last, members, prototypes_in, chain_at}
-use Rattle.syntect_winner.specs.Engine.{dialect}
-use Rattle.syntect_winner.specs.Steps.{turn_steps, turn_work, ArePutWithin, AreWithin, IsWithin, putting}
-use Rattle.syntect_winner.specs.Turn.{Live, Choice, Take, Skip, End, live, missing, refusal, searched_text, winner}
-use Rattle.syntect_winner.proofs.Finds.{FindsInOrder}
-use Rattle.syntect_winner.proofs.StepLaws.{more_room}
+use Rattle.syntect_parsing.specs.syntect_regex.Bounds.{search_bound}
+use Rattle.syntect_parsing.specs.syntect_grammar_contexts.Contexts.{target}
+use Rattle.syntect_parsing.specs.syntect_grammar_contexts.Substitution.{Opening}
+use Rattle.syntect_parsing.specs.syntect_grammar.Contexts.{context_at, contexts_of}
+use Rattle.syntect_parsing.specs.syntect_grammar.Patterns.{entries, patterns_of}
+use Rattle.syntect_reading_choice.specs.Chain.{Member, chain, in_sight, last, members, prototypes_in, chain_at}
+use Rattle.syntect_reading_choice.specs.Engine.{dialect}
+use Rattle.syntect_reading_choice.specs.Steps.{turn_steps, turn_work, ArePutWithin, AreWithin, IsWithin, putting}
+use Rattle.syntect_reading_choice.specs.Turn.{Live, Choice, Take, Skip, End, live, missing, refusal, searched_text, winner}
+use Rattle.syntect_reading_choice.proofs.Finds.{FindsInOrder}
+use Rattle.syntect_reading_choice.proofs.StepLaws.{more_room}
 use Rattle.syntect_parsing.specs.Bound.{most_turns}
 use Rattle.syntect_parsing.specs.Laws.{longest}
 use Rattle.syntect_parsing.specs.Line.{Step, Goes, Ends, Refused, turn, turn_on, turn_in, step, unless_refused, Reaches, here, further, at_start}
@@ -24,19 +24,19 @@ use Rattle.syntect_parsing.specs.Work.{AllWithin, HasWalksWithin, IsPlainWithin,
 use Rattle.syntect_parsing.proofs.ClosedLaws.{OfMember, Own, chain-each, patterns-each}
 use Rattle.syntect_parsing.proofs.EachLaws.{Each}
 use Rattle.syntect_parsing.proofs.Falls.{Falls, IsReady, left, turn_falls}
-use Rattle.syntect_contexts.specs.declared.context.Context.{Context}
-use Rattle.syntect_contexts.specs.declared.context.ContextId.{ContextId}
-use Rattle.syntect_contexts.specs.declared.context.ContextReference.{ContextReference}
-use Rattle.syntect_contexts.specs.declared.context.MatchOperation.{MatchOperation}
-use Rattle.syntect_contexts.specs.declared.context.MatchPattern.{MatchPattern}
-use Rattle.syntect_contexts.specs.declared.context.Pattern.{Pattern}
-use Rattle.syntect_contexts.specs.declared.context.Pattern.TheVariants.{Match, Include}
-use Rattle.syntect_contexts.specs.declared.context.MatchOperation.TheVariants as op
-use Rattle.syntect_grammar.specs.declared.syntax_set.SyntaxSet.{SyntaxSet}
-use Rattle.syntect_winner.specs.declared.level.Level.{Level}
-use Rattle.syntect_winner.specs.declared.position.Position.{Position}
+use Rattle.syntect_parsing.specs.syntect_grammar_contexts.declared.context.Context.{Context}
+use Rattle.syntect_parsing.specs.syntect_grammar_contexts.declared.context.ContextId.{ContextId}
+use Rattle.syntect_parsing.specs.syntect_grammar_contexts.declared.context.ContextReference.{ContextReference}
+use Rattle.syntect_parsing.specs.syntect_grammar_contexts.declared.context.MatchOperation.{MatchOperation}
+use Rattle.syntect_parsing.specs.syntect_grammar_contexts.declared.context.MatchPattern.{MatchPattern}
+use Rattle.syntect_parsing.specs.syntect_grammar_contexts.declared.context.Pattern.{Pattern}
+use Rattle.syntect_parsing.specs.syntect_grammar_contexts.declared.context.Pattern.TheVariants.{Match, Include}
+use Rattle.syntect_parsing.specs.syntect_grammar_contexts.declared.context.MatchOperation.TheVariants as op
+use Rattle.syntect_parsing.specs.syntect_grammar.declared.syntax_set.SyntaxSet.{SyntaxSet}
+use Rattle.syntect_reading_choice.specs.declared.level.Level.{Level}
+use Rattle.syntect_reading_choice.specs.declared.position.Position.{Position}
 use Rattle.syntect_parsing.specs.States.{Standing}
-use Rattle.syntect_contexts.specs.declared.error.ParsingError.{ParsingError}
+use Rattle.syntect_parsing.specs.syntect_grammar_contexts.declared.error.ParsingError.{ParsingError}
 
 -- ---- a turn adds a prototype at most ----
 

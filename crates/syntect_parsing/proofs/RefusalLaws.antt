@@ -2,30 +2,30 @@
 use Rattle.std.proofs.Common.{◌≡◌, ◌≢◌, ℕ, zero, suc, ◌+◌, ◌-◌, Bool, true, false, List, [], ◌∷◌, ◌++◌, length, take, Option, Some, None, is_none, slice_get, unwrap_or, refl, ap, sym, ◌∙◌, subst, arith}
 use Rattle.std.specs.List.{filter_map, flat_map, cons_option}
 use Rattle.std.specs.Option.{option_map, option_map_or, option_to_list, option_and_then, option_or}
-use Rattle.syntect_contexts.specs.Substitution.{Opening}
-use Rattle.syntect_winner.specs.Engine.{Engine}
-use Rattle.syntect_grammar.specs.Contexts.{context_at, part_of}
-use Rattle.syntect_contexts.specs.Contexts.{target}
-use Rattle.syntect_winner.specs.Chain.{Member, chain, last, patterns_of, members, in_sight, prototypes_in}
+use Rattle.syntect_parsing.specs.syntect_grammar_contexts.Substitution.{Opening}
+use Rattle.syntect_reading_choice.specs.Engine.{Engine}
+use Rattle.syntect_parsing.specs.syntect_grammar.Contexts.{context_at, part_of}
+use Rattle.syntect_parsing.specs.syntect_grammar_contexts.Contexts.{target}
+use Rattle.syntect_reading_choice.specs.Chain.{Member, chain, last, patterns_of, members, in_sight, prototypes_in}
 use Rattle.syntect_parsing.specs.Turn.{trimmed, levels_after, levels_by, opened, new_levels, without_last, position_after}
-use Rattle.syntect_winner.specs.Turn.{Live, Choice, Take, Skip, End, live, missing, named, refusal, list_of, winner}
+use Rattle.syntect_reading_choice.specs.Turn.{Live, Choice, Take, Skip, End, live, missing, named, refusal, list_of, winner}
 use Rattle.syntect_parsing.specs.Scopes.{Scopes, scopes_passed}
 use Rattle.syntect_parsing.specs.Line.{Step, Goes, Ends, Refused, turn, turn_on, turn_in, step, unless_refused, Reads, ends, goes, Refuses, now, later, Reaches, here, further, RefusesLine, no_level, in_turn, Answer, Answers, accepts, refuses, AnswersAll, none, one_more, at_start, start}
 use Rattle.syntect_parsing.specs.Refusals.{Picks, NamesUnresolved, unresolved_of, IsClosed, IsNeverLeft, stays, lone_patterns, RefusesUnresolved}
 use Rattle.syntect_parsing.proofs.EachLaws.{Each, each-append, each-flat_map, each_of, each-drop, each-take, each-all}
 use Rattle.syntect_parsing.proofs.ClosedLaws.{Has, Knows, has_all, misses_none, chain-each, wins-each, members-each, closed_patterns}
-use Rattle.syntect_contexts.specs.declared.context.ContextId.{ContextId}
-use Rattle.syntect_contexts.specs.declared.context.ContextReference.{ContextReference}
-use Rattle.syntect_contexts.specs.declared.context.MatchOperation.{MatchOperation}
-use Rattle.syntect_contexts.specs.declared.context.MatchOperation.TheVariants as op
-use Rattle.syntect_contexts.specs.declared.context.MatchPattern.{MatchPattern}
-use Rattle.syntect_contexts.specs.declared.context.Context.{Context}
-use Rattle.syntect_grammar.specs.declared.syntax_set.SyntaxSet.{SyntaxSet}
+use Rattle.syntect_parsing.specs.syntect_grammar_contexts.declared.context.ContextId.{ContextId}
+use Rattle.syntect_parsing.specs.syntect_grammar_contexts.declared.context.ContextReference.{ContextReference}
+use Rattle.syntect_parsing.specs.syntect_grammar_contexts.declared.context.MatchOperation.{MatchOperation}
+use Rattle.syntect_parsing.specs.syntect_grammar_contexts.declared.context.MatchOperation.TheVariants as op
+use Rattle.syntect_parsing.specs.syntect_grammar_contexts.declared.context.MatchPattern.{MatchPattern}
+use Rattle.syntect_parsing.specs.syntect_grammar_contexts.declared.context.Context.{Context}
+use Rattle.syntect_parsing.specs.syntect_grammar.declared.syntax_set.SyntaxSet.{SyntaxSet}
 use Rattle.syntect_parsing.specs.States.{Standing}
-use Rattle.syntect_winner.specs.declared.level.Level.{Level}
-use Rattle.syntect_winner.specs.declared.position.Position.{Position}
-use Rattle.syntect_contexts.specs.declared.error.ParsingError.{ParsingError}
-use Rattle.syntect_contexts.specs.declared.error.ParsingError.TheVariants as error
+use Rattle.syntect_reading_choice.specs.declared.level.Level.{Level}
+use Rattle.syntect_reading_choice.specs.declared.position.Position.{Position}
+use Rattle.syntect_parsing.specs.syntect_grammar_contexts.declared.error.ParsingError.{ParsingError}
+use Rattle.syntect_parsing.specs.syntect_grammar_contexts.declared.error.ParsingError.TheVariants as error
 
 -- ---- the levels that such a text has ----
 
@@ -35,7 +35,7 @@ Known set l = Each (Has set) (l.context ∷ l.prototypes)
 
 -- the lowest level is that of the context and has no prototypes, and the set has all that the
 -- levels name
-pub record Stands (set : SyntaxSet) (id : ContextId) (levels : List Level) : Type 0 where
+pub record AreLevelsFrom (set : SyntaxSet) (id : ContextId) (levels : List Level) : Type 0 where
   pub first : Level
   pub rest : List Level
   pub are : levels ≡ first ∷ rest
@@ -59,7 +59,7 @@ without_more x y ys =
 
 module _ (set : SyntaxSet) (id : ContextId) where
   -- levels put on top
-  stands-more : (levels new : List Level) → Stands set id levels → Each (Known set) new → Stands set id (levels ++ new)
+  stands-more : (levels new : List Level) → AreLevelsFrom set id levels → Each (Known set) new → AreLevelsFrom set id (levels ++ new)
   stands-more levels new s k = record {
     first = s.first;
     rest = s.rest ++ new;
@@ -70,7 +70,7 @@ module _ (set : SyntaxSet) (id : ContextId) where
   }
 
   -- the top level taken off where there is another
-  stands-less : (first next : Level) (rest : List Level) → Stands set id (first ∷ next ∷ rest) → Stands set id (without_last (first ∷ next ∷ rest))
+  stands-less : (first next : Level) (rest : List Level) → AreLevelsFrom set id (first ∷ next ∷ rest) → AreLevelsFrom set id (without_last (first ∷ next ∷ rest))
   stands-less first next rest s =
       let k : s.first ∷ s.rest ≡ first ∷ next ∷ rest = sym s.are in
       let i : s.first ≡ first = cc in
@@ -104,7 +104,7 @@ module _ (set : SyntaxSet) (id : ContextId) where
   targets_known (r ∷ refs) w h =
       target_known (target r) (filter_map target (refs ++ option_to_list w)) (filter_map target refs) (option_to_list (option_and_then target w)) (targets_known refs w) h
 
-  pub less : (levels : List Level) → Stands set id levels → ((x : Level) → levels ≡ x ∷ [] → ⊥) → Stands set id (without_last levels)
+  pub less : (levels : List Level) → AreLevelsFrom set id levels → ((x : Level) → levels ≡ x ∷ [] → ⊥) → AreLevelsFrom set id (without_last levels)
   less [] s h = absurd (no_list s.are)
     where
       no_list : {x : Level} {xs : List Level} → [] ≡ x ∷ xs → ⊥
@@ -119,9 +119,9 @@ module _ (set : SyntaxSet) (id : ContextId) where
   pub not_so : (b : Bool) → b ≡ false → b ≡ true → ⊥
   not_so b e f = cc
 
-  levels-kept : (line : List ℕ) (levels : List Level) (m : Live) (o : MatchOperation) → Stands set id levels
+  levels-kept : (line : List ℕ) (levels : List Level) (m : Live) (o : MatchOperation) → AreLevelsFrom set id levels
       → Each (Has set) (filter_map target (option_map_or (λ (refs : List ContextReference). refs ++ option_to_list m.pattern.with_prototype) (list_of o) []))
-      → ((x : Level) → levels ≡ x ∷ [] → stays o ≡ true) → Stands set id (levels_by set line levels m o)
+      → ((x : Level) → levels ≡ x ∷ [] → stays o ≡ true) → AreLevelsFrom set id (levels_by set line levels m o)
   levels-kept line levels m (op.Push refs) s k h =
       let t : Each (Has set) (filter_map target refs) × Each (Has set) (option_to_list (option_and_then target m.pattern.with_prototype)) = targets_known refs m.pattern.with_prototype k in
       stands-more levels (opened set line m [] refs) s (new-known (record { region = m.groups; line = line }) (filter_map target refs) [] (option_and_then target m.pattern.with_prototype) t.0 tt t.1)
@@ -173,8 +173,8 @@ module _ (engine : Engine) (set : SyntaxSet) (id : ContextId) (closed : IsClosed
   Unresolves p e = (r : ContextReference) × (e ≡ error.UnresolvedContextReference r) × (m : Live) × Picks engine set line p m × (unresolved_of m.pattern ≡ Some r)
 
   abbrev pub Stepped : Position → Step → Type 0
-  Stepped p (Goes bytes q) = Stands set id q.levels
-  Stepped p (Ends bytes after) = Stands set id after.levels
+  Stepped p (Goes bytes q) = AreLevelsFrom set id q.levels
+  Stepped p (Ends bytes after) = AreLevelsFrom set id after.levels
   Stepped p (Refused e) = Unresolves p e
 
   only_one : (first top x : Level) (levels rest : List Level) → levels ≡ first ∷ rest → levels ≡ x ∷ [] → last levels ≡ Some top → (first ≡ top) × (x ≡ top)
@@ -185,7 +185,7 @@ module _ (engine : Engine) (set : SyntaxSet) (id : ContextId) (closed : IsClosed
       let j : x ≡ top = cc in
       (i ∙ j, j)
 
-  pub stay_there : (p : Position) (top : Level) (c : Context) (m : Live) → Stands set id p.levels → last p.levels ≡ Some top → context_at set top.context ≡ Some c
+  pub stay_there : (p : Position) (top : Level) (c : Context) (m : Live) → AreLevelsFrom set id p.levels → last p.levels ≡ Some top → context_at set top.context ≡ Some c
       → winner line (trimmed p) (live engine line (trimmed p) (chain set (trimmed p) top c)) ≡ Take m → (x : Level) → p.levels ≡ x ∷ [] → stays m.pattern.operation ≡ true
   stay_there p top c m s e f w = λ x g.
       let o : (s.first ≡ top) × (x ≡ top) = only_one s.first top x p.levels s.rest s.are g e in
@@ -195,7 +195,7 @@ module _ (engine : Engine) (set : SyntaxSet) (id : ContextId) (closed : IsClosed
       let g2 : p.levels ≡ top ∷ [] = g ∙ ap (λ (l : Level). l ∷ []) o.1 in
       wins-each Stays engine line (trimmed p) (chain set (trimmed p) top c) m (lone-chain set (trimmed p) top c (rw i at left) f (subst (λ (ls : List Level). Each (λ (l : Level). l.prototypes ≡ []) ls) (sym g2) bare)) w
 
-  prototypes_known : (p : Position) (top : Level) (c : Context) → Stands set id p.levels → context_at set top.context ≡ Some c → missing set (prototypes_in (trimmed p) c) ≡ None
+  prototypes_known : (p : Position) (top : Level) (c : Context) → AreLevelsFrom set id p.levels → context_at set top.context ≡ Some c → missing set (prototypes_in (trimmed p) c) ≡ None
   prototypes_known p top c s f =
       misses_none set (prototypes_in (trimmed p) c)
       (each-append (Has set) (flat_map (λ (l : Level). l.prototypes) (in_sight (trimmed p))) (option_to_list c.prototype)
@@ -206,7 +206,7 @@ module _ (engine : Engine) (set : SyntaxSet) (id : ContextId) (closed : IsClosed
   refused_or m None e k = rw (e, misses_none set (filter_map target (named m)) k) refl
   refused_or m (Some r) e k = rw e refl
 
-  took : (p : Position) (top : Level) (c : Context) (m : Live) → Stands set id p.levels → last p.levels ≡ Some top → context_at set top.context ≡ Some c
+  took : (p : Position) (top : Level) (c : Context) (m : Live) → AreLevelsFrom set id p.levels → last p.levels ≡ Some top → context_at set top.context ≡ Some c
       → winner line (trimmed p) (live engine line (trimmed p) (chain set (trimmed p) top c)) ≡ Take m → (q : Position) (bytes : List Scopes) → q.levels ≡ levels_after set line p.levels m
       → (o : Option ContextReference) → unresolved_of m.pattern ≡ o → Stepped p (unless_refused (option_map error.UnresolvedContextReference o) (Goes bytes q))
   took p top c m s e f w q bytes l None u =
@@ -214,7 +214,7 @@ module _ (engine : Engine) (set : SyntaxSet) (id : ContextId) (closed : IsClosed
       rw l (levels-kept set id line p.levels m m.pattern.operation s k (stay_there p top c m s e f w))
   took p top c m s e f w q bytes l (Some r) u = (r, refl, m, record { top = top; context = c; on_top = e; has_context = f; wins = w }, u)
 
-  stepped : (p : Position) (top : Level) (c : Context) (choice : Choice) → Stands set id p.levels → last p.levels ≡ Some top → context_at set top.context ≡ Some c
+  stepped : (p : Position) (top : Level) (c : Context) (choice : Choice) → AreLevelsFrom set id p.levels → last p.levels ≡ Some top → context_at set top.context ≡ Some c
       → winner line (trimmed p) (live engine line (trimmed p) (chain set (trimmed p) top c)) ≡ choice → Stepped p (step engine set line (trimmed p) choice)
   stepped p top c (Take m) s e f w =
       let k : Knows set m.pattern = wins-each (Knows set) engine line (trimmed p) (chain set (trimmed p) top c) m (chain-each (Knows set) set (trimmed p) top c (closed_patterns set closed)) w in
@@ -223,7 +223,7 @@ module _ (engine : Engine) (set : SyntaxSet) (id : ContextId) (closed : IsClosed
   stepped p top c Skip s e f w = s
   stepped p top c End s e f w = s
 
-  turned_in : (p : Position) (top : Level) (o : Option Context) → Stands set id p.levels → last p.levels ≡ Some top → context_at set top.context ≡ o → Stepped p (turn_in engine set line (trimmed p) top o)
+  turned_in : (p : Position) (top : Level) (o : Option Context) → AreLevelsFrom set id p.levels → last p.levels ≡ Some top → context_at set top.context ≡ o → Stepped p (turn_in engine set line (trimmed p) top o)
   turned_in p top None s e f =
       let k : Known set top = last_of (Known set) p.levels top s.known e in
       let h : is_none (context_at set top.context) ≡ true = rw f refl in
@@ -231,11 +231,11 @@ module _ (engine : Engine) (set : SyntaxSet) (id : ContextId) (closed : IsClosed
   turned_in p top (Some c) s e f =
       rw (prototypes_known p top c s f) (stepped p top c (winner line (trimmed p) (live engine line (trimmed p) (chain set (trimmed p) top c))) s e f refl)
 
-  turned_on : (p : Position) (o : Option Level) → Stands set id p.levels → last p.levels ≡ o → Stepped p (turn_on engine set line (trimmed p) o)
+  turned_on : (p : Position) (o : Option Level) → AreLevelsFrom set id p.levels → last p.levels ≡ o → Stepped p (turn_on engine set line (trimmed p) o)
   turned_on p None s e = s
   turned_on p (Some top) s e = turned_in p top (context_at set top.context) s e refl
 
-  pub turned : (p : Position) → Stands set id p.levels → Stepped p (turn engine set line p)
+  pub turned : (p : Position) → AreLevelsFrom set id p.levels → Stepped p (turn engine set line p)
   unfolding turn
   turned p s = turned_on p (last p.levels) s refl
 
@@ -244,26 +244,26 @@ module _ (engine : Engine) (set : SyntaxSet) (id : ContextId) (closed : IsClosed
   abbrev Came : Position → ParsingError → Type 0
   Came p e = (r : ContextReference) × (e ≡ error.UnresolvedContextReference r) × (q : Position) × Reaches engine set line p q × (m : Live) × Picks engine set line q m × (unresolved_of m.pattern ≡ Some r)
 
-  came : (p : Position) (e : ParsingError) (n : ℕ) → Stands set id p.levels → Refuses engine set line p e n → Came p e
+  came : (p : Position) (e : ParsingError) (n : ℕ) → AreLevelsFrom set id p.levels → Refuses engine set line p e n → Came p e
   came p e n s (now f) = let k : Unresolves p e = rw f at (turned p s) in (k.0, k.1, p, here, k.2, k.3, k.4)
   came p e n s (later {q = q} {bytes = bytes} {n = i} f h) =
-      let t : Stands set id q.levels = rw f at (turned p s) in
+      let t : AreLevelsFrom set id q.levels = rw f at (turned p s) in
       let k : Came q e = came q e i t h in
       (k.0, k.1, k.2, further f k.3, k.4, k.5, k.6)
 
-  pub read_so : (p : Position) (bytes : List Scopes) (after : Standing) (n : ℕ) → Stands set id p.levels → Reads engine set line p bytes after n → Stands set id after.levels
+  pub read_so : (p : Position) (bytes : List Scopes) (after : Standing) (n : ℕ) → AreLevelsFrom set id p.levels → Reads engine set line p bytes after n → AreLevelsFrom set id after.levels
   read_so p bytes after n s (ends f) = rw f at (turned p s)
-  read_so p bytes after n s (goes {q = q} {rest = rest} {n = i} f h) = let t : Stands set id q.levels = rw f at (turned p s) in read_so q rest after i t h
+  read_so p bytes after n s (goes {q = q} {rest = rest} {n = i} f h) = let t : AreLevelsFrom set id q.levels = rw f at (turned p s) in read_so q rest after i t h
 
-  reached_so : (p q : Position) → Stands set id p.levels → Reaches engine set line p q → Stands set id q.levels
+  reached_so : (p q : Position) → AreLevelsFrom set id p.levels → Reaches engine set line p q → AreLevelsFrom set id q.levels
   reached_so p q s here = s
-  reached_so p q s (further {q = x} f h) = let t : Stands set id x.levels = rw f at (turned p s) in reached_so x q t h
+  reached_so p q s (further {q = x} f h) = let t : AreLevelsFrom set id x.levels = rw f at (turned p s) in reached_so x q t h
 
   refused_there : (p q : Position) (e : ParsingError) → Reaches engine set line p q → turn engine set line q ≡ Refused e → (n : ℕ) × Refuses engine set line p e n
   refused_there p q e here f = (1, now f)
   refused_there p q e (further {q = x} g h) f = let k : (n : ℕ) × Refuses engine set line x e n = refused_there x q e h f in (k.0 + 1, later g k.1)
 
-  picked_refused : (q : Position) (m : Live) (r : ContextReference) → Stands set id q.levels → Picks engine set line q m → unresolved_of m.pattern ≡ Some r → turn engine set line q ≡ Refused (error.UnresolvedContextReference r)
+  picked_refused : (q : Position) (m : Live) (r : ContextReference) → AreLevelsFrom set id q.levels → Picks engine set line q m → unresolved_of m.pattern ≡ Some r → turn engine set line q ≡ Refused (error.UnresolvedContextReference r)
   unfolding turn
   picked_refused q m r s k u =
       ap (turn_on engine set line (trimmed q)) k.on_top ∙ ap (turn_in engine set line (trimmed q) k.top) k.has_context
@@ -271,20 +271,20 @@ module _ (engine : Engine) (set : SyntaxSet) (id : ContextId) (closed : IsClosed
       ∙ ap (step engine set line (trimmed q)) k.wins
       ∙ ap (λ o. unless_refused (option_or (option_map error.UnresolvedContextReference o) (missing set (filter_map target (named m.pattern)))) (Goes (scopes_passed engine set q.levels q.place m) (position_after set line (trimmed q) m))) u
 
-some_levels : (set : SyntaxSet) (id : ContextId) (levels : List Level) → Stands set id levels → levels ≢ []
+some_levels : (set : SyntaxSet) (id : ContextId) (levels : List Level) → AreLevelsFrom set id levels → levels ≢ []
 some_levels set id levels s e = let k : s.first ∷ s.rest ≡ [] = sym s.are ∙ e in cc
 
 answered_so : (engine : Engine) (set : SyntaxSet) (id : ContextId) → IsClosed set → IsNeverLeft set id → (lines : List (List ℕ)) (state after : Standing) (answers : List Answer)
-    → Stands set id state.levels → AnswersAll engine set lines state answers after → Stands set id after.levels
+    → AreLevelsFrom set id state.levels → AnswersAll engine set lines state answers after → AreLevelsFrom set id after.levels
 answered_so engine set id c l lines state after answers s none = s
 answered_so engine set id c l lines state after answers s (one_more {line = line} {lines = rest} {next = next} {answer = answer} {answers = others} a r) =
     answered_so engine set id c l rest next after others (one state next answer line s a) r
   where
-    one : (state next : Standing) (answer : Answer) (line : List ℕ) → Stands set id state.levels → Answers engine set line state answer next → Stands set id next.levels
+    one : (state next : Standing) (answer : Answer) (line : List ℕ) → AreLevelsFrom set id state.levels → Answers engine set line state answer next → AreLevelsFrom set id next.levels
     one state next answer line s (accepts {bytes = bytes} {turns = n} h) = read_so engine set id c l line (at_start state) bytes next n s h.reads
     one state next answer line s (refuses h) = s
 
-pub starts_so : (set : SyntaxSet) (id : ContextId) → IsNeverLeft set id → Stands set id (start id).levels
+pub starts_so : (set : SyntaxSet) (id : ContextId) → IsNeverLeft set id → AreLevelsFrom set id (start id).levels
 starts_so set id n = record {
   first = record { context = id; prototypes = []; opening = None };
   rest = [];
@@ -296,17 +296,17 @@ starts_so set id n = record {
 
 pub refuses_unresolved : RefusesUnresolved
 refuses_unresolved engine set id lines answers state line c l run =
-    let s : Stands set id state.levels = answered_so engine set id c l lines (start id) state answers (starts_so set id l) run in (
+    let s : AreLevelsFrom set id state.levels = answered_so engine set id c l lines (start id) state answers (starts_so set id l) run in (
       λ e n h. refused_line e n s h,
       λ r k. (
-          let t : Stands set id k.at.levels = reached_so engine set id c l line (at_start state) k.at s k.reached in
+          let t : AreLevelsFrom set id k.at.levels = reached_so engine set id c l line (at_start state) k.at s k.reached in
           let x : (n : ℕ) × Refuses engine set line (at_start state) (error.UnresolvedContextReference r) n
           = refused_there engine set id c l line (at_start state) k.at (error.UnresolvedContextReference r) k.reached (picked_refused engine set id c l line k.at k.picked r t k.picks k.names) in
           (x.0, in_turn (some_levels set id state.levels s) x.1)
           ),
     )
   where
-    refused_line : (e : ParsingError) (n : ℕ) → Stands set id state.levels → RefusesLine engine set line state e n → NamesUnresolved engine set line state e
+    refused_line : (e : ParsingError) (n : ℕ) → AreLevelsFrom set id state.levels → RefusesLine engine set line state e n → NamesUnresolved engine set line state e
     refused_line e n s (no_level f) = absurd (some_levels set id state.levels s f)
     refused_line e n s (in_turn f h) =
         let k : Came engine set id c l line (at_start state) e = came engine set id c l line (at_start state) e n s h in

@@ -2,27 +2,27 @@
 use Rattle.std.proofs.Common.{◌≡◌, ℕ, ◌==◌, ◌-◌, ◌+◌, Bool, true, false, ◌&&◌, List, [], ◌∷◌, ◌++◌, length, Option, Some, None, is_none, refl, sym, ap, ◌∙◌, arith, if◌then◌else◌}
 use Rattle.std.specs.Option.{option_map_or, option_and_then, option_to_list}
 use Rattle.std.specs.List.{filter_map, flat_map}
-use Rattle.syntect_scope.specs.declared.stack.ScopeStackOp.{ScopeStackOp}
-use Rattle.syntect_scope.specs.declared.stack.ClearAmount.{ClearAmount}
-use Rattle.syntect_scope.specs.Replay.{Replay, AllApply, replay, pushes, pops}
-use Rattle.syntect_contexts.specs.Substitution.{Opening}
-use Rattle.syntect_contexts.specs.Contexts.{Scopes, target}
-use Rattle.syntect_winner.specs.Chain.{last}
+use Rattle.syntect_parsing.specs.syntect_scope.declared.stack.ScopeStackOp.{ScopeStackOp}
+use Rattle.syntect_parsing.specs.syntect_scope.declared.stack.ClearAmount.{ClearAmount}
+use Rattle.syntect_parsing.specs.syntect_scope.Replay.{Replay, AllApply, replay, pushes, pops}
+use Rattle.syntect_parsing.specs.syntect_grammar_contexts.Substitution.{Opening}
+use Rattle.syntect_parsing.specs.syntect_grammar_contexts.Contexts.{Scopes, target}
+use Rattle.syntect_reading_choice.specs.Chain.{last}
 use Rattle.syntect_parsing.specs.Turn.{without_last, new_levels, levels_by}
-use Rattle.syntect_winner.specs.Turn.{Live}
+use Rattle.syntect_reading_choice.specs.Turn.{Live}
 use Rattle.syntect_parsing.specs.Visible.{clearing, top_clearing, top_part}
 use Rattle.syntect_parsing.specs.Scopes.{Capture}
 use Rattle.syntect_parsing.specs.Stacks.{Remembers, count_clearing}
-use Rattle.syntect_parsing.specs.Operations.{operations, operations_of, operations_below, operations_behind, operations_pushed, operations_set, capture_operations, metas, contents, opens, none, clear_nothing, opens_here, restores, top_count}
+use Rattle.syntect_parsing.specs.Operations.{operations, operations_of, operations_below, operations_behind, operations_pushed, operations_set, capture_operations, metas, contents, opens, has_no_scope, clear_nothing, opens_here, restores, top_count}
 use Rattle.syntect_parsing.proofs.CountLaws.{Counts, how_many, count_ids, counts_as, counts_nothing, counts_then, counts_pushes, counts_pops, counts_restores, counts_below, counts_here, many_cons}
 use Rattle.syntect_parsing.proofs.CaptureLaws.{captures_count}
 use Rattle.syntect_parsing.proofs.StackLaws.{split_last}
-use Rattle.syntect_contexts.specs.declared.context.ContextId.{ContextId}
-use Rattle.syntect_contexts.specs.declared.context.ContextReference.{ContextReference}
-use Rattle.syntect_contexts.specs.declared.context.MatchOperation.{MatchOperation}
-use Rattle.syntect_contexts.specs.declared.context.MatchOperation.TheVariants as op
-use Rattle.syntect_grammar.specs.declared.syntax_set.SyntaxSet.{SyntaxSet}
-use Rattle.syntect_winner.specs.declared.level.Level.{Level}
+use Rattle.syntect_parsing.specs.syntect_grammar_contexts.declared.context.ContextId.{ContextId}
+use Rattle.syntect_parsing.specs.syntect_grammar_contexts.declared.context.ContextReference.{ContextReference}
+use Rattle.syntect_parsing.specs.syntect_grammar_contexts.declared.context.MatchOperation.{MatchOperation}
+use Rattle.syntect_parsing.specs.syntect_grammar_contexts.declared.context.MatchOperation.TheVariants as op
+use Rattle.syntect_parsing.specs.syntect_grammar.declared.syntax_set.SyntaxSet.{SyntaxSet}
+use Rattle.syntect_reading_choice.specs.declared.level.Level.{Level}
 
 match_counts : (a b c s e : ℕ) (S : Scopes) (cs : List Capture) (below behind : List (ℕ × ScopeStackOp)) → Counts a b below → Counts b c behind → Counts a c (operations s e S cs below behind)
 match_counts a b c s e S cs below behind f g =
@@ -71,14 +71,14 @@ clear_count set (id ∷ ids) e =
 -- ---- each kind of match ----
 
 pushed_counts : (set : SyntaxSet) (a at : ℕ) (refs : List ContextReference) → Counts a a (operations_pushed at set refs)
-pushed_counts set a at refs = by (none (contents set refs))
+pushed_counts set a at refs = by (has_no_scope (contents set refs))
   where
     by : (c : Bool) → Counts a a (if c then [] else pops at (length (metas set refs)) ++ pushes at (opens set refs))
     by true = counts_nothing a
     by false = counts_then a a a (pops at (length (metas set refs))) (pushes at (opens set refs)) (counts_pops a at (length (metas set refs))) (counts_pushes a at (opens set refs))
 
 set_counts : (set : SyntaxSet) (a at left : ℕ) (refs : List ContextReference) → Counts a (count_ids set (filter_map target refs) + a) (operations_set at set left refs)
-set_counts set a at left refs = by (none (contents set refs)) (left == 0) (clear_nothing set (filter_map target refs)) refl
+set_counts set a at left refs = by (has_no_scope (contents set refs)) (left == 0) (clear_nothing set (filter_map target refs)) refl
   where
     whole : Counts a (count_ids set (filter_map target refs) + a) (pops at (length (metas set refs) + left) ++ flat_map (opens_here at set) (filter_map target refs))
     whole = counts_then a a (count_ids set (filter_map target refs) + a) (pops at (length (metas set refs) + left)) (flat_map (opens_here at set) (filter_map target refs)) (counts_pops a at (length (metas set refs) + left)) (counts_here a at set (filter_map target refs))

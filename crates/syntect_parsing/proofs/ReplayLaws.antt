@@ -1,12 +1,12 @@
 -- Operations at a place.
 use Rattle.std.proofs.Common.{◌≡◌, ℕ, zero, suc, ◌-◌, ◌+◌, ◌≤◌, List, [], ◌∷◌, ◌++◌, length, take, replicate, refl, sym, ap, ◌∙◌, arith, append_assoc, length-append}
 use Rattle.std.proofs.lemmas.List.{append-nil, length-replicate}
-use Rattle.syntect_scope.specs.Stack.{applied}
-use Rattle.syntect_scope.specs.declared.stack.ScopeStack.{ScopeStack}
-use Rattle.syntect_scope.specs.declared.stack.ScopeStackOp.{ScopeStackOp}
-use Rattle.syntect_scope.specs.declared.stack.ScopeStackOp.TheVariants.{Push, Pop}
+use Rattle.syntect_parsing.specs.syntect_scope.Stack.{applied}
+use Rattle.syntect_parsing.specs.syntect_scope.declared.stack.ScopeStack.{ScopeStack}
+use Rattle.syntect_parsing.specs.syntect_scope.declared.stack.ScopeStackOp.{ScopeStackOp}
+use Rattle.syntect_parsing.specs.syntect_scope.declared.stack.ScopeStackOp.TheVariants.{Push, Pop}
 use Rattle.syntect_parsing.specs.Stacks.{IsAt, onto}
-use Rattle.syntect_scope.specs.Replay.{Replay, replay, replayed, bytes_to, pushes, pops}
+use Rattle.syntect_parsing.specs.syntect_scope.Replay.{Replay, replay, replayed, bytes_to, pushes, pops}
 
 -- the same on a stack of these scopes that remembers these lists
 abbrev pub At : List (List (List ℕ)) → Replay → ℕ → List (List (List ℕ)) → List (List ℕ) → Type 0

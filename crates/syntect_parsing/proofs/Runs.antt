@@ -3,26 +3,26 @@ use Rattle.std.proofs.Common.{◌≡◌, ◌≢◌, ℕ, ◌≤◌, ◌<◌, ◌
 use Rattle.std.specs.Str.{IsUtf8, IsCharBoundary}
 use Rattle.std.proofs.lemmas.Str.{IsCharBoundary-start}
 use Rattle.std.proofs.lemmas.List.{append-nil}
-use Rattle.syntect_scope.specs.declared.stack.ScopeStackOp.{ScopeStackOp}
-use Rattle.syntect_scope.specs.Replay.{InOrder, AllApply, before_text, replay, pushes}
-use Rattle.syntect_winner.specs.Engine.{dialect}
+use Rattle.syntect_parsing.specs.syntect_scope.declared.stack.ScopeStackOp.{ScopeStackOp}
+use Rattle.syntect_parsing.specs.syntect_scope.Replay.{InOrder, AllApply, before_text, replay, pushes}
+use Rattle.syntect_reading_choice.specs.Engine.{dialect}
 use Rattle.syntect_parsing.specs.Scopes.{Scopes}
 use Rattle.syntect_parsing.specs.Stacks.{IsAt, Remembers, onto, stack_of}
-use Rattle.syntect_scope.specs.declared.stack.ScopeStack.{ScopeStack}
+use Rattle.syntect_parsing.specs.syntect_scope.declared.stack.ScopeStack.{ScopeStack}
 use Rattle.syntect_parsing.specs.Orderly.{IsOrderlyTurn, IsOrderlyLine}
 use Rattle.syntect_parsing.proofs.CountLaws.{counts_pushes}
 use Rattle.syntect_parsing.specs.Line.{turn, Reads, ends, goes, Refuses, now, later, Reaches, here, further, in_turn, at_start, stack_before, first_push, HasPlainStart}
-use Rattle.syntect_parsing.specs.Meaning.{Accepts, MayRefuse}
+use Rattle.syntect_parsing.specs.Meaning.{Accepts, RefusesLineOrMemory}
 use Rattle.syntect_parsing.specs.Step.{MakesStep, EndsLine, RefusesTurn, turns_left}
 use Rattle.syntect_parsing.specs.Bound.{IsTold}
 use Rattle.syntect_parsing.proofs.BoundLaws.{CountSoFar, count-start, count-more}
 use Rattle.syntect_parsing.proofs.OrderLaws.{order-append, order-pushes, apply-append}
 use Rattle.syntect_parsing.proofs.ReplayLaws.{replay-append, at_onto}
-use Rattle.syntect_grammar.specs.declared.syntax_set.SyntaxSet.{SyntaxSet}
-use Rattle.syntect_winner.specs.declared.position.Position.{Position}
+use Rattle.syntect_parsing.specs.syntect_grammar.declared.syntax_set.SyntaxSet.{SyntaxSet}
+use Rattle.syntect_reading_choice.specs.declared.position.Position.{Position}
 use Rattle.syntect_parsing.specs.States.{Standing}
-use Rattle.syntect_contexts.specs.declared.error.ParsingError.{ParsingError}
-use Rattle.syntect_contexts.specs.declared.error.ParsingError.TheVariants as error
+use Rattle.syntect_parsing.specs.syntect_grammar_contexts.declared.error.ParsingError.{ParsingError}
+use Rattle.syntect_parsing.specs.syntect_grammar_contexts.declared.error.ParsingError.TheVariants as error
 
 -- from the stack before the line these operations show these bytes, up to the position, and leave
 -- its open scopes; the turns made since the number before the line are the first
@@ -109,7 +109,7 @@ so_far-end {set} {line} {state} {p} {q} {old} {new} s t n =
     }
 
 pub so_far-refused : {set : SyntaxSet} {line : List ℕ} {state : Standing} {p : Position} {ops : List (ℕ × ScopeStackOp)} {before made shown : ℕ}
-    → ReadSoFar set line state p ops before made shown → (e : ParsingError) → RefusesTurn dialect set line p e → state.levels ≢ [] → MayRefuse dialect set line state e
+    → ReadSoFar set line state p ops before made shown → (e : ParsingError) → RefusesTurn dialect set line p e → state.levels ≢ [] → RefusesLineOrMemory dialect set line state e
 so_far-refused s error.Memory h n = n
 so_far-refused s error.MissingMainContext h n = let r = s.refuses error.MissingMainContext 1 (now h) in (r.0, in_turn n r.1)
 so_far-refused s (error.MissingContext id) h n = let r = s.refuses (error.MissingContext id) 1 (now h) in (r.0, in_turn n r.1)

@@ -4,34 +4,34 @@ use Rattle.std.specs.Option.{option_map_or, option_and_then}
 use Rattle.std.specs.List.{filter_map, flat_map, range_with_len}
 use Rattle.std.specs.Str.{IsCharBoundary}
 use Rattle.std.proofs.lemmas.List.{append-nil}
-use Rattle.syntect_scope.specs.declared.stack.ScopeStack.{ScopeStack}
-use Rattle.syntect_scope.specs.declared.stack.ScopeStackOp.{ScopeStackOp}
-use Rattle.syntect_scope.specs.declared.stack.ClearAmount.{ClearAmount}
-use Rattle.syntect_scope.specs.Replay.{Replay, InOrder, replay, pushes, pops}
-use Rattle.syntect_grammar.specs.Contexts.{context_at, part_of}
-use Rattle.syntect_contexts.specs.Contexts.{target}
-use Rattle.syntect_winner.specs.Chain.{last}
-use Rattle.syntect_winner.specs.Engine.{dialect}
+use Rattle.syntect_parsing.specs.syntect_scope.declared.stack.ScopeStack.{ScopeStack}
+use Rattle.syntect_parsing.specs.syntect_scope.declared.stack.ScopeStackOp.{ScopeStackOp}
+use Rattle.syntect_parsing.specs.syntect_scope.declared.stack.ClearAmount.{ClearAmount}
+use Rattle.syntect_parsing.specs.syntect_scope.Replay.{Replay, InOrder, replay, pushes, pops}
+use Rattle.syntect_parsing.specs.syntect_grammar.Contexts.{context_at, part_of}
+use Rattle.syntect_parsing.specs.syntect_grammar_contexts.Contexts.{target}
+use Rattle.syntect_reading_choice.specs.Chain.{last}
+use Rattle.syntect_reading_choice.specs.Engine.{dialect}
 use Rattle.syntect_parsing.specs.Turn.{without_last, levels_by}
-use Rattle.syntect_winner.specs.Turn.{Live}
+use Rattle.syntect_reading_choice.specs.Turn.{Live}
 use Rattle.syntect_parsing.specs.Visible.{top_clearing, top_part, left_by, opened_on, visible, visible_base}
 use Rattle.syntect_parsing.specs.Scopes.{Scopes, Capture, covers, captures, scopes_passed}
-use Rattle.syntect_parsing.specs.Operations.{operations, operations_of, operations_below, operations_behind, operations_pushed, operations_set, capture_operations, metas, contents, opens, none, clear_nothing, opens_here, restores}
+use Rattle.syntect_parsing.specs.Operations.{operations, operations_of, operations_below, operations_behind, operations_pushed, operations_set, capture_operations, metas, contents, opens, has_no_scope, clear_nothing, opens_here, restores}
 use Rattle.syntect_parsing.specs.Orderly.{is_orderly}
-use Rattle.syntect_parsing.specs.Stacks.{IsAt, onto, cleared, enter, stack_of}
-use Rattle.syntect_winner.proofs.ListLaws.{tested_true}
+use Rattle.syntect_parsing.specs.Stacks.{IsAt, onto, after_clearing, enter, stack_of}
+use Rattle.syntect_reading_choice.proofs.ListLaws.{tested_true}
 use Rattle.syntect_parsing.proofs.ReplayLaws.{replay-append, at_onto, at_pops, at_move}
 use Rattle.syntect_parsing.proofs.OrderLaws.{order-append, order-pushes, order-pops, order-below, order-behind}
 use Rattle.syntect_parsing.proofs.CaptureLaws.{AreLaidOut, EndOnBoundaries, over, captures_shown, captures_in_order}
 use Rattle.syntect_parsing.proofs.LeadLaws.{LeadsTo, leads_nothing, leads_then, leads_pushes, leads_pops, leads_restores, leads_below, leads_here}
 use Rattle.syntect_parsing.proofs.StackLaws.{onto_none, onto_both, cleared_scopes, stack_has_visible, enter_below, below_visible, stack_split, stack_more, enter_clear, enter_orderly, below_orderly, first_clearing}
-use Rattle.syntect_contexts.specs.declared.context.ContextId.{ContextId}
-use Rattle.syntect_contexts.specs.declared.context.ContextReference.{ContextReference}
-use Rattle.syntect_contexts.specs.declared.context.Context.{Context}
-use Rattle.syntect_contexts.specs.declared.context.MatchOperation.{MatchOperation}
-use Rattle.syntect_contexts.specs.declared.context.MatchOperation.TheVariants as op
-use Rattle.syntect_grammar.specs.declared.syntax_set.SyntaxSet.{SyntaxSet}
-use Rattle.syntect_winner.specs.declared.level.Level.{Level}
+use Rattle.syntect_parsing.specs.syntect_grammar_contexts.declared.context.ContextId.{ContextId}
+use Rattle.syntect_parsing.specs.syntect_grammar_contexts.declared.context.ContextReference.{ContextReference}
+use Rattle.syntect_parsing.specs.syntect_grammar_contexts.declared.context.Context.{Context}
+use Rattle.syntect_parsing.specs.syntect_grammar_contexts.declared.context.MatchOperation.{MatchOperation}
+use Rattle.syntect_parsing.specs.syntect_grammar_contexts.declared.context.MatchOperation.TheVariants as op
+use Rattle.syntect_parsing.specs.syntect_grammar.declared.syntax_set.SyntaxSet.{SyntaxSet}
+use Rattle.syntect_reading_choice.specs.declared.level.Level.{Level}
 
 -- From one stack the operations at the start lead to a second, on which the match's scopes and
 -- those of its captures stand, and the operations at the end lead from that one to a third.
@@ -64,12 +64,12 @@ order-match text place s e scope cs set levels o l m bs be on =
 
 -- ---- what contexts open ----
 
-no_more : (xs ys : Scopes) → none (xs ++ ys) ≡ true → (xs ≡ []) × (none ys ≡ true)
+no_more : (xs ys : Scopes) → has_no_scope (xs ++ ys) ≡ true → (xs ≡ []) × (has_no_scope ys ≡ true)
 no_more [] ys e = (refl, e)
 no_more (x ∷ xs) ys e = cc
 
 -- contexts without content scopes have their `meta_scope`s alone
-pub bare_ids : (set : SyntaxSet) (ids : List ContextId) → none (flat_map (part_of (λ c. c.meta_content_scope) set) ids) ≡ true
+pub bare_ids : (set : SyntaxSet) (ids : List ContextId) → has_no_scope (flat_map (part_of (λ c. c.meta_content_scope) set) ids) ≡ true
     → flat_map (part_of (λ c. c.meta_scope ++ c.meta_content_scope) set) ids ≡ flat_map (part_of (λ c. c.meta_scope) set) ids
 bare_ids set [] e = refl
 bare_ids set (id ∷ ids) e =
@@ -101,10 +101,10 @@ none_clears (Some a) e = cc
 push_behind : (set : SyntaxSet) (at : ℕ) (t : ScopeStack) (refs : List ContextReference) → clear_nothing set (drop 1 (filter_map target refs)) ≡ true
     → LeadsTo at (operations_pushed at set refs) (fold (enter_below set) t (filter_map target refs)) (fold (enter set) t (filter_map target refs))
 push_behind set at t refs o =
-    let low : ScopeStack = cleared (first_clearing set (filter_map target refs)) t in
-    rw (below_orderly set t (filter_map target refs) o, enter_orderly set t (filter_map target refs) o) (by low (none (contents set refs)) refl)
+    let low : ScopeStack = after_clearing (first_clearing set (filter_map target refs)) t in
+    rw (below_orderly set t (filter_map target refs) o, enter_orderly set t (filter_map target refs) o) (by low (has_no_scope (contents set refs)) refl)
   where
-    by : (low : ScopeStack) (c : Bool) → none (contents set refs) ≡ c
+    by : (low : ScopeStack) (c : Bool) → has_no_scope (contents set refs) ≡ c
         → LeadsTo at (if c then [] else pops at (length (metas set refs)) ++ pushes at (opens set refs)) (onto low (metas set refs)) (onto low (opens set refs))
     by low true f = rw (bare_ids set (filter_map target refs) f) (leads_nothing at (onto low (metas set refs)))
     by low false f =
@@ -115,7 +115,7 @@ push_behind set at t refs o =
 
 set_behind : (set : SyntaxSet) (at : ℕ) (low : ScopeStack) (M C : Scopes) (refs : List ContextReference)
     → LeadsTo at (operations_set at set (length M + length C) refs) (onto (onto low (M ++ C)) (metas set refs)) (fold (enter set) low (filter_map target refs))
-set_behind set at low M C refs = by (none (contents set refs)) (length M + length C == 0) (clear_nothing set (filter_map target refs)) refl refl refl
+set_behind set at low M C refs = by (has_no_scope (contents set refs)) (length M + length C == 0) (clear_nothing set (filter_map target refs)) refl refl refl
   where
     many : length (metas set refs) + (length M + length C) ≡ length ((M ++ C) ++ metas set refs)
     many = omega (arith, length-append (M ++ C) (metas set refs), length-append M C)
@@ -126,7 +126,7 @@ set_behind set at low M C refs = by (none (contents set refs)) (length M + lengt
         leads_then at (pops at (length (metas set refs) + (length M + length C))) (flat_map (opens_here at set) (filter_map target refs)) (onto low ((M ++ C) ++ metas set refs)) low (fold (enter set) low (filter_map target refs))
         (leads_pops at (length (metas set refs) + (length M + length C)) low ((M ++ C) ++ metas set refs) (sym many)) (leads_here at set low (filter_map target refs)))
 
-    by : (x y z : Bool) → none (contents set refs) ≡ x → (length M + length C == 0) ≡ y → clear_nothing set (filter_map target refs) ≡ z
+    by : (x y z : Bool) → has_no_scope (contents set refs) ≡ x → (length M + length C == 0) ≡ y → clear_nothing set (filter_map target refs) ≡ z
         → LeadsTo at (if x && (y && z) then [] else pops at (length (metas set refs) + (length M + length C)) ++ flat_map (opens_here at set) (filter_map target refs))
         (onto (onto low (M ++ C)) (metas set refs)) (fold (enter set) low (filter_map target refs))
     by true true true f g k =
@@ -163,7 +163,7 @@ module _ (set : SyntaxSet) (line : List ℕ) (m : Live) (s e : ℕ) (levels : Li
       let low : ScopeStack = stack_of set (without_last levels) in
       let M : Scopes = top_part (λ c. c.meta_scope) set levels in
       let C : Scopes = top_part (λ c. c.meta_content_scope) set levels in
-      let split : stack_of set levels ≡ onto low (M ++ C) = stack_split set levels ∙ ap (λ (a : Option ClearAmount). onto (cleared a low) (M ++ C)) k in
+      let split : stack_of set levels ≡ onto low (M ++ C) = stack_split set levels ∙ ap (λ (a : Option ClearAmount). onto (after_clearing a low) (M ++ C)) k in
       record {
         between = onto (stack_of set levels) (metas set refs);
         has = ap (λ (l : Scopes). l ++ metas set refs) (stack_has_visible set levels);
@@ -179,12 +179,12 @@ module _ (set : SyntaxSet) (line : List ℕ) (m : Live) (s e : ℕ) (levels : Li
       let a : Option ClearAmount = top_clearing set levels in
       let M : Scopes = top_part (λ c. c.meta_scope) set levels in
       let C : Scopes = top_part (λ c. c.meta_content_scope) set levels in
-      let split : stack_of set levels ≡ onto (onto (cleared a low) M) C = stack_split set levels ∙ sym (onto_both (cleared a low) M C) in
+      let split : stack_of set levels ≡ onto (onto (after_clearing a low) M) C = stack_split set levels ∙ sym (onto_both (after_clearing a low) M C) in
       record {
-        between = onto (cleared a low) M;
+        between = onto (after_clearing a low) M;
         has = ap (λ (l : Scopes). l ++ M) (cleared_scopes a low ∙ ap (left_by a) (stack_has_visible set (without_last levels)));
-        start = rw split (leads_pops s (length C) (onto (cleared a low) M) C refl);
-        end = leads_then e (pops e (length M)) (restores e a) (onto (cleared a low) M) (cleared a low) low (leads_pops e (length M) (cleared a low) M refl) (leads_restores e low a);
+        start = rw split (leads_pops s (length C) (onto (after_clearing a low) M) C refl);
+        end = leads_then e (pops e (length M)) (restores e a) (onto (after_clearing a low) M) (after_clearing a low) low (leads_pops e (length M) (after_clearing a low) M refl) (leads_restores e low a);
       }
 
   any_leads : (o : MatchOperation) → is_orderly set levels o ≡ true → Leads set line m s e levels o

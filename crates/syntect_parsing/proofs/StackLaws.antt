@@ -3,26 +3,26 @@ use Rattle.std.proofs.Common.{◌≡◌, ℕ, zero, suc, ◌-◌, ◌&&◌, Bool
 use Rattle.std.specs.Option.{option_map_or, option_and_then, option_to_list}
 use Rattle.std.specs.List.{filter_map, flat_map}
 use Rattle.std.proofs.lemmas.List.{append-nil}
-use Rattle.syntect_scope.specs.Stack.{plain, applied, kept}
-use Rattle.syntect_scope.specs.declared.stack.ScopeStackOp.TheVariants.{Clear, Restore}
-use Rattle.syntect_scope.specs.declared.stack.ScopeStack.{ScopeStack}
-use Rattle.syntect_scope.specs.declared.stack.ClearAmount.{ClearAmount}
-use Rattle.syntect_scope.specs.declared.stack.ClearAmount.TheVariants.{TopN, All}
-use Rattle.syntect_contexts.specs.Substitution.{Opening}
-use Rattle.syntect_grammar.specs.Contexts.{context_at, part_of}
-use Rattle.syntect_contexts.specs.Contexts.{Scopes, target}
-use Rattle.syntect_winner.specs.Chain.{last}
+use Rattle.syntect_parsing.specs.syntect_scope.Stack.{plain, applied, kept}
+use Rattle.syntect_parsing.specs.syntect_scope.declared.stack.ScopeStackOp.TheVariants.{Clear, Restore}
+use Rattle.syntect_parsing.specs.syntect_scope.declared.stack.ScopeStack.{ScopeStack}
+use Rattle.syntect_parsing.specs.syntect_scope.declared.stack.ClearAmount.{ClearAmount}
+use Rattle.syntect_parsing.specs.syntect_scope.declared.stack.ClearAmount.TheVariants.{TopN, All}
+use Rattle.syntect_parsing.specs.syntect_grammar_contexts.Substitution.{Opening}
+use Rattle.syntect_parsing.specs.syntect_grammar.Contexts.{context_at, part_of}
+use Rattle.syntect_parsing.specs.syntect_grammar_contexts.Contexts.{Scopes, target}
+use Rattle.syntect_reading_choice.specs.Chain.{last}
 use Rattle.syntect_parsing.specs.Turn.{without_last, new_levels}
 use Rattle.syntect_parsing.specs.Visible.{clearing, top_clearing, top_part, left_by, opened_on, visible, visible_base}
-use Rattle.syntect_parsing.specs.Stacks.{onto, cleared, enter, stack_of}
+use Rattle.syntect_parsing.specs.Stacks.{onto, after_clearing, enter, stack_of}
 use Rattle.syntect_parsing.specs.Open.{open_scopes, base, ClearsNothing, OpenIsVisible}
 use Rattle.syntect_parsing.specs.Operations.{clear_nothing}
-use Rattle.syntect_contexts.specs.declared.context.MatchOperation.{MatchOperation}
-use Rattle.syntect_contexts.specs.declared.context.MatchOperation.TheVariants as op
-use Rattle.syntect_contexts.specs.declared.context.Context.{Context}
-use Rattle.syntect_contexts.specs.declared.context.ContextId.{ContextId}
-use Rattle.syntect_grammar.specs.declared.syntax_set.SyntaxSet.{SyntaxSet}
-use Rattle.syntect_winner.specs.declared.level.Level.{Level}
+use Rattle.syntect_parsing.specs.syntect_grammar_contexts.declared.context.MatchOperation.{MatchOperation}
+use Rattle.syntect_parsing.specs.syntect_grammar_contexts.declared.context.MatchOperation.TheVariants as op
+use Rattle.syntect_parsing.specs.syntect_grammar_contexts.declared.context.Context.{Context}
+use Rattle.syntect_parsing.specs.syntect_grammar_contexts.declared.context.ContextId.{ContextId}
+use Rattle.syntect_parsing.specs.syntect_grammar.declared.syntax_set.SyntaxSet.{SyntaxSet}
+use Rattle.syntect_reading_choice.specs.declared.level.Level.{Level}
 
 -- ---- lists ----
 
@@ -45,7 +45,7 @@ onto_none t = ap (λ (l : Scopes). record { clear_stack = t.clear_stack; scopes 
 pub onto_both : (t : ScopeStack) (xs ys : Scopes) → onto (onto t xs) ys ≡ onto t (xs ++ ys)
 onto_both t xs ys = ap (λ (l : Scopes). record { clear_stack = t.clear_stack; scopes = l }) (append_assoc t.scopes xs ys)
 
-pub cleared_scopes : (a : Option ClearAmount) (t : ScopeStack) → (cleared a t).scopes ≡ left_by a t.scopes
+pub cleared_scopes : (a : Option ClearAmount) (t : ScopeStack) → (after_clearing a t).scopes ≡ left_by a t.scopes
 cleared_scopes None t = refl
 cleared_scopes (Some (TopN n)) t = refl
 cleared_scopes (Some All) t = refl
@@ -94,7 +94,7 @@ stack_has_visible set levels =
 
 -- a context on a stack, without its content scopes
 abbrev pub enter_below : SyntaxSet → ScopeStack → ContextId → ScopeStack
-enter_below set t id = onto (cleared (clearing set id) t) (part_of (λ c. c.meta_scope) set id)
+enter_below set t id = onto (after_clearing (clearing set id) t) (part_of (λ c. c.meta_scope) set id)
 
 below_scopes : (set : SyntaxSet) (t : ScopeStack) (id : ContextId) → (enter_below set t id).scopes ≡ opened_on set t.scopes id
 below_scopes set t id = ap (λ (l : Scopes). l ++ part_of (λ c. c.meta_scope) set id) (cleared_scopes (clearing set id) t)
@@ -105,13 +105,13 @@ below_visible set t ids = fold_scopes (enter_below set) (opened_on set) (below_s
 -- ---- the top level ----
 
 top_enter : (set : SyntaxSet) (t : ScopeStack) (o : Option Level) → fold (λ (s : ScopeStack) (l : Level). enter set s l.context) t (option_to_list o)
-    ≡ onto (cleared (option_and_then (λ (l : Level). clearing set l.context) o) t)
+    ≡ onto (after_clearing (option_and_then (λ (l : Level). clearing set l.context) o) t)
     (option_map_or (λ (l : Level). part_of (λ c. c.meta_scope) set l.context) o [] ++ option_map_or (λ (l : Level). part_of (λ c. c.meta_content_scope) set l.context) o [])
 top_enter set t None = sym (onto_none t)
-top_enter set t (Some l) = ap (onto (cleared (clearing set l.context) t)) (part_both set l.context)
+top_enter set t (Some l) = ap (onto (after_clearing (clearing set l.context) t)) (part_both set l.context)
 
 pub stack_split : (set : SyntaxSet) (levels : List Level) → stack_of set levels
-    ≡ onto (cleared (top_clearing set levels) (stack_of set (without_last levels))) (top_part (λ c. c.meta_scope) set levels ++ top_part (λ c. c.meta_content_scope) set levels)
+    ≡ onto (after_clearing (top_clearing set levels) (stack_of set (without_last levels))) (top_part (λ c. c.meta_scope) set levels ++ top_part (λ c. c.meta_content_scope) set levels)
 stack_split set levels =
     ap (stack_of set) (split_last levels) ∙ fold_append (λ (s : ScopeStack) (l : Level). enter set s l.context) (plain []) (without_last levels) (option_to_list (last levels))
     ∙ top_enter set (stack_of set (without_last levels)) (last levels)
@@ -145,7 +145,7 @@ enter_clear set t (id ∷ ids) e =
     let k = both_true (is_none (clearing set id)) (clear_nothing set ids) e in
     let n : clearing set id ≡ None = none_clears (clearing set id) k.0 in
     enter_clear set (enter set t id) ids k.1
-    ∙ ap (λ (a : Option ClearAmount). onto (onto (cleared a t) (part_of (λ c. c.meta_scope ++ c.meta_content_scope) set id)) (flat_map (part_of (λ c. c.meta_scope ++ c.meta_content_scope) set) ids)) n
+    ∙ ap (λ (a : Option ClearAmount). onto (onto (after_clearing a t) (part_of (λ c. c.meta_scope ++ c.meta_content_scope) set id)) (flat_map (part_of (λ c. c.meta_scope ++ c.meta_content_scope) set) ids)) n
     ∙ onto_both t (part_of (λ c. c.meta_scope ++ c.meta_content_scope) set id) (flat_map (part_of (λ c. c.meta_scope ++ c.meta_content_scope) set) ids)
 
 pub below_clear : (set : SyntaxSet) (t : ScopeStack) (ids : List ContextId) → clear_nothing set ids ≡ true
@@ -155,7 +155,7 @@ below_clear set t (id ∷ ids) e =
     let k = both_true (is_none (clearing set id)) (clear_nothing set ids) e in
     let n : clearing set id ≡ None = none_clears (clearing set id) k.0 in
     below_clear set (enter_below set t id) ids k.1
-    ∙ ap (λ (a : Option ClearAmount). onto (onto (cleared a t) (part_of (λ c. c.meta_scope) set id)) (flat_map (part_of (λ c. c.meta_scope) set) ids)) n
+    ∙ ap (λ (a : Option ClearAmount). onto (onto (after_clearing a t) (part_of (λ c. c.meta_scope) set id)) (flat_map (part_of (λ c. c.meta_scope) set) ids)) n
     ∙ onto_both t (part_of (λ c. c.meta_scope) set id) (flat_map (part_of (λ c. c.meta_scope) set) ids)
 
 -- what the first of these contexts clears
@@ -165,16 +165,16 @@ first_clearing set (id ∷ ids) = clearing set id
 
 -- where none clears after the first
 pub enter_orderly : (set : SyntaxSet) (t : ScopeStack) (ids : List ContextId) → clear_nothing set (drop 1 ids) ≡ true
-    → fold (enter set) t ids ≡ onto (cleared (first_clearing set ids) t) (flat_map (part_of (λ c. c.meta_scope ++ c.meta_content_scope) set) ids)
+    → fold (enter set) t ids ≡ onto (after_clearing (first_clearing set ids) t) (flat_map (part_of (λ c. c.meta_scope ++ c.meta_content_scope) set) ids)
 enter_orderly set t [] e = sym (onto_none t)
 enter_orderly set t (id ∷ ids) e =
-    enter_clear set (enter set t id) ids e ∙ onto_both (cleared (clearing set id) t) (part_of (λ c. c.meta_scope ++ c.meta_content_scope) set id) (flat_map (part_of (λ c. c.meta_scope ++ c.meta_content_scope) set) ids)
+    enter_clear set (enter set t id) ids e ∙ onto_both (after_clearing (clearing set id) t) (part_of (λ c. c.meta_scope ++ c.meta_content_scope) set id) (flat_map (part_of (λ c. c.meta_scope ++ c.meta_content_scope) set) ids)
 
 pub below_orderly : (set : SyntaxSet) (t : ScopeStack) (ids : List ContextId) → clear_nothing set (drop 1 ids) ≡ true
-    → fold (enter_below set) t ids ≡ onto (cleared (first_clearing set ids) t) (flat_map (part_of (λ c. c.meta_scope) set) ids)
+    → fold (enter_below set) t ids ≡ onto (after_clearing (first_clearing set ids) t) (flat_map (part_of (λ c. c.meta_scope) set) ids)
 below_orderly set t [] e = sym (onto_none t)
 below_orderly set t (id ∷ ids) e =
-    below_clear set (enter_below set t id) ids e ∙ onto_both (cleared (clearing set id) t) (part_of (λ c. c.meta_scope) set id) (flat_map (part_of (λ c. c.meta_scope) set) ids)
+    below_clear set (enter_below set t id) ids e ∙ onto_both (after_clearing (clearing set id) t) (part_of (λ c. c.meta_scope) set id) (flat_map (part_of (λ c. c.meta_scope) set) ids)
 
 -- ---- where nothing clears ----
 
@@ -183,7 +183,7 @@ all_clear : (set : SyntaxSet) → ClearsNothing set → (t : ScopeStack) (levels
 all_clear set c t [] = sym (onto_none t)
 all_clear set c t (l ∷ levels) =
     let both : Scopes = part_of (λ c. c.meta_scope ++ c.meta_content_scope) set l.context in
-    all_clear set c (enter set t l.context) levels ∙ ap (λ (a : Option ClearAmount). onto (onto (cleared a t) both) (open_scopes set levels)) (c l.context) ∙ onto_both t both (open_scopes set levels)
+    all_clear set c (enter set t l.context) levels ∙ ap (λ (a : Option ClearAmount). onto (onto (after_clearing a t) both) (open_scopes set levels)) (c l.context) ∙ onto_both t both (open_scopes set levels)
 
 open_stack : (set : SyntaxSet) → ClearsNothing set → (levels : List Level) → stack_of set levels ≡ plain (open_scopes set levels)
 open_stack set c levels = all_clear set c (plain []) levels

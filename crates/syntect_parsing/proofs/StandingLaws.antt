@@ -2,11 +2,11 @@
 use Rattle.std.proofs.Common.{◌≡◌, ◌≢◌, ℕ, zero, suc, ◌-◌, true, false, List, [], ◌∷◌, ◌++◌, length, Option, Some, None, refl}
 use Rattle.std.specs.Prelude.{replicate, map}
 use Rattle.std.specs.List.{flat_map, range_with_len}
-use Rattle.syntect_winner.specs.Engine.{Engine}
-use Rattle.syntect_grammar.specs.Contexts.{context_at, part_of}
-use Rattle.syntect_winner.specs.Chain.{chain, last, prototypes_in}
+use Rattle.syntect_reading_choice.specs.Engine.{Engine}
+use Rattle.syntect_parsing.specs.syntect_grammar.Contexts.{context_at, part_of}
+use Rattle.syntect_reading_choice.specs.Chain.{chain, last, prototypes_in}
 use Rattle.syntect_parsing.specs.Turn.{trimmed, without_last, position_after}
-use Rattle.syntect_winner.specs.Turn.{Choice, Take, Skip, End, live, missing, refusal, winner, char_len}
+use Rattle.syntect_reading_choice.specs.Turn.{Choice, Take, Skip, End, live, missing, refusal, winner, char_len}
 use Rattle.syntect_parsing.specs.Scopes.{Scopes, scopes_at, scopes_passed}
 use Rattle.syntect_parsing.specs.Visible.{visible, visible_base}
 use Rattle.syntect_parsing.specs.Open.{open_scopes, base, ClearsNothing}
@@ -14,16 +14,16 @@ use Rattle.syntect_parsing.proofs.StackLaws.{open_is_visible}
 use Rattle.syntect_parsing.specs.Line.{Step, Goes, Ends, Refused, turn, turn_on, turn_in, step, unless_refused, Reads, ends, goes, Answer, Answers, accepts, refuses, AnswersAll, none, one_more, at_start, start}
 use Rattle.syntect_parsing.specs.Refusals.{IsClosed, IsNeverLeft, stays}
 use Rattle.syntect_parsing.specs.Standing.{HaveScopes, GiveScopes, BytesHaveScopes}
-use Rattle.syntect_parsing.proofs.RefusalLaws.{Stands, less, not_so, stay_there, turned, read_so, starts_so}
-use Rattle.syntect_contexts.specs.declared.context.ContextId.{ContextId}
-use Rattle.syntect_contexts.specs.declared.context.MatchOperation.{MatchOperation}
-use Rattle.syntect_contexts.specs.declared.context.MatchOperation.TheVariants as op
-use Rattle.syntect_contexts.specs.declared.context.Context.{Context}
-use Rattle.syntect_grammar.specs.declared.syntax_set.SyntaxSet.{SyntaxSet}
+use Rattle.syntect_parsing.proofs.RefusalLaws.{AreLevelsFrom, less, not_so, stay_there, turned, read_so, starts_so}
+use Rattle.syntect_parsing.specs.syntect_grammar_contexts.declared.context.ContextId.{ContextId}
+use Rattle.syntect_parsing.specs.syntect_grammar_contexts.declared.context.MatchOperation.{MatchOperation}
+use Rattle.syntect_parsing.specs.syntect_grammar_contexts.declared.context.MatchOperation.TheVariants as op
+use Rattle.syntect_parsing.specs.syntect_grammar_contexts.declared.context.Context.{Context}
+use Rattle.syntect_parsing.specs.syntect_grammar.declared.syntax_set.SyntaxSet.{SyntaxSet}
 use Rattle.syntect_parsing.specs.States.{Standing}
-use Rattle.syntect_winner.specs.declared.level.Level.{Level}
-use Rattle.syntect_winner.specs.declared.position.Position.{Position}
-use Rattle.syntect_contexts.specs.declared.error.ParsingError.{ParsingError}
+use Rattle.syntect_reading_choice.specs.declared.level.Level.{Level}
+use Rattle.syntect_reading_choice.specs.declared.position.Position.{Position}
+use Rattle.syntect_parsing.specs.syntect_grammar_contexts.declared.error.ParsingError.{ParsingError}
 
 -- ---- lists of scopes that are not empty ----
 
@@ -48,19 +48,19 @@ module _ (engine : Engine) (set : SyntaxSet) (id : ContextId) (closed : IsClosed
   abbrev scopes_of : Level → Scopes
   scopes_of l = part_of (λ c. c.meta_scope ++ c.meta_content_scope) set l.context
 
-  open_some : (levels : List Level) → Stands set id levels → open_scopes set levels ≢ []
+  open_some : (levels : List Level) → AreLevelsFrom set id levels → open_scopes set levels ≢ []
   open_some levels s = rw s.are (some_append (scopes_of s.first) (flat_map scopes_of s.rest) (rw s.bottom some))
 
-  base_some : (levels : List Level) (o : MatchOperation) → Stands set id levels → ((x : Level) → levels ≡ x ∷ [] → stays o ≡ true) → base set levels o ≢ []
+  base_some : (levels : List Level) (o : MatchOperation) → AreLevelsFrom set id levels → ((x : Level) → levels ≡ x ∷ [] → stays o ≡ true) → base set levels o ≢ []
   base_some levels (op.Push refs) s h = some_append (open_scopes set levels) _ (open_some levels s)
   base_some levels (op.Set refs) s h = some_append (open_scopes set levels) _ (open_some levels s)
   base_some levels op.Pop s h = some_append (open_scopes set (without_last levels)) _ (open_some (without_last levels) (less set id levels s (λ x e. not_so set id false refl (h x e))))
   base_some levels op.None s h = open_some levels s
 
-  visible_some : (levels : List Level) → Stands set id levels → visible set levels ≢ []
+  visible_some : (levels : List Level) → AreLevelsFrom set id levels → visible set levels ≢ []
   visible_some levels s = rw (open_is_visible set levels clear).0 (open_some levels s)
 
-  visible_base_some : (levels : List Level) (o : MatchOperation) → Stands set id levels → ((x : Level) → levels ≡ x ∷ [] → stays o ≡ true) → visible_base set levels o ≢ []
+  visible_base_some : (levels : List Level) (o : MatchOperation) → AreLevelsFrom set id levels → ((x : Level) → levels ≡ x ∷ [] → stays o ≡ true) → visible_base set levels o ≢ []
   visible_base_some levels o s h = rw ((open_is_visible set levels clear).1 o) (base_some levels o s h)
 
   abbrev Shows : Step → Type 0
@@ -72,7 +72,7 @@ module _ (engine : Engine) (set : SyntaxSet) (id : ContextId) (closed : IsClosed
   shows_unless None s h = h
   shows_unless (Some e) s h = tt
 
-  shows_step : (p : Position) (top : Level) (c : Context) (choice : Choice) → Stands set id p.levels → last p.levels ≡ Some top → context_at set top.context ≡ Some c
+  shows_step : (p : Position) (top : Level) (c : Context) (choice : Choice) → AreLevelsFrom set id p.levels → last p.levels ≡ Some top → context_at set top.context ≡ Some c
       → winner line (trimmed p) (live engine line (trimmed p) (chain set (trimmed p) top c)) ≡ choice → Shows (step engine set line (trimmed p) choice)
   shows_step p top c (Take m) s e f w =
       let below : visible_base set p.levels m.pattern.operation ≢ [] = visible_base_some p.levels m.pattern.operation s (stay_there engine set id closed left line p top c m s e f w) in
@@ -82,36 +82,36 @@ module _ (engine : Engine) (set : SyntaxSet) (id : ContextId) (closed : IsClosed
   shows_step p top c Skip s e f w = have_many (char_len line p.place) (visible set p.levels) (visible_some p.levels s)
   shows_step p top c End s e f w = have_many (length line - p.place) (visible set p.levels) (visible_some p.levels s)
 
-  shows_in : (p : Position) (top : Level) (o : Option Context) → Stands set id p.levels → last p.levels ≡ Some top → context_at set top.context ≡ o → Shows (turn_in engine set line (trimmed p) top o)
+  shows_in : (p : Position) (top : Level) (o : Option Context) → AreLevelsFrom set id p.levels → last p.levels ≡ Some top → context_at set top.context ≡ o → Shows (turn_in engine set line (trimmed p) top o)
   shows_in p top None s e f = tt
   shows_in p top (Some c) s e f =
       shows_unless (missing set (prototypes_in (trimmed p) c)) (step engine set line (trimmed p) (winner line (trimmed p) (live engine line (trimmed p) (chain set (trimmed p) top c))))
       (shows_step p top c (winner line (trimmed p) (live engine line (trimmed p) (chain set (trimmed p) top c))) s e f refl)
 
-  shows_on : (p : Position) (o : Option Level) → Stands set id p.levels → last p.levels ≡ o → Shows (turn_on engine set line (trimmed p) o)
+  shows_on : (p : Position) (o : Option Level) → AreLevelsFrom set id p.levels → last p.levels ≡ o → Shows (turn_on engine set line (trimmed p) o)
   shows_on p None s e = have_many (length line - p.place) (visible set p.levels) (visible_some p.levels s)
   shows_on p (Some top) s e = shows_in p top (context_at set top.context) s e refl
 
-  shows_turn : (p : Position) → Stands set id p.levels → Shows (turn engine set line p)
+  shows_turn : (p : Position) → AreLevelsFrom set id p.levels → Shows (turn engine set line p)
   unfolding turn
   shows_turn p s = shows_on p (last p.levels) s refl
 
-  have_read : (p : Position) (bytes : List Scopes) (after : Standing) (n : ℕ) → Stands set id p.levels → Reads engine set line p bytes after n → HaveScopes bytes
+  have_read : (p : Position) (bytes : List Scopes) (after : Standing) (n : ℕ) → AreLevelsFrom set id p.levels → Reads engine set line p bytes after n → HaveScopes bytes
   have_read p bytes after n s (ends f) = rw f at (shows_turn p s)
   have_read p bytes after n s (goes {q = q} {bytes = here} {rest = rest} {n = i} f h) =
-      let t : Stands set id q.levels = rw f at (turned engine set id closed left line p s) in
+      let t : AreLevelsFrom set id q.levels = rw f at (turned engine set id closed left line p s) in
       let k : HaveScopes here = rw f at (shows_turn p s) in
       have_append here rest k (have_read q rest after i t h)
 
 module _ (engine : Engine) (set : SyntaxSet) (id : ContextId) (closed : IsClosed set) (left : IsNeverLeft set id) (clear : ClearsNothing set)
     (some : part_of (λ c. c.meta_scope ++ c.meta_content_scope) set id ≢ []) where
-  give_one : (line : List ℕ) (state next : Standing) (answer : Answer) (others : List Answer) → Answers engine set line state answer next → Stands set id state.levels
-      → (Stands set id next.levels → GiveScopes others) → GiveScopes (answer ∷ others)
+  give_one : (line : List ℕ) (state next : Standing) (answer : Answer) (others : List Answer) → Answers engine set line state answer next → AreLevelsFrom set id state.levels
+      → (AreLevelsFrom set id next.levels → GiveScopes others) → GiveScopes (answer ∷ others)
   give_one line state next answer others (accepts {bytes = bytes} {turns = n} h) s more =
       (have_read engine set id closed left clear some line (at_start state) bytes next n s h.reads, more (read_so engine set id closed left line (at_start state) bytes next n s h.reads))
   give_one line state next answer others (refuses h) s more = more s
 
-  give_all : (lines : List (List ℕ)) (state after : Standing) (answers : List Answer) → Stands set id state.levels → AnswersAll engine set lines state answers after → GiveScopes answers
+  give_all : (lines : List (List ℕ)) (state after : Standing) (answers : List Answer) → AreLevelsFrom set id state.levels → AnswersAll engine set lines state answers after → GiveScopes answers
   give_all lines state after answers s none = tt
   give_all lines state after answers s (one_more {line = line} {lines = rest} {next = next} {answer = answer} {answers = others} a r) =
       give_one line state next answer others a s (λ t. give_all rest next after others t r)

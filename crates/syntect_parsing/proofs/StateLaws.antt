@@ -6,12 +6,12 @@ use Rattle.std.specs.Option.{option_eq}
 use Rattle.std.specs.Cmp.Lexicographic.{pointwise}
 use Rattle.std.proofs.lemmas.Bool.Decides.{Decides-eqb, Decides-and, Decides-like}
 use Rattle.std.proofs.lemmas.Slice.Eq.{slice_eq-Decides}
-use Rattle.syntect_regex.specs.Region.{same_span, same_groups}
-use Rattle.syntect_contexts.specs.Substitution.{Opening, Groups}
-use Rattle.syntect_contexts.specs.declared.context.ContextId.{ContextId}
-use Rattle.syntect_openings.specs.Openings.{same_opening}
+use Rattle.syntect_parsing.specs.syntect_regex.Region.{same_span, same_groups}
+use Rattle.syntect_parsing.specs.syntect_grammar_contexts.Substitution.{Opening, Groups}
+use Rattle.syntect_parsing.specs.syntect_grammar_contexts.declared.context.ContextId.{ContextId}
+use Rattle.syntect_parsing.specs.syntect_reading_state.Openings.{same_opening}
 use Rattle.syntect_parsing.specs.States.{Standing}
-use Rattle.syntect_winner.specs.declared.level.Level.{Level}
+use Rattle.syntect_reading_choice.specs.declared.level.Level.{Level}
 
 lists : {X : Type 0} {same : X → X → Bool} → ((a b : X) → Decides (same a b) (a ≡ b)) → (xs ys : List X) → Decides (pointwise same xs ys) (xs ≡ ys)
 lists each xs ys = slice_eq-Decides each xs ys _ refl

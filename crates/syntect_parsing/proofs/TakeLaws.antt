@@ -1,23 +1,23 @@
 -- What a match that is taken makes.
 use Rattle.std.proofs.Common.{◌≡◌, ℕ, List, ◌++◌, None, refl, true}
-use Rattle.syntect_scope.specs.declared.stack.ScopeStackOp.{ScopeStackOp}
-use Rattle.syntect_winner.specs.Engine.{dialect}
+use Rattle.syntect_parsing.specs.syntect_scope.declared.stack.ScopeStackOp.{ScopeStackOp}
+use Rattle.syntect_reading_choice.specs.Engine.{dialect}
 use Rattle.syntect_parsing.specs.Turn.{position_after}
-use Rattle.syntect_winner.specs.Turn.{Live, Take, refusal}
+use Rattle.syntect_reading_choice.specs.Turn.{Live, Take, refusal}
 use Rattle.syntect_parsing.specs.Scopes.{captures, scopes_passed}
 use Rattle.syntect_parsing.specs.Operations.{operations_of}
 use Rattle.syntect_parsing.specs.Orderly.{is_orderly}
 use Rattle.syntect_parsing.proofs.RememberLaws.{take_applies}
 use Rattle.syntect_parsing.specs.Line.{step}
-use Rattle.syntect_winner.specs.Found.{StandsIn}
-use Rattle.syntect_contexts.specs.Errors.{MayBe}
+use Rattle.syntect_reading_choice.specs.Found.{StandsIn}
+use Rattle.syntect_parsing.specs.syntect_grammar_contexts.Errors.{MayBe}
 use Rattle.syntect_parsing.specs.Step.{MakesStep, RefusesStep}
 use Rattle.syntect_parsing.proofs.CaptureLaws.{AreLaidOut, EndOnBoundaries}
 use Rattle.syntect_parsing.proofs.ShowLaws.{take_shows, order-match}
-use Rattle.syntect_grammar.specs.declared.syntax_set.SyntaxSet.{SyntaxSet}
-use Rattle.syntect_winner.specs.declared.position.Position.{Position}
-use Rattle.syntect_contexts.specs.declared.error.ParsingError.{ParsingError}
-use Rattle.syntect_contexts.specs.declared.error.ParsingError.TheVariants as error
+use Rattle.syntect_parsing.specs.syntect_grammar.declared.syntax_set.SyntaxSet.{SyntaxSet}
+use Rattle.syntect_reading_choice.specs.declared.position.Position.{Position}
+use Rattle.syntect_parsing.specs.syntect_grammar_contexts.declared.error.ParsingError.{ParsingError}
+use Rattle.syntect_parsing.specs.syntect_grammar_contexts.declared.error.ParsingError.TheVariants as error
 
 pub take_makes : (set : SyntaxSet) (line : List ℕ) (p q : Position) (m : Live) (old new : List (ℕ × ScopeStackOp)) → StandsIn line p.place m.start m.end
     → AreLaidOut m.start m.end (captures dialect m) → EndOnBoundaries line (captures dialect m)

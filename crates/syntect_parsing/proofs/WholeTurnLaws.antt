@@ -2,20 +2,20 @@
 use Rattle.std.proofs.Common.{◌≡◌, ℕ, ◌+◌, ◌-◌, ◌≤◌, ◌<◌, true, List, [], length, replicate, refl, sym, ◌∙◌, ap, arith}
 use Rattle.std.specs.Str.{IsUtf8, IsCharBoundary}
 use Rattle.std.proofs.lemmas.List.{append-nil}
-use Rattle.syntect_scope.specs.declared.stack.ScopeStackOp.{ScopeStackOp}
-use Rattle.syntect_winner.specs.Engine.{dialect}
-use Rattle.syntect_winner.specs.Chain.{last}
+use Rattle.syntect_parsing.specs.syntect_scope.declared.stack.ScopeStackOp.{ScopeStackOp}
+use Rattle.syntect_reading_choice.specs.Engine.{dialect}
+use Rattle.syntect_reading_choice.specs.Chain.{last}
 use Rattle.syntect_parsing.specs.Turn.{skipped, trimmed}
-use Rattle.syntect_winner.specs.Turn.{Skip, End, char_len}
+use Rattle.syntect_reading_choice.specs.Turn.{Skip, End, char_len}
 use Rattle.syntect_parsing.specs.Visible.{visible}
 use Rattle.syntect_parsing.specs.Orderly.{IsOrderlyTurn}
 use Rattle.syntect_parsing.specs.Line.{Step, step, turn, turn_on}
 use Rattle.syntect_parsing.specs.Step.{MakesStep, EndsLine, Turns, RefusesStep, RefusesTurn}
-use Rattle.syntect_winner.proofs.Places.{past_here}
+use Rattle.syntect_reading_choice.proofs.Places.{past_here}
 use Rattle.syntect_parsing.proofs.ShowLaws.{moves_on}
-use Rattle.syntect_grammar.specs.declared.syntax_set.SyntaxSet.{SyntaxSet}
-use Rattle.syntect_winner.specs.declared.position.Position.{Position}
-use Rattle.syntect_contexts.specs.declared.error.ParsingError.{ParsingError}
+use Rattle.syntect_parsing.specs.syntect_grammar.declared.syntax_set.SyntaxSet.{SyntaxSet}
+use Rattle.syntect_reading_choice.specs.declared.position.Position.{Position}
+use Rattle.syntect_parsing.specs.syntect_grammar_contexts.declared.error.ParsingError.{ParsingError}
 
 module _ (set : SyntaxSet) (line : List ℕ) (p q : Position) (t : q ≡ trimmed p) where
   turn_is : turn dialect set line p ≡ turn_on dialect set line q (last q.levels)

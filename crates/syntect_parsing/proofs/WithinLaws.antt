@@ -4,23 +4,23 @@ use Rattle.std.proofs.Common.{inl, inr}
 use Rattle.std.proofs.lemmas.Bool.{cases_lt}
 use Rattle.std.specs.Prelude.{IfSome}
 use Rattle.std.specs.Option.{option_map}
-use Rattle.syntect_base.specs.Limiting.{limit_of, IsWithinLimit}
-use Rattle.syntect_base.specs.declared.limits.Limits.{Limits}
-use Rattle.syntect_contexts.specs.declared.error.ParsingError.{ParsingError}
-use Rattle.syntect_grammar.specs.declared.syntax_set.SyntaxSet.{SyntaxSet}
-use Rattle.syntect_meter.specs.Meter.{Reading, Advances}
-use Rattle.syntect_winner.specs.Engine.{dialect}
-use Rattle.syntect_winner.specs.Halt.{HaltsAt}
-use Rattle.syntect_winner.specs.declared.halt.Halt.{Halt}
-use Rattle.syntect_winner.specs.declared.halt.Halt.TheVariants as halt
-use Rattle.syntect_winner.specs.declared.position.Position.{Position}
-use Rattle.syntect_scope.specs.declared.stack.ScopeStackOp.{ScopeStackOp}
+use Rattle.syntect_parsing.specs.syntect_base.Limiting.{limit_of, IsWithinLimit}
+use Rattle.syntect_parsing.specs.syntect_base.declared.limits.Limits.{Limits}
+use Rattle.syntect_parsing.specs.syntect_grammar_contexts.declared.error.ParsingError.{ParsingError}
+use Rattle.syntect_parsing.specs.syntect_grammar.declared.syntax_set.SyntaxSet.{SyntaxSet}
+use Rattle.syntect_parsing.specs.syntect_count.Meter.{Reading, Advances}
+use Rattle.syntect_reading_choice.specs.Engine.{dialect}
+use Rattle.syntect_reading_choice.specs.Halt.{HaltsAt}
+use Rattle.syntect_reading_choice.specs.declared.halt.Halt.{Halt}
+use Rattle.syntect_reading_choice.specs.declared.halt.Halt.TheVariants as halt
+use Rattle.syntect_reading_choice.specs.declared.position.Position.{Position}
+use Rattle.syntect_parsing.specs.syntect_scope.declared.stack.ScopeStackOp.{ScopeStackOp}
 use Rattle.syntect_parsing.specs.Line.{Step, Goes, Ends, turn, Reaches, here, further, at_start}
 use Rattle.syntect_parsing.specs.Scopes.{Scopes}
-use Rattle.syntect_parsing.specs.Meaning.{MayRefuse}
+use Rattle.syntect_parsing.specs.Meaning.{RefusesLineOrMemory}
 use Rattle.syntect_parsing.specs.States.{Standing}
 use Rattle.syntect_parsing.specs.Step.{RefusesStep, RefusesTurn}
-use Rattle.syntect_parsing.specs.Within.{IfRefused, IsThere, KeepsLevels, MayRefuseWithin, ReachesHere, ReachesLimit, StandsAt, StopsLineAt, UnlessStop, refusal_of, stop_of}
+use Rattle.syntect_parsing.specs.Within.{IfRefused, IsThere, KeepsLevels, RefusesWithinOrMemory, ReachesHere, ReachesLimit, StandsAt, StopsLineAt, UnlessStop, refusal_of, stop_of}
 use Rattle.syntect_parsing.specs.Work.{UnlessWanting}
 use Rattle.syntect_parsing.specs.declared.within.ReadWithinError.{ReadWithinError}
 use Rattle.syntect_parsing.specs.declared.within.ReadWithinError.TheVariants.{Refused, LimitReached}
@@ -47,7 +47,7 @@ halt-stops r (halt.Spent pattern place) e = e
 
 -- of the reading so far
 pub so_far-stopped : {set : SyntaxSet} {line : List ℕ} {state : Standing} {p : Position} {ops : List (ℕ × ScopeStackOp)} {before made shown : ℕ}
-    → ReadSoFar set line state p ops before made shown → (w : ReadWithinError) → IfRefused (RefusesTurn dialect set line p) w → (r : Reading) → StopsLineAt r w → state.levels ≢ [] → MayRefuseWithin dialect set line state w
+    → ReadSoFar set line state p ops before made shown → (w : ReadWithinError) → IfRefused (RefusesTurn dialect set line p) w → (r : Reading) → StopsLineAt r w → state.levels ≢ [] → RefusesWithinOrMemory dialect set line state w
 so_far-stopped s (Refused e) h r t n = so_far-refused s e h n
 so_far-stopped s (LimitReached (Steps context index place)) h r t n = (n, tt)
 so_far-stopped s (LimitReached (Turns place)) h r t n = absurd t
@@ -66,7 +66,7 @@ unless_stopped (Refused e) P Q f h = unless_so e P Q f h
 unless_stopped (LimitReached l) P Q f h = tt
 
 -- without limits
-pub may_refuse : (set : SyntaxSet) (line : List ℕ) (state : Standing) (w : ReadWithinError) → MayRefuseWithin dialect set line state w → MayRefuse dialect set line state (refusal_of w)
+pub may_refuse : (set : SyntaxSet) (line : List ℕ) (state : Standing) (w : ReadWithinError) → RefusesWithinOrMemory dialect set line state w → RefusesLineOrMemory dialect set line state (refusal_of w)
 may_refuse set line state (Refused e) h = h
 may_refuse set line state (LimitReached l) h = h.0
 

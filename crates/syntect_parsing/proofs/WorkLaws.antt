@@ -1,24 +1,24 @@
 -- How many steps the searches of a line took so far.
 use Rattle.std.proofs.Common.{◌≡◌, ℕ, ◌+◌, ◌-◌, ◌*◌, ◌≤◌, List, [], length, Option, Some, sym, ap, subst, ◌∙◌, arith}
 use Rattle.std.specs.Option.{option_map_or}
-use Rattle.syntect_grammar.specs.Contexts.{context_at}
-use Rattle.syntect_winner.specs.Chain.{chain, chain_at, last}
-use Rattle.syntect_winner.specs.Engine.{dialect}
-use Rattle.syntect_winner.specs.Steps.{turn_steps, turn_work, ArePutWithin, AreWithin}
-use Rattle.syntect_winner.proofs.StepLaws.{more_room}
+use Rattle.syntect_parsing.specs.syntect_grammar.Contexts.{context_at}
+use Rattle.syntect_reading_choice.specs.Chain.{chain, chain_at, last}
+use Rattle.syntect_reading_choice.specs.Engine.{dialect}
+use Rattle.syntect_reading_choice.specs.Steps.{turn_steps, turn_work, ArePutWithin, AreWithin}
+use Rattle.syntect_reading_choice.proofs.StepLaws.{more_room}
 use Rattle.syntect_parsing.specs.Bound.{most_turns}
 use Rattle.syntect_parsing.specs.Line.{Goes, turn, Reaches, here, further, at_start}
 use Rattle.syntect_parsing.specs.Scopes.{Scopes}
 use Rattle.syntect_parsing.specs.Turn.{trimmed}
 use Rattle.syntect_parsing.specs.Work.{TakesSteps, TakesMostSteps, TakesTurnSteps, UnlessWanting, most_patterns}
 use Rattle.syntect_parsing.proofs.BoundLaws.{CountSoFar, count-bound}
-use Rattle.syntect_contexts.specs.declared.context.Context.{Context}
-use Rattle.syntect_grammar.specs.declared.syntax_set.SyntaxSet.{SyntaxSet}
-use Rattle.syntect_winner.specs.declared.level.Level.{Level}
-use Rattle.syntect_winner.specs.declared.position.Position.{Position}
+use Rattle.syntect_parsing.specs.syntect_grammar_contexts.declared.context.Context.{Context}
+use Rattle.syntect_parsing.specs.syntect_grammar.declared.syntax_set.SyntaxSet.{SyntaxSet}
+use Rattle.syntect_reading_choice.specs.declared.level.Level.{Level}
+use Rattle.syntect_reading_choice.specs.declared.position.Position.{Position}
 use Rattle.syntect_parsing.specs.States.{Standing}
-use Rattle.syntect_contexts.specs.declared.error.ParsingError.{ParsingError}
-use Rattle.syntect_contexts.specs.declared.error.ParsingError.TheVariants as error
+use Rattle.syntect_parsing.specs.syntect_grammar_contexts.declared.error.ParsingError.{ParsingError}
+use Rattle.syntect_parsing.specs.syntect_grammar_contexts.declared.error.ParsingError.TheVariants as error
 
 -- ---- out of memory ----
 

@@ -1,14 +1,14 @@
 -- How many turns a line takes.
 use Rattle.std.specs.Prelude.{◌≡◌, ℕ, ◌+◌, ◌-◌, ◌*◌, ◌^◌, ◌≤◌, List, length, min}
-use Rattle.syntect_grammar.specs.Contexts.{contexts_of}
-use Rattle.syntect_winner.specs.Engine.{Engine}
+use Rattle.syntect_parsing.specs.syntect_grammar.Contexts.{contexts_of}
+use Rattle.syntect_reading_choice.specs.Engine.{Engine}
 use Rattle.syntect_parsing.specs.Scopes.{Scopes}
 use Rattle.syntect_parsing.specs.Line.{ReadsLine, RefusesLine}
 use Rattle.syntect_parsing.specs.Laws.{longest}
-use Rattle.syntect_grammar.specs.declared.syntax_set.SyntaxSet.{SyntaxSet}
-use Rattle.syntect_winner.specs.declared.position.TheConstants.{MOST_IDLE}
+use Rattle.syntect_parsing.specs.syntect_grammar.declared.syntax_set.SyntaxSet.{SyntaxSet}
+use Rattle.syntect_reading_choice.specs.declared.position.TheConstants.{MOST_IDLE}
 use Rattle.syntect_parsing.specs.States.{Standing}
-use Rattle.syntect_contexts.specs.declared.error.ParsingError.{ParsingError}
+use Rattle.syntect_parsing.specs.syntect_grammar_contexts.declared.error.ParsingError.{ParsingError}
 
 -- reading the line takes so many turns, the last one included, up to its end or to a refusal
 pub data TakesTurns (engine : Engine) (set : SyntaxSet) (line : List ℕ) (state : Standing) : ℕ

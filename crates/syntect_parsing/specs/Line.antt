@@ -1,26 +1,26 @@
 -- One turn, a whole line, and lines one after the other.
 use Rattle.std.specs.Prelude.{◌≡◌, ◌≢◌, ℕ, ◌+◌, ◌-◌, true, false, List, [], ◌∷◌, ◌++◌, length, take, replicate, codes, Option, Some, None, if◌then◌else◌}
 use Rattle.std.specs.Option.{option_map, option_map_or}
-use Rattle.syntect_contexts.specs.Contexts.{named_in}
-use Rattle.syntect_winner.specs.Engine.{Engine}
-use Rattle.syntect_grammar.specs.Contexts.{context_at, part_of}
-use Rattle.syntect_winner.specs.Chain.{chain, prototypes_in, last}
+use Rattle.syntect_parsing.specs.syntect_grammar_contexts.Contexts.{named_in}
+use Rattle.syntect_reading_choice.specs.Engine.{Engine}
+use Rattle.syntect_parsing.specs.syntect_grammar.Contexts.{context_at, part_of}
+use Rattle.syntect_reading_choice.specs.Chain.{chain, prototypes_in, last}
 use Rattle.syntect_parsing.specs.Turn.{position_after, skipped, trimmed}
-use Rattle.syntect_winner.specs.Turn.{Choice, Take, Skip, End, live, winner, missing, refusal, char_len}
+use Rattle.syntect_reading_choice.specs.Turn.{Choice, Take, Skip, End, live, winner, missing, refusal, char_len}
 use Rattle.syntect_parsing.specs.Scopes.{Scopes, scopes_passed}
 use Rattle.syntect_parsing.specs.Visible.{visible}
 use Rattle.syntect_parsing.specs.Stacks.{onto, stack_of}
-use Rattle.syntect_scope.specs.Stack.{plain}
-use Rattle.syntect_scope.specs.declared.stack.ScopeStack.{ScopeStack}
-use Rattle.syntect_contexts.specs.declared.context.ContextId.{ContextId}
-use Rattle.syntect_contexts.specs.declared.context.Context.{Context}
-use Rattle.syntect_contexts.specs.declared.syntax_reference.SyntaxReference.{SyntaxReference}
-use Rattle.syntect_grammar.specs.declared.syntax_set.SyntaxSet.{SyntaxSet}
+use Rattle.syntect_parsing.specs.syntect_scope.Stack.{plain}
+use Rattle.syntect_parsing.specs.syntect_scope.declared.stack.ScopeStack.{ScopeStack}
+use Rattle.syntect_parsing.specs.syntect_grammar_contexts.declared.context.ContextId.{ContextId}
+use Rattle.syntect_parsing.specs.syntect_grammar_contexts.declared.context.Context.{Context}
+use Rattle.syntect_parsing.specs.syntect_grammar_contexts.declared.syntax_reference.SyntaxReference.{SyntaxReference}
+use Rattle.syntect_parsing.specs.syntect_grammar.declared.syntax_set.SyntaxSet.{SyntaxSet}
 use Rattle.syntect_parsing.specs.States.{Standing}
-use Rattle.syntect_winner.specs.declared.level.Level.{Level}
-use Rattle.syntect_winner.specs.declared.position.Position.{Position}
-use Rattle.syntect_contexts.specs.declared.error.ParsingError.{ParsingError}
-use Rattle.syntect_contexts.specs.declared.error.ParsingError.TheVariants as error
+use Rattle.syntect_reading_choice.specs.declared.level.Level.{Level}
+use Rattle.syntect_reading_choice.specs.declared.position.Position.{Position}
+use Rattle.syntect_parsing.specs.syntect_grammar_contexts.declared.error.ParsingError.{ParsingError}
+use Rattle.syntect_parsing.specs.syntect_grammar_contexts.declared.error.ParsingError.TheVariants as error
 
 -- What a turn makes: the scopes of the bytes that it passed, and how it goes on.
 -- Or the line is refused.

@@ -1,18 +1,18 @@
 -- What a call that reads a line promises.
 use Rattle.std.specs.Prelude.{◌≡◌, ◌≢◌, ℕ, false, List, [], ◌++◌, length, None}
-use Rattle.syntect_scope.specs.declared.stack.ScopeStackOp.{ScopeStackOp}
+use Rattle.syntect_parsing.specs.syntect_scope.declared.stack.ScopeStackOp.{ScopeStackOp}
 use Rattle.syntect_parsing.specs.Stacks.{IsAt, Remembers}
-use Rattle.syntect_scope.specs.declared.stack.ScopeStack.{ScopeStack}
+use Rattle.syntect_parsing.specs.syntect_scope.declared.stack.ScopeStack.{ScopeStack}
 use Rattle.syntect_parsing.specs.Orderly.{IsOrderlyLine}
-use Rattle.syntect_scope.specs.Replay.{InOrder, AllApply, replay, before_text, pushes}
-use Rattle.syntect_winner.specs.Engine.{Engine}
+use Rattle.syntect_parsing.specs.syntect_scope.Replay.{InOrder, AllApply, replay, before_text, pushes}
+use Rattle.syntect_reading_choice.specs.Engine.{Engine}
 use Rattle.syntect_parsing.specs.Scopes.{Scopes}
 use Rattle.syntect_parsing.specs.Line.{ReadsLine, RefusesLine, stack_before, first_push, start_of, HasPlainStart}
-use Rattle.syntect_contexts.specs.declared.syntax_reference.SyntaxReference.{SyntaxReference}
-use Rattle.syntect_grammar.specs.declared.syntax_set.SyntaxSet.{SyntaxSet}
+use Rattle.syntect_parsing.specs.syntect_grammar_contexts.declared.syntax_reference.SyntaxReference.{SyntaxReference}
+use Rattle.syntect_parsing.specs.syntect_grammar.declared.syntax_set.SyntaxSet.{SyntaxSet}
 use Rattle.syntect_parsing.specs.States.{Standing}
-use Rattle.syntect_contexts.specs.declared.error.ParsingError.{ParsingError}
-use Rattle.syntect_contexts.specs.declared.error.ParsingError.TheVariants as error
+use Rattle.syntect_parsing.specs.syntect_grammar_contexts.declared.error.ParsingError.{ParsingError}
+use Rattle.syntect_parsing.specs.syntect_grammar_contexts.declared.error.ParsingError.TheVariants as error
 
 -- The operations of an accepted line are in order, and the first accepted line begins with the
 -- first content scope of `__start`. They all apply to a stack that remembers at least a list for
@@ -40,9 +40,9 @@ pub record Accepts (engine : Engine) (set : SyntaxSet) (line : List ℕ) (old ne
 
 -- the refusal that the reading comes to; or lack of memory, but not where no level is open, as no
 -- turn is made there
-abbrev pub MayRefuse : Engine → SyntaxSet → List ℕ → Standing → ParsingError → Type 0
-MayRefuse engine set line state error.Memory = state.levels ≢ []
-MayRefuse engine set line state e = (turns : ℕ) × RefusesLine engine set line state e turns
+abbrev pub RefusesLineOrMemory : Engine → SyntaxSet → List ℕ → Standing → ParsingError → Type 0
+RefusesLineOrMemory engine set line state error.Memory = state.levels ≢ []
+RefusesLineOrMemory engine set line state e = (turns : ℕ) × RefusesLine engine set line state e turns
 
 -- the syntax has no `__start`; or it has one, and memory ran out
 abbrev pub MayLackStart : SyntaxReference → ParsingError → Type 0

@@ -1,17 +1,17 @@
 -- The open scopes of levels of which none clears.
 use Rattle.std.specs.Prelude.{◌≡◌, List, ◌++◌, None}
 use Rattle.std.specs.List.{filter_map, flat_map}
-use Rattle.syntect_grammar.specs.Contexts.{part_of}
-use Rattle.syntect_contexts.specs.Contexts.{Scopes, target}
+use Rattle.syntect_parsing.specs.syntect_grammar.Contexts.{part_of}
+use Rattle.syntect_parsing.specs.syntect_grammar_contexts.Contexts.{Scopes, target}
 use Rattle.syntect_parsing.specs.Stacks.{stack_of}
-use Rattle.syntect_scope.specs.Stack.{plain}
+use Rattle.syntect_parsing.specs.syntect_scope.Stack.{plain}
 use Rattle.syntect_parsing.specs.Turn.{without_last}
 use Rattle.syntect_parsing.specs.Visible.{clearing, top_part, visible, visible_base}
-use Rattle.syntect_contexts.specs.declared.context.ContextId.{ContextId}
-use Rattle.syntect_contexts.specs.declared.context.MatchOperation.{MatchOperation}
-use Rattle.syntect_contexts.specs.declared.context.MatchOperation.TheVariants as op
-use Rattle.syntect_grammar.specs.declared.syntax_set.SyntaxSet.{SyntaxSet}
-use Rattle.syntect_winner.specs.declared.level.Level.{Level}
+use Rattle.syntect_parsing.specs.syntect_grammar_contexts.declared.context.ContextId.{ContextId}
+use Rattle.syntect_parsing.specs.syntect_grammar_contexts.declared.context.MatchOperation.{MatchOperation}
+use Rattle.syntect_parsing.specs.syntect_grammar_contexts.declared.context.MatchOperation.TheVariants as op
+use Rattle.syntect_parsing.specs.syntect_grammar.declared.syntax_set.SyntaxSet.{SyntaxSet}
+use Rattle.syntect_reading_choice.specs.declared.level.Level.{Level}
 
 -- of each level its `meta_scope`, then its `meta_content_scope`
 abbrev pub open_scopes : SyntaxSet → List Level → Scopes

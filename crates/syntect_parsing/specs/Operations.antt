@@ -1,18 +1,20 @@
 -- The operations of a match.
-pub use Rattle.syntect_openings.specs.Opens.{metas, contents, opens, none, clear_nothing, clears, restores, opens_below, opens_here, all_below, all_here}
+pub use Rattle.syntect_parsing.specs.syntect_reading_state.Opens.{metas, contents, opens, has_no_scope, clear_nothing, clears, restores, opens_below, opens_here, all_below, all_here}
 use Rattle.std.specs.Prelude.{ℕ, ◌+◌, ◌-◌, List, [], ◌++◌, length, map, filter, if◌then◌else◌, ◌&&◌, ◌==◌}
 use Rattle.std.specs.List.{filter_map, flat_map, range_with_len}
-use Rattle.syntect_scope.specs.declared.stack.ScopeStackOp.{ScopeStackOp}
-use Rattle.syntect_scope.specs.declared.stack.ScopeStackOp.TheVariants.{Pop}
-use Rattle.syntect_scope.specs.Replay.{pushes, pops}
-use Rattle.syntect_contexts.specs.Contexts.{target}
+use Rattle.syntect_parsing.specs.syntect_scope.declared.stack.ScopeStackOp.{ScopeStackOp}
+use Rattle.syntect_parsing.specs.syntect_scope.declared.stack.ScopeStackOp.TheVariants.{Pop}
+use Rattle.syntect_parsing.specs.syntect_scope.Replay.{pushes, pops}
+use Rattle.syntect_parsing.specs.syntect_grammar_contexts.Contexts.{target}
 use Rattle.syntect_parsing.specs.Visible.{top_clearing, top_part}
 use Rattle.syntect_parsing.specs.Scopes.{Scopes, Capture, longer_first}
-use Rattle.syntect_contexts.specs.declared.context.ContextReference.{ContextReference}
-use Rattle.syntect_contexts.specs.declared.context.MatchOperation.{MatchOperation}
-use Rattle.syntect_contexts.specs.declared.context.MatchOperation.TheVariants as op
-use Rattle.syntect_grammar.specs.declared.syntax_set.SyntaxSet.{SyntaxSet}
-use Rattle.syntect_winner.specs.declared.level.Level.{Level}
+use Rattle.syntect_parsing.specs.syntect_grammar_contexts.declared.context.ContextReference.{ContextReference}
+use Rattle.syntect_parsing.specs.syntect_grammar_contexts.declared.context.MatchOperation.{MatchOperation}
+use Rattle.syntect_parsing.specs.syntect_grammar_contexts.declared.context.MatchOperation.TheVariants as op
+use Rattle.syntect_parsing.specs.syntect_grammar.declared.syntax_set.SyntaxSet.{SyntaxSet}
+use Rattle.syntect_reading_choice.specs.declared.level.Level.{Level}
+
+-- ---- For proofs and private functions alone ----
 
 -- At a place the captures that end there are popped in the order of the list, each by one
 -- operation. Then those that begin there are pushed, longer ones first.
@@ -46,14 +48,14 @@ operations_below at set levels op.None = []
 -- their `meta_scope`s, so that they are popped and pushed anew.
 abbrev pub operations_pushed : ℕ → SyntaxSet → List ContextReference → List (ℕ × ScopeStackOp)
 operations_pushed at set refs =
-    if none (contents set refs) then []
+    if has_no_scope (contents set refs) then []
     else pops at (length (metas set refs)) ++ pushes at (opens set refs)
 
 -- After a set: the same, with the scopes of the context that it leaves, where that one has some or
 -- a new one clears.
 abbrev pub operations_set : ℕ → SyntaxSet → ℕ → List ContextReference → List (ℕ × ScopeStackOp)
 operations_set at set left refs =
-    if none (contents set refs) && ((left == 0) && clear_nothing set (filter_map target refs))
+    if has_no_scope (contents set refs) && ((left == 0) && clear_nothing set (filter_map target refs))
     then []
     else pops at (length (metas set refs) + left) ++ all_here at set refs
 

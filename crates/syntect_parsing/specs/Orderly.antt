@@ -1,20 +1,20 @@
 -- Lines in which what contexts clear is put back in the order in which it was cleared.
 use Rattle.std.specs.Prelude.{◌≡◌, ℕ, Bool, true, ◌&&◌, List, ◌∷◌, ◌++◌, drop, is_none}
 use Rattle.std.specs.List.{filter_map}
-use Rattle.syntect_contexts.specs.Contexts.{target}
-use Rattle.syntect_winner.specs.Engine.{Engine}
+use Rattle.syntect_parsing.specs.syntect_grammar_contexts.Contexts.{target}
+use Rattle.syntect_reading_choice.specs.Engine.{Engine}
 use Rattle.syntect_parsing.specs.Visible.{top_clearing}
 use Rattle.syntect_parsing.specs.Operations.{clear_nothing}
-use Rattle.syntect_winner.specs.Turn.{Live}
+use Rattle.syntect_reading_choice.specs.Turn.{Live}
 use Rattle.syntect_parsing.specs.Line.{Answer, AnswersAll, Reaches, ReadsLine, at_start}
 use Rattle.syntect_parsing.specs.Scopes.{Scopes}
 use Rattle.syntect_parsing.specs.Refusals.{Picks}
-use Rattle.syntect_contexts.specs.declared.context.MatchOperation.{MatchOperation}
-use Rattle.syntect_contexts.specs.declared.context.MatchOperation.TheVariants as op
-use Rattle.syntect_grammar.specs.declared.syntax_set.SyntaxSet.{SyntaxSet}
-use Rattle.syntect_winner.specs.declared.position.Position.{Position}
+use Rattle.syntect_parsing.specs.syntect_grammar_contexts.declared.context.MatchOperation.{MatchOperation}
+use Rattle.syntect_parsing.specs.syntect_grammar_contexts.declared.context.MatchOperation.TheVariants as op
+use Rattle.syntect_parsing.specs.syntect_grammar.declared.syntax_set.SyntaxSet.{SyntaxSet}
+use Rattle.syntect_reading_choice.specs.declared.position.Position.{Position}
 use Rattle.syntect_parsing.specs.States.{Standing}
-use Rattle.syntect_winner.specs.declared.level.Level.{Level}
+use Rattle.syntect_reading_choice.specs.declared.level.Level.{Level}
 
 -- no context of a push or set clears after its first, and a set leaves no context that clears: then
 -- what is cleared is put back in order

@@ -1,12 +1,12 @@
 -- Which scopes the bytes of a turn have.
-pub use Rattle.syntect_contexts.specs.Contexts.{Scopes}
+pub use Rattle.syntect_parsing.specs.syntect_grammar_contexts.Contexts.{Scopes}
 use Rattle.std.specs.Prelude.{ℕ, nat_le, nat_lt, ◌-◌, Bool, ◌&&◌, not, List, [], ◌∷◌, ◌++◌, map, filter, Option, Some, None, unwrap_or, replicate, if◌then◌else◌}
 use Rattle.std.specs.List.{filter_map, flat_map, range_with_len}
-use Rattle.syntect_winner.specs.Engine.{Engine}
-use Rattle.syntect_winner.specs.Turn.{Live, group_at}
+use Rattle.syntect_reading_choice.specs.Engine.{Engine}
+use Rattle.syntect_reading_choice.specs.Turn.{Live, group_at}
 use Rattle.syntect_parsing.specs.Visible.{visible, visible_base}
-use Rattle.syntect_grammar.specs.declared.syntax_set.SyntaxSet.{SyntaxSet}
-use Rattle.syntect_winner.specs.declared.level.Level.{Level}
+use Rattle.syntect_parsing.specs.syntect_grammar.declared.syntax_set.SyntaxSet.{SyntaxSet}
+use Rattle.syntect_reading_choice.specs.declared.level.Level.{Level}
 
 -- a capture that has effect: where it stands, and its scopes
 pub record Capture : Type 0 where

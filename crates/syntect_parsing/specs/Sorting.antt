@@ -1,6 +1,8 @@
 -- A stable sort by a number.
 use Rattle.std.specs.Prelude.{ℕ, nat_lt, List, [], ◌∷◌, if◌then◌else◌}
 
+-- ---- For proofs and private functions alone ----
+
 -- an element put after those of lower numbers
 abbrev pub put_behind : {X : Type 0} → (X → ℕ) → X → List X → List X
 put_behind n x [] = x ∷ []

@@ -1,13 +1,13 @@
 -- What loaded grammars are known by: each byte of their texts has a scope.
 use Rattle.std.specs.Prelude.{◌≢◌, ℕ, List, [], ◌∷◌, ◌++◌}
-use Rattle.syntect_winner.specs.Engine.{Engine}
-use Rattle.syntect_grammar.specs.Contexts.{part_of}
+use Rattle.syntect_reading_choice.specs.Engine.{Engine}
+use Rattle.syntect_parsing.specs.syntect_grammar.Contexts.{part_of}
 use Rattle.syntect_parsing.specs.Scopes.{Scopes}
 use Rattle.syntect_parsing.specs.Line.{Answer, Accepted, RefusedBy, AnswersAll, start}
 use Rattle.syntect_parsing.specs.Refusals.{IsClosed, IsNeverLeft}
 use Rattle.syntect_parsing.specs.Open.{ClearsNothing}
-use Rattle.syntect_contexts.specs.declared.context.ContextId.{ContextId}
-use Rattle.syntect_grammar.specs.declared.syntax_set.SyntaxSet.{SyntaxSet}
+use Rattle.syntect_parsing.specs.syntect_grammar_contexts.declared.context.ContextId.{ContextId}
+use Rattle.syntect_parsing.specs.syntect_grammar.declared.syntax_set.SyntaxSet.{SyntaxSet}
 use Rattle.syntect_parsing.specs.States.{Standing}
 
 -- each byte of a line has a scope

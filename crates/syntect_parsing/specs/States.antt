@@ -1,6 +1,6 @@
 -- What is kept between two lines.
 use Rattle.std.specs.Prelude.{◌≡◌, ℕ}
-pub use Rattle.syntect_winner.specs.declared.level.Level.{Level}
+pub use Rattle.syntect_reading_choice.specs.declared.level.Level.{Level}
 pub use Rattle.syntect_parsing.specs.declared.parser.Standing.{Standing}
 use Rattle.syntect_parsing.specs.declared.parser.ParseState.{ParseState}
 

@@ -1,20 +1,22 @@
 -- What a call that makes one turn does.
 use Rattle.std.specs.Prelude.{◌≡◌, ℕ, ◌-◌, ◌+◌, ◌*◌, ◌≤◌, Bool, true, false, List, ◌++◌, length}
-use Rattle.syntect_scope.specs.declared.stack.ScopeStackOp.{ScopeStackOp}
+use Rattle.syntect_parsing.specs.syntect_scope.declared.stack.ScopeStackOp.{ScopeStackOp}
 use Rattle.std.specs.Str.{IsCharBoundary}
-use Rattle.syntect_scope.specs.Replay.{Replay, InOrder, AllApply, replay}
-use Rattle.syntect_grammar.specs.Contexts.{contexts_of}
-use Rattle.syntect_winner.specs.Engine.{Engine}
+use Rattle.syntect_parsing.specs.syntect_scope.Replay.{Replay, InOrder, AllApply, replay}
+use Rattle.syntect_parsing.specs.syntect_grammar.Contexts.{contexts_of}
+use Rattle.syntect_reading_choice.specs.Engine.{Engine}
 use Rattle.syntect_parsing.specs.Scopes.{Scopes}
 use Rattle.syntect_parsing.specs.Stacks.{IsAt, Remembers, stack_of}
 use Rattle.syntect_parsing.specs.Line.{Step, Goes, Ends, Refused, turn}
 use Rattle.syntect_parsing.specs.Laws.{longest}
 use Rattle.syntect_parsing.specs.Orderly.{IsOrderlyTurn}
-use Rattle.syntect_grammar.specs.declared.syntax_set.SyntaxSet.{SyntaxSet}
-use Rattle.syntect_winner.specs.declared.position.TheConstants.{MOST_IDLE}
-use Rattle.syntect_winner.specs.declared.position.Position.{Position}
-use Rattle.syntect_contexts.specs.declared.error.ParsingError.{ParsingError}
-use Rattle.syntect_contexts.specs.declared.error.ParsingError.TheVariants as error
+use Rattle.syntect_parsing.specs.syntect_grammar.declared.syntax_set.SyntaxSet.{SyntaxSet}
+use Rattle.syntect_reading_choice.specs.declared.position.TheConstants.{MOST_IDLE}
+use Rattle.syntect_reading_choice.specs.declared.position.Position.{Position}
+use Rattle.syntect_parsing.specs.syntect_grammar_contexts.declared.error.ParsingError.{ParsingError}
+use Rattle.syntect_parsing.specs.syntect_grammar_contexts.declared.error.ParsingError.TheVariants as error
+
+-- ---- For proofs and private functions alone ----
 
 -- The step goes on to q, and these operations were added. They apply to any stack that remembers a
 -- list for each level that clears, and leave such a one; where the step is orderly, they show the

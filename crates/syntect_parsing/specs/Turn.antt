@@ -1,22 +1,22 @@
 -- What the match that a turn takes leaves.
-pub use Rattle.syntect_contexts.specs.Contexts.{list_of, named}
-pub use Rattle.syntect_openings.specs.Names.{unresolved, missing, refusal}
+pub use Rattle.syntect_parsing.specs.syntect_grammar_contexts.Contexts.{list_of, named}
+pub use Rattle.syntect_parsing.specs.syntect_reading_state.Names.{unresolved, missing, refusal}
 use Rattle.std.specs.Prelude.{ℕ, ◌==◌, nat_lt, ◌+◌, ◌-◌, Bool, false, List, [], ◌∷◌, ◌++◌, length, take, filter, Option, Some, None, if◌then◌else◌}
 use Rattle.std.specs.Option.{option_map_or, option_and_then, option_to_list}
 use Rattle.std.specs.List.{filter_map, list_any}
-use Rattle.syntect_contexts.specs.Substitution.{Opening}
-use Rattle.syntect_grammar.specs.Contexts.{context_at}
-use Rattle.syntect_contexts.specs.Contexts.{target}
-use Rattle.syntect_winner.specs.Chain.{last}
-use Rattle.syntect_winner.specs.Turn.{Live, char_len}
-use Rattle.syntect_contexts.specs.declared.context.ContextId.{ContextId}
-use Rattle.syntect_contexts.specs.declared.context.ContextReference.{ContextReference}
-use Rattle.syntect_contexts.specs.declared.context.MatchOperation.{MatchOperation}
-use Rattle.syntect_contexts.specs.declared.context.MatchOperation.TheVariants as op
-use Rattle.syntect_grammar.specs.declared.syntax_set.SyntaxSet.{SyntaxSet}
-use Rattle.syntect_winner.specs.declared.level.Level.{Level}
-use Rattle.syntect_winner.specs.declared.position.Record.{Record}
-use Rattle.syntect_winner.specs.declared.position.Position.{Position}
+use Rattle.syntect_parsing.specs.syntect_grammar_contexts.Substitution.{Opening}
+use Rattle.syntect_parsing.specs.syntect_grammar.Contexts.{context_at}
+use Rattle.syntect_parsing.specs.syntect_grammar_contexts.Contexts.{target}
+use Rattle.syntect_reading_choice.specs.Chain.{last}
+use Rattle.syntect_reading_choice.specs.Turn.{Live, char_len}
+use Rattle.syntect_parsing.specs.syntect_grammar_contexts.declared.context.ContextId.{ContextId}
+use Rattle.syntect_parsing.specs.syntect_grammar_contexts.declared.context.ContextReference.{ContextReference}
+use Rattle.syntect_parsing.specs.syntect_grammar_contexts.declared.context.MatchOperation.{MatchOperation}
+use Rattle.syntect_parsing.specs.syntect_grammar_contexts.declared.context.MatchOperation.TheVariants as op
+use Rattle.syntect_parsing.specs.syntect_grammar.declared.syntax_set.SyntaxSet.{SyntaxSet}
+use Rattle.syntect_reading_choice.specs.declared.level.Level.{Level}
+use Rattle.syntect_reading_choice.specs.declared.position.Record.{Record}
+use Rattle.syntect_reading_choice.specs.declared.position.Position.{Position}
 
 -- ---- the levels after the winner ----
 

@@ -1,20 +1,20 @@
 -- Which scopes are open, where contexts clear some of those below them.
-pub use Rattle.syntect_openings.specs.Opens.{clearing}
+pub use Rattle.syntect_parsing.specs.syntect_reading_state.Opens.{clearing}
 use Rattle.std.specs.Prelude.{◌-◌, List, [], ◌++◌, length, take, fold, Option, Some, None}
 use Rattle.std.specs.Option.{option_map_or, option_and_then}
 use Rattle.std.specs.List.{filter_map, flat_map}
-use Rattle.syntect_scope.specs.declared.stack.ClearAmount.{ClearAmount}
-use Rattle.syntect_scope.specs.declared.stack.ClearAmount.TheVariants.{TopN, All}
-use Rattle.syntect_grammar.specs.Contexts.{part_of}
-use Rattle.syntect_contexts.specs.Contexts.{Scopes, target}
-use Rattle.syntect_winner.specs.Chain.{last}
+use Rattle.syntect_parsing.specs.syntect_scope.declared.stack.ClearAmount.{ClearAmount}
+use Rattle.syntect_parsing.specs.syntect_scope.declared.stack.ClearAmount.TheVariants.{TopN, All}
+use Rattle.syntect_parsing.specs.syntect_grammar.Contexts.{part_of}
+use Rattle.syntect_parsing.specs.syntect_grammar_contexts.Contexts.{Scopes, target}
+use Rattle.syntect_reading_choice.specs.Chain.{last}
 use Rattle.syntect_parsing.specs.Turn.{without_last}
-use Rattle.syntect_contexts.specs.declared.context.Context.{Context}
-use Rattle.syntect_contexts.specs.declared.context.ContextId.{ContextId}
-use Rattle.syntect_contexts.specs.declared.context.MatchOperation.{MatchOperation}
-use Rattle.syntect_contexts.specs.declared.context.MatchOperation.TheVariants as op
-use Rattle.syntect_grammar.specs.declared.syntax_set.SyntaxSet.{SyntaxSet}
-use Rattle.syntect_winner.specs.declared.level.Level.{Level}
+use Rattle.syntect_parsing.specs.syntect_grammar_contexts.declared.context.Context.{Context}
+use Rattle.syntect_parsing.specs.syntect_grammar_contexts.declared.context.ContextId.{ContextId}
+use Rattle.syntect_parsing.specs.syntect_grammar_contexts.declared.context.MatchOperation.{MatchOperation}
+use Rattle.syntect_parsing.specs.syntect_grammar_contexts.declared.context.MatchOperation.TheVariants as op
+use Rattle.syntect_parsing.specs.syntect_grammar.declared.syntax_set.SyntaxSet.{SyntaxSet}
+use Rattle.syntect_reading_choice.specs.declared.level.Level.{Level}
 
 -- how much the top level's context clears, and a part of that context
 abbrev pub top_clearing : SyntaxSet → List Level → Option ClearAmount

@@ -1,17 +1,17 @@
 -- Lines that are read within limits.
 use Rattle.std.specs.Prelude.{◌≡◌, ◌≢◌, ◌≤◌, ◌<◌, ℕ, List, [], length, Some, Result, Ok, Err}
-use Rattle.syntect_base.specs.Limiting.{IsWithinLimit, limit_of}
-use Rattle.syntect_base.specs.declared.limits.Limits.{Limits}
-use Rattle.syntect_contexts.specs.declared.error.ParsingError.{ParsingError}
-use Rattle.syntect_contexts.specs.declared.error.ParsingError.TheVariants.{Memory}
-use Rattle.syntect_grammar.specs.declared.syntax_set.SyntaxSet.{SyntaxSet}
-use Rattle.syntect_meter.specs.Meter.{Reading}
-use Rattle.syntect_winner.specs.Engine.{Engine}
-use Rattle.syntect_winner.specs.declared.halt.Halt.{Halt}
-use Rattle.syntect_winner.specs.declared.halt.Halt.TheVariants as halt
-use Rattle.syntect_winner.specs.declared.position.Position.{Position}
+use Rattle.syntect_parsing.specs.syntect_base.Limiting.{IsWithinLimit, limit_of}
+use Rattle.syntect_parsing.specs.syntect_base.declared.limits.Limits.{Limits}
+use Rattle.syntect_parsing.specs.syntect_grammar_contexts.declared.error.ParsingError.{ParsingError}
+use Rattle.syntect_parsing.specs.syntect_grammar_contexts.declared.error.ParsingError.TheVariants.{Memory}
+use Rattle.syntect_parsing.specs.syntect_grammar.declared.syntax_set.SyntaxSet.{SyntaxSet}
+use Rattle.syntect_parsing.specs.syntect_count.Meter.{Reading}
+use Rattle.syntect_reading_choice.specs.Engine.{Engine}
+use Rattle.syntect_reading_choice.specs.declared.halt.Halt.{Halt}
+use Rattle.syntect_reading_choice.specs.declared.halt.Halt.TheVariants as halt
+use Rattle.syntect_reading_choice.specs.declared.position.Position.{Position}
 use Rattle.syntect_parsing.specs.Line.{Reaches, at_start}
-use Rattle.syntect_parsing.specs.Meaning.{MayRefuse}
+use Rattle.syntect_parsing.specs.Meaning.{RefusesLineOrMemory}
 use Rattle.syntect_parsing.specs.States.{Standing}
 use Rattle.syntect_parsing.specs.Work.{UnlessWanting}
 use Rattle.syntect_parsing.specs.declared.within.ReadWithinError.{ReadWithinError}
@@ -19,21 +19,11 @@ use Rattle.syntect_parsing.specs.declared.within.ReadWithinError.TheVariants.{Re
 use Rattle.syntect_parsing.specs.declared.within.LineLimit.{LineLimit}
 use Rattle.syntect_parsing.specs.declared.within.LineLimit.TheVariants.{Steps, Turns, Levels, Operations}
 
--- this holds of the refusal, if it is one that comes without limits too
-abbrev pub IfRefused : (ParsingError → Type 0) → ReadWithinError → Type 0
-IfRefused P (Refused e) = P e
-IfRefused P (LimitReached l) = Unit {0}
-
 -- why the line is not read, where a turn has no answer
 abbrev pub stop_of : Halt → ReadWithinError
 stop_of halt.Memory = Refused Memory
 stop_of (halt.Spent pattern place) =
     LimitReached (Steps pattern.context pattern.index place)
-
--- the refusal of a line that is read without limits, where none is ever reached
-abbrev pub refusal_of : ReadWithinError → ParsingError
-refusal_of (Refused e) = e
-refusal_of (LimitReached l) = Memory
 
 -- the line's reading comes to a place with so many open levels
 pub record ComesTo (engine : Engine) (set : SyntaxSet) (line : List ℕ) (state : Standing)
@@ -55,9 +45,9 @@ IsThere engine set line state (Operations place operations) =
 
 -- a refusal that may come without limits; or a limit was reached, but not where no level is open,
 -- as no turn is made there
-abbrev pub MayRefuseWithin : Engine → SyntaxSet → List ℕ → Standing → ReadWithinError → Type 0
-MayRefuseWithin engine set line state (Refused e) = MayRefuse engine set line state e
-MayRefuseWithin engine set line state (LimitReached l) =
+abbrev pub RefusesWithinOrMemory : Engine → SyntaxSet → List ℕ → Standing → ReadWithinError → Type 0
+RefusesWithinOrMemory engine set line state (Refused e) = RefusesLineOrMemory engine set line state e
+RefusesWithinOrMemory engine set line state (LimitReached l) =
     (state.levels ≢ []) × IsThere engine set line state l
 
 -- so many are more than the limit says
@@ -81,6 +71,28 @@ ReachesLimit limits turns steps (LimitReached (Levels place levels)) =
     PassesLimit limits.levels levels
 ReachesLimit limits turns steps (LimitReached (Operations place operations)) =
     PassesLimit limits.operations operations
+
+-- this holds, unless memory ran out or a limit was reached
+abbrev pub UnlessStop : Type 0 → ReadWithinError → Type 0
+UnlessStop P (Refused e) = UnlessWanting P e
+UnlessStop P (LimitReached l) = Unit {0}
+
+-- the same of an answer or a refusal
+abbrev pub UnlessStopped : {X : Type 0} → Result X ReadWithinError → Type 0 → Type 0
+UnlessStopped (Ok x) P = P
+UnlessStopped (Err e) P = UnlessStop P e
+
+-- ---- For proofs and private functions alone ----
+
+-- this holds of the refusal, if it is one that comes without limits too
+abbrev pub IfRefused : (ParsingError → Type 0) → ReadWithinError → Type 0
+IfRefused P (Refused e) = P e
+IfRefused P (LimitReached l) = Unit {0}
+
+-- the refusal of a line that is read without limits, where none is ever reached
+abbrev pub refusal_of : ReadWithinError → ParsingError
+refusal_of (Refused e) = e
+refusal_of (LimitReached l) = Memory
 
 -- where the meter stopped the line no step is left
 abbrev pub StopsLineAt : Reading → ReadWithinError → Type 0
@@ -108,13 +120,3 @@ StandsAt limits p told made (Levels place levels) =
     (p.place ≡ place) × (length p.levels ≡ levels) × PassesLimit limits.levels levels
 StandsAt limits p told made (Operations place operations) =
     (p.place ≡ place) × (made ≡ operations) × PassesLimit limits.operations operations
-
--- this holds, unless memory ran out or a limit was reached
-abbrev pub UnlessStop : Type 0 → ReadWithinError → Type 0
-UnlessStop P (Refused e) = UnlessWanting P e
-UnlessStop P (LimitReached l) = Unit {0}
-
--- the same of an answer or a refusal
-abbrev pub UnlessStopped : {X : Type 0} → Result X ReadWithinError → Type 0 → Type 0
-UnlessStopped (Ok x) P = P
-UnlessStopped (Err e) P = UnlessStop P e

@@ -1,23 +1,23 @@
 -- How many steps the searches of a line take at most.
 use Rattle.std.specs.Prelude.{◌≡◌, ℕ, ◌+◌, ◌*◌, ◌≤◌, true, false, List, length, Some, slice_get, Result, Ok, Err}
 use Rattle.std.specs.List.{flat_map}
-use Rattle.syntect_grammar.specs.Patterns.{entries, patterns_of}
-use Rattle.syntect_regex.specs.Bounds.{pattern_is_linear, search_bound}
-use Rattle.syntect_winner.specs.Chain.{chain_at}
-use Rattle.syntect_winner.specs.Engine.{dialect}
-use Rattle.syntect_winner.specs.Steps.{ArePutWithin, AreWithin, turn_steps, turn_work}
+use Rattle.syntect_parsing.specs.syntect_grammar.Patterns.{entries, patterns_of}
+use Rattle.syntect_parsing.specs.syntect_regex.Bounds.{pattern_is_linear, search_bound}
+use Rattle.syntect_reading_choice.specs.Chain.{chain_at}
+use Rattle.syntect_reading_choice.specs.Engine.{dialect}
+use Rattle.syntect_reading_choice.specs.Steps.{ArePutWithin, AreWithin, turn_steps, turn_work}
 use Rattle.syntect_parsing.specs.Bound.{most_turns}
 use Rattle.syntect_parsing.specs.Line.{Reaches, at_start}
 use Rattle.syntect_parsing.specs.Turn.{trimmed}
-use Rattle.syntect_contexts.specs.declared.context.ContextId.{ContextId}
-use Rattle.syntect_contexts.specs.declared.context.MatchPattern.{MatchPattern}
-use Rattle.syntect_contexts.specs.declared.context.Pattern.TheVariants.{Match}
-use Rattle.syntect_grammar.specs.declared.syntax_set.SyntaxSet.{SyntaxSet}
-use Rattle.syntect_winner.specs.declared.level.Level.{Level}
-use Rattle.syntect_winner.specs.declared.position.Position.{Position}
+use Rattle.syntect_parsing.specs.syntect_grammar_contexts.declared.context.ContextId.{ContextId}
+use Rattle.syntect_parsing.specs.syntect_grammar_contexts.declared.context.MatchPattern.{MatchPattern}
+use Rattle.syntect_parsing.specs.syntect_grammar_contexts.declared.context.Pattern.TheVariants.{Match}
+use Rattle.syntect_parsing.specs.syntect_grammar.declared.syntax_set.SyntaxSet.{SyntaxSet}
+use Rattle.syntect_reading_choice.specs.declared.level.Level.{Level}
+use Rattle.syntect_reading_choice.specs.declared.position.Position.{Position}
 use Rattle.syntect_parsing.specs.States.{Standing}
-use Rattle.syntect_contexts.specs.declared.error.ParsingError.{ParsingError}
-use Rattle.syntect_contexts.specs.declared.error.ParsingError.TheVariants as error
+use Rattle.syntect_parsing.specs.syntect_grammar_contexts.declared.error.ParsingError.{ParsingError}
+use Rattle.syntect_parsing.specs.syntect_grammar_contexts.declared.error.ParsingError.TheVariants as error
 
 -- Each turn of the line's reading looks at no more patterns than this; what is searched for each is
 -- linear, a search of it in the line takes no more steps than that, and to put the texts of groups
@@ -35,12 +35,6 @@ abbrev pub TakesSteps : SyntaxSet → List ℕ → Standing → ℕ → ℕ → 
 TakesSteps set line state turns before after = (patterns most put : ℕ)
     → LooksWithin set line state patterns most put
     → after ≤ before + turns * turn_work patterns most put (length line)
-
--- the same of the one turn from a position where cuts are dropped
-abbrev pub TakesTurnSteps : SyntaxSet → List ℕ → Position → ℕ → ℕ → Type 0
-TakesTurnSteps set line p before after = (most put : ℕ)
-    → AreWithin (length line) most (chain_at set p) → ArePutWithin put (chain_at set p)
-    → after ≤ before + turn_work (length (chain_at set p)) most put (length line)
 
 -- ---- a bound that the set and the line give ----
 
@@ -89,3 +83,11 @@ UnlessWanting P e = P
 abbrev pub UnlessMemory : {X : Type 0} → Result X ParsingError → Type 0 → Type 0
 UnlessMemory (Ok x) P = P
 UnlessMemory (Err e) P = UnlessWanting P e
+
+-- ---- For proofs and private functions alone ----
+
+-- the same of the one turn from a position where cuts are dropped
+abbrev pub TakesTurnSteps : SyntaxSet → List ℕ → Position → ℕ → ℕ → Type 0
+TakesTurnSteps set line p before after = (most put : ℕ)
+    → AreWithin (length line) most (chain_at set p) → ArePutWithin put (chain_at set p)
+    → after ≤ before + turn_work (length (chain_at set p)) most put (length line)

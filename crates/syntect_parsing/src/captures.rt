@@ -2,18 +2,18 @@
 ghost use Rattle.std.specs.Prelude.{◌≡◌, ◌<◌, ◌&&◌, nat_lt, nat_le, not, IsTrue, map, IfOk, IfSome, OnOk};
 ghost use Rattle.std.specs.Option.{option_map};
 ghost use Rattle.std.specs.List.{flat_map, filter_map};
-ghost use Rattle.syntect_winner.specs.Engine.{dialect};
-ghost use Rattle.syntect_winner.specs.Turn.{group_at};
+ghost use Rattle.syntect_reading_choice.specs.Engine.{dialect};
+ghost use Rattle.syntect_reading_choice.specs.Turn.{group_at};
 ghost use Rattle.syntect_parsing.specs.Scopes.{Scopes, effect, captures};
 ghost use Rattle.syntect_parsing.specs.Sorting.{in_order};
-ghost use Rattle.syntect_parsing.specs.Candidates.{live_of, seen_mark, marks_of, AreMarksOf};
-ghost use Rattle.syntect_winner.specs.Candidates.{text_of};
+ghost use Rattle.syntect_parsing.specs.MatchViews.{live_of, seen_mark, marks_of, AreMarksOf};
+ghost use Rattle.syntect_reading_choice.specs.ChoiceViews.{text_of};
 
+use crate::below::scope::scope::Scope;
+use crate::below::values::seq::Seq;
 use crate::taken::Taken;
 use std::alloc::AllocError;
-use syntect_scope::scope::Scope;
-use syntect_values::seq::Seq;
-use syntect_winner::search::Candidate;
+use syntect_reading_choice::search::Candidate;
 
 /// Where scopes of a capture are pushed or popped.
 #[derive(Clone, Copy)]

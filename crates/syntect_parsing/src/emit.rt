@@ -1,27 +1,27 @@
 //! The operations of a match.
 ghost use Rattle.std.specs.Prelude.{◌≡◌, ◌<◌, ◌+◌, ◌++◌, List, length, OnOk};
 ghost use Rattle.std.specs.Option.{option_copied, option_and_then};
-ghost use Rattle.syntect_grammar.specs.Contexts.{context_at};
+ghost use Rattle.syntect_parsing.specs.syntect_grammar.Contexts.{context_at};
 ghost use Rattle.syntect_parsing.specs.Operations.{operations_pushed, operations_set, metas, restores, all_below};
 ghost use Rattle.syntect_parsing.specs.Visible.{top_clearing, top_part};
-ghost use Rattle.syntect_winner.specs.Engine.{dialect};
+ghost use Rattle.syntect_reading_choice.specs.Engine.{dialect};
 ghost use Rattle.syntect_parsing.specs.Scopes.{Capture, captures};
-ghost use Rattle.syntect_parsing.specs.Candidates.{live_of, marks_operations, AreMarksOf, operations_between, operations_by};
-ghost use Rattle.syntect_winner.specs.Chain.{last};
-ghost use Rattle.syntect_scope.specs.Replay.{pushes, pops};
+ghost use Rattle.syntect_parsing.specs.MatchViews.{live_of, marks_operations, AreMarksOf, operations_between, operations_by};
+ghost use Rattle.syntect_reading_choice.specs.Chain.{last};
+ghost use Rattle.syntect_parsing.specs.syntect_scope.Replay.{pushes, pops};
 
-use crate::captures::{Mark, capture_marks};
-use crate::taken::Taken;
-use std::alloc::AllocError;
-use syntect_grammar::syntax_definition::{Context, ContextReference, MatchOperation};
-use syntect_grammar::syntax_set::SyntaxSet;
-use syntect_openings::references::{
+use crate::below::grammar::syntax_definition::{Context, ContextReference, MatchOperation};
+use crate::below::grammar::syntax_set::SyntaxSet;
+use crate::below::reading_state::references::{
     Ops, clear_nothing, count_metas, no_contents, open_below, open_here, pop_scopes, push_metas,
     push_opens, push_scopes, restore,
 };
-use syntect_scope::stack::{ClearAmount, ScopeStackOp};
-use syntect_winner::level::Level;
-use syntect_winner::search::Candidate;
+use crate::below::scope::stack::{ClearAmount, ScopeStackOp};
+use crate::captures::{Mark, capture_marks};
+use crate::taken::Taken;
+use std::alloc::AllocError;
+use syntect_reading_choice::level::Level;
+use syntect_reading_choice::search::Candidate;
 
 /// The top level's context, if the set has it.
 fn top_of<'s>(set: &'s SyntaxSet, levels: &[Level]) -> Option<&'s Context>

@@ -2,9 +2,9 @@
 ghost use Rattle.syntect_parsing.specs.Laws.{NeverBoth, AnswersMore, StackIsOpen, LaysGroupsOut};
 ghost use Rattle.syntect_parsing.specs.Refusals.{RefusesUnresolved, LinksClosed};
 ghost use Rattle.syntect_parsing.specs.Standing.{BytesHaveScopes};
-ghost use Rattle.syntect_winner.specs.Engine.{dialect};
+ghost use Rattle.syntect_reading_choice.specs.Engine.{dialect};
 
-pub use syntect_winner::laws::dialect_finds_in_text;
+pub use syntect_reading_choice::laws::dialect_finds_in_text;
 
 /// No line is both accepted and refused.
 #[tactic(auto, using(crate::proofs::AnswerLaws::never_both))]
@@ -30,8 +30,8 @@ pub fn stack_is_open()
 pub fn dialect_lays_groups_out()
     ensures { LaysGroupsOut dialect }
 {
-    syntect_pattern_laws::matches_are_laid_out();
-    syntect_pattern_laws::groups_are_numbered();
+    crate::below::pattern::laws::matches_are_laid_out();
+    crate::below::pattern::laws::groups_are_numbered();
 }
 
 /// A text that begins in a context that is never left is refused exactly where a picked match names

@@ -2,24 +2,24 @@
 ghost use Rattle.std.specs.Prelude.{◌≡◌, ◌≤◌, ◌++◌, [], IfOk, ◌==◌, ◌+◌, ◌<◌, if◌then◌else◌};
 ghost use Rattle.std.specs.Option.{option_map_or, option_and_then};
 ghost use Rattle.std.specs.List.{list_any};
-ghost use Rattle.syntect_contexts.specs.Contexts.{target};
+ghost use Rattle.syntect_parsing.specs.syntect_grammar_contexts.Contexts.{target};
 ghost use Rattle.syntect_parsing.specs.Turn.{uses_backrefs, new_level, new_levels, levels_after, position_after};
-ghost use Rattle.syntect_winner.specs.Turn.{list_of};
-ghost use Rattle.syntect_parsing.specs.Candidates.{live_of, opening_by, record_at};
-ghost use Rattle.syntect_winner.specs.Chain.{last};
+ghost use Rattle.syntect_reading_choice.specs.Turn.{list_of};
+ghost use Rattle.syntect_parsing.specs.MatchViews.{live_of, opening_by, record_at};
+ghost use Rattle.syntect_reading_choice.specs.Chain.{last};
 
+use crate::below::grammar::syntax_definition::{ContextId, ContextReference, MatchOperation};
+use crate::below::grammar::syntax_set::SyntaxSet;
+use crate::below::reading_state::names::targets;
+use crate::below::reading_state::opening::Opening;
+use crate::below::values::seq::Seq;
+use crate::below::values::text::Text;
 use crate::taken::Taken;
 use std::alloc::{AllocError, Global};
 use std::mem;
-use syntect_grammar::syntax_definition::{ContextId, ContextReference, MatchOperation};
-use syntect_grammar::syntax_set::SyntaxSet;
-use syntect_openings::names::targets;
-use syntect_openings::opening::Opening;
-use syntect_values::seq::Seq;
-use syntect_values::text::Text;
-use syntect_winner::level::Level;
-use syntect_winner::position::{MOST_IDLE, Position, Record};
-use syntect_winner::search::Candidate;
+use syntect_reading_choice::level::Level;
+use syntect_reading_choice::position::{MOST_IDLE, Position, Record};
+use syntect_reading_choice::search::Candidate;
 
 /// Whether a context is marked as using back references.
 fn uses_backrefs(set: &SyntaxSet, id: ContextId) -> bool

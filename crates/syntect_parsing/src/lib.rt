@@ -4,6 +4,7 @@
 //! The modules of grammars are those of `syntect_grammar`.
 #![tactic(auto)]
 
+pub mod below;
 mod captures;
 mod emit;
 pub mod laws;
@@ -13,5 +14,5 @@ mod taken;
 mod turn;
 pub mod within;
 
-pub use syntect_grammar::{error, syntax_set, yaml_load};
-pub use syntect_openings::syntax_definition;
+pub use crate::below::grammar::{error, syntax_set, yaml_load};
+pub use crate::below::reading_state::syntax_definition;

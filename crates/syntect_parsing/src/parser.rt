@@ -1,36 +1,36 @@
 //! Reading a line.
 ghost use Rattle.std.specs.Prelude.{◌≡◌, ◌≢◌, ◌↔◌, ◌+◌, ◌-◌, ◌≤◌, ◌<◌, ◌^◌, ℕ, [], take, Some, length, IfOk, IfErr, IfNone, IfSome, OnOk, OnErr, IsTrue, true, false};
 ghost use Rattle.std.specs.Option.{option_to_list, option_map_or};
-ghost use Rattle.syntect_scope.specs.Replay.{pushes};
-ghost use Rattle.syntect_grammar.specs.Contexts.{part_of};
-ghost use Rattle.syntect_winner.specs.Chain.{last};
-ghost use Rattle.syntect_winner.specs.Engine.{dialect};
+ghost use Rattle.syntect_parsing.specs.syntect_scope.Replay.{pushes};
+ghost use Rattle.syntect_parsing.specs.syntect_grammar.Contexts.{part_of};
+ghost use Rattle.syntect_reading_choice.specs.Chain.{last};
+ghost use Rattle.syntect_reading_choice.specs.Engine.{dialect};
 ghost use Rattle.syntect_parsing.specs.Line.{start_id, start_of, at_start, first_push};
-ghost use Rattle.syntect_parsing.specs.Meaning.{MayLackStart, Accepts, MayRefuse};
+ghost use Rattle.syntect_parsing.specs.Meaning.{MayLackStart, Accepts, RefusesLineOrMemory};
 ghost use Rattle.syntect_parsing.specs.States.{standing, turns_made, steps_made, CountsSame};
 ghost use Rattle.syntect_parsing.specs.Bound.{TakesTurns, TakesAll, TakesNoMore, IsTold, most_turns};
 ghost use Rattle.syntect_parsing.specs.Work.{TakesSteps, TakesMostSteps, UnlessMemory};
-ghost use Rattle.syntect_parsing.specs.Within.{KeepsLevels, MayRefuseWithin, PassesLimit, ReachesHere, ReachesLimit, StandsAt, UnlessStopped, refusal_of};
-ghost use Rattle.syntect_base.specs.Limiting.{IsWithinLimit, limit_of};
-ghost use Rattle.syntect_meter.specs.Meter.{Advances};
+ghost use Rattle.syntect_parsing.specs.Within.{KeepsLevels, RefusesWithinOrMemory, PassesLimit, ReachesHere, ReachesLimit, StandsAt, UnlessStopped, refusal_of};
+ghost use Rattle.syntect_parsing.specs.syntect_base.Limiting.{IsWithinLimit, limit_of};
+ghost use Rattle.syntect_parsing.specs.syntect_count.Meter.{Advances};
 
+use crate::below::base::limits::Limits;
+use crate::below::count::count::GhostCount;
+use crate::below::count::counts::add;
+use crate::below::count::meter::Meter;
+pub use crate::below::grammar::error::ParsingError;
+use crate::below::grammar::syntax_definition::{ContextId, ContextReference};
+use crate::below::grammar::syntax_set::{SyntaxReference, SyntaxSet};
+use crate::below::scope::scope::Scope;
+use crate::below::scope::stack::ScopeStackOp;
+use crate::below::values::seq::Seq;
 use crate::turn::turn;
 use crate::within::{LineLimit, ReadWithinError};
 use std::alloc::{AllocError, AllocFailed, Global};
-use syntect_base::limits::Limits;
-pub use syntect_grammar::error::ParsingError;
-use syntect_grammar::syntax_definition::{ContextId, ContextReference};
-use syntect_grammar::syntax_set::{SyntaxReference, SyntaxSet};
-use syntect_meter::counts::add;
-use syntect_meter::meter::Meter;
-use syntect_scope::scope::Scope;
-use syntect_scope::stack::ScopeStackOp;
-use syntect_turns::count::TurnCount;
-use syntect_values::seq::Seq;
-use syntect_winner::laws::dialect_finds_in_text;
-pub use syntect_winner::level::Level;
-use syntect_winner::position::Position;
-pub use syntect_winner::search::Regions;
+use syntect_reading_choice::laws::dialect_finds_in_text;
+pub use syntect_reading_choice::level::Level;
+use syntect_reading_choice::position::Position;
+pub use syntect_reading_choice::search::Regions;
 
 /// Where a reader stands between lines: open levels, lowest first, whether no line was accepted,
 /// and cuts: heights that `with_prototype` matches found; prototypes below the last are hidden.
@@ -46,8 +46,8 @@ pub struct Standing {
 #[derive(Clone, PartialEq, Eq)]
 pub struct ParseState {
     standing: Standing,
-    count: TurnCount,
-    steps: TurnCount,
+    count: GhostCount,
+    steps: GhostCount,
 }
 
 /// Written out, so that crates above call it and needn't prove each part's drop again.
@@ -94,8 +94,8 @@ impl ParseState {
                 cuts: Seq::new(alloc),
                 first_line: true,
             },
-            count: TurnCount::none(),
-            steps: TurnCount::none(),
+            count: GhostCount::none(),
+            steps: GhostCount::none(),
         })
     }
 
@@ -125,7 +125,7 @@ impl ParseState {
             Accepts dialect syntax_set.now line.now (standing self.old) (standing self.new)
             ops.items) }
         ensures refused { IfErr result (
-            MayRefuse dialect syntax_set.now line.now (standing self.old)) }
+            RefusesLineOrMemory dialect syntax_set.now line.now (standing self.old)) }
         ensures err { OnErr result (standing self.new ≡ standing self.old) }
         ensures taken { OnOk result (TakesAll dialect syntax_set.now line.now (standing self.old)
             (turns_made self.old) (turns_made self.new)) }
@@ -162,7 +162,7 @@ impl ParseState {
             Accepts dialect syntax_set.now line.now (standing self.old) (standing self.new)
             ops.items) }
         ensures refused { IfErr result (
-            MayRefuseWithin dialect syntax_set.now line.now (standing self.old)) }
+            RefusesWithinOrMemory dialect syntax_set.now line.now (standing self.old)) }
         ensures err { OnErr result (standing self.new ≡ standing self.old) }
         ensures taken { OnOk result (TakesAll dialect syntax_set.now line.now (standing self.old)
             (turns_made self.old) (turns_made self.new)) }
@@ -229,7 +229,7 @@ impl ParseState {
         ensures accepted { IfOk result (λ r. Accepts dialect syntax_set.now line.now
             (standing self.old) (standing r.0) r.1.items) }
         ensures refused { IfErr result (
-            MayRefuse dialect syntax_set.now line.now (standing self.old)) }
+            RefusesLineOrMemory dialect syntax_set.now line.now (standing self.old)) }
         ensures stays { standing self.new ≡ standing self.old }
         ensures counts { IfOk result (λ r. CountsSame self.new r.0) }
         ensures taken { OnOk result (TakesAll dialect syntax_set.now line.now (standing self.old)
@@ -265,7 +265,7 @@ impl ParseState {
         ensures accepted { IfOk result (λ r. Accepts dialect syntax_set.now line.now
             (standing self.old) (standing r.0) r.1.items) }
         ensures refused { IfErr result (
-            MayRefuseWithin dialect syntax_set.now line.now (standing self.old)) }
+            RefusesWithinOrMemory dialect syntax_set.now line.now (standing self.old)) }
         ensures stays { standing self.new ≡ standing self.old }
         ensures counts { IfOk result (λ r. CountsSame self.new r.0) }
         ensures taken { OnOk result (TakesAll dialect syntax_set.now line.now (standing self.old)
@@ -330,13 +330,13 @@ pub fn turns_of_line(
     ensures number { IfOk result (λ n. (turns : ℕ) → TakesTurns dialect syntax_set.now line.now
         (standing state.now) turns → IsTold turns n) }
     ensures refused { IfErr result (
-        MayRefuse dialect syntax_set.now line.now (standing state.now)) }
+        RefusesLineOrMemory dialect syntax_set.now line.now (standing state.now)) }
 {
     if state.standing.levels.is_empty() {
         return Err(ParsingError::MissingMainContext);
     }
     let mut regions = Regions::new(alloc);
-    let mut count = TurnCount::none();
+    let mut count = GhostCount::none();
     match read_line(
         alloc,
         syntax_set,
@@ -472,11 +472,11 @@ fn read_line(
     state: &Standing,
     limits: &Limits,
     regions: &mut Regions,
-    count: &mut TurnCount,
+    count: &mut GhostCount,
 ) -> Result<(Standing, Vec<(usize, ScopeStackOp)>, u64), ReadWithinError>
     requires { state.now.levels ≢ [] }
     ensures accepted { IfOk result (λ r. Accepts dialect set.now line.now state.now r.0 r.1.items) }
-    ensures refused { IfErr result (MayRefuseWithin dialect set.now line.now state.now) }
+    ensures refused { IfErr result (RefusesWithinOrMemory dialect set.now line.now state.now) }
     ensures taken { OnOk result
         (TakesAll dialect set.now line.now state.now count.old.made count.new.made) }
     ensures no_more { OnErr result
@@ -542,12 +542,12 @@ fn read_adding(
     state: &Standing,
     limits: &Limits,
     regions: &mut Regions,
-    count: &mut TurnCount,
-    steps: &mut TurnCount,
+    count: &mut GhostCount,
+    steps: &mut GhostCount,
 ) -> Result<(Standing, Vec<(usize, ScopeStackOp)>), ReadWithinError>
     requires { state.now.levels ≢ [] }
     ensures accepted { IfOk result (λ r. Accepts dialect set.now line.now state.now r.0 r.1.items) }
-    ensures refused { IfErr result (MayRefuseWithin dialect set.now line.now state.now) }
+    ensures refused { IfErr result (RefusesWithinOrMemory dialect set.now line.now state.now) }
     ensures taken { OnOk result
         (TakesAll dialect set.now line.now state.now count.old.made count.new.made) }
     ensures no_more { OnErr result

@@ -1,12 +1,12 @@
 //! The match that a turn takes.
 ghost use Rattle.std.specs.Prelude.{◌≤◌, length, IsUtf8};
 ghost use Rattle.std.proofs.Props.{props};
-ghost use Rattle.syntect_contexts.specs.Substitution.{AreOnBoundaries};
+ghost use Rattle.syntect_parsing.specs.syntect_grammar_contexts.Substitution.{AreOnBoundaries};
 
+use crate::below::grammar::syntax_set::SyntaxSet;
+use crate::below::regexes::region::Region;
 use std::alloc::Global;
-use syntect_grammar::syntax_set::SyntaxSet;
-use syntect_regex::region::Region;
-use syntect_winner::search::Candidate;
+use syntect_reading_choice::search::Candidate;
 
 /// A match that a turn takes: the set that it was found with, the line that it stands in, and its
 /// groups, which stand on boundaries of the line's characters.

@@ -1,21 +1,26 @@
 //! One turn of reading a line.
 ghost use Rattle.std.specs.Prelude.{◌≡◌, ◌≤◌, ◌+◌, ℕ, List, nat_lt, filter, IfOk, IfErr, OnOk, IsCharBoundary, true};
-ghost use Rattle.syntect_meter.specs.Meter.{Advances};
+ghost use Rattle.syntect_parsing.specs.syntect_count.Meter.{Advances};
 ghost use Rattle.syntect_parsing.specs.Within.{IfRefused, StopsLineAt, UnlessStopped};
-ghost use Rattle.syntect_winner.specs.Engine.{dialect};
-ghost use Rattle.syntect_winner.specs.Chain.{last};
+ghost use Rattle.syntect_reading_choice.specs.Engine.{dialect};
+ghost use Rattle.syntect_reading_choice.specs.Chain.{last};
 ghost use Rattle.syntect_parsing.specs.Turn.{trimmed, skipped};
-ghost use Rattle.syntect_winner.specs.Turn.{char_len, winner, Take};
+ghost use Rattle.syntect_reading_choice.specs.Turn.{char_len, winner, Take};
 ghost use Rattle.syntect_parsing.specs.Line.{step, turn_on};
-ghost use Rattle.syntect_winner.specs.Candidates.{live_in};
-ghost use Rattle.syntect_winner.specs.Best.{choice_by};
-ghost use Rattle.syntect_winner.specs.Memory.{Remembers};
-ghost use Rattle.syntect_winner.specs.Reader.{AreGroupsBy};
-ghost use Rattle.syntect_parsing.specs.Candidates.{IsTakenFrom, live_of};
+ghost use Rattle.syntect_reading_choice.specs.ChoiceViews.{live_in};
+ghost use Rattle.syntect_reading_choice.specs.Best.{choice_by};
+ghost use Rattle.syntect_reading_choice.specs.Memory.{Remembers};
+ghost use Rattle.syntect_reading_choice.specs.Reader.{AreGroupsBy};
+ghost use Rattle.syntect_parsing.specs.MatchViews.{IsTakenFrom, live_of};
 ghost use Rattle.syntect_parsing.specs.Orderly.{is_orderly};
 ghost use Rattle.syntect_parsing.specs.Step.{MakesStep, RefusesStep, Turns, RefusesTurn};
 ghost use Rattle.syntect_parsing.specs.Work.{TakesTurnSteps};
 
+use crate::below::count::count::GhostCount;
+use crate::below::grammar::syntax_set::SyntaxSet;
+use crate::below::reading_state::names::check_names;
+use crate::below::scope::stack::ScopeStackOp;
+use crate::below::values::seq::Seq;
 use crate::emit::emit;
 use crate::laws::dialect_lays_groups_out;
 use crate::levels::apply;
@@ -24,17 +29,12 @@ use crate::taken::Taken;
 use crate::within::ReadWithinError;
 use std::alloc::Global;
 use std::mem;
-use syntect_grammar::syntax_set::SyntaxSet;
-use syntect_openings::names::check_names;
-use syntect_scope::stack::ScopeStackOp;
-use syntect_turns::count::TurnCount;
-use syntect_values::seq::Seq;
-use syntect_winner::chain::{missing_prototype, parts_of};
-use syntect_winner::laws::{dialect_finds_in_text, dialect_finds_on_boundaries};
-use syntect_winner::position::{MOST_IDLE, Position};
-use syntect_winner::reader::LineReader;
-use syntect_winner::search::{Best, Choice, Regions, choose};
-use syntect_winner::sweep::best_of_chain;
+use syntect_reading_choice::chain::{missing_prototype, parts_of};
+use syntect_reading_choice::laws::{dialect_finds_in_text, dialect_finds_on_boundaries};
+use syntect_reading_choice::position::{MOST_IDLE, Position};
+use syntect_reading_choice::reader::LineReader;
+use syntect_reading_choice::search::{Best, Choice, Regions, choose};
+use syntect_reading_choice::sweep::best_of_chain;
 
 fn drop_from(cuts: &mut Vec<usize>, height: usize)
     ensures { cuts.new.items ≡ filter (λ c. nat_lt c height) cuts.old.items }
@@ -129,7 +129,7 @@ pub fn turn(
     p: &mut Position,
     regions: &mut Regions,
     ops: &mut Vec<(usize, ScopeStackOp)>,
-    count: &mut TurnCount,
+    count: &mut GhostCount,
 ) -> Result<bool, ReadWithinError>
     requires known { Remembers set.now line.now regions.old.memory }
     requires boundary { IsCharBoundary line.now p.old.place }

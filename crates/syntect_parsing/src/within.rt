@@ -1,8 +1,8 @@
 //! Why a line was not read within limits.
+use crate::below::grammar::syntax_definition::ContextId;
 use crate::parser::ParsingError;
 use std::alloc::AllocError;
-use syntect_grammar::syntax_definition::ContextId;
-use syntect_winner::halt::Halt;
+use syntect_reading_choice::halt::Halt;
 use thiserror::Error;
 
 /// Which limit of a line was reached, and at which place of the line, a byte position.
@@ -60,7 +60,7 @@ impl From<ParsingError> for ReadWithinError {
 impl From<AllocError> for ReadWithinError {
     ghost use Rattle.std.specs.Prelude.{◌≡◌};
     ghost use Rattle.syntect_parsing.specs.declared.within.ReadWithinError.TheVariants.{Refused};
-    ghost use Rattle.syntect_contexts.specs.declared.error.ParsingError.TheVariants.{Memory};
+    ghost use Rattle.syntect_parsing.specs.syntect_grammar_contexts.declared.error.ParsingError.TheVariants.{Memory};
 
     ghost from_gives = { λ _ w. w ≡ Refused Memory };
 

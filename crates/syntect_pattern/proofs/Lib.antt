@@ -1,2 +1,12 @@
 pub mod Each
 pub mod FoldLaws
+pub mod MatchLaws
+pub mod TextLemmas
+pub mod NestingLaws
+pub mod FoundLaws
+pub mod TurnLaws
+pub mod LeftLaws
+pub mod ClassLaws
+pub mod BodyLaws
+pub mod NumberLaws
+pub mod PatternLaws

@@ -22,17 +22,17 @@ Names = List (Option Text)
 
 -- a place in the pattern: the flags that hold there, the groups opened before it, and the text from
 -- there on
-pub record Place : Type 0 where
+pub record Cursor : Type 0 where
   pub flags : Flags
   pub names : Names
   pub text : Text
 
 -- the place n characters later
-abbrev pub forward : ℕ → Place → Place
+abbrev pub forward : ℕ → Cursor → Cursor
 forward n p = record p { text = drop n p.text }
 
 -- after white space and comments, as the flag x wants it, and after notes
-unfoldable pub passed : Place → Option Place
+unfoldable pub passed : Cursor → Option Cursor
 passed p = option_map (λ t. record p { text = t }) (pass p.flags.spaced between p.text)
 
 -- -- Quantifiers
@@ -85,7 +85,7 @@ loop q a t =
     else (repeat true q.least q.most a, t)
 
 -- the item with its quantifier, if there is one, which has to be allowed; and the place after it
-abbrev pub looped : Tree → Place → Option (Quantifier × Text) → Option (Tree × Place)
+abbrev pub looped : Tree → Cursor → Option (Quantifier × Text) → Option (Tree × Cursor)
 looped a p None = Some (a, p)
 looped a p (Some (q, rest)) = do
   is_allowed q.least q.most
@@ -93,7 +93,7 @@ looped a p (Some (q, rest)) = do
   Some (tree, record p { text = after })
 
 -- the item with the quantifier after it, if there is one
-unfoldable pub quantified : Tree → Place → Option (Tree × Place)
+unfoldable pub quantified : Tree → Cursor → Option (Tree × Cursor)
 quantified a p = passed p >>= λ here. looped a here (quantifier here.text)
 
 -- -- Openings of groups
@@ -123,14 +123,14 @@ flags_at flags t = do
   Some (turned false off (turned true on flags), after)
 
 -- what a parenthesis opens: a setting of flags, or a group
-pub data Opening : Type 0 where
+pub data GroupOpening : Type 0 where
   -- `(?i)`, which holds for the rest of the enclosing group
-  setting : Opening
+  setting : GroupOpening
   -- a group, and what it makes of what stands in it
-  opens : (Tree → Tree) → Opening
+  opens : (Tree → Tree) → GroupOpening
 
 -- a group with a number, and perhaps a name
-abbrev pub numbered : Option Text → Place → Opening × Place
+abbrev pub numbered : Option Text → Cursor → GroupOpening × Cursor
 numbered found p = (opens (group (suc (length p.names))), record p { names = p.names ++ found ∷ [] })
 
 -- the group has a name, and it is the wanted one
@@ -139,21 +139,21 @@ has_name wanted None = false
 has_name wanted (Some other) = pointwise nat_eq other wanted
 
 -- names are distinct
-unfoldable pub named_group : Place → Option (Opening × Place)
+unfoldable pub named_group : Cursor → Option (GroupOpening × Cursor)
 named_group p = do
   (found, after) ← name_in p.text
   not (list_any (has_name found) p.names)
   Some (numbered (Some found) (record p { text = after }))
 
 -- flags from just after `(?` on: `)` sets them for the rest of the group, `:` opens one with them
-unfoldable pub flag_group : Place → Option (Opening × Place)
+unfoldable pub flag_group : Cursor → Option (GroupOpening × Cursor)
 flag_group p = do
   (flags, after) ← flags_at p.flags p.text
   begins ":" after || begins ")" after
   Some (if begins ")" after then setting else opens (λ a. a), record p { flags = flags; text = drop 1 after })
 
 -- from just after the parenthesis up to what stands in the group
-unfoldable pub opening : Place → Option (Opening × Place)
+unfoldable pub opening : Cursor → Option (GroupOpening × Cursor)
 opening p =
     let t = p.text in
     if not (begins "?" t) then Some (numbered None p)
@@ -216,8 +216,8 @@ next_of (c ∷ t) = next_char (c ∷ t) c
 
 -- what one step of reading makes: the group is over, and its end stands at the place, or it goes on
 pub data Step : Type 0 where
-  over : Place → Step
-  on : Body → Place → Step
+  over : Cursor → Step
+  on : Body → Cursor → Step
 
 -- the number of the group of this name
 abbrev pub number_of : Text → Names → Option ℕ
@@ -242,15 +242,15 @@ dot_set false = negated (range 0x0A 0x0A)
 
 module _ (known : Option Names) where
   -- an item that a quantifier may follow
-  abbrev pub item : Body → Tree → Place → Option Step
+  abbrev pub item : Body → Tree → Cursor → Option Step
   item b a p = quantified a p >>= λ (whole, rest). Some (on (with_item b whole) rest)
 
   -- an item that none may follow
-  abbrev pub firm : Body → Tree → Place → Option Step
+  abbrev pub firm : Body → Tree → Cursor → Option Step
   firm b a p = Some (on (with_item b a) p)
 
   -- the step for an escape: no quantifier may follow an anchor, and one may follow all else
-  abbrev pub escaped : Body → Place → Escape → Option Step
+  abbrev pub escaped : Body → Cursor → Escape → Option Step
   escaped b p (char c) = item b (one_of (from_to p.flags.fold c c)) p
   escaped b p (set a) = item b (one_of a) p
   escaped b p (edge a) = firm b (anchor a) p
@@ -259,7 +259,7 @@ module _ (known : Option Names) where
 
   -- The group after its opening; `inner` reads what stands in it up to its end. The flags of the
   -- outside come back there.
-  abbrev pub grouped : (Place → Option (Tree × Place)) → ℕ → Body → Flags → Opening × Place → Option Step
+  abbrev pub grouped : (Cursor → Option (Tree × Cursor)) → ℕ → Body → Flags → GroupOpening × Cursor → Option Step
   grouped inner depth b flags (setting, p) = Some (on b p)
   grouped inner depth b flags (opens make, p) = do
     nat_lt depth deepest
@@ -268,7 +268,7 @@ module _ (known : Option Names) where
     item b (make a) (record last { flags = flags; text = drop 1 last.text })
 
   -- one step from a place where nothing is to be passed over
-  abbrev pub step : (Place → Option (Tree × Place)) → ℕ → Body → Place → Next → Option Step
+  abbrev pub step : (Cursor → Option (Tree × Cursor)) → ℕ → Body → Cursor → Next → Option Step
   step inner depth b p end = Some (over p)
   step inner depth b p closer = Some (over p)
   step inner depth b p bar = Some (on (next_alternative b) (forward 1 p))
@@ -283,13 +283,13 @@ module _ (known : Option Names) where
   step inner depth b p (plain c) = item b (one_of (from_to p.flags.fold c c)) (forward 1 p)
 
   -- after a step: the tree of the group, where it is over, and else what `more` reads from there
-  abbrev pub after_step : (Body → Place → Option (Tree × Place)) → Body → Step → Option (Tree × Place)
+  abbrev pub after_step : (Body → Cursor → Option (Tree × Cursor)) → Body → Step → Option (Tree × Cursor)
   after_step more b (over p) = Some (tree_of_body b, p)
   after_step more b (on b' p) = more b' p
 
   -- What stands in a group, `depth` groups deep, up to its parenthesis or the text's end; `b` is
   -- read already. The number bounds the calls, each of which reads a character.
-  unfoldable pub body : ℕ → ℕ → Body → Place → Option (Tree × Place)
+  unfoldable pub body : ℕ → ℕ → Body → Cursor → Option (Tree × Cursor)
   body zero depth b p = None
   body (suc n) depth b p =
       passed p >>= λ here. step (body n (depth + 1) empty_body) depth b here (next_of here.text) >>= after_step (body n depth) b
@@ -309,15 +309,17 @@ tree_of text = do
   (tree, _) ← whole (Some names) text
   Some tree
 
--- the groups of the first match of the pattern in the text at the least place not below this one
-abbrev pub found_in : List ℕ → List ℕ → ℕ → Option Groups
-found_in pattern s from = tree_of pattern >>= λ tree. found s tree from
-
 -- each number above the length of the text reads the same, and `whole` takes one
 abbrev pub ReadsEnough : Type 0
-ReadsEnough = (known : Option Names) (n m depth : ℕ) (b : Body) (p : Place)
+ReadsEnough = (known : Option Names) (n m depth : ℕ) (b : Body) (p : Cursor)
     → length p.text < n → length p.text < m → body known n depth b p ≡ body known m depth b p
 
 -- the groups of a pattern are numbered from 1, by their opening
 abbrev pub NumbersGroups : Type 0
 NumbersGroups = (text : Text) (tree : Tree) → tree_of text ≡ Some tree → numbers tree ≡ numbers_from 1 (group_count tree)
+
+-- ---- For proofs and private functions alone ----
+
+-- the groups of the first match of the pattern in the text at the least place not below this one
+abbrev pub found_in : List ℕ → List ℕ → ℕ → Option Groups
+found_in pattern s from = tree_of pattern >>= λ tree. found s tree from

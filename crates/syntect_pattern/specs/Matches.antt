@@ -105,14 +105,14 @@ module _ (s : List ℕ) where
   is_word_edge i = differ (word_at (char_before s i)) (word_at (char_at s i))
 
   -- the anchor holds at the place
-  abbrev pub stands : Anchor → ℕ → Bool
-  stands line_start i = i == 0 || (is_newline (char_before s i) && not (i == length s))
-  stands line_end i = i == length s || is_newline (char_at s i)
-  stands text_start i = i == 0
-  stands text_end i = i == length s
-  stands last_line_end i = i == length s || (is_newline (char_at s i) && i + 1 == length s)
-  stands word_edge i = is_word_edge i
-  stands no_word_edge i = not (is_word_edge i)
+  abbrev pub anchor_holds : Anchor → ℕ → Bool
+  anchor_holds line_start i = i == 0 || (is_newline (char_before s i) && not (i == length s))
+  anchor_holds line_end i = i == length s || is_newline (char_at s i)
+  anchor_holds text_start i = i == 0
+  anchor_holds text_end i = i == length s
+  anchor_holds last_line_end i = i == length s || (is_newline (char_at s i) && i + 1 == length s)
+  anchor_holds word_edge i = is_word_edge i
+  anchor_holds no_word_edge i = not (is_word_edge i)
 
   -- these characters, one by one
   abbrev pub spelled : Bool → List ℕ → Way
@@ -133,7 +133,7 @@ module _ (s : List ℕ) where
   abbrev pub matches : Tree → Way
   matches nothing i g = (i, g) ∷ []
   matches (one_of set) i g = past (holds set) (char_at s i) i g
-  matches (anchor a) i g = only_if (stands a i) i g
+  matches (anchor a) i g = only_if (anchor_holds a i) i g
   matches (same fold n) i g = same_text fold (slice_get g n) i g
   matches (seq a b) i g = flat_map (λ (j, h). matches b j h) (matches a i g)
   matches (alt a b) i g = matches a i g ++ matches b i g

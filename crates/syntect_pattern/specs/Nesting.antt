@@ -27,15 +27,6 @@ pub record LiesIn (s : List ℕ) (low high : ℕ) (x : Span) : Type 0 where
   pub starts : IsCharBoundary s x.0
   pub ends : IsCharBoundary s x.1
 
--- the same of each group that the test picks, and each two of them are nested or disjoint
-pub record IsLaidOut (s : List ℕ) (picks : ℕ → Bool) (low high : ℕ) (g : Groups) : Type 0 where
-  pub within : (n : ℕ) (x : Span) → picks n ≡ true → IsSet g n x → LiesIn s low high x
-  pub nested : (n m : ℕ) (x y : Span) → picks n ≡ true → picks m ≡ true → IsSet g n x → IsSet g m y → AreNested x y
-
--- the groups that stand in no lookaround
-abbrev pub outside : Tree → ℕ → Bool
-outside tree n = not (in_look false tree n)
-
 -- each group of the tree that stands in a lookaround fails the test;
 -- the flag says that the tree does
 abbrev pub looks_fail : (ℕ → Bool) → Bool → Tree → Bool
@@ -71,3 +62,14 @@ abbrev pub TurnsEnough : Type 0
 TurnsEnough = (s : List ℕ) (body : Tree) (greedy : Bool) (n m least : ℕ) (most : Option ℕ) (i : ℕ) (g : Groups)
     → IsUtf8 s → IsCharBoundary s i → length s - i < n → length s - i < m
     → turns (matches s body) greedy n least most i g ≡ turns (matches s body) greedy m least most i g
+
+-- ---- For proofs and private functions alone ----
+
+-- the same of each group that the test picks, and each two of them are nested or disjoint
+pub record IsLaidOut (s : List ℕ) (picks : ℕ → Bool) (low high : ℕ) (g : Groups) : Type 0 where
+  pub within : (n : ℕ) (x : Span) → picks n ≡ true → IsSet g n x → LiesIn s low high x
+  pub nested : (n m : ℕ) (x y : Span) → picks n ≡ true → picks m ≡ true → IsSet g n x → IsSet g m y → AreNested x y
+
+-- the groups that stand in no lookaround
+abbrev pub outside : Tree → ℕ → Bool
+outside tree n = not (in_look false tree n)

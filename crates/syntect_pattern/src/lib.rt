@@ -5,4 +5,6 @@ pub mod anchor;
 pub mod character;
 pub mod error;
 pub mod folds;
+pub mod laws;
+pub mod letters;
 pub mod named;

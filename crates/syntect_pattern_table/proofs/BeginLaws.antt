@@ -6,7 +6,7 @@ use Rattle.std.proofs.Math.ListN.{get_or-append}
 use Rattle.std.proofs.Math.Seq.{get_or-append_seam}
 use Rattle.syntect_pattern.specs.Sets.{Set}
 use Rattle.syntect_pattern.specs.Trees.{Tree, nothing, one_of, seq}
-use Rattle.syntect_pattern_table.specs.Starts.{start_at, AreFirsts, AreWithin, Begin, Begins, GoesOn, begins, begins_at, can_hold, firsts_at, is_in, none_there, reads, row_at, sequence_begins, stays}
+use Rattle.syntect_pattern_table.specs.Starts.{start_at, AreFirsts, AreWithin, Begin, Begins, KeepsRows, begins, begins_at, can_hold, firsts_at, is_in, none_there, reads, row_at, sequence_begins, stays}
 use Rattle.syntect_pattern_table.specs.declared.starts.Firsts.{Firsts}
 use Rattle.syntect_pattern_table.specs.declared.starts.Places.{Places}
 use Rattle.syntect_pattern.specs.Matches.{Groups, matches}
@@ -75,14 +75,14 @@ dead-known s u i at ps ts known k p got x is l false e h =
 dead-known s u i at ps ts known k p got x is l true e h = cc
 
 -- a row stays what it is when more are added
-row-stays : (p : Places) (fs fs' : List Firsts) (row : ℕ) → GoesOn fs fs' → row ≤ length fs → row_at p fs' row ≡ row_at p fs row
+row-stays : (p : Places) (fs fs' : List Firsts) (row : ℕ) → KeepsRows fs fs' → row ≤ length fs → row_at p fs' row ≡ row_at p fs row
 row-stays p fs fs' zero g l = refl
 row-stays p fs fs' (suc n) g l = g.same n (record { read = none_there; stay = none_there }) (omega (arith, l))
 
-pub GoesOn-same : (fs : List Firsts) → GoesOn fs fs
+pub GoesOn-same : (fs : List Firsts) → KeepsRows fs fs
 GoesOn-same fs = record { longer = omega arith; same = λ n d l. refl }
 
-pub GoesOn-push : (fs : List Firsts) (f : Firsts) → GoesOn fs (fs ++ f ∷ [])
+pub GoesOn-push : (fs : List Firsts) (f : Firsts) → KeepsRows fs (fs ++ f ∷ [])
 GoesOn-push fs f = record { longer = omega (arith, length-append fs (f ∷ [])); same = λ n d l. get_or-append fs (f ∷ []) d n l }
 
 -- the row that was added last
@@ -121,7 +121,7 @@ pub alone-begins : (x : ℕ) (p : Places) (t : Tree) → begins_at x (read_there
 alone-begins x p t h = sym (ap (λ (b : Bool). is_in p x || b) (none_in x) ∙ or_none (is_in p x)) ∙ ap (λ (b : Begins). b.read || b.stay) h
 
 -- one more node's beginning
-module _ (x : ℕ) (ps : List Places) (rows : List ℕ) (fs fs' : List Firsts) (ts : List Tree) (p : Places) (row k : ℕ) (more : GoesOn fs fs') (e : length ps ≡ k) (f : length rows ≡ k) where
+module _ (x : ℕ) (ps : List Places) (rows : List ℕ) (fs fs' : List Firsts) (ts : List Tree) (p : Places) (row k : ℕ) (more : KeepsRows fs fs') (e : length ps ≡ k) (f : length rows ≡ k) where
   kept_at : (n : ℕ) → n < k → AreWithin rows fs → firsts_at (ps ++ p ∷ []) (rows ++ row ∷ []) fs' n ≡ firsts_at ps rows fs n
   kept_at n l within =
       ap (λ (q : Places). row_at q fs' (get_or (rows ++ row ∷ []) n 0)) (get_or-append ps (p ∷ []) none_there n (omega (arith, l, e)))

@@ -13,7 +13,7 @@ use Rattle.std.proofs.Common.{length-append}
 use Rattle.syntect_pattern.specs.Text.{char_at}
 use Rattle.syntect_pattern.specs.Sets.{Set, range, holds}
 use Rattle.syntect_pattern.specs.Trees.{Anchor, Tree, nothing, one_of, anchor, same, seq, alt, repeat, group, atomic, ahead, behind}
-use Rattle.syntect_pattern.specs.Matches.{Groups, Member, Way, matches, past, only_if, close, look, ending_here, stands, turns, prefer, while_left, after_turn, spelled, same_text, equals}
+use Rattle.syntect_pattern.specs.Matches.{Groups, Member, Way, matches, past, only_if, close, look, ending_here, anchor_holds, turns, prefer, while_left, after_turn, spelled, same_text, equals}
 use Rattle.syntect_pattern.proofs.Each.{Each, each_of, each-append, each-flat_map, each-map, each-take}
 use Rattle.syntect_pattern_table.specs.SetTable.{is_wide}
 use Rattle.syntect_pattern_table.specs.Lengths.{ReadsLeast, ReadsMost, HasLengths, AreLengths, IsMadeOf}
@@ -100,7 +100,7 @@ module _ (l : Lengths) (least : l.least ≡ 0) (most : l.most ≡ Some 0) where
   lengths-nothing = made nothing l 0 0 (omega arith) most (λ s i g. (omega arith, tt)) (λ s i g. (omega arith, tt))
 
   pub lengths-anchor : (a : Anchor) → HasLengths (anchor a) l
-  lengths-anchor a = made (anchor a) l 0 0 (omega arith) most (λ s i g. from-here (stands s a i) i g) (λ s i g. within-here (stands s a i) i g)
+  lengths-anchor a = made (anchor a) l 0 0 (omega arith) most (λ s i g. from-here (anchor_holds s a i) i g) (λ s i g. within-here (anchor_holds s a i) i g)
 
   pub lengths-ahead : (negated : Bool) (a : Tree) → HasLengths (ahead negated a) l
   lengths-ahead negated a = made (ahead negated a) l 0 0 (omega arith) most (λ s i g. from-look negated i g (matches s a i g)) (λ s i g. within-look negated i g (matches s a i g))
@@ -269,7 +269,7 @@ module _ (s : List ℕ) where
   from-all : (t : Tree) → FromAll t 0
   from-all nothing i g = (omega arith, tt)
   from-all (one_of a) i g = from-past (holds a) (char_at s i) i 0 g (λ c y. omega arith)
-  from-all (anchor a) i g = from-here (stands s a i) i g
+  from-all (anchor a) i g = from-here (anchor_holds s a i) i g
   from-all (same fold n) i g = from-same fold (slice_get g n) i g
   from-all (seq a b) i g = from-seq a b 0 0 (from-all a) (from-all b) i g
   from-all (alt a b) i g = from-alt a b 0 0 0 (from-all a) (from-all b) (omega arith) (omega arith) i g

@@ -10,3 +10,4 @@ pub mod PlaceListLaws
 pub mod LookLaws
 pub mod JumpLaws
 pub mod LengthLaws
+pub use Rattle.syntect_pattern.proofs as syntect_pattern_proofs

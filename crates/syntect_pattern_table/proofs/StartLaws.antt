@@ -13,7 +13,7 @@ use Rattle.std.proofs.Math.Utf8.{encodes}
 use Rattle.syntect_pattern.specs.Text.{char_at, is_boundary}
 use Rattle.syntect_pattern.specs.Sets.{Set, none, range, alike, category, categories, word, space, either, both, negated, holds}
 use Rattle.syntect_pattern.specs.Trees.{Anchor, line_start, line_end, text_start, text_end, last_line_end, word_edge, no_word_edge, Tree, nothing, one_of, anchor, same, seq, alt, repeat, group, atomic, ahead, behind}
-use Rattle.syntect_pattern.specs.Matches.{Groups, Member, Way, matches, turns, prefer, while_left, after_turn, only_if, past, close, stands, is_newline, look, stay, ending_here, unset, found_at}
+use Rattle.syntect_pattern.specs.Matches.{Groups, Member, Way, matches, turns, prefer, while_left, after_turn, only_if, past, close, anchor_holds, is_newline, look, stay, ending_here, unset, found_at}
 use Rattle.syntect_pattern_table.specs.SetTable.{is_wide}
 use Rattle.syntect_pattern_table.proofs.AlikeLaws.{alike_wide}
 use Rattle.syntect_pattern_table.proofs.AlikeLaws.{or_cases}
@@ -168,7 +168,7 @@ module _ (s : List ℕ) where
   end-stands i x (wide e h f) y = let no : true ≡ false = sym y ∙ not-end i h in cc
   end-stands i x (over e h) y = ap (λ n. n == 129) e
 
-  anchor-stands : (a : Anchor) (i x : ℕ) → Start s i x → stands s a i ≡ true → can_stand a x ≡ true
+  anchor-stands : (a : Anchor) (i x : ℕ) → Start s i x → anchor_holds s a i ≡ true → can_stand a x ≡ true
   anchor-stands line_start i x st y = refl
   anchor-stands line_end i x st y = line-stands i x true st (ap (λ b. i == length s || b) (and-true (is_newline (char_at s i))) ∙ y)
   anchor-stands text_start i x st y = refl
@@ -237,7 +237,7 @@ module _ (s : List ℕ) where
   pub matches-begin : (t : Tree) (i x : ℕ) (g : Groups) → Start s i x → AllBegin (reads t x) (stays t x) i (matches s t i g)
   matches-begin nothing i x g st = (inr (refl, refl), tt)
   matches-begin (one_of a) i x g st = one-begins a i x g st
-  matches-begin (anchor a) i x g st = if-begins (stands s a i) i g false (can_stand a x) i (λ y. inr (refl, anchor-stands a i x st y))
+  matches-begin (anchor a) i x g st = if-begins (anchor_holds s a i) i g false (can_stand a x) i (λ y. inr (refl, anchor-stands a i x st y))
   matches-begin (same fold n) i x g st = all-read true true i (matches s (same fold n) i g) refl
   matches-begin (seq a b) i x g st =
       after-begins (reads a x) (stays a x) (reads (seq a b) x) (stays (seq a b) x) i (matches s a i g) (λ (j, h). matches s b j h) (matches-begin a i x g st)

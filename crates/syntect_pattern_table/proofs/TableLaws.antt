@@ -8,7 +8,7 @@ use Rattle.std.proofs.lemmas.List.{get_or_past}
 use Rattle.std.proofs.lemmas.Bool.Decides.{nat_tests}
 use Rattle.syntect_pattern.specs.Trees.{Tree, nothing, seq, alt, repeat, group, atomic, ahead, behind}
 use Rattle.syntect_pattern_table.specs.Table.{AreSpelt, IsOrdered, is_text, node_tree, parts_before, trees, trees_from}
-use Rattle.syntect_letters.specs.Letters.{letters_of, letters_tree}
+use Rattle.syntect_pattern.specs.Letters.{letters_of, letters_tree}
 use Rattle.syntect_pattern_table.specs.declared.node.Node.{Node}
 
 -- -- Tables

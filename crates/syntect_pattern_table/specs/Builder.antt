@@ -8,6 +8,8 @@ use Rattle.syntect_pattern_table.specs.declared.node.Node.{Node}
 abbrev pub tree_in : List Node → ℕ → Tree
 tree_in nodes k = slice_index_or (trees nodes) k nothing
 
+-- ---- For proofs and private functions alone ----
+
 -- more nodes, after those that were there
 pub record Grows (old new : List Node) : Type 0 where
   pub longer : (k : ℕ) → k < length old → k < length new

@@ -25,10 +25,6 @@ HasBranches n t = length (branches n t) ≡ n
 abbrev pub places_of : Jump → Places
 places_of j = record { ascii = j.ascii; wide = j.wide; end = j.end }
 
--- the jump to a node past so many branches, whose matches can begin there
-abbrev pub jump_to : ℕ → ℕ → Places → Jump
-jump_to to count p = record { ascii = p.ascii; to = to; count = count; wide = p.wide; end = p.end }
-
 -- the jump leads from the node after its first branches, and it tells where matches of those begin
 pub record IsJump (ts : List Tree) (k : ℕ) (j : Jump) : Type 0 where
   pub back : j.to + j.count ≤ k
@@ -49,3 +45,9 @@ pub record LeadsPast (s : List ℕ) (i : ℕ) (t rest : Tree) : Type 0 where
   pub there : HasBranches count t
   pub leads : rest ≡ tree_behind count t
   pub dead : All (λ b. (g : Groups) → matches s b i g ≡ []) (branches count t)
+
+-- ---- For proofs and private functions alone ----
+
+-- the jump to a node past so many branches, whose matches can begin there
+abbrev pub jump_to : ℕ → ℕ → Places → Jump
+jump_to to count p = record { ascii = p.ascii; to = to; count = count; wide = p.wide; end = p.end }

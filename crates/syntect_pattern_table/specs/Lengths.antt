@@ -25,6 +25,8 @@ abbrev pub AreLengths : List Lengths → List Tree → Type 0
 AreLengths ls ts = (k : ℕ) (d : Lengths) → k < length ls
     → HasLengths (slice_index_or ts k nothing) (slice_index_or ls k d)
 
+-- ---- For proofs and private functions alone ----
+
 -- both limits are known, and the number is made of them
 pub record IsMadeOf (f : ℕ → ℕ → ℕ) (a b : Option ℕ) (n : ℕ) : Type 0 where
   pub first : ℕ

@@ -7,3 +7,4 @@ pub mod PlaceLists
 pub mod Needs
 pub mod Jumps
 pub mod Lengths
+pub use Rattle.syntect_pattern.specs as syntect_pattern

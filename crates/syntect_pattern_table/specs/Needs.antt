@@ -7,12 +7,12 @@ use Rattle.syntect_pattern_table.specs.declared.needs.Need.{Need}
 use Rattle.syntect_pattern_table.specs.declared.needs.TwoNeeds.{TwoNeeds}
 
 -- at the place stands one of the first, and right after it one of the second
-abbrev pub stands : (ℕ → Bool) → (ℕ → Bool) → List ℕ → ℕ → Bool
-stands here next s k = here (start_at s k) && next (start_at s (suc k))
+abbrev pub has_pair_at : (ℕ → Bool) → (ℕ → Bool) → List ℕ → ℕ → Bool
+has_pair_at here next s k = here (start_at s k) && next (start_at s (suc k))
 
 -- so it is nowhere from the place on
 abbrev pub IsAbsent : (ℕ → Bool) → (ℕ → Bool) → List ℕ → ℕ → Type 0
-IsAbsent here next s i = (k : ℕ) → i ≤ k → stands here next s k ≡ false
+IsAbsent here next s i = (k : ℕ) → i ≤ k → has_pair_at here next s k ≡ false
 
 -- a match of the tree needs both at its place or after it, be it only to look ahead
 abbrev pub Needs : (ℕ → Bool) → (ℕ → Bool) → Tree → Type 0

@@ -7,6 +7,8 @@ use Rattle.syntect_pattern_table.specs.declared.starts.Places.{Places}
 abbrev pub places_by_number : List Places → List ℕ → List Places
 places_by_number known numbers = map (λ n. slice_index_or known n none_there) numbers
 
+-- ---- What invariants alone rest on ----
+
 -- each number is that of known places
 abbrev pub AreKnown : List Places → List ℕ → Type 0
 AreKnown known = All (λ n. n < length known)

@@ -50,16 +50,6 @@ abbrev pub AreOrdered : List Part → Type 0
 AreOrdered parts = (k : ℕ) → k < length parts
     → made_before k (slice_index_or parts k Part.Nothing) ≡ true
 
--- more parts, after those that were there
-pub record SetsGrow (old new : List Part) : Type 0 where
-  pub longer : length old ≤ length new
-  pub kept : (k : ℕ) → k < length old → set_in new k ≡ set_in old k
-
--- the place has this set
-pub record HasSet (parts : List Part) (k : ℕ) (a : Set) : Type 0 where
-  pub inside : k < length parts
-  pub is : set_in parts k ≡ a
-
 -- a bit for each ASCII character, whether it is in the set
 abbrev pub AreFlags : ℕ → Set → Type 0
 AreFlags bits a = (x : ℕ) → x < 128 → (bit_at bits x == 1) ≡ holds a x
@@ -78,6 +68,18 @@ is_wide (alike low high) = nat_le 128 high || folds_beyond low high
 is_wide (either a b) = is_wide a || is_wide b
 is_wide (both a b) = is_wide a && is_wide b
 is_wide a = true
+
+-- ---- For proofs and private functions alone ----
+
+-- more parts, after those that were there
+pub record SetsGrow (old new : List Part) : Type 0 where
+  pub longer : length old ≤ length new
+  pub kept : (k : ℕ) → k < length old → set_in new k ≡ set_in old k
+
+-- the place has this set
+pub record HasSet (parts : List Part) (k : ℕ) (a : Set) : Type 0 where
+  pub inside : k < length parts
+  pub is : set_in parts k ≡ a
 
 -- of each set the bit of this character
 abbrev pub AreBits : ℕ → List ℕ → List Set → Type 0

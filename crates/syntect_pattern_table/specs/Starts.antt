@@ -58,9 +58,6 @@ pub record Begins : Type 0 where
   pub read : Bool
   pub stay : Bool
 
-abbrev pub begins : ℕ → Tree → Begins
-begins x t = record { read = reads t x; stay = stays t x }
-
 -- a part after another, one of two parts, a loop, a lookahead
 abbrev pub sequence_begins : Begins → Begins → Begins
 sequence_begins a b = record { read = a.read || (a.stay && b.read); stay = a.stay && b.stay }
@@ -86,6 +83,22 @@ begins_at x f = record { read = is_in f.read x; stay = is_in f.stay x }
 abbrev pub none_there : Places
 none_there = record { ascii = 0; wide = false; end = false }
 
+-- for all that can stand there whether a match can begin
+abbrev pub AreStarts : List Bool → Tree → Type 0
+AreStarts flags tree = (x : ℕ) → x < 130
+    → slice_index_or flags x true ≡ (reads tree x || stays tree x)
+
+-- where matches of each of these trees can begin
+abbrev pub AreFirsts : List Places → List Tree → Type 0
+AreFirsts ps ts = (k x : ℕ) (d : Places) → k < length ps → x < 130
+    → is_in (slice_index_or ps k d) x
+    ≡ (reads (slice_index_or ts k nothing) x || stays (slice_index_or ts k nothing) x)
+
+-- ---- For proofs and private functions alone ----
+
+abbrev pub begins : ℕ → Tree → Begins
+begins x t = record { read = reads t x; stay = stays t x }
+
 -- how a part begins that has this row, if it has one: else no match of it reads nothing, and these
 -- are its places
 abbrev pub row_at : Places → List Firsts → ℕ → Firsts
@@ -106,17 +119,6 @@ abbrev pub AreWithin : List ℕ → List Firsts → Type 0
 AreWithin rows fs = (k : ℕ) → k < length rows → slice_index_or rows k 0 ≤ length fs
 
 -- the old rows are the first of the new ones
-pub record GoesOn (old new : List Firsts) : Type 0 where
+pub record KeepsRows (old new : List Firsts) : Type 0 where
   pub longer : length old ≤ length new
   pub same : (n : ℕ) (d : Firsts) → n < length old → slice_index_or new n d ≡ slice_index_or old n d
-
--- for all that can stand there whether a match can begin
-abbrev pub AreStarts : List Bool → Tree → Type 0
-AreStarts flags tree = (x : ℕ) → x < 130
-    → slice_index_or flags x true ≡ (reads tree x || stays tree x)
-
--- where matches of each of these trees can begin
-abbrev pub AreFirsts : List Places → List Tree → Type 0
-AreFirsts ps ts = (k x : ℕ) (d : Places) → k < length ps → x < 130
-    → is_in (slice_index_or ps k d) x
-    ≡ (reads (slice_index_or ts k nothing) x || stays (slice_index_or ts k nothing) x)

@@ -5,7 +5,7 @@ use Rattle.syntect_pattern.specs.Trees.{Tree, nothing, one_of, anchor, same, seq
 use Rattle.syntect_pattern_table.specs.SetTable.{listed, set_in}
 use Rattle.syntect_pattern_table.specs.declared.sets.Class.{Class}
 use Rattle.syntect_pattern.specs.Anchors.{anchor_of}
-use Rattle.syntect_letters.specs.Letters.{letters_of, letters_tree}
+use Rattle.syntect_pattern.specs.Letters.{letters_of, letters_tree}
 use Rattle.syntect_pattern_table.specs.declared.node.Node.{Node}
 
 -- what a class holds

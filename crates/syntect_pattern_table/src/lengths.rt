@@ -1,7 +1,7 @@
 //! How many bytes matches of nodes read.
 ghost use Rattle.std.specs.Prelude.{◌≡◌, ◌+◌, ◌*◌, ℕ, Bool, IfOk, List, Some, length, max, true};
 ghost use Rattle.syntect_pattern.specs.Sets.{Set, from_to, range};
-ghost use Rattle.syntect_letters.specs.Letters.{letters_tree};
+ghost use Rattle.syntect_pattern.specs.Letters.{letters_tree};
 ghost use Rattle.syntect_pattern.specs.Trees.{Tree, one_of, seq, alt, repeat};
 ghost use Rattle.syntect_pattern_table.specs.SetTable.{is_wide};
 ghost use Rattle.syntect_pattern_table.specs.Table.{IsOrdered, node_tree, parts_before, trees};

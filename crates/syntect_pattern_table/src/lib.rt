@@ -10,3 +10,5 @@ pub mod place_list;
 pub mod program;
 pub mod sets;
 pub mod starts;
+
+pub use syntect_values;

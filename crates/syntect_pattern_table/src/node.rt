@@ -1,7 +1,7 @@
 //! The tree of a pattern as a table of nodes, each of which comes after its parts.
 pub use crate::sets::Class;
-pub use syntect_letters::letters::Letters;
 pub use syntect_pattern::anchor::Anchor;
+pub use syntect_pattern::letters::Letters;
 
 /// A node of a tree. A part is given by its place in the table.
 #[derive(Debug, Drop)]

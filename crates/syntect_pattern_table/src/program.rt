@@ -107,7 +107,7 @@ impl Program {
 
     /// Whether no match of the node begins at the place, as what stands there tells.
     #[inline]
-    pub fn is_dead(&self, text: &str, place: usize, node: usize) -> bool
+    pub fn none_begins_at(&self, text: &str, place: usize, node: usize) -> bool
         requires { IsCharBoundary text.now place }
         ensures { result ≡ true → (g : Groups)
             → matches text.now (slice_index_or (trees_of self.now) node nothing) place g ≡ [] }
@@ -145,7 +145,7 @@ impl Program {
             ≡ [] }
     {
         let mut ends = 0;
-        while ends < count && self.is_dead(text, place.saturating_sub(ends), node) {
+        while ends < count && self.none_begins_at(text, place.saturating_sub(ends), node) {
             ends += 1;
         }
         ends

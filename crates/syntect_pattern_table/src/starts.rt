@@ -6,7 +6,7 @@ ghost use Rattle.syntect_pattern_table.specs.Table.{IsOrdered, node_tree, parts_
 ghost use Rattle.syntect_pattern.specs.Anchors.{anchor_of};
 ghost use Rattle.syntect_pattern_table.specs.Starts as spec;
 ghost use Rattle.syntect_pattern_table.specs.declared.starts.Places.{Places as APlaces};
-ghost use Rattle.syntect_pattern_table.specs.Starts.{AreFirsts, Begin, GoesOn, begins, begins_at, either_begins, firsts_at, looked_begins, looped_begins, reads, row_at, sequence_begins, stays};
+ghost use Rattle.syntect_pattern_table.specs.Starts.{AreFirsts, Begin, KeepsRows, begins, begins_at, either_begins, firsts_at, looked_begins, looped_begins, reads, row_at, sequence_begins, stays};
 
 use crate::ascii::{bits_of, put};
 use crate::node::{Class, Node};
@@ -349,7 +349,7 @@ pub fn start_at(text: &str, place: usize) -> u8
 /// The row of a node that begins so: a new one, or 0, where no match of it reads nothing.
 #[inline]
 fn row_of(firsts: &mut Vec<Firsts>, next: Firsts) -> Result<usize, AllocError>
-    ensures kept { OnOk result (GoesOn firsts.old.items firsts.new.items) }
+    ensures kept { OnOk result (KeepsRows firsts.old.items firsts.new.items) }
     ensures within { IfOk result (λ row. row ≤ length firsts.new.items) }
     ensures row { IfOk result (λ row. (p : APlaces) (x : ℕ)
         → spec.is_in p x ≡ (spec.is_in next.read x || spec.is_in next.stay x)

@@ -6,8 +6,8 @@ use Rattle.std.proofs.lemmas.Bool.Decides.{nat_tests}
 use Rattle.std.specs.Cmp.{both_ways}
 use Rattle.syntect_pattern.specs.Trees.{Tree, repeat, atomic}
 use Rattle.syntect_pattern.specs.Reading.{Text, begins, first, between, pass, ◌>>=◌, ◌>>◌}
-use Rattle.syntect_pattern.specs.Grammar.{Flags, Names, Place, passed, Quantifier, quantifier, is_allowed, loop, looped, quantified, next_char, next_of}
-use Rattle.syntect_pattern_words.specs.QuantifierViews.{capped, capped_quantifier, capped_all}
+use Rattle.syntect_pattern.specs.Grammar.{Flags, Names, Cursor, passed, Quantifier, quantifier, is_allowed, loop, looped, quantified, next_char, next_of}
+use Rattle.syntect_pattern_words.specs.QuantifierViews.{capped_count, capped_quantifier, capped_all}
 use Rattle.syntect_pattern_words.specs.BodyViews.{IsOver}
 use Rattle.syntect_pattern_words.specs.TokenViews.{token_as}
 use Rattle.syntect_pattern_words.specs.declared.tokens.Token.{Token}
@@ -29,23 +29,23 @@ next-first t c (Some k) e h = next-some t c e ∙ h
 
 -- -- Counts that are cut
 
-least-test : (n : ℕ) → nat_le n 1000 ≡ nat_le (capped n) 1000
-least-test n = both_ways (nat_le n 1000) (nat_le (capped n) 1000) (λ e. grind (arith, nat_tests)) (λ e. grind (arith, nat_tests))
+least-test : (n : ℕ) → nat_le n 1000 ≡ nat_le (capped_count n) 1000
+least-test n = both_ways (nat_le n 1000) (nat_le (capped_count n) 1000) (λ e. grind (arith, nat_tests)) (λ e. grind (arith, nat_tests))
 
 both-true : (a b c d : ℕ) → a ≤ b → c ≤ d → (nat_le a b && nat_le c d) ≡ true
 both-true a b c d h k = grind (arith, nat_tests)
 
-most-test : (n m : ℕ) → (nat_le n m && nat_le m 1000) ≡ (nat_le (capped n) (capped m) && nat_le (capped m) 1000)
+most-test : (n m : ℕ) → (nat_le n m && nat_le m 1000) ≡ (nat_le (capped_count n) (capped_count m) && nat_le (capped_count m) 1000)
 most-test n m =
-    both_ways (nat_le n m && nat_le m 1000) (nat_le (capped n) (capped m) && nat_le (capped m) 1000)
-    (λ e. let p = and_parts (nat_le n m) (nat_le m 1000) e in let h = leb-true n m p.0 in let k = leb-true m 1000 p.1 in both-true (capped n) (capped m) (capped m) 1000 (omega arith) (omega arith))
+    both_ways (nat_le n m && nat_le m 1000) (nat_le (capped_count n) (capped_count m) && nat_le (capped_count m) 1000)
+    (λ e. let p = and_parts (nat_le n m) (nat_le m 1000) e in let h = leb-true n m p.0 in let k = leb-true m 1000 p.1 in both-true (capped_count n) (capped_count m) (capped_count m) 1000 (omega arith) (omega arith))
     (λ e.
-    let p = and_parts (nat_le (capped n) (capped m)) (nat_le (capped m) 1000) e in
-    let h = leb-true (capped n) (capped m) p.0 in
-    let k = leb-true (capped m) 1000 p.1 in
+    let p = and_parts (nat_le (capped_count n) (capped_count m)) (nat_le (capped_count m) 1000) e in
+    let h = leb-true (capped_count n) (capped_count m) p.0 in
+    let k = leb-true (capped_count m) 1000 p.1 in
     both-true n m m 1000 (omega arith) (omega arith))
 
-allowed-test : (n : ℕ) (m : Option ℕ) → is_allowed n m ≡ is_allowed (capped n) (option_map capped m)
+allowed-test : (n : ℕ) (m : Option ℕ) → is_allowed n m ≡ is_allowed (capped_count n) (option_map capped_count m)
 allowed-test n None = least-test n
 allowed-test n (Some m) = most-test n m
 
@@ -55,17 +55,17 @@ made n m short = record { least = n; most = m; short = short }
 allowed-same : (n : ℕ) (m : Option ℕ) (short : Bool) → is_allowed n m ≡ true → capped_quantifier (made n m short) ≡ made n m short
 allowed-same n None short e =
     let h = leb-true n 1000 e in
-    let same : capped n ≡ n = omega arith in
+    let same : capped_count n ≡ n = omega arith in
     ap (λ (k : ℕ). made k None short) same
 allowed-same n (Some m) short e =
     let p = and_parts (nat_le n m) (nat_le m 1000) e in
     let h = leb-true n m p.0 in
     let k = leb-true m 1000 p.1 in
-    let same : capped n ≡ n = omega arith in
-    let also : capped m ≡ m = omega arith in
-    ap (λ (x : ℕ). made x (Some (capped m)) short) same ∙ ap (λ (x : ℕ). made n (Some x) short) also
+    let same : capped_count n ≡ n = omega arith in
+    let also : capped_count m ≡ m = omega arith in
+    ap (λ (x : ℕ). made x (Some (capped_count m)) short) same ∙ ap (λ (x : ℕ). made n (Some x) short) also
 
-looped-is : (a : Tree) (p : Place) (o : Option (Quantifier × Text)) → looped a p o ≡ looped a p (capped_all o)
+looped-is : (a : Tree) (p : Cursor) (o : Option (Quantifier × Text)) → looped a p o ≡ looped a p (capped_all o)
 looped-is a p None = refl
 looped-is a p (Some (q, rest)) = by_test (is_allowed q.least q.most) refl
   where

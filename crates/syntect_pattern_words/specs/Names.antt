@@ -4,6 +4,8 @@ use lib.Pointwise.{pointwise}
 use Rattle.syntect_pattern.specs.Reading.{Text}
 use Rattle.syntect_pattern.specs.declared.named.Named.{Named}
 
+-- ---- For proofs and private functions alone ----
+
 -- the entry of the name
 abbrev pub entry_named : List (List ℕ × Named) → Text → Option Named
 entry_named [] t = None

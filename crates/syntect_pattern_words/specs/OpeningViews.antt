@@ -14,7 +14,7 @@ abbrev pub flags_as : Flags → grammar.Flags
 flags_as f = record { fold = f.fold; any = f.any; spaced = f.spaced }
 
 -- the place, after these groups
-abbrev pub place_as : Names → Place → grammar.Place
+abbrev pub place_as : Names → Place → grammar.Cursor
 place_as names p = record { flags = flags_as p.flags; names = names; text = chars p.text.now }
 
 abbrev pub wrapped : Wrap → Tree → Tree
@@ -24,12 +24,14 @@ wrapped Wrap.Atomic = λ a. atomic a
 wrapped (Wrap.Ahead negated) = λ a. ahead negated a
 wrapped (Wrap.Behind negated) = λ a. behind negated a
 
-abbrev pub opening_as : Opening → grammar.Opening
+abbrev pub opening_as : Opening → grammar.GroupOpening
 opening_as Opening.Setting = setting
 opening_as (Opening.Opens wrap) = opens (wrapped wrap)
 
-abbrev pub opened_as : Names → Option (Opening × Place) → Option (grammar.Opening × grammar.Place)
+abbrev pub opened_as : Names → Option (Opening × Place) → Option (grammar.GroupOpening × grammar.Cursor)
 opened_as names found = option_map (λ f. (opening_as f.0, place_as names f.1)) found
+
+-- ---- For proofs and private functions alone ----
 
 abbrev pub letters_as : Option (Bor (List ℕ) × Bor (List ℕ)) → Option (Text × Text)
 letters_as found = option_map (λ f. (chars f.0.now, chars f.1.now)) found

@@ -29,5 +29,5 @@ looped_tree Looping.Once a = a
 looped_tree (Looping.Loop greedy possessive least most) a = possessed possessive (repeat greedy least most a)
 
 -- the item repeated, and what follows, if it may be
-abbrev pub repeated : Names → Tree → Option (Looping × Place) → Option (Tree × grammar.Place)
+abbrev pub repeated : Names → Tree → Option (Looping × Place) → Option (Tree × grammar.Cursor)
 repeated names a found = option_map (λ f. (looped_tree f.0 a, place_as names f.1)) found

@@ -1,7 +1,7 @@
 //! Quantifiers, and what is passed over.
 ghost use Rattle.std.specs.Prelude.{◌≡◌, chars, option_map};
 ghost use Rattle.syntect_pattern.specs.Reading.{pass, between};
-ghost use Rattle.syntect_pattern_words.specs.QuantifierViews.{capped, capped_all, quantifier_as, passing_as, goes_on, counted};
+ghost use Rattle.syntect_pattern_words.specs.QuantifierViews.{capped_count, capped_all, quantifier_as, passing_as, goes_on, counted};
 ghost use Rattle.syntect_pattern.specs.Reading as reading;
 ghost use Rattle.syntect_pattern.specs.Grammar as grammar;
 
@@ -86,7 +86,7 @@ pub fn pass(spaced: bool, text: &str) -> Option<&str>
 
 /// The number that the digits write, if there are any.
 fn limit(digits: &str) -> Option<u32>
-    ensures { result ≡ option_map capped (grammar.limit (chars digits.now)) }
+    ensures { result ≡ option_map capped_count (grammar.limit (chars digits.now)) }
 {
     if is_empty(digits) {
         None

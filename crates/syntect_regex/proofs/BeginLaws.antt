@@ -2,21 +2,21 @@
 use Rattle.std.proofs.Common.{◌≡◌, ◌||◌, ℕ, ◌+◌, Bool, true, false, List, get_or, Option, Some, None, refl, sym, subst, ◌∙◌, ap, arith}
 use Rattle.std.specs.Prelude.{slice_get, option_and_then, option_map, if◌then◌else◌}
 use Rattle.std.proofs.lemmas.Option.{slice_get_within, get_or_from_slice_get}
-use Rattle.syntect_pattern.specs.Text.{is_boundary}
-use Rattle.syntect_pattern.specs.Trees.{Tree, nothing, group}
-use Rattle.syntect_pattern.specs.Matches.{Member, found, found_at, is_word_edge, matches, unset}
-use Rattle.syntect_pattern.specs.Pattern.{pattern_tree}
-use Rattle.syntect_pattern_table.specs.Program.{trees_of}
-use Rattle.syntect_pattern_table.specs.Starts.{is_in, reads, start_at, stays}
-use Rattle.syntect_pattern_table.specs.declared.program.Program.{Program}
-use Rattle.syntect_pattern_table.specs.declared.starts.Places.{Places}
-use Rattle.syntect_pattern_table.proofs.BeginLaws.{start-bound}
-use Rattle.syntect_pattern_table.proofs.StartLaws.{found_at-nothing}
-use Rattle.syntect_seek.proofs.NextLaws.{found-next, pattern-next}
-use Rattle.syntect_pattern_reader.specs.Compiled.{Compiles, IsCompiled}
+use Rattle.syntect_regex.specs.syntect_pattern.Text.{is_boundary}
+use Rattle.syntect_regex.specs.syntect_pattern.Trees.{Tree, nothing, group}
+use Rattle.syntect_regex.specs.syntect_pattern.Matches.{Member, found, found_at, is_word_edge, matches, unset}
+use Rattle.syntect_regex.specs.syntect_pattern.Pattern.{pattern_tree}
+use Rattle.syntect_regex.specs.syntect_pattern_table.Program.{trees_of}
+use Rattle.syntect_regex.specs.syntect_pattern_table.Starts.{is_in, reads, start_at, stays}
+use Rattle.syntect_regex.specs.syntect_pattern_table.declared.program.Program.{Program}
+use Rattle.syntect_regex.specs.syntect_pattern_table.declared.starts.Places.{Places}
+use Rattle.syntect_regex.proofs.syntect_pattern_table_proofs.BeginLaws.{start-bound}
+use Rattle.syntect_regex.proofs.syntect_pattern_table_proofs.StartLaws.{found_at-nothing}
+use Rattle.syntect_pattern_seek.proofs.NextLaws.{found-next, pattern-next}
+use Rattle.syntect_regex.specs.syntect_pattern_compile.Compiled.{Compiles, IsCompiled}
 use Rattle.syntect_regex.specs.Begins.{BeginsAtEdges, IsAtEdges, NoneBeginsBefore, NoneBeginsOutside}
-use Rattle.syntect_word_ends.specs.Ends.{StandsBehind, ends, passes}
-use Rattle.syntect_word_ends.proofs.EndLaws.{none-in_run}
+use Rattle.syntect_pattern_word_ends.specs.Ends.{StandsBehind, ends, passes}
+use Rattle.syntect_pattern_word_ends.proofs.EndLaws.{none-in_run}
 
 -- what the root of a program can begin with
 pub none-outside : (pattern : List ℕ) (p : Program) → IsCompiled pattern p → (places : Places) → Some places ≡ slice_get p.firsts p.root → NoneBeginsOutside places pattern

@@ -3,15 +3,15 @@ use Rattle.std.proofs.Common.{◌≡◌, ℕ, ◌<◌, ◌≤◌, nat_le, Bool, 
 use Rattle.std.specs.Prelude.{slice_get, slice_set, option_map, if◌then◌else◌}
 use Rattle.std.proofs.lemmas.Bool.{cases_lt}
 use Rattle.std.proofs.lemmas.Bool.Decides.{nat_tests}
-use Rattle.syntect_pattern.specs.Text.{is_boundary}
-use Rattle.syntect_pattern.specs.Trees.{Tree, group}
-use Rattle.syntect_pattern.specs.Matches.{Groups, Member, close, matches, unset, found_at}
-use Rattle.syntect_engine.proofs.FindLaws.{found-here, found_at-between}
-use Rattle.syntect_engine.specs.Machine.{FindsAt, groups_of}
-use Rattle.syntect_engine.specs.declared.state.Search.{Search}
-use Rattle.syntect_pattern_table.specs.declared.program.Program.{Program}
+use Rattle.syntect_regex.specs.syntect_pattern.Text.{is_boundary}
+use Rattle.syntect_regex.specs.syntect_pattern.Trees.{Tree, group}
+use Rattle.syntect_regex.specs.syntect_pattern.Matches.{Groups, Member, close, matches, unset, found_at}
+use Rattle.syntect_regex.proofs.syntect_pattern_backtrack_proofs.FindLaws.{found-here, found_at-between}
+use Rattle.syntect_regex.specs.syntect_pattern_backtrack.Machine.{FindsAt, groups_of}
+use Rattle.syntect_regex.specs.syntect_pattern_backtrack.declared.state.Search.{Search}
+use Rattle.syntect_regex.specs.syntect_pattern_table.declared.program.Program.{Program}
 use Rattle.syntect_regex.specs.Region.{BeginsAt, TakesHere}
-use Rattle.syntect_seek.proofs.NextLaws.{found-next}
+use Rattle.syntect_pattern_seek.proofs.NextLaws.{found-next}
 
 -- the group that a match closes last begins where the match does
 closed : (i j : ℕ) (h g : Groups) → slice_set h 0 (Some (i, j)) ≡ g → BeginsAt g i

@@ -4,3 +4,7 @@ pub mod HereLaws
 pub mod MarkLaws
 pub mod OutlineLaws
 pub mod TryLaws
+pub use Rattle.syntect_pattern_seek.proofs.syntect_count_proofs as syntect_count_proofs
+pub use Rattle.syntect_pattern_seek.proofs.syntect_pattern_backtrack_proofs as syntect_pattern_backtrack_proofs
+pub use Rattle.syntect_pattern_seek.proofs.syntect_pattern_steps_proofs as syntect_pattern_steps_proofs
+pub use Rattle.syntect_pattern_word_ends.proofs.syntect_pattern_table_proofs as syntect_pattern_table_proofs

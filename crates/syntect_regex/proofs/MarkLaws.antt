@@ -5,13 +5,13 @@ use Rattle.std.proofs.lemmas.List.{get_or_past, get_or_append_left, get_or-repli
 use Rattle.std.proofs.Math.Seq.{get_or-append_seam}
 use Rattle.std.proofs.lemmas.Bool.{cases_lt, cases_eq, ltb-true}
 use Rattle.std.proofs.lemmas.Bool.{and_parts}
-use Rattle.syntect_pattern.specs.Trees.{Tree, nothing, one_of, anchor, same, seq, alt, repeat, group, atomic, ahead, behind, has_group, in_look, group_in_look}
-use Rattle.syntect_pattern_table.specs.Table.{IsOrdered, node_tree, parts_before, trees}
-use Rattle.syntect_pattern_table.proofs.BuilderLaws.{length-trees}
-use Rattle.syntect_pattern_table.proofs.TableLaws.{get_or-trees}
+use Rattle.syntect_regex.specs.syntect_pattern.Trees.{Tree, nothing, one_of, anchor, same, seq, alt, repeat, group, atomic, ahead, behind, has_group, in_look, group_in_look}
+use Rattle.syntect_regex.specs.syntect_pattern_table.Table.{IsOrdered, node_tree, parts_before, trees}
+use Rattle.syntect_regex.proofs.syntect_pattern_table_proofs.BuilderLaws.{length-trees}
+use Rattle.syntect_regex.proofs.syntect_pattern_table_proofs.TableLaws.{get_or-trees}
 use Rattle.syntect_regex.specs.Looks.{AreLooks, NoGroupBefore, is_group, joined, looked_at, met_in, met_before, marked, passed_on, own_mark}
-use Rattle.syntect_letters.specs.Letters.{letters_of, letters_tree}
-use Rattle.syntect_pattern_table.specs.declared.node.Node.{Node}
+use Rattle.syntect_regex.specs.syntect_pattern.Letters.{letters_of, letters_tree}
+use Rattle.syntect_regex.specs.syntect_pattern_table.declared.node.Node.{Node}
 
 -- -- Two marks
 

@@ -1,9 +1,9 @@
 -- What is kept of a pattern.
 use Rattle.std.proofs.Common.{ℕ, zero, suc, Bool, List, Option, Some, sym, ap, ◌∙◌}
 use Rattle.std.specs.Prelude.{option_and_then}
-use Rattle.syntect_pattern.specs.Trees.{Tree, group_in_look}
-use Rattle.syntect_pattern_reader.specs.Compiled.{IsCompiled}
-use Rattle.syntect_pattern_table.specs.declared.program.Program.{Program}
+use Rattle.syntect_regex.specs.syntect_pattern.Trees.{Tree, group_in_look}
+use Rattle.syntect_regex.specs.syntect_pattern_compile.Compiled.{IsCompiled}
+use Rattle.syntect_regex.specs.syntect_pattern_table.declared.program.Program.{Program}
 use Rattle.syntect_regex.specs.Details.{KnowsGroups}
 use Rattle.syntect_regex.specs.Looks.{AreLooks}
 

@@ -3,7 +3,7 @@ use Rattle.std.proofs.Common.{◌≡◌, ℕ, Bool, true, false, ◌&&◌, nat_e
 use Rattle.std.specs.Option.{option_eq}
 use Rattle.std.proofs.lemmas.Bool.{eqb-true}
 use Rattle.std.specs.Prelude.{Result, Ok, Err, IfOk, OnErr, is_ok, unwrap_or, if◌then◌else◌}
-use Rattle.syntect_pattern.specs.Matches.{Groups}
+use Rattle.syntect_regex.specs.syntect_pattern.Matches.{Groups}
 use Rattle.syntect_regex.specs.Region.{TakesMatch, same_span, same_groups, same_groups-equiv}
 
 pub region-left : {E : Type 0} (r : Result Bool E) (match : Option Groups) (old new : Groups) → IfOk r (λ found. TakesMatch match old found new) → OnErr r (new ≡ old)

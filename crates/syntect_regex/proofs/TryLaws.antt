@@ -1,11 +1,11 @@
 -- How many steps a try counts.
 use Rattle.std.proofs.Common.{◌≡◌, ℕ, ◌+◌, ◌*◌, ◌≤◌, List, length, Bool, true, Option, Some, None, sym, ap, ◌∙◌, subst, arith}
-use Rattle.syntect_pattern.specs.Trees.{Tree, group}
-use Rattle.syntect_pattern.specs.Pattern.{pattern_tree}
-use Rattle.syntect_pattern_reader.specs.Compiled.{IsCompiled}
-use Rattle.syntect_pattern_table.specs.declared.program.Program.{Program}
-use Rattle.syntect_plan.specs.Linear.{is_linear}
-use Rattle.syntect_seek.specs.Bounds.{IsWithinTry, root_tree, tried_bound}
+use Rattle.syntect_regex.specs.syntect_pattern.Trees.{Tree, group}
+use Rattle.syntect_regex.specs.syntect_pattern.Pattern.{pattern_tree}
+use Rattle.syntect_regex.specs.syntect_pattern_compile.Compiled.{IsCompiled}
+use Rattle.syntect_regex.specs.syntect_pattern_table.declared.program.Program.{Program}
+use Rattle.syntect_regex.specs.syntect_pattern_plan.Linear.{is_linear}
+use Rattle.syntect_pattern_seek.specs.Bounds.{IsWithinTry, root_tree, tried_bound}
 use Rattle.syntect_regex.specs.Bounds.{is_linear_whole, pattern_is_linear, search_bound, whole_bound}
 
 -- what a try counts besides its search is within the bound of any pattern

@@ -1,22 +1,17 @@
 -- Where a match of a pattern can begin.
 use Rattle.std.specs.Prelude.{◌≡◌, ℕ, ◌+◌, Bool, false, List, [], IsUtf8}
-use Rattle.syntect_pattern.specs.Trees.{Tree}
-use Rattle.syntect_pattern.specs.Matches.{Groups, is_word_edge, matches}
-use Rattle.syntect_pattern.specs.Pattern.{pattern_found}
-use Rattle.syntect_pattern_table.specs.Starts.{is_in, start_at}
-use Rattle.syntect_pattern_table.specs.declared.starts.Places.{Places}
-use Rattle.syntect_word_ends.specs.Ends.{IsRunUpTo}
+use Rattle.syntect_regex.specs.syntect_pattern.Trees.{Tree}
+use Rattle.syntect_regex.specs.syntect_pattern.Matches.{Groups, is_word_edge, matches}
+use Rattle.syntect_regex.specs.syntect_pattern.Pattern.{pattern_found}
+use Rattle.syntect_regex.specs.syntect_pattern_table.Starts.{is_in, start_at}
+use Rattle.syntect_regex.specs.syntect_pattern_table.declared.starts.Places.{Places}
+use Rattle.syntect_pattern_word_ends.specs.Ends.{IsRunUpTo}
 
 -- no match of the pattern begins at a place where something stands that is none of these
 abbrev pub NoneBeginsOutside : Places → List ℕ → Type 0
 NoneBeginsOutside places pattern = (s : List ℕ) → IsUtf8 s → (place : ℕ)
     → is_in places (start_at s place) ≡ false
     → pattern_found pattern s place ≡ pattern_found pattern s (place + 1)
-
--- the tree has no match but where a word begins or ends
-abbrev pub IsAtEdges : Tree → Type 0
-IsAtEdges tree = (s : List ℕ) (place : ℕ) (g : Groups) → is_word_edge s place ≡ false
-    → matches s tree place g ≡ []
 
 -- no match of the pattern begins but where a word begins or ends
 abbrev pub BeginsAtEdges : List ℕ → Type 0
@@ -29,3 +24,10 @@ abbrev pub NoneBeginsBefore : Bool → Places → List ℕ → Type 0
 NoneBeginsBefore blank places pattern = (s : List ℕ) → IsUtf8 s → (place e : ℕ)
     → IsRunUpTo blank s place e → is_in places (start_at s e) ≡ false
     → pattern_found pattern s place ≡ pattern_found pattern s (place + 1)
+
+-- ---- For proofs and private functions alone ----
+
+-- the tree has no match but where a word begins or ends
+abbrev pub IsAtEdges : Tree → Type 0
+IsAtEdges tree = (s : List ℕ) (place : ℕ) (g : Groups) → is_word_edge s place ≡ false
+    → matches s tree place g ≡ []

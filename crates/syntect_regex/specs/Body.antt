@@ -2,6 +2,8 @@
 use Rattle.syntect_regex.specs.declared.outline.Outline.{Outline}
 use Rattle.syntect_regex.specs.declared.regex.RegexBody.{RegexBody}
 
+-- ---- What invariants alone rest on ----
+
 -- what it keeps for one that was not searched yet
 abbrev pub outline_in : RegexBody → Outline
 outline_in body = record {

@@ -1,9 +1,9 @@
 -- How many steps a search takes at most.
 use Rattle.std.specs.Prelude.{ℕ, ◌+◌, ◌*◌, Bool, true, List, Option, Some, None, length}
-use Rattle.syntect_pattern.specs.Trees.{Tree, group}
-use Rattle.syntect_pattern.specs.Pattern.{pattern_tree}
-use Rattle.syntect_plan.specs.Linear.{is_linear}
-use Rattle.syntect_seek.specs.Bounds.{tree_bound}
+use Rattle.syntect_regex.specs.syntect_pattern.Trees.{Tree, group}
+use Rattle.syntect_regex.specs.syntect_pattern.Pattern.{pattern_tree}
+use Rattle.syntect_regex.specs.syntect_pattern_plan.Linear.{is_linear}
+use Rattle.syntect_pattern_seek.specs.Bounds.{tree_bound}
 
 -- the whole match is group 0
 abbrev pub is_linear_whole : Option Tree → Bool

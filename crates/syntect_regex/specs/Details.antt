@@ -1,12 +1,14 @@
 -- What not every pattern has.
 use Rattle.std.specs.Prelude.{◌≡◌, ◌-◌, ◌^◌, ℕ, zero, suc, Bool, true, false, List, Option, Some, None, option_and_then, slice_index_or}
-use Rattle.syntect_pattern.specs.Trees.{group_in_look}
-use Rattle.syntect_pattern.specs.Pattern.{pattern_tree}
-use Rattle.syntect_pattern_table.specs.declared.starts.Places.{Places}
+use Rattle.syntect_regex.specs.syntect_pattern.Trees.{group_in_look}
+use Rattle.syntect_regex.specs.syntect_pattern.Pattern.{pattern_tree}
+use Rattle.syntect_regex.specs.syntect_pattern_table.declared.starts.Places.{Places}
 use Rattle.syntect_regex.specs.Groups.{free_groups}
 use Rattle.syntect_regex.specs.declared.details.Detail.{Detail}
 use Rattle.syntect_regex.specs.declared.details.Rare.{Rare}
 use Rattle.syntect_regex.specs.declared.details.Rare.TheVariants.{Free, Groups, All}
+
+-- ---- What invariants alone rest on ----
 
 -- each character, and the end of the text
 abbrev pub anything : Places

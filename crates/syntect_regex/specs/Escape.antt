@@ -1,7 +1,7 @@
 -- Texts as patterns.
 use Rattle.std.specs.Prelude.{ℕ, Bool, List, [], ◌∷◌, chars, encode_utf8_all, if◌then◌else◌}
 use Rattle.std.specs.List.{flat_map}
-use Rattle.syntect_pattern.specs.Reading.{◌∈◌}
+use Rattle.syntect_regex.specs.syntect_pattern.Reading.{◌∈◌}
 
 -- the character can have a meaning of its own
 unfoldable pub is_special : ℕ → Bool

@@ -3,6 +3,8 @@ use Rattle.std.specs.Prelude.{ℕ, zero, suc, Bool, false, List, [], replicate, 
 use Rattle.syntect_regex.specs.declared.details.GroupLooks.{GroupLooks}
 use Rattle.syntect_regex.specs.declared.details.GroupLooks.TheVariants.{Free, Each}
 
+-- ---- What invariants alone rest on ----
+
 -- of so many groups, and of the whole match in front of them, that none stands in a lookaround;
 -- nothing is kept of the whole match alone
 abbrev pub free_groups : ℕ → List (Option Bool)

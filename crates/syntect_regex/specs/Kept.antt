@@ -1,7 +1,9 @@
 -- What is kept of a pattern to search it.
 use Rattle.std.specs.Prelude.{ℕ, List}
-use Rattle.syntect_pattern_reader.specs.Compiled.{Compiles}
+use Rattle.syntect_regex.specs.syntect_pattern_compile.Compiled.{Compiles}
 use Rattle.syntect_regex.specs.declared.compiled.Kept.{Kept}
+
+-- ---- What invariants alone rest on ----
 
 -- a program that was made with the pattern is that of its text; of one that is made later nothing
 -- is known before

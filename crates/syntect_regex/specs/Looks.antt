@@ -1,8 +1,10 @@
 -- Which groups of a table of nodes stand in lookarounds.
 use Rattle.std.specs.Prelude.{◌≡◌, ◌<◌, ℕ, zero, suc, Bool, true, false, ◌||◌, ◌==◌, List, Option, Some, None, if◌then◌else◌, slice_index_or, slice_set}
-use Rattle.syntect_pattern.specs.Trees.{Tree, nothing, seq, alt, repeat, group, atomic, ahead, behind, group_in_look}
-use Rattle.syntect_pattern_table.specs.Builder.{tree_in}
-use Rattle.syntect_pattern_table.specs.declared.node.Node.{Node}
+use Rattle.syntect_regex.specs.syntect_pattern.Trees.{Tree, nothing, seq, alt, repeat, group, atomic, ahead, behind, group_in_look}
+use Rattle.syntect_regex.specs.syntect_pattern_table.Builder.{tree_in}
+use Rattle.syntect_regex.specs.syntect_pattern_table.declared.node.Node.{Node}
+
+-- ---- For proofs and private functions alone ----
 
 -- it is kept of each group but the whole match whether it is there,
 -- and whether it stands in a lookaround

@@ -4,6 +4,8 @@ use Rattle.syntect_regex.specs.Begins.{BeginsAtEdges, NoneBeginsBefore, NoneBegi
 use Rattle.syntect_regex.specs.Details.{KnowsGroups}
 use Rattle.syntect_regex.specs.declared.outline.Outline.{Outline}
 
+-- ---- What invariants alone rest on ----
+
 -- what is kept is true of the pattern
 pub record IsOutlineOf (pattern : List ℕ) (o : Outline) : Type 0 where
   pub begins : NoneBeginsOutside o.begins pattern

@@ -5,11 +5,11 @@ use Rattle.std.specs.Ordering.{on, eq_of_both}
 use Rattle.std.specs.Cmp.{IsEquivalence, and_equiv, on_equiv, nat_eq_equiv}
 use Rattle.std.specs.Cmp.Lexicographic.{pointwise, lists_equiv, options_equiv}
 use Rattle.std.proofs.Common.{MutBor, inl, inr}
-use Rattle.syntect_pattern.specs.Trees.{Tree}
-use Rattle.syntect_pattern.specs.Matches.{Groups, found, found_at}
-use Rattle.syntect_pattern.specs.Pattern.{pattern_found, pattern_tree}
-use Rattle.syntect_pattern_table.specs.Program.{IsProgramOf}
-use Rattle.syntect_pattern_table.specs.declared.program.Program.{Program}
+use Rattle.syntect_regex.specs.syntect_pattern.Trees.{Tree}
+use Rattle.syntect_regex.specs.syntect_pattern.Matches.{Groups, found, found_at}
+use Rattle.syntect_regex.specs.syntect_pattern.Pattern.{pattern_found, pattern_tree}
+use Rattle.syntect_regex.specs.syntect_pattern_table.Program.{IsProgramOf}
+use Rattle.syntect_regex.specs.syntect_pattern_table.declared.program.Program.{Program}
 
 -- the same span
 abbrev pub same_span : ℕ × ℕ → ℕ × ℕ → Bool
@@ -30,11 +30,6 @@ same_groups-equiv = lists_equiv (options_equiv same_span-equiv)
 abbrev pub TakesMatch : Option Groups → Groups → Bool → Groups → Type 0
 TakesMatch match old answer new = (answer ≡ is_some match) × (new ≡ unwrap_or match old)
 
--- the same of the program's first match from a place on
-abbrev pub Takes : List ℕ → Program → ℕ → Groups → Bool → Groups → Type 0
-Takes s p from old answer new = (tree : Tree) → IsProgramOf p tree
-    → TakesMatch (found s tree from) old answer new
-
 -- a match with these groups begins at the place
 abbrev pub BeginsAt : Groups → ℕ → Type 0
 BeginsAt groups place = (start end : ℕ) → slice_index_or groups 0 None ≡ Some (start, end)
@@ -51,11 +46,6 @@ abbrev pub TriesAt : List ℕ → List ℕ → ℕ → Groups → Bool → Group
 TriesAt pattern text place old answer new =
     TakesAt (pattern_found pattern text) place old answer new
 
--- the same of the program's matches
-abbrev pub TakesHere : List ℕ → Program → ℕ → Groups → Bool → Groups → Type 0
-TakesHere s p place old answer new = (tree : Tree) → IsProgramOf p tree
-    → TakesAt (found s tree) place old answer new
-
 -- the value that was handed in and the one that was left, if one was lent
 abbrev pub Leaves : {R : Type 0} → (R → R → Type 0) → Option (MutBor R)
     → Unit {0} ⊎ ((MutBor R × Unit {0}) ⊎ ⊥) → Type 0
@@ -68,3 +58,15 @@ Leaves P (Some x) (inr (inr y)) = ⊥
 abbrev pub pattern_begins : List ℕ → List ℕ → ℕ → Bool
 pattern_begins pattern s place =
     is_some (option_and_then (λ tree. found_at s tree place) (pattern_tree pattern))
+
+-- ---- For proofs and private functions alone ----
+
+-- the same of the program's first match from a place on
+abbrev pub Takes : List ℕ → Program → ℕ → Groups → Bool → Groups → Type 0
+Takes s p from old answer new = (tree : Tree) → IsProgramOf p tree
+    → TakesMatch (found s tree from) old answer new
+
+-- the same of the program's matches
+abbrev pub TakesHere : List ℕ → Program → ℕ → Groups → Bool → Groups → Type 0
+TakesHere s p place old answer new = (tree : Tree) → IsProgramOf p tree
+    → TakesAt (found s tree) place old answer new

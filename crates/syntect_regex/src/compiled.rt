@@ -1,13 +1,13 @@
 //! Programs that are made when they are first wanted, or with their pattern.
 ghost use Rattle.std.specs.Prelude.{IfOk};
-ghost use Rattle.syntect_pattern_reader.specs.Compiled.{Compiles};
+ghost use Rattle.syntect_regex.specs.syntect_pattern_compile.Compiled.{Compiles};
 ghost use Rattle.syntect_regex.specs.Kept.{IsKeptOf};
 
+use crate::below::pattern_compile::compiler::compile;
+use crate::below::pattern_table::program::Program;
 use once_cell::race::OnceBox;
 use std::alloc::{AllocError, Global};
 use std::marker::Model;
-use syntect_pattern_reader::compiler::compile;
-use syntect_pattern_table::program::Program;
 
 /// What is made of a text, and the text.
 #[derive(Drop)]
@@ -19,7 +19,7 @@ pub(crate) struct Compiled {
 
 impl Model for Compiled {
     ghost use Rattle.std.specs.Prelude.{List, ℕ, string_bytes};
-    ghost use Rattle.syntect_pattern_reader.specs.Compiled.{Compiles};
+    ghost use Rattle.syntect_regex.specs.syntect_pattern_compile.Compiled.{Compiles};
 
     ghost Value = { List ℕ };
 

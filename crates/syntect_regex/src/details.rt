@@ -1,15 +1,15 @@
 //! What not every pattern has: what can come after words and white space in which matches begin,
 //! and groups.
 ghost use Rattle.std.specs.Prelude.{◌≡◌, ℕ, IfOk, IfSome, List, Some, None, false, length, option_and_then, replicate, slice_index_or, true};
-ghost use Rattle.syntect_pattern.specs.Trees.{group_in_look};
-ghost use Rattle.syntect_pattern.specs.Pattern.{pattern_tree};
+ghost use Rattle.syntect_regex.specs.syntect_pattern.Trees.{group_in_look};
+ghost use Rattle.syntect_regex.specs.syntect_pattern.Pattern.{pattern_tree};
 ghost use Rattle.syntect_regex.specs.Details.{KnowsGroups, anything, groups_alone, look_of};
 ghost use Rattle.syntect_regex.specs.Groups.{free_groups};
 
+use crate::below::pattern_table::starts::Places;
+use crate::below::values::seq::Seq;
 use std::alloc::{AllocError, Global};
 use std::marker::Model;
-use syntect_pattern_table::starts::Places;
-use syntect_values::seq::Seq;
 
 /// Each character, and the end of the text.
 const ANYTHING: Places = Places {

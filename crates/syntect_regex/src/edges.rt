@@ -1,12 +1,12 @@
 //! Patterns whose matches begin where a word does, or ends.
 ghost use Rattle.std.specs.Prelude.{◌≡◌, true, slice_index_or};
-ghost use Rattle.syntect_pattern.specs.Trees.{nothing};
-ghost use Rattle.syntect_pattern_table.specs.Program.{trees_of};
+ghost use Rattle.syntect_regex.specs.syntect_pattern.Trees.{nothing};
+ghost use Rattle.syntect_regex.specs.syntect_pattern_table.Program.{trees_of};
 ghost use Rattle.syntect_regex.specs.Begins.{IsAtEdges};
 
-use syntect_pattern::anchor::Anchor;
-use syntect_pattern_table::node::Node;
-use syntect_pattern_table::program::Program;
+use crate::below::pattern::anchor::Anchor;
+use crate::below::pattern_table::node::Node;
+use crate::below::pattern_table::program::Program;
 
 /// How many parts are looked into.
 const LOOKS: u32 = 8;

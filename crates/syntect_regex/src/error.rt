@@ -1,2 +1,2 @@
 //! Why a text is no pattern.
-pub use syntect_pattern::error::PatternError;
+pub use crate::below::pattern::error::PatternError;

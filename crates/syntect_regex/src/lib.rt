@@ -1,6 +1,7 @@
 //! Patterns and their searches.
 #![tactic(auto)]
 
+pub mod below;
 mod compiled;
 mod details;
 mod edges;

@@ -1,13 +1,13 @@
 //! Which groups of a tree stand in lookarounds, found in one walk from the root.
 ghost use Rattle.std.specs.Prelude.{◌≡◌, ◌<◌, ◌≤◌, ℕ, suc, IfOk, OnOk, None, Some, length, replicate, slice_index_or, true};
-ghost use Rattle.syntect_pattern_table.specs.Table.{IsOrdered, parts_before, trees};
+ghost use Rattle.syntect_regex.specs.syntect_pattern_table.Table.{IsOrdered, parts_before, trees};
 ghost use Rattle.syntect_regex.specs.Looks as spec;
 ghost use Rattle.syntect_regex.specs.Looks.{AreLooks, NoGroupBefore, marked, met_before, own_mark, passed_on};
 
+use crate::below::pattern_table::node::Node;
+use crate::below::pattern_table::program::Program;
+use crate::below::values::seq::Seq;
 use std::alloc::{AllocError, Global};
-use syntect_pattern_table::node::Node;
-use syntect_pattern_table::program::Program;
-use syntect_values::seq::Seq;
 
 /// The mark, and that it was met so. A mark tells whether a node or a group was met, and if so
 /// whether within a lookaround.

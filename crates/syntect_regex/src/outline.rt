@@ -1,22 +1,22 @@
 //! What is kept of a pattern that was not searched yet.
 ghost use Rattle.std.specs.Prelude.{◌≡◌, ℕ, IfOk, List, Some, slice_index_or, true};
-ghost use Rattle.syntect_pattern.specs.Trees.{nothing};
-ghost use Rattle.syntect_pattern_reader.specs.Compiled.{Compiles};
-ghost use Rattle.syntect_pattern_table.specs.Program.{trees_of};
-ghost use Rattle.syntect_pattern_table.specs.declared.program.Program.{Program};
+ghost use Rattle.syntect_regex.specs.syntect_pattern.Trees.{nothing};
+ghost use Rattle.syntect_regex.specs.syntect_pattern_compile.Compiled.{Compiles};
+ghost use Rattle.syntect_regex.specs.syntect_pattern_table.Program.{trees_of};
+ghost use Rattle.syntect_regex.specs.syntect_pattern_table.declared.program.Program.{Program};
 ghost use Rattle.syntect_regex.specs.Begins.{BeginsAtEdges, NoneBeginsOutside};
 ghost use Rattle.syntect_regex.specs.Details.{KnowsGroups};
 ghost use Rattle.syntect_regex.specs.Outline.{IsOutlineOf};
-ghost use Rattle.syntect_word_ends.specs.Ends.{StandsBehind};
+ghost use Rattle.syntect_pattern_word_ends.specs.Ends.{StandsBehind};
 
+use crate::below::pattern_table::program::Program;
+use crate::below::pattern_table::starts::{Places, anywhere, nowhere};
+use crate::below::values::seq::Seq;
 use crate::details::Details;
 use crate::edges::is_at_edges;
 use crate::looks::looks_in;
 use std::alloc::{AllocError, Global};
-use syntect_pattern_table::program::Program;
-use syntect_pattern_table::starts::{Places, anywhere, nowhere};
-use syntect_values::seq::Seq;
-use syntect_word_ends::ends::behind_runs;
+use syntect_pattern_word_ends::ends::behind_runs;
 
 /// Where matches of a pattern can begin, and what else is kept of it.
 /// It is small compared with a program.

@@ -4,20 +4,30 @@ ghost use Rattle.std.specs.Option.{option_copied};
 ghost use Rattle.std.specs.Cmp.Lexicographic.{pointwise};
 ghost use Rattle.std.proofs.Common.{rules};
 ghost use Rattle.std.specs.Cmp.Rules.{comparing};
-ghost use Rattle.syntect_pattern.specs.Trees.{group_in_look};
-ghost use Rattle.syntect_pattern.specs.Pattern.{pattern_tree, pattern_found};
-ghost use Rattle.syntect_pattern.specs.Found.{IsPatternMatch};
-ghost use Rattle.syntect_pattern_reader.specs.Compiled.{Compiles};
-ghost use Rattle.syntect_pattern.specs.declared.error.PatternError.{PatternError};
+ghost use Rattle.syntect_regex.specs.syntect_pattern.Trees.{group_in_look};
+ghost use Rattle.syntect_regex.specs.syntect_pattern.Pattern.{pattern_tree, pattern_found};
+ghost use Rattle.syntect_regex.specs.syntect_pattern.Found.{IsPatternMatch};
+ghost use Rattle.syntect_regex.specs.syntect_pattern_compile.Compiled.{Compiles};
+ghost use Rattle.syntect_regex.specs.syntect_pattern.declared.error.PatternError.{PatternError};
 ghost use Rattle.syntect_regex.specs.Body.{outline_in};
 ghost use Rattle.syntect_regex.specs.Bounds.{pattern_is_linear, search_bound};
 ghost use Rattle.syntect_regex.specs.Begins.{NoneBeginsBefore, NoneBeginsOutside, BeginsAtEdges};
-ghost use Rattle.syntect_seek.specs.Depths.{AreDepthsIn};
-ghost use Rattle.syntect_seek.specs.Prospect.{IsProspectOf};
-ghost use Rattle.syntect_meter.specs.Meter.{Advances, StopsAt};
+ghost use Rattle.syntect_pattern_seek.specs.Depths.{AreDepthsIn};
+ghost use Rattle.syntect_pattern_seek.specs.Prospect.{IsProspectOf};
+ghost use Rattle.syntect_regex.specs.syntect_count.Meter.{Advances, StopsAt};
 ghost use Rattle.syntect_regex.specs.Escape.{is_special, escaped_char, escaped};
 ghost use Rattle.syntect_regex.specs.Region.{TakesMatch, TriesAt, Leaves, pattern_begins};
 
+use crate::below::count::count::GhostCount;
+use crate::below::count::counts::add;
+use crate::below::count::meter::Meter;
+use crate::below::count::stop::Stop;
+use crate::below::pattern_backtrack::state::Search;
+use crate::below::pattern_compile::compiler::compile;
+use crate::below::pattern_plan::plan::Plan;
+use crate::below::pattern_plan::spelt::spelt;
+use crate::below::pattern_table::program::Program;
+use crate::below::pattern_table::starts::Places;
 use crate::compiled::{Kept, program_in};
 use crate::details::Details;
 use crate::error::PatternError;
@@ -26,19 +36,9 @@ use crate::region::Region;
 use once_cell::race::OnceBox;
 use std::alloc::{AllocError, Global};
 use std::marker::Model;
-use syntect_engine::state::Search;
-use syntect_meter::counts::add;
-use syntect_meter::meter::Meter;
-use syntect_meter::stop::Stop;
-use syntect_pattern_reader::compiler::compile;
-use syntect_pattern_table::program::Program;
-use syntect_pattern_table::starts::Places;
-use syntect_plan::plan::Plan;
-use syntect_plan::spelt::spelt;
-use syntect_seek::depths::Depths;
-use syntect_seek::prospect::Prospect;
-use syntect_seek::seek::begins_known;
-use syntect_turns::count::TurnCount;
+use syntect_pattern_seek::depths::Depths;
+use syntect_pattern_seek::prospect::Prospect;
+use syntect_pattern_seek::seek::begins_known;
 
 /// A pattern of more bytes is compiled for searches when made: each would compare its text.
 const LONG: usize = 4096;
@@ -238,7 +238,7 @@ impl Regex {
             return Ok(true);
         };
         let program = spelt(alloc, &program)?;
-        let plan = Plan::new(alloc, &program, &mut TurnCount::none())?;
+        let plan = Plan::new(alloc, &program, &mut GhostCount::none())?;
         Ok(plan.is_some())
     }
 
@@ -284,7 +284,7 @@ impl Regex {
             (take end text.now) begin region.new) }
         ensures err { OnErr result (region.new ≡ region.old) }
     {
-        self.search_counted(text, begin, end, region, &mut TurnCount::none())
+        self.search_counted(text, begin, end, region, &mut GhostCount::none())
     }
 
     /// Searches as `search_into` does, and counts its steps. Of a linear pattern they are within a
@@ -301,7 +301,7 @@ impl Regex {
         begin: usize,
         end: usize,
         region: &mut Region,
-        count: &mut TurnCount,
+        count: &mut GhostCount,
     ) -> Result<bool, AllocError>
         requires order { begin ≤ end }
         requires begin_boundary { IsCharBoundary text.now begin }
@@ -350,7 +350,7 @@ impl Regex {
         ensures stops { IfErr result (StopsAt meter.new) }
         ensures counted { IfOk result (λ found. found ≡ true → meter.old.made < meter.new.made) }
     {
-        syntect_pattern_laws::pattern_matches_are_laid_out();
+        crate::below::pattern::laws::pattern_matches_are_laid_out();
         let Some(program) = self.program()? else {
             return Ok(false);
         };
@@ -370,7 +370,7 @@ impl Regex {
         ensures ok { IfOk result (λ b. TriesAt self.now text.now place region.old b region.new) }
         ensures err { OnErr result (region.new ≡ region.old) }
     {
-        self.match_at_counted(text, place, region, &mut TurnCount::none())
+        self.match_at_counted(text, place, region, &mut GhostCount::none())
     }
 
     /// Tells as `match_at` does, and counts the steps as `search_counted` does, and as
@@ -380,7 +380,7 @@ impl Regex {
         text: &str,
         place: usize,
         region: &mut Region,
-        count: &mut TurnCount,
+        count: &mut GhostCount,
     ) -> Result<bool, AllocError>
         ensures ok { IfOk result (λ b. TriesAt self.now text.now place region.old b region.new) }
         ensures err { OnErr result (region.new ≡ region.old) }

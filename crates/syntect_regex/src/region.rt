@@ -1,24 +1,24 @@
 //! Where the groups of a match stand.
 ghost use Rattle.std.specs.Prelude.{◌≡◌, ◌≤◌, ◌<◌, ◌↔◌, ℕ, List, true, [], IfErr, IfOk, OnErr, OnOk, None, length, slice_index_or};
-ghost use Rattle.syntect_pattern.specs.Matches.{Groups};
-ghost use Rattle.syntect_seek.specs.Bounds.{IsWithinBound, IsWithinTry};
-ghost use Rattle.syntect_pattern_reader.specs.Compiled.{IsCompiled};
-ghost use Rattle.syntect_seek.specs.Depths.{AreDepthsIn};
-ghost use Rattle.syntect_seek.specs.Prospect.{IsProspectOf};
-ghost use Rattle.syntect_meter.specs.Meter.{Advances, StopsAt};
+ghost use Rattle.syntect_regex.specs.syntect_pattern.Matches.{Groups};
+ghost use Rattle.syntect_pattern_seek.specs.Bounds.{IsWithinBound, IsWithinTry};
+ghost use Rattle.syntect_regex.specs.syntect_pattern_compile.Compiled.{IsCompiled};
+ghost use Rattle.syntect_pattern_seek.specs.Depths.{AreDepthsIn};
+ghost use Rattle.syntect_pattern_seek.specs.Prospect.{IsProspectOf};
+ghost use Rattle.syntect_regex.specs.syntect_count.Meter.{Advances, StopsAt};
 ghost use Rattle.syntect_regex.specs.Region.{Takes, TakesHere, same_groups, same_groups-equiv};
 ghost use Rattle.std.specs.Cmp.{partial_equiv_from_equiv};
 
+use crate::below::count::meter::Meter;
+use crate::below::count::stop::Stop;
+use crate::below::pattern_backtrack::state::{Search, Span};
+use crate::below::pattern_table::program::Program;
 use std::alloc::{AllocError, Global};
 use std::marker::Model;
 use std::mem;
-use syntect_engine::state::{Search, Span};
-use syntect_meter::meter::Meter;
-use syntect_meter::stop::Stop;
-use syntect_pattern_table::program::Program;
-use syntect_seek::depths::Depths;
-use syntect_seek::prospect::Prospect;
-use syntect_seek::seek::{begins_known, find};
+use syntect_pattern_seek::depths::Depths;
+use syntect_pattern_seek::prospect::Prospect;
+use syntect_pattern_seek::seek::{begins_known, find};
 
 /// Where each group of a match stands, from 0, which is the whole match. A region also keeps the
 /// memory of the last search for the next one: to search many times, hand in the same one.

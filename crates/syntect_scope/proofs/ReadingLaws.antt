@@ -7,7 +7,7 @@ use Rattle.std.specs.Str.{IsUtf8, IsCharBoundary}
 use Rattle.std.proofs.lemmas.Bool.Decides.{eqb_tells}
 use Rattle.std.proofs.lemmas.Str.{IsUtf8-drop}
 use Rattle.std.proofs.lemmas.List.{take-append-le, length-take, map-append}
-use Rattle.syntect_scope.specs.Repository.{with_atoms, with_scopes, atom_texts, scope_in, first_refusal, is_too_long, MayRefuse}
+use Rattle.syntect_scope.specs.Repository.{with_atoms, with_scopes, atom_texts, scope_in, first_refusal, is_too_long, IsRefusalOrMemory}
 use Rattle.syntect_scope.specs.Stack.{plain}
 use Rattle.syntect_scope.specs.Words.{words}
 use Rattle.syntect_scope.specs.SelectorText.{hyphen_parts, selector_words, stack_in, selector_of, selector_in}
@@ -76,7 +76,7 @@ refusal_first r (t ∷ xs) ys x e =
     stop (is_too_long t) (nat_lt 65534 (length (with_atoms r (atom_texts t)))) (first_refusal (with_atoms r (atom_texts t)) xs) (first_refusal (with_atoms r (atom_texts t)) (xs ++ ys)) x
     (refusal_first (with_atoms r (atom_texts t)) xs ys x) e
 
-may_refuse : (o p : Option ParseScopeError) (e : ParseScopeError) → ((x : ParseScopeError) → o ≡ Some x → p ≡ Some x) → MayRefuse o e → MayRefuse p e
+may_refuse : (o p : Option ParseScopeError) (e : ParseScopeError) → ((x : ParseScopeError) → o ≡ Some x → p ≡ Some x) → IsRefusalOrMemory o e → IsRefusalOrMemory p e
 may_refuse o p Memory h m = tt
 may_refuse o p TooLong h m = h TooLong m
 may_refuse o p TooManyAtoms h m = h TooManyAtoms m
@@ -125,7 +125,7 @@ module _ {X : Type 0} (f : List ℕ → List (List ℕ)) (G : List (List ℕ) �
       ∙ ap (λ (ts : List (List ℕ)). first_refusal self (flat_map f ts)) (sym (texts_from d parts i l)) ∙ h
 
   pub now_refused : (d : Bor (List ℕ)) {o : Option ParseScopeError} (self : List (List ℕ)) (parts : List (Bor (List ℕ))) (i : ℕ) (e : ParseScopeError) → i < length parts
-      → MayRefuse (first_refusal self (f (get_or parts i d).now)) e → first_refusal self (flat_map f (map (λ x. x.now) (drop i parts))) ≡ o → MayRefuse o e
+      → IsRefusalOrMemory (first_refusal self (f (get_or parts i d).now)) e → first_refusal self (flat_map f (map (λ x. x.now) (drop i parts))) ≡ o → IsRefusalOrMemory o e
   now_refused d {o} self parts i e l m h =
       let t : List ℕ = (get_or parts i d).now in
       let rest : List (List ℕ) = map (λ x. x.now) (drop (i + 1) parts) in

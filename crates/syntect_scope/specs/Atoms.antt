@@ -15,15 +15,19 @@ atoms_in [] = []
 atoms_in (zero ∷ xs) = []
 atoms_in (suc n ∷ xs) = suc n ∷ atoms_in xs
 
+-- so many places that hold the atoms
+abbrev pub places_of : ℕ → List ℕ → List ℕ
+places_of n xs = xs ++ replicate (n - length xs) 0
+
+-- ---- What invariants alone rest on ----
+
 -- from the first 0 on all are 0
 abbrev pub IsPacked : List ℕ → Type 0
 IsPacked [] = Unit {0}
 IsPacked (zero ∷ xs) = xs ≡ replicate (length xs) 0
 IsPacked (suc n ∷ xs) = IsPacked xs
 
--- so many places that hold the atoms
-abbrev pub places_of : ℕ → List ℕ → List ℕ
-places_of n xs = xs ++ replicate (n - length xs) 0
+-- ---- For proofs and private functions alone ----
 
 pub places_of-atoms_in : (xs : List ℕ) (n : ℕ) → n ≡ length xs → IsPacked xs → places_of n (atoms_in xs) ≡ xs
 places_of-atoms_in [] n e p = rw e refl

@@ -6,6 +6,8 @@ abbrev pub number_of : List ℕ → ℕ
 number_of [] = 0
 number_of (d ∷ ds) = d + 8 * number_of ds
 
+-- ---- What invariants alone rest on ----
+
 -- each is a digit
 abbrev pub AreDigits : List ℕ → Type 0
 AreDigits [] = Unit {0}

@@ -3,6 +3,8 @@ use Rattle.std.specs.Prelude.{ℕ, suc, ◌+◌, ◌*◌, ◌^◌, Bool, true, f
 use Rattle.std.specs.Option.{option_map}
 use Rattle.syntect_scope.specs.Atoms.{is_prefix}
 
+-- ---- For proofs and private functions alone ----
+
 -- each scope of the path at the first place after the one before it
 abbrev pub greedy : List (List ℕ) → List (List ℕ) → ℕ → Option (List ℕ)
 greedy [] stack at = Some []

@@ -26,6 +26,8 @@ high_of scope = word_of (take 4 (places_of 8 scope))
 abbrev pub low_of : List ℕ → ℕ
 low_of scope = word_of (drop 4 (places_of 8 scope))
 
+-- ---- For proofs and private functions alone ----
+
 -- ---- words give their places back ----
 
 pub places_length : (n w : ℕ) → length (places n w) ≡ n

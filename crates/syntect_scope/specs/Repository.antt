@@ -80,10 +80,10 @@ first_refusal repo (text ∷ texts) =
     else first_refusal (with_atoms repo (atom_texts text)) texts
 
 -- lack of memory, or this refusal
-abbrev pub MayRefuse : Option ParseScopeError → ParseScopeError → Type 0
-MayRefuse o Memory = Unit {0}
-MayRefuse o TooLong = o ≡ Some TooLong
-MayRefuse o TooManyAtoms = o ≡ Some TooManyAtoms
+abbrev pub IsRefusalOrMemory : Option ParseScopeError → ParseScopeError → Type 0
+IsRefusalOrMemory o Memory = Unit {0}
+IsRefusalOrMemory o TooLong = o ≡ Some TooLong
+IsRefusalOrMemory o TooManyAtoms = o ≡ Some TooManyAtoms
 
 -- ---- the text of a scope ----
 

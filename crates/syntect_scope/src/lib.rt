@@ -15,3 +15,5 @@ pub mod repository;
 pub mod scope;
 pub mod selector;
 pub mod stack;
+
+pub use syntect_values;

@@ -1,7 +1,7 @@
 //! Selectors read from texts.
 ghost use Rattle.std.specs.Prelude.{◌≡◌, ◌==◌, ◌++◌, length, map, take, IfOk, OnOk, IfErr, None};
 ghost use Rattle.std.specs.List.{slice_split, flat_map};
-ghost use Rattle.syntect_scope.specs.Repository.{with_scopes, first_refusal, MayRefuse, IsRepository};
+ghost use Rattle.syntect_scope.specs.Repository.{with_scopes, first_refusal, IsRefusalOrMemory, IsRepository};
 ghost use Rattle.syntect_scope.specs.SelectorText.{union_parts, hyphen_parts, selector_words, union_words, stack_in, selector_of, selector_in, selectors_in};
 ghost use Rattle.syntect_scope.specs.Words.{words};
 
@@ -59,7 +59,7 @@ fn stacks_of(
     ensures atoms { OnOk result (repository.new ≡ with_scopes repository.old (flat_map words (map (λ x. x.now) texts.now))) }
     ensures stacks { IfOk result (λ stacks. stacks.items ≡ map (stack_in repository.new) (map (λ x. x.now) texts.now)) }
     ensures accepted { OnOk result (first_refusal repository.old (flat_map words (map (λ x. x.now) texts.now)) ≡ None) }
-    ensures refused { IfErr result (MayRefuse (first_refusal repository.old (flat_map words (map (λ x. x.now) texts.now)))) }
+    ensures refused { IfErr result (IsRefusalOrMemory (first_refusal repository.old (flat_map words (map (λ x. x.now) texts.now)))) }
     ensures whole { IsRepository repository.new }
     ensures kept { take (length repository.old) repository.new ≡ repository.old }
 {
@@ -87,7 +87,7 @@ impl ScopeSelector {
         ensures atoms { OnOk result (repository.new ≡ with_scopes repository.old (selector_words s.now)) }
         ensures selector { IfOk result (λ selector. selector ≡ selector_in repository.new s.now) }
         ensures accepted { OnOk result (first_refusal repository.old (selector_words s.now) ≡ None) }
-        ensures refused { IfErr result (MayRefuse (first_refusal repository.old (selector_words s.now))) }
+        ensures refused { IfErr result (IsRefusalOrMemory (first_refusal repository.old (selector_words s.now))) }
         ensures whole { IsRepository repository.new }
         ensures kept { take (length repository.old) repository.new ≡ repository.old }
     {
@@ -125,7 +125,7 @@ impl ScopeSelectors {
         ensures atoms { OnOk result (repository.new ≡ with_scopes repository.old (union_words s.now)) }
         ensures selectors { IfOk result (λ selectors. selectors.selectors ≡ selectors_in repository.new s.now) }
         ensures accepted { OnOk result (first_refusal repository.old (union_words s.now) ≡ None) }
-        ensures refused { IfErr result (MayRefuse (first_refusal repository.old (union_words s.now))) }
+        ensures refused { IfErr result (IsRefusalOrMemory (first_refusal repository.old (union_words s.now))) }
         ensures whole { IsRepository repository.new }
         ensures kept { take (length repository.old) repository.new ≡ repository.old }
     {

@@ -4,7 +4,7 @@ ghost use Rattle.std.specs.BTreeMap.{get_by_text};
 ghost use Rattle.std.specs.Option.{option_copied, option_map};
 ghost use Rattle.std.specs.List.{slice_split, list_any};
 ghost use Rattle.std.specs.Str.{bytes_eq, trim};
-ghost use Rattle.syntect_scope.specs.Repository.{between_dots, atom_in, atom_text, atom_texts, place_in, scope_in, scope_text, with_atom, with_atoms, with_scopes, first_refusal, MayRefuse, number_in, without_dots, IsRepository};
+ghost use Rattle.syntect_scope.specs.Repository.{between_dots, atom_in, atom_text, atom_texts, place_in, scope_in, scope_text, with_atom, with_atoms, with_scopes, first_refusal, IsRefusalOrMemory, number_in, without_dots, IsRepository};
 ghost use Rattle.syntect_scope.specs.Stack.{plain};
 ghost use Rattle.syntect_scope.specs.Words.{words};
 ghost use Rattle.syntect_scope.specs.declared.repository.ParseScopeError.TheVariants.{Memory};
@@ -409,7 +409,7 @@ impl ScopeStack {
         ensures atoms { OnOk result (repository.new ≡ with_scopes repository.old (words s.now)) }
         ensures scopes { IfOk result (λ stack. stack ≡ plain (map (scope_in repository.new) (words s.now))) }
         ensures accepted { OnOk result (first_refusal repository.old (words s.now) ≡ None) }
-        ensures refused { IfErr result (MayRefuse (first_refusal repository.old (words s.now))) }
+        ensures refused { IfErr result (IsRefusalOrMemory (first_refusal repository.old (words s.now))) }
         ensures whole { IsRepository repository.new }
         ensures kept { take (length repository.old) repository.new ≡ repository.old }
     {

@@ -2,12 +2,12 @@
 use Rattle.std.proofs.Common.{◌≡◌, ℕ, List, [], ◌∷◌, ◌++◌, length, refl, sym, ap, ◌∙◌, append_assoc, Some, None, Result, Ok, Err, Bor}
 use Rattle.std.specs.declared.ops.Range.{Range}
 use Rattle.std.proofs.lemmas.List.{append-nil}
-use Rattle.syntect_scope.specs.Replay.{InOrder, AllApply, replay, before_text, bytes_to}
-use Rattle.syntect_scope.specs.declared.stack.ScopeStack.{ScopeStack}
-use Rattle.syntect_scope.specs.declared.stack.ScopeStackOp.{ScopeStackOp}
-use Rattle.syntect_scope.specs.declared.stack.ScopeError.{ScopeError}
-use Rattle.syntect_scope.specs.declared.stack.ScopeError.TheVariants.{NoClearedScopesToRestore, Memory}
-use Rattle.syntect_style.specs.Pieces.{Stretch, oks, stretches, last_stack, path_of, Keeps, Joins, IsStyled}
+use Rattle.syntect_style.specs.syntect_scope.Replay.{InOrder, AllApply, replay, before_text, bytes_to}
+use Rattle.syntect_style.specs.syntect_scope.declared.stack.ScopeStack.{ScopeStack}
+use Rattle.syntect_style.specs.syntect_scope.declared.stack.ScopeStackOp.{ScopeStackOp}
+use Rattle.syntect_style.specs.syntect_scope.declared.stack.ScopeError.{ScopeError}
+use Rattle.syntect_style.specs.syntect_scope.declared.stack.ScopeError.TheVariants.{NoClearedScopesToRestore, Memory}
+use Rattle.syntect_style.specs.Pieces.{Stretch, oks, stretches, last_stack, path_of, KeepsTrueStyles, Joins, IsStyled}
 use Rattle.syntect_style.specs.Items.{theme_of, stack_of, IsReady, Begins, left, final, Tells, Carries, Gives, Shows}
 use Rattle.syntect_theme.specs.declared.style.Style.{Style}
 use Rattle.syntect_theme.specs.declared.theme.Theme.{Theme}
@@ -54,7 +54,7 @@ begun b = rw (b.text_is, b.pos_is, b.state_is, b.changes_are) refl
 
 pub record Whole (theme : Theme) (text : List ℕ) (changes : List (ℕ × ScopeStackOp)) (state : HighlightState) (pieces : List (Style × Bor (List ℕ))) (new : ScopeStack) : Type 0 where
   pub joins : Joins text pieces
-  pub styled : Keeps theme state → IsStyled theme (bytes_to (replay changes (before_text (path_of state))) (length text)) pieces
+  pub styled : KeepsTrueStyles theme state → IsStyled theme (bytes_to (replay changes (before_text (path_of state))) (length text)) pieces
   pub path : new ≡ (replay changes (before_text (path_of state))).stack
   pub applied : AllApply (path_of state) changes
 
@@ -67,13 +67,13 @@ collected-end {s} {m} {t} {pieces} {theme} {text} {changes} {state} b o h g =
     let c : h.stretches ≡ cuts (length text) 0 (path_of state) changes = oks-same _ _ (sym e ∙ stretches_cuts (length text) 0 (path_of state) changes a) in
     let w : Within (length text) h.stretches = rw c (cuts_within text (length text) 0 (path_of state) changes o) in
     let f : final s ≡ last_stack (path_of state) changes = rw (b.state_is, b.changes_are) refl in
-    let each : ShowEach theme text (Keeps theme state) h.stretches pieces = rw (b.theme_is, b.text_is, b.state_is) at h.shows in
+    let each : ShowEach theme text (KeepsTrueStyles theme state) h.stretches pieces = rw (b.theme_is, b.text_is, b.state_is) at h.shows in
     let x : text_of_cuts text h.stretches ≡ text = ap (text_of_cuts text) c ∙ cuts_text text 0 (path_of state) changes o in
     let y : bytes_of_cuts h.stretches ≡ bytes_to (replay changes (before_text (path_of state))) (length text)
     = ap bytes_of_cuts c ∙ sym (cuts_bytes text (length text) 0 (path_of state) changes [] refl o) in
     record {
-      joins = rw x at (joins_of theme text (Keeps theme state) h.stretches pieces w each);
-      styled = λ keeps. rw y at (styled_of theme text (Keeps theme state) h.stretches pieces keeps w each);
+      joins = rw x at (joins_of theme text (KeepsTrueStyles theme state) h.stretches pieces w each);
+      styled = λ keeps. rw y at (styled_of theme text (KeepsTrueStyles theme state) h.stretches pieces keeps w each);
       path = g.1.2 ∙ h.final ∙ f ∙ last_replayed (path_of state) changes [] a;
       applied = a;
     }

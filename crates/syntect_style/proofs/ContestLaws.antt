@@ -8,9 +8,9 @@ use Rattle.std.proofs.lemmas.List.MinMax.{IsFirstBest-from_best_of}
 use Rattle.std.proofs.lemmas.List.Folds.{list_all_at}
 use Rattle.std.proofs.lemmas.List.{get_or_default}
 use Rattle.std.proofs.lemmas.List.Elements.{Contains-get_or}
-use Rattle.syntect_scope.specs.Choice.{selector_score}
-use Rattle.syntect_scope.specs.declared.selector.ScopeSelector.{ScopeSelector}
-use Rattle.syntect_scope.specs.SelectorText.{sole_scope}
+use Rattle.syntect_style.specs.syntect_scope.Choice.{selector_score}
+use Rattle.syntect_style.specs.syntect_scope.declared.selector.ScopeSelector.{ScopeSelector}
+use Rattle.syntect_style.specs.syntect_scope.SelectorText.{sole_scope}
 use Rattle.syntect_style.specs.Candidates.{single_score, other_score, score_of, Candidate, candidate, candidates, beats, prevailing, deepest}
 use Rattle.syntect_style.specs.Laws.{IsGreatest}
 use Rattle.syntect_style.specs.Rules.{rule_of, item_rules, single_rules, against, after_rules, other_of, item_others, other_rules, after_others}

@@ -5,9 +5,9 @@ use Rattle.std.specs.List.{filter, list_any}
 use Rattle.std.specs.Option.{option_map}
 use Rattle.std.proofs.lemmas.Bool.Decides.{nat_tests}
 use Rattle.std.proofs.Math.Nat.{pow-le-pow_right, pow-succ', one-le-pow, mul-lt-mul_of_pos_left, mul-lt-mul_of_pos_right}
-use Rattle.syntect_scope.specs.Atoms.{is_prefix}
+use Rattle.syntect_style.specs.syntect_scope.Atoms.{is_prefix}
 use Rattle.syntect_style.specs.Candidates.{Candidate, candidate, deepest, further, single_score}
-use Rattle.syntect_style.specs.Rules.{against, after_rules, top_score, after_top, worth, IsBelow, Stands, single_rules, other_rules, after_others}
+use Rattle.syntect_style.specs.Rules.{against, after_rules, top_score, after_top, worth, IsBelow, IsWorthPrevailing, single_rules, other_rules, after_others}
 use Rattle.syntect_style.specs.Buckets.{bucket_of, has_no_atoms, may_match}
 use Rattle.syntect_style.proofs.ContestLaws.{against_grouped, IsOther, others_stay, better_value}
 use Rattle.syntect_style.proofs.TopLaws.{value_of, power_of, deepest_more, deepest_within, nothing_deepest, Tracks, IsAt, below_against, step_below, step_above, step_nought, tracked_worth, same_worth}
@@ -79,8 +79,8 @@ after_top_grouped attribute top n (r ∷ rules) best more =
     ∙ after_top_grouped attribute top n rules best (against more (candidate (attribute r.style) (top_score r.scope top n)))
 
 -- one scope more on top: what stood, against the rules that match it
-pub stands_more : {V : Type 0} (attribute : StyleModifier → Option V) (theme : Theme) (stack : List (List ℕ)) (top : List ℕ) (c : Option (Candidate V)) → Stands V attribute theme stack c
-    → Stands V attribute theme (stack ++ top ∷ []) (after_top attribute top (length stack) c (single_rules theme))
+pub stands_more : {V : Type 0} (attribute : StyleModifier → Option V) (theme : Theme) (stack : List (List ℕ)) (top : List ℕ) (c : Option (Candidate V)) → IsWorthPrevailing V attribute theme stack c
+    → IsWorthPrevailing V attribute theme (stack ++ top ∷ []) (after_top attribute top (length stack) c (single_rules theme))
 stands_more {V} attribute theme stack top c h = record {
   same = ap worth e ∙ same_worth (length stack) c k m h.same h.below t.low t.at_top ∙ sym (tracked_worth (length stack) k m _ t);
   below = subst (IsBelow (length (stack ++ top ∷ []))) (sym e) (raised (against c m) (below_top c m h.below t.at_top));
@@ -117,7 +117,7 @@ stands_more {V} attribute theme stack top c h = record {
         at (Some y) j = (length stack, j, omega arith)
 
 -- before the first scope nothing stands
-pub nothing_stands : {V : Type 0} (attribute : StyleModifier → Option V) (theme : Theme) → Stands V attribute theme [] None
+pub nothing_stands : {V : Type 0} (attribute : StyleModifier → Option V) (theme : Theme) → IsWorthPrevailing V attribute theme [] None
 nothing_stands {V} attribute theme = record {
   same = sym (ap worth (none (single_rules theme)));
   below = tt;
@@ -179,9 +179,9 @@ bucket_any top (r ∷ rules) = by (bucket_any top rules) (may_match (bucket_of t
 
 -- one scope more on top, by the rules of its bucket
 pub stands_bucket : {V : Type 0} (attribute : StyleModifier → Option V) (theme : Theme) (stack : List (List ℕ)) (top : List ℕ) (n : ℕ) (rules : List Rule) (c d : Option (Candidate V))
-    → rules ≡ filter (may_match (bucket_of top)) (single_rules theme) → length stack ≡ n → d ≡ after_top attribute top n c rules → Stands V attribute theme stack c → Stands V attribute theme (stack ++ top ∷ []) d
+    → rules ≡ filter (may_match (bucket_of top)) (single_rules theme) → length stack ≡ n → d ≡ after_top attribute top n c rules → IsWorthPrevailing V attribute theme stack c → IsWorthPrevailing V attribute theme (stack ++ top ∷ []) d
 stands_bucket {V} attribute theme stack top n rules c d e l f h =
-    subst (Stands V attribute theme (stack ++ top ∷ []))
+    subst (IsWorthPrevailing V attribute theme (stack ++ top ∷ []))
     (sym (f ∙ ap (λ n. after_top attribute top n c rules) (sym l) ∙ ap (after_top attribute top (length stack) c) e ∙ bucket_top attribute top (length stack) c (single_rules theme)))
     (stands_more attribute theme stack top c h)
 
@@ -209,7 +209,7 @@ same_value {V} (Some c) (Some k) (Some o) w i = by (nat_lt c.score.power o.score
     by true f = rw (f, ← p, f) refl
     by false f = rw (f, ← p, f, i, never (o.score.power == c.score.power), v) refl
 
-pub value_stands : {V : Type 0} (attribute : StyleModifier → Option V) (theme : Theme) (stack : List (List ℕ)) (c o : Option (Candidate V)) (v : Option V) → Stands V attribute theme stack c
+pub value_stands : {V : Type 0} (attribute : StyleModifier → Option V) (theme : Theme) (stack : List (List ℕ)) (c o : Option (Candidate V)) (v : Option V) → IsWorthPrevailing V attribute theme stack c
     → o ≡ after_others attribute stack None (other_rules theme) → v ≡ option_map (λ x. x.value) (against c o) → v ≡ better_value attribute stack (single_rules theme) (other_rules theme)
 value_stands {V} attribute theme stack c o v h e f =
     f ∙ same_value c (after_rules attribute stack None (single_rules theme)) o h.same (subst IsOther (sym e) (others_stay attribute stack None (other_rules theme) tt))

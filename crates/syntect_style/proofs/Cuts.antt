@@ -7,13 +7,13 @@ use Rattle.std.proofs.lemmas.List.{append-nil, length-replicate, take_rest, leng
 use Rattle.std.proofs.lemmas.List.Folds.{drop_split}
 use Rattle.std.proofs.lemmas.List.Elements.{All-cons}
 use Rattle.std.proofs.lemmas.List.Concat.{flat_map-append}
-use Rattle.syntect_scope.specs.Stack.{applied, is_refused}
-use Rattle.syntect_scope.specs.Replay.{InOrder, AllApply, replay, bytes_to}
-use Rattle.syntect_scope.specs.declared.stack.ScopeStack.{ScopeStack}
-use Rattle.syntect_scope.specs.declared.stack.ScopeStackOp.{ScopeStackOp}
-use Rattle.syntect_scope.specs.declared.stack.ScopeError.{ScopeError}
-use Rattle.syntect_scope.specs.declared.stack.ScopeError.TheVariants.{NoClearedScopesToRestore}
-use Rattle.syntect_style.specs.Styling.{shown}
+use Rattle.syntect_style.specs.syntect_scope.Stack.{applied, is_refused}
+use Rattle.syntect_style.specs.syntect_scope.Replay.{InOrder, AllApply, replay, bytes_to}
+use Rattle.syntect_style.specs.syntect_scope.declared.stack.ScopeStack.{ScopeStack}
+use Rattle.syntect_style.specs.syntect_scope.declared.stack.ScopeStackOp.{ScopeStackOp}
+use Rattle.syntect_style.specs.syntect_scope.declared.stack.ScopeError.{ScopeError}
+use Rattle.syntect_style.specs.syntect_scope.declared.stack.ScopeError.TheVariants.{NoClearedScopesToRestore}
+use Rattle.syntect_style.specs.Styling.{shown_style}
 use Rattle.syntect_style.specs.Pieces.{Stretch, stretch, oks, stretches, last_stack, Joins, IsStyled}
 use Rattle.syntect_theme.specs.declared.style.Style.{Style}
 use Rattle.syntect_theme.specs.declared.theme.Theme.{Theme}
@@ -158,7 +158,7 @@ cuts_within text end at s (o ∷ os) h =
 -- ---- pieces that show stretches ----
 
 pub record ShowsOne (theme : Theme) (text : List ℕ) (tells : Type 0) (st : Stretch) (p : Style × Bor (List ℕ)) : Type 0 where
-  pub style : tells → p.0 ≡ shown theme st.scopes
+  pub style : tells → p.0 ≡ shown_style theme st.scopes
   pub text_of : p.1.now ≡ slice_range text st.from st.to
 
 abbrev pub ShowEach : Theme → List ℕ → Type 0 → List Stretch → List (Style × Bor (List ℕ)) → Type 0
@@ -177,9 +177,9 @@ show_more theme text tells (y ∷ xs) [] x p h k = absurd h
 slice_len : (text : List ℕ) (a b : ℕ) → a < b → b ≤ length text → length (slice_range text a b) ≡ b - a
 slice_len text a b h l = length-take-le (b - a) (drop a text) (rw length-drop (omega arith))
 
-replicate_map : (theme : Theme) (n : ℕ) (ss : List (List ℕ)) → map (shown theme) (replicate n ss) ≡ replicate n (shown theme ss)
+replicate_map : (theme : Theme) (n : ℕ) (ss : List (List ℕ)) → map (shown_style theme) (replicate n ss) ≡ replicate n (shown_style theme ss)
 replicate_map theme zero ss = refl
-replicate_map theme (suc n) ss = ap (λ (l : List Style). shown theme ss ∷ l) (replicate_map theme n ss)
+replicate_map theme (suc n) ss = ap (λ (l : List Style). shown_style theme ss ∷ l) (replicate_map theme n ss)
 
 pub joins_of : (theme : Theme) (text : List ℕ) (tells : Type 0) (xs : List Stretch) (ps : List (Style × Bor (List ℕ))) → Within (length text) xs → ShowEach theme text tells xs ps → Joins (text_of_cuts text xs) ps
 joins_of theme text tells [] [] w h = record { joined = refl; filled = λ i d l. absurd (omega arith) }
@@ -202,5 +202,5 @@ styled_of theme text tells (x ∷ xs) [] k w h = absurd h
 styled_of theme text tells (x ∷ xs) (p ∷ ps) k w h =
     let i : IsStyled theme (bytes_of_cuts xs) ps = styled_of theme text tells xs ps k w.2 h.1 in
     let n : length p.1.now ≡ x.to - x.from = ap length h.0.text_of ∙ slice_len text x.from x.to w.0 w.1 in
-    rw (map-append (shown theme) (replicate (x.to - x.from) x.scopes) (bytes_of_cuts xs), replicate_map theme (x.to - x.from) x.scopes, n, h.0.style k)
-    (ap (λ (l : List Style). replicate (x.to - x.from) (shown theme x.scopes) ++ l) i)
+    rw (map-append (shown_style theme) (replicate (x.to - x.from) x.scopes) (bytes_of_cuts xs), replicate_map theme (x.to - x.from) x.scopes, n, h.0.style k)
+    (ap (λ (l : List Style). replicate (x.to - x.from) (shown_style theme x.scopes) ++ l) i)

@@ -1,6 +1,6 @@
 -- The deepest place, one scope further.
 use Rattle.std.proofs.Common.{◌≡◌, ℕ, zero, suc, ◌+◌, ◌<◌, List, [], ◌∷◌, length, take, get_or, refl, arith, Some, true, false, ap}
-use Rattle.syntect_scope.specs.Atoms.{is_prefix}
+use Rattle.syntect_style.specs.syntect_scope.Atoms.{is_prefix}
 use Rattle.syntect_style.specs.Candidates.{deepest, further}
 
 one_more : (n : ℕ) → n + 1 ≡ suc n

@@ -6,13 +6,13 @@ use Rattle.std.specs.declared.ops.Range.{Range}
 use Rattle.std.specs.Str.{IsCharBoundary}
 use Rattle.std.proofs.lemmas.Bool.{lt-ltb}
 use Rattle.std.proofs.lemmas.Bool.Decides.{nat_tests}
-use Rattle.syntect_scope.specs.Stack.{applied, is_refused}
-use Rattle.syntect_scope.specs.Replay.{InOrder, AllApply}
-use Rattle.syntect_scope.specs.declared.stack.ScopeStack.{ScopeStack}
-use Rattle.syntect_scope.specs.declared.stack.ScopeStackOp.{ScopeStackOp}
-use Rattle.syntect_scope.specs.declared.stack.ScopeError.{ScopeError}
-use Rattle.syntect_scope.specs.declared.stack.ScopeError.TheVariants.{NoClearedScopesToRestore, Memory}
-use Rattle.syntect_style.specs.Pieces.{Stretch, stretch, stretches, last_stack, Keeps}
+use Rattle.syntect_style.specs.syntect_scope.Stack.{applied, is_refused}
+use Rattle.syntect_style.specs.syntect_scope.Replay.{InOrder, AllApply}
+use Rattle.syntect_style.specs.syntect_scope.declared.stack.ScopeStack.{ScopeStack}
+use Rattle.syntect_style.specs.syntect_scope.declared.stack.ScopeStackOp.{ScopeStackOp}
+use Rattle.syntect_style.specs.syntect_scope.declared.stack.ScopeError.{ScopeError}
+use Rattle.syntect_style.specs.syntect_scope.declared.stack.ScopeError.TheVariants.{NoClearedScopesToRestore, Memory}
+use Rattle.syntect_style.specs.Pieces.{Stretch, stretch, stretches, last_stack, KeepsTrueStyles}
 use Rattle.syntect_style.specs.Items.{theme_of, stack_of, IsReady, left, final, Tells, Shows, Carries, Passes, Gives}
 use Rattle.syntect_theme.specs.declared.style.Style.{Style}
 use Rattle.syntect_style.specs.declared.pieces.RangedHighlightIterator.{RangedHighlightIterator}
@@ -97,7 +97,7 @@ pub record Moved (m t : RangedHighlightIterator) (rest : List (ℕ × ScopeStack
   pub text : t.text ≡ m.text
   pub highlighter : t.highlighter ≡ m.highlighter
   pub state : t.state.ghost_name ≡ m.state.ghost_name
-  pub keeps : Keeps (theme_of m) m.state.now → Keeps (theme_of m) t.state.now
+  pub keeps : KeepsTrueStyles (theme_of m) m.state.now → KeepsTrueStyles (theme_of m) t.state.now
   pub changes : t.changes.now ≡ rest
   pub pos : t.pos ≡ place
 

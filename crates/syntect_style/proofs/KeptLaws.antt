@@ -7,10 +7,10 @@ use Rattle.std.proofs.Math.ListN.{set}
 use Rattle.std.proofs.lemmas.List.{length-take, take_all}
 use Rattle.syntect_style.specs.Styling.{style_of}
 use Rattle.syntect_theme.specs.declared.style.Style.{Style}
-use Rattle.syntect_style.specs.Kept.{IsBase, IsKnown, AreKnown, AreSmall, AreStanding, scopes_of}
+use Rattle.syntect_style.specs.Kept.{IsBase, IsKnown, AreKnown, AreSmall, AreLeadersOf, scopes_of}
 use Rattle.syntect_style.specs.Rules.{ScoreAlike, other_rules}
 use Rattle.syntect_style.proofs.OtherLaws.{alike_self, alike_then}
-use Rattle.syntect_style.specs.declared.others.SmallStandings.{SmallStandings}
+use Rattle.syntect_style.specs.declared.others.SmallLeaders.{SmallLeaders}
 use Rattle.syntect_theme.specs.declared.theme.Theme.{Theme}
 use Rattle.syntect_style.specs.declared.kept.Kept.{Kept}
 
@@ -124,10 +124,10 @@ base_of_before theme below scope base a h = record {
 pub stays_below : (ks : List Kept) (place : ℕ) → take place (scopes_of (take place ks)) ≡ take place (scopes_of ks)
 stays_below ks place = ap (take place) (scopes_take place ks) ∙ front_of_front place place (scopes_of ks) (omega arith)
 
-pub stands_below : (theme : Theme) (ks : List Kept) (place : ℕ) (d k : Kept) → (place ≡ 0 → ⊥) → place ≤ length ks → k ≡ get_or ks (place - 1) d → AreKnown theme [] ks → AreStanding theme (take place (scopes_of ks)) k.single
+pub stands_below : (theme : Theme) (ks : List Kept) (place : ℕ) (d k : Kept) → (place ≡ 0 → ⊥) → place ≤ length ks → k ≡ get_or ks (place - 1) d → AreKnown theme [] ks → AreLeadersOf theme (take place (scopes_of ks)) k.single
 stands_below theme ks place d k n l e h =
     let i : suc (place - 1) ≡ place = omega arith in
-    subst (λ (s : ℕ). AreStanding theme (take s (scopes_of ks)) k.single) i (rw e (known_place theme [] ks (place - 1) d (omega arith) h).single)
+    subst (λ (s : ℕ). AreLeadersOf theme (take s (scopes_of ks)) k.single) i (rw e (known_place theme [] ks (place - 1) d (omega arith) h).single)
 
 pub base_below_place : (theme : Theme) (ks : List Kept) (place : ℕ) (d k : Kept) → (place ≡ 0 → ⊥) → place ≤ length ks → k ≡ get_or ks (place - 1) d → AreKnown theme [] ks → IsBase theme (take place (scopes_of ks)) k.base
 base_below_place theme ks place d k n l e h =
@@ -145,14 +145,14 @@ others_below ks count all k n s l e = by k.others refl
     m : count - 1 < length ks
     m = subst (λ (ks : List Kept). count - 1 < length ks) s (grind (arith, nat_tests, l))
 
-    by : (o : Option SmallStandings) → k.others ≡ o → IfSome o (λ others. (theme : Theme) → AreKnown theme [] ks → AreSmall theme (take count (scopes_of ks)) others)
+    by : (o : Option SmallLeaders) → k.others ≡ o → IfSome o (λ others. (theme : Theme) → AreKnown theme [] ks → AreSmall theme (take count (scopes_of ks)) others)
     by None f = tt
     by (Some others) f = λ theme h.
         let w : IsKnown theme (take (suc (count - 1)) (scopes_of ks)) k = rw (e ∙ ap (λ ks. get_or ks (count - 1) k) s) (known_place theme [] ks (count - 1) k m h) in
         rw i at (rw f at w.others)
 
 -- the same with other ones in their place
-pub others_kept : (theme : Theme) (ks : List Kept) (count : ℕ) (d k : Kept) (others : Option SmallStandings) → 0 < count → count ≤ length ks → k ≡ get_or ks (count - 1) d → IfSome others (AreSmall theme (take count (scopes_of ks)))
+pub others_kept : (theme : Theme) (ks : List Kept) (count : ℕ) (d k : Kept) (others : Option SmallLeaders) → 0 < count → count ≤ length ks → k ≡ get_or ks (count - 1) d → IfSome others (AreSmall theme (take count (scopes_of ks)))
     → AreKnown theme [] ks → AreKnown theme [] (set ks (count - 1) (record k { others = others }))
 others_kept theme ks count d k others p l e s h =
     let i : suc (count - 1) ≡ count = omega (arith, p) in

@@ -1,3 +1,5 @@
+pub mod CutLaws
+pub mod PartLaws
 pub mod Digits
 pub mod DeepestLaws
 pub mod OrderLaws

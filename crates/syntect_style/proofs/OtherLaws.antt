@@ -4,10 +4,10 @@ use Rattle.std.proofs.Common.{◌≡◌, ℕ, suc, ◌-◌, Bool, true, false, �
 use Rattle.std.specs.Prelude.{IfSome, is_some}
 use Rattle.std.specs.List.{slice_get, find, list_all, list_any, flat_map}
 use Rattle.std.specs.Option.{option_map, option_to_list}
-use Rattle.syntect_scope.specs.Atoms.{is_prefix}
-use Rattle.syntect_scope.specs.Choice.{choices, is_below, least_choice, score_at, unexcluded_score, excludes, selector_score}
-use Rattle.syntect_scope.specs.declared.selector.ScopeSelector.{ScopeSelector}
-use Rattle.syntect_scope.specs.declared.stack.ScopeStack.{ScopeStack}
+use Rattle.syntect_style.specs.syntect_scope.Atoms.{is_prefix}
+use Rattle.syntect_style.specs.syntect_scope.Choice.{choices, is_below, least_choice, score_at, unexcluded_score, excludes, selector_score}
+use Rattle.syntect_style.specs.syntect_scope.declared.selector.ScopeSelector.{ScopeSelector}
+use Rattle.syntect_style.specs.syntect_scope.declared.stack.ScopeStack.{ScopeStack}
 use Rattle.syntect_style.specs.Candidates.{Candidate, candidate, deepest, further}
 use Rattle.syntect_style.specs.Rules.{rule_of, last_rule, lasts_of, last_rules, ScoreAlike, AreOthers, after_others, against, other_rules}
 use Rattle.syntect_theme.specs.declared.style.Color.{Color}

@@ -3,12 +3,12 @@ use Rattle.std.proofs.Common.{◌≡◌, ℕ, zero, suc, ◌-◌, ◌≤◌, min
 use Rattle.std.specs.Prelude.{unwrap_or}
 use Rattle.std.specs.List.{slice_get}
 use Rattle.std.proofs.lemmas.List.{length-take}
-use Rattle.syntect_scope.specs.Stack.{applied, kept}
-use Rattle.syntect_scope.specs.declared.stack.ScopeStack.{ScopeStack}
-use Rattle.syntect_scope.specs.declared.stack.ScopeStackOp.{ScopeStackOp}
-use Rattle.syntect_scope.specs.declared.stack.ScopeStackOp.TheVariants.{Push, Pop, Clear, Restore, Noop}
+use Rattle.syntect_style.specs.syntect_scope.Stack.{applied, kept}
+use Rattle.syntect_style.specs.syntect_scope.declared.stack.ScopeStack.{ScopeStack}
+use Rattle.syntect_style.specs.syntect_scope.declared.stack.ScopeStackOp.{ScopeStackOp}
+use Rattle.syntect_style.specs.syntect_scope.declared.stack.ScopeStackOp.TheVariants.{Push, Pop, Clear, Restore, Noop}
 use Rattle.syntect_style.specs.Kept.{scopes_of}
-use Rattle.syntect_style.specs.Pieces.{Keeps}
+use Rattle.syntect_style.specs.Pieces.{KeepsTrueStyles}
 use Rattle.syntect_style.proofs.KeptLaws.{length_scopes, front_of_front}
 use Rattle.syntect_theme.specs.declared.theme.Theme.{Theme}
 use Rattle.syntect_style.specs.declared.state.HighlightState.{HighlightState}
@@ -33,7 +33,7 @@ front_stays Noop s m l k = refl
 front_within : (xs ys : List (List ℕ)) (n : ℕ) → n ≤ length xs → take n xs ≡ take n ys → n ≤ length ys
 front_within xs ys n l e = omega (arith, length-take n xs, length-take n ys, ap length e)
 
-pub keeps_applied : (theme : Theme) (s t : HighlightState) (op : ScopeStackOp) → t.path ≡ applied op s.path → t.kept ≡ s.kept → t.fits ≡ min s.fits (length t.path.scopes) → Keeps theme s → Keeps theme t
+pub keeps_applied : (theme : Theme) (s t : HighlightState) (op : ScopeStackOp) → t.path ≡ applied op s.path → t.kept ≡ s.kept → t.fits ≡ min s.fits (length t.path.scopes) → KeepsTrueStyles theme s → KeepsTrueStyles theme t
 keeps_applied theme s t op p k f h =
     let w : s.fits ≤ length (scopes_of s.kept) = omega (arith, length_scopes s.kept, h.within) in
     let on : s.fits ≤ length s.path.scopes = front_within (scopes_of s.kept) s.path.scopes s.fits w h.on_path in

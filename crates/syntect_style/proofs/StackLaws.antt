@@ -6,7 +6,7 @@ use Rattle.std.specs.Cmp.{unsigned_Decides}
 use Rattle.std.specs.Cmp.Lexicographic.{pointwise}
 use Rattle.std.proofs.lemmas.Bool.{and_parts, and_from}
 use Rattle.std.proofs.lemmas.Slice.Eq.{slice_eq-Decides}
-use Rattle.syntect_scope.specs.declared.stack.ScopeStack.{ScopeStack}
+use Rattle.syntect_style.specs.syntect_scope.declared.stack.ScopeStack.{ScopeStack}
 
 scope_decides : (a b : List ℕ) → Decides (pointwise nat_eq a b) (a ≡ b)
 scope_decides a b = slice_eq-Decides unsigned_Decides a b (pointwise nat_eq a b) refl

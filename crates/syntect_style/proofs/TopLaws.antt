@@ -5,7 +5,7 @@ use Rattle.std.proofs.lemmas.Nat.{mul-le}
 use Rattle.std.specs.Prelude.{nat_lt}
 use Rattle.std.proofs.lemmas.Bool.{lt-ltb}
 use Rattle.std.proofs.lemmas.Bool.Decides.{nat_tests}
-use Rattle.syntect_scope.specs.Atoms.{is_prefix}
+use Rattle.syntect_style.specs.syntect_scope.Atoms.{is_prefix}
 use Rattle.syntect_style.specs.Candidates.{Score, Candidate, beats, deepest, further}
 use Rattle.syntect_style.specs.Rules.{against, worth, IsBelow}
 use Rattle.syntect_style.proofs.ContestLaws.{against_grouped}

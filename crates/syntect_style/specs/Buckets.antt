@@ -1,11 +1,13 @@
 -- The single rules by the first atoms of their scopes: which of them can match a scope.
 use Rattle.std.specs.Prelude.{◌≡◌, ℕ, ◌<◌, ◌%◌, ◌==◌, ◌||◌, Bool, true, false, List, [], ◌∷◌, length, slice_index, slice_index_or}
 use Rattle.std.specs.List.{filter}
-use Rattle.syntect_scope.specs.declared.selector.ScopeSelector.{ScopeSelector}
+use Rattle.syntect_style.specs.syntect_scope.declared.selector.ScopeSelector.{ScopeSelector}
 use Rattle.syntect_style.specs.Rules.{single_rules, other_rules, last_rules}
 use Rattle.syntect_theme.specs.declared.style.StyleModifier.{StyleModifier}
 use Rattle.syntect_theme.specs.declared.theme.Theme.{Theme}
 use Rattle.syntect_style.specs.declared.scores.Rule.{Rule}
+
+-- ---- What invariants alone rest on ----
 
 -- the bucket of a scope, by its first atom
 abbrev pub bucket_of : List ℕ → ℕ

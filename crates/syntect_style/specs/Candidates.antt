@@ -3,10 +3,10 @@
 use Rattle.std.specs.Prelude.{ℕ, suc, ◌==◌, nat_lt, ◌*◌, ◌^◌, Bool, true, false, ◌&&◌, ◌||◌, not, List, [], ◌∷◌, length, find, Option, Some, None}
 use Rattle.std.specs.Option.{option_map}
 use Rattle.std.specs.List.{filter_map, flat_map, list_all}
-use Rattle.syntect_scope.specs.Atoms.{is_prefix}
-use Rattle.syntect_scope.specs.Choice.{selector_score}
-use Rattle.syntect_scope.specs.SelectorText.{sole_scope}
-use Rattle.syntect_scope.specs.declared.selector.ScopeSelector.{ScopeSelector}
+use Rattle.syntect_style.specs.syntect_scope.Atoms.{is_prefix}
+use Rattle.syntect_style.specs.syntect_scope.Choice.{selector_score}
+use Rattle.syntect_style.specs.syntect_scope.SelectorText.{sole_scope}
+use Rattle.syntect_style.specs.syntect_scope.declared.selector.ScopeSelector.{ScopeSelector}
 use Rattle.syntect_theme.specs.declared.style.StyleModifier.{StyleModifier}
 use Rattle.syntect_theme.specs.declared.theme.Theme.{Theme}
 

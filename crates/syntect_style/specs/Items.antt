@@ -3,13 +3,13 @@ use Rattle.std.specs.Prelude.{◌≡◌, ℕ, ◌+◌, ◌-◌, List, [], ◌∷
 use Rattle.std.specs.Str.{IsCharBoundary}
 use Rattle.std.specs.Borrow.{Bor}
 use Rattle.std.specs.declared.ops.Range.{Range}
-use Rattle.syntect_scope.specs.Replay.{InOrder, AllApply}
-use Rattle.syntect_scope.specs.declared.stack.ScopeStack.{ScopeStack}
-use Rattle.syntect_scope.specs.declared.stack.ScopeStackOp.{ScopeStackOp}
-use Rattle.syntect_scope.specs.declared.stack.ScopeError.{ScopeError}
-use Rattle.syntect_scope.specs.declared.stack.ScopeError.TheVariants.{NoClearedScopesToRestore, Memory}
-use Rattle.syntect_style.specs.Styling.{shown}
-use Rattle.syntect_style.specs.Pieces.{Stretch, stretches, last_stack, path_of, Keeps}
+use Rattle.syntect_style.specs.syntect_scope.Replay.{InOrder, AllApply}
+use Rattle.syntect_style.specs.syntect_scope.declared.stack.ScopeStack.{ScopeStack}
+use Rattle.syntect_style.specs.syntect_scope.declared.stack.ScopeStackOp.{ScopeStackOp}
+use Rattle.syntect_style.specs.syntect_scope.declared.stack.ScopeError.{ScopeError}
+use Rattle.syntect_style.specs.syntect_scope.declared.stack.ScopeError.TheVariants.{NoClearedScopesToRestore, Memory}
+use Rattle.syntect_style.specs.Styling.{shown_style}
+use Rattle.syntect_style.specs.Pieces.{Stretch, stretches, last_stack, path_of, KeepsTrueStyles}
 use Rattle.syntect_theme.specs.declared.style.Style.{Style}
 use Rattle.syntect_theme.specs.declared.theme.Theme.{Theme}
 use Rattle.syntect_style.specs.declared.state.HighlightState.{HighlightState}
@@ -59,12 +59,12 @@ calls_left s = length s.changes.now + (length s.text.now - s.pos)
 
 -- what colours rest on: what the state keeps is true under the theme
 abbrev pub Tells : RangedHighlightIterator → Type 0
-Tells s = Keeps (theme_of s) s.state.now
+Tells s = KeepsTrueStyles (theme_of s) s.state.now
 
 -- a piece shows a stretch of a text
 pub record Shows (theme : Theme) (text : List ℕ) (tells : Type 0) (st : Stretch)
     (p : Style × Bor (List ℕ) × Range ℕ) : Type 0 where
-  pub style : tells → p.0 ≡ shown theme st.scopes
+  pub style : tells → p.0 ≡ shown_style theme st.scopes
   pub text_of : p.1.now ≡ slice_range text st.from st.to
   pub from : p.2.start ≡ st.from
   pub to : p.2.end ≡ st.to
@@ -74,7 +74,7 @@ pub record Carries (s t : RangedHighlightIterator) : Type 0 where
   pub text : t.text ≡ s.text
   pub highlighter : t.highlighter ≡ s.highlighter
   pub state : t.state.ghost_name ≡ s.state.ghost_name
-  pub keeps : Keeps (theme_of s) s.state.now → Keeps (theme_of s) t.state.now
+  pub keeps : KeepsTrueStyles (theme_of s) s.state.now → KeepsTrueStyles (theme_of s) t.state.now
 
 -- Operations were applied, from one place to another, and these are left.
 pub record Passes (s t : RangedHighlightIterator) (to : ℕ)

@@ -1,3 +1,4 @@
+pub mod Cut
 pub mod Buckets
 pub mod Candidates
 pub mod Items
@@ -6,3 +7,6 @@ pub mod Laws
 pub mod Pieces
 pub mod Rules
 pub mod Styling
+pub use Rattle.syntect_theme.specs.syntect_base as syntect_base
+pub use Rattle.syntect_theme.specs.syntect_scope as syntect_scope
+pub use Rattle.syntect_theme.specs as syntect_theme

@@ -2,13 +2,13 @@
 use Rattle.std.specs.Prelude.{◌≡◌, ℕ, nat_lt, ◌<◌, ◌≤◌, List, [], ◌∷◌, ◌++◌, length, take, map, replicate, All, if◌then◌else◌, Result, Ok, Err}
 use Rattle.std.specs.List.{flat_map}
 use Rattle.std.specs.Borrow.{Bor}
-use Rattle.syntect_scope.specs.Stack.{applied, is_refused}
-use Rattle.syntect_scope.specs.declared.stack.ScopeStack.{ScopeStack}
-use Rattle.syntect_scope.specs.declared.stack.ScopeStackOp.{ScopeStackOp}
-use Rattle.syntect_scope.specs.declared.stack.ScopeError.{ScopeError}
-use Rattle.syntect_scope.specs.declared.stack.ScopeError.TheVariants.{NoClearedScopesToRestore}
+use Rattle.syntect_style.specs.syntect_scope.Stack.{applied, is_refused}
+use Rattle.syntect_style.specs.syntect_scope.declared.stack.ScopeStack.{ScopeStack}
+use Rattle.syntect_style.specs.syntect_scope.declared.stack.ScopeStackOp.{ScopeStackOp}
+use Rattle.syntect_style.specs.syntect_scope.declared.stack.ScopeError.{ScopeError}
+use Rattle.syntect_style.specs.syntect_scope.declared.stack.ScopeError.TheVariants.{NoClearedScopesToRestore}
 use Rattle.syntect_style.specs.Kept.{AreKnown, lowest}
-use Rattle.syntect_style.specs.Styling.{shown}
+use Rattle.syntect_style.specs.Styling.{shown_style}
 use Rattle.syntect_theme.specs.declared.style.Style.{Style}
 use Rattle.syntect_theme.specs.declared.theme.Theme.{Theme}
 use Rattle.syntect_style.specs.declared.state.HighlightState.{HighlightState}
@@ -21,7 +21,7 @@ path_of s = s.path
 
 -- What a state keeps is true under the theme, and as much of it as the state says is about lower
 -- parts of its stack. A state has it from its making on, as long as one highlighter is used.
-pub record Keeps (theme : Theme) (s : HighlightState) : Type 0 where
+pub record KeepsTrueStyles (theme : Theme) (s : HighlightState) : Type 0 where
   pub known : AreKnown theme [] s.kept
   pub within : s.fits ≤ length s.kept
   pub on_path : lowest s.fits s.kept ≡ take s.fits s.path.scopes
@@ -68,4 +68,4 @@ pub record Joins (text : List ℕ) (pieces : List (Style × Bor (List ℕ))) : T
 -- each byte of the pieces has the theme's style for its scopes
 abbrev pub IsStyled : Theme → List (List (List ℕ)) → List (Style × Bor (List ℕ)) → Type 0
 IsStyled theme bytes pieces =
-    flat_map (λ p. replicate (length p.1.now) p.0) pieces ≡ map (shown theme) bytes
+    flat_map (λ p. replicate (length p.1.now) p.0) pieces ≡ map (shown_style theme) bytes

@@ -3,11 +3,11 @@
 use Rattle.std.specs.Prelude.{◌≡◌, ℕ, ◌-◌, ◌*◌, ◌^◌, ◌<◌, List, [], ◌∷◌, ◌++◌, length, if◌then◌else◌, Option, Some, None}
 use Rattle.std.specs.Option.{option_to_list}
 use Rattle.std.specs.List.{filter_map, flat_map, slice_get}
-use Rattle.syntect_scope.specs.declared.selector.ScopeSelector.{ScopeSelector}
-use Rattle.syntect_scope.specs.Atoms.{is_prefix}
-use Rattle.syntect_scope.specs.SelectorText.{sole_scope}
+use Rattle.syntect_style.specs.syntect_scope.declared.selector.ScopeSelector.{ScopeSelector}
+use Rattle.syntect_style.specs.syntect_scope.Atoms.{is_prefix}
+use Rattle.syntect_style.specs.syntect_scope.SelectorText.{sole_scope}
 use Rattle.syntect_style.specs.Candidates.{single_score, other_score, Score, Candidate, candidate, beats}
-use Rattle.syntect_scope.specs.Choice.{selector_score}
+use Rattle.syntect_style.specs.syntect_scope.Choice.{selector_score}
 use Rattle.syntect_theme.specs.declared.style.Color.{Color}
 use Rattle.syntect_theme.specs.declared.style.FontStyle.{FontStyle}
 use Rattle.syntect_theme.specs.declared.style.StyleModifier.{StyleModifier}
@@ -57,20 +57,6 @@ after_rules attribute stack best (r ∷ rules) =
 
 -- ---- one scope more on top ----
 
--- the score of a scope at the top of a stack, whose place this is
-abbrev pub top_score : List ℕ → List ℕ → ℕ → Option Score
-top_score scope top place =
-    if is_prefix scope top
-    then Some (record { power = length scope * 8 ^ place; place = Some place }) else None
-
--- the one that stands after the rules that match the top
-abbrev pub after_top : {V : Type 0} → (StyleModifier → Option V) → List ℕ → ℕ → Option (Candidate V)
-    → List Rule → Option (Candidate V)
-after_top attribute top place best [] = best
-after_top attribute top place best (r ∷ rules) =
-    after_top attribute top place
-    (against best (candidate (attribute r.style) (top_score r.scope top place))) rules
-
 -- the value of a candidate, with its power
 abbrev pub worth : {V : Type 0} → Option (Candidate V) → Option (V × ℕ)
 worth None = None
@@ -83,7 +69,7 @@ IsBelow n (Some c) = (p : ℕ) × (c.score.place ≡ Some p) × (p < n)
 
 -- It is worth what the single rule is worth that prevails in a stack. Its place is one of the
 -- stack, and where powers are zero need not be that rule's.
-pub record Stands (V : Type 0) (attribute : StyleModifier → Option V) (theme : Theme)
+pub record IsWorthPrevailing (V : Type 0) (attribute : StyleModifier → Option V) (theme : Theme)
     (stack : List (List ℕ)) (c : Option (Candidate V)) : Type 0 where
   pub same : worth c ≡ worth (after_rules attribute stack None (single_rules theme))
   pub below : IsBelow (length stack) c
@@ -105,10 +91,6 @@ item_others item =
 abbrev pub other_rules : Theme → List (ScopeSelector × StyleModifier)
 other_rules theme = flat_map item_others theme.scopes
 
--- the same as a highlighter holds it
-abbrev pub rule_from : Other → ScopeSelector × StyleModifier
-rule_from o = (o.selector, o.style)
-
 -- the score of a power without a place
 abbrev pub power_score : ℕ → Score
 power_score power = record { power = power; place = None }
@@ -117,10 +99,6 @@ power_score power = record { power = power; place = None }
 abbrev pub other_from : {V : Type 0} → Option (ℕ × V) → Option (Candidate V)
 other_from None = None
 other_from (Some c) = Some (record { value = c.1; score = power_score c.0 })
-
--- a value of a rule with such a score as a candidate, where the rule has one
-abbrev pub other_candidate : {V : Type 0} → Option V → ℕ → Option (Candidate V)
-other_candidate value power = candidate value (Some (power_score power))
 
 -- the one that stands after one of them more
 abbrev pub after_other : {V : Type 0} → (StyleModifier → Option V) → List (List ℕ)
@@ -142,6 +120,26 @@ best_other attribute stack others = after_others attribute stack None others
 
 -- ---- which of them a scope on top can touch ----
 
+-- each of these rules scores in the one stack what it scores in the other
+abbrev pub ScoreAlike : List (ScopeSelector × StyleModifier) → List (List ℕ) → List (List ℕ)
+    → Type 0
+ScoreAlike [] a b = Unit {0}
+ScoreAlike (o ∷ others) a b = (selector_score o.0 a ≡ selector_score o.0 b) × ScoreAlike others a b
+
+-- for each attribute this is what the other rules of a theme come to in a stack
+pub record AreOthers (theme : Theme) (stack : List (List ℕ))
+    (of_text of_ground : Option (Candidate Color))
+    (of_font : Option (Candidate FontStyle)) : Type 0 where
+  pub foreground : of_text ≡ best_other (λ m. m.foreground) stack (other_rules theme)
+  pub background : of_ground ≡ best_other (λ m. m.background) stack (other_rules theme)
+  pub font_style : of_font ≡ best_other (λ m. m.font_style) stack (other_rules theme)
+
+-- ---- What invariants alone rest on ----
+
+-- the same as a highlighter holds it
+abbrev pub rule_from : Other → ScopeSelector × StyleModifier
+rule_from o = (o.selector, o.style)
+
 -- the last scope of a path, as a single rule
 abbrev pub last_rule : List (List ℕ) → StyleModifier → List Rule
 last_rule path m = option_to_list (rule_of (slice_get path (length path - 1)) m)
@@ -156,16 +154,22 @@ lasts_of o =
 abbrev pub last_rules : List (ScopeSelector × StyleModifier) → List Rule
 last_rules others = flat_map lasts_of others
 
--- each of these rules scores in the one stack what it scores in the other
-abbrev pub ScoreAlike : List (ScopeSelector × StyleModifier) → List (List ℕ) → List (List ℕ)
-    → Type 0
-ScoreAlike [] a b = Unit {0}
-ScoreAlike (o ∷ others) a b = (selector_score o.0 a ≡ selector_score o.0 b) × ScoreAlike others a b
+-- ---- For proofs and private functions alone ----
 
--- for each attribute this is what the other rules of a theme come to in a stack
-pub record AreOthers (theme : Theme) (stack : List (List ℕ))
-    (of_text of_ground : Option (Candidate Color))
-    (of_font : Option (Candidate FontStyle)) : Type 0 where
-  pub foreground : of_text ≡ best_other (λ m. m.foreground) stack (other_rules theme)
-  pub background : of_ground ≡ best_other (λ m. m.background) stack (other_rules theme)
-  pub font_style : of_font ≡ best_other (λ m. m.font_style) stack (other_rules theme)
+-- the score of a scope at the top of a stack, whose place this is
+abbrev pub top_score : List ℕ → List ℕ → ℕ → Option Score
+top_score scope top place =
+    if is_prefix scope top
+    then Some (record { power = length scope * 8 ^ place; place = Some place }) else None
+
+-- the one that stands after the rules that match the top
+abbrev pub after_top : {V : Type 0} → (StyleModifier → Option V) → List ℕ → ℕ → Option (Candidate V)
+    → List Rule → Option (Candidate V)
+after_top attribute top place best [] = best
+after_top attribute top place best (r ∷ rules) =
+    after_top attribute top place
+    (against best (candidate (attribute r.style) (top_score r.scope top place))) rules
+
+-- a value of a rule with such a score as a candidate, where the rule has one
+abbrev pub other_candidate : {V : Type 0} → Option V → ℕ → Option (Candidate V)
+other_candidate value power = candidate value (Some (power_score power))

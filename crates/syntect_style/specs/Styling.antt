@@ -27,6 +27,6 @@ abbrev pub style_of : Theme → List (List ℕ) → Style
 style_of theme stack = restyled (winners theme stack) (default_style theme)
 
 -- the style of text with these scopes; text without any has the default
-abbrev pub shown : Theme → List (List ℕ) → Style
-shown theme [] = default_style theme
-shown theme (s ∷ stack) = style_of theme (s ∷ stack)
+abbrev pub shown_style : Theme → List (List ℕ) → Style
+shown_style theme [] = default_style theme
+shown_style theme (s ∷ stack) = style_of theme (s ∷ stack)

@@ -4,9 +4,9 @@ ghost use Rattle.std.specs.List.{filter};
 ghost use Rattle.syntect_style.specs.Buckets.{may_match, bucket_of, AreBuckets};
 
 use crate::scores::Rule;
+use crate::syntect_scope::scope::Scope;
+use crate::syntect_values::seq::Seq;
 use std::alloc::{AllocError, Global};
-use syntect_scope::scope::Scope;
-use syntect_values::seq::Seq;
 
 /// How many buckets there are.
 pub(crate) const BUCKETS: usize = 32;

@@ -1,12 +1,12 @@
 //! The contest of a theme's single rules for the attributes of a stack's style.
 ghost use Rattle.std.specs.Prelude.{◌≡◌, ◌<◌, ◌+◌, ◌^◌, Some, None, IfSome, length};
 ghost use Rattle.std.specs.List.{list_any};
-ghost use Rattle.syntect_scope.specs.Atoms.{is_prefix};
+ghost use Rattle.syntect_style.specs.syntect_scope.Atoms.{is_prefix};
 ghost use Rattle.syntect_style.specs.Candidates.{candidate, deepest};
 ghost use Rattle.syntect_style.specs.Rules.{score_from, candidate_from, against, after_top};
 
 use crate::scores::{Rule, SingleScore};
-use syntect_scope::scope::Scope;
+use crate::syntect_scope::scope::Scope;
 use syntect_theme::style::{Color, FontStyle};
 
 /// The deepest place of a stack whose scope the given one begins.
@@ -42,7 +42,7 @@ fn offer<V: Copy>(best: &mut Option<(SingleScore, V)>, score: SingleScore, value
 
 /// The values that stand so far after the single rules, each with the score of its rule.
 #[derive(Clone, Copy, Debug)]
-pub(crate) struct Standings {
+pub(crate) struct Leaders {
     pub(crate) foreground: Option<(SingleScore, Color)>,
     pub(crate) background: Option<(SingleScore, Color)>,
     pub(crate) font_style: Option<(SingleScore, FontStyle)>,
@@ -62,7 +62,7 @@ pub(crate) fn any_begins(rules: &[Rule], top: Scope) -> bool
 
 /// Puts the values of the rules that match a scope, at its place, in the place of the best ones so
 /// far, where their scores beat those.
-pub(crate) fn offer_rules(best: &mut Standings, rules: &[Rule], top: Scope, place: usize)
+pub(crate) fn offer_rules(best: &mut Leaders, rules: &[Rule], top: Scope, place: usize)
     requires { place + 1 < 2 ^ 64 }
     ensures foreground { candidate_from best.new.foreground
         ≡ after_top (λ m. m.foreground) top place (candidate_from best.old.foreground) rules.now }

@@ -4,20 +4,20 @@ ghost use Rattle.std.specs.List.{filter};
 ghost use Rattle.syntect_style.specs.Styling.{style_of, default_style, winners};
 ghost use Rattle.syntect_style.specs.Rules.{single_rules, other_rules, last_rules, ScoreAlike};
 ghost use Rattle.syntect_style.specs.Buckets.{may_match, bucket_of};
-ghost use Rattle.syntect_style.specs.Kept.{AreStanding, AreLarge, AreSmall};
+ghost use Rattle.syntect_style.specs.Kept.{AreLeadersOf, AreLarge, AreSmall};
 
 use crate::buckets::{bucket_of, bucketed};
-use crate::contest::{Standings, any_begins, offer_rules};
-use crate::others::{Other, OtherStandings, SmallStandings, better, better_small, others_of};
+use crate::contest::{Leaders, any_begins, offer_rules};
+use crate::others::{Other, OtherLeaders, SmallLeaders, better, better_small, others_of};
 use crate::ready::{last_rules, push_others, push_rules};
 use crate::scores::Rule;
+use crate::syntect_scope::power::MatchPower;
+use crate::syntect_scope::scope::Scope;
+use crate::syntect_values::seq::Seq;
 use std::alloc::{AllocError, Global};
 use std::marker::Model;
-use syntect_scope::power::MatchPower;
-use syntect_scope::scope::Scope;
 use syntect_theme::style::{Color, FontStyle, Style, StyleModifier};
 use syntect_theme::theme::Theme;
-use syntect_values::seq::Seq;
 
 /// A theme, made ready to style stacks of scopes. Contracts see its theme.
 #[derive(Debug)]
@@ -107,25 +107,25 @@ impl<'a> Highlighter<'a> {
         ensures { IfOk result (λ m. m ≡ winners self.now stack.now) }
     {
         let others = self.others_in(stack)?;
-        self.finished(self.standings_of(stack), &others)
+        self.finished(self.leaders_of(stack), &others)
     }
 
     /// What stands after the single rules.
-    fn standings_of(&self, stack: &[Scope]) -> Standings
-        ensures { AreStanding self.now stack.now result }
+    fn leaders_of(&self, stack: &[Scope]) -> Leaders
+        ensures { AreLeadersOf self.now stack.now result }
     {
-        let mut standings = self.bottom();
+        let mut leaders = self.bottom();
         for (place, scope) in stack.iter().enumerate() {
-            self.raise(&mut standings, *scope, place);
+            self.raise(&mut leaders, *scope, place);
         }
-        standings
+        leaders
     }
 
     /// What stands before the first scope.
-    pub(crate) fn bottom(&self) -> Standings
-        ensures { AreStanding self.now [] result }
+    pub(crate) fn bottom(&self) -> Leaders
+        ensures { AreLeadersOf self.now [] result }
     {
-        Standings {
+        Leaders {
             foreground: None,
             background: None,
             font_style: None,
@@ -134,13 +134,13 @@ impl<'a> Highlighter<'a> {
 
     /// Puts one scope more on top, at a place, of a stack for which these values stand after the
     /// single rules.
-    pub(crate) fn raise(&self, standings: &mut Standings, top: Scope, place: usize)
+    pub(crate) fn raise(&self, leaders: &mut Leaders, top: Scope, place: usize)
         requires { place + 1 < 2 ^ 64 }
         ensures { (stack : List (List ℕ)) → length stack ≡ place
-            → AreStanding self.now stack standings.old
-            → AreStanding self.now (stack ++ top ∷ []) standings.new }
+            → AreLeadersOf self.now stack leaders.old
+            → AreLeadersOf self.now (stack ++ top ∷ []) leaders.new }
     {
-        offer_rules(standings, self.rules_for(top), top, place);
+        offer_rules(leaders, self.rules_for(top), top, place);
     }
 
     /// Whether one of the other rules may have another score, with one scope more on top.
@@ -167,7 +167,7 @@ impl<'a> Highlighter<'a> {
     }
 
     /// What the other rules come to.
-    pub(crate) fn others_in(&self, stack: &[Scope]) -> Result<OtherStandings, AllocError>
+    pub(crate) fn others_in(&self, stack: &[Scope]) -> Result<OtherLeaders, AllocError>
         ensures { IfOk result (AreLarge self.now stack.now) }
     {
         let all = others_of(self.others.as_slice(), stack)?;
@@ -178,10 +178,10 @@ impl<'a> Highlighter<'a> {
     /// other rules come to.
     pub(crate) fn finished(
         &self,
-        single: Standings,
-        others: &OtherStandings,
+        single: Leaders,
+        others: &OtherLeaders,
     ) -> Result<StyleModifier, AllocError>
-        ensures { IfOk result (λ m. (stack : List (List ℕ)) → AreStanding self.now stack single
+        ensures { IfOk result (λ m. (stack : List (List ℕ)) → AreLeadersOf self.now stack single
             → AreLarge self.now stack others.now → m ≡ winners self.now stack) }
     {
         let alloc = *self.others.allocator();
@@ -194,8 +194,8 @@ impl<'a> Highlighter<'a> {
 
     /// The values that prevail, where `single` stand after the single rules, and the other rules'
     /// scores are small.
-    pub(crate) fn finished_small(&self, single: Standings, others: SmallStandings) -> StyleModifier
-        ensures { (stack : List (List ℕ)) → AreStanding self.now stack single
+    pub(crate) fn finished_small(&self, single: Leaders, others: SmallLeaders) -> StyleModifier
+        ensures { (stack : List (List ℕ)) → AreLeadersOf self.now stack single
             → AreSmall self.now stack others → result ≡ winners self.now stack }
     {
         StyleModifier {

@@ -1,15 +1,15 @@
 //! What is known of the style of a stack and of its lower parts.
 ghost use Rattle.std.specs.Prelude.{◌≡◌, ◌≤◌, ◌<◌, ◌+◌, ◌^◌, ◌++◌, ◌∷◌, [], true, Some, length, slice_get, take, IfOk, IfSome, OnOk, OnErr};
-ghost use Rattle.syntect_style.specs.Kept.{AreKnown, AreSmall, AreStanding, IsBase, IsKnown, scopes_of, lowest};
+ghost use Rattle.syntect_style.specs.Kept.{AreKnown, AreSmall, AreLeadersOf, IsBase, IsKnown, scopes_of, lowest};
 ghost use Rattle.syntect_style.specs.Styling.{style_of, winners};
 ghost use Rattle.syntect_theme.specs.declared.theme.Theme.{Theme};
 
-use crate::contest::Standings;
+use crate::contest::Leaders;
 use crate::highlighter::Highlighter;
-use crate::others::SmallStandings;
+use crate::others::SmallLeaders;
+use crate::syntect_scope::scope::Scope;
 use std::alloc::{AllocError, Global};
 use std::marker::Model;
-use syntect_scope::scope::Scope;
 use syntect_theme::style::{Style, StyleModifier};
 
 /// What is known of a stack, by its top scope.
@@ -17,11 +17,11 @@ use syntect_theme::style::{Style, StyleModifier};
 pub(crate) struct Kept {
     pub(crate) scope: Scope,
     /// What stands after the single rules.
-    pub(crate) single: Standings,
+    pub(crate) single: Leaders,
     /// How many of its scopes, from the bottom, decide what the other rules come to.
     pub(crate) base: usize,
     /// What they come to, if it is known and their scores are small.
-    pub(crate) others: Option<SmallStandings>,
+    pub(crate) others: Option<SmallLeaders>,
     /// The style, if it was shown.
     pub(crate) style: Option<Style>,
 }
@@ -88,10 +88,10 @@ impl KeptStyles {
     }
 
     /// What stands below a place.
-    fn below(&self, highlighter: &Highlighter<'_>, place: usize) -> Standings
+    fn below(&self, highlighter: &Highlighter<'_>, place: usize) -> Leaders
         requires { place ≤ length self.now }
         ensures { AreKnown highlighter.now [] self.now
-            → AreStanding highlighter.now (lowest place self.now) result }
+            → AreLeadersOf highlighter.now (lowest place self.now) result }
     {
         if place == 0 {
             return highlighter.bottom();
@@ -161,7 +161,7 @@ impl KeptStyles {
 
     /// What the other rules come to in the lowest so many scopes, if it is known and their scores
     /// are small.
-    fn others_at(&self, count: usize) -> Option<SmallStandings>
+    fn others_at(&self, count: usize) -> Option<SmallLeaders>
         ensures { IfSome result (λ others. (theme : Theme) → AreKnown theme [] self.now
             → AreSmall theme (lowest count self.now) others) }
     {
@@ -172,7 +172,7 @@ impl KeptStyles {
     }
 
     /// Keeps what the other rules come to in the lowest so many scopes.
-    fn keep_others(&mut self, count: usize, others: Option<SmallStandings>)
+    fn keep_others(&mut self, count: usize, others: Option<SmallLeaders>)
         ensures scopes { scopes_of self.new ≡ scopes_of self.old }
         ensures known { (theme : Theme)
             → IfSome others (AreSmall theme (lowest count self.old))

@@ -6,6 +6,7 @@
 
 mod buckets;
 mod contest;
+pub mod cut;
 pub mod highlighter;
 mod kept;
 pub mod laws;
@@ -14,3 +15,6 @@ pub mod pieces;
 mod ready;
 mod scores;
 pub mod state;
+
+pub use syntect_theme;
+pub use syntect_theme::{syntect_base, syntect_scope, syntect_values};

@@ -1,16 +1,16 @@
 //! The contest of the rules whose selectors have several scopes, none, or exclusions.
 ghost use Rattle.std.specs.Prelude.{◌≡◌, false, map, None, IfOk, IfSome, OnOk};
 ghost use Rattle.std.specs.Option.{option_map};
-ghost use Rattle.syntect_scope.specs.Choice.{selector_score};
+ghost use Rattle.syntect_style.specs.syntect_scope.Choice.{selector_score};
 ghost use Rattle.syntect_style.specs.Rules.{against, candidate_from, other_from, other_candidate};
 ghost use Rattle.syntect_style.specs.Rules.{after_other, best_other, rule_from};
 
 use crate::contest::deepest;
 use crate::scores::SingleScore;
+use crate::syntect_scope::power::MatchPower;
+use crate::syntect_scope::scope::Scope;
+use crate::syntect_scope::selector::ScopeSelector;
 use std::alloc::{AllocError, Global};
-use syntect_scope::power::MatchPower;
-use syntect_scope::scope::Scope;
-use syntect_scope::selector::ScopeSelector;
 use syntect_theme::style::{Color, FontStyle, StyleModifier};
 
 /// A selector with the change that its rule makes.
@@ -22,7 +22,7 @@ pub(crate) struct Other {
 
 /// The values that stand so far, each with the score of its rule.
 #[derive(Drop)]
-pub(crate) struct OtherStandings {
+pub(crate) struct OtherLeaders {
     pub(crate) foreground: Option<(MatchPower, Color)>,
     pub(crate) background: Option<(MatchPower, Color)>,
     pub(crate) font_style: Option<(MatchPower, FontStyle)>,
@@ -30,19 +30,19 @@ pub(crate) struct OtherStandings {
 
 /// The values that stand so far, each with the score of its rule, where the scores are small.
 #[derive(Clone, Copy, Debug)]
-pub(crate) struct SmallStandings {
+pub(crate) struct SmallLeaders {
     pub(crate) foreground: Option<(u64, Color)>,
     pub(crate) background: Option<(u64, Color)>,
     pub(crate) font_style: Option<(u64, FontStyle)>,
 }
 
 /// What stands before the first rule: nothing.
-pub(crate) fn no_others() -> OtherStandings
+pub(crate) fn no_others() -> OtherLeaders
     ensures foreground { other_from result.foreground ≡ None }
     ensures background { other_from result.background ≡ None }
     ensures font_style { other_from result.font_style ≡ None }
 {
-    OtherStandings {
+    OtherLeaders {
         foreground: None,
         background: None,
         font_style: None,
@@ -73,7 +73,7 @@ fn offer<V: Copy>(
 
 /// Puts the values of a rule in the place of the best ones so far, where its score is greater.
 fn offer_all(
-    best: &mut OtherStandings,
+    best: &mut OtherLeaders,
     power: &MatchPower,
     style: StyleModifier,
 ) -> Result<(), AllocError>
@@ -102,7 +102,7 @@ fn can_match(selector: &ScopeSelector, stack: &[Scope]) -> bool
 }
 
 /// A rule against the best ones so far.
-fn add_other(best: &mut OtherStandings, other: &Other, stack: &[Scope]) -> Result<(), AllocError>
+fn add_other(best: &mut OtherLeaders, other: &Other, stack: &[Scope]) -> Result<(), AllocError>
     ensures foreground { OnOk result (other_from best.new.foreground
         ≡ after_other (λ m. m.foreground) stack.now
         (other_from best.old.foreground) (rule_from other.now)) }
@@ -128,7 +128,7 @@ fn add_other(best: &mut OtherStandings, other: &Other, stack: &[Scope]) -> Resul
 
 /// For each attribute the value of the rule that prevails among those that are not single ones, and
 /// `None` where none sets it.
-pub(crate) fn others_of(others: &[Other], stack: &[Scope]) -> Result<OtherStandings, AllocError>
+pub(crate) fn others_of(others: &[Other], stack: &[Scope]) -> Result<OtherLeaders, AllocError>
     ensures foreground { IfOk result (λ s. other_from s.foreground
         ≡ best_other (λ m. m.foreground) stack.now (map rule_from others.now)) }
     ensures background { IfOk result (λ s. other_from s.background
@@ -159,9 +159,9 @@ fn small<V: Copy>(best: &Option<(MatchPower, V)>) -> Option<Option<(u64, V)>>
     }
 }
 
-impl OtherStandings {
+impl OtherLeaders {
     /// These values with small scores, if all their scores are small.
-    pub(crate) fn small(&self) -> Option<SmallStandings>
+    pub(crate) fn small(&self) -> Option<SmallLeaders>
         ensures foreground { IfSome result (λ s. other_from s.foreground
             ≡ other_from self.now.foreground) }
         ensures background { IfSome result (λ s. other_from s.background
@@ -169,7 +169,7 @@ impl OtherStandings {
         ensures font_style { IfSome result (λ s. other_from s.font_style
             ≡ other_from self.now.font_style) }
     {
-        Some(SmallStandings {
+        Some(SmallLeaders {
             foreground: small(&self.foreground)?,
             background: small(&self.background)?,
             font_style: small(&self.font_style)?,

@@ -2,16 +2,16 @@
 ghost use Rattle.std.specs.Prelude.{◌≡◌, ◌≤◌, ◌<◌, length, IfOk, OnOk, OnErr, IfErr, MatchOption, true, false};
 ghost use Rattle.std.specs.Iterator.{at_most};
 ghost use Rattle.std.specs.Str.{IsCharBoundary};
-ghost use Rattle.syntect_scope.specs.Stack.{applied, is_refused};
-ghost use Rattle.syntect_scope.specs.Replay.{InOrder, AllApply, replay, before_text, bytes_to};
-ghost use Rattle.syntect_style.specs.Pieces.{path_of, Keeps, Joins, IsStyled};
+ghost use Rattle.syntect_style.specs.syntect_scope.Stack.{applied, is_refused};
+ghost use Rattle.syntect_style.specs.syntect_scope.Replay.{InOrder, AllApply, replay, before_text, bytes_to};
+ghost use Rattle.syntect_style.specs.Pieces.{path_of, KeepsTrueStyles, Joins, IsStyled};
 ghost use Rattle.syntect_style.specs.Items.{Begins, Gives, GivesUnranged, IsReady, Shows, calls_left};
 
 use crate::highlighter::Highlighter;
 use crate::state::HighlightState;
+use crate::syntect_scope::stack::{ScopeError, ScopeStackOp};
 use std::alloc::Global;
 use std::ops::Range;
-use syntect_scope::stack::{ScopeError, ScopeStackOp};
 use syntect_theme::style::Style;
 
 /// The pieces of a text, each with its style and its range of bytes in the text.
@@ -44,12 +44,12 @@ fn piece_to<'b>(
     ensures ok { OnOk result (path_of state.new ≡ applied op.now (path_of state.old)) }
     ensures applied { OnOk result (is_refused op.now (path_of state.old) ≡ false) }
     ensures piece { IfOk result (λ o. MatchOption o (from ≡ to) (λ p. (from < to)
-        × Shows highlighter.now text.now (Keeps highlighter.now state.old)
+        × Shows highlighter.now text.now (KeepsTrueStyles highlighter.now state.old)
         (record { from = from; to = to; scopes = (path_of state.old).scopes }) p)) }
     ensures none { IfErr result (λ e. e ≡ ScopeError.NoClearedScopesToRestore
         → is_refused op.now (path_of state.old) ≡ true) }
     ensures err { OnErr result (path_of state.new ≡ path_of state.old) }
-    ensures keeps { Keeps highlighter.now state.old → Keeps highlighter.now state.new }
+    ensures keeps { KeepsTrueStyles highlighter.now state.old → KeepsTrueStyles highlighter.now state.new }
 {
     let piece = if from < to {
         let style = state.style(highlighter)?;
@@ -134,7 +134,7 @@ pub fn collect_pieces<'b>(
 ) -> Result<Vec<(Style, &'b str)>, ScopeError>
     requires { InOrder text.now 0 changes.now (length text.now) }
     ensures joins { IfOk result (λ pieces. Joins text.now pieces.items) }
-    ensures styled { IfOk result (λ pieces. Keeps highlighter.now state.old
+    ensures styled { IfOk result (λ pieces. KeepsTrueStyles highlighter.now state.old
         → IsStyled highlighter.now
         (bytes_to (replay changes.now (before_text (path_of state.old))) (length text.now))
         pieces.items) }
@@ -143,7 +143,7 @@ pub fn collect_pieces<'b>(
     ensures applied { OnOk result (AllApply (path_of state.old) changes.now) }
     ensures none { IfErr result (λ e. e ≡ ScopeError.NoClearedScopesToRestore
         → ¬ AllApply (path_of state.old) changes.now) }
-    ensures keeps { Keeps highlighter.now state.old → Keeps highlighter.now state.new }
+    ensures keeps { KeepsTrueStyles highlighter.now state.old → KeepsTrueStyles highlighter.now state.new }
 {
     let mut pieces = Vec::with_capacity(alloc, changes.len().saturating_add(1))?;
     let mut items = RangedHighlightIterator::new(state, changes, text, highlighter);

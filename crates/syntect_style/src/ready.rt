@@ -4,8 +4,8 @@ ghost use Rattle.syntect_style.specs.Rules.{item_rules, item_others, rule_from, 
 
 use crate::others::Other;
 use crate::scores::Rule;
+use crate::syntect_scope::scope::Scope;
 use std::alloc::{AllocError, Global};
-use syntect_scope::scope::Scope;
 use syntect_theme::style::StyleModifier;
 use syntect_theme::theme::ThemeItem;
 

@@ -1,7 +1,7 @@
 //! Scores of single rules.
 ghost use Rattle.std.specs.Prelude.{◌+◌, ◌≤◌, ◌<◌, ◌^◌};
 
-use syntect_scope::scope::Scope;
+use crate::syntect_scope::scope::Scope;
 use syntect_theme::style::StyleModifier;
 
 /// A scope with the change that its rule makes.

@@ -1,16 +1,16 @@
 //! The state of a highlighter between two texts.
 ghost use Rattle.std.specs.Prelude.{◌≡◌, ◌≤◌, ◌↔◌, [], length, take, IsTrue, IfOk, OnOk, OnErr, IfErr, true, false};
-ghost use Rattle.syntect_scope.specs.Stack.{applied, is_refused};
+ghost use Rattle.syntect_style.specs.syntect_scope.Stack.{applied, is_refused};
 ghost use Rattle.syntect_style.specs.Kept.{AreKnown, lowest};
-ghost use Rattle.syntect_style.specs.Styling.{shown};
-ghost use Rattle.syntect_style.specs.Pieces.{path_of, Keeps};
+ghost use Rattle.syntect_style.specs.Styling.{shown_style};
+ghost use Rattle.syntect_style.specs.Pieces.{path_of, KeepsTrueStyles};
 ghost use Rattle.syntect_theme.specs.declared.theme.Theme.{Theme as ATheme};
 
 use crate::highlighter::Highlighter;
 use crate::kept::KeptStyles;
+use crate::syntect_scope::scope::Scope;
+use crate::syntect_scope::stack::{ScopeError, ScopeStack, ScopeStackOp};
 use std::alloc::AllocError;
-use syntect_scope::scope::Scope;
-use syntect_scope::stack::{ScopeError, ScopeStack, ScopeStackOp};
 use syntect_theme::style::Style;
 
 /// The stack of scopes after the texts so far. What is known of its style is kept with it, so a
@@ -43,7 +43,7 @@ impl HighlightState {
     /// The state of a stack, before a text. Takes no memory.
     pub fn new(highlighter: &Highlighter<'_>, path: ScopeStack) -> HighlightState
         ensures path { path_of result ≡ path }
-        ensures keeps { Keeps highlighter.now result }
+        ensures keeps { KeepsTrueStyles highlighter.now result }
     {
         let _ = highlighter;
         let kept = KeptStyles::new(path.scopes.allocator());
@@ -88,7 +88,7 @@ impl HighlightState {
     /// an `Err` it has a stack of which nothing is known.
     pub fn clone_from(&mut self, source: &HighlightState) -> Result<(), AllocError>
         ensures ok { OnOk result (self.new ≡ source.now) }
-        ensures err { (theme : ATheme) → OnErr result (Keeps theme self.new) }
+        ensures err { (theme : ATheme) → OnErr result (KeepsTrueStyles theme self.new) }
     {
         self.fits = 0;
         self.kept.clone_from(&source.kept)?;
@@ -108,9 +108,9 @@ impl HighlightState {
     /// The style of text at this stack.
     pub(crate) fn style(&mut self, highlighter: &Highlighter<'_>) -> Result<Style, AllocError>
         ensures path { path_of self.new ≡ path_of self.old }
-        ensures keeps { Keeps highlighter.now self.old → Keeps highlighter.now self.new }
-        ensures style { IfOk result (λ s. Keeps highlighter.now self.old
-            → s ≡ shown highlighter.now (path_of self.old).scopes) }
+        ensures keeps { KeepsTrueStyles highlighter.now self.old → KeepsTrueStyles highlighter.now self.new }
+        ensures style { IfOk result (λ s. KeepsTrueStyles highlighter.now self.old
+            → s ≡ shown_style highlighter.now (path_of self.old).scopes) }
     {
         let stack = self.path.as_slice();
         if stack.is_empty() {
@@ -133,7 +133,7 @@ impl HighlightState {
         ensures none { IfErr result (λ e. e ≡ ScopeError.NoClearedScopesToRestore
             → is_refused op.now (path_of self.old) ≡ true) }
         ensures err { OnErr result (self.new ≡ self.old) }
-        ensures keeps { Keeps highlighter.now self.old → Keeps highlighter.now self.new }
+        ensures keeps { KeepsTrueStyles highlighter.now self.old → KeepsTrueStyles highlighter.now self.new }
     {
         let _ = highlighter;
         self.path.apply(op)?;

@@ -1,7 +1,7 @@
 -- Flags that are inserted one after another.
 use Rattle.std.proofs.Common.{◌≡◌, ℕ, zero, suc, ◌+◌, ◌<◌, List, [], ◌∷◌, ◌++◌, length, drop, get_or, map, refl, ap, sym, ◌∙◌, arith, Option, Some, None, Bor}
 use Rattle.std.specs.Prelude.{bit_or, Err}
-use Rattle.syntect_scope.specs.Words.{words}
+use Rattle.syntect_theme.specs.syntect_scope.Words.{words}
 use Rattle.syntect_base.specs.declared.theme.ParseThemeError.TheVariants.{IncorrectFontStyle}
 use Rattle.syntect_theme.specs.declared.style.FontStyle.{FontStyle}
 use Rattle.syntect_theme.specs.Flags.{with_flags}

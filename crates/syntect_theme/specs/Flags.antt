@@ -64,6 +64,16 @@ other_bits bits =
     if bits_without bits all_bits == 0 then []
     else (codes "0x" ++ digits 16 false (bits_without bits all_bits)) ∷ []
 
+-- the names of the flags, and the other bits
+abbrev pub flags_text : FontStyle → List ℕ
+flags_text f =
+    let bits = bits_of f in
+    between_bars (given (has_flag bits 1) (codes "BOLD")
+    ++ (given (has_flag bits 2) (codes "UNDERLINE")
+    ++ (given (has_flag bits 4) (codes "ITALIC") ++ other_bits bits)))
+
+-- ---- For proofs and private functions alone ----
+
 -- a text if it is there, after a bar unless it is the first
 abbrev pub part_text : Bool → Bool → List ℕ → List ℕ
 part_text is_first is_there text =
@@ -75,11 +85,3 @@ abbrev pub rest_text : Bool → ℕ → List ℕ
 rest_text is_first bits =
     if bits == 0 then (if is_first then codes "(empty)" else [])
     else part_text is_first true (codes "0x" ++ digits 16 false bits)
-
--- the names of the flags, and the other bits
-abbrev pub flags_text : FontStyle → List ℕ
-flags_text f =
-    let bits = bits_of f in
-    between_bars (given (has_flag bits 1) (codes "BOLD")
-    ++ (given (has_flag bits 2) (codes "UNDERLINE")
-    ++ (given (has_flag bits 4) (codes "ITALIC") ++ other_bits bits)))

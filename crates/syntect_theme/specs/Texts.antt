@@ -1,7 +1,7 @@
 -- What the texts of colours, of flags and of ways of underlining mean.
 use Rattle.std.specs.Prelude.{ℕ, ◌+◌, ◌-◌, ◌*◌, ◌==◌, nat_le, ◌&&◌, List, [], ◌∷◌, codes, if◌then◌else◌, Option, Some, None, is_some, bit_or, Result, Ok, Err}
 use Rattle.std.specs.Str.{bytes_eq}
-use Rattle.syntect_scope.specs.Words.{words}
+use Rattle.syntect_theme.specs.syntect_scope.Words.{words}
 use Rattle.syntect_base.specs.declared.theme.ParseThemeError.{ParseThemeError}
 use Rattle.syntect_base.specs.declared.theme.ParseThemeError.TheVariants as error
 use Rattle.syntect_theme.specs.Flags.{flags}

@@ -9,3 +9,6 @@ mod formats;
 pub mod style;
 mod texts;
 pub mod theme;
+
+pub use syntect_base;
+pub use syntect_base::{syntect_scope, syntect_values};

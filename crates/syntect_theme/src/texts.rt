@@ -6,11 +6,11 @@ ghost use Rattle.syntect_theme.specs.Texts.{underline_of, hex_value, byte_value,
 ghost use Rattle.syntect_theme.specs.Refusals.{Refuses};
 
 use crate::style::{Color, FontStyle};
+use crate::syntect_scope::repository::words_of;
+use crate::syntect_values::text::Text;
 use crate::theme::UnderlineOption;
 use std::alloc::{AllocError, Global};
 use syntect_base::theme::ParseThemeError;
-use syntect_scope::repository::words_of;
-use syntect_values::text::Text;
 
 impl UnderlineOption {
     /// The way of underlining that a text names: `underline`, `stippled_underline` or

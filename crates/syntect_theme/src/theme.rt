@@ -3,10 +3,10 @@ ghost use Rattle.std.specs.Prelude.{◌≡◌, [], None, IfOk};
 ghost use Rattle.syntect_theme.specs.Themes.{no_settings, no_change};
 
 use crate::style::{Color, StyleModifier};
+use crate::syntect_scope::selector::ScopeSelectors;
+use crate::syntect_values::seq::Seq;
+use crate::syntect_values::text::Text;
 use std::alloc::{AllocError, Global};
-use syntect_scope::selector::ScopeSelectors;
-use syntect_values::seq::Seq;
-use syntect_values::text::Text;
 
 /// How a bracket or a tag beside the caret is underlined.
 #[derive(Clone, Copy, Debug, Default, PartialEq)]

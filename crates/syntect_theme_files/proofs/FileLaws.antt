@@ -12,15 +12,15 @@ use Rattle.std.specs.IoError.{error_kind}
 use Rattle.std.specs.declared.io.Error.{Error}
 use Rattle.std.specs.declared.io.ErrorKind.TheVariants.{OutOfMemory}
 use Rattle.serde_json.specs.Data.{Data}
-use Rattle.syntect_base.specs.Settings.{IsSettings}
-use Rattle.syntect_base.specs.Walks.{IsWalk}
-use Rattle.syntect_base.specs.Refusals.{IsReadFault, from_theme, from_settings}
-use Rattle.syntect_base.specs.declared.theme.ParseThemeError.{ParseThemeError}
-use Rattle.syntect_base.specs.declared.theme.ParseThemeError.TheVariants as error
-use Rattle.syntect_base.specs.declared.loading.SettingsError.{SettingsError}
-use Rattle.syntect_base.specs.declared.loading.SettingsError.TheVariants as settings
-use Rattle.syntect_base.specs.declared.loading.LoadingError.{LoadingError}
-use Rattle.syntect_base.specs.declared.loading.LoadingError.TheVariants as loading
+use Rattle.syntect_theme_files.specs.syntect_base.Settings.{IsSettings}
+use Rattle.syntect_theme_files.specs.syntect_base.Walks.{IsWalk}
+use Rattle.syntect_theme_files.specs.syntect_base.Refusals.{IsReadFault, from_theme, from_settings}
+use Rattle.syntect_theme_files.specs.syntect_base.declared.theme.ParseThemeError.{ParseThemeError}
+use Rattle.syntect_theme_files.specs.syntect_base.declared.theme.ParseThemeError.TheVariants as error
+use Rattle.syntect_theme_files.specs.syntect_base.declared.loading.SettingsError.{SettingsError}
+use Rattle.syntect_theme_files.specs.syntect_base.declared.loading.SettingsError.TheVariants as settings
+use Rattle.syntect_theme_files.specs.syntect_base.declared.loading.LoadingError.{LoadingError}
+use Rattle.syntect_theme_files.specs.syntect_base.declared.loading.LoadingError.TheVariants as loading
 use Rattle.syntect_theme_files.specs.Loading.{head_at}
 use Rattle.syntect_theme.specs.Refusals.{Refuses}
 use Rattle.syntect_theme_files.specs.Refusals.{RefusesExactly}

@@ -5,8 +5,8 @@ use Rattle.std.specs.Option.{ok_or}
 use Rattle.std.specs.Result.{result_ok}
 use Rattle.serde_json.specs.Data.{Data, Items}
 use Rattle.serde_json.specs.Find.{get}
-use Rattle.syntect_base.specs.declared.theme.ParseThemeError.{ParseThemeError}
-use Rattle.syntect_base.specs.declared.theme.ParseThemeError.TheVariants.{Memory}
+use Rattle.syntect_theme_files.specs.syntect_base.declared.theme.ParseThemeError.{ParseThemeError}
+use Rattle.syntect_theme_files.specs.syntect_base.declared.theme.ParseThemeError.TheVariants.{Memory}
 use Rattle.syntect_theme.specs.declared.theme.Theme.{Theme}
 use Rattle.syntect_theme.specs.declared.theme.ThemeItem.{ThemeItem}
 use Rattle.syntect_theme_files.specs.Loading.{own_text, items_at, first_settings, head_in}

@@ -4,13 +4,13 @@ use Rattle.std.specs.Option.{ok_or}
 use Rattle.serde_json.specs.Data.{Data, Items, no_items, item}
 use Rattle.serde_json.specs.Find.{as_str, as_array, as_object, get}
 use Rattle.serde_json.specs.Written.{has_float, compact_text}
-use Rattle.syntect_scope.specs.Repository.{with_scopes, first_refusal}
-use Rattle.syntect_scope.specs.SelectorText.{selectors_in, union_words}
-use Rattle.syntect_scope.specs.declared.repository.ParseScopeError.{ParseScopeError}
-use Rattle.syntect_scope.specs.declared.repository.ParseScopeError.TheVariants as scope
-use Rattle.syntect_scope.specs.declared.selector.ScopeSelectors.{ScopeSelectors}
-use Rattle.syntect_base.specs.declared.theme.ParseThemeError.{ParseThemeError}
-use Rattle.syntect_base.specs.declared.theme.ParseThemeError.TheVariants as error
+use Rattle.syntect_theme_files.specs.syntect_scope.Repository.{with_scopes, first_refusal}
+use Rattle.syntect_theme_files.specs.syntect_scope.SelectorText.{selectors_in, union_words}
+use Rattle.syntect_theme_files.specs.syntect_scope.declared.repository.ParseScopeError.{ParseScopeError}
+use Rattle.syntect_theme_files.specs.syntect_scope.declared.repository.ParseScopeError.TheVariants as scope
+use Rattle.syntect_theme_files.specs.syntect_scope.declared.selector.ScopeSelectors.{ScopeSelectors}
+use Rattle.syntect_theme_files.specs.syntect_base.declared.theme.ParseThemeError.{ParseThemeError}
+use Rattle.syntect_theme_files.specs.syntect_base.declared.theme.ParseThemeError.TheVariants as error
 use Rattle.syntect_theme.specs.Modifying.{first_some}
 use Rattle.syntect_theme.specs.Texts.{underline_of, color_of, flags_of_text}
 use Rattle.syntect_theme.specs.declared.style.Color.{Color}
@@ -74,12 +74,6 @@ selectors_of_text repo text = unless_refused (first_refusal repo (union_words te
 abbrev pub text_words : Option (List ℕ) → List (List ℕ)
 text_words (Some text) = union_words text
 text_words None = []
-
--- a refusal of scopes, passed on
-abbrev pub scope_refusal : ParseScopeError → ParseThemeError
-scope_refusal scope.Memory = error.Memory
-scope_refusal scope.TooLong = error.ScopeParse scope.TooLong
-scope_refusal scope.TooManyAtoms = error.ScopeParse scope.TooManyAtoms
 
 -- the selectors of a value
 abbrev pub selectors_at : List (List ℕ) → Data → Result ScopeSelectors ParseThemeError
@@ -170,52 +164,6 @@ settings_in d = record {
 }
 
 -- ---- the same settings, some at a time ----
-
-abbrev pub first_fields : Data → ThemeSettings → ThemeSettings
-first_fields d s = record s {
-  foreground = color_field d (codes "foreground");
-  background = color_field d (codes "background");
-  caret = color_field d (codes "caret");
-  line_highlight = color_field d (codes "lineHighlight");
-  misspelling = color_field d (codes "misspelling");
-  minimap_border = color_field d (codes "minimapBorder");
-  accent = color_field d (codes "accent");
-}
-
-abbrev pub second_fields : Data → ThemeSettings → ThemeSettings
-second_fields d s = record s {
-  popup_css = text_field d (codes "popupCss");
-  phantom_css = text_field d (codes "phantomCss");
-  bracket_contents_foreground = color_field d (codes "bracketContentsForeground");
-  bracket_contents_options = underline_field d (codes "bracketContentsOptions");
-  brackets_foreground = color_field d (codes "bracketsForeground");
-  brackets_background = color_field d (codes "bracketsBackground");
-  brackets_options = underline_field d (codes "bracketsOptions");
-}
-
-abbrev pub third_fields : Data → ThemeSettings → ThemeSettings
-third_fields d s = record s {
-  tags_foreground = color_field d (codes "tagsForeground");
-  tags_options = underline_field d (codes "tagsOptions");
-  highlight = color_field d (codes "highlight");
-  find_highlight = color_field d (codes "findHighlight");
-  find_highlight_foreground = color_field d (codes "findHighlightForeground");
-  gutter = color_field d (codes "gutter");
-  gutter_foreground = color_field d (codes "gutterForeground");
-  selection = color_field d (codes "selection");
-}
-
-abbrev pub fourth_fields : Data → ThemeSettings → ThemeSettings
-fourth_fields d s = record s {
-  selection_foreground = color_field d (codes "selectionForeground");
-  selection_border = color_field d (codes "selectionBorder");
-  inactive_selection = color_field d (codes "inactiveSelection");
-  inactive_selection_foreground = color_field d (codes "inactiveSelectionForeground");
-  guide = color_field d (codes "guide");
-  active_guide = color_field d (codes "activeGuide");
-  stack_guide = color_field d (codes "stackGuide");
-  shadow = color_field d (codes "shadow");
-}
 
 abbrev pub settings_at : Data → Result ThemeSettings ParseThemeError
 settings_at d =
@@ -314,3 +262,57 @@ pub record IsTheme (old : List (List ℕ)) (d : Data) (new : List (List ℕ))
   pub head : head_at d ≡ Ok (record theme { scopes = [] })
   pub rules : theme.scopes ≡ rules_in old (all_later (items_at d))
   pub atoms : new ≡ after_rules old (all_later (items_at d))
+
+-- ---- For proofs and private functions alone ----
+
+-- a refusal of scopes, passed on
+abbrev pub scope_refusal : ParseScopeError → ParseThemeError
+scope_refusal scope.Memory = error.Memory
+scope_refusal scope.TooLong = error.ScopeParse scope.TooLong
+scope_refusal scope.TooManyAtoms = error.ScopeParse scope.TooManyAtoms
+
+abbrev pub first_fields : Data → ThemeSettings → ThemeSettings
+first_fields d s = record s {
+  foreground = color_field d (codes "foreground");
+  background = color_field d (codes "background");
+  caret = color_field d (codes "caret");
+  line_highlight = color_field d (codes "lineHighlight");
+  misspelling = color_field d (codes "misspelling");
+  minimap_border = color_field d (codes "minimapBorder");
+  accent = color_field d (codes "accent");
+}
+
+abbrev pub second_fields : Data → ThemeSettings → ThemeSettings
+second_fields d s = record s {
+  popup_css = text_field d (codes "popupCss");
+  phantom_css = text_field d (codes "phantomCss");
+  bracket_contents_foreground = color_field d (codes "bracketContentsForeground");
+  bracket_contents_options = underline_field d (codes "bracketContentsOptions");
+  brackets_foreground = color_field d (codes "bracketsForeground");
+  brackets_background = color_field d (codes "bracketsBackground");
+  brackets_options = underline_field d (codes "bracketsOptions");
+}
+
+abbrev pub third_fields : Data → ThemeSettings → ThemeSettings
+third_fields d s = record s {
+  tags_foreground = color_field d (codes "tagsForeground");
+  tags_options = underline_field d (codes "tagsOptions");
+  highlight = color_field d (codes "highlight");
+  find_highlight = color_field d (codes "findHighlight");
+  find_highlight_foreground = color_field d (codes "findHighlightForeground");
+  gutter = color_field d (codes "gutter");
+  gutter_foreground = color_field d (codes "gutterForeground");
+  selection = color_field d (codes "selection");
+}
+
+abbrev pub fourth_fields : Data → ThemeSettings → ThemeSettings
+fourth_fields d s = record s {
+  selection_foreground = color_field d (codes "selectionForeground");
+  selection_border = color_field d (codes "selectionBorder");
+  inactive_selection = color_field d (codes "inactiveSelection");
+  inactive_selection_foreground = color_field d (codes "inactiveSelectionForeground");
+  guide = color_field d (codes "guide");
+  active_guide = color_field d (codes "activeGuide");
+  stack_guide = color_field d (codes "stackGuide");
+  shadow = color_field d (codes "shadow");
+}

@@ -9,12 +9,12 @@ use Rattle.std.specs.IoError.{error_kind}
 use Rattle.std.specs.declared.io.Error.{Error}
 use Rattle.std.specs.declared.io.ErrorKind.TheVariants.{OutOfMemory}
 use Rattle.serde_json.specs.Data.{Data}
-use Rattle.syntect_base.specs.Settings.{IsSettings}
-use Rattle.syntect_base.specs.Walks.{IsWalk, IsWalkFault}
-use Rattle.syntect_base.specs.declared.loading.LoadingError.{LoadingError}
-use Rattle.syntect_base.specs.declared.loading.LoadingError.TheVariants.{Io, ParseTheme, ReadSettings, Memory}
-use Rattle.syntect_base.specs.declared.loading.SettingsError.TheVariants.{Json}
-use Rattle.syntect_base.specs.declared.theme.ParseThemeError.{ParseThemeError}
+use Rattle.syntect_theme_files.specs.syntect_base.Settings.{IsSettings}
+use Rattle.syntect_theme_files.specs.syntect_base.Walks.{IsWalk, IsWalkFault}
+use Rattle.syntect_theme_files.specs.syntect_base.declared.loading.LoadingError.{LoadingError}
+use Rattle.syntect_theme_files.specs.syntect_base.declared.loading.LoadingError.TheVariants.{Io, ParseTheme, ReadSettings, Memory}
+use Rattle.syntect_theme_files.specs.syntect_base.declared.loading.SettingsError.TheVariants.{Json}
+use Rattle.syntect_theme_files.specs.syntect_base.declared.theme.ParseThemeError.{ParseThemeError}
 use Rattle.syntect_theme_files.specs.Loading.{IsTheme, head_at}
 use Rattle.syntect_theme.specs.declared.theme.Theme.{Theme}
 

@@ -5,3 +5,5 @@ mod load;
 mod load_theme;
 pub mod theme_load;
 pub mod theme_set;
+
+pub use syntect_theme::{syntect_base, syntect_scope, syntect_values};

@@ -3,21 +3,21 @@ ghost use Rattle.std.specs.Prelude.{◌≡◌, length, take, IfOk, OnOk, IfErr, 
 ghost use Rattle.std.specs.Option.{ok_or};
 ghost use Rattle.serde_json.specs.Find.{as_str};
 ghost use Rattle.serde_json.specs.View.{view};
-ghost use Rattle.syntect_base.specs.declared.theme.ParseThemeError.{ParseThemeError};
-ghost use Rattle.syntect_scope.specs.Repository.{with_scopes, IsRepository};
-ghost use Rattle.syntect_scope.specs.SelectorText.{union_words};
+ghost use Rattle.syntect_theme_files.specs.syntect_base.declared.theme.ParseThemeError.{ParseThemeError};
+ghost use Rattle.syntect_theme_files.specs.syntect_scope.Repository.{with_scopes, IsRepository};
+ghost use Rattle.syntect_theme_files.specs.syntect_scope.SelectorText.{union_words};
 ghost use Rattle.syntect_theme_files.specs.Loading as loading;
 ghost use Rattle.syntect_theme.specs.Refusals.{Refuses};
 
+use crate::syntect_base::settings::holds_float;
+use crate::syntect_base::theme::ParseThemeError;
+use crate::syntect_scope::repository::{ParseScopeError, ScopeRepository};
+use crate::syntect_scope::selector::ScopeSelectors;
+use crate::syntect_values::text::Text;
 use serde_json::Value;
 use std::alloc::{AllocError, Global};
-use syntect_base::settings::holds_float;
-use syntect_base::theme::ParseThemeError;
-use syntect_scope::repository::{ParseScopeError, ScopeRepository};
-use syntect_scope::selector::ScopeSelectors;
 use syntect_theme::style::{Color, FontStyle, StyleModifier};
 use syntect_theme::theme::{ThemeItem, UnderlineOption};
-use syntect_values::text::Text;
 
 /// How a refusal shows a value.
 fn shown(alloc: Global, value: &Value) -> Result<Text, AllocError>

@@ -4,20 +4,20 @@ ghost use Rattle.std.specs.Option.{ok_or, option_copied};
 ghost use Rattle.serde_json.specs.Data.{Items};
 ghost use Rattle.serde_json.specs.Find.{get};
 ghost use Rattle.serde_json.specs.View.{view, items_view};
-ghost use Rattle.syntect_base.specs.declared.theme.ParseThemeError.{ParseThemeError};
-ghost use Rattle.syntect_scope.specs.Repository.{with_scopes, IsRepository};
+ghost use Rattle.syntect_theme_files.specs.syntect_base.declared.theme.ParseThemeError.{ParseThemeError};
+ghost use Rattle.syntect_theme_files.specs.syntect_scope.Repository.{with_scopes, IsRepository};
 ghost use Rattle.syntect_theme_files.specs.Loading as loading;
 ghost use Rattle.syntect_theme_files.specs.Refusals.{RefusesExactly};
 
 use crate::load::{color, rule, underline};
+use crate::syntect_base::theme::ParseThemeError;
+use crate::syntect_scope::repository::ScopeRepository;
+use crate::syntect_values::seq::Seq;
+use crate::syntect_values::text::Text;
 use serde_json::Value;
 use std::alloc::{AllocError, Global};
-use syntect_base::theme::ParseThemeError;
-use syntect_scope::repository::ScopeRepository;
 use syntect_theme::style::Color;
 use syntect_theme::theme::{Theme, ThemeItem, ThemeSettings, UnderlineOption};
-use syntect_values::seq::Seq;
-use syntect_values::text::Text;
 
 /// The colour of a key, if it has one.
 fn color_field(value: &Value, key: &str) -> Option<Color>

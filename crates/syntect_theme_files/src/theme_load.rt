@@ -2,17 +2,17 @@
 ghost use Rattle.std.specs.Prelude.{◌≡◌, length, take, IfOk, OnOk, IfErr, OnErr, Ok};
 ghost use Rattle.serde_json.specs.Find.{as_str};
 ghost use Rattle.serde_json.specs.View.{view};
-ghost use Rattle.syntect_scope.specs.Repository.{with_scopes, IsRepository};
+ghost use Rattle.syntect_theme_files.specs.syntect_scope.Repository.{with_scopes, IsRepository};
 ghost use Rattle.syntect_theme_files.specs.Loading as loading;
 ghost use Rattle.syntect_theme.specs.Refusals.{Refuses};
 ghost use Rattle.syntect_theme_files.specs.Refusals.{RefusesExactly};
 
+pub use crate::syntect_base::settings::Settings;
+use crate::syntect_base::theme::ParseThemeError;
+use crate::syntect_scope::repository::ScopeRepository;
+use crate::syntect_scope::selector::ScopeSelectors;
 use crate::{load, load_theme};
 use std::alloc::Global;
-pub use syntect_base::settings::Settings;
-use syntect_base::theme::ParseThemeError;
-use syntect_scope::repository::ScopeRepository;
-use syntect_scope::selector::ScopeSelectors;
 use syntect_theme::style::{Color, FontStyle, StyleModifier};
 use syntect_theme::theme::{Theme, ThemeItem, ThemeSettings, UnderlineOption};
 

@@ -3,25 +3,25 @@ ghost use Rattle.std.specs.Prelude.{◌≡◌, ℕ, List, [], ◌∷◌, true, l
 ghost use Rattle.std.specs.Option.{option_copied};
 ghost use Rattle.std.specs.List.{filter};
 ghost use Rattle.std.specs.Path.{path_bytes, path_buf_bytes};
-ghost use Rattle.syntect_base.specs.Refusals.{IsReadFault};
-ghost use Rattle.syntect_base.specs.Walks.{IsWalk, IsWalkFault};
-ghost use Rattle.syntect_scope.specs.Repository.{IsRepository};
+ghost use Rattle.syntect_theme_files.specs.syntect_base.Refusals.{IsReadFault};
+ghost use Rattle.syntect_theme_files.specs.syntect_base.Walks.{IsWalk, IsWalkFault};
+ghost use Rattle.syntect_theme_files.specs.syntect_scope.Repository.{IsRepository};
 ghost use Rattle.syntect_theme.specs.declared.theme.Theme.{Theme as ATheme};
 ghost use Rattle.syntect_theme_files.specs.ThemeFiles.{IsThemeOf, RefusesTheme, RefusesRead, IsThemeFault, theme_name, AddsThemes, StopsAtTheme, RefusesThemes};
 
+use crate::syntect_base::loading::LoadingError;
+use crate::syntect_base::settings::settings_of;
+use crate::syntect_base::utils::files_below;
+use crate::syntect_scope::repository::ScopeRepository;
+use crate::syntect_values::table::Table;
+use crate::syntect_values::text::Text;
 use crate::theme_load::ParseSettings;
 use std::alloc::{AllocError, Global};
 use std::io::{BufRead, BufReader, Read};
 use std::path::{Path, PathBuf};
 use std::rt::Files;
 use std::{fs, io};
-use syntect_base::loading::LoadingError;
-use syntect_base::settings::settings_of;
-use syntect_base::utils::files_below;
-use syntect_scope::repository::ScopeRepository;
 use syntect_theme::theme::Theme;
-use syntect_values::table::Table;
-use syntect_values::text::Text;
 
 /// Themes by their names.
 #[derive(Debug, Drop)]

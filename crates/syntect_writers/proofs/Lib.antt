@@ -1,3 +1,13 @@
+pub mod ClassLaws
+pub mod PutLaws
+pub mod SeenLaws
+pub mod FollowLaws
+pub mod PageLaws
+pub mod CommentLaws
+pub mod IdentifierLaws
+pub mod InsideLaws
+pub mod SheetInside
+pub mod SheetLaws
 pub mod TextLaws
 pub mod SpanLaws
 pub mod OutcomeLaws

@@ -6,7 +6,7 @@ use Rattle.std.proofs.lemmas.Grind.{flat_map-append}
 use Rattle.std.specs.Prelude.{Option, None}
 use Rattle.syntect_theme.specs.declared.style.Style.{Style}
 use Rattle.syntect_writers.specs.Entities.{entity, escaped}
-use Rattle.syntect_writers.specs.Spans.{open_tag, span_text, spans_from, continues}
+use Rattle.syntect_writers.specs.Spans.{open_tag, span_text, spans_from, joins_span}
 use Rattle.syntect_writers.specs.Opened.{behind_open, line_behind, close_of, continued}
 use Rattle.syntect_writers.specs.declared.html.IncludeBackground.{IncludeBackground}
 
@@ -42,7 +42,7 @@ pub spans_behind : (bg : IncludeBackground) (style : Style) (text : List ℕ) (p
 unfolding spans_from behind_open
 spans_behind bg style text [] = append-nil (span_text bg (style, text))
 spans_behind bg style text (p ∷ ps) =
-    elim (cases_Bool (continues style p)) [
+    elim (cases_Bool (joins_span style p)) [
       | inl same ↦ rw (same)
           (spans_behind bg style (text ++ p.1) ps
           ∙ ap (λ (xs : List ℕ). open_tag bg style ++ (xs ++ behind_open bg style ps)) (flat_map-append entity text p.1)
@@ -67,7 +67,7 @@ pub piece_into : (bg : IncludeBackground) (last : Option Style) (before : Style)
 unfolding behind_open
 piece_into bg None before p ps e = let h : None ≡ Some before = e in cc
 piece_into bg (Some style) before p ps e =
-    let h = into (continues style p) style before e in
+    let h = into (joins_span style p) style before e in
     rw (h.0) (ap (λ (s : Style). escaped p.1 ++ behind_open bg s ps) h.1)
 
 -- a piece that begins a span
@@ -75,7 +75,7 @@ pub piece_apart : (bg : IncludeBackground) (last : Option Style) (p : Style × L
     → line_behind bg last (p ∷ ps) ≡ close_of last ++ (open_tag bg p.0 ++ (escaped p.1 ++ behind_open bg p.0 ps))
 unfolding behind_open
 piece_apart bg None p ps e = spans_behind bg p.0 p.1 ps
-piece_apart bg (Some style) p ps e = rw (apart (continues style p) style e) refl
+piece_apart bg (Some style) p ps e = rw (apart (joins_span style p) style e) refl
 
 -- the end of a line
 pub line_end : (bg : IncludeBackground) (last : Option Style) → line_behind bg last [] ≡ close_of last

@@ -1,3 +1,12 @@
+pub mod Classes
+pub mod Marks
+pub mod Writing
+pub mod Laws
+pub mod Page
+pub mod Comment
+pub mod Identifier
+pub mod Left
+pub mod Sheet
 pub mod Entities
 pub mod Latex
 pub mod Lines
@@ -8,3 +17,4 @@ pub mod Tags
 pub mod Tails
 pub mod Terminal
 pub mod Text
+pub use Rattle.syntect_theme.specs.syntect_scope as syntect_scope

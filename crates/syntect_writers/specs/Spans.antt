@@ -89,15 +89,15 @@ abbrev pub is_blank : List ℕ → Bool
 is_blank text = list_all is_whitespace (chars text)
 
 -- a piece continues a span: it has its style, or it is white space on the same background
-abbrev pub continues : Style → Style × List ℕ → Bool
-continues style p =
+abbrev pub joins_span : Style → Style × List ℕ → Bool
+joins_span style p =
     same_style p.0 style || (same_color p.0.background style.background && is_blank p.1)
 
 -- a line's spans: each has the style of its first piece, and its text
 unfoldable pub spans_from : Style → List ℕ → List (Style × List ℕ) → List (Style × List ℕ)
 spans_from style text [] = (style, text) ∷ []
 spans_from style text (p ∷ ps) =
-    if continues style p then spans_from style (text ++ p.1) ps
+    if joins_span style p then spans_from style (text ++ p.1) ps
     else (style, text) ∷ spans_from p.0 p.1 ps
 
 -- the spans of a line's pieces, none where there are no pieces

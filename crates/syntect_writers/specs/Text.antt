@@ -6,6 +6,8 @@ use Rattle.syntect_writers.specs.Lines.{lines_of}
 use Rattle.syntect_writers.specs.declared.text.Front.{Front}
 use Rattle.syntect_writers.specs.declared.text.Front.TheVariants.{Plain, InLine}
 
+-- ---- For proofs and private functions alone ----
+
 -- the byte stands in HTML as it is
 abbrev pub is_plain : ℕ → Bool
 is_plain b = not (b == 60) && (not (b == 62) && (not (b == 38) && (not (b == 39) && not (b == 34))))

@@ -1,6 +1,6 @@
 //! HTML with inline styles.
 ghost use Rattle.std.specs.Prelude.{◌≡◌, ◌++◌, string_bytes, codes, IfOk, OnOk, OnErr};
-ghost use Rattle.syntect_writers.specs.Spans.{rgb_digits, rgb_text, color_digits, flags_text, same_color, same_style, tells_background, asked_for, color_property, background_text, open_tag, is_blank, continues, line_text, opening, background_of};
+ghost use Rattle.syntect_writers.specs.Spans.{rgb_digits, rgb_text, color_digits, flags_text, same_color, same_style, tells_background, asked_for, color_property, background_text, open_tag, is_blank, joins_span, line_text, opening, background_of};
 ghost use Rattle.syntect_theme.specs.Modifying.{bits_of};
 
 use crate::bytes::hex_pair;
@@ -157,8 +157,8 @@ fn is_blank(text: &str) -> bool
 }
 
 /// Whether a piece goes into the span of this style.
-pub(crate) fn continues(before: Style, style: Style, text: &str) -> bool
-    ensures { result ≡ continues before (style, text.now) }
+pub(crate) fn joins_span(before: Style, style: Style, text: &str) -> bool
+    ensures { result ≡ joins_span before (style, text.now) }
 {
     same_style(style, before) || (same_color(style.background, before.background) && is_blank(text))
 }

@@ -4,12 +4,22 @@
 #![tactic(auto)]
 
 mod bytes;
+pub mod class_style;
+pub mod classed;
+mod comment;
 pub mod escape;
 pub mod html;
+mod identifier;
 pub mod latex;
 pub mod laws;
 pub mod lines;
+mod marks;
+pub mod marks_seen;
+pub mod sheet;
+pub mod sheet_laws;
 pub mod spans;
 mod tail;
 pub mod terminal;
 mod text;
+
+pub use syntect_theme::syntect_scope;

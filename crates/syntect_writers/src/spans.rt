@@ -4,7 +4,7 @@ ghost use Rattle.syntect_theme.specs.declared.style.Style.{Style as Plain};
 ghost use Rattle.syntect_writers.specs.Opened.{behind_open, line_behind, close_of, continued};
 ghost use Rattle.syntect_writers.specs.Spans.{open_tag, line_text};
 
-use crate::html::{IncludeBackground, continues, push_tag, same_style};
+use crate::html::{IncludeBackground, joins_span, push_tag, same_style};
 use crate::tail::Tail;
 use std::alloc::{AllocError, Global};
 use std::marker::Model;
@@ -58,7 +58,7 @@ fn continued(last: Option<Style>, style: Style, text: &str) -> Option<Style>
     ensures { result ≡ continued last (style, text.now) }
 {
     match last {
-        Some(before) if continues(before, style, text) => Some(before),
+        Some(before) if joins_span(before, style, text) => Some(before),
         _ => None,
     }
 }

@@ -10,7 +10,7 @@ use Rattle.syntect_yaml.specs.Reading.{Fails}
 use Rattle.syntect_yaml.specs.Lines.{Rest, Read, first}
 use Rattle.syntect_yaml.specs.Scalars.{scalar, key}
 use Rattle.syntect_yaml.specs.Flow.{read_map, gap, after_part, items, entry_value, entries, flow, opening_within}
-use Rattle.syntect_yaml.specs.declared.flow.Opening.TheVariants as opening
+use Rattle.syntect_yaml.specs.declared.flow.FlowOpening.TheVariants as opening
 
 -- where one thing has no value neither has another
 pub fails_by : {A B : Type 0} (e : Refusal) (a : Option A) (b : Option B) → (a ≡ None → b ≡ None) → Fails e a → Fails e b

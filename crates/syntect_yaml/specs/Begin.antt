@@ -4,6 +4,8 @@ use Rattle.syntect_yaml.specs.Blocks as blocks
 use Rattle.syntect_yaml.specs.declared.block.Start.{Start}
 use Rattle.syntect_yaml.specs.declared.block.Start.TheVariants.{Item, Entry, Part}
 
+-- ---- For proofs and private functions alone ----
+
 abbrev pub start_view : Start → blocks.Start
 start_view Item = blocks.starts_item
 start_view (Entry k t) = blocks.starts_entry k t.now

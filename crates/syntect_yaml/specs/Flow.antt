@@ -2,8 +2,8 @@
 use Rattle.std.specs.Prelude.{ℕ, zero, suc, true, false, ◌==◌, if◌then◌else◌, length, drop, Option, Some, None, option_map}
 use Rattle.syntect_yaml.specs.Node as node
 use Rattle.syntect_yaml.specs.Node.{Node, Items, no_items, push_item, Entries, no_entries, push_entry, has_key}
-use Rattle.syntect_yaml.specs.declared.flow.Opening.{Opening}
-use Rattle.syntect_yaml.specs.declared.flow.Opening.TheVariants.{List, Map, Nothing}
+use Rattle.syntect_yaml.specs.declared.flow.FlowOpening.{FlowOpening}
+use Rattle.syntect_yaml.specs.declared.flow.FlowOpening.TheVariants.{List, Map, Nothing}
 use Rattle.syntect_yaml.specs.Lines.{Rest, Read, ◌>>=◌, ◌∈◌, first, is_space, after_run, line_tail, next}
 use Rattle.syntect_yaml.specs.Scalars.{scalar, key}
 
@@ -50,21 +50,23 @@ module _ (value : Rest → Read Node) where
       else entry_value k.1 >>= (λ v. after_part 125 v.1 >>= entries n (push_entry found k.0 v.0))))
 
 -- what begins with a mark
-abbrev pub opening : Rest → Opening
+abbrev pub opening : Rest → FlowOpening
 opening t = if first t ∈ "[" then List else if first t ∈ "{" then Map else Nothing
 
--- the same, where lists and maps may nest this deep
-abbrev pub opening_within : ℕ → Rest → Opening
-opening_within zero t = Nothing
-opening_within (suc depth) t = opening t
-
 -- a list or map of what `value` reads, or a scalar, by the mark that stands here
-abbrev pub part : (Rest → Read Node) → Opening → Rest → Read Node
-part value List t = read_map node.list (items value (length t) no_items (drop 1 t))
-part value Map t = read_map node.map (entries value (length t) no_entries (drop 1 t))
-part value Nothing t = read_map node.scalar (scalar true t)
+abbrev pub opening_value : (Rest → Read Node) → FlowOpening → Rest → Read Node
+opening_value value List t = read_map node.list (items value (length t) no_items (drop 1 t))
+opening_value value Map t = read_map node.map (entries value (length t) no_entries (drop 1 t))
+opening_value value Nothing t = read_map node.scalar (scalar true t)
 
 -- a value in flow: a list, a map or a scalar, where lists and maps nest no deeper than this
 unfoldable pub flow : ℕ → Rest → Read Node
 flow zero t = read_map node.scalar (scalar true t)
-flow (suc depth) t = part (flow depth) (opening t) t
+flow (suc depth) t = opening_value (flow depth) (opening t) t
+
+-- ---- For proofs and private functions alone ----
+
+-- the same, where lists and maps may nest this deep
+abbrev pub opening_within : ℕ → Rest → FlowOpening
+opening_within zero t = Nothing
+opening_within (suc depth) t = opening t

@@ -91,25 +91,25 @@ line_tail at_once t =
     if ends_line (drop n t) || opens_comment at_once n t then Some (after_line (drop n t)) else None
 
 -- a place in a line: how many characters stand before it, and what is still to read
-pub record Place : Type 0 where
+pub record Cursor : Type 0 where
   pub column : ℕ
   pub rest : Rest
 
 -- the first character of a line that is no space; a tab is no indentation
-unfoldable pub indented : Rest → Option Place
+unfoldable pub indented : Rest → Option Cursor
 indented t =
     let n = prefix_len is_space t in
     if slice_index t n == tab then None else Some (record { column = n; rest = drop n t })
 
 -- what `more` finds from the next line on, where this one is passed over, else its place
-abbrev pub seek_on : (Rest → Option Place) → Rest → Option Rest → Option Place
+abbrev pub seek_on : (Rest → Option Cursor) → Rest → Option Rest → Option Cursor
 seek_on more t (Some after) = more after
 seek_on more t None = indented t
 
 -- The first visible character from a line's start on, in one of fewer than n lines. Blank lines are
 -- passed over, and lines whose first visible character begins a comment. At the text's end nothing
 -- is left to read.
-unfoldable pub seek : ℕ → Rest → Option Place
+unfoldable pub seek : ℕ → Rest → Option Cursor
 seek zero t = None
 seek (suc n) [] = Some (record { column = 0; rest = [] })
 seek (suc n) (c ∷ t) = seek_on (seek n) (c ∷ t) (line_tail true (c ∷ t))
@@ -127,13 +127,13 @@ unfoldable pub is_marker : Rest → Bool
 is_marker t = is_line_of 45 t || is_line_of 46 t
 
 -- such a line is refused
-unfoldable pub unmarked : Place → Option Place
+unfoldable pub unmarked : Cursor → Option Cursor
 unmarked p = if p.column == 0 && is_marker p.rest then None else Some p
 
 -- the first visible character from a line's start on
-unfoldable pub next : Rest → Option Place
+unfoldable pub next : Rest → Option Cursor
 next t = seek (suc (length t)) t >>= unmarked
 
 -- the first visible character after something that ends on this line
-unfoldable pub next_line : Rest → Option Place
+unfoldable pub next_line : Rest → Option Cursor
 next_line t = line_tail false t >>= next

@@ -109,6 +109,8 @@ get t (scalar s) = None
 get t (list vs) = None
 get t (map es) = value_at t es
 
+-- ---- For proofs and private functions alone ----
+
 -- one of the scalars is equal to this one
 abbrev pub has_scalar : Scalar → List Scalar → Bool
 has_scalar k ks = list_any (λ l. same_scalar l k) ks

@@ -1,11 +1,13 @@
 -- What a call that reads gives.
 use Rattle.std.specs.Prelude.{◌≡◌, ℕ, ◌+◌, ◌<◌, ◌≤◌, List, length, Option, Some, None, Result, Ok, Err, IfOk}
 use Rattle.std.specs.Borrow.{Bor}
-use Rattle.syntect_yaml.specs.Lines.{Place}
+use Rattle.syntect_yaml.specs.Lines.{Cursor}
 use Rattle.syntect_yaml.specs.Text.{place_of}
 use Rattle.syntect_yaml.specs.declared.place.Spot.{Spot}
 use Rattle.syntect_yaml.specs.declared.error.Refusal.{Refusal}
 use Rattle.syntect_yaml.specs.declared.error.Refusal.TheVariants.{At, Memory}
+
+-- ---- For proofs and private functions alone ----
 
 -- where memory ran out nothing is said
 abbrev pub Fails : {B : Type 0} → Refusal → Option B → Type 0
@@ -27,7 +29,7 @@ abbrev pub Shortens : {A : Type 0} → List ℕ → Result (A × Bor (List ℕ))
 Shortens t r = IfOk r (λ p. length p.1.now < length t)
 
 -- the same of a value and the place after it
-abbrev pub Finds : {A B : Type 0} → (A → B) → Result (A × Spot) Refusal → Option (B × Place)
+abbrev pub Finds : {A B : Type 0} → (A → B) → Result (A × Spot) Refusal → Option (B × Cursor)
     → Type 0
 Finds f r expected = Gives (λ p. (f p.0, place_of p.1)) r expected
 

@@ -1,11 +1,13 @@
 -- Runs of bytes, and places, as the code has them.
 use Rattle.std.specs.Prelude.{ℕ, Bool, ◌+◌, ◌<◌, ◌≤◌, List, length, IfSome, Option}
 use Rattle.std.specs.Borrow.{Bor}
-use Rattle.syntect_yaml.specs.Lines.{is_space, is_white, is_in_line, Place}
+use Rattle.syntect_yaml.specs.Lines.{is_space, is_white, is_in_line, Cursor}
 use Rattle.syntect_yaml.specs.Scalars.{is_single, is_double, is_hex}
 use Rattle.syntect_yaml.specs.declared.text.Class.{Class}
 use Rattle.syntect_yaml.specs.declared.text.Class.TheVariants.{Space, White, InLine, Single, Double, Hex}
 use Rattle.syntect_yaml.specs.declared.place.Spot.{Spot}
+
+-- ---- For proofs and private functions alone ----
 
 -- the bytes of a class
 abbrev pub class_test : Class → ℕ → Bool
@@ -17,7 +19,7 @@ class_test Double = is_double
 class_test Hex = is_hex
 
 -- the place of a spot
-abbrev pub place_of : Spot → Place
+abbrev pub place_of : Spot → Cursor
 place_of p = record { column = p.column; rest = p.rest.now }
 
 -- what is left is shorter, or no longer

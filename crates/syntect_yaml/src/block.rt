@@ -20,9 +20,9 @@ use std::alloc::Global;
 use std::collections::BTreeSet;
 
 /// A flow map or list, or a scalar on one line.
-#[tactic(auto, unfolding(crate::specs::Blocks::part))]
+#[tactic(auto, unfolding(crate::specs::Blocks::flow_or_scalar))]
 fn part(alloc: Global, text: &str, depth: usize) -> Result<(Yaml, &str), Refusal>
-    ensures value { Reads view result (blocks.part depth text.now) }
+    ensures value { Reads view result (blocks.flow_or_scalar depth text.now) }
     ensures shorter { Shortens text.now result }
 {
     let byte = first(text);

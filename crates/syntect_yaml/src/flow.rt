@@ -50,23 +50,23 @@ fn after_part(text: &str, closing: u8) -> Result<&str, Refusal>
 
 /// What begins with a mark.
 #[derive(Clone, Copy)]
-pub(crate) enum Opening {
+pub(crate) enum FlowOpening {
     List,
     Map,
     Nothing,
 }
 
 /// What begins here, where lists and maps may nest this deep.
-fn opening_of(text: &str, depth: usize) -> Opening
+fn opening_of(text: &str, depth: usize) -> FlowOpening
     ensures { result ≡ flow.opening_within depth text.now }
 {
     if depth == 0 {
-        return Opening::Nothing;
+        return FlowOpening::Nothing;
     }
     match first(text) {
-        b'[' => Opening::List,
-        b'{' => Opening::Map,
-        _ => Opening::Nothing,
+        b'[' => FlowOpening::List,
+        b'{' => FlowOpening::Map,
+        _ => FlowOpening::Nothing,
     }
 }
 
@@ -77,15 +77,15 @@ pub(crate) fn flow(alloc: Global, text: &str, depth: usize) -> Result<(Yaml, &st
     ensures shorter { Shortens text.now result }
 {
     match opening_of(text, depth) {
-        Opening::List => match items(alloc, skip(text, 1), depth - 1) {
+        FlowOpening::List => match items(alloc, skip(text, 1), depth - 1) {
             Ok((items, rest)) => Ok((Yaml::List(items), rest)),
             Err(e) => Err(e),
         },
-        Opening::Map => match entries(alloc, skip(text, 1), depth - 1) {
+        FlowOpening::Map => match entries(alloc, skip(text, 1), depth - 1) {
             Ok((entries, rest)) => Ok((Yaml::Map(entries), rest)),
             Err(e) => Err(e),
         },
-        Opening::Nothing => match scalar(alloc, text, true) {
+        FlowOpening::Nothing => match scalar(alloc, text, true) {
             Ok((scalar, rest)) => Ok((Yaml::Scalar(scalar), rest)),
             Err(e) => Err(e),
         },

@@ -1,5 +1,5 @@
 use Rattle.std.proofs.Common.{false, sym, ◌∙◌, ap, subst, arith}
-use Rattle.syntect_parsing.specs.States.{standing}
+use Rattle.syntect_buffer.specs.syntect_parsing.States.{standing}
 use Rattle.syntect_buffer.specs.Answers.{TellsOf}
 use Rattle.syntect_buffer.specs.Kept.{IsReadFrom}
 use Rattle.syntect_buffer.specs.declared.answer.LineAnswer.{LineAnswer}

@@ -1,4 +1,4 @@
-use Rattle.syntect_writers.specs.Lines.{text_left}
+use Rattle.syntect_callers.specs.syntect_writers.Lines.{text_left}
 use Rattle.syntect_callers.proofs.ClassedSoFar.{ClassedSoFar}
 use Rattle.syntect_callers.proofs.classed.classed_page_of.Given as goal
 

@@ -2,22 +2,22 @@ use Rattle.std.proofs.Common.{◌≡◌, [], ◌∷◌, ◌++◌, List, ℕ, Opt
 use Rattle.std.proofs.lemmas.Result.{err_from_is_err_and}
 use Rattle.std.specs.Prelude.{slice_get, map}
 use Rattle.std.specs.Option.{option_copied}
-use Rattle.syntect_winner.specs.Engine.{dialect}
-use Rattle.syntect_parsing.specs.Line.{Accepted}
-use Rattle.syntect_parsing.specs.Refusals.{NamesUnresolved}
-use Rattle.syntect_grammar.specs.declared.syntax_set.SyntaxSet.{SyntaxSet}
-use Rattle.syntect_grammar.specs.Link.{definitions_in, linked, syntaxes_in}
-use Rattle.syntect_loader.specs.declared.definition.SyntaxDefinition.{SyntaxDefinition}
-use Rattle.syntect_contexts.specs.declared.syntax_reference.SyntaxReference.{SyntaxReference}
-use Rattle.syntect_parsing.specs.States.{standing}
-use Rattle.syntect_contexts.specs.declared.error.ParsingError.{ParsingError}
-use Rattle.syntect_contexts.specs.declared.error.ParsingError.TheVariants as parsing
-use Rattle.syntect_theme.specs.declared.theme.Theme.{Theme}
-use Rattle.syntect.specs.Built.{IsBuiltOf, StaysInStart}
-use Rattle.syntect.specs.Leads.{Past, reader_of, Leads, RefusedExactly}
-use Rattle.syntect.specs.declared.easy.HighlightLines.{HighlightLines}
-use Rattle.syntect_grammar.specs.declared.error.Error.{Error}
-use Rattle.syntect_grammar.specs.declared.error.Error.TheVariants as error
+use Rattle.syntect_callers.specs.syntect_reading_choice.Engine.{dialect}
+use Rattle.syntect_callers.specs.syntect_parsing.Line.{Accepted}
+use Rattle.syntect_callers.specs.syntect_parsing.Refusals.{NamesUnresolved}
+use Rattle.syntect_callers.specs.syntect_grammar.declared.syntax_set.SyntaxSet.{SyntaxSet}
+use Rattle.syntect_callers.specs.syntect_grammar.Link.{definitions_in, linked, syntaxes_in}
+use Rattle.syntect_callers.specs.syntect_grammar_loader.declared.definition.SyntaxDefinition.{SyntaxDefinition}
+use Rattle.syntect_callers.specs.syntect_grammar_contexts.declared.syntax_reference.SyntaxReference.{SyntaxReference}
+use Rattle.syntect_callers.specs.syntect_parsing.States.{standing}
+use Rattle.syntect_callers.specs.syntect_grammar_contexts.declared.error.ParsingError.{ParsingError}
+use Rattle.syntect_callers.specs.syntect_grammar_contexts.declared.error.ParsingError.TheVariants as parsing
+use Rattle.syntect_callers.specs.syntect_theme.declared.theme.Theme.{Theme}
+use Rattle.syntect_easy.specs.Built.{IsSyntaxOfBuilt, StaysInStart}
+use Rattle.syntect_easy.specs.Leads.{Past, reader_of, Leads, RefusedForUnresolved}
+use Rattle.syntect_easy.specs.declared.easy.HighlightLines.{HighlightLines}
+use Rattle.syntect_callers.specs.syntect_grammar.declared.error.Error.{Error}
+use Rattle.syntect_callers.specs.syntect_grammar.declared.error.Error.TheVariants as error
 use Rattle.syntect_callers.specs.Third.{IsRefusal, IsRefusedLine}
 use Rattle.syntect_callers.proofs.third.third_line.Goals as goal
 
@@ -44,7 +44,7 @@ returns-clause-pieces c = λ plain.
     let theme = c.args.theme.now in
     let definitions : List SyntaxDefinition = definitions_in c.args.builder in
     let syntax = c.in-Some.syntax.now in
-    let built : IsBuiltOf c.in_ok-set.set syntax definitions = record {
+    let built : IsSyntaxOfBuilt c.in_ok-set.set syntax definitions = record {
       links = c.in_ok-set.ensures.linked;
       place = 0;
       among = sym (c.in-Some.ensures.value ∙ ap (λ xs. slice_get xs 0) c.syntaxes.ensures);
@@ -92,7 +92,7 @@ module _ (definitions : List SyntaxDefinition) (set : SyntaxSet) (theme : Theme)
   another : (r : _) → parsing.MissingMainContext ≡ parsing.UnresolvedContextReference r → ⊥
   another r e = cc
 
-  refusal_of : syntaxes_in set ≡ linked definitions → slice_get (syntaxes_in set) 0 ≡ Some syntax → Leads set theme syntax before (map Accepted bytes) h → before ++ line ∷ behind ≡ all → (e : Error) → RefusedExactly set line h (Err e) → IsRefusal definitions all e
+  refusal_of : syntaxes_in set ≡ linked definitions → slice_get (syntaxes_in set) 0 ≡ Some syntax → Leads set theme syntax before (map Accepted bytes) h → before ++ line ∷ behind ≡ all → (e : Error) → RefusedForUnresolved set line h (Err e) → IsRefusal definitions all e
   refusal_of is m l s error.Memory r = tt
   refusal_of is m l s (error.ParsingError parsing.MissingMainContext) r = absurd (another r.0 r.1)
   refusal_of is m l s (error.ParsingError parsing.Memory) r = refused_line is m l s parsing.Memory r
@@ -114,7 +114,7 @@ returns-in_err-highlight_line-clause-refused c = λ plain names stays.
     let definitions : List SyntaxDefinition = definitions_in c.args.builder in
     let syntax = c.in-Some.syntax.now in
     let among : slice_get (syntaxes_in c.in_ok-set.set) 0 ≡ Some syntax = sym (c.in-Some.ensures.value ∙ ap (λ xs. slice_get xs 0) c.syntaxes.ensures) in
-    let built : IsBuiltOf c.in_ok-set.set syntax definitions = record { links = c.in_ok-set.ensures.linked; place = 0; among = among; plain = plain } in
+    let built : IsSyntaxOfBuilt c.in_ok-set.set syntax definitions = record { links = c.in_ok-set.ensures.linked; place = 0; among = among; plain = plain } in
     let stay : StaysInStart c.in_ok-set.set syntax = stays c.in_ok-set.set syntax c.in_ok-set.ensures.linked among in
     let l = c.in_ok-lines.ensures.leads c.in_ok-set.set in
     let p = err_from_is_err_and c.from_residual-in_err-highlight_line.result c.from_residual-in_err-highlight_line.ensures.1 in
@@ -127,7 +127,7 @@ returns-in_err-highlight_line-2-clause-refused c = λ plain names stays.
     let definitions : List SyntaxDefinition = definitions_in c.args.builder in
     let syntax = c.in-Some.syntax.now in
     let among : slice_get (syntaxes_in c.in_ok-set.set) 0 ≡ Some syntax = sym (c.in-Some.ensures.value ∙ ap (λ xs. slice_get xs 0) c.syntaxes.ensures) in
-    let built : IsBuiltOf c.in_ok-set.set syntax definitions = record { links = c.in_ok-set.ensures.linked; place = 0; among = among; plain = plain } in
+    let built : IsSyntaxOfBuilt c.in_ok-set.set syntax definitions = record { links = c.in_ok-set.ensures.linked; place = 0; among = among; plain = plain } in
     let stay : StaysInStart c.in_ok-set.set syntax = stays c.in_ok-set.set syntax c.in_ok-set.ensures.linked among in
     let one = c.in_ok-highlight_line.ensures.answered (none definitions theme syntax) (record { built = built; leads = c.in_ok-lines.ensures.leads c.in_ok-set.set }) in
     let p = err_from_is_err_and c.from_residual-in_err-highlight_line-2.result c.from_residual-in_err-highlight_line-2.ensures.1 in
@@ -140,7 +140,7 @@ returns-in_err-highlight_line-3-clause-refused c = λ plain names stays.
     let definitions : List SyntaxDefinition = definitions_in c.args.builder in
     let syntax = c.in-Some.syntax.now in
     let among : slice_get (syntaxes_in c.in_ok-set.set) 0 ≡ Some syntax = sym (c.in-Some.ensures.value ∙ ap (λ xs. slice_get xs 0) c.syntaxes.ensures) in
-    let built : IsBuiltOf c.in_ok-set.set syntax definitions = record { links = c.in_ok-set.ensures.linked; place = 0; among = among; plain = plain } in
+    let built : IsSyntaxOfBuilt c.in_ok-set.set syntax definitions = record { links = c.in_ok-set.ensures.linked; place = 0; among = among; plain = plain } in
     let stay : StaysInStart c.in_ok-set.set syntax = stays c.in_ok-set.set syntax c.in_ok-set.ensures.linked among in
     let one = c.in_ok-highlight_line.ensures.answered (none definitions theme syntax) (record { built = built; leads = c.in_ok-lines.ensures.leads c.in_ok-set.set }) in
     let two = c.in_ok-highlight_line-2.ensures.answered _ one.1 in

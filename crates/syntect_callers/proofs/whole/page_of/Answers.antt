@@ -1,9 +1,9 @@
 use Rattle.std.proofs.Common.{◌≡◌, zero, suc, true, [], ◌∷◌, ◌++◌, List, None, Ok, sym, ap, ◌∙◌, arith}
 use Rattle.std.specs.Prelude.{slice_get, All}
-use Rattle.syntect_grammar.specs.Link.{definitions_in, linked, syntaxes_in}
-use Rattle.syntect_loader.specs.Loading.{loaded}
-use Rattle.syntect_loader.specs.declared.definition.SyntaxDefinition.{SyntaxDefinition}
-use Rattle.syntect.specs.Built.{IsPlain, IsBuiltOf}
+use Rattle.syntect_callers.specs.syntect_grammar.Link.{definitions_in, linked, syntaxes_in}
+use Rattle.syntect_callers.specs.syntect_grammar_loader.Loading.{loaded}
+use Rattle.syntect_callers.specs.syntect_grammar_loader.declared.definition.SyntaxDefinition.{SyntaxDefinition}
+use Rattle.syntect_easy.specs.Built.{IsPlain, IsSyntaxOfBuilt}
 use Rattle.syntect_callers.proofs.whole.page_of.Goals as goal
 
 one_plain : (d : SyntaxDefinition) → IsPlain d → All IsPlain (d ∷ [])
@@ -18,7 +18,7 @@ returns c =
     let loads : loaded c.args.grammar.now true None c.args.repository.now ≡ Ok (d, left) = c.in-Ok.ensures.value in
     let held : definitions_in c.add.new.self ≡ d ∷ [] = c.in_ok-add.ensures.ok ∙ ap (λ (ds : List SyntaxDefinition). ds ++ d ∷ []) c.new-builder.ensures.definitions in
     let is : syntaxes_in c.in_ok-set.set ≡ linked (d ∷ []) = c.in_ok-set.ensures.linked ∙ ap linked held in
-    let built : IsBuiltOf c.in_ok-set.set syntax (d ∷ []) = record {
+    let built : IsSyntaxOfBuilt c.in_ok-set.set syntax (d ∷ []) = record {
       links = is;
       place = 0;
       among = sym (c.in-Some.ensures.value ∙ ap (λ xs. slice_get xs 0) c.syntaxes.ensures);

@@ -1,16 +1,16 @@
 use Rattle.std.proofs.Common.{◌≡◌, ℕ, zero, suc, true, [], ◌∷◌, ◌++◌, List, Option, Some, None, Ok, Err, Result, Bor, sym, ap, subst, ◌∙◌, arith}
 use Rattle.std.specs.Global.{Vec}
 use Rattle.std.specs.Prelude.{All, IfOk, IfErr, IfSome}
-use Rattle.syntect_grammar.specs.Link.{definitions_in}
-use Rattle.syntect_parsing.specs.Refusals.{AreByName}
-use Rattle.syntect_loader.specs.declared.definition.SyntaxDefinition.{SyntaxDefinition}
-use Rattle.syntect_contexts.specs.declared.syntax_reference.SyntaxReference.{SyntaxReference}
-use Rattle.syntect_grammar.specs.declared.syntax_set.SyntaxSet.{SyntaxSet}
-use Rattle.syntect_grammar.specs.declared.error.Error.{Error}
-use Rattle.syntect_grammar.specs.declared.error.Error.TheVariants as error
-use Rattle.syntect_theme.specs.declared.style.Style.{Style}
-use Rattle.syntect_theme.specs.declared.theme.Theme.{Theme}
-use Rattle.syntect.specs.Built.{IsPlain, IsLoaded, IsBuiltOf, StaysInStart}
+use Rattle.syntect_callers.specs.syntect_grammar.Link.{definitions_in}
+use Rattle.syntect_callers.specs.syntect_parsing.Refusals.{AreByName}
+use Rattle.syntect_callers.specs.syntect_grammar_loader.declared.definition.SyntaxDefinition.{SyntaxDefinition}
+use Rattle.syntect_callers.specs.syntect_grammar_contexts.declared.syntax_reference.SyntaxReference.{SyntaxReference}
+use Rattle.syntect_callers.specs.syntect_grammar.declared.syntax_set.SyntaxSet.{SyntaxSet}
+use Rattle.syntect_callers.specs.syntect_grammar.declared.error.Error.{Error}
+use Rattle.syntect_callers.specs.syntect_grammar.declared.error.Error.TheVariants as error
+use Rattle.syntect_callers.specs.syntect_theme.declared.style.Style.{Style}
+use Rattle.syntect_callers.specs.syntect_theme.declared.theme.Theme.{Theme}
+use Rattle.syntect_easy.specs.Built.{IsPlain, IsLoaded, IsSyntaxOfBuilt, StaysInStart}
 use Rattle.syntect_callers.specs.Third.{FirstStays, IsRefusal, IsThird}
 use Rattle.syntect_callers.specs.Grammars.{Load, IsThirdOf, IsRefusalOf}
 use Rattle.syntect_callers.proofs.whole.third_line_of.Goals as goal
@@ -63,7 +63,7 @@ module _ (repository : List (List ℕ)) (g h : List ℕ) (l : Load repository g 
         = subst (λ (es : List SyntaxDefinition). All IsPlain es → AreByName es → FirstStays es → IfErr r (IsRefusal es lines)) f k in
         refused r (two plain by_name stays)
 
-  first_stays : All IsPlain both → ((set : SyntaxSet) (syntax : SyntaxReference) (definitions : List SyntaxDefinition) → IsBuiltOf set syntax definitions → All IsLoaded definitions → StaysInStart set syntax) → FirstStays both
+  first_stays : All IsPlain both → ((set : SyntaxSet) (syntax : SyntaxReference) (definitions : List SyntaxDefinition) → IsSyntaxOfBuilt set syntax definitions → All IsLoaded definitions → StaysInStart set syntax) → FirstStays both
   first_stays plain stay set syntax is m = stay set syntax both (record { links = is; place = 0; among = m; plain = plain }) two_loaded
 
 pub returns-clause-pieces : goal.returns-clause-pieces

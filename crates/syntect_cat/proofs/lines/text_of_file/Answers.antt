@@ -1,6 +1,6 @@
 use Rattle.std.proofs.Common.{string_bytes}
 use Rattle.std.specs.Path.{path_bytes}
-use Rattle.syntect.proofs.FileLaws.{built_within}
+use Rattle.syntect_easy.proofs.FileLaws.{built_within}
 use Rattle.syntect_cat.proofs.TextLaws.{file_text}
 use Rattle.syntect_cat.proofs.lines.text_of_file.Goals as goal
 

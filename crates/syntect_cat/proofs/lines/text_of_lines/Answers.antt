@@ -1,9 +1,9 @@
 use Rattle.std.proofs.Common.{◌++◌, List, [], ℕ, refl, sym, ap, ◌∙◌, append-nil, string_bytes, Bor}
-use Rattle.syntect_theme.specs.declared.style.Style.{Style}
-use Rattle.syntect_writers.specs.declared.html.IncludeBackground.{IncludeBackground}
+use Rattle.syntect_cat.specs.syntect_theme.declared.style.Style.{Style}
+use Rattle.syntect_cat.specs.syntect_writers.declared.html.IncludeBackground.{IncludeBackground}
 use Rattle.std.specs.Prelude.{Option}
-use Rattle.syntect.specs.Pages.{past_of}
-use Rattle.syntect.specs.PlainLines.{rows_in}
+use Rattle.syntect_easy.specs.Pages.{past_of}
+use Rattle.syntect_easy.specs.PlainLines.{rows_in}
 use Rattle.syntect_cat.specs.Texts.{end_of, front_of, ground_of, line_of}
 use Rattle.syntect_cat.proofs.TextLaws.{gives_more, gives_nothing, line_more, text_whole}
 use Rattle.syntect_cat.proofs.lines.text_of_lines.Goals as goal

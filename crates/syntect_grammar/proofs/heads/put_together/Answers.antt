@@ -1,7 +1,7 @@
 use Rattle.std.proofs.Common.{arith, ◌≡◌, ◌∙◌, ⊎_elim, length, map, refl}
 use Rattle.std.proofs.lemmas.Grind.{common_steps}
-use Rattle.syntect_linker.specs.Gifts.{whole}
-use Rattle.syntect_linker.proofs.LinkLaws.{first_ends, second_ends}
+use Rattle.syntect_grammar_linker.specs.Gifts.{whole}
+use Rattle.syntect_grammar_linker.proofs.LinkLaws.{first_ends, second_ends}
 use Rattle.syntect_grammar.proofs.heads.put_together.Goals as goal
 
 pub returns : goal.returns

@@ -1,5 +1,5 @@
 use Rattle.std.proofs.Common.{◌≡◌, ◌++◌}
-use Rattle.syntect_linker.specs.Gifts.{put_together}
+use Rattle.syntect_grammar_linker.specs.Gifts.{put_together}
 use Rattle.syntect_grammar.proofs.heads.put_together.Given as goal
 
 abbrev pub invariant-loop-head : goal.invariant-loop-head

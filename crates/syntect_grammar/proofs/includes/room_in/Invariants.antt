@@ -1,5 +1,5 @@
 use Rattle.std.proofs.Common.{◌≡◌, ◌+◌, ◌*◌, ◌≤◌, map, drop}
-use Rattle.syntect_contexts.specs.Contexts.{count_contexts}
+use Rattle.syntect_grammar.specs.syntect_grammar_contexts.Contexts.{count_contexts}
 use Rattle.syntect_grammar.specs.Patterns.{room_in}
 use Rattle.syntect_grammar.proofs.includes.room_in.Given as goal
 

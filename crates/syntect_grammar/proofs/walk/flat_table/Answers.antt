@@ -1,7 +1,7 @@
 use Rattle.std.proofs.Common.{[], ◌∷◌, List, Option, length, ap, sym, subst, arith, length-append}
 use Rattle.syntect_grammar.specs.Contexts.{set_of}
 use Rattle.syntect_grammar.specs.Flats.{IsTableOf}
-use Rattle.syntect_flats.specs.declared.flats.Flat.{Flat}
+use Rattle.syntect_grammar_lists.specs.declared.flats.Flat.{Flat}
 use Rattle.syntect_grammar.proofs.FlatLaws.{is_table, table_more}
 use Rattle.syntect_grammar.proofs.walk.flat_table.Goals as goal
 

@@ -1,7 +1,7 @@
 use Rattle.std.proofs.Common.{List, refl, subst, sym}
 use Rattle.std.proofs.lemmas.Result.{IfOk-weaker}
-use Rattle.syntect_flats.specs.Told.{AreCoarser}
-use Rattle.syntect_flats.specs.declared.flats.Flat.{Flat}
+use Rattle.syntect_grammar_lists.specs.Told.{AreCoarser}
+use Rattle.syntect_grammar_lists.specs.declared.flats.Flat.{Flat}
 use Rattle.syntect_grammar.specs.Contexts.{set_of}
 use Rattle.syntect_grammar.specs.Flats.{AreFlatsOf}
 use Rattle.syntect_grammar.proofs.FlatLaws.{coarser_flats}

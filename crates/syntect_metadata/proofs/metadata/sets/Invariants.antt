@@ -1,5 +1,5 @@
 use Rattle.std.proofs.Common.{◌≡◌, length, take}
-use Rattle.syntect_scope.specs.Repository.{IsRepository}
+use Rattle.syntect_metadata.specs.syntect_scope.Repository.{IsRepository}
 use Rattle.syntect_metadata.proofs.SetLaws.{Reads}
 use Rattle.syntect_metadata.proofs.metadata.sets.Given as goal
 

@@ -1,5 +1,5 @@
 use Rattle.std.proofs.Common.{refl, arith}
-use Rattle.syntect_parsing.specs.Candidates.{live_of}
+use Rattle.syntect_parsing.specs.MatchViews.{live_of}
 use Rattle.syntect_parsing.proofs.CapturedLaws.{no_marks, unlisted, found_marks}
 use Rattle.syntect_parsing.proofs.captures.capture_marks.Goals as goal
 

@@ -1,9 +1,9 @@
 use Rattle.std.proofs.Common.{◌≡◌, ◌++◌, map, drop}
 use Rattle.std.specs.List.{flat_map, filter_map}
-use Rattle.syntect_winner.specs.Engine.{dialect}
-use Rattle.syntect_winner.specs.Turn.{group_at}
+use Rattle.syntect_reading_choice.specs.Engine.{dialect}
+use Rattle.syntect_reading_choice.specs.Turn.{group_at}
 use Rattle.syntect_parsing.specs.Scopes.{effect}
-use Rattle.syntect_parsing.specs.Candidates.{live_of, seen_mark, marks_of}
+use Rattle.syntect_parsing.specs.MatchViews.{live_of, seen_mark, marks_of}
 use Rattle.syntect_parsing.proofs.captures.collect_marks.Given as goal
 
 abbrev pub invariant-loop-group : goal.invariant-loop-group

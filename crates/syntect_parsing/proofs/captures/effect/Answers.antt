@@ -1,5 +1,5 @@
 use Rattle.std.proofs.Common.{true, false, sym, ◌∙◌}
-use Rattle.syntect_parsing.specs.Candidates.{live_of}
+use Rattle.syntect_parsing.specs.MatchViews.{live_of}
 use Rattle.syntect_parsing.proofs.CapturedLaws.{effect_is}
 use Rattle.syntect_parsing.proofs.captures.effect.Goals as goal
 

@@ -1,6 +1,6 @@
 use Rattle.std.proofs.Common.{◌≡◌, ◌++◌, drop, map}
 use Rattle.std.specs.List.{flat_map}
-use Rattle.syntect_parsing.specs.Candidates.{seen_mark, mark_operations}
+use Rattle.syntect_parsing.specs.MatchViews.{seen_mark, mark_operations}
 use Rattle.syntect_parsing.proofs.emit.emit_marks.Given as goal
 
 abbrev pub invariant-loop-mark : goal.invariant-loop-mark

@@ -1,8 +1,8 @@
 use Rattle.std.proofs.Common.{◌≡◌, ◌++◌, length, ap, arith, length-append}
 use Rattle.std.specs.List.{filter_map, flat_map}
-use Rattle.syntect_contexts.specs.Contexts.{target}
+use Rattle.syntect_parsing.specs.syntect_grammar_contexts.Contexts.{target}
 use Rattle.syntect_parsing.specs.Operations.{opens_below}
-use Rattle.syntect_openings.proofs.OpenLaws.{metas_few}
+use Rattle.syntect_parsing.proofs.syntect_reading_state_proofs.OpenLaws.{metas_few}
 use Rattle.syntect_parsing.proofs.emit.emit_push.Goals as goal
 
 pub count_metas-requires : goal.count_metas-requires

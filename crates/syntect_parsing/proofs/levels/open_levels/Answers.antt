@@ -1,6 +1,6 @@
 use Rattle.std.proofs.Common.{◌≡◌, [], drop, sym, arith}
 use Rattle.std.proofs.lemmas.List.{append-nil}
-use Rattle.syntect_winner.proofs.ListLaws.{drop_past}
+use Rattle.syntect_reading_choice.proofs.ListLaws.{drop_past}
 use Rattle.syntect_parsing.proofs.levels.open_levels.Goals as goal
 
 pub returns : goal.returns

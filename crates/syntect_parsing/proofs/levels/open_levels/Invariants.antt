@@ -1,8 +1,8 @@
 use Rattle.std.proofs.Common.{◌≡◌, ◌++◌, drop}
 use Rattle.std.specs.Option.{option_and_then}
-use Rattle.syntect_contexts.specs.Contexts.{target}
+use Rattle.syntect_parsing.specs.syntect_grammar_contexts.Contexts.{target}
 use Rattle.syntect_parsing.specs.Turn.{new_levels}
-use Rattle.syntect_parsing.specs.Candidates.{opening_by}
+use Rattle.syntect_parsing.specs.MatchViews.{opening_by}
 use Rattle.syntect_parsing.proofs.levels.open_levels.Given as goal
 
 abbrev pub invariant-loop-i : goal.invariant-loop-i

@@ -1,4 +1,4 @@
-use Rattle.syntect_contexts.proofs.SubstitutionLaws.{boundaries_of_same}
+use Rattle.syntect_parsing.proofs.syntect_grammar_contexts_proofs.SubstitutionLaws.{boundaries_of_same}
 use Rattle.syntect_parsing.proofs.levels.opening_by.Goals as goal
 
 pub new-requires : goal.new-requires

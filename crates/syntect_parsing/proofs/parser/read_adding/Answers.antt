@@ -1,5 +1,5 @@
 use Rattle.std.proofs.Common.{◌+◌, ◌-◌, ℕ, ap, ◌∙◌, arith, subst, sym, ◌≡◌}
-use Rattle.syntect_base.specs.Limiting.{IsWithinLimit}
+use Rattle.syntect_parsing.specs.syntect_base.Limiting.{IsWithinLimit}
 use Rattle.syntect_parsing.specs.Within.{ReachesLimit}
 use Rattle.syntect_parsing.proofs.WorkLaws.{steps_since, most_since}
 use Rattle.syntect_parsing.proofs.WithinLaws.{few_steps, reaches-limit, unless_stopped}

@@ -1,7 +1,7 @@
 use Rattle.std.proofs.Common.{◌≡◌, ◌+◌, arith, false, length, refl, rules}
-use Rattle.syntect_meter.proofs.MeterLaws.{advances-none, advances-on}
-use Rattle.syntect_winner.specs.Engine.{dialect}
-use Rattle.syntect_winner.proofs.Finds.{finds_in_order}
+use Rattle.syntect_parsing.proofs.syntect_count_proofs.MeterLaws.{advances-none, advances-on}
+use Rattle.syntect_reading_choice.specs.Engine.{dialect}
+use Rattle.syntect_reading_choice.proofs.Finds.{finds_in_order}
 use Rattle.syntect_parsing.specs.Line.{here}
 use Rattle.syntect_parsing.proofs.Falls.{goes_falls}
 use Rattle.syntect_parsing.proofs.BoundLaws.{count-end, count-passed, count-refused, count-bound, count-told}

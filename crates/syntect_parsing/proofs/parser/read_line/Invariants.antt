@@ -1,7 +1,7 @@
 use Rattle.std.proofs.Common.{◌-◌}
-use Rattle.syntect_base.specs.Limiting.{IsWithinLimit}
-use Rattle.syntect_meter.specs.Meter.{Advances}
-use Rattle.syntect_winner.specs.Memory.{Remembers}
+use Rattle.syntect_parsing.specs.syntect_base.Limiting.{IsWithinLimit}
+use Rattle.syntect_parsing.specs.syntect_count.Meter.{Advances}
+use Rattle.syntect_reading_choice.specs.Memory.{Remembers}
 use Rattle.syntect_parsing.specs.Step.{turns_left}
 use Rattle.syntect_parsing.proofs.Runs.{ReadSoFar}
 use Rattle.syntect_parsing.proofs.WithinLaws.{LevelsSoFar}

@@ -1,9 +1,9 @@
 use Rattle.std.proofs.Common.{rules, ◌≡◌, sym, ◌+◌, ◌≤◌, List, length, subst, map, find, ap, ◌∙◌}
 use Rattle.std.specs.List.{flat_map}
-use Rattle.syntect_winner.specs.Chain.{Member, chain_at}
-use Rattle.syntect_winner.specs.Parts.{seen_part, part_members}
-use Rattle.syntect_winner.specs.Steps.{ArePutWithin, AreWithin, turn_work}
-use Rattle.syntect_winner.proofs.PartLaws.{parts_make_chain}
+use Rattle.syntect_reading_choice.specs.Chain.{Member, chain_at}
+use Rattle.syntect_reading_choice.specs.Parts.{seen_part, part_members}
+use Rattle.syntect_reading_choice.specs.Steps.{ArePutWithin, AreWithin, turn_work}
+use Rattle.syntect_reading_choice.proofs.PartLaws.{parts_make_chain}
 use Rattle.syntect_parsing.proofs.ChainLaws.{chain_wins, chain_steps}
 use Rattle.syntect_parsing.proofs.WorkLaws.{chain_known}
 use Rattle.syntect_parsing.proofs.turn.best_match.Goals as goal

@@ -1,4 +1,4 @@
-use Rattle.syntect_parsing.specs.Candidates.{live_of}
+use Rattle.syntect_parsing.specs.MatchViews.{live_of}
 use Rattle.syntect_parsing.proofs.CapturedLaws.{captures_laid_out, captures_on_boundaries}
 use Rattle.syntect_parsing.proofs.TakeLaws.{take_makes}
 use Rattle.syntect_parsing.proofs.turn.take.Goals as goal

@@ -1,10 +1,10 @@
 use Rattle.std.proofs.Common.{◌≡◌, true, sym, ◌∙◌, ap}
-use Rattle.syntect_winner.specs.Candidates.{seen, chosen}
-use Rattle.syntect_winner.specs.Chain.{last}
-use Rattle.syntect_winner.specs.Engine.{dialect}
-use Rattle.syntect_winner.specs.Found.{StandsIn}
-use Rattle.syntect_winner.specs.Turn.{Live, Take, Skip}
-use Rattle.syntect_parsing.specs.Candidates.{live_with}
+use Rattle.syntect_reading_choice.specs.ChoiceViews.{live_from, choice_view}
+use Rattle.syntect_reading_choice.specs.Chain.{last}
+use Rattle.syntect_reading_choice.specs.Engine.{dialect}
+use Rattle.syntect_reading_choice.specs.Found.{StandsIn}
+use Rattle.syntect_reading_choice.specs.Turn.{Live, Take, Skip}
+use Rattle.syntect_parsing.specs.MatchViews.{live_with}
 use Rattle.syntect_parsing.specs.Line.{step, turn_on}
 use Rattle.syntect_parsing.specs.Orderly.{is_orderly}
 use Rattle.syntect_parsing.specs.Step.{RefusesStep, RefusesTurn}
@@ -25,9 +25,9 @@ invariant_of-taken c =
     let stands : StandsIn c.args.line.now c.trim.new.p.place c.in-Take.m.now.start c.in-Take.m.now.end = rw c.in-Take.is at
     (choice_stands c.dialect_finds_in_text.ensures c.args.set.now c.args.line.now c.utf8.line c.trim.new.p c.choose.result
     (c.choose.ensures.chosen ∙ c.in-Ok.ensures.wins)) in
-    let found : c.best_match.new.regions.best ≡ (seen c.args.line.now c.trim.new.p.place c.in-Take.m.now).groups =
+    let found : c.best_match.new.regions.best ≡ (live_from c.args.line.now c.trim.new.p.place c.in-Take.m.now).groups =
     groups_taken c.args.line.now c.trim.new.p.place c.in-Ok.found c.in-Take.m.now c.best_match.new.regions.best
-    (ap (chosen c.args.line.now c.trim.new.p.place) (sym c.in-Take.is) ∙ c.choose.ensures.chosen) c.in-Ok.ensures.groups in
+    (ap (choice_view c.args.line.now c.trim.new.p.place) (sym c.in-Take.is) ∙ c.choose.ensures.chosen) c.in-Ok.ensures.groups in
     record {
       text = c.utf8.line;
       ordered = stands.ordered;
@@ -41,37 +41,37 @@ take-requires-clause-from c = record {
       (choice_stands c.dialect_finds_in_text.ensures c.args.set.now c.args.line.now c.utf8.line c.trim.new.p c.choose.result
       (c.choose.ensures.chosen ∙ c.in-Ok.ensures.wins));
   found = groups_taken c.args.line.now c.trim.new.p.place c.in-Ok.found c.in-Take.m.now c.best_match.new.regions.best
-      (ap (chosen c.args.line.now c.trim.new.p.place) (sym c.in-Take.is) ∙ c.choose.ensures.chosen) c.in-Ok.ensures.groups;
+      (ap (choice_view c.args.line.now c.trim.new.p.place) (sym c.in-Take.is) ∙ c.choose.ensures.chosen) c.in-Ok.ensures.groups;
 }
 
 pub returns-in-Ok-take-clause-turns : goal.returns-in-Ok-take-clause-turns
 returns-in-Ok-take-clause-turns c =
-    let found : c.best_match.new.regions.best ≡ (seen c.args.line.now c.trim.new.p.place c.in-Take.m.now).groups =
+    let found : c.best_match.new.regions.best ≡ (live_from c.args.line.now c.trim.new.p.place c.in-Take.m.now).groups =
     groups_taken c.args.line.now c.trim.new.p.place c.in-Ok.found c.in-Take.m.now c.best_match.new.regions.best
-    (ap (chosen c.args.line.now c.trim.new.p.place) (sym c.in-Take.is) ∙ c.choose.ensures.chosen) c.in-Ok.ensures.groups in
+    (ap (choice_view c.args.line.now c.trim.new.p.place) (sym c.in-Take.is) ∙ c.choose.ensures.chosen) c.in-Ok.ensures.groups in
     turn_makes c.args.set.now c.args.line.now c.args.p.now c.trim.new.p c.trim.ensures
     (is_orderly c.args.set.now c.trim.new.p.levels c.in-Take.m.now.pattern.now.operation ≡ true)
     (step dialect c.args.set.now c.args.line.now c.trim.new.p (Take (live_with c.in-Take.m.now c.best_match.new.regions.best)))
     c.take.new.p c.args.ops.now.items c.take.new.ops.items
-    (taken_orderly c.args.set.now c.args.line.now c.args.p.now c.trim.new.p c.choose.result (seen c.args.line.now c.trim.new.p.place c.in-Take.m.now) c.trim.ensures
-    (c.choose.ensures.chosen ∙ c.in-Ok.ensures.wins) (ap (chosen c.args.line.now c.trim.new.p.place) c.in-Take.is))
+    (taken_orderly c.args.set.now c.args.line.now c.args.p.now c.trim.new.p c.choose.result (live_from c.args.line.now c.trim.new.p.place c.in-Take.m.now) c.trim.ensures
+    (c.choose.ensures.chosen ∙ c.in-Ok.ensures.wins) (ap (choice_view c.args.line.now c.trim.new.p.place) c.in-Take.is))
     (step_chosen c.args.set.now c.args.line.now c.trim.new.p c.in-Ok.found c.choose.result (turn_on dialect c.args.set.now c.args.line.now c.trim.new.p (last c.trim.new.p.levels)) c.in-Ok.ensures.chosen
     c.choose.ensures.chosen
-    ∙ ap (λ x. step dialect c.args.set.now c.args.line.now c.trim.new.p (chosen c.args.line.now c.trim.new.p.place x)) c.in-Take.is
+    ∙ ap (λ x. step dialect c.args.set.now c.args.line.now c.trim.new.p (choice_view c.args.line.now c.trim.new.p.place x)) c.in-Take.is
     ∙ ap (λ (m : Live). step dialect c.args.set.now c.args.line.now c.trim.new.p (Take m)) (seen_with c.args.line.now c.trim.new.p.place c.in-Take.m.now c.best_match.new.regions.best found))
     c.in-Ok-take.ensures.makes
 
 pub returns-in-Take-clause-refused : goal.returns-in-Take-clause-refused
 returns-in-Take-clause-refused c =
-    let found : c.best_match.new.regions.best ≡ (seen c.args.line.now c.trim.new.p.place c.in-Take.m.now).groups =
+    let found : c.best_match.new.regions.best ≡ (live_from c.args.line.now c.trim.new.p.place c.in-Take.m.now).groups =
     groups_taken c.args.line.now c.trim.new.p.place c.in-Ok.found c.in-Take.m.now c.best_match.new.regions.best
-    (ap (chosen c.args.line.now c.trim.new.p.place) (sym c.in-Take.is) ∙ c.choose.ensures.chosen) c.in-Ok.ensures.groups in
+    (ap (choice_view c.args.line.now c.trim.new.p.place) (sym c.in-Take.is) ∙ c.choose.ensures.chosen) c.in-Ok.ensures.groups in
     turn_refused_by c.args.set.now c.args.line.now c.args.p.now c.trim.new.p c.trim.ensures
     (step dialect c.args.set.now c.args.line.now c.trim.new.p (Take (live_with c.in-Take.m.now c.best_match.new.regions.best)))
     c.in-Err-take.e
     (step_chosen c.args.set.now c.args.line.now c.trim.new.p c.in-Ok.found c.choose.result (turn_on dialect c.args.set.now c.args.line.now c.trim.new.p (last c.trim.new.p.levels)) c.in-Ok.ensures.chosen
     c.choose.ensures.chosen
-    ∙ ap (λ x. step dialect c.args.set.now c.args.line.now c.trim.new.p (chosen c.args.line.now c.trim.new.p.place x)) c.in-Take.is
+    ∙ ap (λ x. step dialect c.args.set.now c.args.line.now c.trim.new.p (choice_view c.args.line.now c.trim.new.p.place x)) c.in-Take.is
     ∙ ap (λ (m : Live). step dialect c.args.set.now c.args.line.now c.trim.new.p (Take m)) (seen_with c.args.line.now c.trim.new.p.place c.in-Take.m.now c.best_match.new.regions.best found))
     c.in-Err-take.ensures.refused
 
@@ -85,7 +85,7 @@ returns-in-Skip-clause-turns c =
     (λ o. tt)
     (step_chosen c.args.set.now c.args.line.now c.trim.new.p c.in-Ok.found c.choose.result (turn_on dialect c.args.set.now c.args.line.now c.trim.new.p (last c.trim.new.p.levels)) c.in-Ok.ensures.chosen
     c.choose.ensures.chosen
-    ∙ ap (λ x. step dialect c.args.set.now c.args.line.now c.trim.new.p (chosen c.args.line.now c.trim.new.p.place x)) c.in-Skip.is)
+    ∙ ap (λ x. step dialect c.args.set.now c.args.line.now c.trim.new.p (choice_view c.args.line.now c.trim.new.p.place x)) c.in-Skip.is)
     (rw moved (skip_makes c.args.set.now c.args.line.now c.trim.new.p c.args.ops.now.items c.utf8.line (rw c.trim.ensures c.requires.boundary)
     (rw c.in-Skip.is at
     (choice_stands c.dialect_finds_in_text.ensures c.args.set.now c.args.line.now c.utf8.line c.trim.new.p c.choose.result
@@ -96,4 +96,4 @@ returns-clause-turns c =
     turn_ends c.args.set.now c.args.line.now c.args.p.now c.trim.new.p c.trim.ensures c.args.ops.now.items c.requires.boundary.0
     (step_chosen c.args.set.now c.args.line.now c.trim.new.p c.in-Ok.found c.choose.result (turn_on dialect c.args.set.now c.args.line.now c.trim.new.p (last c.trim.new.p.levels)) c.in-Ok.ensures.chosen
     c.choose.ensures.chosen
-    ∙ ap (λ x. step dialect c.args.set.now c.args.line.now c.trim.new.p (chosen c.args.line.now c.trim.new.p.place x)) c.in-End.is)
+    ∙ ap (λ x. step dialect c.args.set.now c.args.line.now c.trim.new.p (choice_view c.args.line.now c.trim.new.p.place x)) c.in-End.is)

@@ -1,5 +1,5 @@
 use Rattle.std.proofs.Common.{List, ℕ, sym, subst}
-use Rattle.syntect_letters.specs.Letters.{letters_tree}
+use Rattle.syntect_pattern.specs.Letters.{letters_tree}
 use Rattle.syntect_pattern_table.specs.Lengths.{HasLengths}
 use Rattle.syntect_pattern_table.proofs.lengths.+before_rest.Goals as goal
 

@@ -2,7 +2,7 @@ use Rattle.std.proofs.Common.{◌≡◌, ℕ, List, None, true, length, get_or, 
 use Rattle.std.proofs.lemmas.Bool.{and_parts, ltb-true}
 use Rattle.syntect_pattern.specs.Trees.{nothing}
 use Rattle.syntect_pattern_table.specs.Table.{node_tree, parts_before}
-use Rattle.syntect_letters.specs.Letters.{letters_tree}
+use Rattle.syntect_pattern.specs.Letters.{letters_tree}
 use Rattle.syntect_pattern_table.specs.Lengths.{HasLengths}
 use Rattle.syntect_pattern_table.specs.declared.lengths.Lengths.{Lengths}
 use Rattle.syntect_pattern_table.specs.declared.node.Node.{Node}

@@ -1,7 +1,7 @@
 use Rattle.std.proofs.Common.{◌≡◌, ◌-◌, ◌∙◌, ℕ, suc, Bool, List, Option, Some, None, get_or, ap, subst, arith}
 use Rattle.std.specs.Prelude.{option_and_then}
-use Rattle.syntect_pattern.specs.Trees.{group_in_look}
-use Rattle.syntect_pattern.specs.Pattern.{pattern_tree}
+use Rattle.syntect_regex.specs.syntect_pattern.Trees.{group_in_look}
+use Rattle.syntect_regex.specs.syntect_pattern.Pattern.{pattern_tree}
 use Rattle.syntect_regex.specs.Details.{KnowsGroups}
 use Rattle.syntect_regex.proofs.details.group_among.Goals as goal
 

@@ -1,6 +1,6 @@
 use Rattle.std.proofs.Common.{get_or}
-use Rattle.syntect_pattern.specs.Trees.{nothing}
-use Rattle.syntect_pattern_table.specs.Program.{trees_of}
+use Rattle.syntect_regex.specs.syntect_pattern.Trees.{nothing}
+use Rattle.syntect_regex.specs.syntect_pattern_table.Program.{trees_of}
 use Rattle.syntect_regex.specs.Begins.{IsAtEdges}
 use Rattle.syntect_regex.proofs.edges.is_at_edges.Given as goal
 

@@ -1,7 +1,7 @@
 use Rattle.std.proofs.Common.{◌≡◌, ◌+◌, ◌-◌, [], ℕ, suc, Bool, Some, None, false, List, Option, length, get_or, ap, subst, sym, arith, ◌∙◌, replicate, length-set}
 use Rattle.std.proofs.lemmas.List.{length-replicate}
-use Rattle.syntect_pattern.specs.Trees.{Tree}
-use Rattle.syntect_pattern_table.specs.Table.{trees}
+use Rattle.syntect_regex.specs.syntect_pattern.Trees.{Tree}
+use Rattle.syntect_regex.specs.syntect_pattern_table.Table.{trees}
 use Rattle.syntect_regex.specs.Looks.{NoGroupBefore, joined, marked, met_before, met_in}
 use Rattle.syntect_regex.proofs.MarkLaws.{get-none, joined-none, met-whole, first_marked, no_group-whole, unmet, unmet-before}
 use Rattle.syntect_regex.proofs.looks.looks_of.Goals as goal

@@ -1,6 +1,6 @@
 use Rattle.std.proofs.Common.{◌≡◌, ◌≤◌, ◌+◌, ℕ, Some, None, false, length, get_or}
-use Rattle.syntect_pattern_table.specs.Table.{trees}
-use Rattle.syntect_pattern_table.specs.Builder.{tree_in}
+use Rattle.syntect_regex.specs.syntect_pattern_table.Table.{trees}
+use Rattle.syntect_regex.specs.syntect_pattern_table.Builder.{tree_in}
 use Rattle.syntect_regex.specs.Looks.{joined, met_in, met_before}
 use Rattle.syntect_regex.proofs.looks.looks_of.Given as goal
 

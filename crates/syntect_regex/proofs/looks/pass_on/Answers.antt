@@ -1,7 +1,7 @@
 use Rattle.std.proofs.Common.{◌≡◌, ◌≤◌, Bool, List, Option, Some, None, length, get_or, refl, sym, ◌∙◌, ap, arith}
-use Rattle.syntect_pattern_table.specs.Table.{trees}
+use Rattle.syntect_regex.specs.syntect_pattern_table.Table.{trees}
 use Rattle.syntect_regex.specs.Looks.{joined, met_before}
-use Rattle.syntect_pattern_table.proofs.LookLaws.{tree-is, parts-are}
+use Rattle.syntect_regex.proofs.syntect_pattern_table_proofs.LookLaws.{tree-is, parts-are}
 use Rattle.syntect_regex.proofs.MarkLaws.{step_marked, step_unmarked}
 use Rattle.syntect_regex.proofs.looks.pass_on.Goals as goal
 

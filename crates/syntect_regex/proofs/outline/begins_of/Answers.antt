@@ -1,6 +1,6 @@
 use Rattle.std.proofs.Common.{Option, subst}
-use Rattle.syntect_pattern_reader.specs.Compiled.{Compiles}
-use Rattle.syntect_pattern_table.specs.declared.program.Program.{Program}
+use Rattle.syntect_regex.specs.syntect_pattern_compile.Compiled.{Compiles}
+use Rattle.syntect_regex.specs.syntect_pattern_table.declared.program.Program.{Program}
 use Rattle.syntect_regex.proofs.BeginLaws.{none-outside}
 use Rattle.syntect_regex.proofs.outline.begins_of.Goals as goal
 

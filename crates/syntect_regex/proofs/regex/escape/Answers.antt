@@ -5,7 +5,7 @@ use Rattle.std.specs.Str.Iter.{chars_rest}
 use Rattle.std.proofs.lemmas.Str.{IsUtf8-past_char, encodes-append}
 use Rattle.std.proofs.lemmas.List.{append_assoc}
 use Rattle.syntect_regex.specs.Escape.{escaped_char}
-use Rattle.syntect_ways.proofs.TextLaws.{chars-next, chars-over}
+use Rattle.syntect_regex.proofs.syntect_pattern_steps_proofs.TextLaws.{chars-next, chars-over}
 use Rattle.syntect_regex.proofs.regex.escape.Goals as goal
 
 pub loop-c-preserved : goal.loop-c-preserved

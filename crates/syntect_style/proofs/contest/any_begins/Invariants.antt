@@ -1,6 +1,6 @@
 use Rattle.std.proofs.Common.{◌≡◌, drop}
 use Rattle.std.specs.List.{list_any}
-use Rattle.syntect_scope.specs.Atoms.{is_prefix}
+use Rattle.syntect_style.specs.syntect_scope.Atoms.{is_prefix}
 use Rattle.syntect_style.proofs.contest.any_begins.Given as goal
 
 abbrev pub invariant-loop-rule : goal.invariant-loop-rule

@@ -1,6 +1,6 @@
 use Rattle.std.proofs.Common.{◌≡◌, ◌++◌, drop, map}
 use Rattle.std.specs.List.{filter_map}
-use Rattle.syntect_scope.specs.SelectorText.{sole_scope}
+use Rattle.syntect_style.specs.syntect_scope.SelectorText.{sole_scope}
 use Rattle.syntect_style.specs.Rules.{other_of, item_others, rule_from}
 use Rattle.syntect_style.proofs.ready.push_others.Given as goal
 

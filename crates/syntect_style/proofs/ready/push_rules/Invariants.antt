@@ -1,6 +1,6 @@
 use Rattle.std.proofs.Common.{◌≡◌, ◌++◌, drop}
 use Rattle.std.specs.List.{filter_map}
-use Rattle.syntect_scope.specs.SelectorText.{sole_scope}
+use Rattle.syntect_style.specs.syntect_scope.SelectorText.{sole_scope}
 use Rattle.syntect_style.specs.Rules.{rule_of, item_rules}
 use Rattle.syntect_style.proofs.ready.push_rules.Given as goal
 

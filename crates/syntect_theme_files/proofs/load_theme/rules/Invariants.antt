@@ -1,6 +1,6 @@
 use Rattle.std.proofs.Common.{◌≡◌, ◌++◌, length, take, drop}
 use Rattle.serde_json.specs.View.{items_view}
-use Rattle.syntect_scope.specs.Repository.{IsRepository}
+use Rattle.syntect_theme_files.specs.syntect_scope.Repository.{IsRepository}
 use Rattle.syntect_theme_files.specs.Loading.{rules_in, after_rules}
 use Rattle.syntect_theme_files.proofs.load_theme.rules.Given as goal
 

@@ -1,7 +1,7 @@
 use Rattle.std.proofs.Common.{◌∙◌, map}
 use Rattle.std.specs.Prelude.{string_bytes}
-use Rattle.syntect_linker.specs.Unlinked.{unlinked_of}
-use Rattle.syntect_linker.proofs.UnlinkedLaws.{more_texts}
+use Rattle.syntect_grammar_linker.specs.Unlinked.{unlinked_of}
+use Rattle.syntect_grammar_linker.proofs.UnlinkedLaws.{more_texts}
 use Rattle.syntect_grammar.proofs.syntax_set.SyntaxSet.find_unlinked_contexts.Goals as goal
 
 pub loop-syntax-preserved : goal.loop-syntax-preserved

@@ -1,7 +1,7 @@
 use Rattle.std.proofs.Common.{◌≡◌, [], map, drop}
 use Rattle.std.specs.Prelude.{string_bytes}
 use Rattle.std.specs.List.{flat_map}
-use Rattle.syntect_linker.specs.Unlinked.{unlinked_of, with_texts}
+use Rattle.syntect_grammar_linker.specs.Unlinked.{unlinked_of, with_texts}
 use Rattle.syntect_grammar.specs.Unlinked.{unlinked_in}
 use Rattle.syntect_grammar.proofs.syntax_set.SyntaxSet.find_unlinked_contexts.Given as goal
 

@@ -1,7 +1,7 @@
 use Rattle.std.proofs.Common.{ℕ, List, [], Option, subst}
 use Rattle.std.specs.Prelude.{IfSome}
 use Rattle.std.specs.Path.{path_bytes}
-use Rattle.syntect_base.specs.Walks.{GivesFile}
+use Rattle.syntect_grammar.specs.syntect_base.Walks.{GivesFile}
 use Rattle.syntect_grammar.specs.Folders.{no_more}
 use Rattle.syntect_grammar.proofs.FolderLaws.{next_added, all_added, breaks_off, not_begun, stopped}
 use Rattle.syntect_grammar.proofs.syntax_set.SyntaxSetBuilder.add_from_folder.Goals as goal

@@ -1,12 +1,12 @@
 use Rattle.std.specs.Path.{path_bytes}
-use Rattle.syntect_loader.specs.LoadingSteps.{Keeps}
+use Rattle.syntect_grammar_loader.specs.LoadingSteps.{KeepsAtoms}
 use Rattle.syntect_grammar.proofs.FolderLaws.{Added}
 use Rattle.syntect_grammar.proofs.syntax_set.SyntaxSetBuilder.add_from_folder.Given as goal
 
 abbrev pub invariant-files : goal.invariant-files
 invariant-files g l = record {
   added : Added l.lines_include_newline (path_bytes l.folder) l.fn.repository l.fn.self l.walk l.repository l.self;
-  kept : Keeps l.fn.repository l.repository;
+  kept : KeepsAtoms l.fn.repository l.repository;
 }
 
 abbrev pub decreases-files : goal.decreases-files

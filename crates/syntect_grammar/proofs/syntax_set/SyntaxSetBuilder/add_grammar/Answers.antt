@@ -1,6 +1,6 @@
 use Rattle.std.proofs.Common.{[]}
 use Rattle.syntect_grammar.specs.Folders.{at_grammar}
-use Rattle.syntect_loader.specs.Files.{refused, no_memory}
+use Rattle.syntect_grammar_loader.specs.Files.{refused, no_memory}
 use Rattle.syntect_grammar.proofs.FolderLaws.{adds_one}
 use Rattle.syntect_grammar.proofs.syntax_set.SyntaxSetBuilder.add_grammar.Goals as goal
 

@@ -1,5 +1,5 @@
 use Rattle.std.proofs.Common.{◌≢◌, ℕ, List, subst, rules}
-use Rattle.syntect_base.specs.declared.loading.LoadingError.TheVariants.{Memory}
+use Rattle.syntect_grammar.specs.syntect_base.declared.loading.LoadingError.TheVariants.{Memory}
 use Rattle.syntect_grammar.specs.Folders.{passed_over}
 use Rattle.syntect_grammar.proofs.FolderLaws.{one_entry}
 use Rattle.syntect_metadata.specs.Entries.{IsEntryOf}

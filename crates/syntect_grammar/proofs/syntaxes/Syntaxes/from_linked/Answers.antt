@@ -1,5 +1,5 @@
 use Rattle.std.proofs.Common.{List, subst}
-use Rattle.syntect_contexts.specs.declared.syntax_reference.SyntaxReference.{SyntaxReference}
+use Rattle.syntect_grammar.specs.syntect_grammar_contexts.declared.syntax_reference.SyntaxReference.{SyntaxReference}
 use Rattle.syntect_grammar.specs.Contexts.{set_of}
 use Rattle.syntect_grammar.specs.Flats.{IsTableOf}
 use Rattle.syntect_grammar.proofs.syntaxes.Syntaxes.from_linked.Goals as goal

@@ -1,5 +1,5 @@
 use Rattle.std.proofs.Common.{List, subst, sym}
-use Rattle.syntect_flats.specs.declared.flats.Flat.{Flat}
+use Rattle.syntect_grammar_lists.specs.declared.flats.Flat.{Flat}
 use Rattle.syntect_grammar.specs.Contexts.{set_of}
 use Rattle.syntect_grammar.specs.Flats.{AreFlatsOf}
 use Rattle.syntect_grammar.proofs.FlatLaws.{coarser_flats}

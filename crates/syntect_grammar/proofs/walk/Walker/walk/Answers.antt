@@ -1,11 +1,11 @@
 use Rattle.std.proofs.Common.{◌≡◌, ◌≤◌, List, length, map, refl, sym, ap, ◌∙◌, subst}
 use Rattle.std.specs.List.{All, filter_map}
 use Rattle.std.proofs.lemmas.List.Elements.{All-nil}
-use Rattle.syntect_contexts.specs.declared.context.Pattern.{Pattern}
-use Rattle.syntect_contexts.specs.declared.context.Pattern.TheVariants.{Match, Include}
+use Rattle.syntect_grammar.specs.syntect_grammar_contexts.declared.context.Pattern.{Pattern}
+use Rattle.syntect_grammar.specs.syntect_grammar_contexts.declared.context.Pattern.TheVariants.{Match, Include}
 use Rattle.syntect_grammar.specs.Contexts.{set_of}
 use Rattle.syntect_grammar.specs.Flats.{Tells, pattern_at}
-use Rattle.syntect_flats.specs.declared.flats.Flat.{Flat}
+use Rattle.syntect_grammar_lists.specs.declared.flats.Flat.{Flat}
 use Rattle.syntect_grammar.proofs.FlatLaws.{counted_more, entry_at, one_more, tells_more}
 use Rattle.syntect_grammar.specs.Walk.{frame}
 use Rattle.syntect_grammar.proofs.WalkLaws.{IsWalk}

@@ -1,7 +1,7 @@
 use Rattle.std.proofs.Common.{◌≡◌, ◌+◌, length, rules, subst, arith}
 use Rattle.std.specs.Option.{option_copied}
-use Rattle.syntect_pattern_reader.specs.Compiled.{Compiles, IsCompiled}
-use Rattle.syntect_seek.proofs.DepthLaws.{on_ok-map}
+use Rattle.syntect_regex.specs.syntect_pattern_compile.Compiled.{Compiles, IsCompiled}
+use Rattle.syntect_pattern_seek.proofs.DepthLaws.{on_ok-map}
 use Rattle.syntect_regex.proofs.TryLaws.{try-alone, try-searched}
 use Rattle.syntect_regex.proofs.regex.Regex.match_at_known.Goals as goal
 

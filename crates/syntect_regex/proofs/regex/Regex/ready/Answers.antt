@@ -1,5 +1,5 @@
 use Rattle.std.proofs.Common.{rules, string_bytes, subst, sym}
-use Rattle.syntect_pattern_reader.specs.Compiled.{Compiles}
+use Rattle.syntect_regex.specs.syntect_pattern_compile.Compiled.{Compiles}
 use Rattle.syntect_regex.proofs.regex.Regex.ready.Goals as goal
 
 pub invariant_of-result : goal.invariant_of-result

@@ -1,6 +1,6 @@
 use Rattle.std.proofs.Common.{◌≡◌, ◌∙◌, ap, map, subst, List, ℕ}
 use Rattle.std.specs.List.{flat_map}
-use Rattle.syntect_scope.specs.Repository.{MayRefuse, first_refusal}
+use Rattle.syntect_scope.specs.Repository.{IsRefusalOrMemory, first_refusal}
 use Rattle.syntect_scope.specs.SelectorText.{selector_in, selector_words, union_parts}
 use Rattle.syntect_scope.proofs.ReadingLaws.{selector_stays, more_added, more_given, more_refused, now_refused, kept_on}
 use Rattle.syntect_scope.proofs.selector.ScopeSelectors.from_text.Goals as goal
@@ -8,7 +8,7 @@ use Rattle.syntect_scope.proofs.selector.ScopeSelectors.from_text.Goals as goal
 pub returns-in-Err-clause-refused : goal.returns-in-Err-clause-refused
 returns-in-Err-clause-refused c =
     let read : map (λ x. x.now) c.deref-part-items.result.now ≡ union_parts c.args.s.now = ap (map (λ x. x.now)) c.deref-part-items.ensures.value ∙ c.in_ok-parts.ensures in
-    subst (λ (ts : List (List ℕ)). MayRefuse (first_refusal c.args.repository.now (flat_map selector_words ts)) c.in-Err.e) read
+    subst (λ (ts : List (List ℕ)). IsRefusalOrMemory (first_refusal c.args.repository.now (flat_map selector_words ts)) c.in-Err.e) read
     (now_refused selector_words selector_in selector_stays _ c.loop-part.repository c.deref-part-items.result.now c.loop-part.part-index c.in-Err.e c.loop-part-test.true c.in-Err.ensures.refused c.loop-part.invariant.refused)
 
 pub returns-in-Err-clause-kept : goal.returns-in-Err-clause-kept

@@ -1,6 +1,6 @@
 use Rattle.std.proofs.Common.{sym, ap, ◌∙◌}
 use Rattle.std.specs.List.{list_any}
-use Rattle.syntect_scope.specs.Atoms.{is_prefix}
+use Rattle.syntect_style.specs.syntect_scope.Atoms.{is_prefix}
 use Rattle.syntect_style.specs.Rules.{last_rules, other_rules}
 use Rattle.syntect_style.proofs.ContestTop.{bucket_any}
 use Rattle.syntect_style.proofs.OtherLaws.{alike_more}

@@ -1,5 +1,5 @@
 use Rattle.std.proofs.Common.{◌≡◌, ◌∙◌, ap, map, sym}
-use Rattle.syntect_scope.specs.Words.{words}
+use Rattle.syntect_theme.specs.syntect_scope.Words.{words}
 use Rattle.syntect_theme.specs.Texts.{wrong_word}
 use Rattle.syntect_theme.proofs.FlagLaws.{known_more, given_more, refused_word, text_refused}
 use Rattle.syntect_theme.proofs.style.FontStyle.from_text.Goals as goal

@@ -1,5 +1,5 @@
 use Rattle.std.proofs.Common.{◌≡◌, length, take}
-use Rattle.syntect_scope.specs.Repository.{IsRepository}
+use Rattle.syntect_theme_files.specs.syntect_scope.Repository.{IsRepository}
 use Rattle.syntect_theme_files.specs.ThemeFiles.{AddsThemes}
 use Rattle.syntect_theme_files.proofs.theme_set.ThemeSet.add_themes.Given as goal
 

@@ -1,5 +1,0 @@
-use Rattle.syntect.proofs.LoadedLaws.{loaded_plain}
-use Rattle.syntect.proofs.laws.loaded_is_plain.Goals as goal
-
-pub returns : goal.returns
-returns c = loaded_plain

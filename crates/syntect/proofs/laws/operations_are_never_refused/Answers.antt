@@ -1,9 +1,0 @@
-use Rattle.syntect.proofs.BuiltLaws.{built_begins_plain}
-use Rattle.syntect.proofs.ClassedLaws.{operations_apply}
-use Rattle.syntect.proofs.laws.operations_are_never_refused.Goals as goal
-
-pub returns-clause-built : goal.returns-clause-built
-returns-clause-built c = built_begins_plain
-
-pub returns-clause-apply : goal.returns-clause-apply
-returns-clause-apply c = operations_apply

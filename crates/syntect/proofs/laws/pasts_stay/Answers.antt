@@ -1,5 +1,0 @@
-use Rattle.syntect.proofs.LeadLaws.{pasts_stay}
-use Rattle.syntect.proofs.laws.pasts_stay.Goals as goal
-
-pub returns : goal.returns
-returns c = pasts_stay

@@ -1,0 +1,1 @@
+pub use Rattle.syntect_regex.specs as syntect_regex

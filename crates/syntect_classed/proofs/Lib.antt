@@ -1,2 +1,0 @@
-pub mod ClassLaws
-pub mod PutLaws

@@ -1,8 +1,0 @@
-use Rattle.std.proofs.Common.{drop, map}
-use Rattle.syntect_classed.specs.Marks.Mark.{Begin}
-use Rattle.syntect_classed.specs.Writing.{Puts}
-use Rattle.syntect_classed.proofs.marks.Spans.begin_all.Given as goal
-
--- with those that are left all are put
-abbrev pub invariant-loop-scope : goal.invariant-loop-scope
-invariant-loop-scope l = (after : _) → Puts l.prefix l.repository l.self (map Begin (drop l.scope-index l.scopes)) after → Puts l.prefix l.repository l.fn.self (map Begin l.scopes) after

@@ -1,3 +1,0 @@
-pub mod SeenLaws
-pub mod FollowLaws
-pub mod PageLaws

@@ -1,3 +1,0 @@
-pub mod Contexts
-pub mod Errors
-pub mod Substitution

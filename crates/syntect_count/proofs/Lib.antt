@@ -1,0 +1,3 @@
+pub mod MeterLaws
+-- What the walks of counts share.
+pub mod Walks

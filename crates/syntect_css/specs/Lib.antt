@@ -1,4 +1,0 @@
-pub mod Comment
-pub mod Identifier
-pub mod Left
-pub mod Sheet

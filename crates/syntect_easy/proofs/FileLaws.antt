@@ -1,0 +1,225 @@
+-- Syntaxes of files.
+use Rattle.std.proofs.Common.{◌≡◌, ◌≢◌, ℕ, suc, Bool, List, [], ◌∷◌, ◌++◌, length, refl, sym, ap, ◌∙◌, inl, inr, subst, Result, Ok, Err}
+use Rattle.std.specs.Io.{StartsWith}
+use Rattle.std.specs.Io.BufRead.{take_through}
+use Rattle.std.specs.Prelude.{Option, Some, None, IfSome, IfOk, IfErr, IsUtf8, slice_get, find, reverse, ◌⊎◌}
+use Rattle.std.specs.Option.{option_or}
+use Rattle.std.proofs.lemmas.Bool.{cases_Bool}
+use Rattle.std.proofs.lemmas.List.{reverse-append}
+use Rattle.std.proofs.lemmas.Str.{IsUtf8-nil}
+use Rattle.syntect_easy.specs.syntect_theme.declared.theme.Theme.{Theme}
+use Rattle.syntect_easy.specs.syntect_grammar.Finding.{found_for_file, found_plain_text, found_by_file_name, found_by_first_line}
+use Rattle.syntect_easy.specs.syntect_grammar.Link.{syntaxes_in}
+use Rattle.syntect_easy.specs.syntect_grammar_contexts.declared.syntax_reference.SyntaxReference.{SyntaxReference}
+use Rattle.syntect_easy.specs.syntect_grammar.declared.syntax_set.SyntaxSet.{SyntaxSet}
+use Rattle.syntect_easy.specs.syntect_grammar_loader.declared.definition.SyntaxDefinition.{SyntaxDefinition}
+use Rattle.syntect_easy.specs.syntect_grammar.declared.error.Error.{Error}
+use Rattle.syntect_easy.specs.syntect_grammar.declared.error.Error.TheVariants as error
+use Rattle.syntect_easy.specs.Built.{IsBuilt, IsSyntaxOfBuilt}
+use Rattle.syntect_easy.specs.syntect_base.Limiting.{limit_of, unlimited}
+use Rattle.syntect_easy.specs.syntect_base.declared.limits.Limits.{Limits}
+use Rattle.syntect_grammar_limits.specs.FirstLines.{ReachesSteps}
+use Rattle.syntect_grammar_limits.specs.declared.first_line_error.FindWithinError.{FindWithinError}
+use Rattle.syntect_grammar_limits.specs.declared.first_line_error.FindWithinError.TheVariants.{Refused, LimitReached}
+use Rattle.syntect_grammar_limits.specs.declared.first_line_error.FirstLineLimit.{FirstLineLimit}
+use Rattle.syntect_easy.specs.Files.{IsSyntaxFor, IsSyntaxWithin, IsPlainInstead, IsToldSyntax, IsToldWithin, IsFirstOf, IsAskedOf, HasNoLines, HasNoLinesWithin, LacksInstead, IsPageOfFile, HasNoPageOfFile}
+use Rattle.syntect_easy.specs.Leads.{LacksStart}
+use Rattle.syntect_easy.specs.Pages.{IsPageOfBytes, IsStopped, IsReadFault}
+
+-- ---- what is found is among what is looked through ----
+
+abbrev pub Among : {X : Type 0} → X → List X → Type 0
+Among x [] = ⊥
+Among x (y ∷ ys) = (y ≡ x) ⊎ Among x ys
+
+among_found : {X : Type 0} (fits : X → Bool) (xs : List X) (x : X) → find fits xs ≡ Some x → Among x xs
+among_found fits [] x e = absurd (let q : None ≡ Some x = e in cc)
+among_found fits (y ∷ ys) x e =
+    elim (cases_Bool (fits y)) [
+      | inl f ↦ inl (let q : Some y ≡ Some x = rw (f) at e in cc)
+      | inr f ↦ inr (among_found fits ys x (rw (f) at e))
+    ]
+
+among_append : {X : Type 0} (x : X) (xs ys : List X) → Among x (xs ++ ys) → Among x xs ⊎ Among x ys
+among_append x [] ys h = inr h
+among_append x (y ∷ xs) ys (inl e) = inl (inl e)
+among_append x (y ∷ xs) ys (inr h) =
+    elim (among_append x xs ys h) [
+      | inl a ↦ inl (inr a)
+      | inr b ↦ inr b
+    ]
+
+among_reverse : {X : Type 0} (x : X) (xs : List X) → Among x (reverse xs) → Among x xs
+among_reverse x [] h = h
+among_reverse x (y ∷ xs) h =
+    elim (among_append x (reverse xs) (y ∷ []) (subst (Among x) (reverse-append (y ∷ []) xs) h)) [
+      | inl a ↦ inr (among_reverse x xs a)
+      | inr (inl e) ↦ inl e
+      | inr (inr b) ↦ absurd b
+    ]
+
+place_of : {X : Type 0} (x : X) (xs : List X) → Among x xs → (place : ℕ) × (slice_get xs place ≡ Some x)
+place_of x [] h = absurd h
+place_of x (y ∷ xs) (inl e) = (0, ap Some e)
+place_of x (y ∷ xs) (inr h) = let p = place_of x xs h in (suc p.0, p.1)
+
+-- the place of a syntax that is found
+pub place_found : {X : Type 0} (fits : X → Bool) (xs : List X) (x : X) → find fits (reverse xs) ≡ Some x → (place : ℕ) × (slice_get xs place ≡ Some x)
+place_found fits xs x e = place_of x xs (among_reverse x xs (among_found fits (reverse xs) x e))
+
+pub either_found : {X : Type 0} (a b : Option X) (x : X) (P : Type 0) → (a ≡ Some x → P) → (b ≡ Some x → P) → option_or a b ≡ Some x → P
+either_found None b x P f g e = g e
+either_found (Some y) b x P f g e = f e
+
+-- ---- the syntax of a file ----
+
+place_among : (set : SyntaxSet) (path line : List ℕ) (syntax : SyntaxReference) → option_or (found_for_file set path line) (found_plain_text set) ≡ Some syntax
+    → (place : ℕ) × (slice_get (syntaxes_in set) place ≡ Some syntax)
+place_among set path line syntax =
+    let Q : Type 0 = (place : ℕ) × (slice_get (syntaxes_in set) place ≡ Some syntax) in
+    either_found (found_for_file set path line) (found_plain_text set) syntax Q
+    (either_found (found_by_file_name set path) (found_by_first_line set line) syntax Q
+    (either_found _ _ syntax Q (place_found _ (syntaxes_in set) syntax) (place_found _ (syntaxes_in set) syntax))
+    (place_found _ (syntaxes_in set) syntax))
+    (place_found _ (syntaxes_in set) syntax)
+
+is_syntax : (set : SyntaxSet) (path line : List ℕ) (syntax : SyntaxReference) → IsUtf8 line → option_or (found_for_file set path line) (found_plain_text set) ≡ Some syntax → IsSyntaxFor set path syntax
+is_syntax set path line syntax u e =
+    let p = place_among set path line syntax e in
+    record { line = line; text = u; found = e; place = p.0; among = p.1 }
+
+-- its path tells it
+pub named_syntax : (set : SyntaxSet) (path : List ℕ) (syntax : SyntaxReference) → Some syntax ≡ found_by_file_name set path → IsSyntaxFor set path syntax
+named_syntax set path syntax e = is_syntax set path [] syntax IsUtf8-nil (ap (λ found. option_or (option_or found (found_by_first_line set [])) (found_plain_text set)) (sym e))
+
+-- its first line does
+pub found_syntax : (set : SyntaxSet) (path line : List ℕ) (syntax : SyntaxReference) → IsUtf8 line → None ≡ found_by_file_name set path → Some syntax ≡ found_by_first_line set line → IsSyntaxFor set path syntax
+found_syntax set path line syntax u e f =
+    is_syntax set path line syntax u (ap (λ found. option_or (option_or found (found_by_first_line set line)) (found_plain_text set)) (sym e) ∙ ap (λ found. option_or found (found_plain_text set)) (sym f))
+
+-- neither the path nor the first line tells a syntax
+none_told : (set : SyntaxSet) (path line : List ℕ) → None ≡ found_by_file_name set path → None ≡ found_by_first_line set line → None ≡ found_for_file set path line
+none_told set path line e f = f ∙ ap (λ found. option_or found (found_by_first_line set line)) e
+
+pub plain_syntax : (set : SyntaxSet) (path line : List ℕ) (syntax : SyntaxReference) → IsUtf8 line → None ≡ found_by_file_name set path → None ≡ found_by_first_line set line → Some syntax ≡ found_plain_text set → IsSyntaxFor set path syntax
+plain_syntax set path line syntax u n e f = is_syntax set path line syntax u (ap (λ found. option_or found (found_plain_text set)) (sym (none_told set path line n e)) ∙ sym f)
+
+pub no_syntax : (set : SyntaxSet) (path line : List ℕ) → IsUtf8 line → None ≡ found_by_file_name set path → None ≡ found_by_first_line set line → None ≡ found_plain_text set → HasNoLines set path error.NoSyntax
+no_syntax set path line u n e f = (line, u, ap (λ found. option_or found (found_plain_text set)) (sym (none_told set path line n e)) ∙ sym f)
+
+-- ---- what the first line that is left tells ----
+
+-- the line is that of what the reader gave
+pub asked_known : (left : Option (List ℕ)) (given line : List ℕ) → IfSome left (λ xs. StartsWith xs given) → IfSome left (λ xs. length given ≡ 0 → xs ≡ []) → IsFirstOf given line → IfSome left (λ xs. IsAskedOf xs line)
+asked_known None given line f n a = tt
+asked_known (Some xs) given line f n a = record { given = given; front = f; some = n; first = a }
+
+module _ (set : SyntaxSet) (path : List ℕ) (left : Option (List ℕ)) (syntax : SyntaxReference) where
+  nothing_asked : (o : Option (List ℕ)) → IfSome o (λ xs. StartsWith (take_through 10 xs) [])
+  nothing_asked None = tt
+  nothing_asked (Some xs) = refl
+
+  pub told_by_name : Some syntax ≡ found_by_file_name set path → IsToldSyntax set path left syntax
+  unfolding named_syntax is_syntax
+  told_by_name e = record {
+    is_for = named_syntax set path syntax e;
+    front = nothing_asked left;
+    asked = λ n. absurd (let q : None ≡ Some syntax = n ∙ sym e in cc);
+  }
+
+  pub told_by_line : (line : List ℕ) → IsUtf8 line → IfSome left (λ xs. StartsWith (take_through 10 xs) line) → IfSome left (λ xs. IsAskedOf xs line) → None ≡ found_by_file_name set path → Some syntax ≡ found_by_first_line set line
+      → IsToldSyntax set path left syntax
+  unfolding found_syntax is_syntax
+  told_by_line line u h a e f = record { is_for = found_syntax set path line syntax u e f; front = h; asked = λ n. a }
+
+  pub told_by_none : (line : List ℕ) → IsUtf8 line → IfSome left (λ xs. StartsWith (take_through 10 xs) line) → IfSome left (λ xs. IsAskedOf xs line) → None ≡ found_by_file_name set path → None ≡ found_by_first_line set line
+      → Some syntax ≡ found_plain_text set → IsToldSyntax set path left syntax
+  unfolding plain_syntax is_syntax
+  told_by_none line u h a n e f = record { is_for = plain_syntax set path line syntax u n e f; front = h; asked = λ m. a }
+
+-- ---- no lines ----
+
+pub not_read : (set : SyntaxSet) (path : List ℕ) (e : Error) → IsReadFault e → HasNoLines set path e
+not_read set path (error.Io e) n = tt
+not_read set path error.Memory n = tt
+not_read set path (error.ParsingError e) n = absurd n
+not_read set path (error.ScopeError e) n = absurd n
+not_read set path (error.LoadingError e) n = absurd n
+not_read set path (error.Fmt e) n = absurd n
+not_read set path error.NoSyntax n = absurd n
+not_read set path (error.ParseSyntax e) n = absurd n
+not_read set path (error.ParseScope e) n = absurd n
+not_read set path (error.Pattern e) n = absurd n
+
+pub no_start_for : (set : SyntaxSet) (path : List ℕ) (syntax : SyntaxReference) (e : Error) → IsSyntaxFor set path syntax → LacksStart syntax e → HasNoLines set path e
+no_start_for set path syntax (error.Io e) s l = tt
+no_start_for set path syntax error.Memory s l = tt
+no_start_for set path syntax (error.ParsingError e) s l = (syntax, s, l)
+no_start_for set path syntax (error.ScopeError e) s l = absurd l
+no_start_for set path syntax (error.LoadingError e) s l = absurd l
+no_start_for set path syntax (error.Fmt e) s l = absurd l
+no_start_for set path syntax error.NoSyntax s l = absurd l
+no_start_for set path syntax (error.ParseSyntax e) s l = absurd l
+no_start_for set path syntax (error.ParseScope e) s l = absurd l
+no_start_for set path syntax (error.Pattern e) s l = absurd l
+
+-- ---- first lines within limits ----
+
+-- where the limit was reached
+pub plain_instead : (limits : Limits) (set : SyntaxSet) (path : List ℕ) (syntax : SyntaxReference) → limit_of limits.steps ≢ None → None ≡ found_by_file_name set path → Some syntax ≡ found_plain_text set → IsPlainInstead limits set path syntax
+plain_instead limits set path syntax n e f =
+    let p = place_found _ (syntaxes_in set) syntax (sym f) in
+    record { limited = n; unnamed = sym e; plain = sym f; place = p.0; among = p.1 }
+
+pub reached_is_set : (limits : Limits) (steps : ℕ) (w : FindWithinError) (l : FirstLineLimit) → w ≡ LimitReached l → ReachesSteps limits steps w → limit_of limits.steps ≢ None
+reached_is_set limits steps (Refused e) l same r = λ n. cc
+reached_is_set limits steps (LimitReached x) l same r = λ n. let q : None ≡ Some steps = sym n ∙ r in cc
+
+-- no limit is reached without limits
+none_reached : (limits : Limits) → limits ≡ unlimited → limit_of limits.steps ≢ None → ⊥
+none_reached limits e n = n (ap (λ (l : Limits). limit_of l.steps) e)
+
+pub told_unlimited : (limits : Limits) (set : SyntaxSet) (path : List ℕ) (left : Option (List ℕ)) (syntax : SyntaxReference) (o : Option FirstLineLimit) → limits ≡ unlimited → IsToldWithin limits set path left syntax o → IsToldSyntax set path left syntax
+told_unlimited limits set path left syntax None e h = h
+told_unlimited limits set path left syntax (Some l) e h = absurd (none_reached limits e h.limited)
+
+pub syntax_unlimited : (limits : Limits) (set : SyntaxSet) (path : List ℕ) (syntax : SyntaxReference) (o : Option FirstLineLimit) → limits ≡ unlimited → IsSyntaxWithin limits set path syntax o → IsSyntaxFor set path syntax
+syntax_unlimited limits set path syntax None e h = h
+syntax_unlimited limits set path syntax (Some l) e h = absurd (none_reached limits e h.limited)
+
+pub refused_unlimited : (limits : Limits) (set : SyntaxSet) (path : List ℕ) (e : Error) → limits ≡ unlimited → HasNoLinesWithin limits set path e → HasNoLines set path e
+refused_unlimited limits set path e same (inl h) = h
+refused_unlimited limits set path e same (inr h) = absurd (none_reached limits same h.limited)
+
+pub told_is_for : (limits : Limits) (set : SyntaxSet) (path : List ℕ) (left : Option (List ℕ)) (syntax : SyntaxReference) (o : Option FirstLineLimit) → IsToldWithin limits set path left syntax o → IsSyntaxWithin limits set path syntax o
+told_is_for limits set path left syntax None h = h.is_for
+told_is_for limits set path left syntax (Some l) h = h
+
+pub not_read_within : (limits : Limits) (set : SyntaxSet) (path : List ℕ) (e : Error) → IsReadFault e → HasNoLinesWithin limits set path e
+not_read_within limits set path e n = inl (not_read set path e n)
+
+pub no_plain_within : (limits : Limits) (set : SyntaxSet) (path : List ℕ) (e : Error) → limit_of limits.steps ≢ None → None ≡ found_by_file_name set path → None ≡ found_plain_text set → e ≡ error.NoSyntax → HasNoLinesWithin limits set path e
+no_plain_within limits set path e n f g same = inr (record { limited = n; unnamed = sym f; lacks = inl (sym g, same) })
+
+pub no_start_within : (limits : Limits) (set : SyntaxSet) (path : List ℕ) (syntax : SyntaxReference) (o : Option FirstLineLimit) (e : Error) → IsSyntaxWithin limits set path syntax o → LacksStart syntax e → HasNoLinesWithin limits set path e
+no_start_within limits set path syntax None e s l = inl (no_start_for set path syntax e s l)
+no_start_within limits set path syntax (Some x) e s l = inr (record { limited = s.limited; unnamed = s.unnamed; lacks = inr (syntax, s.plain, l) })
+
+-- ---- pages ----
+
+pub built_of : (set : SyntaxSet) (path : List ℕ) (syntax : SyntaxReference) (definitions : List SyntaxDefinition) → IsBuilt set definitions → IsSyntaxFor set path syntax → IsSyntaxOfBuilt set syntax definitions
+built_of set path syntax definitions b s = record { links = b.links; place = s.place; among = s.among; plain = b.plain }
+
+pub built_within : (limits : Limits) (set : SyntaxSet) (path : List ℕ) (syntax : SyntaxReference) (o : Option FirstLineLimit) (definitions : List SyntaxDefinition) → IsBuilt set definitions → IsSyntaxWithin limits set path syntax o → IsSyntaxOfBuilt set syntax definitions
+built_within limits set path syntax None definitions b s = built_of set path syntax definitions b s
+built_within limits set path syntax (Some l) definitions b s = record { links = b.links; place = s.place; among = s.among; plain = b.plain }
+
+pub page_of_file : {A : Type 0} (view : A → List ℕ) (set : SyntaxSet) (theme : Theme) (path : List ℕ) (syntax : SyntaxReference) (P : List ℕ → Type 0) (result : Result A Error) → IsSyntaxFor set path syntax
+    → IfOk result (λ page. (text : List ℕ) × P text × IsPageOfBytes set theme syntax text (view page)) → IfOk result (λ page. IsPageOfFile set theme path (view page))
+page_of_file view set theme path syntax P (Ok page) s h = (syntax, s, h.0, h.2)
+page_of_file view set theme path syntax P (Err e) s h = tt
+
+pub no_page_of_file : {A : Type 0} (set : SyntaxSet) (path : List ℕ) (syntax : SyntaxReference) (P : List ℕ → Type 0) (result : Result A Error) → IsSyntaxFor set path syntax
+    → IfErr result (λ e. (text : List ℕ) × P text × IsStopped set syntax text e) → IfErr result (HasNoPageOfFile set path)
+no_page_of_file set path syntax P (Ok page) s h = tt
+no_page_of_file set path syntax P (Err e) s h = inr (syntax, s, h.0, h.2)

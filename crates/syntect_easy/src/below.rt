@@ -1,0 +1,71 @@
+//! What stands below, as far as it is used here or passed on.
+
+/// Of `syntect_base`.
+pub mod base {
+    pub use syntect_style::syntect_base::{limits, loading, settings, syntax, theme, utils};
+}
+
+/// Of `syntect_count`.
+pub mod count {
+    pub use syntect_grammar_limits::below::count::count;
+}
+
+/// Of `syntect_grammar`.
+pub mod grammar {
+    pub use syntect_grammar_limits::below::grammar::laws;
+}
+
+/// Of `syntect_grammar_limits`.
+pub mod grammar_limits {
+    pub use syntect_grammar_limits::{first_line_error, folder_error, folders};
+}
+
+/// Of `syntect_metadata`.
+pub mod metadata {
+    pub use syntect_grammar_limits::below::metadata::{error, items, metadata, raw, scoped, set};
+}
+
+/// Of `syntect_parsing`.
+pub mod parsing {
+    pub use syntect_parsing::{error, laws, parser, syntax_definition, syntax_set, within};
+}
+
+/// Of `syntect_regex`.
+pub mod regexes {
+    pub use syntect_grammar_limits::below::regexes::{error, regex, region};
+}
+
+/// Of `syntect_scope`.
+pub mod scope {
+    pub use syntect_operations::syntect_scope::{power, repository, scope, selector, stack};
+}
+
+/// Of `syntect_style`.
+pub mod style {
+    pub use syntect_style::{highlighter, state};
+}
+
+/// Of `syntect_theme`.
+pub mod theme {
+    pub use syntect_style::syntect_theme::{style, theme};
+}
+
+/// Of `syntect_theme_files`.
+pub mod theme_files {
+    pub use syntect_theme_files::theme_set;
+}
+
+/// Of `syntect_values`.
+pub mod values {
+    pub use syntect_grammar_limits::below::values::{seq, table, text};
+}
+
+/// Of `syntect_writers`.
+pub mod writers {
+    pub use syntect_writers::{laws, spans};
+}
+
+/// Of `syntect_yaml`.
+pub mod yaml {
+    pub use syntect_grammar_limits::below::yaml::read;
+}

@@ -1,0 +1,102 @@
+//! The lines of a reader, one by one.
+ghost use Rattle.std.specs.Prelude.{◌≡◌, ◌==◌, ◌<◌, ◌+◌, length, IfOk, IfErr};
+ghost use Rattle.std.specs.Io.{StartsWith};
+ghost use Rattle.std.specs.Io.BufRead.{take_through};
+ghost use Rattle.std.specs.List.{position};
+ghost use Rattle.std.specs.Str.{IsUtf8};
+ghost use Rattle.syntect_easy.specs.Files.{IsFirstOf};
+ghost use Rattle.syntect_easy.specs.Pages.{IsReadFault};
+ghost use Rattle.syntect_easy.specs.Rows.{can_go_on, GivesNext};
+
+use std::io::{BufRead, Error as IoError, ErrorKind};
+use std::str;
+use syntect_parsing::error::Error;
+
+/// Whether another line can follow this one, or the beginning: one without a newline at its end is
+/// the last.
+fn can_go_on(line: &[u8]) -> bool
+    ensures { result ≡ can_go_on line.now }
+{
+    match line.last() {
+        Some(b) => *b == b'\n',
+        None => true,
+    }
+}
+
+/// Reads the next line, up to and with its newline, in place of the one before it. False where
+/// nothing is left, as after a line without a newline. `Io` where reading fails.
+pub fn next_line<R: BufRead>(reader: &mut R, line: &mut Vec<u8>) -> Result<bool, Error>
+    ensures next { IfOk result
+        (GivesNext (R.remaining reader.old) line.old.items
+        (R.remaining reader.new) line.new.items) }
+    ensures err { IfErr result (IsReadFault) }
+{
+    if !can_go_on(line.as_slice()) {
+        return Ok(false);
+    }
+    line.clear();
+    let count = reader.read_until(b'\n', line)?;
+    Ok(count > 0)
+}
+
+/// The text of bytes that are UTF-8. `Io` where they are not.
+pub fn text_of(bytes: &[u8]) -> Result<&str, Error>
+    ensures ok { IfOk result (λ text. (text.now ≡ bytes.now) × IsUtf8 bytes.now) }
+    ensures err { IfErr result (IsReadFault) }
+    ensures not_utf8 { IfErr result (λ _. ¬ (IsUtf8 bytes.now)) }
+{
+    match str::from_utf8(bytes) {
+        Ok(text) => Ok(text),
+        Err(_) => Err(Error::Io(IoError::new(
+            ErrorKind::InvalidData,
+            "stream did not contain valid UTF-8",
+        ))),
+    }
+}
+
+/// The place of the first newline.
+fn newline_in(bytes: &[u8]) -> Option<usize>
+    ensures { result ≡ position (λ b. b == 10) bytes.now }
+{
+    bytes.iter().position(|b| *b == b'\n')
+}
+
+/// The bytes up to and with the first newline, or all of them.
+fn up_to_newline(bytes: &[u8]) -> &[u8]
+    ensures { result.now ≡ take_through 10 bytes.now }
+{
+    match newline_in(bytes) {
+        Some(at) => bytes.split_at(at + 1).0,
+        None => bytes,
+    }
+}
+
+/// Bytes without their last character, if that isn't whole. Bytes that are no UTF-8 elsewhere stay
+/// as they are.
+fn whole_characters(bytes: &[u8]) -> &[u8]
+    ensures front { StartsWith bytes.now result.now }
+    ensures nearly { length bytes.now < length result.now + 4 }
+{
+    match str::from_utf8(bytes) {
+        Ok(_) => bytes,
+        Err(e) => match e.error_len() {
+            Some(_) => bytes,
+            None => bytes.split_at(e.valid_up_to()).0,
+        },
+    }
+}
+
+/// The first line of bytes that are the front of a text, without a character that is cut off where
+/// the line goes on. `Io` where the line is not UTF-8.
+pub fn first_line(bytes: &[u8]) -> Result<&str, Error>
+    ensures line { IfOk result (λ line. IsUtf8 line.now) }
+    ensures asked { IfOk result (λ line. IsFirstOf bytes.now line.now) }
+    ensures err { IfErr result (IsReadFault) }
+{
+    let line = up_to_newline(bytes);
+    if line.len() < bytes.len() {
+        text_of(line)
+    } else {
+        text_of(whole_characters(line))
+    }
+}

@@ -1,4 +1,0 @@
-use Rattle.syntect_engine.proofs.state.Search.+dead_ends.Given as goal
-
-abbrev pub decreases-dead_ends : goal.decreases-dead_ends
-decreases-dead_ends l = l.list

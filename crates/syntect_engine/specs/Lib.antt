@@ -1,5 +1,0 @@
-pub mod Machine
-pub mod Stretches
-pub mod Lookbehinds
-pub mod Lines
-pub mod Ends

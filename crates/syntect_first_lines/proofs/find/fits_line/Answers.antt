@@ -1,5 +1,0 @@
-use Rattle.std.proofs.lemmas.Str.{IsCharBoundary-start}
-use Rattle.syntect_first_lines.proofs.find.fits_line.Goals as goal
-
-pub search_by_meter-requires-clause-begin_boundary : goal.search_by_meter-requires-clause-begin_boundary
-search_by_meter-requires-clause-begin_boundary c = IsCharBoundary-start c.args.line.now c.utf8.line

@@ -1,6 +1,0 @@
-use Rattle.std.proofs.Common.{[]}
-use Rattle.syntect_flats.specs.Entered.{AreMarksOf}
-use Rattle.syntect_flats.proofs.entered.marks_of.Given as goal
-
-abbrev pub invariant-loop-syntax : goal.invariant-loop-syntax
-invariant-loop-syntax l = AreMarksOf l.marks.items []

@@ -1,6 +1,0 @@
-use Rattle.std.proofs.Common.{take}
-use Rattle.syntect_flats.proofs.SlimLaws.{AreSlimsOf}
-use Rattle.syntect_flats.proofs.slims.slims_of.Given as goal
-
-abbrev pub invariant-loop-flat : goal.invariant-loop-flat
-invariant-loop-flat l = AreSlimsOf l.table.items (take l.flat-index l.flats) l.slims.items

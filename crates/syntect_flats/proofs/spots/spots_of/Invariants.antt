@@ -1,6 +1,0 @@
-use Rattle.std.proofs.Common.{◌≡◌, map, take}
-use Rattle.syntect_flats.specs.Told.{spot_of}
-use Rattle.syntect_flats.proofs.spots.spots_of.Given as goal
-
-abbrev pub invariant-loop-flat : goal.invariant-loop-flat
-invariant-loop-flat l = l.spots.items ≡ map spot_of (take l.flat-index l.flats)

@@ -1,2 +1,0 @@
-pub mod FilesWithin
-pub mod FoldersWithin

@@ -1,4 +1,0 @@
-mod ReachLaws
-mod PlaceLaws
-mod PlainLaws
-mod LinkRows

@@ -1,0 +1,13 @@
+use Rattle.std.specs.Path.{path_bytes}
+use Rattle.syntect_grammar_limits.specs.syntect_grammar_loader.LoadingSteps.{KeepsAtoms}
+use Rattle.syntect_grammar_limits.proofs.FolderLaws.{Added}
+use Rattle.syntect_grammar_limits.proofs.folders.add_from_folder_within.Given as goal
+
+abbrev pub invariant-files : goal.invariant-files
+invariant-files g l = record {
+  added : Added l.loading.limits l.loading.lines_include_newline (path_bytes l.folder) l.fn.repository l.fn.builder l.walk l.room l.repository l.builder;
+  kept : KeepsAtoms l.fn.repository l.repository;
+}
+
+abbrev pub decreases-files : goal.decreases-files
+decreases-files g l = l.walk.left

@@ -1,0 +1,68 @@
+-- Definitions from files, within limits.
+use Rattle.std.specs.Prelude.{◌≡◌, ℕ, ◌-◌, ◌^◌, ◌==◌, nat_le, if◌then◌else◌, Bool, List, length, Option, Some, None, IsUtf8, Ok, Err, String, string_bytes}
+use Rattle.std.specs.Global.{Global}
+use Rattle.std.specs.declared.io.Error.{Error}
+use Rattle.syntect_grammar_limits.specs.syntect_base.declared.limits.Limits.{Limits}
+use Rattle.syntect_grammar_limits.specs.syntect_base.declared.limits.LimitReached.{LimitReached as AReached}
+use Rattle.syntect_grammar_limits.specs.syntect_base.declared.limits.LimitReached.TheVariants.{Folder}
+use Rattle.syntect_grammar_limits.specs.syntect_base.declared.loading.LoadingError.{LoadingError}
+use Rattle.syntect_grammar_limits.specs.syntect_base.declared.loading.LoadingError.TheVariants.{Io, Memory}
+use Rattle.syntect_grammar_limits.specs.syntect_grammar_loader.Files.{IsSyntaxOf, RefusesSyntax}
+use Rattle.syntect_grammar_limits.specs.syntect_grammar_loader.declared.definition.SyntaxDefinition.{SyntaxDefinition}
+use Rattle.syntect_grammar_limits.specs.Limited.{left_of}
+use Rattle.syntect_grammar_limits.specs.declared.folder_error.FolderWithinError.{FolderWithinError}
+use Rattle.syntect_grammar_limits.specs.declared.folder_error.FolderWithinError.TheVariants.{Refused, LimitReached}
+
+-- how many bytes more the grammars of a folder may have after one of n bytes, if they may have
+-- those; nothing is counted where they may have any number
+abbrev pub room_after : ℕ → ℕ → Option ℕ
+room_after room n =
+    if room == 2 ^ 64 - 1 then Some room
+    else if nat_le n room then Some (room - n)
+    else None
+
+-- the definition of the bytes of a file of this path, as without limits;
+-- and the bytes keep within them
+pub record IsSyntaxWithin (limits : Limits) (newlines : Bool) (path : List ℕ)
+    (old : List (List ℕ)) (bytes : List ℕ) (new : List (List ℕ)) (d : SyntaxDefinition)
+    : Type 0 where
+  pub syntax : IsSyntaxOf newlines path old bytes new d
+  pub left : ℕ
+  pub within : left_of limits bytes ≡ Ok left
+
+-- Why the bytes of a file of this path give no definition within limits: they keep within them and
+-- are refused as without them; or they pass the limit that is reported with the path; or there was
+-- no memory.
+pub data RefusesSyntaxWithin (limits : Limits) (newlines : Bool) (path bytes : List ℕ)
+    (repo : List (List ℕ)) : FolderWithinError → Type 0 where
+  no_grammar : {left : ℕ} {e : LoadingError} → left_of limits bytes ≡ Ok left
+      → RefusesSyntax newlines path bytes repo e
+      → RefusesSyntaxWithin limits newlines path bytes repo (Refused e)
+  too_much : {r : AReached} {shown : String Global} → IsUtf8 bytes
+      → left_of limits bytes ≡ Err r → string_bytes shown ≡ path
+      → RefusesSyntaxWithin limits newlines path bytes repo (LimitReached r shown)
+  no_memory : RefusesSyntaxWithin limits newlines path bytes repo (Refused Memory)
+
+-- the definition of a file of this path within limits, and the room that its bytes
+-- leave of this one
+abbrev pub IsReadWithin : Limits → Bool → List ℕ → List (List ℕ) → ℕ → List (List ℕ) → ℕ
+    → SyntaxDefinition → Type 0
+IsReadWithin limits newlines path old room new left d =
+    (bytes : List ℕ)
+    × (room_after room (length bytes) ≡ Some left)
+    × IsSyntaxWithin limits newlines path old bytes new d
+
+-- Why a file gives no definition within limits, where the grammars of its folder may have so many
+-- bytes more: it is not read; or it has more bytes than those; or its bytes give none; or there was
+-- no memory.
+pub data RefusesReadWithin (limits : Limits) (newlines : Bool) (path : List ℕ)
+    (repo : List (List ℕ)) (room : ℕ) : FolderWithinError → Type 0 where
+  not_read : {e : Error} → RefusesReadWithin limits newlines path repo room (Refused (Io e))
+  past_folder : {bytes : List ℕ} {shown : String Global} → IsUtf8 bytes
+      → room_after room (length bytes) ≡ None → string_bytes shown ≡ path
+      → RefusesReadWithin limits newlines path repo room (LimitReached Folder shown)
+  refused : {bytes : List ℕ} {left : ℕ} {e : FolderWithinError}
+      → room_after room (length bytes) ≡ Some left
+      → RefusesSyntaxWithin limits newlines path bytes repo e
+      → RefusesReadWithin limits newlines path repo room e
+  no_room : RefusesReadWithin limits newlines path repo room (Refused Memory)

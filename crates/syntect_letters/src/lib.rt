@@ -1,4 +1,0 @@
-//! Letters in a row, as most patterns have them.
-#![tactic(auto)]
-
-pub mod letters;

@@ -1,6 +1,0 @@
-use Rattle.syntect_meter.proofs.MeterLaws.{advances-on}
-use Rattle.syntect_linear.proofs.fill.pay_row.Goals as goal
-
-pub returns-in_err-spend-clause-advances : goal.returns-in_err-spend-clause-advances
-returns-in_err-spend-clause-advances c =
-    advances-on c.args.meter.now c.loop-time.meter c.spend.new.self c.loop-time.invariant.advances c.spend.ensures.advances

@@ -1,6 +1,0 @@
-pub mod References
-pub mod Reached
-pub mod Inclusions
-pub mod LinkedContexts
-pub mod Gifts
-pub mod Unlinked

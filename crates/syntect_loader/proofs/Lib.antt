@@ -1,5 +1,0 @@
-mod LoadingLaws
-mod RoomLaws
-mod EndLaws
-pub mod NamedLaws
-mod SyntaxFileLaws

@@ -1,5 +1,0 @@
-mod PartLaws
-mod StepLaws
-mod ItemLaws
-mod DepthLaws
-mod Rows

@@ -1,3 +1,0 @@
-pub mod OpenLaws
-mod PlaceLaws
-mod SubstituteLaws

@@ -1,6 +1,0 @@
-use Rattle.std.proofs.Common.{◌≡◌, ◌++◌, drop}
-use Rattle.syntect_openings.specs.Opens.{all_below}
-use Rattle.syntect_openings.proofs.references.open_below.Given as goal
-
-abbrev pub invariant-loop-r : goal.invariant-loop-r
-invariant-loop-r l = l.ops.items ++ all_below l.at l.set (drop l.r-index l.refs) ≡ l.fn.ops.items ++ all_below l.at l.set l.refs

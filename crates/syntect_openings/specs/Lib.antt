@@ -1,6 +1,0 @@
-pub mod Names
-pub mod Openings
-pub mod Opens
-pub mod Places
-pub mod Puts
-pub mod Walking

@@ -1,5 +1,0 @@
-use Rattle.std.proofs.lemmas.Slice.Eq.{slice_eq-Decides, bytes_eq-Decides}
-use Rattle.syntect_part_tests.proofs.values.same.Goals as goal
-
-pub returns : goal.returns
-returns c = slice_eq-Decides bytes_eq-Decides _ _ _ c.eq.ensures

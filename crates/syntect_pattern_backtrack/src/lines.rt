@@ -1,0 +1,71 @@
+//! Patterns whose matches begin where a line does.
+ghost use Rattle.std.specs.Prelude.{◌≡◌, ℕ, ◌≤◌, ◌<◌, IsCharBoundary, length, slice_index_or, false, true};
+ghost use Rattle.syntect_pattern_backtrack.specs.syntect_pattern.Trees.{line_start, nothing};
+ghost use Rattle.syntect_pattern_backtrack.specs.syntect_pattern.Matches as matches;
+ghost use Rattle.syntect_pattern_backtrack.specs.syntect_pattern_table.Program.{CannotBegin, trees_of};
+ghost use Rattle.syntect_pattern_backtrack.specs.Lines.{IsAtLines};
+
+use crate::syntect_pattern::anchor::Anchor;
+use crate::syntect_pattern_table::node::Node;
+use crate::syntect_pattern_table::program::Program;
+use memchr::memchr;
+
+/// How many parts are looked into.
+const LOOKS: u32 = 8;
+
+/// Whether the first part of the program, or the first part of that, and so on, is `^` or `\A`.
+pub fn is_at_lines(program: &Program) -> bool
+    ensures { result ≡ true
+        → IsAtLines (slice_index_or (trees_of program.now) program.now.root nothing) }
+{
+    let mut first = program.root;
+    for _ in 0..LOOKS {
+        let Some(found) = program.node(first) else {
+            return false;
+        };
+        first = match found {
+            Node::Anchor(Anchor::LineStart) => return true,
+            Node::Anchor(Anchor::TextStart) => return true,
+            Node::Sequence(first, _) => *first,
+            Node::Group { number: _, body } => *body,
+            Node::Atomic(body) => *body,
+            _ => return false,
+        };
+    }
+    false
+}
+
+/// The first place from this one on, up to `end`, where a line begins, or `end`.
+fn next_line(text: &str, place: usize, end: usize) -> usize
+    requires order { place ≤ end }
+    requires within { end ≤ length text.now }
+    ensures later { place ≤ result }
+    ensures inside { result ≤ end }
+    ensures skipped { (k : ℕ) → place ≤ k → k < result → IsCharBoundary text.now k
+        → matches.anchor_holds text.now line_start k ≡ false }
+{
+    if place == 0 {
+        return 0;
+    }
+    match memchr(b'\n', text.as_bytes().split_at(place - 1).1) {
+        Some(next) => (place + next).min(end),
+        None => end,
+    }
+}
+
+/// The first place up to `end` where a match can begin, or `end`; with `lines` a line begins there.
+pub fn next_start(program: &Program, text: &str, place: usize, end: usize, lines: bool) -> usize
+    requires order { place ≤ end }
+    requires within { end ≤ length text.now }
+    requires lines { lines ≡ true
+        → IsAtLines (slice_index_or (trees_of program.now) program.now.root nothing) }
+    ensures later { place ≤ result }
+    ensures inside { result ≤ end }
+    ensures skipped { (k : ℕ) → place ≤ k → k < result → CannotBegin text.now program.now k }
+{
+    if lines {
+        let from = next_line(text, place, end);
+        return program.next_start_up_to(text, from, end);
+    }
+    program.next_start_up_to(text, place, end)
+}

@@ -1,5 +1,0 @@
-use Rattle.syntect_pattern_laws.proofs.FoundLaws.{finds_matches}
-use Rattle.syntect_pattern_laws.proofs.matches_are_laid_out.Goals as goal
-
-pub returns : goal.returns
-returns c = finds_matches

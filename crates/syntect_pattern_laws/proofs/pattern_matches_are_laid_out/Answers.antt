@@ -1,5 +1,0 @@
-use Rattle.syntect_pattern_laws.proofs.PatternLaws.{finds_pattern_matches}
-use Rattle.syntect_pattern_laws.proofs.pattern_matches_are_laid_out.Goals as goal
-
-pub returns : goal.returns
-returns c = finds_pattern_matches

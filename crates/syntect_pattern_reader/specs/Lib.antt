@@ -1,5 +1,0 @@
-pub mod Compiled
-pub mod ClassViews
-pub mod JoinViews
-pub mod ReaderViews
-pub mod NeedViews

@@ -1,2 +1,0 @@
-pub mod ReadingRows
-pub mod SearchRows

@@ -1,2 +1,0 @@
-//! What patterns read as and find, computed by their definitions.
-#![tactic(auto)]

@@ -1,0 +1,8 @@
+pub mod NextLaws
+pub mod ProspectLaws
+pub mod SeekLaws
+pub mod DepthLaws
+pub use Rattle.syntect_pattern_backtrack.proofs.syntect_count_proofs as syntect_count_proofs
+pub use Rattle.syntect_pattern_backtrack.proofs as syntect_pattern_backtrack_proofs
+pub use Rattle.syntect_pattern_linear.proofs.syntect_pattern_plan_proofs as syntect_pattern_plan_proofs
+pub use Rattle.syntect_pattern_backtrack.proofs.syntect_pattern_steps_proofs as syntect_pattern_steps_proofs

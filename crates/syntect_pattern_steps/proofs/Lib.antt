@@ -1,0 +1,5 @@
+pub mod TextLaws
+pub mod BoundaryLaws
+pub mod OkLaws
+pub use Rattle.syntect_pattern.proofs as syntect_pattern_proofs
+pub use Rattle.syntect_pattern_table.proofs as syntect_pattern_table_proofs

@@ -1,0 +1,3 @@
+pub mod Steps
+pub use Rattle.syntect_pattern.specs as syntect_pattern
+pub use Rattle.syntect_pattern_table.specs as syntect_pattern_table

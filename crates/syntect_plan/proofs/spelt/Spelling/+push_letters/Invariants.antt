@@ -1,5 +1,0 @@
-use Rattle.std.proofs.Common.{length}
-use Rattle.syntect_plan.proofs.spelt.Spelling.+push_letters.Given as goal
-
-abbrev pub decreases-push_letters : goal.decreases-push_letters
-decreases-push_letters l = length l.letters.now

@@ -1,7 +1,0 @@
-//! Queries to the pattern engine, and how long patterns and searches take.
-#![tactic(auto)]
-
-pub mod escapes;
-pub mod patterns;
-pub mod queries;
-pub mod searches;

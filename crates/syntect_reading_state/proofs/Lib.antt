@@ -1,0 +1,10 @@
+pub mod LossLaws
+pub mod OpenLaws
+mod PlaceLaws
+mod SubstituteLaws
+pub use Rattle.syntect_grammar.proofs.syntect_count_proofs as syntect_count_proofs
+pub use Rattle.syntect_grammar.proofs as syntect_grammar_proofs
+pub use Rattle.syntect_grammar.proofs.syntect_grammar_contexts_proofs as syntect_grammar_contexts_proofs
+pub use Rattle.syntect_grammar.proofs.syntect_grammar_linker_proofs as syntect_grammar_linker_proofs
+pub use Rattle.syntect_grammar.proofs.syntect_regex_proofs as syntect_regex_proofs
+pub use Rattle.syntect_grammar.proofs.syntect_yaml_proofs as syntect_yaml_proofs

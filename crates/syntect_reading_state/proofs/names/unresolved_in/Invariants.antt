@@ -1,0 +1,9 @@
+use Rattle.std.proofs.Common.{◌≡◌, ◌++◌, find, drop}
+use Rattle.std.specs.Prelude.{is_none}
+use Rattle.std.specs.Option.{option_to_list}
+use Rattle.syntect_reading_state.specs.syntect_grammar_contexts.Contexts.{target}
+use Rattle.syntect_reading_state.specs.syntect_grammar_contexts.Contexts.{named}
+use Rattle.syntect_reading_state.proofs.names.unresolved_in.Given as goal
+
+abbrev pub invariant-loop-r : goal.invariant-loop-r
+invariant-loop-r l = find (λ r. is_none (target r)) (drop l.r-index l.refs ++ option_to_list l.pattern.with_prototype) ≡ find (λ r. is_none (target r)) (named l.pattern)

@@ -1,0 +1,23 @@
+pub mod Losses
+pub mod Memory
+pub mod Names
+pub mod Openings
+pub mod Opens
+pub mod Places
+pub mod Puts
+pub mod Walking
+pub use Rattle.syntect_grammar.specs.syntect_base as syntect_base
+pub use Rattle.syntect_grammar.specs.syntect_count as syntect_count
+pub use Rattle.syntect_grammar.specs as syntect_grammar
+pub use Rattle.syntect_grammar.specs.syntect_grammar_contexts as syntect_grammar_contexts
+pub use Rattle.syntect_grammar.specs.syntect_grammar_linker as syntect_grammar_linker
+pub use Rattle.syntect_grammar.specs.syntect_grammar_lists as syntect_grammar_lists
+pub use Rattle.syntect_grammar.specs.syntect_grammar_loader as syntect_grammar_loader
+pub use Rattle.syntect_grammar.specs.syntect_grammar_rewrite as syntect_grammar_rewrite
+pub use Rattle.syntect_grammar.specs.syntect_pattern as syntect_pattern
+pub use Rattle.syntect_grammar.specs.syntect_pattern_seek as syntect_pattern_seek
+pub use Rattle.syntect_grammar.specs.syntect_pattern_table as syntect_pattern_table
+pub use Rattle.syntect_grammar.specs.syntect_pattern_word_ends as syntect_pattern_word_ends
+pub use Rattle.syntect_grammar.specs.syntect_regex as syntect_regex
+pub use Rattle.syntect_grammar.specs.syntect_scope as syntect_scope
+pub use Rattle.syntect_grammar.specs.syntect_yaml as syntect_yaml

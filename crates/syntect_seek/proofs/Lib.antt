@@ -1,4 +1,0 @@
-pub mod NextLaws
-pub mod ProspectLaws
-pub mod SeekLaws
-pub mod DepthLaws

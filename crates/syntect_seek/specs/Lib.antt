@@ -1,3 +1,0 @@
-pub mod Prospect
-pub mod Bounds
-pub mod Depths

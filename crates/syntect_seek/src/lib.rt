@@ -1,6 +1,0 @@
-//! Searches whose steps are bounded.
-#![tactic(auto)]
-
-pub mod depths;
-pub mod prospect;
-pub mod seek;

@@ -1,2 +1,0 @@
-pub mod ChosenLaws
-pub mod SightLaws

@@ -1,9 +1,0 @@
-use Rattle.std.proofs.Common.{◌≡◌, List, true}
-use Rattle.syntect_pattern.specs.Trees.{Tree}
-use Rattle.syntect_pattern_table.specs.Table.{node_tree}
-use Rattle.syntect_sights.specs.Sights.{is_single}
-use Rattle.syntect_sights.proofs.SightLaws.{Spreads}
-use Rattle.syntect_sights.proofs.sight.past_single.Given as goal
-
-abbrev pub invariant-loop-place : goal.invariant-loop-place
-invariant-loop-place l = (ts : List Tree) → is_single (node_tree ts l.node) ≡ true → Spreads l.text (node_tree ts l.node) l.before l.place l.row.items

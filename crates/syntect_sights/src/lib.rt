@@ -1,4 +1,0 @@
-//! Where lookbehinds find what they look for.
-#![tactic(auto)]
-
-pub mod sight;

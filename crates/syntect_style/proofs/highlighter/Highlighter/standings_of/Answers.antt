@@ -1,4 +1,0 @@
-use Rattle.syntect_style.proofs.highlighter.Highlighter.standings_of.Goals as goal
-
-pub loop-place-init : goal.loop-place-init
-loop-place-init c = c.bottom-standings.ensures

@@ -1,2 +1,0 @@
--- What the walks of counts share.
-pub mod Walks

@@ -1,6 +1,0 @@
-//! Single steps of a search.
-#![tactic(auto)]
-
-pub mod anchor;
-pub mod past;
-pub mod text;

@@ -1,5 +1,0 @@
-use Rattle.syntect_winner.proofs.DialectLaws.{finds_in_text}
-use Rattle.syntect_winner.proofs.laws.dialect_finds_in_text.Goals as goal
-
-pub returns : goal.returns
-returns c = finds_in_text c.matches_are_laid_out.ensures

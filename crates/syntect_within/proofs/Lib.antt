@@ -1,2 +1,0 @@
-pub mod PatternLaws
-pub mod FittingLaws

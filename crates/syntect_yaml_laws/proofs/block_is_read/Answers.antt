@@ -1,5 +1,0 @@
-use Rattle.syntect_yaml_laws.proofs.NestLaws.{lines_read}
-use Rattle.syntect_yaml_laws.proofs.block_is_read.Goals as goal
-
-pub returns : goal.returns
-returns c = lines_read

@@ -1,5 +1,0 @@
-use Rattle.syntect_yaml_laws.proofs.Utf8Laws.{writes_utf8}
-use Rattle.syntect_yaml_laws.proofs.texts_are_utf8.Goals as goal
-
-pub returns : goal.returns
-returns c = writes_utf8
