@@ -1,11 +1,15 @@
 #!/bin/sh
-# Builds the program syncat, proved, and puts it on the user's path; or shows it at once, without a proof.
+# Builds the program vulsangi, proved, and puts it on the user's path, with grammars, themes, its manual page and completions; or
+# shows it at once, without a proof.
 #
 #   sh install.sh [FOLDER]              proves and builds it, and puts it into FOLDER, or else into $HOME/.local/bin
 #   sh install.sh --plan [FOLDER]       says what that needs, what of it is here and how long it takes, and does nothing
 #   sh install.sh --try                 builds it without any proof, in a minute or two, and shows a file in colour
 #   sh install.sh --uninstall           takes away what the other words have made
 #   sh install.sh --help                shows these lines
+#
+# What goes with it is laid into share beside a FOLDER that is called bin, and else into XDG_DATA_HOME or $HOME/.local/share.
+# VULSANGI_PROGRAM=syncat in the environment is for the smaller program syncat, which takes its grammars and theme from its words.
 #
 # The Rattle kit's command rt has to be on the path. What is built stays in the folder VULSANGI_BUILD, or else in the user's
 # cache, $HOME/.cache/vulsangi: a later call takes what has changed, and one that was stopped, with Ctrl-C or otherwise, is
@@ -14,7 +18,7 @@ set -eu
 
 here=$(cd "$(dirname "$0")" && pwd)
 build=${VULSANGI_BUILD:-"${XDG_CACHE_HOME:-${HOME:?}/.cache}/vulsangi"}
-program=syncat
+program=${VULSANGI_PROGRAM:-vulsangi}
 state=
 workers=
 
@@ -116,15 +120,23 @@ lay_out() {
     done
 }
 
+# Proves and builds the program in its crate's folder, and shows a file with it, so that what is installed has run.
+run_once() {
+    set -- --jobs "$1" --
+    case $program in
+        syncat) set -- "$@" "$here/examples/grammars" "$here/examples/dusk.json" html ;;
+        *) set -- "$@" --grammars "$here/grammars" --theme "$here/examples/dusk.json" --format html ;;
+    esac
+    exec rt run "$@" "$here/examples/texts/settings.ini"
+}
+
 # Proves one crate by so many jobs. When rt ends, so does all that it has started; its number stands in a file meanwhile.
 prove() {
     lay_out "$1" || return 1
     cd "$build/$1/crates/$1" || return 1
     [ ! -e "$state/over" ] || return 1
     if [ "$1" = "$program" ]; then
-        # Once built it shows a file, so that what is installed has run
-        rt run --jobs "$2" -- \
-            "$here/examples/grammars" "$here/examples/dusk.json" html "$here/examples/texts/settings.ini" &
+        run_once "$2" &
     else
         rt lib --jobs "$2" &
     fi
@@ -354,14 +366,50 @@ END
         echo "There may be too little memory: a check that lacks it fails, and is told with its log."
 }
 
-# the program, put into its folder in one move, and where it is
+# the folder of what goes with the program
+share_of() {
+    case $1 in
+        */bin) echo "${1%/bin}/share" ;;
+        *) echo "${XDG_DATA_HOME:-${HOME:?}/.local/share}" ;;
+    esac
+}
+
+# puts a file into its place in one move, with these rights, and notes it
+put_file() {
+    mkdir -p "$(dirname "$2")"
+    cp "$1" "$2.$$"
+    chmod "$3" "$2.$$"
+    mv -f "$2.$$" "$2"
+    sha256sum "$2" >> "$build/installed.new"
+}
+
+# what goes with the program: grammars, themes, the manual page and completions
+put_share() {
+    share=$(share_of "$folder")
+    for file in "$here"/grammars/*.sublime-syntax; do
+        put_file "$file" "$share/$program/grammars/${file##*/}" 644
+    done
+    for file in "$here"/examples/*.json; do
+        put_file "$file" "$share/$program/themes/${file##*/}" 644
+    done
+    put_file "$here/docs/$program.1" "$share/man/man1/$program.1" 644
+    put_file "$here/completions/$program.bash" "$share/bash-completion/completions/$program" 644
+    put_file "$here/completions/_$program" "$share/zsh/site-functions/_$program" 644
+    put_file "$here/completions/$program.fish" "$share/fish/vendor_completions.d/$program.fish" 644
+    echo "its grammars and themes are in $share/$program"
+}
+
+# The program and what goes with it, put into their folders, and where they are. What an earlier call has put elsewhere stays noted.
 put() {
     mkdir -p "$folder"
-    cp "$build/$program/crates/$program/out/$program" "$folder/.$program.$$"
-    chmod 755 "$folder/.$program.$$"
-    mv -f "$folder/.$program.$$" "$folder/$program"
-    sha256sum "$folder/$program" > "$build/installed"
+    : > "$build/installed.new"
+    put_file "$build/$program/crates/$program/out/$program" "$folder/$program" 755
     echo "$program, proved, is in $folder"
+    [ "$program" = syncat ] || put_share
+    touch "$build/installed"
+    awk '!seen[substr($0, 67)]++' "$build/installed.new" "$build/installed" > "$build/installed.all"
+    mv -f "$build/installed.all" "$build/installed"
+    rm -f "$build/installed.new"
     case ":$PATH:" in
         *":$folder:"*) ;;
         *) echo "$folder is not on the path" ;;
@@ -406,8 +454,11 @@ try_it() {
         builder=
         echo "$wanted" > "$unproved/sum"
     fi
-    set -- "$here/examples/grammars" "$here/examples/dusk.json" term "$here/examples/texts/orbit.rs"
-    "$unproved/$program" "$@"
+    case $program in
+        syncat) set -- "$here/examples/grammars" "$here/examples/dusk.json" term ;;
+        *) set -- --grammars "$here/grammars" --theme "$here/examples/dusk.json" --color always ;;
+    esac
+    "$unproved/$program" "$@" "$here/examples/texts/orbit.rs"
     cat << END
 
 That was examples/texts/orbit.rs, by $unproved/$program
@@ -416,21 +467,37 @@ here, in some $(minutes_left) minutes on these processors, and installs what it 
 END
 }
 
+# Takes a file away that was put into its place, by its line of what was installed, and the folders that were made for it.
+take_away() {
+    file=${1#*[ *][ *]}
+    [ -e "$file" ] || return 0
+    if ! printf '%s\n' "$1" | sha256sum --check --status 2> /dev/null; then
+        echo "$file is left: it is not what was put there"
+        return 0
+    fi
+    rm -f "$file"
+    case $file in
+        */vulsangi/grammars/* | */vulsangi/themes/*)
+            rmdir "${file%/*}" 2> /dev/null || true
+            top=${file%/*}
+            rmdir "${top%/*}" 2> /dev/null || true
+            ;;
+        */man1/* | */completions/* | */site-functions/* | */vendor_completions.d/*) ;;
+        *) echo "$file is taken away" ;;
+    esac
+}
+
 # Takes away what calls of this script have made, and nothing else.
 uninstall() {
     [ -d "$build" ] || stop "there is nothing at $build"
     take_state
-    put_there=$(sed 's/^[^ ]* [ *]//' "$build/installed" 2> /dev/null || true)
-    if [ -n "$put_there" ] && sha256sum --check --status "$build/installed" 2> /dev/null; then
-        rm -f "$put_there"
-        echo "$put_there is taken away"
-    elif [ -n "$put_there" ] && [ -f "$put_there" ]; then
-        echo "$put_there is left: it is not what was put there"
+    if [ -f "$build/installed" ]; then
+        while IFS= read -r line; do take_away "$line"; done < "$build/installed"
     fi
     for lane in "$build"/*/; do
         [ ! -f "$lane/HANDLES" ] || [ ! -f "$lane/crates.txt" ] || rm -rf "${lane:?}"
     done
-    rm -rf "$build/unproved" "$build/installed" "$build/state" "$build"/*.log
+    rm -rf "$build/unproved" "$build/installed" "$build/installed.new" "$build/state" "$build"/*.log
     state=
     rmdir "$build" 2> /dev/null || echo "$build is left: it has other files"
     echo "what was built in $build is taken away"

@@ -55,6 +55,17 @@ ENTRIES = [
         ("LineBuffer", "set_line"),
         ("LineBuffer", "remove_line"),
     ]),
+    ("A text or a file in one call", [
+        ("Assets", "from_folder"),
+        ("Assets", "what_loads"),
+        ("Assets", "show_text"),
+        ("Assets", "show_file"),
+    ]),
+    ("Parts of a document", [
+        ("", "numbered_text"),
+        ("", "classed_text"),
+        ("", "sheet_for_light_and_dark"),
+    ]),
 ]
 
 
@@ -230,7 +241,7 @@ INTRODUCTION = """\
 
 A proof says that the code does what its contract says. Whether the contract says what one wants is for a reader to judge, and a contract is written in words that are defined elsewhere. This page has, for each main call, all definitions that its contract rests on; nobody needs to read another one of `specs/` to know what the call promises. `DEFINITIONS.md` says the same in words, by notion. The kit and the machine are believed too: [what is believed](NOT_PROMISED.md#what-is-believed).
 
-First come the names that the contract itself cites, and then what these rest on, by file, in the order in which a reader meets the files. A definition stands here once, and a later call refers to it. Behind each name is the comment above it, which is a help and no part of the promise. A type that has a *view* stands in contracts for the value that its `Model` gives; the other types are what their declarations say, and are listed at the end. An *invariant* holds of every value of its type, and no caller can break it: one can judge what is promised without it, so what invariants alone rest on stands apart. What is of the standard library and of its crates is named last.
+First come the names that the contract itself cites, and then what these rest on, by file, in the order in which a reader meets the files. A definition stands here once, and a later call refers to it. After each name stands the comment above it, which is a help and no part of the promise. A type that has a *view* stands in contracts for the value that its `Model` gives; the other types are what their declarations say, and are listed at the end. An *invariant* holds of every value of its type, and no caller can break it: one can judge what is promised without it, so what invariants alone rest on stands apart. What is of the standard library and of its crates is named last.
 
 How to read a path: `Rattle.syntect_parsing.specs.syntect_scope.Stack` is `crates/syntect_scope/specs/Stack.antt`, since a crate passes on those that it stands on; `declared.stack.ScopeStack` is the type `ScopeStack` of `src/stack.rt`, and `TheVariants` are the variants of an enum. In a clause `x.old` and `x.new` are what a `&mut` refers to before and after the call, `x.now` what a `&` refers to, `x.entry` and `x.exit` an argument itself before and after; `IfOk r P` says P of an answer and nothing of an error, `OnOk r P` says P where there is an answer, `IfErr` and `OnErr` the same of errors.
 

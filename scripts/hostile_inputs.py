@@ -166,6 +166,10 @@ INPUTS = {
     "back references and three loops": lambda: cost("(a*)(a*)(a*)\\1\\2\\3b", "a" * 400 + "cb\n"),
     "a back reference within its loop": lambda: cost("(?:(a|b|ab)\\1?)+c", "ab" * 40 + "dc\n"),
     "a pop that names what pushed": popped_by_ref,
+    "a way back of 1 MB": lambda: cost("((a|b)\\2?)*c", "ab" * 500000 + "d c\n"),
+    "a way back of 10 MB": lambda: cost("((a|b)\\2?)*c", "ab" * 5000000 + "d c\n"),
+    "a way back of 1 MB through groups in groups": lambda: cost("((((a|b)\\4?)*)x?)*c", "ab" * 500000 + "d c\n"),
+    "a way back of 1 MB without back references": lambda: cost("(?:a|b|ab)*c", "ab" * 500000 + "d c\n"),
     "a short text put in by 17 patterns in each turn": lambda: put_in(17, 5000, "a" * 4000 + "\n"),
     "a text of 500 KB put in by 17 patterns": lambda: put_in(17, 500000, "a" * 20 + "\n"),
     "a text of 900 KB put in once, and kept": lambda: put_in(1, 900000, "a" * 100000 + "\n"),
@@ -191,6 +195,9 @@ INPUTS = {
     "a lookbehind of 100 lengths": lambda: cost("(?<=" + "|".join("a" * n + "b" for n in range(1, 100)) + ")c", "a" * 100000 + "c" * 1000 + "\n"),
     "lookbehinds in one another": lambda: cost(nested("(?<=a", "a", ")", 60) + "b", "a" * 50000 + "cb\n"),
     "a lookbehind in a loop": lambda: cost("(?:(?<=(?:a|aa)a)a|a)+b", "a" * 5000 + "cb\n"),
+    "rows of an atomic group of 200 words": lambda: cost(
+        "(?:a+)+(?>" + "|".join(f"x{n}y" for n in range(200)) + ")b", "a" * 14000 + " x7yc x8yb\n"
+    ),
     "an atomic group in a loop": lambda: cost("(?:(?>a+b?)|a)+c", "a" * 5000 + "dc\n"),
     # grammars
     "includes that fan out, 4^9": lambda: includes_that_fan_out(9, 4),

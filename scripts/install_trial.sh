@@ -45,11 +45,12 @@ new_library() {
 }
 
 mkdir -p "$top/crates" "$top/docs"
-cp -R "$here/install.sh" "$here/scripts" "$here/examples" "$here/HANDLES" "$here/README.md" "$top/"
+for part in install.sh scripts examples grammars completions HANDLES README.md; do cp -R "$here/$part" "$top/"; done
+cp "$here/docs/vulsangi.1" "$top/docs/"
 for library in low middle beside; do new_library "$library"; done
-(cd "$room" && rt new syncat start_io > /dev/null && rm syncat/BUILD.bazel && mv syncat "$top/crates/")
-printf 'low:\nmiddle: low\nbeside:\nsyncat: middle beside\n' > "$top/crates.txt"
-printf '# crate\tproof\nlow\t10\nmiddle\t12\nbeside\t9\nsyncat\t20\n' > "$top/docs/gate.tsv"
+(cd "$room" && rt new vulsangi start_io > /dev/null && rm vulsangi/BUILD.bazel && mv vulsangi "$top/crates/")
+printf 'low:\nmiddle: low\nbeside:\nvulsangi: middle beside\n' > "$top/crates.txt"
+printf '# crate\tproof\nlow\t10\nmiddle\t12\nbeside\t9\nvulsangi\t20\n' > "$top/docs/gate.tsv"
 
 call --plan "$bin"
 seen "--plan says what is needed" said "Of these 4 there stand already: 0"
@@ -66,27 +67,35 @@ wait "$caller" || ended=$?
 seen "a call that is stopped ends with status 130" test "$ended" = 130
 sleep 1
 seen "nothing of it goes on" test -z "$(find /proc/[0-9]*/cwd -maxdepth 0 -lname "$VULSANGI_BUILD*" 2> /dev/null)"
-seen "nothing is installed yet" test ! -e "$bin/syncat"
+seen "nothing is installed yet" test ! -e "$bin/vulsangi"
 
 call "$bin"
 seen "the same command goes on" said "there stand already: [1-3]"
-seen "and installs the program" test "$ended $(test -x "$bin/syncat" && echo there)" = "0 there"
+seen "and installs the program" test "$ended $(test -x "$bin/vulsangi" && echo there)" = "0 there"
 call "$bin"
 seen "a call with nothing changed proves nothing" said "there stand already: 4"
 seen "and installs" test "$ended" = 0
+share=$room/share
+seen "with grammars and themes" test -f "$share/vulsangi/grammars/Git Commit.sublime-syntax" -a -f "$share/vulsangi/themes/dusk.json"
+seen "a manual page" test -f "$share/man/man1/vulsangi.1"
+seen "and completions" test -f "$share/bash-completion/completions/vulsangi" -a -f "$share/zsh/site-functions/_vulsangi" \
+    -a -f "$share/fish/vendor_completions.d/vulsangi.fish"
 
 cp "$top/crates/middle/src/lib.rt" "$room/kept.rt"
 sed -i 's/^    x$/    x ^ 1/' "$top/crates/middle/src/lib.rt"
 call "$bin"
 seen "a crate that is not proved is named, with its log" said "middle is not proved; .*$VULSANGI_BUILD/middle.log"
 seen "the status is 1" test "$ended" = 1
-seen "the program of before stays" test -x "$bin/syncat"
+seen "the program of before stays" test -x "$bin/vulsangi"
 cp "$room/kept.rt" "$top/crates/middle/src/lib.rt"
 
 echo other > "$room/mine"
+echo mine >> "$share/vulsangi/themes/dawn.json"
 cp "$room/mine" "$VULSANGI_BUILD/mine"
 call --uninstall
-seen "--uninstall takes the program away" test ! -e "$bin/syncat"
+seen "--uninstall takes the program away" test ! -e "$bin/vulsangi"
+seen "and what goes with it" test ! -e "$share/vulsangi/grammars" -a ! -e "$share/man/man1/vulsangi.1"
+seen "but not what was changed" said "themes/dawn.json is left"
 seen "and what was built, but no other file" test "$(ls "$VULSANGI_BUILD")" = mine
 call --unknown
 seen "a word that is none is refused" test "$ended" = 1

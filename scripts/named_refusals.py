@@ -16,7 +16,7 @@ import sys
 
 HERE = os.path.dirname(os.path.dirname(os.path.abspath(__file__)))
 CRATES = (
-    "scope regex metadata theme theme_files style writers grammar_contexts grammar_loader grammar grammar_limits reading_state parsing buffer"
+    "scope regex metadata theme theme_files style writers grammar_contexts grammar_loader grammar grammar_limits reading_state parsing buffer assets"
 ).split()
 # each error with the file that has it
 ERRORS = {
@@ -28,6 +28,7 @@ ERRORS = {
     "LoadWithinError": "syntect_base/src/limits.rt",
     "FolderWithinError": "syntect_grammar_limits/src/folder_error.rt",
     "FindWithinError": "syntect_grammar_limits/src/first_line_error.rt",
+    "AssetsError": "syntect_assets/src/error.rt",
     "ReadWithinError": "syntect_parsing/src/within.rt",
     "HighlightWithinError": "syntect_easy/src/within.rt",
     "ParseThemeError": "syntect_base/src/theme.rt",

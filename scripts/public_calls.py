@@ -15,12 +15,12 @@ import sys
 
 HERE = os.path.dirname(os.path.dirname(os.path.abspath(__file__)))
 CRATES = (
-    "scope regex metadata theme theme_files style writers operations grammar_contexts grammar_loader grammar grammar_limits reading_state parsing buffer blocks"
+    "scope regex metadata theme theme_files style writers operations grammar_contexts grammar_loader grammar grammar_limits reading_state parsing buffer blocks assets"
 ).split()
 TRIALS = ["calls", "sets", "faults"]
 REFUSALS = re.compile(
     r"\b(AllocError|ParseScopeError|ScopeError|ParsingError|ParseSyntaxError|LoadWithinError|FolderWithinError|FindWithinError|ReadWithinError|HighlightWithinError|ParseThemeError|LoadingError|MetadataError|"
-    r"PatternError|SettingsError|Error)\b"
+    r"PatternError|SettingsError|AssetsError|Error)\b"
 )
 ITEM = re.compile(r"^(?:impl\b[^{;]*|(?:    )?(?:pub )?(?:const )?fn [^{;]*|#\[derive\([^)]*\)\]\n(?:///.*\n)*pub (?:struct|enum) \w+)", re.M)
 

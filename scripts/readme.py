@@ -104,8 +104,8 @@ def try_quote():
     """README's lines of code stand in the function that it names."""
     text = text_of(README)
     for block in re.finditer(r"^```rust\n(.*?)^```", text, flags=re.M | re.S):
-        if block[1] not in text_of("crates/syntect_example_folder_page/src/folder.rt"):
-            fault(README, block.start(), "this code is not that of crates/syntect_example_folder_page/src/folder.rt")
+        if block[1] not in text_of("crates/syntect_example_pager/src/main.rt"):
+            fault(README, block.start(), "this code is not that of crates/syntect_example_pager/src/main.rt")
 
 
 def crates_below(crate):

@@ -38,3 +38,5 @@ pub use Rattle.syntect_buffer.specs.Answers
 pub use Rattle.syntect_buffer.specs.Fresh
 pub use Rattle.syntect_buffer.specs.Kept
 pub use Rattle.syntect_buffer.specs.States
+pub use Rattle.syntect_buffer.specs.syntect_assets.Assets
+pub use Rattle.syntect_buffer.specs.syntect_assets.Texts

@@ -1,12 +1,14 @@
 //! Syntax highlighting: a grammar says which scopes stand over each byte of a text, and a theme in
 //! which style stacks of scopes are shown.
 //!
-//! `easy::HighlightLines` takes lines one after another and answers styled pieces. The modules
-//! `parsing` and `highlighting` have the parts that it is made of.
-//! `buffer::LineBuffer` keeps the styles of a text that is edited, and `values` has the types of lists, texts and tables
-//! that fields have.
+//! `assets::Assets` holds the grammars and themes of a folder, and shows a text or a file in one
+//! call. `easy::HighlightLines` takes lines one after another and answers styled pieces. The modules
+//! `parsing` and `highlighting` have the parts that it is made of. `buffer::LineBuffer` keeps the
+//! styles of a text that is edited, and `values` has the types of lists, texts and tables that
+//! fields have.
 #![tactic(auto)]
 
+pub mod assets;
 pub mod buffer;
 pub mod values;
 

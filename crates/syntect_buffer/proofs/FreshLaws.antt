@@ -10,10 +10,10 @@ use Rattle.syntect_buffer.specs.syntect_parsing.declared.parser.Standing.{Standi
 use Rattle.syntect_buffer.specs.syntect_grammar_loader.declared.definition.SyntaxDefinition.{SyntaxDefinition}
 use Rattle.syntect_buffer.specs.syntect_grammar_contexts.declared.syntax_reference.SyntaxReference.{SyntaxReference}
 use Rattle.syntect_buffer.specs.syntect_grammar.declared.syntax_set.SyntaxSet.{SyntaxSet}
-use Rattle.syntect_easy.specs.Built.{IsSyntaxOfBuilt}
-use Rattle.syntect_easy.specs.Leads.{Past, RunsOrderly, reader_of}
+use Rattle.syntect_buffer.specs.syntect_easy.Built.{IsSyntaxOfBuilt}
+use Rattle.syntect_buffer.specs.syntect_easy.Leads.{Past, RunsOrderly, reader_of}
 use Rattle.syntect_buffer.specs.Answers.{HasNoLimit, TellsOf, UnlessLimit, given_lines}
-use Rattle.syntect_buffer.specs.Fresh.{IsAnswerAt, IsWhole, LeadTo, AllStartApart, ReadsAgain, given_in}
+use Rattle.syntect_buffer.specs.Fresh.{IsAnswerAt, IsWhole, LeadTo, SettlesAfter, ReadsAgain, given_in}
 use Rattle.syntect_buffer.specs.States.{Holds, StandSame, no_lines, and_all}
 use Rattle.syntect_buffer.specs.Kept.{IsReadingAfter, IsAnsweredUnlessLimited, IsAnswered, AllTell, AreMarked, IsReadFrom, AreReadFrom, IsKept, IsEdited, answers_of, ending, lines_in, buffer_view}
 use Rattle.syntect_buffer.specs.declared.answer.LineAnswer.{LineAnswer}
@@ -234,7 +234,7 @@ module _ (set : SyntaxSet) (theme : Theme) (syntax : SyntaxReference) (old new :
   -- up to the first that doesn't
   pub starts_apart : (definitions : List SyntaxDefinition) (at : ℕ) → IsSyntaxOfBuilt set syntax definitions → IsKept set theme syntax old → (e : IsEdited set theme old new place behind own number)
       → place ≤ length old.readings → behind ≤ length old.readings → at ≡ place + length own
-      → AllStartApart (buffer_view syntax set theme old) (buffer_view syntax set theme new) behind at (length e.again)
+      → SettlesAfter (buffer_view syntax set theme old) (buffer_view syntax set theme new) behind at (length e.again)
   starts_apart definitions at b k e l m a = record {
     within = omega (arith, count_new, e.read_again.within);
     first = λ oo on j lt. record {

@@ -14,7 +14,7 @@ use Rattle.syntect_buffer.specs.syntect_parsing.Stacks.{Remembers}
 use Rattle.syntect_buffer.specs.syntect_parsing.States.{standing}
 use Rattle.syntect_buffer.specs.syntect_parsing.declared.parser.Standing.{Standing}
 use Rattle.syntect_buffer.specs.syntect_grammar.declared.syntax_set.SyntaxSet.{SyntaxSet}
-use Rattle.syntect_easy.specs.Leads.{Past, RunsOrderly, and_then, styles_of, reader_of}
+use Rattle.syntect_buffer.specs.syntect_easy.Leads.{Past, RunsOrderly, and_then, styles_of, reader_of}
 use Rattle.syntect_buffer.specs.Answers.{given_line, given_lines}
 use Rattle.syntect_buffer.specs.States.{Holds, StandSame, and_all}
 use Rattle.syntect_buffer.specs.Kept.{IsAnsweredUnlessLimited, IsMarked, AreMarked, IsReadFrom, AreReadFrom, ReadsOn, answers_of, ending}

@@ -14,9 +14,9 @@ use Rattle.syntect_buffer.specs.syntect_grammar_contexts.declared.error.ParsingE
 use Rattle.syntect_buffer.specs.syntect_grammar.declared.syntax_set.SyntaxSet.{SyntaxSet}
 use Rattle.syntect_buffer.specs.syntect_grammar.declared.error.Error.{Error}
 use Rattle.syntect_buffer.specs.syntect_grammar.declared.error.Error.TheVariants as error
-use Rattle.syntect_easy.specs.Leads.{Past, HoldsSame, IsPast, styles_of, reader_of}
-use Rattle.syntect_easy.specs.Leads as leads
-use Rattle.syntect_easy.specs.declared.easy.HighlightLines.{HighlightLines}
+use Rattle.syntect_buffer.specs.syntect_easy.Leads.{Past, HoldsSame, IsPast, styles_of, reader_of}
+use Rattle.syntect_buffer.specs.syntect_easy.Leads as leads
+use Rattle.syntect_buffer.specs.syntect_easy.declared.easy.HighlightLines.{HighlightLines}
 use Rattle.syntect_buffer.specs.Answers.{Follow, IsRefusal, styles_in, total, ranges_from}
 use Rattle.syntect_buffer.specs.States.{Holds, StandSame, IsLeft}
 use Rattle.syntect_buffer.specs.Kept.{IsAnsweredUnlessLimited, IsReadFrom}

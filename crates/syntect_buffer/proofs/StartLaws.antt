@@ -5,8 +5,8 @@ use Rattle.syntect_buffer.specs.syntect_parsing.States.{standing}
 use Rattle.syntect_buffer.specs.syntect_grammar_contexts.declared.syntax_reference.SyntaxReference.{SyntaxReference}
 use Rattle.syntect_buffer.specs.syntect_grammar.declared.syntax_set.SyntaxSet.{SyntaxSet}
 use Rattle.syntect_buffer.specs.syntect_grammar.declared.error.Error.TheVariants as error
-use Rattle.syntect_easy.specs.Leads.{Leads, LacksStart, styles_of, reader_of}
-use Rattle.syntect_easy.specs.declared.easy.HighlightLines.{HighlightLines}
+use Rattle.syntect_buffer.specs.syntect_easy.Leads.{Leads, LacksStart, styles_of, reader_of}
+use Rattle.syntect_buffer.specs.syntect_easy.declared.easy.HighlightLines.{HighlightLines}
 use Rattle.syntect_buffer.specs.Kept.{AllTell, AreMarked, AreReadFrom, IsKept, lines_in}
 use Rattle.syntect_buffer.specs.declared.reading.Reading.{Reading}
 use Rattle.syntect_buffer.specs.declared.reading.Kept.{Kept}

@@ -6,8 +6,8 @@ use Rattle.syntect_buffer.specs.syntect_parsing.declared.within.LineLimit.{LineL
 use Rattle.syntect_buffer.specs.syntect_parsing.declared.within.LineLimit.TheVariants.{Steps, Turns, Levels, Operations}
 use Rattle.syntect_buffer.specs.syntect_grammar_contexts.declared.error.ParsingError.{ParsingError}
 use Rattle.syntect_buffer.specs.syntect_grammar_contexts.declared.error.ParsingError.TheVariants as parsing
-use Rattle.syntect_easy.specs.Within.{ReachesLimit}
-use Rattle.syntect_easy.specs.declared.within.HighlightWithinError.TheVariants as within
+use Rattle.syntect_buffer.specs.syntect_easy.Within.{ReachesLimit}
+use Rattle.syntect_buffer.specs.syntect_easy.declared.within.HighlightWithinError.TheVariants as within
 use Rattle.syntect_buffer.specs.Answers.{HasLimit, HasNoLimit, IsRefusal, TellsOf, given_line, given_lines}
 use Rattle.syntect_buffer.specs.Kept.{AllTell, answers_of}
 use Rattle.syntect_buffer.specs.declared.answer.LineAnswer.{LineAnswer}

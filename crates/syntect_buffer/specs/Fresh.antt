@@ -7,7 +7,7 @@ use Rattle.syntect_buffer.specs.syntect_parsing.Line.{Answer, AnswersAll, start_
 use Rattle.syntect_buffer.specs.syntect_parsing.declared.parser.Standing.{Standing}
 use Rattle.syntect_buffer.specs.syntect_grammar_contexts.declared.syntax_reference.SyntaxReference.{SyntaxReference}
 use Rattle.syntect_buffer.specs.syntect_grammar.declared.syntax_set.SyntaxSet.{SyntaxSet}
-use Rattle.syntect_easy.specs.Leads.{RunsOrderly}
+use Rattle.syntect_buffer.specs.syntect_easy.Leads.{RunsOrderly}
 use Rattle.syntect_buffer.specs.Answers.{IsAnswer, given_lines}
 use Rattle.syntect_buffer.specs.declared.answer.LineAnswer.{LineAnswer}
 
@@ -69,7 +69,7 @@ pub record StartsSame (before after : Buffer) (old new : ℕ) : Type 0 where
   pub leads_old : LeadTo before old state
   pub leads_new : LeadTo after new state
 
--- they start from different ones
+-- they start from different states
 pub record StartsApart (before after : Buffer) (old new : ℕ) : Type 0 where
   pub old_state : Standing
   pub new_state : Standing
@@ -80,7 +80,7 @@ pub record StartsApart (before after : Buffer) (old new : ℕ) : Type 0 where
 -- An edit left the lines unchanged that stood from `old` on, and now stand from `new` on. The first
 -- `count` of them start from another state than before (where all lines but those that reached a
 -- limit are orderly, before and after), and the next one, if there is one, from the same.
-pub record AllStartApart (before after : Buffer) (old new count : ℕ) : Type 0 where
+pub record SettlesAfter (before after : Buffer) (old new count : ℕ) : Type 0 where
   pub within : new + count ≤ length after.lines
   pub first : RunsOrderly before.set before.syntax (given_in before (length before.lines))
       → RunsOrderly after.set after.syntax (given_in after (length after.lines))
@@ -91,4 +91,4 @@ pub record AllStartApart (before after : Buffer) (old new count : ℕ) : Type 0 
 -- them that start from another state than before.
 abbrev pub ReadsAgain : Buffer → Buffer → ℕ → ℕ → ℕ → ℕ → Type 0
 ReadsAgain before after own old new number =
-    (count : ℕ) × (number ≡ own + count) × AllStartApart before after old new count
+    (count : ℕ) × (number ≡ own + count) × SettlesAfter before after old new count

@@ -6,8 +6,8 @@ use Rattle.syntect_buffer.specs.syntect_parsing.Line.{Answer}
 use Rattle.syntect_buffer.specs.syntect_grammar_loader.declared.definition.SyntaxDefinition.{SyntaxDefinition}
 use Rattle.syntect_buffer.specs.syntect_grammar_contexts.declared.syntax_reference.SyntaxReference.{SyntaxReference}
 use Rattle.syntect_buffer.specs.syntect_grammar.declared.syntax_set.SyntaxSet.{SyntaxSet}
-use Rattle.syntect_easy.specs.Built.{IsSyntaxOfBuilt}
-use Rattle.syntect_easy.specs.Leads.{Past, RunsOrderly, and_then}
+use Rattle.syntect_buffer.specs.syntect_easy.Built.{IsSyntaxOfBuilt}
+use Rattle.syntect_buffer.specs.syntect_easy.Leads.{Past, RunsOrderly, and_then}
 use Rattle.syntect_buffer.specs.Answers.{IsAnswer, TellsOf}
 use Rattle.syntect_buffer.specs.Fresh.{Buffer}
 use Rattle.syntect_buffer.specs.States.{Holds, StandSame, no_lines}

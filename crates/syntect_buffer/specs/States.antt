@@ -7,8 +7,8 @@ use Rattle.syntect_buffer.specs.syntect_parsing.States.{standing}
 use Rattle.syntect_buffer.specs.syntect_grammar_loader.declared.definition.SyntaxDefinition.{SyntaxDefinition}
 use Rattle.syntect_buffer.specs.syntect_grammar_contexts.declared.syntax_reference.SyntaxReference.{SyntaxReference}
 use Rattle.syntect_buffer.specs.syntect_grammar.declared.syntax_set.SyntaxSet.{SyntaxSet}
-use Rattle.syntect_easy.specs.Leads.{Past, IsPast, styles_of, reader_of}
-use Rattle.syntect_easy.specs.declared.easy.HighlightLines.{HighlightLines}
+use Rattle.syntect_buffer.specs.syntect_easy.Leads.{Past, IsPast, styles_of, reader_of}
+use Rattle.syntect_buffer.specs.syntect_easy.declared.easy.HighlightLines.{HighlightLines}
 use Rattle.syntect_buffer.specs.declared.states.LineStates.{LineStates}
 
 -- ---- What invariants alone rest on ----

@@ -1,14 +1,15 @@
 //! The lines of an editor's text.
 ghost use Rattle.std.specs.Prelude.{◌≡◌, ◌+◌, ◌<◌, ◌≤◌, List, [], insert, remove, take, length, slice_get, slice_set, string_bytes, Some, IfOk, IfErr, OnOk, OnErr};
 ghost use Rattle.syntect_buffer.specs.syntect_base.Limiting.{unlimited};
-ghost use Rattle.syntect_easy.specs.Built.{IsSyntaxOfBuilt};
-ghost use Rattle.syntect_easy.specs.Leads.{LacksStart};
+ghost use Rattle.syntect_buffer.specs.syntect_easy.Built.{IsSyntaxOfBuilt};
+ghost use Rattle.syntect_buffer.specs.syntect_easy.Leads.{LacksStart};
 ghost use Rattle.syntect_buffer.specs.syntect_grammar_loader.declared.definition.SyntaxDefinition.{SyntaxDefinition as ADefinition};
 ghost use Rattle.syntect_buffer.specs.Answers.{HasNoLimit, TellsOf, UnlessLimit};
 ghost use Rattle.syntect_buffer.specs.Fresh.{IsReadWith, IsAnswerAt, IsWhole, ReadsAgain, given_in};
 
 use crate::answer::LineAnswer;
 use crate::below::base::limits::Limits;
+use crate::below::easy::easy::HighlightLines;
 use crate::below::parsing::error::Error;
 use crate::below::parsing::syntax_set::{SyntaxReference, SyntaxSet};
 use crate::below::theme::theme::Theme;
@@ -18,7 +19,6 @@ use crate::states::{LineStates, SharedStates};
 use std::alloc::{AllocError, Global};
 use std::marker::Model;
 use syntect_blocks::blocks::Blocks;
-use syntect_easy::easy::HighlightLines;
 
 /// The lines of a text that is edited, each with what a highlighter answers to it.
 #[derive(Drop)]
@@ -139,7 +139,7 @@ impl<'a> LineBuffer<'a> {
         requires { place ≤ length self.old.lines }
         ensures lines { OnOk result
             (self.new.lines ≡ insert self.old.lines place (string_bytes line)) }
-        ensures made { IsReadWith self.new self.old.syntax self.old.set self.old.theme }
+        ensures stays { IsReadWith self.new self.old.syntax self.old.set self.old.theme }
         ensures limits { self.new.limits ≡ self.old.limits }
         ensures all { HasNoLimit self.old.limits → IsWhole self.old × IsWhole self.new }
         ensures number { IfOk result (λ number. (definitions : List ADefinition)
@@ -168,7 +168,7 @@ impl<'a> LineBuffer<'a> {
         requires { place < length self.old.lines }
         ensures lines { OnOk result
             (self.new.lines ≡ slice_set self.old.lines place (string_bytes line)) }
-        ensures made { IsReadWith self.new self.old.syntax self.old.set self.old.theme }
+        ensures stays { IsReadWith self.new self.old.syntax self.old.set self.old.theme }
         ensures limits { self.new.limits ≡ self.old.limits }
         ensures all { HasNoLimit self.old.limits → IsWhole self.old × IsWhole self.new }
         ensures number { IfOk result (λ number. (definitions : List ADefinition)
@@ -190,7 +190,7 @@ impl<'a> LineBuffer<'a> {
     pub fn remove_line(&mut self, alloc: Global, place: usize) -> Result<usize, AllocError>
         requires { place < length self.old.lines }
         ensures lines { OnOk result (self.new.lines ≡ remove self.old.lines place) }
-        ensures made { IsReadWith self.new self.old.syntax self.old.set self.old.theme }
+        ensures stays { IsReadWith self.new self.old.syntax self.old.set self.old.theme }
         ensures limits { self.new.limits ≡ self.old.limits }
         ensures all { HasNoLimit self.old.limits → IsWhole self.old × IsWhole self.new }
         ensures number { IfOk result (λ number. (definitions : List ADefinition)

@@ -7,13 +7,13 @@ ghost use Rattle.syntect_buffer.specs.States.{StandSame};
 
 use crate::answer::{LineAnswer, ranges_of, refusal, refused_operation};
 use crate::below::base::limits::Limits;
+use crate::below::easy::easy::{HighlightLines, HighlightWithinError};
 use crate::below::parsing::error::Error;
 use crate::below::parsing::syntax_set::SyntaxSet;
 use crate::below::theme::theme::Theme;
 use crate::states::{LineStates, SharedStates, copied, left, stand_same};
 use std::alloc::{AllocError, Global};
 use syntect_blocks::blocks::Blocks;
-use syntect_easy::easy::{HighlightLines, HighlightWithinError};
 
 /// A line's answer, and the states after the line.
 #[derive(Drop)]

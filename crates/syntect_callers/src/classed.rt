@@ -35,7 +35,8 @@ pub fn classed_page_of(
         → IfOk result (λ page.
         IsClassedPageOf (RunsOrderly set.now syntax.now (lines_of text.now)) set.now syntax.now
         repository.now (prefix_of style) text.now (string_bytes page)) }
-    ensures refused { (definitions : List ADefinition) → IsSyntaxOfBuilt set.now syntax.now definitions
+    ensures refused { (definitions : List ADefinition)
+        → IsSyntaxOfBuilt set.now syntax.now definitions
         → IfErr result (IsWhyNoPage set.now syntax.now text.now) }
     // of any set
     ensures any_page { IfOk result (λ page.

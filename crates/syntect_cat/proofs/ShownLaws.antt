@@ -13,7 +13,7 @@ use Rattle.syntect_cat.specs.syntect_grammar.PlainText.{plain_text, AddsPlainTex
 use Rattle.syntect_cat.specs.syntect_grammar_loader.declared.definition.SyntaxDefinition.{SyntaxDefinition}
 use Rattle.syntect_cat.specs.syntect_grammar.declared.syntax_set.SyntaxSet.{SyntaxSet}
 use Rattle.syntect_cat.specs.syntect_grammar.declared.syntax_set.SyntaxSetBuilder.{SyntaxSetBuilder}
-use Rattle.syntect_easy.specs.Built.{IsPlain, IsBuilt}
+use Rattle.syntect_cat.specs.syntect_easy.Built.{IsPlain, IsBuilt}
 use Rattle.syntect_cat.specs.syntect_theme_files.ThemeFiles.{IsThemeOf}
 use Rattle.syntect_cat.specs.syntect_grammar.declared.error.Error.{Error}
 use Rattle.syntect_cat.specs.syntect_grammar.declared.error.Error.TheVariants as error

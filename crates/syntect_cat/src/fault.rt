@@ -3,8 +3,8 @@ ghost use Rattle.std.specs.Prelude.{◌≡◌, IfOk, string_bytes};
 ghost use Rattle.syntect_cat.specs.Faults.{plain_line, fault_line, fault_of, limit_text};
 
 use crate::below::base::limits::LimitReached;
+use crate::below::easy::Error;
 use std::alloc::{AllocError, Global};
-use syntect_easy::Error;
 
 /// What is written where the words ask for nothing.
 pub const USAGE: &str = "usage: syncat FOLDER THEME html|term FILE\n";

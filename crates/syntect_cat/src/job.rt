@@ -1,6 +1,9 @@
 //! What is asked for.
 ghost use Rattle.std.specs.Prelude.{◌≡◌, map, IfSome, IfNone, string_bytes};
+ghost use Rattle.syntect_cat.specs.Texts.{form_of};
 ghost use Rattle.syntect_cat.specs.Words.{AreWords, words_of};
+
+use syntect_assets::format::Format as Form;
 
 /// What a text is shown as.
 #[derive(Clone, Copy, Debug, PartialEq, Eq)]
@@ -9,6 +12,18 @@ pub enum Format {
     Html,
     /// Text with the escape sequences of a terminal of 24 bit colours.
     Terminal,
+}
+
+impl Format {
+    /// What texts are written as.
+    pub(crate) fn form(self) -> Form
+        ensures { result ≡ form_of self }
+    {
+        match self {
+            Format::Html => Form::Html,
+            Format::Terminal => Form::Terminal,
+        }
+    }
 }
 
 /// A file that is to be shown.

@@ -12,6 +12,5 @@ mod note;
 mod program;
 mod put;
 mod show;
-mod writer;
 
 pub use crate::program::run;

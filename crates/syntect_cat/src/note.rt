@@ -5,10 +5,10 @@ ghost use Rattle.syntect_cat.specs.Written.{Begins};
 
 use crate::below::grammar_limits::first_line_error::FirstLineLimit;
 use crate::below::parsing::within::LineLimit;
-use crate::lines::PlainLine;
 use crate::put::put;
 use std::alloc::{AllocError, Global};
 use std::io::Write;
+use syntect_assets::lines::PlainLine;
 
 /// What is reported of a text in which limits were reached: the foremost of these.
 #[derive(Clone, Copy)]

@@ -6,6 +6,7 @@ ghost use Rattle.syntect_cat.specs.declared.fault.Fault.TheVariants.{Writing};
 ghost use Rattle.syntect_cat.specs.declared.fault.Fault.TheVariants.{Theme as FaultOfTheme};
 
 use crate::below::base::limits::Limits;
+use crate::below::easy::laws::loaded_is_plain;
 use crate::below::grammar_limits::folder_error::FolderWithinError;
 use crate::below::grammar_limits::folders::add_from_folder_within;
 use crate::below::parsing::syntax_set::{SyntaxSet, SyntaxSetBuilder};
@@ -19,7 +20,6 @@ use crate::note::Note;
 use std::alloc::Global;
 use std::path::Path;
 use std::rt::Files;
-use syntect_easy::laws::loaded_is_plain;
 
 /// Plain text and the grammars and metadata in a folder, linked, for lines with newlines. The
 /// grammars are loaded within `Limits::default`.

@@ -1,9 +1,6 @@
 //! What stands below, as far as it is used here or passed on.
 
-/// Of `syntect_base`.
-pub mod base {
-    pub use syntect_metadata::below::base::theme;
-}
+pub use syntect_metadata::below::{base, pattern_seek};
 
 /// Of `syntect_count`.
 pub mod count {
@@ -13,11 +10,6 @@ pub mod count {
 /// Of `syntect_metadata`.
 pub mod metadata {
     pub use syntect_metadata::{metadata, scoped};
-}
-
-/// Of `syntect_pattern_seek`.
-pub mod pattern_seek {
-    pub use syntect_metadata::below::pattern_seek::{depths, prospect};
 }
 
 /// Of `syntect_regex`.

@@ -1,5 +1,7 @@
 //! What stands below, as far as it is used here or passed on.
 
+pub use syntect_check_tables::below::check_queries;
+
 /// Of `syntect_easy`.
 pub mod easy {
     pub use syntect_buffer::below::easy::{Error, easy, highlighting, parsing, util};
@@ -8,9 +10,4 @@ pub mod easy {
 /// Of `syntect_base`.
 pub mod base {
     pub use syntect_check_tables::below::base::utils;
-}
-
-/// Of `syntect_check_queries`.
-pub mod check_queries {
-    pub use syntect_check_tables::below::check_queries::{escapes, patterns, queries, searches};
 }

@@ -1,4 +1,5 @@
-//! Calls that copy values and that make and read sets, each tried where requests for memory are refused.
+//! Calls that copy values and that make and read sets, each tried where requests for memory are
+//! refused.
 #![tactic(auto)]
 
 pub mod below;

@@ -1,5 +1,7 @@
 //! What stands below, as far as it is used here or passed on.
 
+pub use syntect_reading_state::below::scope;
+
 /// Of `syntect_grammar`.
 pub mod grammar {
     pub use syntect_reading_state::below::grammar::{syntax_definition, syntax_set};
@@ -8,11 +10,6 @@ pub mod grammar {
 /// Of `syntect_reading_state`.
 pub mod reading_state {
     pub use syntect_reading_state::syntax_definition;
-}
-
-/// Of `syntect_scope`.
-pub mod scope {
-    pub use syntect_reading_state::below::scope::{repository, scope, stack};
 }
 
 /// Of `syntect_values`.

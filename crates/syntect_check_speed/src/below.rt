@@ -1,5 +1,7 @@
 //! What stands below, as far as it is used here or passed on.
 
+pub use syntect_easy::below::{theme, theme_files, yaml};
+
 /// Of `syntect_base`.
 pub mod base {
     pub use syntect_easy::below::base::{loading, utils};
@@ -13,19 +15,4 @@ pub mod scope {
 /// Of `syntect_style`.
 pub mod style {
     pub use syntect_easy::below::style::highlighter;
-}
-
-/// Of `syntect_theme`.
-pub mod theme {
-    pub use syntect_easy::below::theme::{style, theme};
-}
-
-/// Of `syntect_theme_files`.
-pub mod theme_files {
-    pub use syntect_easy::below::theme_files::theme_set;
-}
-
-/// Of `syntect_yaml`.
-pub mod yaml {
-    pub use syntect_easy::below::yaml::read;
 }

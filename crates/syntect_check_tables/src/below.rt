@@ -1,5 +1,7 @@
 //! What stands below, as far as it is used here or passed on.
 
+pub use syntect_check_queries::below::regexes;
+
 /// Of `syntect_base`.
 pub mod base {
     pub use syntect_style::syntect_base::{loading, utils};
@@ -8,11 +10,6 @@ pub mod base {
 /// Of `syntect_check_queries`.
 pub mod check_queries {
     pub use syntect_check_queries::{escapes, patterns, queries, searches};
-}
-
-/// Of `syntect_regex`.
-pub mod regexes {
-    pub use syntect_check_queries::below::regexes::{regex, region};
 }
 
 /// Of `syntect_scope`.

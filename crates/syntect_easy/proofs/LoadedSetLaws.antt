@@ -6,7 +6,10 @@ use Rattle.std.proofs.lemmas.List.Elements.{All-append, All-cons, All-nil}
 use Rattle.std.specs.Cmp.Lexicographic.{pointwise}
 use Rattle.std.specs.Path.{path_file_name, path_extension}
 use Rattle.std.specs.Str.{str_eq_ignore_ascii_case}
-use Rattle.syntect_grammar_limits.proofs.FolderLaws.{added_within}
+use Rattle.syntect_grammar_limits.proofs.FolderLaws.{added_within, without_limits}
+use Rattle.syntect_grammar_limits.specs.WhatLoads as what_loads
+use Rattle.syntect_grammar_limits.specs.declared.lenient.PassedOver.{PassedOver}
+use Rattle.syntect_easy.specs.syntect_base.declared.limits.Limits.{Limits}
 use Rattle.syntect_easy.specs.syntect_grammar.Finding.{found_by_name, found_by_extension, found_by_token, found_by_file_name, found_by_first_line, last_fitting, has_extension, fits_line, without_mark}
 use Rattle.syntect_easy.specs.syntect_grammar.Folders.{AddsSyntaxes, AddsFolder, AddsMetadata, entry_added, passed_over, no_more, other, grammar, metadata}
 use Rattle.syntect_easy.specs.syntect_grammar.Link.{definitions_in, syntaxes_in, linked}
@@ -45,6 +48,13 @@ holds_files newlines _ _ _ builder _ h (grammar {d = d} e l a) =
     holds_files newlines _ _ _ _ _ (one_more (definitions_in builder) d h (loaded_as _ _ _ _ _ _ l.loads)) a
 holds_files newlines _ _ _ builder _ h (metadata {path = path} {next = next} e m a) = holds_files newlines _ _ _ _ _ (holds_entry path builder next h m) a
 
+holds_what_loads : (limits : Limits) (newlines : Bool) (room rest : ℕ) (files before after : List (List ℕ)) (builder all : SyntaxSetBuilder) (passed : List PassedOver)
+    → HoldsLoaded builder → what_loads.AddsWhatLoads limits newlines room files before builder passed rest after all → HoldsLoaded all
+holds_what_loads limits newlines _ _ _ _ _ _ _ _ h what_loads.no_more = h
+holds_what_loads limits newlines _ _ _ _ _ _ _ _ h (what_loads.added a more) =
+    holds_what_loads limits newlines _ _ _ _ _ _ _ _ (holds_files newlines _ _ _ _ _ h (without_limits limits newlines a)) more
+holds_what_loads limits newlines _ _ _ _ _ _ _ _ h (what_loads.passed_over s n k more) = holds_what_loads limits newlines _ _ _ _ _ _ _ _ h more
+
 pub builders_hold : BuildersHold
 builders_hold = record {
   nothing = λ builder e. subst (All IsLoaded) (sym e) (All-nil IsLoaded);
@@ -54,6 +64,7 @@ builders_hold = record {
   folder_within = λ limits newlines path before after old new h a.
       let b = added_within limits newlines path before old after new a in
       holds_files newlines b.files before after old new h b.adds;
+  what_loads = λ limits newlines path before after old new passed h a. holds_what_loads limits newlines limits.folder a.rest a.files before after old new passed h a.adds;
   built = λ builder set h e. (definitions_in builder, e, h);
 }
 

@@ -2,6 +2,8 @@
 use Rattle.std.specs.Prelude.{◌≡◌, ℕ, Bool, List, [], ◌∷◌, ◌++◌, Option, Some, All, Ok, slice_get}
 use Rattle.syntect_easy.specs.syntect_base.declared.limits.Limits.{Limits}
 use Rattle.syntect_grammar_limits.specs.FoldersWithin.{AddsFolderWithin}
+use Rattle.syntect_grammar_limits.specs.WhatLoads.{AddsOfFolder}
+use Rattle.syntect_grammar_limits.specs.declared.lenient.PassedOver.{PassedOver}
 use Rattle.syntect_easy.specs.syntect_grammar.Link.{definitions_in, syntaxes_in, linked}
 use Rattle.syntect_easy.specs.syntect_grammar.Finding.{found_by_scope, found_by_name, found_by_extension, found_by_token, found_by_first_line, found_for_file, found_plain_text}
 use Rattle.syntect_easy.specs.syntect_grammar.Folders.{AddsFolder}
@@ -46,6 +48,10 @@ pub record BuildersHold : Type 0 where
   pub folder_within : (limits : Limits) (newlines : Bool) (path : List ℕ)
       (before after : List (List ℕ)) (old new : SyntaxSetBuilder)
       → HoldsLoaded old → AddsFolderWithin limits newlines path before old after new
+      → HoldsLoaded new
+  pub what_loads : (limits : Limits) (newlines : Bool) (path : List ℕ)
+      (before after : List (List ℕ)) (old new : SyntaxSetBuilder) (passed : List PassedOver)
+      → HoldsLoaded old → AddsOfFolder limits newlines path before old passed after new
       → HoldsLoaded new
   pub built : (builder : SyntaxSetBuilder) (set : SyntaxSet) → HoldsLoaded builder
       → syntaxes_in set ≡ linked (definitions_in builder) → IsOfLoaded set

@@ -86,6 +86,12 @@ rows_in [] = []
 rows_in (read row ∷ lines) = row ∷ rows_in lines
 rows_in (plain line pieces limit ∷ lines) = rows_in lines
 
+-- the first plain line of those that come after so many, by its number from one, and its limit
+abbrev pub first_plain : ℕ → List Shown → Option (ℕ × LineLimit)
+first_plain before [] = None
+first_plain before (read row ∷ lines) = first_plain (before + 1) lines
+first_plain before (plain line pieces limit ∷ lines) = Some (before + 1, limit)
+
 -- A line is plain after these rows: it reaches the limit from the state that they lead to.
 pub record IsPlainAfter (limits : Limits) (set : SyntaxSet) (theme : Theme)
     (syntax : SyntaxReference) (rows : List Row) (line : List ℕ)
@@ -166,11 +172,3 @@ LinesEnd = (limits : Limits) (set : SyntaxSet) (theme : Theme) (syntax : SyntaxR
     → GivesNext left last after bytes false
     → (text : List ℕ) × IsTextOf had text × IsUtf8 text
     × AreLinesOf limits set theme syntax text lines
-
--- ---- For proofs and private functions alone ----
-
--- the first plain line of those that come after so many, by its number from one, and its limit
-abbrev pub first_plain : ℕ → List Shown → Option (ℕ × LineLimit)
-first_plain before [] = None
-first_plain before (read row ∷ lines) = first_plain (before + 1) lines
-first_plain before (plain line pieces limit ∷ lines) = Some (before + 1, limit)

@@ -1,5 +1,7 @@
 //! What stands below, as far as it is used here or passed on.
 
+pub use syntect_grammar_limits::below::{grammar, metadata, regexes, values};
+
 /// Of `syntect_base`.
 pub mod base {
     pub use syntect_style::syntect_base::{limits, loading, settings, syntax, theme, utils};
@@ -10,29 +12,14 @@ pub mod count {
     pub use syntect_grammar_limits::below::count::count;
 }
 
-/// Of `syntect_grammar`.
-pub mod grammar {
-    pub use syntect_grammar_limits::below::grammar::laws;
-}
-
 /// Of `syntect_grammar_limits`.
 pub mod grammar_limits {
-    pub use syntect_grammar_limits::{first_line_error, folder_error, folders};
-}
-
-/// Of `syntect_metadata`.
-pub mod metadata {
-    pub use syntect_grammar_limits::below::metadata::{error, items, metadata, raw, scoped, set};
+    pub use syntect_grammar_limits::{first_line_error, folder_error, folders, lenient};
 }
 
 /// Of `syntect_parsing`.
 pub mod parsing {
     pub use syntect_parsing::{error, laws, parser, syntax_definition, syntax_set, within};
-}
-
-/// Of `syntect_regex`.
-pub mod regexes {
-    pub use syntect_grammar_limits::below::regexes::{error, regex, region};
 }
 
 /// Of `syntect_scope`.
@@ -55,14 +42,9 @@ pub mod theme_files {
     pub use syntect_theme_files::theme_set;
 }
 
-/// Of `syntect_values`.
-pub mod values {
-    pub use syntect_grammar_limits::below::values::{seq, table, text};
-}
-
 /// Of `syntect_writers`.
 pub mod writers {
-    pub use syntect_writers::{laws, spans};
+    pub use syntect_writers::{laws, spans, terminal};
 }
 
 /// Of `syntect_yaml`.

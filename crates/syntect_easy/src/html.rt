@@ -47,7 +47,8 @@ pub fn highlighted_html_for_string(
     // the set was built of plain definitions
     ensures page { (definitions : List ADefinition) → IsSyntaxOfBuilt ss.now syntax.now definitions
         → IfOk result (λ page. IsPage ss.now theme.now syntax.now s.now (string_bytes page)) }
-    ensures refused { (definitions : List ADefinition) → IsSyntaxOfBuilt ss.now syntax.now definitions
+    ensures refused { (definitions : List ADefinition)
+        → IsSyntaxOfBuilt ss.now syntax.now definitions
         → IfErr result (IsWhyNoPage ss.now syntax.now s.now) }
 {
     let mut highlighter = HighlightLines::new(alloc, syntax, theme)?;
@@ -77,7 +78,8 @@ pub fn highlighted_html_for_reader<R: BufRead + Drop>(
     ensures page { (definitions : List ADefinition) → IsSyntaxOfBuilt ss.now syntax.now definitions
         → IfOk result (λ page. (text : List ℕ) × IsTextOf (R.remaining reader) text
         × IsPageOfBytes ss.now theme.now syntax.now text (string_bytes page)) }
-    ensures refused { (definitions : List ADefinition) → IsSyntaxOfBuilt ss.now syntax.now definitions
+    ensures refused { (definitions : List ADefinition)
+        → IsSyntaxOfBuilt ss.now syntax.now definitions
         → IfErr result (λ e. (text : List ℕ) × IsTextOf (R.remaining reader) text
         × HasNoPageOfBytes ss.now syntax.now text e) }
 {

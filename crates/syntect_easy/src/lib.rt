@@ -1,5 +1,5 @@
-//! Lines and texts in colour: the highlighter of lines, pages of HTML, classed spans, and the paths that users of
-//! `syntect` know, which passes them on.
+//! Lines and texts in colour: the highlighter of lines, pages of HTML, classed spans, and the paths
+//! that users of `syntect` know, which passes them on.
 #![tactic(auto)]
 
 pub mod below;

@@ -25,6 +25,7 @@ pub use syntect_grammar_limits::first_lines::{
 };
 pub use syntect_grammar_limits::folder_error::FolderWithinError;
 pub use syntect_grammar_limits::folders::add_from_folder_within;
+pub use syntect_grammar_limits::lenient::{PassedOver, add_what_loads_within};
 pub use syntect_grammar_limits::within::load_from_str_within;
 pub use syntect_parsing::parser::{ParseState, ParsingError, Regions};
 pub use syntect_parsing::syntax_definition;

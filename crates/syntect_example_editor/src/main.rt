@@ -1,6 +1,6 @@
-//! `syntect_example_editor GRAMMARS THEME SYNTAX` edits a text in a syntax of the folder's grammars. Its
-//! input has an edit in each line, and it prints of each which lines were read again. Lines are
-//! counted from 0:
+//! `syntect_example_editor GRAMMARS THEME SYNTAX` edits a text in a syntax of the folder's
+//! grammars. Its input has an edit in each line, and it prints of each which lines were read again.
+//! Lines are counted from 0:
 //!
 //! - `insert N TEXT` puts a line before line N, or after the last;
 //! - `set N TEXT` puts a line in place of line N;

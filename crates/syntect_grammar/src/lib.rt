@@ -1,6 +1,5 @@
-//! Grammars: how they are read from their text, their contexts, and sets of them that are linked.
-//!
-//! A `SyntaxDefinition` is a grammar as written: named contexts of patterns in order. A
+//! Grammars: how they are read from their text, their contexts, and sets of them that are linked. A
+//! `SyntaxDefinition` is a grammar as written: named contexts of patterns in order. A
 //! `SyntaxSetBuilder` links them into a `SyntaxSet`, whose contexts name one another by number.
 #![tactic(auto)]
 

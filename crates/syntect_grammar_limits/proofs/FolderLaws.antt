@@ -91,7 +91,7 @@ module _ (limits : Limits) (newlines : Bool) (folder : List ℕ) (old : List (Li
 
 -- ---- without limits ----
 
-without_limits : (limits : Limits) (newlines : Bool) {room rest : ℕ} {paths old new : List (List ℕ)} {builder all : SyntaxSetBuilder} → AddsWithin limits newlines room paths old builder rest new all → AddsSyntaxes newlines paths old builder new all
+pub without_limits : (limits : Limits) (newlines : Bool) {room rest : ℕ} {paths old new : List (List ℕ)} {builder all : SyntaxSetBuilder} → AddsWithin limits newlines room paths old builder rest new all → AddsSyntaxes newlines paths old builder new all
 without_limits limits newlines no_more = grammar_folders.no_more
 without_limits limits newlines (other n m rest) = grammar_folders.other n m (without_limits limits newlines rest)
 without_limits limits newlines (grammar n s rest) = grammar_folders.grammar n s.2.syntax (without_limits limits newlines rest)

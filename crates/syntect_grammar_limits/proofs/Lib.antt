@@ -1,6 +1,7 @@
 pub mod FirstLaws
 pub mod FileLaws
 pub mod FolderLaws
+pub mod LenientLaws
 pub mod PatternLaws
 pub mod FittingLaws
 pub use Rattle.syntect_grammar.proofs.syntect_base_proofs as syntect_base_proofs

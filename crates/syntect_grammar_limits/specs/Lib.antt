@@ -1,6 +1,7 @@
 pub mod FirstLines
 pub mod FilesWithin
 pub mod FoldersWithin
+pub mod WhatLoads
 pub mod Patterns
 pub mod Limited
 pub mod Fitting

@@ -20,9 +20,9 @@ use syntect_grammar::syntax_set::SyntaxSetBuilder;
 
 /// What grammars are loaded with.
 #[derive(Clone, Copy)]
-struct Loading {
-    lines_include_newline: bool,
-    limits: Limits,
+pub(crate) struct Loading {
+    pub(crate) lines_include_newline: bool,
+    pub(crate) limits: Limits,
 }
 
 /// Adds the grammar of a file to a builder, where its folder's grammars may have
@@ -66,7 +66,7 @@ fn add_grammar(
 }
 
 /// Adds what is in a file, if it is a grammar's or has metadata.
-fn add_file(
+pub(crate) fn add_file(
     files: &impl Files,
     alloc: Global,
     builder: &mut SyntaxSetBuilder,

@@ -1,5 +1,7 @@
 //! What stands below, as far as it is used here or passed on.
 
+pub use syntect_grammar_contexts::below::regexes;
+
 /// Of `syntect_base`.
 pub mod base {
     pub use syntect_base::{limits, loading, syntax, theme, utils};
@@ -13,11 +15,6 @@ pub mod grammar_rewrite {
 /// Of `syntect_pattern`.
 pub mod pattern {
     pub use syntect_base::syntect_pattern::{anchor, laws};
-}
-
-/// Of `syntect_regex`.
-pub mod regexes {
-    pub use syntect_grammar_contexts::below::regexes::{error, regex};
 }
 
 /// Of `syntect_scope`.

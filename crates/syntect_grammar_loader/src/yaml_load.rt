@@ -365,9 +365,9 @@ impl SyntaxDefinition {
     /// not. The scopes are those of their texts in the repository, which takes their atoms up; the
     /// atoms that it has keep their numbers, also after a refusal.
     ///
-    /// `EmptyFile` is answered for a text without a node, `InvalidYaml` for one that is not
-    /// of the YAML that is read. Else the first fault is answered, of `contexts`, then of `scope`, then
-    /// of the contexts in the text's order: `TypeMismatch` for a value of the wrong kind,
+    /// `EmptyFile` is answered for a text without a node, `InvalidYaml` for one that is not of the
+    /// YAML that is read. Else the first fault is answered, of `contexts`, then of `scope`, then of
+    /// the contexts in the text's order: `TypeMismatch` for a value of the wrong kind,
     /// `MissingMandatoryKey` for a key that has to stand there, `RegexCompileError` for a pattern
     /// that is none, `InvalidScope` for a text that is no scope, and last `MainMissing` where no
     /// context is called `main`.

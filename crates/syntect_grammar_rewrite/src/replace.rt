@@ -65,7 +65,8 @@ fn next_part(text: &str) -> (&str, &str)
 
 /// The text with the name of each bracket replaced.
 pub(crate) fn replaced(alloc: Global, text: &str) -> Result<String, AllocError>
-    ensures { IfOk result (λ s. string_bytes s ≡ replacing.with_replacements replacing.brackets text.now) }
+    ensures { IfOk result
+        (λ s. string_bytes s ≡ replacing.with_replacements replacing.brackets text.now) }
 {
     if !text.as_bytes().contains(&b'[') {
         return String::from_str(alloc, text);

@@ -1,4 +1,5 @@
-//! Laws that no body of the library cites: of YAML, of loading and linking, of reading, and worked examples of patterns.
+//! Laws that no body of the library cites: of YAML, of loading and linking, of reading, and worked
+//! examples of patterns.
 #![tactic(auto)]
 
 pub mod grammar;

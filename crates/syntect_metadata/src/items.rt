@@ -17,7 +17,7 @@ use std::collections::BTreeMap;
 use syntect_regex::regex::Regex;
 
 /// What is said of the lines in a scope.
-#[derive(PartialEq, Eq)]
+#[derive(Clone, PartialEq, Eq)]
 pub struct MetadataItems {
     /// The line after one that this matches is indented by one more.
     pub increase_indent_pattern: Option<Regex>,

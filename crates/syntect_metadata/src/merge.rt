@@ -211,7 +211,8 @@ pub(crate) fn put_together(
 
 /// The members of all that is said: the variables stand in it as an object too.
 pub(crate) fn members_of(alloc: Global, merged: Merged) -> Result<Map<String, Value>, AllocError>
-    ensures { IfOk result (λ m. object (members_view m.entries) ≡ merging.object_of (merged_view merged)) }
+    ensures { IfOk result
+        (λ m. object (members_view m.entries) ≡ merging.object_of (merged_view merged)) }
 {
     let Merged {
         mut settings,

@@ -16,7 +16,7 @@ use serde_json::{Map, Value};
 use std::alloc::{AllocError, Global};
 
 /// What is said of the lines where selectors match.
-#[derive(PartialEq, Eq)]
+#[derive(Clone, PartialEq, Eq)]
 pub struct MetadataSet {
     /// The text of the selectors.
     pub selector_string: Text,

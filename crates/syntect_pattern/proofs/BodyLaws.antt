@@ -3,7 +3,8 @@
 use Rattle.std.proofs.Common.{◌≡◌, ℕ, zero, suc, ◌+◌, ◌≤◌, ◌<◌, [], ◌∷◌, length, drop, Option, Some, refl, ap, ◌∙◌, arith}
 use Rattle.std.specs.Prelude.{nat_lt}
 use Rattle.syntect_pattern.specs.Sets.{Set, from_to}
-use Rattle.syntect_pattern.specs.Trees.{Tree, one_of, anchor, line_start, line_end}
+use Rattle.syntect_pattern.specs.Trees.{Tree, one_of, anchor}
+use Rattle.syntect_pattern.specs.declared.anchor.Anchor.{Anchor}
 use Rattle.syntect_pattern.specs.Reading.{Text, ◌>>=◌, ◌>>◌, begins}
 use Rattle.syntect_pattern.specs.Escapes.{Escape, char, set, edge, number, name, escape}
 use Rattle.syntect_pattern.specs.Classes.{deepest, class}
@@ -60,8 +61,8 @@ module _ (known : Option Names) where
         within-bind step_size (suc (length t)) (escape t) (λ (x : Escape × Text). escaped known b (record { flags = flags; names = names; text = x.1 }) x.0) (λ x q.
         escaped-le b (record { flags = flags; names = names; text = x.1 }) (length t) x.0 ((escape-le t).fits x q))
     step-le depth b flags names c t dot = item-le b (one_of (dot_set flags.any)) (record { flags = flags; names = names; text = t }) (length t) (omega arith)
-    step-le depth b flags names c t caret = firm-le b (anchor line_start) (record { flags = flags; names = names; text = t }) (length t) (omega arith)
-    step-le depth b flags names c t dollar = firm-le b (anchor line_end) (record { flags = flags; names = names; text = t }) (length t) (omega arith)
+    step-le depth b flags names c t caret = firm-le b (anchor Anchor.LineStart) (record { flags = flags; names = names; text = t }) (length t) (omega arith)
+    step-le depth b flags names c t dollar = firm-le b (anchor Anchor.LineEnd) (record { flags = flags; names = names; text = t }) (length t) (omega arith)
     step-le depth b flags names c t (plain d) = item-le b (one_of (from_to flags.fold d d)) (record { flags = flags; names = names; text = t }) (length t) (omega arith)
 
     step_of-le : (depth : ℕ) (b : Body) (flags : Flags) (names : Names) (t : Text)

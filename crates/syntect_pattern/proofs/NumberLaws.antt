@@ -3,7 +3,8 @@ use Rattle.std.proofs.Common.{◌≡◌, ℕ, zero, suc, ◌+◌, List, [], ◌�
 use Rattle.std.specs.Prelude.{nat_lt, nat_le, option_map, if◌then◌else◌}
 use Rattle.std.specs.List.{flat_map, list_any}
 use Rattle.syntect_pattern.specs.Sets.{Set, numbers_from, from_to}
-use Rattle.syntect_pattern.specs.Trees.{Tree, nothing, one_of, anchor, same, seq, alt, repeat, group, atomic, ahead, behind, line_start, line_end, seq_all, alt_all, group_count, numbers}
+use Rattle.syntect_pattern.specs.Trees.{Tree, nothing, one_of, anchor, same, seq, alt, repeat, group, atomic, ahead, behind, seq_all, alt_all, group_count, numbers}
+use Rattle.syntect_pattern.specs.declared.anchor.Anchor.{Anchor}
 use Rattle.syntect_pattern.specs.Reading.{Text, ◌>>=◌, ◌>>◌, begins, name_in, is_empty, between, pass}
 use Rattle.syntect_pattern.specs.Escapes.{Escape, char, set, edge, number, name, escape}
 use Rattle.syntect_pattern.specs.Classes.{deepest, class}
@@ -285,8 +286,8 @@ module _ (known : Option Names) (inner : Cursor → Option (Tree × Cursor)) (re
       gives-bind (Steps b p) (escape (drop 1 p.text)) (λ (x : Escape × Text). escaped known b (record p { text = x.1 }) x.0) (λ x u.
       escaped-steps known b p (record p { text = x.1 }) x.0 refl)
   step-steps depth b p dot = item-steps known b (one_of (dot_set p.flags.any)) p (forward 1 p) (adds-none p (forward 1 p) refl)
-  step-steps depth b p caret = firm-steps known b (anchor line_start) p (forward 1 p) (adds-none p (forward 1 p) refl)
-  step-steps depth b p dollar = firm-steps known b (anchor line_end) p (forward 1 p) (adds-none p (forward 1 p) refl)
+  step-steps depth b p caret = firm-steps known b (anchor Anchor.LineStart) p (forward 1 p) (adds-none p (forward 1 p) refl)
+  step-steps depth b p dollar = firm-steps known b (anchor Anchor.LineEnd) p (forward 1 p) (adds-none p (forward 1 p) refl)
   step-steps depth b p (plain c) = item-steps known b (one_of (from_to p.flags.fold c c)) p (forward 1 p) (adds-none p (forward 1 p) refl)
 
 abbrev ReadsBody : Body → Cursor → Tree × Cursor → Type 0

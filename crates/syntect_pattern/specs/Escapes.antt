@@ -7,7 +7,7 @@ use Rattle.unicode.specs.GeneralCategoryGroup.{in_group}
 use Rattle.ucd_category.specs.declared.GeneralCategory.TheVariants.{UppercaseLetter, LowercaseLetter, TitlecaseLetter, ModifierLetter, OtherLetter, NonspacingMark, SpacingMark, EnclosingMark, DecimalNumber, LetterNumber, OtherNumber, ConnectorPunctuation, DashPunctuation, OpenPunctuation, ClosePunctuation, InitialPunctuation, FinalPunctuation, OtherPunctuation, MathSymbol, CurrencySymbol, ModifierSymbol, OtherSymbol, SpaceSeparator, LineSeparator, ParagraphSeparator, Control, Format, Surrogate, PrivateUse, Unassigned}
 use Rattle.ucd_category.specs.declared.GeneralCategoryGroup.TheVariants.{Other, Letter, Mark, Number, Punctuation, Symbol, Separator}
 use Rattle.syntect_pattern.specs.Sets.{Set, category, categories, word, space, digit, hex_digit, negate_if}
-use Rattle.syntect_pattern.specs.Trees.{Anchor, text_start, text_end, last_line_end, word_edge, no_word_edge}
+use Rattle.syntect_pattern.specs.declared.anchor.Anchor.{Anchor}
 use Rattle.syntect_pattern.specs.Reading.{Text, ◌>>=◌, ◌>>◌, ◌∈◌, first, begins, spells, run, value, char_of, name_in}
 use Prim.Native.String.{String}
 
@@ -91,11 +91,11 @@ one_letter c =
     else if c ∈ "dD" then set_letter c digit
     else if c ∈ "sS" then set_letter c space
     else if c ∈ "hH" then set_letter c hex_digit
-    else if c ∈ "A" then Some (edge text_start)
-    else if c ∈ "z" then Some (edge text_end)
-    else if c ∈ "Z" then Some (edge last_line_end)
-    else if c ∈ "b" then Some (edge word_edge)
-    else if c ∈ "B" then Some (edge no_word_edge)
+    else if c ∈ "A" then Some (edge Anchor.TextStart)
+    else if c ∈ "z" then Some (edge Anchor.TextEnd)
+    else if c ∈ "Z" then Some (edge Anchor.LastLineEnd)
+    else if c ∈ "b" then Some (edge Anchor.WordEdge)
+    else if c ∈ "B" then Some (edge Anchor.NoWordEdge)
     else if c ∈ "n" then Some (char 0x0A)
     else if c ∈ "t" then Some (char 0x09)
     else if c ∈ "r" then Some (char 0x0D)

@@ -4,7 +4,8 @@ use Rattle.std.specs.Char.{is_ascii_digit}
 use Rattle.std.specs.List.{list_any}
 use lib.Pointwise.{pointwise}
 use Rattle.syntect_pattern.specs.Sets.{numbers_from, Set, none, range, negated, from_to}
-use Rattle.syntect_pattern.specs.Trees.{numbers, group_count, line_start, line_end, Tree, nothing, one_of, anchor, same, repeat, group, atomic, ahead, behind, seq_all, alt_all}
+use Rattle.syntect_pattern.specs.Trees.{numbers, group_count, Tree, nothing, one_of, anchor, same, repeat, group, atomic, ahead, behind, seq_all, alt_all}
+use Rattle.syntect_pattern.specs.declared.anchor.Anchor.{Anchor}
 use Rattle.syntect_pattern.specs.Matches.{Groups, found}
 use Rattle.syntect_pattern.specs.Reading.{Text, ◌>>=◌, ◌>>◌, ◌∈◌, begins, is_empty, run, value, name_in, between, pass}
 use Rattle.syntect_pattern.specs.Escapes.{Escape, char, set, edge, number, name, escape}
@@ -278,8 +279,8 @@ module _ (known : Option Names) where
   step inner depth b p bracket = class p.flags.fold depth (drop 1 p.text) >>= λ (a, rest). item b (one_of a) (record p { text = rest })
   step inner depth b p backslash = escape (drop 1 p.text) >>= λ (e, rest). escaped b (record p { text = rest }) e
   step inner depth b p dot = item b (one_of (dot_set p.flags.any)) (forward 1 p)
-  step inner depth b p caret = firm b (anchor line_start) (forward 1 p)
-  step inner depth b p dollar = firm b (anchor line_end) (forward 1 p)
+  step inner depth b p caret = firm b (anchor Anchor.LineStart) (forward 1 p)
+  step inner depth b p dollar = firm b (anchor Anchor.LineEnd) (forward 1 p)
   step inner depth b p (plain c) = item b (one_of (from_to p.flags.fold c c)) (forward 1 p)
 
   -- after a step: the tree of the group, where it is over, and else what `more` reads from there

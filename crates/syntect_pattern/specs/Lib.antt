@@ -10,6 +10,5 @@ pub mod Grammar
 pub mod Nesting
 pub mod Pattern
 pub mod Found
-pub mod Anchors
 pub mod NamedSets
 pub mod Folds

@@ -5,7 +5,8 @@ use Rattle.std.specs.Char.{len_utf8}
 use Rattle.std.specs.Option.{option_or}
 use Rattle.syntect_pattern.specs.Text.{char_at, char_before, is_boundary}
 use Rattle.syntect_pattern.specs.Sets.{holds, same_fold, is_word}
-use Rattle.syntect_pattern.specs.Trees.{Anchor, line_start, line_end, text_start, text_end, last_line_end, word_edge, no_word_edge, Tree, nothing, one_of, anchor, same, seq, alt, repeat, group, atomic, ahead, behind, group_count}
+use Rattle.syntect_pattern.specs.Trees.{Tree, nothing, one_of, anchor, same, seq, alt, repeat, group, atomic, ahead, behind, group_count}
+use Rattle.syntect_pattern.specs.declared.anchor.Anchor.{Anchor}
 
 -- where each group matched last; group n stands at n, and the whole match at 0
 abbrev pub Groups : Type 0
@@ -106,13 +107,13 @@ module _ (s : List ℕ) where
 
   -- the anchor holds at the place
   abbrev pub anchor_holds : Anchor → ℕ → Bool
-  anchor_holds line_start i = i == 0 || (is_newline (char_before s i) && not (i == length s))
-  anchor_holds line_end i = i == length s || is_newline (char_at s i)
-  anchor_holds text_start i = i == 0
-  anchor_holds text_end i = i == length s
-  anchor_holds last_line_end i = i == length s || (is_newline (char_at s i) && i + 1 == length s)
-  anchor_holds word_edge i = is_word_edge i
-  anchor_holds no_word_edge i = not (is_word_edge i)
+  anchor_holds Anchor.LineStart i = i == 0 || (is_newline (char_before s i) && not (i == length s))
+  anchor_holds Anchor.LineEnd i = i == length s || is_newline (char_at s i)
+  anchor_holds Anchor.TextStart i = i == 0
+  anchor_holds Anchor.TextEnd i = i == length s
+  anchor_holds Anchor.LastLineEnd i = i == length s || (is_newline (char_at s i) && i + 1 == length s)
+  anchor_holds Anchor.WordEdge i = is_word_edge i
+  anchor_holds Anchor.NoWordEdge i = not (is_word_edge i)
 
   -- these characters, one by one
   abbrev pub spelled : Bool → List ℕ → Way

@@ -1,21 +1,14 @@
 -- The tree of a pattern.
 use Rattle.std.specs.Prelude.{ℕ, zero, suc, ◌+◌, Bool, true, false, ◌&&◌, ◌||◌, List, [], ◌∷◌, ◌++◌, Option, Some, None, if◌then◌else◌, ◌==◌}
 use Rattle.syntect_pattern.specs.Sets.{Set}
-
--- what an anchor asks of the place where it stands
-pub data Anchor : Type 0 where
-  -- `^`, `$`
-  line_start line_end : Anchor
-  -- `\A`, `\z`, `\Z`
-  text_start text_end last_line_end : Anchor
-  -- `\b`, `\B`
-  word_edge no_word_edge : Anchor
+use Rattle.syntect_pattern.specs.declared.anchor.Anchor.{Anchor}
 
 -- a pattern as a tree: each part with the parts that it is made of
 pub data Tree : Type 0 where
   -- reads nothing
   nothing : Tree
   one_of : Set → Tree
+  -- reads nothing, where it holds
   anchor : Anchor → Tree
   -- the text of the group again; the flag says that by simple folding
   same : Bool → ℕ → Tree

@@ -40,7 +40,8 @@ impl Named {
 }
 
 fn is_letter_or_number(category: GeneralCategory) -> bool
-    ensures { result ≡ (in_group GeneralCategoryGroup.Letter category || in_group GeneralCategoryGroup.Number category) }
+    ensures { result ≡ (in_group GeneralCategoryGroup.Letter category
+        || in_group GeneralCategoryGroup.Number category) }
 {
     GeneralCategoryGroup::Letter.contains(category)
         || GeneralCategoryGroup::Number.contains(category)

@@ -1,19 +1,21 @@
 -- Nodes that have no match, as is seen at once.
-use Rattle.std.proofs.Common.{◌≡◌, ◌<◌, ◌≤◌, ◌+◌, ℕ, zero, suc, Bool, true, false, not, List, [], length, map, take, refl, sym, ◌∙◌, ap, arith, Option, Some, None, reverse}
+use Rattle.std.proofs.Common.{◌≡◌, ◌<◌, ◌≤◌, ◌+◌, ℕ, zero, suc, Bool, true, false, not, List, [], length, refl, sym, ◌∙◌, ap, arith, Option, Some, None, reverse}
 use Rattle.std.specs.Prelude.{is_some, if◌then◌else◌}
 use Rattle.std.specs.Char.{len_utf8}
-use Rattle.std.specs.List.{All, flat_map}
+use Rattle.std.specs.List.{All}
 use Rattle.std.specs.Option.{option_or}
 use Rattle.syntect_pattern_backtrack.specs.syntect_pattern.Text.{char_at}
 use Rattle.syntect_pattern_backtrack.specs.syntect_pattern.Sets.{Set, holds}
-use Rattle.syntect_pattern_backtrack.specs.syntect_pattern.Trees.{Anchor, Tree, one_of, anchor, seq, alt, group, atomic}
-use Rattle.syntect_pattern_backtrack.specs.syntect_pattern.Matches.{Groups, Member, matches, past, only_if, close, anchor_holds}
+use Rattle.syntect_pattern_backtrack.specs.syntect_pattern.Trees.{Tree, one_of, anchor, alt}
+use Rattle.syntect_pattern_backtrack.specs.syntect_pattern.declared.anchor.Anchor.{Anchor}
+use Rattle.syntect_pattern_backtrack.specs.syntect_pattern.Matches.{Groups, Member, past, only_if, anchor_holds}
 use Rattle.std.proofs.Math.Logic.{∥∥₁_elim}
 use Rattle.std.proofs.Props.{props}
 use Rattle.syntect_pattern_backtrack.specs.syntect_pattern_table.Jumps.{branches, tree_behind, HasBranches, LeadsPast}
 use Rattle.syntect_pattern_backtrack.specs.declared.state.Next.{Next}
 use Rattle.syntect_pattern_backtrack.specs.declared.state.Search.{Search}
 use Rattle.syntect_pattern_backtrack.specs.Machine.{Work, On, tick, both, search, list_at, tree_at, now, ListFits, Fits, FindsAlike, Goes}
+use Rattle.syntect_pattern_steps.specs.First.{IsDead}
 use Rattle.syntect_pattern_steps.specs.Steps.{after_char}
 use Rattle.syntect_pattern_backtrack.proofs.FirstLaws.{search-first, first_each, finds}
 use Rattle.syntect_pattern_backtrack.proofs.MachineLaws.{pending-less}
@@ -28,10 +30,6 @@ false_is true h = cc
 false_is false h = refl
 
 module _ (s : List ℕ) (i : ℕ) where
-  -- the tree has no match at the place
-  abbrev pub IsDead : Tree → Type 0
-  IsDead t = (g : Groups) → matches s t i g ≡ []
-
   no_past : (test : ℕ → Bool) (o : Option ℕ) (g : Groups) → after_char test o i ≡ None → past test o i g ≡ []
   no_past test None g e = refl
   no_past test (Some c) g e = go (test c) e
@@ -40,20 +38,11 @@ module _ (s : List ℕ) (i : ℕ) where
       go true h = cc
       go false h = refl
 
-  pub dead-one : (a : Set) → after_char (holds a) (char_at s i) i ≡ None → IsDead (one_of a)
+  pub dead-one : (a : Set) → after_char (holds a) (char_at s i) i ≡ None → IsDead s i (one_of a)
   dead-one a e g = no_past (holds a) (char_at s i) g e
 
-  pub dead-anchor : (a : Anchor) → anchor_holds s a i ≡ false → IsDead (anchor a)
+  pub dead-anchor : (a : Anchor) → anchor_holds s a i ≡ false → IsDead s i (anchor a)
   dead-anchor a e g = ap (λ (b : Bool). only_if b i g) e
-
-  pub dead-seq : (a b : Tree) → IsDead a → IsDead (seq a b)
-  dead-seq a b h g = ap (flat_map (λ (j, q). matches s b j q)) (h g)
-
-  pub dead-group : (n : ℕ) (a : Tree) → IsDead a → IsDead (group n a)
-  dead-group n a h g = ap (map (close n i)) (h g)
-
-  pub dead-atomic : (a : Tree) → IsDead a → IsDead (atomic a)
-  dead-atomic a h g = ap (take 1) (h g)
 
 module _ (s : List ℕ) (ts : List Tree) where
   -- what comes next finds the same in fewer steps

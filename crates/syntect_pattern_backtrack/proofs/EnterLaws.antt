@@ -6,7 +6,8 @@ use Rattle.std.proofs.lemmas.List.{reverse-append}
 use Rattle.syntect_pattern_backtrack.specs.syntect_pattern.Matches.{Groups, Member, anchor_holds, same_text}
 use Rattle.syntect_pattern_backtrack.specs.syntect_pattern.Text.{char_at}
 use Rattle.syntect_pattern_backtrack.specs.syntect_pattern.Sets.{Set, holds}
-use Rattle.syntect_pattern_backtrack.specs.syntect_pattern.Trees.{Anchor, Tree, nothing, one_of, anchor, same, seq, alt, repeat, group, atomic, ahead, behind}
+use Rattle.syntect_pattern_backtrack.specs.syntect_pattern.Trees.{Tree, nothing, one_of, anchor, same, seq, alt, repeat, group, atomic, ahead, behind}
+use Rattle.syntect_pattern_backtrack.specs.syntect_pattern.declared.anchor.Anchor.{Anchor}
 use Rattle.syntect_pattern_backtrack.specs.declared.state.Continuation.TheVariants.{Run, Close, EndsAt}
 use Rattle.syntect_pattern_backtrack.specs.declared.state.Bound.{Bound}
 use Rattle.syntect_pattern_backtrack.specs.declared.state.Cell.{Cell}

@@ -13,7 +13,7 @@ use Rattle.syntect_pattern_backtrack.specs.declared.state.Next.{Next}
 use Rattle.syntect_pattern_backtrack.specs.declared.state.Search.{Search}
 use Rattle.syntect_pattern_backtrack.specs.Machine.{Work, On, tick, go_on, list_at, search, tree_at, now, Fits, Goes}
 use Rattle.syntect_pattern_steps.specs.Steps.{after_char, after_letters, at_end, on_from}
-use Rattle.syntect_pattern_backtrack.proofs.DeadLaws.{IsDead}
+use Rattle.syntect_pattern_steps.specs.First.{IsDead}
 use Rattle.syntect_pattern_backtrack.proofs.StepLaws.{goes_to}
 use Rattle.syntect_pattern_backtrack.proofs.WorkLaws.{ticks}
 

@@ -9,7 +9,8 @@ use Rattle.std.proofs.lemmas.Bool.{cases_Bool}
 use Rattle.std.proofs.lemmas.Str.{IsUtf8-take, encodes-chars, encodes-append}
 use Rattle.memchr.specs.Find.{IsFirstByte, is_byte}
 use Rattle.syntect_pattern_backtrack.specs.syntect_pattern.Text.{char_before, is_boundary}
-use Rattle.syntect_pattern_backtrack.specs.syntect_pattern.Trees.{group, line_start}
+use Rattle.syntect_pattern_backtrack.specs.syntect_pattern.Trees.{group}
+use Rattle.syntect_pattern_backtrack.specs.syntect_pattern.declared.anchor.Anchor.{Anchor}
 use Rattle.syntect_pattern_backtrack.specs.syntect_pattern.Matches.{Member, matches, anchor_holds, is_newline, unset, found_at}
 use Rattle.syntect_pattern_backtrack.specs.syntect_pattern_table.Program.{CannotBegin, trees_of}
 use Rattle.syntect_pattern_backtrack.specs.syntect_pattern_table.declared.program.Program.{Program}
@@ -50,7 +51,7 @@ newline_before s u i b some y = go (slice_get (reverse (chars (take i s))) 0) re
         ∙ newline_byte (take i s) (chars (take i s)) i (encodes-chars (take i s) (IsUtf8-take s i u b)) (length-take-le i s b.0) (q ∙ ap Some ten)
 
 -- no line begins after another byte
-pub no_line : (s : List ℕ) → IsUtf8 s → (i : ℕ) → i ≢ 0 → get_or s (i - 1) 0 ≢ 10 → IsCharBoundary s i → anchor_holds s line_start i ≡ false
+pub no_line : (s : List ℕ) → IsUtf8 s → (i : ℕ) → i ≢ 0 → get_or s (i - 1) 0 ≢ 10 → IsCharBoundary s i → anchor_holds s Anchor.LineStart i ≡ false
 no_line s u i some other b = elim (cases_Bool (is_newline (char_before s i))) [
   | inl y ↦ absurd (other (newline_before s u i b some y))
   | inr n ↦
@@ -62,7 +63,7 @@ no_line s u i some other b = elim (cases_Bool (is_newline (char_before s i))) [
 
 -- none of the bytes from this place up to the next newline is one
 pub no_line-before : (s rest : List ℕ) → IsUtf8 s → (place next : ℕ) → place ≢ 0 → rest ≡ drop (place - 1) s → IsFirstByte (is_byte 10) rest (Some next)
-    → (k : ℕ) → place ≤ k → k < place + next → IsCharBoundary s k → anchor_holds s line_start k ≡ false
+    → (k : ℕ) → place ≤ k → k < place + next → IsCharBoundary s k → anchor_holds s Anchor.LineStart k ≡ false
 no_line-before s rest u place next some is first k l m b =
     let ne : k ≢ 0 = (λ z. some (omega arith)) in
     no_line s u k ne (λ e. first.0.before (k - place) (omega arith) (omega arith) (eq-eqb (get_or rest (k - place) 0) 10
@@ -70,7 +71,7 @@ no_line-before s rest u place next some is first k l m b =
 
 -- or there is none
 pub no_line-behind : (s rest : List ℕ) → IsUtf8 s → (place : ℕ) → place ≢ 0 → rest ≡ drop (place - 1) s → IsFirstByte (is_byte 10) rest None
-    → (k : ℕ) → place ≤ k → k < length s → IsCharBoundary s k → anchor_holds s line_start k ≡ false
+    → (k : ℕ) → place ≤ k → k < length s → IsCharBoundary s k → anchor_holds s Anchor.LineStart k ≡ false
 no_line-behind s rest u place some is first k l m b =
     let ne : k ≢ 0 = (λ z. some (omega arith)) in
     no_line s u k ne (λ e. first (k - place) (omega arith) (omega (arith, ap length is, length-drop (place - 1) s)) (eq-eqb (get_or rest (k - place) 0) 10
@@ -79,7 +80,7 @@ no_line-behind s rest u place some is first k l m b =
 -- -- Matches
 
 -- no match begins where no line does
-pub no_match : (s : List ℕ) → IsUtf8 s → (p : Program) → IsAtLines (get_or (trees_of p) p.root nothing) → (k : ℕ) → (IsCharBoundary s k → anchor_holds s line_start k ≡ false) → CannotBegin s p k
+pub no_match : (s : List ℕ) → IsUtf8 s → (p : Program) → IsAtLines (get_or (trees_of p) p.root nothing) → (k : ℕ) → (IsCharBoundary s k → anchor_holds s Anchor.LineStart k ≡ false) → CannotBegin s p k
 unfolding found_at
 no_match s u p lines k out tree is = go (is_boundary s k) refl
   where

@@ -3,7 +3,8 @@ use Rattle.std.proofs.Common.{◌≡◌, ◌≢◌, ℕ, zero, suc, ◌+◌, ◌
 use Rattle.std.specs.Prelude.{IsCharBoundary, IfOk, OnOk, Result, Ok, Err}
 use Rattle.std.specs.Option.{option_or}
 use Rattle.std.proofs.lemmas.List.{reverse-append}
-use Rattle.syntect_pattern_backtrack.specs.syntect_pattern.Trees.{Anchor, Tree, anchor, repeat}
+use Rattle.syntect_pattern_backtrack.specs.syntect_pattern.Trees.{Tree, anchor, repeat}
+use Rattle.syntect_pattern_backtrack.specs.syntect_pattern.declared.anchor.Anchor.{Anchor}
 use Rattle.syntect_pattern_backtrack.specs.syntect_pattern.Matches.{Groups, Member, anchor_holds}
 use Rattle.syntect_pattern_backtrack.specs.declared.state.Turns.{Turns}
 use Rattle.syntect_pattern_backtrack.specs.declared.state.Continuation.TheVariants.{Run, Close, Again}
@@ -16,7 +17,8 @@ use Rattle.syntect_pattern_backtrack.proofs.MachineLaws.{list_at-seam, pending-a
 use Rattle.syntect_pattern_backtrack.proofs.TurnLaws.{turn-now, while-unused}
 use Rattle.syntect_pattern_backtrack.proofs.BackLaws.{leave-cell}
 use Rattle.syntect_pattern_backtrack.proofs.CutLaws.{list_at-take}
-use Rattle.syntect_pattern_backtrack.proofs.DeadLaws.{IsDead, dead-found, goes_less}
+use Rattle.syntect_pattern_steps.specs.First.{IsDead}
+use Rattle.syntect_pattern_backtrack.proofs.DeadLaws.{dead-found, goes_less}
 
 or_none : (o : Option Member) → option_or o None ≡ o
 or_none None = refl

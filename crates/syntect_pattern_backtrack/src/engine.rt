@@ -42,6 +42,10 @@ fn is_lost_there(program: &Program, text: &str, place: usize) -> bool
     fails_at_once(program, text, place, program.root)
 }
 
+/// How many frames a limited search may keep, and how many cells: some 50 MB of them. It is a
+/// little below a power of two, so that neither list grows to the next one before it is looked at.
+const MOST_KEPT: usize = 500_000;
+
 /// The search has found a match.
 #[inline]
 fn is_found(next: Next) -> bool
@@ -94,8 +98,23 @@ impl Search {
         }
     }
 
+    /// Whether a limited search ends with so many steps left: what its stretches count takes them,
+    /// or it has too much to come back to, which is looked at now and then.
+    #[inline(always)]
+    fn is_short(&self, left: usize) -> bool
+        ensures { result ≡ false → self.now.worth < left }
+    {
+        left <= self.worth || left % 256 == 0 && self.is_deep()
+    }
+
+    /// Whether it has so much to come back to that it would take too much memory.
+    fn is_deep(&self) -> bool {
+        self.frames.len() > MOST_KEPT || self.cells.len() > MOST_KEPT
+    }
+
     /// Takes at least one step, until a match is found or nothing is left to try; what stretches
-    /// count comes on top. None where the search is limited and its steps run out before.
+    /// count comes on top. None where the search is limited and its steps run out before, or it has
+    /// too much to come back to: it counts as many steps as it had left then.
     fn run(
         &mut self,
         program: &Program,
@@ -118,9 +137,9 @@ impl Search {
         let mut next = start;
         let mut left = self.left;
         'steps: loop {
-            if limited && left <= self.worth {
-                self.left = left.saturating_sub(self.worth);
-                count.add(left - self.left);
+            if limited && self.is_short(left) {
+                self.left = 0;
+                count.add(left);
                 return Ok(None);
             }
             left = left.wrapping_sub(1);

@@ -1,6 +1,7 @@
 //! Patterns whose matches begin where a line does.
 ghost use Rattle.std.specs.Prelude.{◌≡◌, ℕ, ◌≤◌, ◌<◌, IsCharBoundary, length, slice_index_or, false, true};
-ghost use Rattle.syntect_pattern_backtrack.specs.syntect_pattern.Trees.{line_start, nothing};
+ghost use Rattle.syntect_pattern_backtrack.specs.syntect_pattern.Trees.{nothing};
+ghost use Rattle.syntect_pattern_backtrack.specs.syntect_pattern.declared.anchor.Anchor.TheVariants.{LineStart};
 ghost use Rattle.syntect_pattern_backtrack.specs.syntect_pattern.Matches as matches;
 ghost use Rattle.syntect_pattern_backtrack.specs.syntect_pattern_table.Program.{CannotBegin, trees_of};
 ghost use Rattle.syntect_pattern_backtrack.specs.Lines.{IsAtLines};
@@ -9,30 +10,17 @@ use crate::syntect_pattern::anchor::Anchor;
 use crate::syntect_pattern_table::node::Node;
 use crate::syntect_pattern_table::program::Program;
 use memchr::memchr;
+use syntect_pattern_steps::first::first_part;
 
-/// How many parts are looked into.
-const LOOKS: u32 = 8;
-
-/// Whether the first part of the program, or the first part of that, and so on, is `^` or `\A`.
+/// Whether a match of the program is seen to begin with `^` or `\A`.
 pub fn is_at_lines(program: &Program) -> bool
     ensures { result ≡ true
         → IsAtLines (slice_index_or (trees_of program.now) program.now.root nothing) }
 {
-    let mut first = program.root;
-    for _ in 0..LOOKS {
-        let Some(found) = program.node(first) else {
-            return false;
-        };
-        first = match found {
-            Node::Anchor(Anchor::LineStart) => return true,
-            Node::Anchor(Anchor::TextStart) => return true,
-            Node::Sequence(first, _) => *first,
-            Node::Group { number: _, body } => *body,
-            Node::Atomic(body) => *body,
-            _ => return false,
-        };
-    }
-    false
+    matches!(
+        first_part(program, program.root),
+        Some(Node::Anchor(Anchor::LineStart | Anchor::TextStart))
+    )
 }
 
 /// The first place from this one on, up to `end`, where a line begins, or `end`.
@@ -42,7 +30,7 @@ fn next_line(text: &str, place: usize, end: usize) -> usize
     ensures later { place ≤ result }
     ensures inside { result ≤ end }
     ensures skipped { (k : ℕ) → place ≤ k → k < result → IsCharBoundary text.now k
-        → matches.anchor_holds text.now line_start k ≡ false }
+        → matches.anchor_holds text.now LineStart k ≡ false }
 {
     if place == 0 {
         return 0;

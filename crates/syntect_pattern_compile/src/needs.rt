@@ -256,7 +256,8 @@ impl Found {
         requires table { IsTable nodes.now firsts.now }
         requires first { first < length nodes.now }
         requires second { second < length nodes.now }
-        ensures { (t : Tree) → PassesNeeds (seq (tree_in nodes.now first) (tree_in nodes.now second)) t
+        ensures { (t : Tree)
+            → PassesNeeds (seq (tree_in nodes.now first) (tree_in nodes.now second)) t
             → BothAreNeeded self.old t → BothAreNeeded self.new t }
     {
         match pair_of(nodes, firsts, first, second) {

@@ -9,7 +9,6 @@ ghost use Rattle.syntect_pattern_words.specs.MemberViews.{leaf_set};
 ghost use Rattle.syntect_pattern.specs.Trees.{one_of, anchor};
 ghost use Rattle.syntect_pattern.specs.Sets.{from_to};
 ghost use Rattle.syntect_pattern_table.specs.SetTable.{set_in};
-ghost use Rattle.syntect_pattern.specs.Anchors.{anchor_of};
 ghost use Rattle.syntect_pattern.specs.Escapes as definition;
 ghost use Rattle.syntect_pattern.specs.Grammar as grammar;
 
@@ -215,7 +214,7 @@ impl Reader {
         ensures refers { OnOk result (self.new.refers ≡ self.old.refers) }
         ensures inside { IfOk result (λ f. IfSome f (λ x. IsBodyIn self.new.builder.nodes x.0)) }
         ensures reads { IfOk result (ReadsFirm self.old self.new body place.entry
-            (anchor (anchor_of which))) }
+            (anchor which)) }
     {
         let node = self.builder.push(Node::Anchor(which))?;
         Ok(self.firm(body, Item::Node(node), place)?)

@@ -7,7 +7,8 @@ use Rattle.std.specs.Char.{len_utf8}
 use Rattle.syntect_pattern_linear.specs.syntect_pattern.Text.{char_at}
 use Rattle.syntect_pattern_linear.specs.syntect_pattern.Sets.{holds}
 use Rattle.syntect_pattern_linear.specs.syntect_pattern.Matches.{anchor_holds, is_newline}
-use Rattle.syntect_pattern_linear.specs.syntect_pattern.Trees.{Anchor, line_start, line_end, text_start, text_end, last_line_end, word_edge, no_word_edge, Tree, nothing, one_of, anchor, same, seq, alt, repeat, group, atomic, ahead, behind}
+use Rattle.syntect_pattern_linear.specs.syntect_pattern.Trees.{Tree, nothing, one_of, anchor, same, seq, alt, repeat, group, atomic, ahead, behind}
+use Rattle.syntect_pattern_linear.specs.syntect_pattern.declared.anchor.Anchor.{Anchor}
 use Rattle.syntect_pattern_linear.specs.syntect_pattern_table.Program.{trees_of}
 use Rattle.syntect_pattern_linear.specs.syntect_pattern_steps.Steps.{after_char}
 use Rattle.syntect_pattern_plan.specs.Onward.{prefer_end, has_turn, end_if}
@@ -174,17 +175,17 @@ module _ (x : Ground) (marks : List (List Bool)) (v w : Spot) (here : IsSpot x.t
   no-end = no-same v.place (length s) (let e = here.early in omega (arith, e)) ∙ sym (no-same w.place (length s) (let e = there.early in omega (arith, e)))
 
   stands-alike : v.at_edge ≡ w.at_edge → v.at_line ≡ w.at_line → (a : Anchor) → anchor_holds s a v.place ≡ anchor_holds s a w.place
-  stands-alike e l line_start = sym here.line ∙ l ∙ there.line
-  stands-alike e l line_end = ap (λ (b : Bool). b || is_newline (char_at s v.place)) no-end ∙ ap (λ (o : Option ℕ). (w.place == length s) || is_newline o) same-char
-  stands-alike e l text_start = no-zero v.place here.inner ∙ sym (no-zero w.place there.inner)
-  stands-alike e l text_end = no-end
-  stands-alike e l last_line_end =
+  stands-alike e l Anchor.LineStart = sym here.line ∙ l ∙ there.line
+  stands-alike e l Anchor.LineEnd = ap (λ (b : Bool). b || is_newline (char_at s v.place)) no-end ∙ ap (λ (o : Option ℕ). (w.place == length s) || is_newline o) same-char
+  stands-alike e l Anchor.TextStart = no-zero v.place here.inner ∙ sym (no-zero w.place there.inner)
+  stands-alike e l Anchor.TextEnd = no-end
+  stands-alike e l Anchor.LastLineEnd =
       ap (λ (b : Bool). b || (is_newline (char_at s v.place) && v.place + 1 == length s)) no-end
       ∙ ap (λ (b : Bool). (w.place == length s) || b)
       (and-no (is_newline (char_at s v.place)) (v.place + 1 == length s) (no-same (v.place + 1) (length s) here.early)
       ∙ sym (and-no (is_newline (char_at s w.place)) (w.place + 1 == length s) (no-same (w.place + 1) (length s) there.early)))
-  stands-alike e l word_edge = sym here.edge ∙ e ∙ there.edge
-  stands-alike e l no_word_edge = ap not (sym here.edge ∙ e ∙ there.edge)
+  stands-alike e l Anchor.WordEdge = sym here.edge ∙ e ∙ there.edge
+  stands-alike e l Anchor.NoWordEdge = ap not (sym here.edge ∙ e ∙ there.edge)
 
   pub alike : v.at_edge ≡ w.at_edge → v.at_line ≡ w.at_line → get_or marks v.row [] ≡ get_or marks w.row [] → SeesAlike x v.place w.place → AreAlike x marks v.place w.place
   alike e l r z = record {

@@ -10,7 +10,8 @@ use Rattle.syntect_pattern_linear.specs.syntect_pattern_steps.Steps.{after_char}
 use Rattle.syntect_pattern_plan.specs.Onward.{plain, moved, prefer_end, turn_end, has_turn, end_if}
 use Rattle.syntect_pattern_plan.specs.Plan.{TurnIs}
 use Rattle.syntect_pattern_plan.proofs.OnwardLaws.{moved-at, moved-past}
-use Rattle.syntect_pattern_linear.specs.syntect_pattern.Trees.{Anchor, Tree, nothing, one_of, anchor, seq, alt, repeat, group, atomic, ahead, behind}
+use Rattle.syntect_pattern_linear.specs.syntect_pattern.Trees.{Tree, nothing, one_of, anchor, seq, alt, repeat, group, atomic, ahead, behind}
+use Rattle.syntect_pattern_linear.specs.syntect_pattern.declared.anchor.Anchor.{Anchor}
 use Rattle.syntect_pattern_linear.specs.syntect_pattern_table.Program.{trees_of}
 use Rattle.syntect_pattern_plan.specs.Cells.{cell_at, parts_at}
 use Rattle.syntect_pattern_linear.specs.Rows.{row_end}

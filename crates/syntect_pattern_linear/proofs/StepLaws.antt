@@ -5,7 +5,8 @@ use Rattle.std.specs.Option.{option_or}
 use Rattle.std.specs.Char.{len_utf8}
 use Rattle.syntect_pattern_linear.specs.syntect_pattern.Text.{char_at}
 use Rattle.syntect_pattern_linear.specs.syntect_pattern.Sets.{Set, holds}
-use Rattle.syntect_pattern_linear.specs.syntect_pattern.Trees.{Anchor, Tree, nothing, one_of, anchor, seq, alt, repeat, group, atomic, ahead, behind}
+use Rattle.syntect_pattern_linear.specs.syntect_pattern.Trees.{Tree, nothing, one_of, anchor, seq, alt, repeat, group, atomic, ahead, behind}
+use Rattle.syntect_pattern_linear.specs.syntect_pattern.declared.anchor.Anchor.{Anchor}
 use Rattle.syntect_pattern_linear.specs.syntect_pattern.Matches.{anchor_holds}
 use Rattle.syntect_pattern_linear.specs.syntect_pattern_steps.Steps.{after_char}
 use Rattle.syntect_pattern_plan.specs.Onward.{Onward, moved, reads, is_free, onward, prefer_end, turn_end, end_if}

@@ -4,7 +4,8 @@ use Rattle.std.specs.Prelude.{if◌then◌else◌, ◌==◌, is_some, slice_set,
 use Rattle.std.specs.Option.{option_or}
 use Rattle.syntect_pattern_linear.specs.syntect_pattern.Text.{char_at}
 use Rattle.syntect_pattern_linear.specs.syntect_pattern.Sets.{Set, holds}
-use Rattle.syntect_pattern_linear.specs.syntect_pattern.Trees.{Anchor, Tree, nothing, one_of, anchor, alt, repeat, group, atomic, ahead, behind}
+use Rattle.syntect_pattern_linear.specs.syntect_pattern.Trees.{Tree, nothing, one_of, anchor, alt, repeat, group, atomic, ahead, behind}
+use Rattle.syntect_pattern_linear.specs.syntect_pattern.declared.anchor.Anchor.{Anchor}
 use Rattle.syntect_pattern_linear.specs.syntect_pattern.Matches.{Groups, Member, only_if, look, close, matches}
 use Rattle.syntect_pattern_linear.specs.syntect_pattern_table.Program.{trees_of}
 use Rattle.syntect_pattern_plan.specs.Onward.{Onward, chosen, reaches, moved, reads, onward, is_free, is_bare}

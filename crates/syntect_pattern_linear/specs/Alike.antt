@@ -3,7 +3,8 @@ use Rattle.std.specs.Prelude.{◌≡◌, ℕ, ◌+◌, ◌-◌, ◌<◌, Bool, t
 use Rattle.std.specs.Char.{len_utf8}
 use Rattle.syntect_pattern_linear.specs.syntect_pattern.Matches.{anchor_holds}
 use Rattle.syntect_pattern_linear.specs.syntect_pattern.Text.{char_at}
-use Rattle.syntect_pattern_linear.specs.syntect_pattern.Trees.{Anchor, word_edge, line_start, Tree, atomic}
+use Rattle.syntect_pattern_linear.specs.syntect_pattern.Trees.{Tree, atomic}
+use Rattle.syntect_pattern_linear.specs.syntect_pattern.declared.anchor.Anchor.{Anchor}
 use Rattle.syntect_pattern_linear.specs.syntect_pattern_table.Program.{trees_of}
 use Rattle.syntect_pattern_plan.specs.Cells.{cell_tree}
 use Rattle.syntect_pattern_linear.specs.Ground.{IsIn}
@@ -52,5 +53,5 @@ pub record IsSpot (s : List ℕ) (place : ℕ) (v : Spot) : Type 0 where
   pub char : char_at s place ≡ Some v.c
   pub on : IsCharBoundary s (place + len_utf8 v.c)
   pub row_is : v.row ≡ length s - (place + len_utf8 v.c)
-  pub edge : v.at_edge ≡ anchor_holds s word_edge place
-  pub line : v.at_line ≡ anchor_holds s line_start place
+  pub edge : v.at_edge ≡ anchor_holds s Anchor.WordEdge place
+  pub line : v.at_line ≡ anchor_holds s Anchor.LineStart place

@@ -10,13 +10,13 @@ and_false : (a : Bool) → (a && false) ≡ false
 and_false true = refl
 and_false false = refl
 
-pub linear-hard : (t : Tree) → IsHard 40000 t → false ≡ is_linear t
+pub linear-hard : (t : Tree) → IsHard most_cells t → false ≡ is_linear t
 linear-hard t (inl e) = sym (ap (λ (b : Bool). b && nat_le (plan_cells t) most_cells) e)
 linear-hard t (inr l) =
     let over : nat_le (plan_cells t) most_cells ≡ false = grind (arith, nat_tests) in
     sym (ap (λ (b : Bool). is_free t && b) over ∙ and_false (is_free t))
 
-pub linear-easy : (t : Tree) → IsEasy 40000 t → true ≡ is_linear t
+pub linear-easy : (t : Tree) → IsEasy most_cells t → true ≡ is_linear t
 linear-easy t h =
     let l : plan_cells t ≤ most_cells = h.few in
     let within : nat_le (plan_cells t) most_cells ≡ true = grind (arith, nat_tests) in

@@ -6,7 +6,8 @@ use Rattle.std.specs.Option.{option_or}
 use Rattle.std.specs.Char.{len_utf8}
 use Rattle.syntect_pattern_plan.specs.syntect_pattern.Text.{char_at}
 use Rattle.syntect_pattern_plan.specs.syntect_pattern.Sets.{Set, holds}
-use Rattle.syntect_pattern_plan.specs.syntect_pattern.Trees.{Tree, Anchor, nothing, one_of, anchor, seq, alt, repeat, group, atomic, ahead}
+use Rattle.syntect_pattern_plan.specs.syntect_pattern.Trees.{Tree, nothing, one_of, anchor, seq, alt, repeat, group, atomic, ahead}
+use Rattle.syntect_pattern_plan.specs.syntect_pattern.declared.anchor.Anchor.{Anchor}
 use Rattle.syntect_pattern_plan.specs.syntect_pattern.Matches.{Groups, Member, Way, only_if, past, prefer, while_left, after_turn, turns, look, close, anchor_holds, matches}
 use Rattle.syntect_pattern_plan.proofs.syntect_pattern_proofs.Each.{Each}
 use Rattle.syntect_pattern_plan.proofs.syntect_pattern_proofs.TurnLaws.{matches-forward, turns_enough}

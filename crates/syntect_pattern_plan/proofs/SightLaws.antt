@@ -8,7 +8,8 @@ use Rattle.std.proofs.Math.Seq.{get_or-append_seam}
 use Rattle.std.proofs.lemmas.Bool.Decides.{nat_tests}
 use Rattle.syntect_pattern_plan.specs.syntect_pattern.Text.{is_boundary, char_at}
 use Rattle.syntect_pattern_plan.specs.syntect_pattern.Sets.{Set, holds}
-use Rattle.syntect_pattern_plan.specs.syntect_pattern.Trees.{Anchor, Tree, nothing, one_of, anchor, same, seq, alt, repeat, group, atomic, ahead, behind}
+use Rattle.syntect_pattern_plan.specs.syntect_pattern.Trees.{Tree, nothing, one_of, anchor, same, seq, alt, repeat, group, atomic, ahead, behind}
+use Rattle.syntect_pattern_plan.specs.syntect_pattern.declared.anchor.Anchor.{Anchor}
 use Rattle.syntect_pattern_plan.specs.syntect_pattern.Matches.{Member, ending_at, or_else, anchor_holds, matches, ending_here}
 use Rattle.syntect_pattern_plan.proofs.syntect_pattern_proofs.TurnLaws.{matches-forward}
 use Rattle.std.proofs.lemmas.Str.{IsCharBoundary-start}

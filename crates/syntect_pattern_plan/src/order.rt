@@ -38,7 +38,8 @@ pub(crate) fn size_at(sizes: &[usize], node: usize) -> usize
 /// How many nodes two parts have with the node that they are in.
 #[tactic(auto, unfolding(crate::specs::Order::in_64_bits))]
 fn size_of_two(first: usize, second: usize) -> usize
-    ensures { (a b : ℕ) → first ≡ in_64_bits a → second ≡ in_64_bits b → result ≡ in_64_bits (suc (a + b)) }
+    ensures { (a b : ℕ) → first ≡ in_64_bits a → second ≡ in_64_bits b
+        → result ≡ in_64_bits (suc (a + b)) }
 {
     first.saturating_add(second).saturating_add(1)
 }

@@ -15,7 +15,8 @@ use std::alloc::{AllocError, Global};
 /// How many passes two parts take, by those of each, at most the largest number.
 #[tactic(auto, unfolding(crate::specs::Order::in_64_bits))]
 fn sum_of(first: usize, second: usize) -> usize
-    ensures { (a b : ℕ) → first ≡ in_64_bits a → second ≡ in_64_bits b → result ≡ in_64_bits (a + b) }
+    ensures { (a b : ℕ) → first ≡ in_64_bits a → second ≡ in_64_bits b
+        → result ≡ in_64_bits (a + b) }
 {
     first.saturating_add(second)
 }
@@ -44,7 +45,8 @@ fn node_passes(node: &Node, sizes: &[usize], before: &[usize]) -> usize
 pub fn passes_of(alloc: Global, program: &Program) -> Result<usize, AllocError>
     requires { AreSpelt program.now.nodes }
     ensures { IfOk result (λ n. n
-        ≡ in_64_bits (spec.passes (slice_index_or (trees_of program.now) program.now.root nothing))) }
+        ≡ in_64_bits
+        (spec.passes (slice_index_or (trees_of program.now) program.now.root nothing))) }
 {
     let mut sizes = Vec::new(alloc);
     let mut passes = Vec::new(alloc);

@@ -18,8 +18,9 @@ use crate::syntect_values::seq::Seq;
 use std::alloc::{AllocError, Global};
 use syntect_count::count::GhostCount;
 
-/// At most about so many cells a plan has.
-const MOST: usize = 40000;
+/// At most about so many cells a plan has; so many bytes of a pattern count where steps are worked
+/// out.
+pub const MOST_CELLS: usize = 40000;
 
 /// No parts.
 const NO_PARTS: Parts = Parts {
@@ -45,7 +46,7 @@ impl Plan {
     ghost use Rattle.syntect_pattern_plan.specs.syntect_pattern_table.Table.{AreSpelt, is_text, node_tree};
     ghost use Rattle.syntect_pattern_plan.specs.Cells as spec;
     ghost use Rattle.syntect_pattern_plan.specs.Facts.{AreFacts};
-    ghost use Rattle.syntect_pattern_plan.specs.Linear.{is_linear};
+    ghost use Rattle.syntect_pattern_plan.specs.Linear.{is_linear, most_cells};
     ghost use Rattle.syntect_pattern_plan.specs.Onward.{is_free};
     ghost use Rattle.syntect_pattern_plan.specs.Plan.{IsEasy, IsHard, IsPart, IsPlanned, LooksFor, cells_of, others_of, plan_cells};
     ghost use Rattle.syntect_pattern_plan.specs.Build.{Adds, AddsMore, AreBuilt, Expands, IsSame, Makes, MakesBeside, MakesOwn, all_cells, tree_at};
@@ -478,9 +479,9 @@ impl Plan {
         ensures plan { IfOk result (λ found. IfSome found (λ plan. IsPlanOf program.now plan)) }
         ensures count { IfOk result (λ found. IfSome found (λ plan. length plan.cells
             ≡ plan_cells (slice_index_or (trees_of program.now) program.now.root nothing))) }
-        ensures easy { IfOk result (λ found. IfSome found (λ plan. IsEasy MOST
+        ensures easy { IfOk result (λ found. IfSome found (λ plan. IsEasy most_cells
             (slice_index_or (trees_of program.now) program.now.root nothing))) }
-        ensures none { IfOk result (λ found. IfNone found (IsHard MOST
+        ensures none { IfOk result (λ found. IfNone found (IsHard most_cells
             (slice_index_or (trees_of program.now) program.now.root nothing))) }
         ensures linear { IfOk result (λ found. is_some found
             ≡ is_linear (slice_index_or (trees_of program.now) program.now.root nothing)) }
@@ -496,7 +497,7 @@ impl Plan {
         }
         let mut plan = Plan::begin(alloc, program, facts)?;
         'cells: while plan.parts.len() < plan.cells.len() {
-            if plan.cells.len() > MOST {
+            if plan.cells.len() > MOST_CELLS {
                 return Ok(None);
             }
             count.tick();

@@ -23,7 +23,7 @@ use crate::syntect_count::count::GhostCount;
 use crate::syntect_count::meter::Meter;
 use crate::syntect_count::stop::Stop;
 use crate::syntect_pattern_plan::passes::passes_of;
-use crate::syntect_pattern_plan::plan::Plan;
+use crate::syntect_pattern_plan::plan::{MOST_CELLS, Plan};
 use crate::syntect_pattern_plan::spelt::spelt;
 use crate::syntect_pattern_table::program::Program;
 use std::alloc::Global;
@@ -36,8 +36,8 @@ const STEPS_A_BYTE: usize = 64;
 const STEPS: usize = 16384;
 
 /// In how many steps the tries of a pattern at place after place of a text may back up for each
-/// byte of it. Marking a place takes about as long as some steps,
-/// where the same stood at another place.
+/// byte of it. Marking a place takes about as long as some steps, where the same stood at another
+/// place.
 const TRIED_A_BYTE: usize = 8;
 
 const TRIED: usize = 2048;
@@ -46,9 +46,6 @@ const TRIED: usize = 2048;
 /// than the text has bytes.
 const STEPS_A_PLAN: usize = 16;
 
-/// How many bytes of the pattern count at most: as many as a plan has cells at most.
-const MOST: usize = 40000;
-
 /// In how many steps a search of the text may back up for a pattern of so many bytes.
 #[inline]
 fn steps_in(size: usize, text: &str) -> usize
@@ -56,7 +53,9 @@ fn steps_in(size: usize, text: &str) -> usize
         ≤ length text.now * 64 + min size most_cells * min (length text.now) 16 + 16384 }
 {
     let bytes = text.len().saturating_mul(STEPS_A_BYTE);
-    let plan = size.min(MOST).saturating_mul(text.len().min(STEPS_A_PLAN));
+    let plan = size
+        .min(MOST_CELLS)
+        .saturating_mul(text.len().min(STEPS_A_PLAN));
     bytes.saturating_add(plan).saturating_add(STEPS)
 }
 
@@ -68,7 +67,9 @@ fn tried_steps_in(size: usize, text: &str) -> usize
         ≤ length text.now * 8 + min size most_cells * min (length text.now) 16 + 2048 }
 {
     let bytes = text.len().saturating_mul(TRIED_A_BYTE);
-    let plan = size.min(MOST).saturating_mul(text.len().min(STEPS_A_PLAN));
+    let plan = size
+        .min(MOST_CELLS)
+        .saturating_mul(text.len().min(STEPS_A_PLAN));
     bytes.saturating_add(plan).saturating_add(TRIED)
 }
 

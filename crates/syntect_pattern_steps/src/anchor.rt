@@ -1,7 +1,6 @@
 //! Places where nothing is read.
 ghost use Rattle.std.specs.Prelude.{◌≡◌, IsCharBoundary, Option, ℕ};
 ghost use Rattle.syntect_pattern.specs.Matches as matches;
-ghost use Rattle.syntect_pattern.specs.Anchors.{anchor_of};
 ghost use Rattle.syntect_pattern.specs.Sets.{is_word};
 
 use crate::text::{char_at, char_before};
@@ -12,7 +11,7 @@ use syntect_pattern_table::sets::has_bit;
 /// Whether the anchor holds at the place.
 pub fn anchor_holds(text: &str, place: usize, anchor: Anchor) -> bool
     requires { IsCharBoundary text.now place }
-    ensures { result ≡ matches.anchor_holds text.now (anchor_of anchor) place }
+    ensures { result ≡ matches.anchor_holds text.now anchor place }
 {
     let end = text.len();
     match anchor {

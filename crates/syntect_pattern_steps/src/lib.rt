@@ -2,6 +2,7 @@
 #![tactic(auto)]
 
 pub mod anchor;
+pub mod first;
 pub mod past;
 pub mod text;
 

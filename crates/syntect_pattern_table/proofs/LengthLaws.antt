@@ -12,7 +12,8 @@ use Rattle.std.proofs.lemmas.List.{get_or_append_left}
 use Rattle.std.proofs.Common.{length-append}
 use Rattle.syntect_pattern.specs.Text.{char_at}
 use Rattle.syntect_pattern.specs.Sets.{Set, range, holds}
-use Rattle.syntect_pattern.specs.Trees.{Anchor, Tree, nothing, one_of, anchor, same, seq, alt, repeat, group, atomic, ahead, behind}
+use Rattle.syntect_pattern.specs.Trees.{Tree, nothing, one_of, anchor, same, seq, alt, repeat, group, atomic, ahead, behind}
+use Rattle.syntect_pattern.specs.declared.anchor.Anchor.{Anchor}
 use Rattle.syntect_pattern.specs.Matches.{Groups, Member, Way, matches, past, only_if, close, look, ending_here, anchor_holds, turns, prefer, while_left, after_turn, spelled, same_text, equals}
 use Rattle.syntect_pattern.proofs.Each.{Each, each_of, each-append, each-flat_map, each-map, each-take}
 use Rattle.syntect_pattern_table.specs.SetTable.{is_wide}

@@ -12,7 +12,8 @@ use Rattle.std.proofs.lemmas.Str.{IsUtf8-drop, chars-encodes, byte_from_char}
 use Rattle.std.proofs.Math.Utf8.{encodes}
 use Rattle.syntect_pattern.specs.Text.{char_at, is_boundary}
 use Rattle.syntect_pattern.specs.Sets.{Set, none, range, alike, category, categories, word, space, either, both, negated, holds}
-use Rattle.syntect_pattern.specs.Trees.{Anchor, line_start, line_end, text_start, text_end, last_line_end, word_edge, no_word_edge, Tree, nothing, one_of, anchor, same, seq, alt, repeat, group, atomic, ahead, behind}
+use Rattle.syntect_pattern.specs.Trees.{Tree, nothing, one_of, anchor, same, seq, alt, repeat, group, atomic, ahead, behind}
+use Rattle.syntect_pattern.specs.declared.anchor.Anchor.{Anchor}
 use Rattle.syntect_pattern.specs.Matches.{Groups, Member, Way, matches, turns, prefer, while_left, after_turn, only_if, past, close, anchor_holds, is_newline, look, stay, ending_here, unset, found_at}
 use Rattle.syntect_pattern_table.specs.SetTable.{is_wide}
 use Rattle.syntect_pattern_table.proofs.AlikeLaws.{alike_wide}
@@ -169,13 +170,13 @@ module _ (s : List ℕ) where
   end-stands i x (over e h) y = ap (λ n. n == 129) e
 
   anchor-stands : (a : Anchor) (i x : ℕ) → Start s i x → anchor_holds s a i ≡ true → can_stand a x ≡ true
-  anchor-stands line_start i x st y = refl
-  anchor-stands line_end i x st y = line-stands i x true st (ap (λ b. i == length s || b) (and-true (is_newline (char_at s i))) ∙ y)
-  anchor-stands text_start i x st y = refl
-  anchor-stands text_end i x st y = end-stands i x st y
-  anchor-stands last_line_end i x st y = line-stands i x (i + 1 == length s) st y
-  anchor-stands word_edge i x st y = refl
-  anchor-stands no_word_edge i x st y = refl
+  anchor-stands Anchor.LineStart i x st y = refl
+  anchor-stands Anchor.LineEnd i x st y = line-stands i x true st (ap (λ b. i == length s || b) (and-true (is_newline (char_at s i))) ∙ y)
+  anchor-stands Anchor.TextStart i x st y = refl
+  anchor-stands Anchor.TextEnd i x st y = end-stands i x st y
+  anchor-stands Anchor.LastLineEnd i x st y = line-stands i x (i + 1 == length s) st y
+  anchor-stands Anchor.WordEdge i x st y = refl
+  anchor-stands Anchor.NoWordEdge i x st y = refl
 
   all-read : (r t : Bool) (i : ℕ) (ms : List Member) → r ≡ true → AllBegin r t i ms
   all-read r t i [] e = tt

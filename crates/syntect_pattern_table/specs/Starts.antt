@@ -5,7 +5,8 @@ use Rattle.syntect_pattern_table.specs.SetTable.{is_wide}
 use Rattle.syntect_pattern_table.specs.declared.starts.Firsts.{Firsts}
 use Rattle.syntect_pattern_table.specs.declared.starts.Places.{Places}
 use Rattle.std.specs.Int.{bit_at}
-use Rattle.syntect_pattern.specs.Trees.{Anchor, line_end, text_end, last_line_end, Tree, nothing, one_of, anchor, same, seq, alt, repeat, group, atomic, ahead, behind}
+use Rattle.syntect_pattern.specs.Trees.{Tree, nothing, one_of, anchor, same, seq, alt, repeat, group, atomic, ahead, behind}
+use Rattle.syntect_pattern.specs.declared.anchor.Anchor.{Anchor}
 
 -- what stands at a place: an ASCII character, 128 for any other one, and 129 for the text's end
 unfoldable pub start_at : List ℕ → ℕ → ℕ
@@ -19,9 +20,9 @@ can_hold a x = if nat_lt x 128 then holds a x else (x == 128 && is_wide a)
 
 -- the anchor can hold there
 abbrev pub can_stand : Anchor → ℕ → Bool
-can_stand line_end x = not (nat_lt x 128) || x == 0x0A
-can_stand text_end x = x == 129
-can_stand last_line_end x = not (nat_lt x 128) || x == 0x0A
+can_stand Anchor.LineEnd x = not (nat_lt x 128) || x == 0x0A
+can_stand Anchor.TextEnd x = x == 129
+can_stand Anchor.LastLineEnd x = not (nat_lt x 128) || x == 0x0A
 can_stand _ x = true
 
 -- whether a match can read something where this stands, and whether one can read nothing

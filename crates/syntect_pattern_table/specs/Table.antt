@@ -4,7 +4,6 @@ use Rattle.syntect_pattern.specs.Sets.{Set, range}
 use Rattle.syntect_pattern.specs.Trees.{Tree, nothing, one_of, anchor, same, seq, alt, repeat, group, atomic, ahead, behind}
 use Rattle.syntect_pattern_table.specs.SetTable.{listed, set_in}
 use Rattle.syntect_pattern_table.specs.declared.sets.Class.{Class}
-use Rattle.syntect_pattern.specs.Anchors.{anchor_of}
 use Rattle.syntect_pattern.specs.Letters.{letters_of, letters_tree}
 use Rattle.syntect_pattern_table.specs.declared.node.Node.{Node}
 
@@ -17,7 +16,7 @@ abbrev pub node_tree : List Tree → Node → Tree
 node_tree before Node.Nothing = nothing
 node_tree before (Node.Char c) = one_of (range c c)
 node_tree before (Node.Class c) = one_of (set_of c)
-node_tree before (Node.Anchor a) = anchor (anchor_of a)
+node_tree before (Node.Anchor a) = anchor a
 node_tree before (Node.Same fold n) = same fold n
 node_tree before (Node.Text l a) =
     letters_tree l.fold (letters_of l) (slice_index_or before a nothing)

@@ -3,7 +3,6 @@ ghost use Rattle.std.specs.Prelude.{◌≡◌, ◌<◌, ◌≤◌, ◌||◌, ◌
 ghost use Rattle.syntect_pattern.specs.Sets.{alike, from_to, holds, range};
 ghost use Rattle.syntect_pattern.specs.Trees.{Tree};
 ghost use Rattle.syntect_pattern_table.specs.Table.{IsOrdered, node_tree, parts_before, set_of, trees};
-ghost use Rattle.syntect_pattern.specs.Anchors.{anchor_of};
 ghost use Rattle.syntect_pattern_table.specs.Starts as spec;
 ghost use Rattle.syntect_pattern_table.specs.declared.starts.Places.{Places as APlaces};
 ghost use Rattle.syntect_pattern_table.specs.Starts.{AreFirsts, Begin, KeepsRows, begins, begins_at, either_begins, firsts_at, looked_begins, looped_begins, reads, row_at, sequence_begins, stays};
@@ -183,7 +182,7 @@ fn at_end() -> Places
 
 /// Where the anchor can hold.
 fn places_of_anchor(anchor: Anchor) -> Places
-    ensures { (x : ℕ) → x < 130 → spec.is_in result x ≡ spec.can_stand (anchor_of anchor) x }
+    ensures { (x : ℕ) → x < 130 → spec.is_in result x ≡ spec.can_stand anchor x }
 {
     match anchor {
         Anchor::LineEnd => before_newline(),

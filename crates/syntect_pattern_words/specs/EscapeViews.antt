@@ -6,13 +6,12 @@ use Rattle.syntect_pattern.specs.Reading.{Text}
 use Rattle.syntect_pattern.specs.Escapes.{char, set, edge, number, name}
 use Rattle.syntect_pattern.specs.Escapes as definition
 use Rattle.syntect_pattern.specs.NamedSets.{set_of_named}
-use Rattle.syntect_pattern.specs.Anchors.{anchor_of}
 use Rattle.syntect_pattern_words.specs.declared.escapes.Escape.{Escape}
 
 abbrev pub escape_of : Escape → definition.Escape
 escape_of (Escape.Char c) = char c
 escape_of (Escape.Set negated s) = set (negate_if negated (set_of_named s))
-escape_of (Escape.Edge a) = edge (anchor_of a)
+escape_of (Escape.Edge a) = edge a
 escape_of (Escape.Number n) = number n
 escape_of (Escape.Name t) = name (chars t.now)
 

@@ -103,7 +103,8 @@ fn set_letter(c: char, set: Named) -> Option<Escape<'static>>
 /// A letter that names a set.
 #[tactic(auto, unfolding(syntect_pattern::specs::Escapes::one_letter))]
 fn set_escape(c: char) -> Option<Escape<'static>>
-    ensures { MatchOption result (is_among c (codes "wWdDsShH") ≡ false) (λ e. one_letter c ≡ Some (escape_of e)) }
+    ensures { MatchOption result (is_among c (codes "wWdDsShH") ≡ false)
+        (λ e. one_letter c ≡ Some (escape_of e)) }
 {
     match c {
         'w' | 'W' => set_letter(c, Named::Word),
@@ -117,7 +118,8 @@ fn set_escape(c: char) -> Option<Escape<'static>>
 /// A letter that names an anchor.
 #[tactic(auto, unfolding(syntect_pattern::specs::Escapes::one_letter))]
 fn edge_escape(c: char) -> Option<Escape<'static>>
-    ensures { MatchOption result (is_among c (codes "AzZbB") ≡ false) (λ e. one_letter c ≡ Some (escape_of e)) }
+    ensures { MatchOption result (is_among c (codes "AzZbB") ≡ false)
+        (λ e. one_letter c ≡ Some (escape_of e)) }
 {
     match c {
         'A' => Some(Escape::Edge(Anchor::TextStart)),
@@ -132,7 +134,8 @@ fn edge_escape(c: char) -> Option<Escape<'static>>
 /// A letter or digit that names a character or a group.
 #[tactic(auto, unfolding(syntect_pattern::specs::Escapes::one_letter))]
 fn char_escape(c: char) -> Option<Escape<'static>>
-    ensures { MatchOption result (is_among c (codes "ntrfvae123456789") ≡ false) (λ e. one_letter c ≡ Some (escape_of e)) }
+    ensures { MatchOption result (is_among c (codes "ntrfvae123456789") ≡ false)
+        (λ e. one_letter c ≡ Some (escape_of e)) }
 {
     match c {
         'n' => Some(Escape::Char('\n')),

@@ -99,7 +99,8 @@ fn range_end(text: &str) -> Option<(char, &str)>
 
 /// A character, or a range where an end follows.
 fn up_to(fold: bool, low: char, rest: &str) -> Option<(Leaf, &str)>
-    ensures { definition.up_to fold low (chars rest.now) (definition.range_end (chars rest.now)) ≡ leafed result }
+    ensures { definition.up_to fold low (chars rest.now) (definition.range_end (chars rest.now))
+        ≡ leafed result }
 {
     match range_end(rest) {
         Some((high, rest)) => {

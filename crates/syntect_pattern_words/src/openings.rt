@@ -122,7 +122,8 @@ fn has_name(names: &[Option<Seq<char>>], wanted: &str) -> bool
 pub fn forward(place: Place<'_>, count: usize) -> Place<'_>
     ensures flags { result.flags ≡ place.entry.flags }
     ensures text { chars result.text.now ≡ drop count (chars place.entry.text.now) }
-    ensures place { (names : grammar.Names) → place_as names result ≡ grammar.forward count (place_as names place.entry) }
+    ensures place { (names : grammar.Names) → place_as names result
+        ≡ grammar.forward count (place_as names place.entry) }
 {
     Place {
         flags: place.flags,
@@ -153,7 +154,8 @@ fn named_group<'a>(
     names: &mut Names,
     place: Place<'a>,
 ) -> Result<Option<(Opening, Place<'a>)>, AllocError>
-    ensures { IfOk result (λ f. grammar.named_group (place_as names.old place.entry) ≡ opened_as names.new f) }
+    ensures { IfOk result
+        (λ f. grammar.named_group (place_as names.old place.entry) ≡ opened_as names.new f) }
 {
     let Some((name, rest)) = name_in(place.text) else {
         return Ok(None);
@@ -173,7 +175,8 @@ fn named_group<'a>(
 /// A group with flags, or flags alone, from the letters on.
 #[tactic(auto, unfolding(syntect_pattern::specs::Grammar::flag_group))]
 fn flag_group(place: Place<'_>) -> Option<(Opening, Place<'_>)>
-    ensures { (names : grammar.Names) → grammar.flag_group (place_as names place.entry) ≡ opened_as names result }
+    ensures { (names : grammar.Names) → grammar.flag_group (place_as names place.entry)
+        ≡ opened_as names result }
 {
     let (flags, rest) = flags_at(place.flags, place.text)?;
     let inside = Place {
@@ -195,7 +198,8 @@ pub fn read_opening<'a>(
     names: &mut Names,
     place: Place<'a>,
 ) -> Result<Option<(Opening, Place<'a>)>, AllocError>
-    ensures { IfOk result (λ f. grammar.opening (place_as names.old place.entry) ≡ opened_as names.new f) }
+    ensures { IfOk result
+        (λ f. grammar.opening (place_as names.old place.entry) ≡ opened_as names.new f) }
 {
     let text = place.text;
     if !begins(text, &['?']) {

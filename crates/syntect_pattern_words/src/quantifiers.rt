@@ -41,7 +41,8 @@ fn passing_at(spaced: bool, c: char, rest: &str) -> Option<Passing>
 
 /// What is passed over after the character, unless it isn't passed over itself.
 fn go_on(spaced: bool, passing: Passing, c: char, rest: &str) -> Option<Passing>
-    ensures { goes_on spaced (passing_as passing) c (chars rest.now) ≡ option_map passing_as result }
+    ensures { goes_on spaced (passing_as passing) c (chars rest.now)
+        ≡ option_map passing_as result }
 {
     match passing {
         Passing::Note => {

@@ -34,7 +34,8 @@ pub enum Token {
 /// What begins with the character, and none where the group is over.
 #[tactic(auto, unfolding(syntect_pattern::specs::Grammar::next_char))]
 fn token_of(text: &str, c: char) -> Option<Token>
-    ensures { MatchOption result (IsOver (grammar.next_char (chars text.now) c)) (λ t. grammar.next_char (chars text.now) c ≡ token_as t) }
+    ensures { MatchOption result (IsOver (grammar.next_char (chars text.now) c))
+        (λ t. grammar.next_char (chars text.now) c ≡ token_as t) }
 {
     match c {
         ')' => None,
@@ -64,7 +65,8 @@ fn is_quantifier(text: &str) -> bool
 
 /// What stands next, and none where the group is over.
 pub fn next_token(text: &str) -> Option<Token>
-    ensures { MatchOption result (IsOver (grammar.next_of (chars text.now))) (λ t. grammar.next_of (chars text.now) ≡ token_as t) }
+    ensures { MatchOption result (IsOver (grammar.next_of (chars text.now)))
+        (λ t. grammar.next_of (chars text.now) ≡ token_as t) }
 {
     match head(text) {
         Some(c) => token_of(text, c),
@@ -93,7 +95,8 @@ fn gives_nothing_back(short: bool, text: &str) -> bool
 
 /// The loop of a quantifier, as the sign after it wants it, and what follows.
 fn looped(quantifier: Quantifier, text: &str) -> (Looping, &str)
-    ensures { (a : Tree) → grammar.loop (quantifier_as quantifier) a (chars text.now) ≡ (looped_tree result.0 a, chars result.1.now) }
+    ensures { (a : Tree) → grammar.loop (quantifier_as quantifier) a (chars text.now)
+        ≡ (looped_tree result.0 a, chars result.1.now) }
 {
     let Quantifier { least, most, short } = quantifier;
     if begins(text, &['?']) {
@@ -125,7 +128,8 @@ fn looped(quantifier: Quantifier, text: &str) -> (Looping, &str)
 
 /// How the item before the place is repeated, and what follows.
 pub fn read_looping(place: Place<'_>) -> Option<(Looping, Place<'_>)>
-    ensures { (names : Names) (a : Tree) → grammar.quantified a (place_as names place.entry) ≡ repeated names a result }
+    ensures { (names : Names) (a : Tree) → grammar.quantified a (place_as names place.entry)
+        ≡ repeated names a result }
 {
     let flags = place.flags;
     let Some(text) = pass(flags.spaced, place.text) else {

@@ -1,5 +1,5 @@
-//! What reading keeps: how a context was opened, with the texts that its patterns are given, and what a line remembers of
-//! the searches that were made in it.
+//! What reading keeps: how a context was opened, with the texts that its patterns are given, and
+//! what a line remembers of the searches that were made in it.
 #![tactic(auto)]
 
 pub mod below;

@@ -32,8 +32,8 @@ pub struct Memos {
     /// Where a pattern's memo may stand, as a number from `base` on. What a slot says is looked at
     /// before it is believed, so that none need be wiped from line to line.
     slots: [u32; SLOTS],
-    /// It rises with each line by as many as memos are kept at most, so that what earlier lines left
-    /// in the slots leads to none.
+    /// It rises with each line by as many as memos are kept at most, so that what earlier lines
+    /// left in the slots leads to none.
     base: u32,
 }
 

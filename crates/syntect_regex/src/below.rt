@@ -32,7 +32,7 @@ pub mod pattern_seek {
 
 /// Of `syntect_pattern_steps`.
 pub mod pattern_steps {
-    pub use syntect_pattern_seek::syntect_pattern_steps::{anchor, text};
+    pub use syntect_pattern_seek::syntect_pattern_steps::{anchor, first, text};
 }
 
 /// Of `syntect_pattern_table`.

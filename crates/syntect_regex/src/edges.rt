@@ -5,29 +5,17 @@ ghost use Rattle.syntect_regex.specs.syntect_pattern_table.Program.{trees_of};
 ghost use Rattle.syntect_regex.specs.Begins.{IsAtEdges};
 
 use crate::below::pattern::anchor::Anchor;
+use crate::below::pattern_steps::first::first_part;
 use crate::below::pattern_table::node::Node;
 use crate::below::pattern_table::program::Program;
 
-/// How many parts are looked into.
-const LOOKS: u32 = 8;
-
-/// Whether the first part of the program, or the first part of that, and so on, is `\b`.
+/// Whether a match of the program is seen to begin with `\b`.
 pub(crate) fn is_at_edges(program: &Program) -> bool
     ensures { result ≡ true
         → IsAtEdges (slice_index_or (trees_of program.now) program.now.root nothing) }
 {
-    let mut first = program.root;
-    for _ in 0..LOOKS {
-        let Some(found) = program.node(first) else {
-            return false;
-        };
-        first = match found {
-            Node::Anchor(Anchor::WordEdge) => return true,
-            Node::Sequence(first, _) => *first,
-            Node::Group { number: _, body } => *body,
-            Node::Atomic(body) => *body,
-            _ => return false,
-        };
-    }
-    false
+    matches!(
+        first_part(program, program.root),
+        Some(Node::Anchor(Anchor::WordEdge))
+    )
 }

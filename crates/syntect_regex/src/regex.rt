@@ -6,7 +6,7 @@ ghost use Rattle.std.proofs.Common.{rules};
 ghost use Rattle.std.specs.Cmp.Rules.{comparing};
 ghost use Rattle.syntect_regex.specs.syntect_pattern.Trees.{group_in_look};
 ghost use Rattle.syntect_regex.specs.syntect_pattern.Pattern.{pattern_tree, pattern_found};
-ghost use Rattle.syntect_regex.specs.syntect_pattern.Found.{IsPatternMatch};
+ghost use Rattle.syntect_regex.specs.syntect_pattern.Found.{GroupsLie};
 ghost use Rattle.syntect_regex.specs.syntect_pattern_compile.Compiled.{Compiles};
 ghost use Rattle.syntect_regex.specs.syntect_pattern.declared.error.PatternError.{PatternError};
 ghost use Rattle.syntect_regex.specs.Body.{outline_in};
@@ -279,8 +279,8 @@ impl Regex {
         ensures ok { IfOk result
             (λ found. TakesMatch (pattern_found self.now
             (take end text.now) begin) region.old found region.new) }
-        ensures is_match { IfOk result
-            (λ found. found ≡ true → IsPatternMatch self.now
+        ensures groups { IfOk result
+            (λ found. found ≡ true → GroupsLie self.now
             (take end text.now) begin region.new) }
         ensures err { OnErr result (region.new ≡ region.old) }
     {
@@ -308,8 +308,8 @@ impl Regex {
         requires end_boundary { IsCharBoundary text.now end }
         ensures ok { IfOk result (λ found. TakesMatch
             (pattern_found self.now (take end text.now) begin) region.old found region.new) }
-        ensures is_match { IfOk result (λ found. found ≡ true
-            → IsPatternMatch self.now (take end text.now) begin region.new) }
+        ensures groups { IfOk result (λ found. found ≡ true
+            → GroupsLie self.now (take end text.now) begin region.new) }
         ensures err { OnErr result (region.new ≡ region.old) }
         ensures steps { pattern_is_linear self.now ≡ true
             → OnOk result (count.new.made ≤ count.old.made + search_bound self.now end) }
@@ -341,8 +341,8 @@ impl Regex {
         requires end_boundary { IsCharBoundary text.now end }
         ensures ok { IfOk result (λ found. TakesMatch
             (pattern_found self.now (take end text.now) begin) region.old found region.new) }
-        ensures is_match { IfOk result (λ found. found ≡ true
-            → IsPatternMatch self.now (take end text.now) begin region.new) }
+        ensures groups { IfOk result (λ found. found ≡ true
+            → GroupsLie self.now (take end text.now) begin region.new) }
         ensures err { OnErr result (region.new ≡ region.old) }
         ensures steps { pattern_is_linear self.now ≡ true
             → OnOk result (meter.new.made ≤ meter.old.made + search_bound self.now end) }
@@ -466,9 +466,9 @@ impl Regex {
         requires end_boundary { IsCharBoundary text.now end }
         ensures found { IfOk result
             (λ found. found ≡ is_some (pattern_found self.now (take end text.now) begin)) }
-        ensures is_match { IfOk result
+        ensures groups { IfOk result
             (λ found. found ≡ true → Leaves (λ old new.
-            IsPatternMatch self.now (take end text.now) begin new) region.entry region.exit) }
+            GroupsLie self.now (take end text.now) begin new) region.entry region.exit) }
         ensures region { Leaves
             (λ old new. new ≡ (if is_ok result
             then unwrap_or (pattern_found self.now (take end text.now) begin) old
@@ -572,6 +572,14 @@ pub fn escape(alloc: Global, text: &str) -> Result<String, AllocError>
         push_escaped(&mut pattern, c)?;
     }
     Ok(pattern)
+}
+
+impl Clone for Regex {
+    ghost is_clone = { λ x y. y ≡ x };
+
+    fn clone(&self) -> Result<Regex, AllocError> {
+        Regex::clone(self, *self.body.text.allocator())
+    }
 }
 
 impl PartialEq for Regex {

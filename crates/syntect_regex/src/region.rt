@@ -45,6 +45,14 @@ impl Model for Region {
     ghost view = { λ a. a.positions.items };
 }
 
+impl Clone for Region {
+    ghost is_clone = { λ x y. y ≡ x };
+
+    fn clone(&self) -> Result<Region, AllocError> {
+        Region::clone(self, *self.positions.allocator())
+    }
+}
+
 impl Region {
     /// A region without groups. Takes no memory.
     pub fn new(alloc: Global) -> Region

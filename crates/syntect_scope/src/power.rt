@@ -203,7 +203,8 @@ impl Ord for MatchPower {
 impl PartialOrd for MatchPower {
     ghost partial_cmp = { as_partial_cmp nat_cmp };
 
-    ghost laws = { partial_order_from_own_ties (Prim.search (comparing, rules)) (Prim.search (comparing, rules)) };
+    ghost laws = { partial_order_from_own_ties (Prim.search (comparing, rules))
+        (Prim.search (comparing, rules)) };
 
     fn partial_cmp(&self, other: &MatchPower) -> Option<Ordering> {
         Some(self.cmp(other))

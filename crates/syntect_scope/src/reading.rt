@@ -56,10 +56,14 @@ fn stacks_of(
     texts: &[&str],
     repository: &mut ScopeRepository,
 ) -> Result<Vec<ScopeStack>, ParseScopeError>
-    ensures atoms { OnOk result (repository.new ≡ with_scopes repository.old (flat_map words (map (λ x. x.now) texts.now))) }
-    ensures stacks { IfOk result (λ stacks. stacks.items ≡ map (stack_in repository.new) (map (λ x. x.now) texts.now)) }
-    ensures accepted { OnOk result (first_refusal repository.old (flat_map words (map (λ x. x.now) texts.now)) ≡ None) }
-    ensures refused { IfErr result (IsRefusalOrMemory (first_refusal repository.old (flat_map words (map (λ x. x.now) texts.now)))) }
+    ensures atoms { OnOk result (repository.new ≡ with_scopes repository.old
+        (flat_map words (map (λ x. x.now) texts.now))) }
+    ensures stacks { IfOk result
+        (λ stacks. stacks.items ≡ map (stack_in repository.new) (map (λ x. x.now) texts.now)) }
+    ensures accepted { OnOk result
+        (first_refusal repository.old (flat_map words (map (λ x. x.now) texts.now)) ≡ None) }
+    ensures refused { IfErr result (IsRefusalOrMemory
+        (first_refusal repository.old (flat_map words (map (λ x. x.now) texts.now)))) }
     ensures whole { IsRepository repository.new }
     ensures kept { take (length repository.old) repository.new ≡ repository.old }
 {
@@ -84,10 +88,13 @@ impl ScopeSelector {
         s: &str,
         repository: &mut ScopeRepository,
     ) -> Result<ScopeSelector, ParseScopeError>
-        ensures atoms { OnOk result (repository.new ≡ with_scopes repository.old (selector_words s.now)) }
+        ensures atoms { OnOk result
+            (repository.new ≡ with_scopes repository.old (selector_words s.now)) }
         ensures selector { IfOk result (λ selector. selector ≡ selector_in repository.new s.now) }
-        ensures accepted { OnOk result (first_refusal repository.old (selector_words s.now) ≡ None) }
-        ensures refused { IfErr result (IsRefusalOrMemory (first_refusal repository.old (selector_words s.now))) }
+        ensures accepted { OnOk result
+            (first_refusal repository.old (selector_words s.now) ≡ None) }
+        ensures refused { IfErr result
+            (IsRefusalOrMemory (first_refusal repository.old (selector_words s.now))) }
         ensures whole { IsRepository repository.new }
         ensures kept { take (length repository.old) repository.new ≡ repository.old }
     {
@@ -122,10 +129,13 @@ impl ScopeSelectors {
         s: &str,
         repository: &mut ScopeRepository,
     ) -> Result<ScopeSelectors, ParseScopeError>
-        ensures atoms { OnOk result (repository.new ≡ with_scopes repository.old (union_words s.now)) }
-        ensures selectors { IfOk result (λ selectors. selectors.selectors ≡ selectors_in repository.new s.now) }
+        ensures atoms { OnOk result
+            (repository.new ≡ with_scopes repository.old (union_words s.now)) }
+        ensures selectors { IfOk result
+            (λ selectors. selectors.selectors ≡ selectors_in repository.new s.now) }
         ensures accepted { OnOk result (first_refusal repository.old (union_words s.now) ≡ None) }
-        ensures refused { IfErr result (IsRefusalOrMemory (first_refusal repository.old (union_words s.now))) }
+        ensures refused { IfErr result
+            (IsRefusalOrMemory (first_refusal repository.old (union_words s.now))) }
         ensures whole { IsRepository repository.new }
         ensures kept { take (length repository.old) repository.new ≡ repository.old }
     {

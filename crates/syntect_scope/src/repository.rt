@@ -78,7 +78,8 @@ impl Model for ScopeRepository {
 
     ghost view = { λ a. a.atoms.items };
 
-    ghost invariant = { λ a. IsRepository a.atoms.items × ((t : List ℕ) → get_by_text a.numbers t ≡ option_map (λ i. i + 1) (place_in a.atoms.items t)) };
+    ghost invariant = { λ a. IsRepository a.atoms.items × ((t : List ℕ) → get_by_text a.numbers t
+        ≡ option_map (λ i. i + 1) (place_in a.atoms.items t)) };
 }
 
 /// How many parts a text has between its dots.
@@ -181,10 +182,12 @@ impl ScopeRepository {
 
     /// The number of an atom, which is added if the repository lacks it.
     fn number(&mut self, part: &str) -> Result<u16, ParseScopeError>
-        ensures ok { IfOk result (λ n. (self.new ≡ with_atom self.old part.now) × (n ≡ number_in self.new part.now)) }
+        ensures ok { IfOk result
+            (λ n. (self.new ≡ with_atom self.old part.now) × (n ≡ number_in self.new part.now)) }
         ensures positive { IfOk result (λ n. 0 < n) }
         ensures whole { OnOk result (IsRepository self.new) }
-        ensures too_many { IfErr result (λ e. e ≡ ParseScopeError.TooManyAtoms → 65534 < length (with_atom self.old part.now)) }
+        ensures too_many { IfErr result
+            (λ e. e ≡ ParseScopeError.TooManyAtoms → 65534 < length (with_atom self.old part.now)) }
         ensures too_long { IfErr result (λ e. e ≢ ParseScopeError.TooLong) }
         ensures err { OnErr result (self.new ≡ self.old) }
     {
@@ -312,7 +315,8 @@ impl ScopeRepository {
     pub fn build(&mut self, s: &str) -> Result<Scope, ParseScopeError>
         ensures atoms { OnOk result (self.new ≡ with_atoms self.old (atom_texts s.now)) }
         ensures scope { IfOk result (λ scope. scope ≡ scope_in self.new s.now) }
-        ensures too_long { IsErrOf result ParseScopeError.TooLong ↔ (8 < length (atom_texts s.now)) }
+        ensures too_long { IsErrOf result ParseScopeError.TooLong
+            ↔ (8 < length (atom_texts s.now)) }
         ensures too_many { IsErrOf result ParseScopeError.TooManyAtoms
             ↔ ((length (atom_texts s.now) ≤ 8)
             × (65534 < length (with_atoms self.old (atom_texts s.now)))) }
@@ -350,7 +354,8 @@ impl ScopeRepository {
 
     /// Adds the text of a scope to a text. After an `Err` a part of it may have been added.
     pub(crate) fn append_scope(&self, text: &mut String, scope: Scope) -> Result<(), AllocError>
-        ensures { OnOk result (string_bytes text.new ≡ string_bytes text.old ++ scope_text self.now scope) }
+        ensures { OnOk result
+            (string_bytes text.new ≡ string_bytes text.old ++ scope_text self.now scope) }
     {
         for i in 0..scope.len() as usize {
             if i > 0 {
@@ -376,13 +381,16 @@ impl Scope {
     /// The scope of a text, without the white space around it.
     /// Refusals are those of `ScopeRepository::build`.
     pub fn new(s: &str, repository: &mut ScopeRepository) -> Result<Scope, ParseScopeError>
-        ensures atoms { OnOk result (repository.new ≡ with_atoms repository.old (atom_texts (trim s.now))) }
+        ensures atoms { OnOk result
+            (repository.new ≡ with_atoms repository.old (atom_texts (trim s.now))) }
         ensures scope { IfOk result (λ scope. scope ≡ scope_in repository.new (trim s.now)) }
-        ensures too_long { IsErrOf result ParseScopeError.TooLong ↔ (8 < length (atom_texts (trim s.now))) }
+        ensures too_long { IsErrOf result ParseScopeError.TooLong
+            ↔ (8 < length (atom_texts (trim s.now))) }
         ensures too_many { IsErrOf result ParseScopeError.TooManyAtoms
             ↔ ((length (atom_texts (trim s.now)) ≤ 8)
             × (65534 < length (with_atoms repository.old (atom_texts (trim s.now))))) }
-        ensures full { 65534 < length (with_atoms repository.old (atom_texts (trim s.now))) → IsErr result }
+        ensures full { 65534 < length (with_atoms repository.old (atom_texts (trim s.now)))
+            → IsErr result }
         ensures whole { IsRepository repository.new }
         ensures err { OnErr result (repository.new ≡ repository.old) }
     {
@@ -407,9 +415,11 @@ impl ScopeStack {
         repository: &mut ScopeRepository,
     ) -> Result<ScopeStack, ParseScopeError>
         ensures atoms { OnOk result (repository.new ≡ with_scopes repository.old (words s.now)) }
-        ensures scopes { IfOk result (λ stack. stack ≡ plain (map (scope_in repository.new) (words s.now))) }
+        ensures scopes { IfOk result
+            (λ stack. stack ≡ plain (map (scope_in repository.new) (words s.now))) }
         ensures accepted { OnOk result (first_refusal repository.old (words s.now) ≡ None) }
-        ensures refused { IfErr result (IsRefusalOrMemory (first_refusal repository.old (words s.now))) }
+        ensures refused { IfErr result
+            (IsRefusalOrMemory (first_refusal repository.old (words s.now))) }
         ensures whole { IsRepository repository.new }
         ensures kept { take (length repository.old) repository.new ≡ repository.old }
     {

@@ -151,7 +151,8 @@ impl ScopeStack {
 
     /// Puts a scope on top. Without memory for it the stack stays.
     pub fn push(&mut self, s: Scope) -> Result<(), AllocError>
-        ensures ok { OnOk result (self.new ≡ record self.old { scopes = self.old.scopes ++ s ∷ [] }) }
+        ensures ok { OnOk result
+            (self.new ≡ record self.old { scopes = self.old.scopes ++ s ∷ [] }) }
         ensures err { OnErr result (self.new ≡ self.old) }
     {
         self.scopes.push(s)?;
@@ -160,14 +161,16 @@ impl ScopeStack {
 
     /// Takes the top scope off, if there is one.
     pub fn pop(&mut self)
-        ensures { self.new ≡ record self.old { scopes = take (length self.old.scopes - 1) self.old.scopes } }
+        ensures { self.new
+            ≡ record self.old { scopes = take (length self.old.scopes - 1) self.old.scopes } }
     {
         let _ = self.scopes.pop();
     }
 
     /// The texts of the scopes in a repository, the bottom one first, each followed by one space.
     pub fn build_string(&self, repository: &ScopeRepository) -> Result<String, AllocError>
-        ensures { IfOk result (λ text. string_bytes text ≡ scopes_text repository.now self.now.scopes) }
+        ensures { IfOk result
+            (λ text. string_bytes text ≡ scopes_text repository.now self.now.scopes) }
     {
         let mut text = String::new(self.scopes.allocator());
         for scope in self.scopes.as_slice() {
@@ -180,7 +183,8 @@ impl ScopeStack {
     /// Applies an operation. A refusal changes nothing. `Pop` and `Noop` take no memory.
     pub fn apply(&mut self, op: &ScopeStackOp) -> Result<(), ScopeError>
         ensures ok { OnOk result (self.new ≡ applied op.now self.old) }
-        ensures nothing_cleared { IsErrOf result ScopeError.NoClearedScopesToRestore ↔ IsTrue (is_refused op.now self.old) }
+        ensures nothing_cleared { IsErrOf result ScopeError.NoClearedScopesToRestore
+            ↔ IsTrue (is_refused op.now self.old) }
         ensures free { TakesNoMemory op.now → IsOk result }
         ensures err { OnErr result (self.new ≡ self.old) }
     {

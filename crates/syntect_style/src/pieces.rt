@@ -49,7 +49,8 @@ fn piece_to<'b>(
     ensures none { IfErr result (λ e. e ≡ ScopeError.NoClearedScopesToRestore
         → is_refused op.now (path_of state.old) ≡ true) }
     ensures err { OnErr result (path_of state.new ≡ path_of state.old) }
-    ensures keeps { KeepsTrueStyles highlighter.now state.old → KeepsTrueStyles highlighter.now state.new }
+    ensures keeps { KeepsTrueStyles highlighter.now state.old
+        → KeepsTrueStyles highlighter.now state.new }
 {
     let piece = if from < to {
         let style = state.style(highlighter)?;
@@ -143,7 +144,8 @@ pub fn collect_pieces<'b>(
     ensures applied { OnOk result (AllApply (path_of state.old) changes.now) }
     ensures none { IfErr result (λ e. e ≡ ScopeError.NoClearedScopesToRestore
         → ¬ AllApply (path_of state.old) changes.now) }
-    ensures keeps { KeepsTrueStyles highlighter.now state.old → KeepsTrueStyles highlighter.now state.new }
+    ensures keeps { KeepsTrueStyles highlighter.now state.old
+        → KeepsTrueStyles highlighter.now state.new }
 {
     let mut pieces = Vec::with_capacity(alloc, changes.len().saturating_add(1))?;
     let mut items = RangedHighlightIterator::new(state, changes, text, highlighter);

@@ -108,7 +108,8 @@ impl HighlightState {
     /// The style of text at this stack.
     pub(crate) fn style(&mut self, highlighter: &Highlighter<'_>) -> Result<Style, AllocError>
         ensures path { path_of self.new ≡ path_of self.old }
-        ensures keeps { KeepsTrueStyles highlighter.now self.old → KeepsTrueStyles highlighter.now self.new }
+        ensures keeps { KeepsTrueStyles highlighter.now self.old
+            → KeepsTrueStyles highlighter.now self.new }
         ensures style { IfOk result (λ s. KeepsTrueStyles highlighter.now self.old
             → s ≡ shown_style highlighter.now (path_of self.old).scopes) }
     {
@@ -133,7 +134,8 @@ impl HighlightState {
         ensures none { IfErr result (λ e. e ≡ ScopeError.NoClearedScopesToRestore
             → is_refused op.now (path_of self.old) ≡ true) }
         ensures err { OnErr result (self.new ≡ self.old) }
-        ensures keeps { KeepsTrueStyles highlighter.now self.old → KeepsTrueStyles highlighter.now self.new }
+        ensures keeps { KeepsTrueStyles highlighter.now self.old
+            → KeepsTrueStyles highlighter.now self.new }
     {
         let _ = highlighter;
         self.path.apply(op)?;

@@ -12,7 +12,7 @@ use std::{env, fs};
 use syntect_example_folder_page::folder::page_by_folder;
 
 /// A grammar in which each word after a space is a `word`.
-const GRAMMAR: &str = r#"%YAML 1.2
+pub const GRAMMAR: &str = r#"%YAML 1.2
 ---
 scope: source.t
 file_extensions: [t]
@@ -27,7 +27,8 @@ contexts:
       pop: true
 "#;
 
-const THEME: &str =
+/// A theme that shows words in one colour and all else in another.
+pub const THEME: &str =
     r##"{"settings":[{"settings":{"foreground":"#010101","background":"#020202"}},{"scope":"word","settings":{"foreground":"#030303"}},{"scope":"word","settings":{"foreground":"none"}}]}"##;
 
 /// A folder of this name among the temporary files.

@@ -7,6 +7,7 @@ use crate::below::easy::parsing::{
 };
 use crate::files::within;
 use crate::found::{equal, holds};
+use crate::loads::FAULTY;
 use crate::metadata::{File, written};
 use std::fs;
 use std::path::Path;
@@ -25,12 +26,6 @@ const GRAMMARS: [File; 2] = [
         "scope: source.b\nvariables: {v: xy}\ncontexts: {main: [{match: q}, {match: '{{v}}{{v}}'}]}\n",
     ),
 ];
-
-/// A grammar without `main`.
-const FAULTY: [File; 1] = [(
-    "F.sublime-syntax",
-    "scope: source.t\ncontexts: {other: []}\n",
-)];
 
 /// What is answered of a folder, and how many grammars were added.
 fn added(

@@ -1,6 +1,8 @@
 //! Tests of calls on files and folders, and of the program.
 #![tactic(auto)]
 
+#[cfg(test)]
+mod assets;
 pub mod below;
 #[cfg(test)]
 mod desk;

@@ -27,7 +27,7 @@ const FILES: [File; 3] = [
 ];
 
 /// A grammar without `main`, and a theme that is a property list.
-const FAULTY: [File; 2] = [
+pub const FAULTY: [File; 2] = [
     (
         "F.sublime-syntax",
         "scope: source.t\ncontexts: {other: []}\n",

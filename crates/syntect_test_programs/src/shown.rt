@@ -11,10 +11,12 @@ fn shows(rt: &(impl Files + AllocGlobal + Abort), desk: &Desk, asked: Asked, tex
     holds(rt, (outcome.status == 0) & outcome.err.is_empty());
 }
 
-const PAGE: &str =
+/// A page of the text ` hello` in the grammar of `files`.
+pub const PAGE: &str =
     "<pre style=\"background-color:#020202;\">\n<span style=\"color:#010101;\"> </span><span style=\"color:#030303;\">hello</span></pre>\n";
 
-const TEXT: &str =
+/// The same text for a terminal.
+pub const TEXT: &str =
     "\x1b[48;2;2;2;2m\x1b[38;2;1;1;1m \x1b[48;2;2;2;2m\x1b[38;2;3;3;3mhello\x1b[0m\n";
 
 /// Two empty lines.
@@ -103,14 +105,14 @@ fn a_script_is_told_by_its_first_line(rt: HostRuntime) {
 
 /// A grammar with a pattern that tries each way to part a row of `x`, since it asks for a group's
 /// text again.
-const COSTLY: &str =
+pub const COSTLY: &str =
     "scope: source.u\nfile_extensions: [u]\ncontexts: {main: [{match: '^(x+x+)+\\1y', scope: word}, {match: hello, scope: word}]}";
 
 /// A line that costs more than a line may, and one that doesn't.
-const ROWS: &str = "xxxxxxxxxxxxxxxxxxxxxxxxxxxxxxxxxxxxxxxxxxxxxxxxxxxxxxxxxxxx\nhello";
+pub const ROWS: &str = "xxxxxxxxxxxxxxxxxxxxxxxxxxxxxxxxxxxxxxxxxxxxxxxxxxxxxxxxxxxx\nhello";
 
 /// What is shown of them: the first line plain, and the second one as if it stood alone.
-const ROWS_SHOWN: &str =
+pub const ROWS_SHOWN: &str =
     "<pre style=\"background-color:#020202;\">\n<span style=\"color:#010101;\">xxxxxxxxxxxxxxxxxxxxxxxxxxxxxxxxxxxxxxxxxxxxxxxxxxxxxxxxxxxx\n</span><span style=\"color:#030303;\">hello</span></pre>\n";
 
 /// A line that reaches a limit is reported once, by its number, and the others are highlighted.

@@ -1,5 +1,7 @@
 //! What stands below, as far as it is used here or passed on.
 
+pub use syntect_buffer::below::{scope, values};
+
 /// Of `syntect_easy`.
 pub mod easy {
     pub use syntect_buffer::below::easy::{Error, easy, highlighting, html, parsing, util};
@@ -8,14 +10,4 @@ pub mod easy {
 /// Of `syntect_parsing`.
 pub mod parsing {
     pub use syntect_buffer::below::parsing::{parser, syntax_definition, syntax_set};
-}
-
-/// Of `syntect_scope`.
-pub mod scope {
-    pub use syntect_buffer::below::scope::{repository, stack};
-}
-
-/// Of `syntect_values`.
-pub mod values {
-    pub use syntect_buffer::below::values::{seq, text};
 }

@@ -114,7 +114,8 @@ impl<K: Ord, V: PartialEq> PartialEq for Table<K, V> {
 
     ghost eq = { λ x y. pointwise (λ p q. K.eq p.0 q.0 && V.eq p.1 q.1) x y };
 
-    ghost laws = { lists_per (and_per (on_per (λ p. p.0) K.PartialEq.laws) (on_per (λ p. p.1) V.laws)) };
+    ghost laws = { lists_per
+        (and_per (on_per (λ p. p.0) K.PartialEq.laws) (on_per (λ p. p.1) V.laws)) };
 
     fn eq(&self, other: &Self) -> bool {
         self.map == other.map
@@ -124,5 +125,6 @@ impl<K: Ord, V: PartialEq> PartialEq for Table<K, V> {
 impl<K: Ord, V: Eq> Eq for Table<K, V> {
     ghost use Rattle.std.specs.Cmp.{on_equiv, and_equiv};
 
-    ghost laws = { lists_equiv (and_equiv (on_equiv (λ p. p.0) K.Eq.laws) (on_equiv (λ p. p.1) V.Eq.laws)) };
+    ghost laws = { lists_equiv
+        (and_equiv (on_equiv (λ p. p.0) K.Eq.laws) (on_equiv (λ p. p.1) V.Eq.laws)) };
 }

@@ -63,7 +63,7 @@ pub(crate) fn hex_pair(byte: u8) -> &'static str
 
 /// A byte as a decimal number.
 #[tactic(auto, using(crate::proofs::ByteLaws::number_at))]
-pub(crate) fn decimal(byte: u8) -> &'static str
+pub fn decimal(byte: u8) -> &'static str
     ensures { result.now ≡ decimal byte }
 {
     text_at(&NUMBERS, byte)

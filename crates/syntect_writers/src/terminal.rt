@@ -2,7 +2,7 @@
 ghost use Rattle.std.specs.Prelude.{◌≡◌, ◌++◌, string_bytes, codes, IfOk, OnOk};
 ghost use Rattle.syntect_writers.specs.Terminal.{blended_part, blended, sequence, piece_text, terminal_text};
 
-use crate::bytes::decimal;
+pub use crate::bytes::decimal;
 use std::alloc::{AllocError, Global};
 use syntect_theme::style::{Color, Style};
 
@@ -15,8 +15,8 @@ fn blend_part(opaque: u8, over: u8, under: u8) -> u8
     (sum / 255) as u8
 }
 
-/// A colour over another.
-fn blend(over: Color, under: Color) -> Color
+/// A colour over another, opaque.
+pub fn blend(over: Color, under: Color) -> Color
     ensures { result ≡ blended over under }
 {
     if over.a == 255 {

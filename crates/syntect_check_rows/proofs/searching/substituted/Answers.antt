@@ -13,5 +13,5 @@ search_into-requires-clause-begin_boundary c = IsCharBoundary-start c.args.text.
 pub regex_with_refs-requires : goal.regex_with_refs-requires
 regex_with_refs-requires c = λ n at e.
     let text = c.args.text.now in
-    let lies : LiesIn text 0 (length text) at = rw (whole text) at ((c.in-Ok.ensures.is_match (search rules)).is_match.lie n at e) in
+    let lies : LiesIn text 0 (length text) at = rw (whole text) at ((c.in-Ok.ensures.groups (search rules)).is_match.lie n at e) in
     (lies.starts, lies.ends)

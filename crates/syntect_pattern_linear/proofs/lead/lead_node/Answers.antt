@@ -1,7 +1,6 @@
 use Rattle.std.proofs.Common.{◌≡◌, Bool, get_or, ap, sym, ◌∙◌}
 use Rattle.std.specs.Prelude.{is_some, if◌then◌else◌, not}
 use Rattle.std.specs.Option.{option_or}
-use Rattle.syntect_pattern_linear.specs.syntect_pattern.Anchors.{anchor_of}
 use Rattle.syntect_pattern_linear.specs.syntect_pattern.Sets.{range}
 use Rattle.syntect_pattern_linear.specs.syntect_pattern.Trees.{nothing}
 use Rattle.syntect_pattern_linear.specs.syntect_pattern_table.Program.{trees_of}
@@ -51,7 +50,7 @@ returns-in-Anchor c =
     let second = second-is _ _ c.parts_at-parts.result c.args.cell c.parts_at-parts.ensures c.as_slice-2.ensures in
     let empty = empty-is _ _ c.cell_at-at.result c.args.cell c.cell_at-at.ensures c.as_slice.ensures in
     let next = next-is _ _ c.cell_at-at.result c.args.cell c.cell_at-at.ensures c.as_slice.ensures in
-    let g = anchor-goes x c.args.place c.args.cell c.requires.marked.ground (anchor_of c.in-Anchor.anchor) (tree-more x c.args.cell _ _ (ap (node_tree ts) c.in-Anchor.is) c.requires.node) c.cell_at-at.result.empty empty in
+    let g = anchor-goes x c.args.place c.args.cell c.requires.marked.ground c.in-Anchor.anchor (tree-more x c.args.cell _ _ (ap (node_tree ts) c.in-Anchor.is) c.requires.node) c.cell_at-at.result.empty empty in
     same-lead c.lead_if.result (is_some (end_if c.anchor_holds-holds.result (ends_at x c.cell_at-at.result.empty c.args.place))) _ (ap (λ (b : Bool). is_some (end_if b (ends_at x c.cell_at-at.result.empty c.args.place))) c.anchor_holds-holds.ensures ∙ ap is_some (sym g.0)) c.lead_if.ensures
 
 pub returns-in-Sequence : goal.returns-in-Sequence

@@ -3,7 +3,6 @@ use Rattle.syntect_pattern_linear.specs.syntect_pattern.Trees.{nothing}
 use Rattle.syntect_pattern_linear.specs.syntect_pattern_table.Program.{trees_of}
 use Rattle.syntect_pattern_linear.specs.syntect_pattern_table.Table.{node_tree}
 use Rattle.std.specs.Prelude.{if◌then◌else◌, ◌==◌, not, is_some}
-use Rattle.syntect_pattern_linear.specs.syntect_pattern.Anchors.{anchor_of}
 use Rattle.syntect_pattern_linear.specs.syntect_pattern.Sets.{range}
 use Rattle.syntect_pattern_linear.specs.syntect_pattern_table.Table.{set_of}
 use Rattle.syntect_pattern_plan.specs.Cells.{item_tree, is_end}
@@ -134,7 +133,7 @@ reach_node-reach_if-requires t c =
     let second = second-is _ _ c.parts_at-parts.result c.args.cell c.parts_at-parts.ensures c.as_slice-2.ensures in
     let empty = empty-is _ _ c.cell_at-at.result c.args.cell c.cell_at-at.ensures c.as_slice.ensures in
     let next = next-is _ _ c.cell_at-at.result c.args.cell c.cell_at-at.ensures c.as_slice.ensures in
-    let g = anchor-goes x c.args.place c.args.cell (ground-of x c.args.place c.requires.ready) (anchor_of c.in-Anchor.anchor) (tree-more x c.args.cell _ _ (ap (node_tree ts) c.in-Anchor.is) c.requires.node) c.cell_at-at.result.empty empty in
+    let g = anchor-goes x c.args.place c.args.cell (ground-of x c.args.place c.requires.ready) c.in-Anchor.anchor (tree-more x c.args.cell _ _ (ap (node_tree ts) c.in-Anchor.is) c.requires.node) c.cell_at-at.result.empty empty in
     (if-lower c.anchor_holds-holds.result (6 * height_of x c.cell_at-at.result.empty + 5) t (omega (arith, c.decreases)) (λ z. omega (arith, c.decreases, g.1.lower)), (c.requires.ready, ((λ z. g.1.there), (c.requires.known, c.requires.long))))
 
 pub reach_node-returns-in-Anchor-clause-value : goal.reach_node-returns-in-Anchor-clause-value
@@ -145,7 +144,7 @@ reach_node-returns-in-Anchor-clause-value t c =
     let second = second-is _ _ c.parts_at-parts.result c.args.cell c.parts_at-parts.ensures c.as_slice-2.ensures in
     let empty = empty-is _ _ c.cell_at-at.result c.args.cell c.cell_at-at.ensures c.as_slice.ensures in
     let next = next-is _ _ c.cell_at-at.result c.args.cell c.cell_at-at.ensures c.as_slice.ensures in
-    let g = anchor-goes x c.args.place c.args.cell (ground-of x c.args.place c.requires.ready) (anchor_of c.in-Anchor.anchor) (tree-more x c.args.cell _ _ (ap (node_tree ts) c.in-Anchor.is) c.requires.node) c.cell_at-at.result.empty empty in
+    let g = anchor-goes x c.args.place c.args.cell (ground-of x c.args.place c.requires.ready) c.in-Anchor.anchor (tree-more x c.args.cell _ _ (ap (node_tree ts) c.in-Anchor.is) c.requires.node) c.cell_at-at.result.empty empty in
     c.reach_if.ensures.value ∙ ap (λ (b : Bool). end_if b (ends_at x c.cell_at-at.result.empty c.args.place)) c.anchor_holds-holds.ensures ∙ sym g.0
 
 pub reach_node-reach-requires-in-Ahead : goal.reach_node-reach-requires-in-Ahead
@@ -428,7 +427,7 @@ reach_node-returns-in-Anchor-clause-steps t c =
     let second = second-is _ _ c.parts_at-parts.result c.args.cell c.parts_at-parts.ensures c.as_slice-2.ensures in
     let empty = empty-is _ _ c.cell_at-at.result c.args.cell c.cell_at-at.ensures c.as_slice.ensures in
     let next = next-is _ _ c.cell_at-at.result c.args.cell c.cell_at-at.ensures c.as_slice.ensures in
-    let g = anchor-goes x c.args.place c.args.cell (ground-of x c.args.place c.requires.ready) (anchor_of c.in-Anchor.anchor) (tree-more x c.args.cell _ _ (ap (node_tree ts) c.in-Anchor.is) c.requires.node) c.cell_at-at.result.empty empty in
+    let g = anchor-goes x c.args.place c.args.cell (ground-of x c.args.place c.requires.ready) c.in-Anchor.anchor (tree-more x c.args.cell _ _ (ap (node_tree ts) c.in-Anchor.is) c.requires.node) c.cell_at-at.result.empty empty in
     takes-one x (height_of x c.args.cell) (height_of x c.args.cell) c.args.now.now.items c.reach_if.new.now.items c.args.count.now.made c.reach_if.new.count.made 1 2 (c.reach_if.ensures.steps (height_of x c.args.cell) (λ z. g.1.lower)) (omega arith) (omega arith)
 
 pub reach_node-returns-in-Behind-clause-steps : goal.reach_node-returns-in-Behind-clause-steps

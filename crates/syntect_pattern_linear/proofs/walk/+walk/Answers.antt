@@ -1,6 +1,5 @@
 use Rattle.std.proofs.Common.{◌≡◌, suc, ◌≤◌, ◌+◌, ◌*◌, ℕ, ◌-◌, Bool, true, false, refl, sym, ap, subst, ◌∙◌, arith, get_or, inl, inr, length}
 use Rattle.std.specs.Prelude.{if◌then◌else◌, ◌||◌, is_some}
-use Rattle.syntect_pattern_linear.specs.syntect_pattern.Anchors.{anchor_of}
 use Rattle.syntect_pattern_linear.specs.syntect_pattern.Sets.{range}
 use Rattle.syntect_pattern_linear.specs.syntect_pattern.Trees.{Tree, nothing, seq, alt, ahead}
 use Rattle.syntect_pattern_linear.specs.syntect_pattern.Matches.{Groups}
@@ -40,7 +39,7 @@ walk_node-returns-in-Anchor-clause-walks t c =
     let g = c.args.groups.now.items in
     let first = first-is _ _ c.parts_at-parts.result c.args.cell c.parts_at-parts.ensures c.as_slice.ensures in
     let second = second-is _ _ c.parts_at-parts.result c.args.cell c.parts_at-parts.ensures c.as_slice.ensures in
-    walks-anchor x c.args.cell c.args.place g c.requires.filled.ground (anchor_of c.in-Anchor.field-0) (tree-more x c.args.cell _ _ (ap (node_tree ts) c.in-Anchor.is) c.requires.node) c.requires.found
+    walks-anchor x c.args.cell c.args.place g c.requires.filled.ground c.in-Anchor.field-0 (tree-more x c.args.cell _ _ (ap (node_tree ts) c.in-Anchor.is) c.requires.node) c.requires.found
 
 pub walk_node-returns-in-Behind-clause-walks : goal.walk_node-returns-in-Behind-clause-walks
 walk_node-returns-in-Behind-clause-walks t c =

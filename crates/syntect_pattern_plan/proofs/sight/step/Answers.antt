@@ -1,5 +1,4 @@
 use Rattle.std.proofs.Common.{ap, sym, ◌∙◌}
-use Rattle.syntect_pattern_plan.specs.syntect_pattern.Anchors.{anchor_of}
 use Rattle.syntect_pattern_plan.specs.syntect_pattern.Sets.{range}
 use Rattle.syntect_pattern_plan.specs.syntect_pattern_table.Table.{node_tree, set_of}
 use Rattle.syntect_pattern_plan.specs.syntect_pattern_table.declared.node.Node.{Node}
@@ -23,10 +22,10 @@ returns-in-Class c = λ ts e.
 
 pub returns-then-anchor_holds : goal.returns-then-anchor_holds
 returns-then-anchor_holds c = λ ts e.
-    single-anchor c.args.text.now (anchor_of c.in-Anchor.anchor) c.args.place _ (sym c.anchor_holds.ensures ∙ c.if-anchor_holds.true)
+    single-anchor c.args.text.now c.in-Anchor.anchor c.args.place _ (sym c.anchor_holds.ensures ∙ c.if-anchor_holds.true)
     ∙ sym (ap (λ (n : Node). single_end c.args.text.now (node_tree ts n) c.args.place) c.in-Anchor.is)
 
 pub returns-else-anchor_holds : goal.returns-else-anchor_holds
 returns-else-anchor_holds c = λ ts e.
-    single-anchor c.args.text.now (anchor_of c.in-Anchor.anchor) c.args.place _ (sym c.anchor_holds.ensures ∙ c.if-anchor_holds.false)
+    single-anchor c.args.text.now c.in-Anchor.anchor c.args.place _ (sym c.anchor_holds.ensures ∙ c.if-anchor_holds.false)
     ∙ sym (ap (λ (n : Node). single_end c.args.text.now (node_tree ts n) c.args.place) c.in-Anchor.is)

@@ -1,5 +1,4 @@
 use Rattle.std.proofs.Common.{◌-◌, ◌∙◌, ap, sym}
-use Rattle.syntect_pattern_backtrack.specs.syntect_pattern.Anchors.{anchor_of}
 use Rattle.syntect_pattern_backtrack.specs.syntect_pattern_table.Program.{trees_of}
 use Rattle.syntect_pattern_backtrack.specs.syntect_pattern_table.Table.{node_tree}
 use Rattle.syntect_pattern_backtrack.proofs.PassLaws.{list-anchor, list-close, list-run}
@@ -13,7 +12,7 @@ returns-in-Close-clause-dead t c = λ m l.
 pub returns-in-Some-Anchor-clause-dead : goal.returns-in-Some-Anchor-clause-dead
 returns-in-Some-Anchor-clause-dead t c = λ m l.
     list-anchor c.args.text.now (trees_of c.args.program.now) c.args.self.now.cells.items c.index-cell.result.now c.args.list c.if-list-eq0.false c.requires.1.1.0 c.requires.1.1.1.0
-    (sym c.index-cell.ensures) (c.args.place - m) c.in-Run.node (anchor_of c.in-Some-Anchor.field-0-0) c.in-Run.is
+    (sym c.index-cell.ensures) (c.args.place - m) c.in-Run.node c.in-Some-Anchor.field-0-0 c.in-Run.is
     (c.in-Some-Anchor.ensures.is ∙ ap (node_tree (trees_of c.args.program.now)) c.in-Some-Anchor.field-0-is) (c.dead_ends.ensures.dead m l)
 
 pub returns-in_default-node-clause-dead : goal.returns-in_default-node-clause-dead

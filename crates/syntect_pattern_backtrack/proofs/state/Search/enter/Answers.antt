@@ -1,7 +1,6 @@
 use Rattle.std.proofs.Common.{sym, ◌∙◌, ap}
 use Rattle.syntect_pattern_backtrack.specs.syntect_pattern.Sets.{range}
 use Rattle.syntect_pattern_backtrack.specs.syntect_pattern_table.Table.{node_tree, set_of}
-use Rattle.syntect_pattern_backtrack.specs.syntect_pattern.Anchors.{anchor_of}
 use Rattle.syntect_pattern_backtrack.specs.syntect_pattern_table.Program.{trees_of}
 use Rattle.syntect_pattern_backtrack.proofs.EnterLaws.{goes_nothing, goes_past, goes_group, goes_anchor, goes_no_anchor, atomic-ok, ahead-ok, behind-ok}
 use Rattle.syntect_pattern_backtrack.proofs.LetterLaws.{goes_text}
@@ -40,13 +39,13 @@ returns-in_ok-list-in-Group c =
 
 pub returns-then-anchor_holds : goal.returns-then-anchor_holds
 returns-then-anchor_holds c =
-    goes_anchor c.args.text.now (trees_of c.args.program.now) c.args.node c.args.list c.args.self.now (anchor_of c.in-Anchor.anchor)
+    goes_anchor c.args.text.now (trees_of c.args.program.now) c.args.node c.args.list c.args.self.now c.in-Anchor.anchor
     (c.in-Some.ensures.is ∙ ap (node_tree (trees_of c.args.program.now)) c.in-Anchor.is)
     c.requires (sym c.anchor_holds.ensures ∙ c.if-anchor_holds.true)
 
 pub returns-else-anchor_holds : goal.returns-else-anchor_holds
 returns-else-anchor_holds c =
-    goes_no_anchor c.args.text.now (trees_of c.args.program.now) c.args.node c.args.list c.args.self.now (anchor_of c.in-Anchor.anchor)
+    goes_no_anchor c.args.text.now (trees_of c.args.program.now) c.args.node c.args.list c.args.self.now c.in-Anchor.anchor
     (c.in-Some.ensures.is ∙ ap (node_tree (trees_of c.args.program.now)) c.in-Anchor.is)
     c.requires (sym c.anchor_holds.ensures ∙ c.if-anchor_holds.false)
 

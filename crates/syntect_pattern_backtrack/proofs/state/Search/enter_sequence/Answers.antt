@@ -1,7 +1,6 @@
 use Rattle.std.proofs.Common.{◌∙◌, ap}
 use Rattle.syntect_pattern_backtrack.specs.syntect_pattern.Sets.{range}
 use Rattle.syntect_pattern_backtrack.specs.syntect_pattern_table.Table.{node_tree, set_of}
-use Rattle.syntect_pattern_backtrack.specs.syntect_pattern.Anchors.{anchor_of}
 use Rattle.syntect_pattern_backtrack.specs.syntect_pattern_table.Program.{trees_of}
 use Rattle.syntect_pattern_backtrack.proofs.EnterLaws.{goes_seq, goes_seq_past, goes_seq_anchor}
 use Rattle.syntect_pattern_backtrack.proofs.state.Search.enter_sequence.Goals as goal
@@ -22,12 +21,12 @@ returns-in-Some-Class c =
 
 pub returns-then-anchor_holds : goal.returns-then-anchor_holds
 returns-then-anchor_holds c =
-    (goes_seq_anchor c.args.text.now (trees_of c.args.program.now) c.args.node c.args.list c.args.self.now c.args.first c.args.second (anchor_of c.in-Some-Anchor.anchor) c.anchor_holds.result
+    (goes_seq_anchor c.args.text.now (trees_of c.args.program.now) c.args.node c.args.list c.args.self.now c.args.first c.args.second c.in-Some-Anchor.anchor c.anchor_holds.result
     c.requires.is (c.in-Some-Anchor.ensures.is ∙ ap (node_tree (trees_of c.args.program.now)) c.in-Some-Anchor.field-0-is) c.requires.fits c.anchor_holds.ensures).0 c.if-anchor_holds.true
 
 pub returns-else-anchor_holds : goal.returns-else-anchor_holds
 returns-else-anchor_holds c =
-    (goes_seq_anchor c.args.text.now (trees_of c.args.program.now) c.args.node c.args.list c.args.self.now c.args.first c.args.second (anchor_of c.in-Some-Anchor.anchor) c.anchor_holds.result
+    (goes_seq_anchor c.args.text.now (trees_of c.args.program.now) c.args.node c.args.list c.args.self.now c.args.first c.args.second c.in-Some-Anchor.anchor c.anchor_holds.result
     c.requires.is (c.in-Some-Anchor.ensures.is ∙ ap (node_tree (trees_of c.args.program.now)) c.in-Some-Anchor.field-0-is) c.requires.fits c.anchor_holds.ensures).1 c.if-anchor_holds.false
 
 pub returns-in_ok-list-in_default : goal.returns-in_ok-list-in_default

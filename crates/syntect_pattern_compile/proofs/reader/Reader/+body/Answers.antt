@@ -1,7 +1,8 @@
 use Rattle.std.proofs.Common.{rules, arith, ap, refl, sym, ◌∙◌, Some}
 use Rattle.std.specs.Prelude.{chars}
 use Rattle.syntect_pattern.specs.Sets.{from_to}
-use Rattle.syntect_pattern.specs.Trees.{Tree, one_of, anchor, line_start, line_end}
+use Rattle.syntect_pattern.specs.Trees.{Tree, one_of, anchor}
+use Rattle.syntect_pattern.specs.declared.anchor.Anchor.{Anchor}
 use Rattle.syntect_pattern_table.specs.Builder.{tree_in}
 use Rattle.syntect_pattern.specs.Grammar.{Names, Cursor, forward, opening, step, item, firm, dot_set}
 use Rattle.syntect_pattern_words.specs.OpeningViews.{flags_as, place_as, wrapped, opening_as, opened_as}
@@ -111,13 +112,13 @@ step-returns-in_ok-dot_item-in-Dot-clause-reads t c = λ groups serves.
 pub step-returns-in_ok-anchor_item-in-Caret-clause-reads : goal.step-returns-in_ok-anchor_item-in-Caret-clause-reads
 step-returns-in_ok-anchor_item-in-Caret-clause-reads t c = λ groups serves.
     ap (λ k. step groups (inner_of groups c.args.depth) c.args.depth (body_as c.args.self.now.builder.nodes c.args.body) (place_as c.args.self.now.names c.args.here) (token_as k)) c.in-Caret.is
-    ∙ ap (λ (q : Cursor). firm groups (body_as c.args.self.now.builder.nodes c.args.body) (anchor line_start) q) (sym (c.forward-in-Caret.ensures.place c.args.self.now.names))
+    ∙ ap (λ (q : Cursor). firm groups (body_as c.args.self.now.builder.nodes c.args.body) (anchor Anchor.LineStart) q) (sym (c.forward-in-Caret.ensures.place c.args.self.now.names))
     ∙ c.in_ok-anchor_item-in-Caret.ensures.reads groups
 
 pub step-returns-in_ok-anchor_item-in-Dollar-clause-reads : goal.step-returns-in_ok-anchor_item-in-Dollar-clause-reads
 step-returns-in_ok-anchor_item-in-Dollar-clause-reads t c = λ groups serves.
     ap (λ k. step groups (inner_of groups c.args.depth) c.args.depth (body_as c.args.self.now.builder.nodes c.args.body) (place_as c.args.self.now.names c.args.here) (token_as k)) c.in-Dollar.is
-    ∙ ap (λ (q : Cursor). firm groups (body_as c.args.self.now.builder.nodes c.args.body) (anchor line_end) q) (sym (c.forward-in-Dollar.ensures.place c.args.self.now.names))
+    ∙ ap (λ (q : Cursor). firm groups (body_as c.args.self.now.builder.nodes c.args.body) (anchor Anchor.LineEnd) q) (sym (c.forward-in-Dollar.ensures.place c.args.self.now.names))
     ∙ c.in_ok-anchor_item-in-Dollar.ensures.reads groups
 
 pub step-returns-in_ok-char_item-in-Plain-clause-reads : goal.step-returns-in_ok-char_item-in-Plain-clause-reads

@@ -1,4 +1,3 @@
-use Rattle.syntect_pattern.specs.Anchors.{anchor_of}
 use Rattle.syntect_pattern.specs.Trees.{anchor}
 use Rattle.syntect_pattern_table.specs.Builder.{tree_in}
 use Rattle.syntect_pattern_words.specs.OpeningViews.{place_as}
@@ -12,7 +11,7 @@ firm-requires-clause-body c = body-in-grown c.args.self.now.builder.nodes c.push
 pub returns-clause-reads : goal.returns-clause-reads
 returns-clause-reads c = λ known.
     firm-grown known (body_as c.args.self.now.builder.nodes c.args.body) (body_as c.push.new.self.nodes c.args.body)
-    (anchor (anchor_of c.args.which)) (tree_in c.push.new.self.nodes c.in_ok-node.node) (place_as c.args.self.now.names c.args.place) (went_on c.firm.new.self c.in_ok-firm.field-0)
+    (anchor c.args.which) (tree_in c.push.new.self.nodes c.in_ok-node.node) (place_as c.args.self.now.names c.args.place) (went_on c.firm.new.self c.in_ok-firm.field-0)
     c.in_ok-node.ensures.holds.is
     (body-grown c.args.self.now.builder.nodes c.push.new.self.nodes c.args.body c.in_ok-node.ensures.grows c.requires.body)
     (c.in_ok-firm.ensures.reads known)

@@ -50,7 +50,7 @@ cells-preserved c =
           let g = step.extends.grows.longer in
           let m = ap length all in
           let a = length-append old.parts (c.in_ok-parts.parts ∷ []) in
-          omega (arith, e, g, m, a, c.cells-test.true, c.len.ensures, c.len-in-cells.ensures, c.if-len-gt-MOST.false, c.len-in-cells-2.ensures);
+          omega (arith, e, g, m, a, c.cells-test.true, c.len.ensures, c.len-in-cells.ensures, c.if-len-gt-MOST_CELLS.false, c.len-in-cells-2.ensures);
       free = c.cells.invariant.free;
       counts =
           let long : length c.push.new.self ≡ length old.parts + 1 = ap length all ∙ length-append old.parts (c.in_ok-parts.parts ∷ []) ∙ omega arith in
@@ -60,11 +60,11 @@ cells-preserved c =
       order = omega (arith, ap length all, length-append old.parts (c.in_ok-parts.parts ∷ []), step.extends.grows.longer);
     }
 
-pub returns-then-len-gt-MOST-clause-none : goal.returns-then-len-gt-MOST-clause-none
-returns-then-len-gt-MOST-clause-none c =
+pub returns-then-len-gt-MOST_CELLS-clause-none : goal.returns-then-len-gt-MOST_CELLS-clause-none
+returns-then-len-gt-MOST_CELLS-clause-none c =
     let i = c.cells.invariant in
     let m = counts-most (trees_of c.args.program.now) c.cells.plan.cells (length c.cells.plan.parts) _ i.order i.counts in
-    inr (omega (arith, m, c.if-len-gt-MOST.true, c.len-in-cells-2.ensures))
+    inr (omega (arith, m, c.if-len-gt-MOST_CELLS.true, c.len-in-cells-2.ensures))
 
 pub returns-clause-count : goal.returns-clause-count
 returns-clause-count c =
@@ -84,14 +84,14 @@ returns-clause-easy c =
     let few = i.few over in
     record { free = i.free; few = omega (arith, all, few) }
 
-pub returns-then-len-gt-MOST-clause-linear : goal.returns-then-len-gt-MOST-clause-linear
-returns-then-len-gt-MOST-clause-linear c = linear-hard _ (returns-then-len-gt-MOST-clause-none c)
+pub returns-then-len-gt-MOST_CELLS-clause-linear : goal.returns-then-len-gt-MOST_CELLS-clause-linear
+returns-then-len-gt-MOST_CELLS-clause-linear c = linear-hard _ (returns-then-len-gt-MOST_CELLS-clause-none c)
 
 pub returns-clause-linear : goal.returns-clause-linear
 returns-clause-linear c = linear-easy _ (returns-clause-easy c)
 
-pub returns-then-len-gt-MOST-clause-steps : goal.returns-then-len-gt-MOST-clause-steps
-returns-then-len-gt-MOST-clause-steps c =
+pub returns-then-len-gt-MOST_CELLS-clause-steps : goal.returns-then-len-gt-MOST_CELLS-clause-steps
+returns-then-len-gt-MOST_CELLS-clause-steps c =
     let i = c.cells.invariant in
     let m = counts-most (trees_of c.args.program.now) c.cells.plan.cells (length c.cells.plan.parts) _ i.order i.counts in
     omega (arith, m, i.order, i.paid)

@@ -5,5 +5,5 @@ pub returns-in-Some-clause-region : goal.returns-in-Some-clause-region
 returns-in-Some-clause-region c =
     rw c.in-Some.is (region-left c.search_into.result _ c.in-Some.region.now c.search_into.new.region c.search_into.ensures.ok c.search_into.ensures.err)
 
-pub returns-in-Some-clause-is_match : goal.returns-in-Some-clause-is_match
-returns-in-Some-clause-is_match c = rw c.in-Some.is c.search_into.ensures.is_match
+pub returns-in-Some-clause-groups : goal.returns-in-Some-clause-groups
+returns-in-Some-clause-groups c = rw c.in-Some.is c.search_into.ensures.groups

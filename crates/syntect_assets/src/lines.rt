@@ -1,0 +1,71 @@
+//! The lines of a text in a format, within limits.
+ghost use Rattle.std.specs.Prelude.{◌≡◌, ◌<◌, ◌-◌, ◌^◌, ℕ, List, [], IfOk, IfErr, IsUtf8, string_bytes};
+ghost use Rattle.syntect_assets.specs.syntect_grammar_loader.declared.definition.SyntaxDefinition.{SyntaxDefinition as ADefinition};
+ghost use Rattle.syntect_assets.specs.syntect_grammar_contexts.declared.syntax_reference.SyntaxReference.{SyntaxReference as ASyntax};
+ghost use Rattle.syntect_easy.specs.Built.{IsSyntaxOfBuilt};
+ghost use Rattle.syntect_easy.specs.Leads.{Leads};
+ghost use Rattle.syntect_easy.specs.Rows.{IsTextOf};
+ghost use Rattle.syntect_assets.specs.Texts.{IsWritten, first_of};
+
+use crate::below::base::limits::Limits;
+use crate::below::parsing::syntax_set::SyntaxSet;
+use crate::below::parsing::within::LineLimit;
+use crate::below::theme::theme::Theme;
+use crate::format::Format;
+use crate::writer::TextWriter;
+use std::alloc::Global;
+use std::io::{BufRead, Error as IoError, ErrorKind};
+use syntect_easy::Error;
+use syntect_easy::easy::HighlightLines;
+use syntect_easy::laws::lines_within_limits;
+use syntect_easy::reading::{next_line, text_of};
+
+/// The number of a line, from 1, and the limit that it reached, so that it is shown plain.
+pub type PlainLine = (u64, LineLimit);
+
+/// The first plain line, with the one more that comes after so many lines.
+fn first_of(first: Option<PlainLine>, before: u64, limit: Option<LineLimit>) -> Option<PlainLine>
+    requires { before < 2 ^ 64 - 1 }
+    ensures { result ≡ first_of first before limit }
+{
+    match (first, limit) {
+        (Some(line), _) => Some(line),
+        (None, Some(limit)) => Some((before + 1, limit)),
+        (None, None) => None,
+    }
+}
+
+/// What a reader gives, in a format, by a highlighter that has read nothing yet, and the first line
+/// that is shown plain because it reached a limit. Each line, up to and with its newline, is tested
+/// for UTF-8 and read before the next; `Io` where reading fails or a line is not UTF-8, and the
+/// refusal of a line that is refused for anything but a limit.
+pub fn text_of_lines<R: BufRead + Drop>(
+    alloc: Global,
+    mut reader: R,
+    mut highlighter: HighlightLines<'_>,
+    format: Format,
+    set: &SyntaxSet,
+    theme: &Theme,
+    limits: &Limits,
+) -> Result<(String, Option<PlainLine>), Error>
+    ensures { (definitions : List ADefinition) (syntax : ASyntax)
+        → IsSyntaxOfBuilt set.now syntax definitions
+        → Leads set.now theme.now syntax [] [] highlighter.entry
+        → IfOk result (λ r. (text : List ℕ) × IsTextOf (R.remaining reader) text × IsUtf8 text
+        × IsWritten limits.now format set.now theme.now syntax text (string_bytes r.0) r.1) }
+{
+    lines_within_limits();
+    let mut writer = TextWriter::new(alloc, format, theme)?;
+    let mut bytes = Vec::new(alloc);
+    let mut first = None;
+    for before in 0..u64::MAX {
+        if !next_line(&mut reader, &mut bytes)? {
+            return Ok((writer.whole()?, first));
+        }
+        let line = text_of(bytes.as_slice())?;
+        let (pieces, limit) = highlighter.highlight_line_or_plain(alloc, line, set, limits)?;
+        writer.append(pieces.as_slice())?;
+        first = first_of(first, before, limit);
+    }
+    Err(Error::Io(IoError::new(ErrorKind::Other, "too many lines")))
+}

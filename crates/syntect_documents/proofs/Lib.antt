@@ -1,0 +1,5 @@
+pub mod ClassedLaws
+pub mod DocumentLaws
+pub mod JoinLaws
+pub mod NumberedLaws
+pub mod SheetLaws

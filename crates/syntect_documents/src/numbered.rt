@@ -1,0 +1,214 @@
+//! Texts as HTML with inline styles, each line in a span of its own.
+ghost use Rattle.std.specs.Prelude.{◌≡◌, ◌<◌, ◌-◌, ◌^◌, ◌++◌, ℕ, List, [], IfOk, IfErr, OnOk, IsUtf8, string_bytes};
+ghost use Rattle.std.specs.Path.{path_bytes};
+ghost use Rattle.syntect_documents.specs.syntect_grammar_loader.declared.definition.SyntaxDefinition.{SyntaxDefinition as ADefinition};
+ghost use Rattle.syntect_documents.specs.syntect_grammar_contexts.declared.syntax_reference.SyntaxReference.{SyntaxReference as ASyntax};
+ghost use Rattle.syntect_documents.specs.syntect_easy.Built.{IsBuilt, IsSyntaxOfBuilt};
+ghost use Rattle.syntect_documents.specs.syntect_easy.Leads.{Leads};
+ghost use Rattle.syntect_documents.specs.syntect_easy.Rows.{IsTextOf};
+ghost use Rattle.syntect_documents.specs.syntect_assets.Assets.{RefusesFile, RefusesLine, RefusesText, language_named};
+ghost use Rattle.syntect_documents.specs.syntect_assets.Texts.{first_of};
+ghost use Rattle.syntect_documents.specs.Numbered.{IsNumbered, NumbersFile, NumbersIn, NumbersText, numbered_line};
+
+use crate::below::assets::assets::{Assets, Shown};
+use crate::below::assets::error::AssetsError;
+use crate::below::assets::lines::PlainLine;
+use crate::below::base::limits::Limits;
+use crate::below::easy::Error;
+use crate::below::easy::easy::{HighlightFile, HighlightLines};
+use crate::below::easy::html::{IncludeBackground, SpanWriter, start_highlighted_html_snippet};
+use crate::below::easy::laws::lines_within_limits;
+use crate::below::easy::reading::{next_line, text_of};
+use crate::below::parsing::syntax_set::{SyntaxReference, SyntaxSet};
+use crate::below::parsing::within::LineLimit;
+use crate::below::theme::style::Style;
+use crate::below::theme::theme::Theme;
+use crate::lines::{LineForm, push_line_tag};
+use std::alloc::{AllocError, Global};
+use std::io::{BufRead, Error as IoError, ErrorKind};
+use std::path::Path;
+use std::rt::Files;
+
+/// What ends a line.
+const LINE_END: &str = "</span>";
+
+/// What ends a text.
+const CLOSING: &str = "</pre>\n";
+
+/// The first plain line, with the one more that comes after so many lines.
+pub(crate) fn first_of(
+    first: Option<PlainLine>,
+    before: u64,
+    limit: Option<LineLimit>,
+) -> Option<PlainLine>
+    requires { before < 2 ^ 64 - 1 }
+    ensures { result ≡ first_of first before limit }
+{
+    match (first, limit) {
+        (Some(line), _) => Some(line),
+        (None, Some(limit)) => Some((before + 1, limit)),
+        (None, None) => None,
+    }
+}
+
+/// Appends a line in styled pieces, as the one of a number.
+fn push_numbered(
+    out: &mut String,
+    spans: &mut SpanWriter,
+    form: LineForm<'_>,
+    number: u64,
+    pieces: &[(Style, &str)],
+) -> Result<(), AllocError>
+    ensures kept { spans.new ≡ spans.old }
+    ensures text { OnOk result (string_bytes out.new
+        ≡ string_bytes out.old ++ numbered_line form.entry spans.old number pieces.now) }
+{
+    push_line_tag(out, form, number)?;
+    spans.append(pieces, out)?;
+    out.push_str(LINE_END)?;
+    Ok(())
+}
+
+/// What a reader gives, by a highlighter that has read nothing yet, and the first line that is
+/// shown plain because it reached a limit.
+fn numbered_lines<R: BufRead + Drop>(
+    alloc: Global,
+    mut reader: R,
+    mut highlighter: HighlightLines<'_>,
+    form: LineForm<'_>,
+    set: &SyntaxSet,
+    theme: &Theme,
+    limits: &Limits,
+) -> Result<(String, Option<PlainLine>), Error>
+    ensures { (definitions : List ADefinition) (syntax : ASyntax)
+        → IsSyntaxOfBuilt set.now syntax definitions
+        → Leads set.now theme.now syntax [] [] highlighter.entry
+        → IfOk result (λ r. (text : List ℕ) × IsTextOf (R.remaining reader) text × IsUtf8 text
+        × IsNumbered limits.now form.entry set.now theme.now syntax text (string_bytes r.0) r.1) }
+{
+    lines_within_limits();
+    let (mut page, color) = start_highlighted_html_snippet(alloc, theme)?;
+    let mut spans = SpanWriter::new(alloc, IncludeBackground::IfDifferent(color));
+    let mut bytes = Vec::new(alloc);
+    let mut first = None;
+    for number in form.first..u64::MAX {
+        if !next_line(&mut reader, &mut bytes)? {
+            page.push_str(CLOSING)?;
+            return Ok((page, first));
+        }
+        let line = text_of(bytes.as_slice())?;
+        let (pieces, limit) = highlighter.highlight_line_or_plain(alloc, line, set, limits)?;
+        push_numbered(&mut page, &mut spans, form, number, pieces.as_slice())?;
+        first = first_of(first, number - form.first, limit);
+    }
+    Err(Error::Io(IoError::new(ErrorKind::Other, "too many lines")))
+}
+
+/// A text in a syntax of the set, by a theme, as HTML with inline styles: the page of `Format::Html`
+/// with each line in a span of its own. A line that reaches a limit is shown plain, and the lines
+/// after it are read as if it weren't there; the first one is told by its number from 1, whatever
+/// the number of the first line is.
+///
+/// `NotShown` with the line's refusal, with `MissingMainContext` where the syntax has no context
+/// `__start`, and where the numbers of lines come to 2^64 - 1.
+pub fn numbered_in(
+    assets: &Assets,
+    alloc: Global,
+    text: &str,
+    syntax: &SyntaxReference,
+    theme: &Theme,
+    form: LineForm<'_>,
+) -> Result<Shown, AssetsError>
+    // the set was built of plain definitions
+    ensures shown { (definitions : List ADefinition)
+        → IsSyntaxOfBuilt assets.now.set syntax.now definitions
+        → IfOk result (NumbersIn assets.now text.now syntax.now theme.now form.entry) }
+    ensures refused { IfErr result RefusesLine }
+{
+    let lines = HighlightLines::new(alloc, syntax, theme)?;
+    let (text, plain) = numbered_lines(
+        alloc,
+        text.as_bytes(),
+        lines,
+        form,
+        &assets.set,
+        theme,
+        &assets.limits,
+    )?;
+    Ok(Shown {
+        text,
+        plain,
+        first_line: None,
+    })
+}
+
+/// A text in the language of a name, as by `numbered_in`. `UnknownLanguage` where there is none.
+pub fn numbered_text(
+    assets: &Assets,
+    alloc: Global,
+    text: &str,
+    language: &str,
+    theme: &Theme,
+    form: LineForm<'_>,
+) -> Result<Shown, AssetsError>
+    // the set was built of plain definitions
+    ensures shown { (definitions : List ADefinition) → IsBuilt assets.now.set definitions
+        → IfOk result (NumbersText assets.now text.now language.now theme.now form.entry) }
+    ensures refused { IfErr result
+        (RefusesText (language_named assets.now language.now) language.now) }
+{
+    let syntax = assets.language(alloc, language)?;
+    numbered_in(assets, alloc, text, syntax, theme, form)
+}
+
+/// Why a file isn't shown: that it isn't read comes with its path.
+fn refused_file(alloc: Global, path: Path<'_>, e: Error) -> Result<AssetsError, AllocError>
+    ensures { IfOk result RefusesFile }
+{
+    match e {
+        Error::Io(e) => {
+            let told = format!(in alloc; "{}: {e}", path.as_str())?;
+            Ok(AssetsError::NotRead(told))
+        }
+        e => Ok(AssetsError::from(e)),
+    }
+}
+
+/// What a file holds, as by `numbered_in`, in the syntax that `SyntaxSet::find_syntax_for_file`
+/// finds, or else as plain text.
+///
+/// `NotRead` with the path where the file isn't read or isn't UTF-8, and where the numbers of lines
+/// come to 2^64 - 1; `NotShown` with the line's refusal, or with `NoSyntax` where no syntax fits
+/// and there is no plain text.
+pub fn numbered_file(
+    assets: &Assets,
+    files: &impl Files,
+    alloc: Global,
+    path: Path<'_>,
+    theme: &Theme,
+    form: LineForm<'_>,
+) -> Result<Shown, AssetsError>
+    // the set was built of plain definitions; of what the file holds nothing is known but that
+    // this shows it
+    ensures shown { (definitions : List ADefinition) → IsBuilt assets.now.set definitions
+        → IfOk result (NumbersFile assets.now (path_bytes path.entry) theme.now form.entry) }
+    ensures refused { IfErr result RefusesFile }
+{
+    let limits = &assets.limits;
+    let opened = HighlightFile::new_or_plain(files, alloc, path, &assets.set, theme, limits);
+    let (file, first_line) = match opened {
+        Ok(opened) => opened,
+        Err(e) => return Err(refused_file(alloc, path, e)?),
+    };
+    let lines = file.highlight_lines;
+    let written = numbered_lines(alloc, file.reader, lines, form, &assets.set, theme, limits);
+    let (text, plain) = match written {
+        Ok(written) => written,
+        Err(e) => return Err(refused_file(alloc, path, e)?),
+    };
+    Ok(Shown {
+        text,
+        plain,
+        first_line,
+    })
+}

@@ -1,0 +1,168 @@
+//! What the program does for writers of grammars and themes, with what it prints.
+use crate::check::findings_of;
+use crate::scopes::{Reading, explain, told};
+use crate::tests::{header_of, run, stack_at};
+use std::fs;
+use std::path::Path;
+use std::rt::Files;
+use syntect::Error;
+use syntect::assets::{Assets, AssetsError};
+use syntect::highlighting::Theme;
+use syntect::parsing::SyntaxReference;
+use syntect::util::LinesWithEndings;
+
+/// Looks through folders of grammars and themes, and prints what is found. Answers whether each of
+/// their files was loaded.
+pub fn check_folders(
+    rt: &(impl AllocGlobal + Files + Print),
+    folders: &[&str],
+) -> Result<bool, AssetsError> {
+    let mut all = true;
+    for folder in folders {
+        let found = findings_of(rt, rt.alloc(), Path::new(*folder))?;
+        for line in found.faults.as_slice() {
+            println!(rt; "{line}")?;
+        }
+        for line in found.notes.as_slice() {
+            println!(rt; "{line}")?;
+        }
+        let (grammars, faults) = (found.grammars, found.faults.len());
+        println!(rt; "{folder}: {grammars} grammars, {faults} files with a fault")?;
+        all &= found.faults.is_empty();
+    }
+    Ok(all)
+}
+
+/// The text of a file.
+fn text_in(rt: &(impl AllocGlobal + Files), path: &str) -> Result<String, AssetsError> {
+    match fs::read_to_string(rt, path) {
+        Ok(text) => Ok(text),
+        Err(e) => Err(AssetsError::NotRead(format!(in rt.alloc(); "{path}: {e}")?)),
+    }
+}
+
+/// The syntax of a test: that of the grammar's file which it names, or else of its own name.
+fn syntax_of_test<'a>(
+    assets: &'a Assets,
+    grammar: &str,
+    path: &str,
+) -> Option<&'a SyntaxReference> {
+    let file = match grammar.rsplit_once('/') {
+        Some((_, file)) => file,
+        None => grammar,
+    };
+    let name = file.strip_suffix(".sublime-syntax").unwrap_or(file);
+    match assets.set.find_syntax_by_name(name) {
+        Some(syntax) => Some(syntax),
+        None => assets.set.find_syntax_by_file_name(Path::new(path)),
+    }
+}
+
+/// Runs a test of a grammar, prints what is otherwise than it says, and answers whether nothing is.
+fn run_test(
+    rt: &(impl AllocGlobal + Files + Print),
+    assets: &mut Assets,
+    path: &str,
+) -> Result<bool, AssetsError> {
+    let text = text_in(rt, path)?;
+    let first = text.as_str().lines().next().unwrap_or("");
+    let Some((token, grammar)) = header_of(first) else {
+        println!(rt; "{path}:1:1: no SYNTAX TEST \"FILE\" in the first line")?;
+        return Ok(false);
+    };
+    let Some(syntax) = syntax_of_test(assets, grammar, path) else {
+        println!(rt; "{path}:1:1: no grammar {grammar}")?;
+        return Ok(false);
+    };
+    let syntax = syntax.clone()?;
+    let outcome = run(rt.alloc(), assets, &syntax, path, text.as_str(), token)?;
+    let (looked, wrong) = (outcome.looked, outcome.wrong);
+    println!(rt;
+        "{}{path}: {looked} columns, {wrong} of them wrong",
+        outcome.told
+    )?;
+    Ok(wrong == 0)
+}
+
+/// Runs tests of grammars, and answers whether all pass.
+pub fn run_tests(
+    rt: &(impl AllocGlobal + Files + Print),
+    assets: &mut Assets,
+    files: &[&str],
+) -> Result<bool, AssetsError> {
+    let mut all = true;
+    for file in files {
+        all &= run_test(rt, assets, *file)?;
+    }
+    Ok(all)
+}
+
+/// A path, and after it the numbers of a line and a column, from 1, where they are named.
+fn place_in(text: &str) -> (&str, Option<(u64, usize)>) {
+    let Some((path, last)) = text.rsplit_once(':') else {
+        return (text, None);
+    };
+    let Ok(last) = last.parse::<u64>() else {
+        return (text, None);
+    };
+    if let Some((file, line)) = path.rsplit_once(':') {
+        if let Ok(line) = line.parse::<u64>() {
+            return (file, Some((line, last as usize)));
+        }
+    }
+    (path, Some((last, 1)))
+}
+
+/// Prints the stretches of each line of a text, by their columns in bytes, with their scopes.
+fn print_all(
+    rt: &(impl AllocGlobal + Print),
+    assets: &Assets,
+    syntax: &SyntaxReference,
+    text: &str,
+) -> Result<(), AssetsError> {
+    let alloc = rt.alloc();
+    let mut reading = Reading::new(alloc, syntax)?;
+    let mut number = 0u64;
+    for line in LinesWithEndings::from(text) {
+        number = number.saturating_add(1);
+        for run in reading.line(alloc, assets, line)?.as_slice() {
+            let scopes = told(alloc, &run.scopes, &assets.repository)?;
+            let (from, to) = (run.from, run.to);
+            println!(rt; "{number}:{from}-{to} {scopes}")?;
+        }
+    }
+    Ok(())
+}
+
+/// Prints the scopes of a text, or, of the place that is named as FILE:LINE:COLUMN, the scopes, the
+/// style and the rules of the theme that gave it. Answers whether there is such a place.
+pub fn print_scopes(
+    rt: &(impl AllocGlobal + Files + Print),
+    assets: &Assets,
+    theme: &Theme,
+    place: &str,
+) -> Result<bool, AssetsError> {
+    let alloc = rt.alloc();
+    let (path, place) = place_in(place);
+    let text = text_in(rt, path)?;
+    let by_name = assets.set.find_syntax_by_file_name(Path::new(path));
+    let syntax = match by_name {
+        Some(syntax) => syntax,
+        None => match assets.set.find_syntax_plain_text() {
+            Some(syntax) => syntax,
+            None => return Err(AssetsError::from(Error::NoSyntax)),
+        },
+    };
+    let Some((line, column)) = place else {
+        print_all(rt, assets, syntax, text.as_str())?;
+        return Ok(true);
+    };
+    let column = column.saturating_sub(1);
+    let Some(stack) = stack_at(alloc, assets, syntax, text.as_str(), line, column)? else {
+        return Ok(false);
+    };
+    let mut out = String::new(alloc);
+    explain(alloc, &stack, theme, &assets.repository, &mut out)?;
+    print!(rt; "{out}")?;
+    Ok(true)
+}

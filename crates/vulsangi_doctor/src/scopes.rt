@@ -1,0 +1,190 @@
+//! The scopes of a text, stretch by stretch, and the rules of a theme that fit them.
+use std::alloc::Global;
+use syntect::Error;
+use syntect::assets::Assets;
+use syntect::highlighting::{Highlighter, Theme, ThemeItem};
+use syntect::parsing::{
+    MatchPower, ParseState, ReadWithinError, ScopeRepository, ScopeStack, ScopeStackOp,
+    SyntaxReference,
+};
+
+/// A stretch of a line, from one byte to before another, and the scopes over it.
+#[derive(Drop)]
+pub struct Run {
+    pub from: usize,
+    pub to: usize,
+    pub scopes: ScopeStack,
+}
+
+/// The stretches of a line between its operations, on a stack that they change.
+fn runs_of(
+    alloc: Global,
+    line: &str,
+    operations: &[(usize, ScopeStackOp)],
+    stack: &mut ScopeStack,
+) -> Result<Vec<Run>, Error> {
+    let mut runs = Vec::new(alloc);
+    let mut from = 0;
+    for (at, operation) in operations {
+        if from < *at {
+            let scopes = stack.clone()?;
+            runs.push(Run {
+                from,
+                to: *at,
+                scopes,
+            })?;
+            from = *at;
+        }
+        stack.apply(operation)?;
+    }
+    if from < line.len() {
+        let (to, scopes) = (line.len(), stack.clone()?);
+        runs.push(Run { from, to, scopes })?;
+    }
+    Ok(runs)
+}
+
+/// A text that is read for its scopes, line after line.
+#[derive(Drop)]
+pub struct Reading {
+    state: ParseState,
+    stack: ScopeStack,
+}
+
+impl Reading {
+    /// Before the first line of a text in a syntax.
+    pub fn new(alloc: Global, syntax: &SyntaxReference) -> Result<Reading, Error> {
+        Ok(Reading {
+            state: ParseState::new(alloc, syntax)?,
+            stack: ScopeStack::new(alloc),
+        })
+    }
+
+    /// The stretches of the next line. One that reaches a limit has none, and the lines after it
+    /// are read as if it weren't there.
+    pub fn line(&mut self, alloc: Global, assets: &Assets, line: &str) -> Result<Vec<Run>, Error> {
+        let (set, limits) = (&assets.set, &assets.limits);
+        match self.state.parse_line_within(alloc, line, set, limits) {
+            Ok(operations) => runs_of(alloc, line, operations.as_slice(), &mut self.stack),
+            Err(ReadWithinError::LimitReached(_)) => Ok(Vec::new(alloc)),
+            Err(ReadWithinError::Refused(e)) => Err(Error::from(e)),
+        }
+    }
+}
+
+/// The scopes of a stack, with spaces between them.
+pub fn told(
+    alloc: Global,
+    stack: &ScopeStack,
+    repository: &ScopeRepository,
+) -> Result<String, Error> {
+    let text = stack.build_string(repository)?;
+    Ok(String::from_str(alloc, text.as_str().trim_end())?)
+}
+
+/// The selectors of a rule, as text.
+fn selectors_of(
+    alloc: Global,
+    rule: &ThemeItem,
+    repository: &ScopeRepository,
+) -> Result<String, Error> {
+    let mut text = String::new(alloc);
+    for selector in rule.scope.selectors.as_slice() {
+        if !text.as_str().is_empty() {
+            text.push_str(", ")?;
+        }
+        text.push_str(told(alloc, &selector.path, repository)?.as_str())?;
+        for excluded in selector.excludes.as_slice() {
+            text.push_str(" - ")?;
+            text.push_str(told(alloc, excluded, repository)?.as_str())?;
+        }
+    }
+    Ok(text)
+}
+
+/// What a rule may set.
+#[derive(Clone, Copy)]
+enum Attribute {
+    Colour,
+    Font,
+}
+
+/// Whether a rule sets an attribute.
+fn sets(rule: &ThemeItem, attribute: Attribute) -> bool {
+    match attribute {
+        Attribute::Colour => rule.style.foreground.is_some(),
+        Attribute::Font => rule.style.font_style.is_some(),
+    }
+}
+
+/// The last rule of the greatest score of those that fit a stack and set an attribute.
+fn winner<'t>(
+    theme: &'t Theme,
+    stack: &ScopeStack,
+    attribute: Attribute,
+) -> Result<Option<(&'t ThemeItem, MatchPower)>, Error> {
+    let mut best: Option<(&ThemeItem, MatchPower)> = None;
+    for rule in theme.scopes.as_slice() {
+        if !sets(rule, attribute) {
+            continue;
+        }
+        let Some(power) = rule.scope.does_match(stack.as_slice())? else {
+            continue;
+        };
+        let is_better = match &best {
+            Some((_, greatest)) => *greatest <= power,
+            None => true,
+        };
+        if is_better {
+            best = Some((rule, power));
+        }
+    }
+    Ok(best)
+}
+
+/// Adds a line on what a rule sets, with the rule, or that none does.
+fn add_rule(
+    alloc: Global,
+    what: &str,
+    found: &Option<(&ThemeItem, MatchPower)>,
+    repository: &ScopeRepository,
+    out: &mut String,
+) -> Result<(), Error> {
+    match found {
+        Some((rule, _)) => {
+            let selectors = selectors_of(alloc, rule, repository)?;
+            out.push_str(what)?;
+            out.push_str(selectors.as_str())?;
+        }
+        None => {
+            out.push_str(what)?;
+            out.push_str("no rule: the theme's own")?;
+        }
+    }
+    out.push_str("\n")?;
+    Ok(())
+}
+
+/// Adds the scopes of a stack, the innermost last, its style, and the rules of the theme that gave
+/// its colour and its font.
+pub fn explain(
+    alloc: Global,
+    stack: &ScopeStack,
+    theme: &Theme,
+    repository: &ScopeRepository,
+    out: &mut String,
+) -> Result<(), Error> {
+    for scope in stack.as_slice() {
+        out.push_str("scope   ")?;
+        out.push_str(scope.build_string(repository)?.as_str())?;
+        out.push_str("\n")?;
+    }
+    let style = Highlighter::new(alloc, theme)?.style_for_stack(stack.as_slice())?;
+    let (r, g, b) = (style.foreground.r, style.foreground.g, style.foreground.b);
+    let colour = format!(in alloc; "colour  #{r:02x}{g:02x}{b:02x}\n")?;
+    out.push_str(colour.as_str())?;
+    let colour = winner(theme, stack, Attribute::Colour)?;
+    add_rule(alloc, "by      ", &colour, repository, out)?;
+    let font = winner(theme, stack, Attribute::Font)?;
+    add_rule(alloc, "font by ", &font, repository, out)
+}

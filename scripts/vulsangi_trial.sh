@@ -1,0 +1,331 @@
+#!/bin/sh
+# Tries each word of the program vulsangi on small files, with the grammars and themes of this repository laid where it looks
+# for them, and compares what it writes with what is expected.
+#
+#   sh scripts/vulsangi_trial.sh PROGRAM
+#
+# The last line is how many of how many were seen. The status is 1 where one is missing, which a line names. Text for a terminal is tried
+# by the command script, where there is one.
+set -eu
+
+[ $# -eq 1 ] || { sed -n '2,8p' "$0" >&2; exit 2; }
+here=$(cd "$(dirname "$0")/.." && pwd)
+case $1 in /*) program=$1 ;; *) program=$PWD/$1 ;; esac
+[ -x "$program" ] || { echo "vulsangi_trial.sh: $1 is no program" >&2; exit 2; }
+room=$(mktemp -d)
+trap 'rm -rf "$room"' EXIT
+good=0
+all=0
+esc=$(printf '\033')
+
+# the places where the program looks, and nothing of the caller's
+mkdir -p "$room/data/vulsangi/grammars" "$room/data/vulsangi/themes" "$room/config" "$room/work"
+cp "$here"/grammars/*.sublime-syntax "$room/data/vulsangi/grammars/"
+cp "$here"/examples/*.json "$room/data/vulsangi/themes/"
+unset NO_COLOR COLORTERM VULSANGI_THEME
+export XDG_DATA_HOME="$room/data" XDG_CONFIG_HOME="$room/config" HOME="$room"
+cd "$room/work"
+
+# files to show
+cat > a.rs << 'END'
+// one
+fn main() {
+    println!("two");
+}
+END
+printf '; a note\nhost = 1\n' > b.ini
+printf '#!/bin/sh\necho hi\n' > tool
+printf 'fn \351 x\n' > latin.rs
+printf 'fn main() {}\033[31m red\n' > escape.rs
+seq 20 > lines.txt
+
+# calls the program: its output, its messages and its status are kept
+call() {
+    status=0
+    "$program" "$@" > "$room/out" 2> "$room/err" < /dev/null || status=$?
+}
+
+# the same with a text as standard input
+call_with() {
+    text=$1
+    shift
+    status=0
+    printf '%s\n' "$text" | "$program" "$@" > "$room/out" 2> "$room/err" || status=$?
+}
+
+# counts what was seen: the name of what is tried, and a command that succeeds where it is there
+seen() {
+    name=$1
+    shift
+    all=$((all + 1))
+    if "$@"; then
+        good=$((good + 1))
+    else
+        echo "MISSING: $name"
+    fi
+}
+
+# whether what was written has this text
+out() { grep -q -F -e "$1" "$room/out"; }
+no_out() { ! grep -q -F -e "$1" "$room/out"; }
+# whether the messages have it
+err() { grep -q -F -e "$1" "$room/err"; }
+quiet() { [ ! -s "$room/err" ]; }
+# whether what was written is this file, or these lines
+same() { cmp -s "$1" "$room/out"; }
+is() { [ "$(cat "$room/out")" = "$1" ]; }
+ended() { [ "$status" = "$1" ]; }
+
+# input
+call a.rs
+seen "a pipe gets the text as it is" same a.rs
+seen "and there is no message" quiet
+call a.rs b.ini
+cat a.rs b.ini > "$room/both"
+seen "and several texts one after another" same "$room/both"
+call_with "a text"
+seen "standard input without a file" is "a text"
+call_with "a text" b.ini - a.rs
+seen "- among files" out "a text"
+call_with "x = 1" --color always -l ini
+seen "-l takes an extension" out "${esc}[0;"
+call_with "fn a() {}" -f html --fragment -l rust
+seen "-l takes a name without regard to case" out "<span style="
+call_with "fn a() {}" -f html --fragment -l nothing
+seen "-l of no language" err "vulsangi: no language is called 'nothing'; there are: "
+seen "is status 1" ended 1
+call_with "fn a() {}" -f classes --fragment
+seen "standard input is plain text" out "v-text v-plain"
+call_with "fn a() {}" -f classes --fragment --file-name x.rs
+seen "--file-name tells the language" out "v-source v-rust"
+call -f classes --fragment tool
+seen "the first line tells the language" out "shell"
+call latin.rs
+seen "what is no UTF-8 is U+FFFD" out "$(printf 'fn \357\277\275 x')"
+call --strict latin.rs a.rs
+seen "--strict refuses it with its place" err "vulsangi: latin.rs:1:4: "
+seen "the next file is shown" out "println"
+seen "and the status is 1" ended 1
+call missing.rs a.rs
+seen "a missing file is told" err "vulsangi: missing.rs: "
+seen "and the next one is shown" out "println"
+seen "with status 1" ended 1
+
+# colours
+call --color always a.rs
+seen "--color always" out "${esc}[0;38;5;"
+call --color never a.rs
+seen "--color never" same a.rs
+COLORTERM=truecolor
+export COLORTERM
+call --color always a.rs
+seen "COLORTERM gives 24 bits" out "${esc}[0;38;2;"
+unset COLORTERM
+NO_COLOR=1
+export NO_COLOR
+call --color always a.rs
+seen "--color always against NO_COLOR" out "${esc}["
+unset NO_COLOR
+call --color always escape.rs
+seen "control characters are shown as signs" no_out "${esc}[31m"
+call --color always a.rs b.ini
+seen "files have headings" out "${esc}[0;1mb.ini"
+if command -v script > /dev/null; then
+    script -qec "'$program' a.rs" /dev/null > "$room/out" 2> "$room/err" < /dev/null || true
+    seen "a terminal gets colours" out "${esc}[0;38;5;"
+    NO_COLOR=1 script -qec "'$program' a.rs" /dev/null > "$room/out" 2> "$room/err" < /dev/null || true
+    seen "but not with NO_COLOR" no_out "${esc}["
+    NO_COLOR=1 script -qec "'$program' a.rs b.ini" /dev/null > "$room/out" 2> "$room/err" < /dev/null || true
+    seen "headings without colours" out "==> b.ini <=="
+fi
+
+# lines
+call -r 2:3 lines.txt
+seen "-r 2:3" is "2
+3"
+call -r :2 lines.txt
+seen "-r :2" is "1
+2"
+call -r 19: lines.txt
+seen "-r 19:" is "19
+20"
+call -r 4:+1 -r 9 lines.txt
+seen "-r twice" is "4
+5
+9"
+call -r 9:3 lines.txt
+seen "-r 9:3 is wrong" err "vulsangi: '9:3' names no lines"
+seen "which is status 2" ended 2
+call -n -r 9:10 lines.txt
+seen "-n numbers" is "   9 9
+  10 10"
+call -n --color always a.rs
+seen "-n in colours" out "${esc}[0;2m   1${esc}[0m "
+call --color always -H 2 a.rs
+seen "-H marks" out "${esc}[0;48;5;237;"
+seen "and nothing else" [ "$(grep -c -F "${esc}[K" "$room/out")" = 1 ]
+call -f html -H 2:3 a.rs
+seen "-H in HTML" out 'class="line marked"'
+call -f html -n -r 2:3 a.rs
+seen "-n in HTML" out 'data-line="3"'
+seen "-r in HTML" no_out 'data-line="4"'
+
+# formats
+call -f html a.rs
+seen "-f html is a document" out "<!DOCTYPE html>"
+seen "with its title" out "<title>a.rs</title>"
+seen "that ends" out "</html>"
+call -f html --fragment a.rs
+seen "--fragment is a part" no_out "<html"
+seen "with a pre" out "<pre style=\"background-color:#1d2033;\">"
+call -f html a.rs b.ini
+seen "files have headings in HTML" out "<h2>b.ini</h2>"
+call -f classes a.rs
+seen "-f classes has its sheet" out ".v-comment"
+seen "and its classes" out 'class="v-code"'
+call -f classes --light dawn --dark dusk a.rs
+seen "-f classes for light and dark" out "prefers-color-scheme: light"
+call -f css --theme dawn
+seen "-f css" out ".v-comment"
+call -f css --light dawn --dark ink
+seen "-f css for two themes" out "prefers-color-scheme: dark"
+call -f html --light dawn a.rs
+seen "--light without a sheet" err "vulsangi: --light and --dark are for"
+seen "is wrong" ended 2
+call -f latex a.rs
+seen "-f latex is a document" out '\documentclass'
+seen "in colours" out '\textcolor[RGB]'
+call -f latex --fragment a.rs
+seen "-f latex --fragment" no_out '\documentclass'
+call -f word a.rs
+seen "-f of no format" err "vulsangi: invalid value 'word'"
+seen "is wrong too" ended 2
+call -o made.html -f html a.rs
+seen "-o writes a file" grep -q "<title>a.rs</title>" made.html
+seen "and nothing else" [ ! -s "$room/out" ]
+call -o missing/made.html -f html a.rs
+seen "-o where there is no folder" err "vulsangi: missing/made.html: "
+seen "has status 1" ended 1
+
+# themes
+call -f html --fragment --theme dawn a.rs
+seen "--theme by name" out "background-color:#"
+seen "which is another" no_out "#1d2033"
+cp "$here/examples/ink.json" mine.json
+call -f html --fragment --theme mine.json a.rs
+seen "--theme by file" ended 0
+echo "no theme" > dusk
+call -f html --fragment --theme dusk a.rs
+seen "a name comes before a file" out "#1d2033"
+call -f html --fragment --theme ./dusk a.rs
+seen "a path is a file" err "vulsangi: ./dusk: "
+call -f html --theme none a.rs
+seen "--theme of none" err "vulsangi: no theme is called 'none'; there are: dawn, dusk, ink"
+VULSANGI_THEME=dawn
+export VULSANGI_THEME
+call -f html --fragment a.rs
+seen "VULSANGI_THEME" no_out "#1d2033"
+unset VULSANGI_THEME
+
+# lists
+call -L
+seen "-L" out "Rust                     rs"
+call --list-languages
+seen "--list-languages" out "Python"
+call --list-themes
+seen "--list-themes" is "dawn
+dusk
+ink"
+call --list-themes --color always
+seen "--list-themes with samples" out "moons"
+
+# one's own
+mkdir -p own "$room/config/vulsangi"
+cat > own/Note.sublime-syntax << 'END'
+%YAML 1.2
+---
+name: Note
+scope: text.note
+file_extensions: [note]
+contexts:
+  main:
+    - match: TODO
+      scope: keyword.todo.note
+END
+echo "a TODO" > x.note
+call --grammars own -f classes --fragment x.note
+seen "--grammars" out "v-todo"
+printf 'name: Broken\nscope: [\n' > "$room/config/vulsangi/Broken.sublime-syntax"
+call -f classes --fragment a.rs
+seen "a faulty grammar of one's own is told with its place" err "Broken.sublime-syntax:"
+seen "and the rest works" out "v-source v-rust"
+rm "$room/config/vulsangi/Broken.sublime-syntax"
+mkdir -p "$room/config/vulsangi/themes"
+sed 's/#1d2033/#010203/' "$here/examples/dusk.json" > "$room/config/vulsangi/themes/dusk.json"
+call -f html --fragment a.rs
+seen "a theme of one's own wins" out "#010203"
+rm "$room/config/vulsangi/themes/dusk.json"
+call --grammars nowhere -f html a.rs
+seen "--grammars of no folder" err "vulsangi: nowhere"
+
+# themes of other editors
+cat > mono.tmTheme << 'END'
+<?xml version="1.0" encoding="UTF-8"?>
+<!DOCTYPE plist PUBLIC "-//Apple//DTD PLIST 1.0//EN" "http://www.apple.com/DTDs/PropertyList-1.0.dtd">
+<!-- a <comment> -->
+<plist version="1.0">
+<dict>
+  <key>name</key><string>Mono &amp; more</string>
+  <key>settings</key>
+  <array>
+    <dict><key>settings</key><dict><key>background</key><string>#0a0b0c</string><key>foreground</key><string>#f0f0f0</string></dict></dict>
+    <dict><key>scope</key><string>comment</string><key>settings</key><dict><key>foreground</key><string>#0000ff</string></dict></dict>
+  </array>
+</dict>
+</plist>
+END
+call convert mono.tmTheme
+seen "convert of a property list" out '"name": "Mono & more"'
+cp "$room/out" mono.json
+call -f html --fragment --theme mono.json a.rs
+seen "gives a theme" out "background-color:#0a0b0c"
+seen "with its rules" out "color:#0000ff"
+cat > code.json << 'END'
+{
+  // a comment
+  "name": "Code",
+  "colors": { "editor.background": "#0d0e0f", "editor.foreground": "#fafafa", },
+  "tokenColors": [
+    { "scope": ["comment", "string"], "settings": { "foreground": "#00ff00", "fontStyle": "italic" } }, /* the last */
+  ],
+}
+END
+call convert code.json -o code-theme.json
+seen "convert of tokenColors" grep -q -F '"scope": "comment, string"' code-theme.json
+call -f html --fragment --theme code-theme.json a.rs
+seen "gives a theme, too" out "background-color:#0d0e0f"
+seen "with its colours" out "color:#00ff00"
+printf '{\n  "tokenColors": [ 1 2 ]\n}\n' > faulty.json
+call convert faulty.json
+seen "convert tells the place of a fault" err "vulsangi: faulty.json:2:"
+seen "with status 1 of its own" ended 1
+call convert
+seen "convert of nothing" ended 2
+
+# words
+call --help
+seen "--help" out "Examples:"
+seen "has status 0" ended 0
+call --version
+seen "--version" out "vulsangi "
+call --nothing
+seen "no such word" err "vulsangi: unexpected argument '--nothing' found"
+seen "is status 2" ended 2
+i=0
+while [ "$i" -lt 200 ]; do cat "$here/examples/texts/orbit.rs"; i=$((i + 1)); done > long.rs
+{ "$program" --color always long.rs 2> "$room/err" || echo "$?" > "$room/status"; } | head -n 1 > "$room/out"
+seen "a pipe that is closed ends it quietly" quiet
+seen "with status 0" [ ! -e "$room/status" ]
+
+echo "$good of $all"
+[ "$good" = "$all" ]
