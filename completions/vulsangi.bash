@@ -5,7 +5,14 @@ _vulsangi() {
     local IFS=$'\n'
     COMPREPLY=()
     case $before in
+        --explain)
+            return
+            ;;
         -f | --format)
+            if [[ ${COMP_WORDS[1]} = check ]]; then
+                mapfile -t COMPREPLY < <(compgen -W $'text\njson\nsarif' -- "$current")
+                return
+            fi
             mapfile -t COMPREPLY < <(compgen -W $'terminal\nhtml\nclasses\ncss\nlatex' -- "$current")
             return
             ;;

@@ -1,11 +1,11 @@
 #!/usr/bin/env python3
-"""Tries what README.md and docs/ say, as far as that takes seconds.
+"""Tries what README.md says, as far as that takes seconds; scripts/links.py looks for links, files and names.
 
     python3 scripts/readme.py
 
-Links lead to files and headings that are there, and so do paths in backticks; commands name scripts, words and files that
-are there; code that is quoted stands in its file; README's figures are those of the tables and pages that they come from;
-and docs/edits.tsv is up to date. Each line that is no longer so is named, and the status is 1 then.
+Commands name words and files that are there; code that is quoted, here and in docs/, stands in its file; README's figures are
+those of the tables and pages that they come from; and docs/edits.tsv is up to date. Each line that is no longer so is named, and
+the status is 1 then.
 """
 import pathlib
 import re
@@ -32,52 +32,6 @@ def failed(*words):
     return subprocess.run(words, cwd=TOP, capture_output=True, check=False).returncode != 0
 
 
-def headings(name):
-    """The anchors of a page's headings."""
-    found = []
-    for line in re.sub(r"^```.*?^```", "", text_of(name), flags=re.M | re.S).splitlines():
-        if heading := re.match(r"#+ (.*)", line):
-            plain = re.sub(r"[^\w\- ]", "", heading[1].lower())
-            found.append(plain.replace(" ", "-"))
-    return found
-
-
-def is_line(path, anchor):
-    """An anchor of a file's line, as L12, that is there."""
-    number = re.fullmatch(r"L(\d+)", anchor)
-    return number and 0 < int(number[1]) <= text_of(path).count("\n")
-
-
-def try_links(name):
-    """Links to files of the repository, and to headings or lines in them."""
-    text = text_of(name)
-    plain = re.sub(r"```.*?```|`[^`\n]*`", lambda it: "x" * len(it[0]), text, flags=re.S)
-    for link in re.finditer(r"\]\(([^)\s]+)\)|(?:src|srcset)=\"([^\"]+)\"", plain):
-        target = link[1] or link[2]
-        if re.match(r"\w+:", target):
-            continue
-        file, _, anchor = target.partition("#")
-        path = ((TOP / name).parent / file).resolve() if file else TOP / name
-        if not path.exists():
-            fault(name, link.start(), f"{target} leads nowhere")
-        elif anchor and not is_line(path, anchor) and anchor not in headings(path.relative_to(TOP)):
-            fault(name, link.start(), f"{file or name} has no heading or line #{anchor}")
-
-
-def try_paths(name):
-    """Paths in backticks: whole ones, names of pages in docs/, and scripts that are to be called."""
-    text = text_of(name)
-    for path in re.finditer(r"(?<![\w/.])((?:docs|crates|scripts|examples|\.ci)/[\w./-]+|\w+\.md)\b", text):
-        word = path[1].rstrip(".")
-        if re.search(r"[A-Z]{3,}", word) and not word.endswith(".md") or "/out/" in word:
-            continue
-        if word.endswith(".md") and any(it.is_file() for it in (TOP / word, TOP / "docs" / word)):
-            continue
-        # a name that ends in .md may be an example's
-        if not (TOP / word).exists() and not (word.endswith(".md") and "/" not in word):
-            fault(name, path.start(), f"{word} is not there")
-
-
 def try_commands():
     """The commands of README: install.sh knows their words, files are there, and the program's usage is the program's."""
     text = text_of(README)
@@ -95,7 +49,7 @@ def try_commands():
         if words[0] != "FOLDER" and not (len(words) == 4 and all((TOP / words[it]).exists() for it in (0, 1, 3))):
             fault(README, call.start(), "the call names something that is not there")
     if failed("sh", "scripts/quotes.sh"):
-        faults.append("docs/CALLING.md: sh scripts/quotes.sh fails: what it quotes is another text")
+        faults.append("sh scripts/quotes.sh fails: what docs/ quote is another text")
     if failed(sys.executable, "scripts/edits.py", "--check"):
         faults.append("docs/edits.tsv: it is not up to date: python3 scripts/edits.py")
 
@@ -201,10 +155,6 @@ def try_claims(text):
 
 
 def main():
-    for file in [TOP / README, *sorted((TOP / "docs").glob("*.md"))]:
-        name = str(file.relative_to(TOP))
-        try_links(name)
-        try_paths(name)
     try_commands()
     try_quote()
     try_figures()

@@ -312,6 +312,63 @@ seen "with status 1 of its own" ended 1
 call convert
 seen "convert of nothing" ended 2
 
+# for writers of grammars
+mkdir -p mine
+cat > mine/Note.sublime-syntax << 'END'
+name: Note
+scope: text.note
+file_extensions: [note]
+contexts:
+  main:
+    - match: '(TODO)'
+      captres:
+        1: keyword.other.note
+END
+call check mine
+seen "check tells a misspelt key" out 'warning[V101]: `captres` means nothing; is `captures` meant?'
+seen "with its place" out " --> mine/Note.sublime-syntax:7:7"
+seen "and its line" out "7 |       captres:"
+seen "a warning is no error" ended 0
+call check -f json mine
+seen "check as JSON" out '"line": 7, "column": 7'
+call check -f sarif mine
+seen "check as SARIF" out '"startLine": 7, "startColumn": 7'
+if command -v python3 > /dev/null; then
+    seen "which is JSON" python3 -c 'import json,sys; json.load(open(sys.argv[1]))' "$room/out"
+fi
+sed 's/captres/captures/' mine/Note.sublime-syntax > note.tmp && mv note.tmp mine/Note.sublime-syntax
+call check mine
+seen "check of a sound grammar" is "1 grammars loaded; 0 errors, 0 warnings, 0 notes"
+printf "scope: text.b\ncontexts:\n  main:\n    - match: '(a'\n" > mine/B.sublime-syntax
+call check mine/B.sublime-syntax
+seen "check tells what is wrong with a pattern" out 'error[V001]: the pattern ends where `)` is wanted'
+seen "at its end" out "B.sublime-syntax:4:16"
+seen "an error is status 1" ended 1
+call check nowhere
+seen "check of nothing" out "error[V003]"
+rm mine/B.sublime-syntax
+call check --explain V101
+seen "check --explain" out "V101 (warning): unknown key"
+call check --explain V999
+seen "--explain of no number" ended 1
+cat > test.note << 'END'
+# SYNTAX TEST "Note.sublime-syntax"
+a TODO
+# ^^^^ keyword.other
+# <- text.note - keyword
+END
+call test --grammars mine test.note
+seen "a test that holds" out "test.note: 5 columns, 0 of them wrong"
+sed 's/keyword.other/string/' test.note > wrong.note
+call test --grammars mine wrong.note
+seen "a test that doesn't" out "wrong.note:2:3: string is wanted, and there is text.note keyword.other.note"
+seen "is status 1" ended 1
+call scopes --grammars mine test.note
+seen "scopes of a file" out "2:2-6 text.note keyword.other.note"
+call scopes --grammars mine --theme dusk test.note:2:3
+seen "scopes of a place" out "scope   keyword.other.note"
+seen "and its rule" out "by      keyword"
+
 # words
 call --help
 seen "--help" out "Examples:"

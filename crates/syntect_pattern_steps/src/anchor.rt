@@ -1,6 +1,7 @@
 //! Places where nothing is read.
 ghost use Rattle.std.specs.Prelude.{◌≡◌, IsCharBoundary, Option, ℕ};
 ghost use Rattle.syntect_pattern.specs.Matches as matches;
+ghost use Rattle.syntect_pattern.specs.declared.anchor.Anchor.TheVariants.{LineStart};
 ghost use Rattle.syntect_pattern.specs.Sets.{is_word};
 
 use crate::text::{char_at, char_before};
@@ -15,9 +16,7 @@ pub fn anchor_holds(text: &str, place: usize, anchor: Anchor) -> bool
 {
     let end = text.len();
     match anchor {
-        Anchor::LineStart => {
-            place == 0 || (is_newline(char_before(text, place)) && place != end)
-        }
+        Anchor::LineStart => line_begins(text, place),
         Anchor::LineEnd => place == end || is_newline(char_at(text, place)),
         Anchor::TextStart => place == 0,
         Anchor::TextEnd => place == end,
@@ -27,6 +26,21 @@ pub fn anchor_holds(text: &str, place: usize, anchor: Anchor) -> bool
         Anchor::WordEdge => is_word_edge(text, place),
         Anchor::NoWordEdge => !is_word_edge(text, place),
     }
+}
+
+/// Whether a line begins at the place: at most places the byte before tells that none does.
+#[inline]
+fn line_begins(text: &str, place: usize) -> bool
+    requires { IsCharBoundary text.now place }
+    ensures { result ≡ matches.anchor_holds text.now LineStart place }
+{
+    if place == 0 {
+        return true;
+    }
+    if text.as_bytes()[place - 1] != b'\n' {
+        return false;
+    }
+    is_newline(char_before(text, place)) && place != text.len()
 }
 
 /// The character, if there is one, is a newline.

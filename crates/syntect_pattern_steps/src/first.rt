@@ -11,8 +11,8 @@ use syntect_pattern_table::program::Program;
 /// How many parts are looked into.
 const LOOKS: u32 = 8;
 
-/// The first part of the node, or the first part of that, and so on, that is no sequence and no
-/// group; `None` where it isn't among the first eight.
+/// The first part of the node, or the first part of that, and so on, that is no sequence, no group
+/// and nothing that is looked for ahead; `None` where it isn't among the first eight.
 pub fn first_part(program: &Program, node: usize) -> Option<&Node>
     ensures { IfSome result (λ part. BeginsWith (node_tree (trees_of program.now) part.now)
         (slice_index_or (trees_of program.now) node nothing)) }
@@ -24,6 +24,10 @@ pub fn first_part(program: &Program, node: usize) -> Option<&Node>
             Node::Sequence(first, _) => *first,
             Node::Group { number: _, body } => *body,
             Node::Atomic(body) => *body,
+            Node::Ahead {
+                negated: false,
+                body,
+            } => *body,
             _ => return Some(found),
         };
     }

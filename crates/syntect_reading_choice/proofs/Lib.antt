@@ -6,6 +6,7 @@ pub mod BestLaws
 pub mod PartLaws
 pub mod RunLaws
 pub mod AheadLaws
+pub mod MidLaws
 pub mod SweepLaws
 pub mod StepLaws
 pub mod ShorterLaws

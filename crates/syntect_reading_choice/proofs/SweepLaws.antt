@@ -28,6 +28,8 @@ use Rattle.syntect_reading_choice.specs.Parts.{flat_members, part_member, part_m
 use Rattle.syntect_reading_choice.specs.Best.{choice_by}
 use Rattle.syntect_reading_choice.specs.Reader.{match_of, matches_of}
 use Rattle.syntect_reading_choice.specs.Turn.{Live, searched_text, winner}
+use Rattle.syntect_reading_choice.specs.syntect_pattern.Text.{is_boundary}
+use Rattle.syntect_reading_choice.proofs.MidLaws.{mid_next}
 use Rattle.syntect_reading_choice.proofs.AheadLaws.{ahead_behind, ahead_first, ahead_next, ahead_starts, best_kept, best_passed_by, no_match, out_still}
 use Rattle.syntect_reading_choice.proofs.BestLaws.{best_at_end, best_wins}
 use Rattle.syntect_reading_choice.proofs.PartLaws.{flats_end, flats_more, live_more}
@@ -383,6 +385,12 @@ module _ (finds : FindsInText dialect) (reader : LineReader) (runs : List Run) (
   passed_place i quiet ahead k r l q d m z w e =
       let run : Run = get_or runs k r in
       begun_ahead finds reader i run (all k r l) (marks_of losses k) (length (list_in run.flats)) (λ j f _ n _. inl (quiet k r l j f n)) (ahead k r l) q d m w w e
+
+  -- nor does anything begin within a character
+  pub passed_mid : (i : ℕ) → is_boundary reader.line.now i ≡ false → AllAhead reader losses i runs → AllAhead reader losses (i + 1) runs
+  passed_mid i mid ahead k r l q d m z w e =
+      ahead_next reader (part_member (get_or runs k r).part m) (is_lost (marks_of losses k) q) i (ahead k r l q d m z w e)
+      (mid_next (searched_text dialect m (option_copied (get_or runs k r).part.opening)) reader.line.now i mid)
 
 -- ---- the winner of the chain ----
 

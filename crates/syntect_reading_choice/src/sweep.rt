@@ -1,10 +1,11 @@
 //! What a turn finds: it goes place by place, and tries at each the patterns that can begin there,
 //! in the order of the chain.
-ghost use Rattle.std.specs.Prelude.{◌≡◌, ◌≤◌, ◌<◌, ◌+◌, ◌*◌, Bool, List, ℕ, length, IfErr, IfOk, OnOk, Some, None, true, false, slice_index_or, unwrap_or};
+ghost use Rattle.std.specs.Prelude.{◌≡◌, ◌⊎◌, ◌≤◌, ◌<◌, ◌+◌, ◌*◌, Bool, List, ℕ, length, IfErr, IfOk, OnOk, Some, None, true, false, slice_index_or, unwrap_or};
 ghost use Rattle.std.specs.Option.{option_copied};
 ghost use Rattle.std.specs.List.{All, flat_map};
 ghost use Rattle.syntect_reading_choice.specs.syntect_pattern.Matches.{is_word_edge};
-ghost use Rattle.syntect_reading_choice.specs.syntect_pattern_table.Starts.{start_at};
+ghost use Rattle.syntect_reading_choice.specs.syntect_pattern_table.Starts.{is_in, start_at};
+ghost use Rattle.syntect_reading_choice.specs.syntect_pattern.Text.{is_boundary};
 ghost use Rattle.syntect_reading_choice.specs.syntect_pattern_word_ends.Ends.{IsRunUpTo};
 ghost use Rattle.syntect_reading_choice.specs.declared.runs.Run.{Run as ARun};
 ghost use Rattle.syntect_reading_choice.specs.Ahead.{AddsAll, AddsAt, AddsMember, AddsRun, AllAhead, AreAhead, AreAheadFrom, BeginIn, IsAhead, IsBestAt, IsRuledOut, IsRun, Reaches, Sees, list_in, run_members};
@@ -159,8 +160,17 @@ fn begins_of(runs: &[Run<'_, '_>]) -> Places
     begins
 }
 
-/// The first place, from this one on, with one of these; the line's end at the latest. None that
-/// was ahead has a match before it.
+/// Whether one of these stands at the place, where a character begins: within one no match does.
+#[inline]
+fn may_begin(line: &str, begins: Places, place: usize) -> bool
+    ensures { result ≡ false → (is_in begins (start_at line.now place) ≡ false)
+        ⊎ (is_boundary line.now place ≡ false) }
+{
+    is_in(begins, start_at(line, place)) && is_boundary(line, place)
+}
+
+/// The first place, from this one on, with one of these, where a character begins; the line's end
+/// at the latest. None that was ahead has a match before it.
 fn next_place(reader: &LineReader<'_, '_>, begins: Places, place: usize) -> usize
     requires { place ≤ length reader.now.line.now }
     ensures later { place ≤ result }
@@ -171,7 +181,7 @@ fn next_place(reader: &LineReader<'_, '_>, begins: Places, place: usize) -> usiz
 {
     dialect_finds_in_text();
     let mut next = place;
-    while next < reader.line.len() && !is_in(begins, start_at(reader.line, next)) {
+    while next < reader.line.len() && !may_begin(reader.line, begins, next) {
         next += 1;
     }
     next

@@ -84,7 +84,7 @@ fn perform_words<'a>(
         let theme = words.get_str("THEME").unwrap_or("");
         return ended(rt, write_converted(rt, theme, words.get_str("output")));
     }
-    if let Some(done) = doctor::perform(rt, &matches) {
+    if let Some(done) = doctor::perform(rt, &matches, to_terminal) {
         return ended(rt, done);
     }
     match asked_of(rt.alloc(), &matches) {

@@ -13,7 +13,7 @@ use vulsangi_words::form::{Form, form_of};
 use vulsangi_words::words::Asked;
 
 /// Writes a text to standard output, or into the file that is asked for.
-fn write_out(
+pub fn write_out(
     rt: &(impl AllocGlobal + Print + Files),
     output: Option<&str>,
     text: &str,

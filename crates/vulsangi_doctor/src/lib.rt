@@ -2,7 +2,6 @@
 //! tests, and which scopes and rules gave a character its colour.
 #![tactic(auto)]
 
-pub mod check;
 pub mod run;
 pub mod scopes;
 pub mod tests;

@@ -1,5 +1,4 @@
 //! What the program does for writers of grammars and themes, with what it prints.
-use crate::check::findings_of;
 use crate::scopes::{Reading, explain, told};
 use crate::tests::{header_of, run, stack_at};
 use std::fs;
@@ -10,28 +9,6 @@ use syntect::assets::{Assets, AssetsError};
 use syntect::highlighting::Theme;
 use syntect::parsing::SyntaxReference;
 use syntect::util::LinesWithEndings;
-
-/// Looks through folders of grammars and themes, and prints what is found. Answers whether each of
-/// their files was loaded.
-pub fn check_folders(
-    rt: &(impl AllocGlobal + Files + Print),
-    folders: &[&str],
-) -> Result<bool, AssetsError> {
-    let mut all = true;
-    for folder in folders {
-        let found = findings_of(rt, rt.alloc(), Path::new(*folder))?;
-        for line in found.faults.as_slice() {
-            println!(rt; "{line}")?;
-        }
-        for line in found.notes.as_slice() {
-            println!(rt; "{line}")?;
-        }
-        let (grammars, faults) = (found.grammars, found.faults.len());
-        println!(rt; "{folder}: {grammars} grammars, {faults} files with a fault")?;
-        all &= found.faults.is_empty();
-    }
-    Ok(all)
-}
 
 /// The text of a file.
 fn text_in(rt: &(impl AllocGlobal + Files), path: &str) -> Result<String, AssetsError> {

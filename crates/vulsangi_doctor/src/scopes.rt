@@ -1,12 +1,12 @@
 //! The scopes of a text, stretch by stretch, and the rules of a theme that fit them.
-use std::alloc::Global;
+use std::alloc::{AllocError, Global};
 use syntect::Error;
 use syntect::assets::Assets;
-use syntect::highlighting::{Highlighter, Theme, ThemeItem};
+use syntect::highlighting::{Color, FontStyle, Highlighter, Style, Theme, ThemeItem};
 use syntect::parsing::{
-    MatchPower, ParseState, ReadWithinError, ScopeRepository, ScopeStack, ScopeStackOp,
-    SyntaxReference,
+    ParseState, ReadWithinError, ScopeRepository, ScopeStack, ScopeStackOp, SyntaxReference,
 };
+use syntect::values::Seq;
 
 /// A stretch of a line, from one byte to before another, and the scopes over it.
 #[derive(Drop)]
@@ -58,6 +58,21 @@ impl Reading {
             state: ParseState::new(alloc, syntax)?,
             stack: ScopeStack::new(alloc),
         })
+    }
+
+    /// Reads over the next line. One that reaches a limit is passed over, as if it weren't there.
+    pub fn pass(&mut self, alloc: Global, assets: &Assets, line: &str) -> Result<(), Error> {
+        let (set, limits) = (&assets.set, &assets.limits);
+        match self.state.parse_line_within(alloc, line, set, limits) {
+            Ok(operations) => {
+                for (_, operation) in operations.as_slice() {
+                    self.stack.apply(operation)?;
+                }
+                Ok(())
+            }
+            Err(ReadWithinError::LimitReached(_)) => Ok(()),
+            Err(ReadWithinError::Refused(e)) => Err(Error::from(e)),
+        }
     }
 
     /// The stretches of the next line. One that reaches a limit has none, and the lines after it
@@ -117,41 +132,85 @@ fn sets(rule: &ThemeItem, attribute: Attribute) -> bool {
     }
 }
 
-/// The last rule of the greatest score of those that fit a stack and set an attribute.
-fn winner<'t>(
-    theme: &'t Theme,
-    stack: &ScopeStack,
-    attribute: Attribute,
-) -> Result<Option<(&'t ThemeItem, MatchPower)>, Error> {
-    let mut best: Option<(&ThemeItem, MatchPower)> = None;
-    for rule in theme.scopes.as_slice() {
-        if !sets(rule, attribute) {
-            continue;
+/// A copy of a rule that sets an attribute otherwise than a style has it.
+fn altered(rule: &ThemeItem, style: Style, attribute: Attribute) -> Result<ThemeItem, AllocError> {
+    let mut changed = rule.clone()?;
+    match attribute {
+        Attribute::Colour => {
+            let Color { r, g, b, a } = style.foreground;
+            let r = r ^ 1;
+            changed.style.foreground = Some(Color { r, g, b, a });
         }
-        let Some(power) = rule.scope.does_match(stack.as_slice())? else {
-            continue;
-        };
-        let is_better = match &best {
-            Some((_, greatest)) => *greatest <= power,
-            None => true,
-        };
-        if is_better {
-            best = Some((rule, power));
+        Attribute::Font => {
+            let bold = FontStyle::BOLD.bits();
+            let bits = style.font_style.bits() ^ bold;
+            changed.style.font_style = Some(FontStyle::from_bits_truncate(bits));
         }
     }
-    Ok(best)
+    Ok(changed)
+}
+
+/// The rules of a theme, with one of them in place of that with a number.
+fn with_rule(
+    alloc: Global,
+    rules: &[ThemeItem],
+    number: usize,
+    rule: ThemeItem,
+) -> Result<Seq<ThemeItem>, AllocError> {
+    let mut all = Vec::with_capacity(alloc, rules.len())?;
+    for before in rules.get(..number).unwrap_or(&[]) {
+        all.push(before.clone()?)?;
+    }
+    all.push(rule)?;
+    for after in rules.get(number.saturating_add(1)..).unwrap_or(&[]) {
+        all.push(after.clone()?)?;
+    }
+    Ok(Seq::from_vec(all))
+}
+
+/// Whether two styles are the same in an attribute.
+fn agree(a: &Style, b: &Style, attribute: Attribute) -> bool {
+    match attribute {
+        Attribute::Colour => a.foreground == b.foreground,
+        Attribute::Font => a.font_style == b.font_style,
+    }
+}
+
+/// The rule that gives a stack an attribute: the one that can't be altered in it without a change of
+/// the stack's style. So it is asked of the highlighter itself which rule is the best.
+fn winner<'t>(
+    alloc: Global,
+    theme: &'t Theme,
+    stack: &ScopeStack,
+    style: Style,
+    attribute: Attribute,
+) -> Result<Option<&'t ThemeItem>, Error> {
+    let rules = theme.scopes.as_slice();
+    for (number, rule) in rules.iter().enumerate() {
+        if !sets(rule, attribute) || rule.scope.does_match(stack.as_slice())?.is_none() {
+            continue;
+        }
+        let changed = altered(rule, style, attribute)?;
+        let mut other = theme.clone()?;
+        other.scopes = with_rule(alloc, rules, number, changed)?;
+        let asked = Highlighter::new(alloc, &other)?.style_for_stack(stack.as_slice())?;
+        if !agree(&asked, &style, attribute) {
+            return Ok(Some(rule));
+        }
+    }
+    Ok(None)
 }
 
 /// Adds a line on what a rule sets, with the rule, or that none does.
 fn add_rule(
     alloc: Global,
     what: &str,
-    found: &Option<(&ThemeItem, MatchPower)>,
+    found: Option<&ThemeItem>,
     repository: &ScopeRepository,
     out: &mut String,
 ) -> Result<(), Error> {
     match found {
-        Some((rule, _)) => {
+        Some(rule) => {
             let selectors = selectors_of(alloc, rule, repository)?;
             out.push_str(what)?;
             out.push_str(selectors.as_str())?;
@@ -183,8 +242,8 @@ pub fn explain(
     let (r, g, b) = (style.foreground.r, style.foreground.g, style.foreground.b);
     let colour = format!(in alloc; "colour  #{r:02x}{g:02x}{b:02x}\n")?;
     out.push_str(colour.as_str())?;
-    let colour = winner(theme, stack, Attribute::Colour)?;
-    add_rule(alloc, "by      ", &colour, repository, out)?;
-    let font = winner(theme, stack, Attribute::Font)?;
-    add_rule(alloc, "font by ", &font, repository, out)
+    let colour = winner(alloc, theme, stack, style, Attribute::Colour)?;
+    add_rule(alloc, "by      ", colour, repository, out)?;
+    let font = winner(alloc, theme, stack, style, Attribute::Font)?;
+    add_rule(alloc, "font by ", font, repository, out)
 }

@@ -195,14 +195,16 @@ pub fn stack_at(
     let mut number = 0u64;
     for text in LinesWithEndings::from(text) {
         number = number.saturating_add(1);
-        let runs = reading.line(alloc, assets, text)?;
-        if number == line {
-            let place = place_of(text, column).unwrap_or(text.len());
-            return match scopes_at(runs.as_slice(), place) {
-                Some(stack) => Ok(Some(stack.clone()?)),
-                None => Ok(None),
-            };
+        if number < line {
+            reading.pass(alloc, assets, text)?;
+            continue;
         }
+        let runs = reading.line(alloc, assets, text)?;
+        let place = place_of(text, column).unwrap_or(text.len());
+        return match scopes_at(runs.as_slice(), place) {
+            Some(stack) => Ok(Some(stack.clone()?)),
+            None => Ok(None),
+        };
     }
     Ok(None)
 }

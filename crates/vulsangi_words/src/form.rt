@@ -44,12 +44,17 @@ fn wants_no_color(rt: &(impl Env + AllocGlobal)) -> bool {
     }
 }
 
+/// Whether text is shown in colour, by where it goes to and by `NO_COLOR`.
+pub fn shows_colour(rt: &(impl Env + AllocGlobal), to_terminal: bool) -> bool {
+    to_terminal && !wants_no_color(rt)
+}
+
 /// What a terminal's text is shown as.
 fn screen_of(rt: &(impl Env + AllocGlobal), color: Color, to_terminal: bool) -> Form {
     let in_colour = match color {
         Color::Always => true,
         Color::Never => false,
-        Color::Auto => to_terminal && !wants_no_color(rt),
+        Color::Auto => shows_colour(rt, to_terminal),
     };
     if in_colour {
         Form::Screen(colors_of(rt))

@@ -260,13 +260,29 @@ fn conversion<'a>(alloc: Global) -> Result<Command<'a>, Error> {
 /// The words by which grammars are looked through.
 fn checking<'a>(alloc: Global) -> Result<Command<'a>, Error> {
     let about =
-        "Look through folders of grammars: files with a fault, references that lead nowhere, \
-patterns that a line can make costly";
-    let folders = Arg::new(alloc, "DIR")
-        .num_args(1..)
-        .required(true)
-        .help("The folders");
-    Ok(Command::new(alloc, "check").about(about).arg(folders)?)
+        "Look through grammars and themes: what isn't loaded, what can't be meant, what costs";
+    let formats: &'static [&'static str] = &["text", "json", "sarif"];
+    let paths = Arg::new(alloc, "PATH")
+        .num_args(0..)
+        .help("Folders, or files of grammars and themes");
+    let format = option(alloc, "format", "FORMAT", "What to write")
+        .short('f')
+        .value_parser(formats)
+        .default_value("text");
+    let number = option(
+        alloc,
+        "explain",
+        "NUMBER",
+        "Tell what a finding means; all tells each",
+    );
+    Ok(
+        Command::new(alloc, "check")
+            .about(about)
+            .arg(paths)?
+            .arg(format)?
+            .arg(option(alloc, "output", "FILE", "Write into this file").short('o'))?
+            .arg(number)?,
+    )
 }
 
 /// The words by which tests of grammars are run.

@@ -1,0 +1,243 @@
+//! What is wrong with grammars and themes, and where.
+use crate::{faults, keys, names, patterns, references, variables};
+use std::alloc::Global;
+use std::fs;
+use std::path::Path;
+use std::rt::Files;
+use syntect_base::utils::files_below;
+use vulsangi_grammar::findings::{Findings, Lines};
+use vulsangi_grammar::grammar::{Grammar, items_of, yaml_of};
+use vulsangi_grammar::rules::{NO_THEME, NOT_READ};
+use vulsangi_grammar::syntect::LoadingError;
+use vulsangi_grammar::syntect::assets::AssetsError;
+use vulsangi_grammar::syntect::explain::why_not_loaded;
+use vulsangi_grammar::syntect::highlighting::ThemeSet;
+use vulsangi_grammar::syntect::parsing::{
+    Limits, LoadWithinError, ParseSyntaxError, ScopeRepository, load_from_str_within,
+};
+
+/// A grammar as it is read, and why it isn't loaded, if it isn't.
+type Read = (Grammar, Option<LoadWithinError>);
+
+/// Reads a grammar from its text.
+pub fn read_grammar(
+    alloc: Global,
+    path: &str,
+    text: String,
+    repository: &mut ScopeRepository,
+) -> Result<Read, AssetsError> {
+    let yaml = yaml_of(alloc, text.as_str())?;
+    let stem = Path::new(path).file_stem();
+    let limits = Limits::default();
+    let loaded = load_from_str_within(alloc, text.as_str(), true, stem, repository, &limits);
+    let (definition, fault) = match loaded {
+        Ok(definition) => (Some(definition), None),
+        Err(LoadWithinError::Refused(ParseSyntaxError::Memory)) => return Err(AssetsError::Memory),
+        Err(e) => (None, Some(e)),
+    };
+    let grammar = Grammar {
+        path: String::from_str(alloc, path)?,
+        text,
+        yaml,
+        definition,
+    };
+    Ok((grammar, fault))
+}
+
+/// What stands around a grammar that is looked through.
+#[derive(Clone, Copy)]
+struct Around<'g> {
+    grammars: &'g [Grammar],
+    /// The contexts of others that these name.
+    foreign: &'g [&'g str],
+    /// The scopes that themes have rules for.
+    known: &'g [String],
+}
+
+/// Adds what is found in a grammar, one of those that are looked through.
+fn check_grammar(
+    alloc: Global,
+    grammar: &Grammar,
+    around: &Around<'_>,
+    fault: Option<&LoadWithinError>,
+    findings: &mut Findings,
+) -> Result<(), AssetsError> {
+    let lines = Lines::of(alloc, grammar.path.as_str(), grammar.text.as_str())?;
+    let items = items_of(alloc, grammar)?;
+    let items = items.as_slice();
+    if let Some(e) = fault {
+        faults::check(alloc, grammar, &lines, items, e, findings)?;
+    }
+    keys::check_top(alloc, grammar, &lines, findings)?;
+    for item in items {
+        keys::check_item(alloc, &lines, item, findings)?;
+        names::check_item(alloc, &lines, item, around.known, findings)?;
+    }
+    variables::check(alloc, grammar, &lines, items, findings)?;
+    let others = (around.grammars, around.foreign);
+    references::check(alloc, grammar, others, &lines, items, findings)?;
+    patterns::check(alloc, &lines, items, findings)?;
+    patterns::check_rounds(alloc, grammar, &lines, findings)
+}
+
+/// The contexts of others that grammars name.
+fn foreign_of(alloc: Global, grammars: &[Grammar]) -> Result<Vec<&str>, AssetsError> {
+    let mut foreign = Vec::new(alloc);
+    for grammar in grammars {
+        let items = items_of(alloc, grammar)?;
+        references::add_foreign(alloc, items.as_slice(), &mut foreign)?;
+    }
+    Ok(foreign)
+}
+
+/// What is found in grammars, file by file in the order of the places. Themes have rules for the
+/// scopes that are known; where there are none, nothing is said of that.
+pub fn check_grammars(
+    alloc: Global,
+    grammars: &[Grammar],
+    faults: &[Option<LoadWithinError>],
+    known: &[String],
+    findings: &mut Findings,
+) -> Result<(), AssetsError> {
+    let foreign = foreign_of(alloc, grammars)?;
+    let around = Around {
+        grammars,
+        foreign: foreign.as_slice(),
+        known,
+    };
+    for (grammar, fault) in grammars.iter().zip(faults.iter()) {
+        let mut own = Findings::new(alloc);
+        let fault = fault.as_ref();
+        check_grammar(alloc, grammar, &around, fault, &mut own)?;
+        if grammar.definition.is_some() {
+            findings.grammars = findings.grammars.saturating_add(1);
+        }
+        let mut found = own.found;
+        found
+            .as_mut_slice()
+            .sort_by_key(alloc, |finding| finding.place)?;
+        for finding in found {
+            findings.found.push(finding)?;
+        }
+    }
+    Ok(())
+}
+
+/// The grammars that were read so far, and what was found of other files.
+#[derive(Drop)]
+struct Gathered {
+    grammars: Vec<Grammar>,
+    faults: Vec<Option<LoadWithinError>>,
+    repository: ScopeRepository,
+    /// The scopes that themes have rules for.
+    known: Vec<String>,
+    findings: Findings,
+}
+
+impl Gathered {
+    /// Adds that a file isn't read, or a theme not loaded.
+    fn add_loading(
+        &mut self,
+        rt: &(impl AllocGlobal + Files),
+        path: &str,
+        e: &LoadingError,
+    ) -> Result<(), AssetsError> {
+        let why = why_not_loaded(rt, rt.alloc(), Path::new(path), e)?;
+        let text = why.as_str();
+        let text = match text.strip_prefix(path) {
+            Some(rest) => rest.trim_start_matches([':', ' ']),
+            None => text,
+        };
+        let message = String::from_str(rt.alloc(), text)?;
+        Ok(self.findings.add_file(NO_THEME, path, message)?)
+    }
+
+    /// Adds a grammar's file.
+    fn add_grammar(
+        &mut self,
+        rt: &(impl AllocGlobal + Files),
+        path: &str,
+    ) -> Result<(), AssetsError> {
+        let text = match fs::read_to_string(rt, path) {
+            Ok(text) => text,
+            Err(e) => {
+                let message = format!(in rt.alloc(); "{e}")?;
+                return Ok(self.findings.add_file(NOT_READ, path, message)?);
+            }
+        };
+        let (grammar, fault) = read_grammar(rt.alloc(), path, text, &mut self.repository)?;
+        self.grammars.push(grammar)?;
+        self.faults.push(fault)?;
+        Ok(())
+    }
+
+    /// Adds a file, if it is a grammar's or a theme's.
+    fn add_file(&mut self, rt: &(impl AllocGlobal + Files), path: &str) -> Result<(), AssetsError> {
+        if path.ends_with(".sublime-syntax") {
+            return self.add_grammar(rt, path);
+        }
+        let is_theme = path.ends_with(".tmTheme")
+            || (path.ends_with(".json") && path.contains("themes/"));
+        if !is_theme {
+            return Ok(());
+        }
+        let (alloc, place) = (rt.alloc(), Path::new(path));
+        match ThemeSet::get_theme(rt, alloc, place, &mut self.repository) {
+            Ok(theme) => {
+                names::add_known(&theme, &self.repository, &mut self.known)?;
+                Ok(())
+            }
+            Err(LoadingError::Memory) => Err(AssetsError::Memory),
+            Err(e) => self.add_loading(rt, path, &e),
+        }
+    }
+
+    /// Adds the files of a folder, or a file.
+    fn add_path(&mut self, rt: &(impl AllocGlobal + Files), path: &str) -> Result<(), AssetsError> {
+        match fs::metadata(rt, path) {
+            Ok(about) if about.is_dir() => {}
+            Ok(_) => return self.add_file(rt, path),
+            Err(e) => {
+                let message = format!(in rt.alloc(); "{e}")?;
+                return Ok(self.findings.add_file(NOT_READ, path, message)?);
+            }
+        }
+        let files = match files_below(rt, rt.alloc(), Path::new(path)) {
+            Ok(files) => files,
+            Err(e) => return self.add_loading(rt, path, &e),
+        };
+        for file in files.as_slice() {
+            self.add_file(rt, file.as_str())?;
+        }
+        Ok(())
+    }
+}
+
+/// Looks through the grammars and themes that are named by their files or folders: what isn't
+/// loaded, and why; and what a grammar that is loaded has that it can't mean, or that costs much.
+pub fn findings_of(
+    rt: &(impl AllocGlobal + Files),
+    paths: &[&str],
+) -> Result<Findings, AssetsError> {
+    let alloc = rt.alloc();
+    let mut gathered = Gathered {
+        grammars: Vec::new(alloc),
+        faults: Vec::new(alloc),
+        repository: ScopeRepository::new(alloc),
+        known: Vec::new(alloc),
+        findings: Findings::new(alloc),
+    };
+    for path in paths {
+        gathered.add_path(rt, *path)?;
+    }
+    let (grammars, faults, known) = (gathered.grammars, gathered.faults, gathered.known);
+    let mut findings = gathered.findings;
+    check_grammars(
+        alloc,
+        grammars.as_slice(),
+        faults.as_slice(),
+        known.as_slice(),
+        &mut findings,
+    )?;
+    Ok(findings)
+}

@@ -1,0 +1,12 @@
+//! What is wrong with grammars and themes, and where.
+#![tactic(auto)]
+
+pub mod check;
+mod faults;
+mod keys;
+mod names;
+mod patterns;
+mod references;
+mod variables;
+
+pub use vulsangi_grammar;

@@ -1,0 +1,307 @@
+//! What is looked for in grammars, each with the number that it has in reports.
+
+/// How grave a finding is.
+#[derive(Clone, Copy, Debug, PartialEq, Eq)]
+pub enum Grade {
+    /// The file isn't loaded.
+    Fault,
+    /// The grammar does something else than it seems to say.
+    Warning,
+    /// Something that may be meant.
+    Note,
+}
+
+/// One thing that is looked for.
+#[derive(Clone, Copy)]
+pub struct Rule {
+    /// Its number, as reports have it.
+    pub number: &'static str,
+    pub grade: Grade,
+    /// What is wrong, in a few words.
+    pub title: &'static str,
+    /// What that means, with an example and what helps.
+    pub text: &'static str,
+}
+
+impl Grade {
+    /// Its name in reports of text.
+    pub fn name(self) -> &'static str {
+        match self {
+            Grade::Fault => "error",
+            Grade::Warning => "warning",
+            Grade::Note => "note",
+        }
+    }
+}
+
+pub const NOT_LOADED: Rule = Rule {
+    number: "V001",
+    grade: Grade::Fault,
+    title: "the grammar can't be loaded",
+    text: "A grammar is a file `.sublime-syntax` in YAML with a `scope` and a context `main`. Loading \
+refuses it as a whole where one part of it is refused: text that is no YAML, a key that must be \
+there and isn't, a value of another kind, a pattern that can't be read, a scope of more than eight \
+parts.
+
+    - match: '(a'        # the bracket isn't closed
+
+The message says what was met. Of a pattern the caret is below the place in it up to which it can \
+be read. docs/DIFFERENCES.md lists what this library doesn't read of patterns.",
+};
+
+pub const NO_THEME: Rule = Rule {
+    number: "V002",
+    grade: Grade::Fault,
+    title: "the theme can't be loaded",
+    text: "A theme is JSON, as docs/THEMES.md has it, in a file `.tmTheme`, or `.json` in a folder \
+`themes`. A property list in XML, which other editors call `.tmTheme` too, is converted first:
+
+    vulsangi convert Monokai.tmTheme -o monokai.json",
+};
+
+pub const NOT_READ: Rule = Rule {
+    number: "V003",
+    grade: Grade::Fault,
+    title: "the file can't be read",
+    text: "The file is missing, may not be read, or isn't UTF-8. Save it as UTF-8.",
+};
+
+pub const UNKNOWN_KEY: Rule = Rule {
+    number: "V101",
+    grade: Grade::Warning,
+    title: "unknown key",
+    text: "The key has no meaning here, and what stands at it is passed over without a word. Mostly \
+it is misspelt; the message names the nearest key that has a meaning.
+
+    - macth: 'x'         # match
+      scpoe: keyword.x   # scope",
+};
+
+pub const NOT_HERE: Rule = Rule {
+    number: "V102",
+    grade: Grade::Warning,
+    title: "a key that this library doesn't know",
+    text: "Sublime Text knows this key, and this library, which reads what syntect 5.3 reads, passes \
+over it: `extends`, `branch`, `branch_point`, `fail`, `meta_prepend`, `meta_append`, \
+`apply_prototype`. What depends on it is coloured otherwise than in the editor. There is no \
+remedy but to write the grammar without it.",
+};
+
+pub const OTHER_KIND: Rule = Rule {
+    number: "V103",
+    grade: Grade::Warning,
+    title: "a value of another kind",
+    text: "The value isn't what its key wants, and it is passed over without a word or refused.
+
+    meta_include_prototype: 'no'     # wants true or false
+    file_extensions: note            # wants a list: [note]",
+};
+
+pub const NO_VARIABLE: Rule = Rule {
+    number: "V104",
+    grade: Grade::Warning,
+    title: "the variable isn't defined",
+    text: "A pattern names a variable that `variables` doesn't have. Nothing is put in its place.
+
+    variables:
+      ident: '[a-z]+'
+    contexts:
+      main:
+        - match: '{{idnet}}'         # ident",
+};
+
+pub const UNUSED_VARIABLE: Rule = Rule {
+    number: "V105",
+    grade: Grade::Note,
+    title: "the variable is used nowhere",
+    text: "No pattern, and no variable that a pattern uses, names this variable. Take it away, or use it.",
+};
+
+pub const VARIABLE_CIRCLE: Rule = Rule {
+    number: "V106",
+    grade: Grade::Warning,
+    title: "the variable leads back to itself",
+    text: "The variable names itself, perhaps by way of others. The circle is cut where it closes, and \
+nothing is put in there.
+
+    variables:
+      a: 'x{{b}}'
+      b: 'y{{a}}'",
+};
+
+pub const NO_FIRST_LINE: Rule = Rule {
+    number: "V107",
+    grade: Grade::Warning,
+    title: "`first_line_match` is no pattern",
+    text: "The text can't be read as a pattern. The grammar is loaded all the same, and no first line \
+leads to it.",
+};
+
+pub const NO_GROUP: Rule = Rule {
+    number: "V108",
+    grade: Grade::Warning,
+    title: "the pattern has no such group",
+    text: "`captures` names the number of a group that the pattern doesn't have, or that stands in a \
+lookahead or a lookbehind, and the scope is never given.
+
+    - match: '(a)(b)'
+      captures:
+        3: keyword.x                 # the groups are 1 and 2",
+};
+
+pub const LEADS_NOWHERE: Rule = Rule {
+    number: "V109",
+    grade: Grade::Warning,
+    title: "the reference leads nowhere",
+    text: "An `include`, a `push`, a `set` or an `embed` names a context or a grammar that isn't there. \
+An `include` of it includes nothing; a match that would open it is a refusal of the line. Of \
+another grammar all that is known are the files that are looked through: name its folder too.",
+};
+
+pub const NOT_REACHED: Rule = Rule {
+    number: "V110",
+    grade: Grade::Note,
+    title: "nothing reaches this context",
+    text: "No way of references leads from `main` or `prototype` to this context, and no other grammar \
+that is looked through names it. Take it away, or name it where it was meant.",
+};
+
+pub const SAME_AGAIN: Rule = Rule {
+    number: "V111",
+    grade: Grade::Warning,
+    title: "the same pattern stands before it",
+    text: "Of the patterns that match at a place the first one wins, and this context has the same one \
+earlier. So this one never matches, and what it says is never done.",
+};
+
+pub const DOES_NOTHING: Rule = Rule {
+    number: "V112",
+    grade: Grade::Warning,
+    title: "the match takes nothing and does nothing",
+    text: "The pattern is an anchor or looks ahead or behind, so that its match has no characters, and \
+there is no `push`, `set`, `pop` or `embed`. Its scope is over nothing, and reading passes over it.
+
+    - match: '(?=\\))'               # pop: true is missing
+      scope: punctuation.end",
+};
+
+pub const GOES_ROUND: Rule = Rule {
+    number: "V113",
+    grade: Grade::Warning,
+    title: "contexts open one another without reading",
+    text: "A match without characters opens a context in which a match without characters opens the \
+next, and so on, back to the first. Reading stops the circle after some turns and goes on one \
+character farther.
+
+    main:
+      - match: ''
+        push: other
+    other:
+      - match: ''
+        push: main",
+};
+
+pub const COSTLY: Rule = Rule {
+    number: "V201",
+    grade: Grade::Note,
+    title: "searches of this pattern aren't linear",
+    text: "Most patterns are searched in time proportional to the line. This one isn't: it refers back \
+to a group (`\\1`), holds a group in a lookbehind, looks ahead with groups in a loop, or is too large \
+with its counted loops written out. There are lines that make it costly; within limits such a line \
+is shown plain. docs/BOUND.md says more.",
+};
+
+pub const ODD_SCOPE: Rule = Rule {
+    number: "V202",
+    grade: Grade::Note,
+    title: "a scope outside the convention",
+    text: "Themes know scopes that begin with one of these words: comment, constant, entity, invalid, \
+keyword, markup, meta, punctuation, source, storage, string, support, text, variable. What has \
+only another scope has no colour.
+
+    scope: keywrod.control           # keyword.control",
+};
+
+pub const LONG_PATTERN: Rule = Rule {
+    number: "V203",
+    grade: Grade::Note,
+    title: "a long pattern",
+    text: "With its variables put in, the pattern has more than 8192 bytes. It is compiled at its first \
+search, which takes time and memory in proportion. A list of words may be shorter where words that \
+begin alike share that.",
+};
+
+pub const MANY_PATTERNS: Rule = Rule {
+    number: "V204",
+    grade: Grade::Note,
+    title: "a context of many patterns",
+    text: "With all that it includes the context has more than 1000 patterns, most of them from \
+includes in includes, or of the same ones by several ways. Each is a row to look at for each place \
+of a line.",
+};
+
+pub const LEAVES_MAIN: Rule = Rule {
+    number: "V205",
+    grade: Grade::Note,
+    title: "`main` is left",
+    text: "A pattern of `main` itself has `pop`. In a file of this grammar nothing is below `main`, and \
+reading begins in it anew. It is right where other grammars open this one and expect it to leave.",
+};
+
+pub const CLEARS: Rule = Rule {
+    number: "V206",
+    grade: Grade::Note,
+    title: "the context clears scopes",
+    text: "`clear_scopes` takes scopes away while the context is open, and they come back when it is \
+left. The proof that each colour is that of the theme's best rule holds for lines in which they \
+come back in the order in which they went; docs/PROVED.md says what is known of the others.",
+};
+
+pub const NO_COLOUR: Rule = Rule {
+    number: "V207",
+    grade: Grade::Note,
+    title: "a scope that no theme at hand knows",
+    text: "Of the themes that are looked through none has a rule for this scope, so that its text has the \
+colour of what it stands in. Scopes that begin with meta, source, text or punctuation are mostly \
+without a rule, and are not told. Name the folder of your themes together with the grammars:
+
+    vulsangi check mine themes",
+};
+
+/// All of them, in the order of their numbers.
+pub const RULES: &[Rule] = &[
+    NOT_LOADED,
+    NO_THEME,
+    NOT_READ,
+    UNKNOWN_KEY,
+    NOT_HERE,
+    OTHER_KIND,
+    NO_VARIABLE,
+    UNUSED_VARIABLE,
+    VARIABLE_CIRCLE,
+    NO_FIRST_LINE,
+    NO_GROUP,
+    LEADS_NOWHERE,
+    NOT_REACHED,
+    SAME_AGAIN,
+    DOES_NOTHING,
+    GOES_ROUND,
+    COSTLY,
+    ODD_SCOPE,
+    LONG_PATTERN,
+    MANY_PATTERNS,
+    LEAVES_MAIN,
+    CLEARS,
+    NO_COLOUR,
+];
+
+/// The rule of a number; `v101` and `101` will do.
+pub fn rule_of(number: &str) -> Option<&'static Rule> {
+    let digits = number.trim_start_matches(['V', 'v']);
+    for rule in RULES {
+        if rule.number.trim_start_matches('V') == digits {
+            return Some(rule);
+        }
+    }
+    None
+}

@@ -1,0 +1,11 @@
+//! Tests of what is told to writers of grammars and themes.
+#![tactic(auto)]
+
+#[cfg(test)]
+mod colours;
+#[cfg(test)]
+mod places;
+#[cfg(test)]
+mod planted;
+#[cfg(test)]
+mod planted_rows;

@@ -1,0 +1,67 @@
+//! What is found in grammars, and where.
+use crate::planted_rows::{ROWS, Told};
+use std::alloc::Global;
+use vulsangi_check::check::{check_grammars, read_grammar};
+use vulsangi_check::vulsangi_grammar::findings::{Finding, Findings};
+use vulsangi_check::vulsangi_grammar::rules::{RULES, rule_of};
+use vulsangi_check::vulsangi_grammar::syntect::assets::AssetsError;
+use vulsangi_check::vulsangi_grammar::syntect::parsing::ScopeRepository;
+
+/// What is found in a grammar.
+fn found_in(alloc: Global, text: &str) -> Result<Findings, AssetsError> {
+    let mut repository = ScopeRepository::new(alloc);
+    let text = String::from_str(alloc, text)?;
+    let (grammar, fault) = read_grammar(alloc, "A.sublime-syntax", text, &mut repository)?;
+    let (mut grammars, mut faults) = (Vec::new(alloc), Vec::new(alloc));
+    grammars.push(grammar)?;
+    faults.push(fault)?;
+    let mut findings = Findings::new(alloc);
+    check_grammars(
+        alloc,
+        grammars.as_slice(),
+        faults.as_slice(),
+        &[],
+        &mut findings,
+    )?;
+    Ok(findings)
+}
+
+/// Whether a finding is the one that is to be found.
+fn is_told(finding: &Finding, told: &Told) -> bool {
+    let (line, column) = match finding.place {
+        Some(place) => (place.line, place.column),
+        None => (0, 0),
+    };
+    (finding.rule.number, line, column) == *told
+}
+
+/// Whether exactly what is to be found is found, in order.
+fn is_as_told(findings: &Findings, told: &[Told]) -> bool {
+    findings.found.len() == told.len()
+        && findings
+            .found
+            .as_slice()
+            .iter()
+            .zip(told.iter())
+            .all(|(f, t)| is_told(f, t))
+}
+
+#[test]
+fn each_fault_is_found_at_its_place(rt: HostRuntime) {
+    for (number, (text, told)) in ROWS.iter().enumerate() {
+        match found_in(rt.alloc(), *text) {
+            Ok(findings) => assert!(rt; is_as_told(&findings, *told), "row {number}"),
+            Err(_) => assert!(rt; false, "row {number}: out of memory"),
+        }
+    }
+}
+
+#[test]
+fn numbers_lead_to_rules(rt: HostRuntime) {
+    for rule in RULES {
+        let found = rule_of(rule.number);
+        assert!(rt; found.is_some_and(|found| found.title == rule.title));
+    }
+    assert!(rt; rule_of("v101").is_some() && rule_of("101").is_some());
+    assert!(rt; rule_of("V999").is_none() && rule_of("").is_none());
+}
