@@ -342,7 +342,7 @@ seen "check of a sound grammar" is "1 grammars loaded; 0 errors, 0 warnings, 0 n
 printf "scope: text.b\ncontexts:\n  main:\n    - match: '(a'\n" > mine/B.sublime-syntax
 call check mine/B.sublime-syntax
 seen "check tells what is wrong with a pattern" out 'error[V001]: the pattern ends where `)` is wanted'
-seen "at its end" out "B.sublime-syntax:4:16"
+seen "at its end" out "B.sublime-syntax:4:17"
 seen "an error is status 1" ended 1
 call check nowhere
 seen "check of nothing" out "error[V003]"

@@ -24,7 +24,11 @@ use syntect_easy::reading::{next_line, text_of};
 pub type PlainLine = (u64, LineLimit);
 
 /// The first plain line, with the one more that comes after so many lines.
-fn first_of(first: Option<PlainLine>, before: u64, limit: Option<LineLimit>) -> Option<PlainLine>
+pub fn first_of(
+    first: Option<PlainLine>,
+    before: u64,
+    limit: Option<LineLimit>,
+) -> Option<PlainLine>
     requires { before < 2 ^ 64 - 1 }
     ensures { result ≡ first_of first before limit }
 {

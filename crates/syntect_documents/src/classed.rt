@@ -11,7 +11,7 @@ ghost use Rattle.syntect_documents.specs.Classed.{IsClassed, IsReadWithin, Shows
 
 use crate::below::assets::assets::{Assets, Shown};
 use crate::below::assets::error::AssetsError;
-use crate::below::assets::lines::PlainLine;
+use crate::below::assets::lines::{PlainLine, first_of};
 use crate::below::base::limits::Limits;
 use crate::below::easy::Error;
 use crate::below::easy::escape::Escape;
@@ -24,7 +24,6 @@ use crate::below::scope::repository::ScopeRepository;
 use crate::below::scope::scope::Scope;
 use crate::below::scope::stack::{ScopeStack, ScopeStackOp};
 use crate::lines::{LineForm, push_line_tag};
-use crate::numbered::first_of;
 use std::alloc::{AllocError, Global};
 use std::io::{Error as IoError, ErrorKind};
 

@@ -7,12 +7,11 @@ ghost use Rattle.syntect_documents.specs.syntect_easy.Built.{IsBuilt, IsSyntaxOf
 ghost use Rattle.syntect_documents.specs.syntect_easy.Leads.{Leads};
 ghost use Rattle.syntect_documents.specs.syntect_easy.Rows.{IsTextOf};
 ghost use Rattle.syntect_documents.specs.syntect_assets.Assets.{RefusesFile, RefusesLine, RefusesText, language_named};
-ghost use Rattle.syntect_documents.specs.syntect_assets.Texts.{first_of};
 ghost use Rattle.syntect_documents.specs.Numbered.{IsNumbered, NumbersFile, NumbersIn, NumbersText, numbered_line};
 
 use crate::below::assets::assets::{Assets, Shown};
 use crate::below::assets::error::AssetsError;
-use crate::below::assets::lines::PlainLine;
+use crate::below::assets::lines::{PlainLine, first_of};
 use crate::below::base::limits::Limits;
 use crate::below::easy::Error;
 use crate::below::easy::easy::{HighlightFile, HighlightLines};
@@ -20,7 +19,6 @@ use crate::below::easy::html::{IncludeBackground, SpanWriter, start_highlighted_
 use crate::below::easy::laws::lines_within_limits;
 use crate::below::easy::reading::{next_line, text_of};
 use crate::below::parsing::syntax_set::{SyntaxReference, SyntaxSet};
-use crate::below::parsing::within::LineLimit;
 use crate::below::theme::style::Style;
 use crate::below::theme::theme::Theme;
 use crate::lines::{LineForm, push_line_tag};
@@ -34,22 +32,6 @@ const LINE_END: &str = "</span>";
 
 /// What ends a text.
 const CLOSING: &str = "</pre>\n";
-
-/// The first plain line, with the one more that comes after so many lines.
-pub(crate) fn first_of(
-    first: Option<PlainLine>,
-    before: u64,
-    limit: Option<LineLimit>,
-) -> Option<PlainLine>
-    requires { before < 2 ^ 64 - 1 }
-    ensures { result ≡ first_of first before limit }
-{
-    match (first, limit) {
-        (Some(line), _) => Some(line),
-        (None, Some(limit)) => Some((before + 1, limit)),
-        (None, None) => None,
-    }
-}
 
 /// Appends a line in styled pieces, as the one of a number.
 fn push_numbered(
