@@ -40,3 +40,4 @@ pub use Rattle.syntect_buffer.specs.Kept
 pub use Rattle.syntect_buffer.specs.States
 pub use Rattle.syntect_buffer.specs.syntect_assets.Assets
 pub use Rattle.syntect_buffer.specs.syntect_assets.Texts
+pub use Rattle.syntect_buffer.specs.syntect_documents as documents

@@ -61,8 +61,6 @@ pub record IsWritten (limits : Limits) (format : Format) (set : SyntaxSet) (them
       ++ (lines_text (ground_of format theme) lines ++ end_of (ground_of format theme))
   pub first_is : first ≡ first_plain 0 lines
 
--- ---- For proofs and private functions alone ----
-
 -- the first plain line of some, with one more that comes after so many lines
 abbrev pub first_of : Option (ℕ × LineLimit) → ℕ → Option LineLimit → Option (ℕ × LineLimit)
 first_of (Some line) before limit = Some line

@@ -68,6 +68,10 @@ pub mod util {
 pub mod own {
     pub use syntect::assets::{Assets, AssetsBuilder, AssetsError, Colors, Format, Shown};
     pub use syntect::buffer::{LineAnswer, LineBuffer};
+    pub use syntect::documents::{
+        Choice, LINE_SHEET, LineForm, classed_in, classed_text, document, numbered_file,
+        numbered_in, numbered_text, sheet_for_light_and_dark,
+    };
     pub use syntect::explain::{why_not_loaded, why_not_read};
     pub use syntect::values::{Seq, Table, Text};
     pub use syntect::{Error, LoadingError};

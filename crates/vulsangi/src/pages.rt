@@ -4,15 +4,13 @@ use crate::show::Job;
 use std::alloc::{AllocError, Global};
 use std::rt::Files;
 use syntect::assets::{Assets, AssetsError, Format, PlainLine, Shown};
+use syntect::documents::{
+    Choice, LINE_SHEET, LineForm, classed_in, document, numbered_in, sheet_for_light_and_dark,
+};
 use syntect::escape::Escape;
 use syntect::highlighting::{Color, Theme};
 use syntect::html::{ClassStyle, css_for_theme_with_class_style};
 use syntect::parsing::SyntaxReference;
-use syntect_documents::classed::classed_in;
-use syntect_documents::document::document;
-use syntect_documents::lines::LineForm;
-use syntect_documents::numbered::numbered_in;
-use syntect_documents::sheet::{Choice, LINE_SHEET, sheet_for_light_and_dark};
 use vulsangi_words::form::Form;
 use vulsangi_words::words::Asked;
 

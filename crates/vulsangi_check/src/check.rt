@@ -171,16 +171,12 @@ impl Gathered {
         Ok(())
     }
 
-    /// Adds a file, if it is a grammar's or a theme's.
-    fn add_file(&mut self, rt: &(impl AllocGlobal + Files), path: &str) -> Result<(), AssetsError> {
-        if path.ends_with(".sublime-syntax") {
-            return self.add_grammar(rt, path);
-        }
-        let is_theme = path.ends_with(".tmTheme")
-            || (path.ends_with(".json") && path.contains("themes/"));
-        if !is_theme {
-            return Ok(());
-        }
+    /// Adds a theme's file.
+    fn add_theme(
+        &mut self,
+        rt: &(impl AllocGlobal + Files),
+        path: &str,
+    ) -> Result<(), AssetsError> {
         let (alloc, place) = (rt.alloc(), Path::new(path));
         match ThemeSet::get_theme(rt, alloc, place, &mut self.repository) {
             Ok(theme) => {
@@ -192,11 +188,29 @@ impl Gathered {
         }
     }
 
+    /// Adds a file, if it is a grammar's or a theme's. One that is named itself is a theme's also where
+    /// it ends with `.json` and stands in another folder.
+    fn add_file(
+        &mut self,
+        rt: &(impl AllocGlobal + Files),
+        path: &str,
+        is_named: bool,
+    ) -> Result<(), AssetsError> {
+        if path.ends_with(".sublime-syntax") {
+            return self.add_grammar(rt, path);
+        }
+        let is_json = path.ends_with(".json") && (is_named || path.contains("themes/"));
+        if is_json || path.ends_with(".tmTheme") {
+            return self.add_theme(rt, path);
+        }
+        Ok(())
+    }
+
     /// Adds the files of a folder, or a file.
     fn add_path(&mut self, rt: &(impl AllocGlobal + Files), path: &str) -> Result<(), AssetsError> {
         match fs::metadata(rt, path) {
             Ok(about) if about.is_dir() => {}
-            Ok(_) => return self.add_file(rt, path),
+            Ok(_) => return self.add_file(rt, path, true),
             Err(e) => {
                 let message = format!(in rt.alloc(); "{e}")?;
                 return Ok(self.findings.add_file(NOT_READ, path, message)?);
@@ -207,7 +221,7 @@ impl Gathered {
             Err(e) => return self.add_loading(rt, path, &e),
         };
         for file in files.as_slice() {
-            self.add_file(rt, file.as_str())?;
+            self.add_file(rt, file.as_str(), false)?;
         }
         Ok(())
     }

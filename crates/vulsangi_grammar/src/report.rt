@@ -157,14 +157,17 @@ fn push_result(alloc: Global, out: &mut String, finding: &Finding) -> Result<(),
     out.push_str("}}]}")
 }
 
+/// What stands before a member of a list, by its number.
+fn between(number: usize) -> &'static str {
+    if number == 0 { "\n" } else { ",\n" }
+}
+
 /// The whole as JSON: a list of findings.
 fn json_of(alloc: Global, findings: &Findings) -> Result<String, AllocError> {
     let mut out = String::from_str(alloc, "[")?;
-    let mut between = "\n";
-    for finding in findings.found.as_slice() {
-        out.push_str(between)?;
+    for (number, finding) in findings.found.as_slice().iter().enumerate() {
+        out.push_str(between(number))?;
         push_object(alloc, &mut out, finding)?;
-        between = ",\n";
     }
     out.push_str("\n]\n")?;
     Ok(out)
@@ -172,22 +175,18 @@ fn json_of(alloc: Global, findings: &Findings) -> Result<String, AllocError> {
 
 /// The rules as SARIF has them.
 fn push_rules(alloc: Global, out: &mut String) -> Result<(), AllocError> {
-    let mut between = "\n";
-    for rule in RULES {
-        out.push_str(between)?;
+    for (number, rule) in RULES.iter().enumerate() {
+        out.push_str(between(number))?;
         push_rule(alloc, out, rule)?;
-        between = ",\n";
     }
     Ok(())
 }
 
 /// The findings as SARIF has them.
 fn push_results(alloc: Global, out: &mut String, findings: &Findings) -> Result<(), AllocError> {
-    let mut between = "\n";
-    for finding in findings.found.as_slice() {
-        out.push_str(between)?;
+    for (number, finding) in findings.found.as_slice().iter().enumerate() {
+        out.push_str(between(number))?;
         push_result(alloc, out, finding)?;
-        between = ",\n";
     }
     Ok(())
 }
