@@ -78,14 +78,27 @@ fn check_captures(
     Ok(())
 }
 
-/// Whether the same pattern stands before an item, and wins at each place.
+/// Whether a pattern is a text that stands for itself.
+fn is_plain(text: &str) -> bool {
+    !text.is_empty()
+        && text
+            .chars()
+            .all(|c| c.is_alphanumeric() || c == '_' || c == ' ')
+}
+
+/// Whether one pattern matches wherever another one does: it is the same, or the front of it.
+fn wins_over(front: &str, text: &str) -> bool {
+    front == text || (is_plain(front) && is_plain(text) && text.starts_with(front))
+}
+
+/// Whether a pattern stands before an item that wins wherever the item's one matches.
 fn stands_before(item: &Item<'_>, text: &str) -> bool {
     for other in item.before {
-        let same = match other.get("match") {
-            Some(value) => value.as_str() == Some(text),
+        let wins = match other.get("match") {
+            Some(value) => value.as_str().is_some_and(|front| wins_over(front, text)),
             None => false,
         };
-        if same && (does_something(other) || !takes_nothing(text)) {
+        if wins && (does_something(other) || !takes_nothing(text)) {
             return true;
         }
     }
@@ -109,7 +122,7 @@ fn check_pattern(
         tell(alloc, DOES_NOTHING, lines, item, "match", message, findings)?;
     }
     if stands_before(item, text) {
-        let message = "the same pattern stands before this one, which never matches";
+        let message = "a pattern before this one wins wherever this one matches";
         tell(alloc, SAME_AGAIN, lines, item, "match", message, findings)?;
     }
     check_captures(alloc, lines, item, pattern, findings)?;

@@ -169,9 +169,12 @@ that is looked through names it. Take it away, or name it where it was meant.",
 pub const SAME_AGAIN: Rule = Rule {
     number: "V111",
     grade: Grade::Warning,
-    title: "the same pattern stands before it",
+    title: "a pattern before it always wins",
     text: "Of the patterns that match at a place the first one wins, and this context has the same one \
-earlier. So this one never matches, and what it says is never done.",
+earlier, or one that is its front. So this one never matches, and what it says is never done.
+
+    - match: 'let'
+    - match: 'lets'                  # put it before `let`, or write '\\blet\\b'",
 };
 
 pub const DOES_NOTHING: Rule = Rule {

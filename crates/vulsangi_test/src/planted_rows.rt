@@ -217,8 +217,10 @@ contexts:
     - match: b
     - match: '\\ba\\b'
       scope: keyword.b
+    - match: bc
+    - match: ab
 ",
-        &[("V111", 8, 7)],
+        &[("V111", 8, 7), ("V111", 10, 7)],
     ),
     // nothing is taken, and nothing done; where something is done all is well
     (
