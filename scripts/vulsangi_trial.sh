@@ -100,8 +100,8 @@ call_with "fn a() {}" -f classes --fragment --file-name x.rs
 seen "--file-name tells the language" out "v-source v-rust"
 call -f classes --fragment tool
 seen "the first line tells the language" out "shell"
-call latin.rs
-seen "what is no UTF-8 is U+FFFD" out "$(printf 'fn \357\277\275 x')"
+call --color always latin.rs
+seen "what is no UTF-8 is U+FFFD" out "$(printf '\357\277\275')"
 call --strict latin.rs a.rs
 seen "--strict refuses it with its place" err "vulsangi: latin.rs:1:4: "
 seen "the next file is shown" out "println"
@@ -338,7 +338,7 @@ if command -v python3 > /dev/null; then
 fi
 sed 's/captres/captures/' mine/Note.sublime-syntax > note.tmp && mv note.tmp mine/Note.sublime-syntax
 call check mine
-seen "check of a sound grammar" is "1 grammars loaded; 0 errors, 0 warnings, 0 notes"
+seen "check of a sound grammar" is "loaded: grammars 1, themes 0; found: errors 0, warnings 0, notes 0"
 printf "scope: text.b\ncontexts:\n  main:\n    - match: '(a'\n" > mine/B.sublime-syntax
 call check mine/B.sublime-syntax
 seen "check tells what is wrong with a pattern" out 'error[V001]: the pattern ends where `)` is wanted'
@@ -363,11 +363,51 @@ sed 's/keyword.other/string/' test.note > wrong.note
 call test --grammars mine wrong.note
 seen "a test that doesn't" out "wrong.note:2:3: string is wanted, and there is text.note keyword.other.note"
 seen "is status 1" ended 1
+mkdir -p tests && cp test.note tests/syntax_test_note.note
+call test --grammars mine tests
+seen "the tests of a folder" out "tests/syntax_test_note.note: 5 columns, 0 of them wrong"
+printf '# SYNTAX TEST "Note.sublime-syntax"\na\n' > empty.note
+call test --grammars mine empty.note
+seen "a test that says nothing" ended 1
 call scopes --grammars mine test.note
-seen "scopes of a file" out "2:2-6 text.note keyword.other.note"
+seen "scopes of a file" out "2:3-6 text.note keyword.other.note"
 call scopes --grammars mine --theme dusk test.note:2:3
 seen "scopes of a place" out "scope   keyword.other.note"
 seen "and its rule" out "by      keyword"
+call scopes --grammars mine test.note:9:1
+seen "scopes of no place" err "vulsangi: test.note:9:1: nothing stands there"
+printf '{"settings": [{"scope": "a", "settings": {"foreground": "blue"}}]}' > mine/t.tmTheme
+call check mine/t.tmTheme
+seen "check of a theme" out 'warning[V302]: `blue` is no colour'
+mkdir -p void
+call check void
+seen "check of nothing at all" out "error[V004]"
+printf 'scope: text.c\nfile_extensions: [cc1]\ncontexts:\n  main:\n    - match: x\n      push: nowhere\n' > mine/C.sublime-syntax
+printf 'a\nx\n' > a.cc1
+call --grammars mine --color always a.cc1
+seen "a line that is refused" err "vulsangi: a.cc1: shown plain"
+seen "is shown plain" out "x"
+seen "with status 1" ended 1
+rm mine/C.sublime-syntax mine/t.tmTheme
+
+# what is not for showing, and what is not for writing
+printf 'a\0b\n' > bin.rs
+call --color always bin.rs
+seen "a binary file" err "vulsangi: bin.rs: a binary file"
+call bin.rs
+seen "passes in a pipe" same bin.rs
+call latin.rs
+seen "and so do other bytes" same latin.rs
+cp a.rs kept.rs
+call -f html kept.rs -o kept.rs
+seen "-o of an input" err "kept.rs: the output would be written over it"
+seen "changes nothing" cmp -s a.rs kept.rs
+call_with "$(printf '\033[1mdiff --git a/x b/x\033[m\n\033[31m-a\033[m')" --color always
+seen "a diff with colours of its own" no_out "␛"
+call convert mono.tmTheme -o deep/er/mono.json
+seen "convert makes the folder" [ -s deep/er/mono.json ]
+call -f classes --light dawn --dark dusk a.rs
+seen "a page for light and dark screens has its ground" out "color-scheme: light dark"
 
 # words
 call --help

@@ -90,7 +90,10 @@ fn strict_text(rt: &impl AllocGlobal, name: &str, bytes: &[u8]) -> Result<String
 }
 
 /// The bytes of a file, of which `-` is standard input.
-fn bytes_of(rt: &(impl AllocGlobal + Input + Files), file: &str) -> Result<Vec<u8>, AssetsError> {
+pub fn bytes_of(
+    rt: &(impl AllocGlobal + Input + Files),
+    file: &str,
+) -> Result<Vec<u8>, AssetsError> {
     if file != "-" {
         return Ok(fs::read(rt, file)?);
     }

@@ -21,6 +21,7 @@ const CLASSES: ClassStyle = ClassStyle::SpacedPrefixed { prefix: "v-" };
 const PAGE_SHEET: &str = "body { margin: 1em; }
 pre { margin: 0; padding: 1em; overflow-x: auto; tab-size: 4; }
 h2 { font: bold 1em sans-serif; margin: 1.5em 0 .5em; }
+.line { display: block; }
 ";
 
 /// What begins a line that stands in a span of its own.
@@ -141,6 +142,28 @@ fn push_ground(out: &mut String, theme: &Theme) -> Result<(), AllocError> {
     write!(out, "body {{ background-color: rgb({r}, {g}, {b}); ")?;
     let (r, g, b) = (front.r, front.g, front.b);
     writeln!(out, "color: rgb({r}, {g}, {b}); }}")
+}
+
+/// The rules that put the themes' grounds behind a whole page with classes.
+pub fn grounds_of(
+    rt: &(impl AllocGlobal + Files),
+    assets: &mut Assets,
+    asked: &Asked<'_, '_>,
+    theme: &Theme,
+) -> Result<String, AssetsError> {
+    let mut out = String::new(rt.alloc());
+    if asked.light.is_none() && asked.dark.is_none() {
+        push_ground(&mut out, theme)?;
+        return Ok(out);
+    }
+    let light = theme_of(rt, assets, asked.light.unwrap_or("dawn"))?;
+    let dark = theme_of(rt, assets, asked.dark.unwrap_or("dusk"))?;
+    out.push_str(":root { color-scheme: light dark; }\n")?;
+    push_ground(&mut out, &light)?;
+    out.push_str("@media (prefers-color-scheme: dark) {\n ")?;
+    push_ground(&mut out, &dark)?;
+    out.push_str("}\n")?;
+    Ok(out)
 }
 
 /// A document of these pages, with the sheet of their classes where they have classes.

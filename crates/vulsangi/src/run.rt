@@ -5,6 +5,7 @@ use crate::show::{Job, show_each};
 use crate::sink::Sink;
 use crate::{list, pages, tex};
 use std::fs;
+use std::path::Path;
 use std::rt::{Env, Files};
 use syntect::assets::{Assets, AssetsBuilder, AssetsError};
 use syntect::highlighting::Theme;
@@ -25,6 +26,29 @@ pub fn write_out(
         Ok(()) => Ok(()),
         Err(e) => Err(AssetsError::NotRead(format!(in rt.alloc(); "{file}: {e}")?)),
     }
+}
+
+/// Refuses to write into a file that is read.
+fn keep_inputs(
+    rt: &(impl AllocGlobal + Files),
+    asked: &Asked<'_, '_>,
+    files: &[&str],
+) -> Result<(), AssetsError> {
+    let Some(output) = asked.output else {
+        return Ok(());
+    };
+    let Ok(place) = fs::canonicalize(rt, output) else {
+        return Ok(());
+    };
+    for file in files {
+        if let Ok(other) = fs::canonicalize(rt, *file) {
+            if other.as_str() == place.as_str() {
+                let told = format!(in rt.alloc(); "{file}: the output would be written over it")?;
+                return Err(AssetsError::NotRead(told));
+            }
+        }
+    }
+    Ok(())
 }
 
 /// The grammars and themes, where they are needed: a text that is written as it is needs none.
@@ -120,12 +144,15 @@ fn show_files<'a>(
         assets.language(rt.alloc(), name)?;
     }
     let classes = if form == Form::Classes {
-        Some(pages::sheet_of(rt, assets, asked, &theme)?)
+        let mut sheet = pages::grounds_of(rt, assets, asked, &theme)?;
+        sheet.push_str(pages::sheet_of(rt, assets, asked, &theme)?.as_str())?;
+        Some(sheet)
     } else {
         None
     };
     let none: &[&'a str] = &["-"];
     let files = asked.files.unwrap_or(none);
+    keep_inputs(rt, asked, files)?;
     let job = Job {
         asked,
         assets,
@@ -149,6 +176,9 @@ pub fn write_converted(
     output: Option<&str>,
 ) -> Result<bool, AssetsError> {
     let text = converted(rt, theme)?;
+    if let Some(folder) = output.and_then(|file| Path::new(file).parent()) {
+        fs::create_dir_all(rt, folder)?;
+    }
     write_out(rt, output, text.as_str())?;
     Ok(true)
 }

@@ -64,6 +64,26 @@ pub fn tamed(alloc: Global, text: String) -> Result<String, AllocError> {
     Ok(out)
 }
 
+/// What the numbers of a sequence for colours are made of.
+const NUMBERS: [char; 11] = ['0', '1', '2', '3', '4', '5', '6', '7', '8', '9', ';'];
+
+/// A text without the sequences by which a terminal's colours are set.
+pub fn without_colours(alloc: Global, text: &str) -> Result<String, AllocError> {
+    let mut parts = text.split("\x1b[");
+    let mut out = String::from_str(alloc, parts.next().unwrap_or(""))?;
+    for part in parts {
+        let rest = part.trim_start_matches(NUMBERS);
+        match rest.strip_prefix(['m', 'K']) {
+            Some(rest) => out.push_str(rest)?,
+            None => {
+                out.push_str("\x1b[")?;
+                out.push_str(part)?;
+            }
+        }
+    }
+    Ok(out)
+}
+
 /// The text up to the last line that is asked for.
 pub fn front_of(alloc: Global, asked: &Asked<'_, '_>, text: String) -> Result<String, AllocError> {
     if asked.lines.is_empty() {

@@ -1,6 +1,6 @@
 //! Files as they are asked for.
-use crate::choose::{language_of, name_of, text_of};
-use crate::screen::{Lineation, front_of, heading, tamed};
+use crate::choose::{bytes_of, language_of, name_of, text_of};
+use crate::screen::{Lineation, front_of, heading, tamed, without_colours};
 use crate::sink::Sink;
 use crate::{pages, tex};
 use std::alloc::Global;
@@ -10,6 +10,7 @@ use std::rt::Files;
 use syntect::Error;
 use syntect::assets::{Assets, AssetsError, Format, PlainLine};
 use syntect::highlighting::Theme;
+use syntect::parsing::SyntaxReference;
 use vulsangi_words::form::Form;
 use vulsangi_words::words::Asked;
 
@@ -33,22 +34,24 @@ pub struct Job<'j, 'm, 'a> {
 /// What is shown of a text, and the first line of it that is shown plain since it costs too much.
 type Part = (String, Option<PlainLine>);
 
+/// A text, or why there is none.
+type Made = Result<String, AssetsError>;
+
 /// A text for a terminal.
 fn screen_part(
     rt: &impl AllocGlobal,
     job: &Job<'_, '_, '_>,
-    file: &str,
+    syntax: Option<&SyntaxReference>,
     text: String,
 ) -> Result<Part, AssetsError> {
     let alloc = rt.alloc();
-    let text = front_of(alloc, job.asked, text)?;
     let text = if job.to_terminal || job.form != Form::Plain {
         tamed(alloc, text)?
     } else {
         text
     };
     let lines = Lineation::new(alloc, job.asked, job.form, job.theme, text.as_str())?;
-    let (shown, plain) = colored(rt, job, file, text)?;
+    let (shown, plain) = colored(rt, job, syntax, text)?;
     if !job.asked.chooses_lines() {
         return Ok((shown, plain));
     }
@@ -61,13 +64,12 @@ fn screen_part(
 fn colored(
     rt: &impl AllocGlobal,
     job: &Job<'_, '_, '_>,
-    file: &str,
+    syntax: Option<&SyntaxReference>,
     text: String,
 ) -> Result<Part, AssetsError> {
-    let Form::Screen(colors) = job.form else {
+    let (Form::Screen(colors), Some(syntax)) = (job.form, syntax) else {
         return Ok((text, None));
     };
-    let syntax = language_of(rt, job.assets, job.asked, file, text.as_str())?;
     let format = Format::Screen(colors);
     let shown = job
         .assets
@@ -79,17 +81,15 @@ fn colored(
 fn document_part(
     rt: &impl AllocGlobal,
     job: &Job<'_, '_, '_>,
-    file: &str,
-    text: String,
+    syntax: &SyntaxReference,
+    text: &str,
 ) -> Result<Part, AssetsError> {
     let alloc = rt.alloc();
-    let text = front_of(alloc, job.asked, text)?;
-    let syntax = language_of(rt, job.assets, job.asked, file, text.as_str())?;
     let mut out = String::new(alloc);
     let plain = if job.form == Form::Latex {
-        tex::push_text(alloc, &mut out, job, syntax, text.as_str())?
+        tex::push_text(alloc, &mut out, job, syntax, text)?
     } else {
-        pages::push_text(alloc, &mut out, job, syntax, text.as_str())?
+        pages::push_text(alloc, &mut out, job, syntax, text)?
     };
     Ok((out, plain))
 }
@@ -116,27 +116,83 @@ fn heading_of(
     Ok(out)
 }
 
-/// Shows a file.
+/// The parts of a text in a language, for a terminal or for a document.
+fn part_of(
+    rt: &impl AllocGlobal,
+    job: &Job<'_, '_, '_>,
+    syntax: Option<&SyntaxReference>,
+    text: &str,
+) -> Result<Part, AssetsError> {
+    match syntax {
+        Some(syntax) if job.form.has_document() => document_part(rt, job, syntax, text),
+        syntax => screen_part(rt, job, syntax, String::from_str(rt.alloc(), text)?),
+    }
+}
+
+/// What is shown of a text, and whether it is shown in its language. One of which a line is refused,
+/// since its grammar leads nowhere there, is told, and shown as plain text.
+fn part_or_plain(
+    rt: &(impl AllocGlobal + Eprint),
+    job: &Job<'_, '_, '_>,
+    name: &str,
+    syntax: Option<&SyntaxReference>,
+    text: &str,
+) -> Result<(Part, bool), AssetsError> {
+    let e = match part_of(rt, job, syntax, text) {
+        Ok(part) => return Ok((part, true)),
+        Err(e) => e,
+    };
+    if !matches!(e, AssetsError::NotShown(_)) || is_closed(&e) {
+        return Err(e);
+    }
+    let plain = job.assets.set.find_syntax_plain_text();
+    let part = part_of(rt, job, plain, text)?;
+    tell(rt, name, &e)?;
+    eprintln!(rt; "vulsangi: {name}: shown plain; vulsangi check tells what its grammar lacks")?;
+    Ok((part, false))
+}
+
+/// A text as it is to be shown: what comes in by a pipe as a diff has no colours of its own.
+fn given(rt: &impl AllocGlobal, job: &Job<'_, '_, '_>, file: &str, text: String) -> Made {
+    let alloc = rt.alloc();
+    if file != "-" || job.form == Form::Plain || !text.as_str().contains('\x1b') {
+        return Ok(text);
+    }
+    let bare = without_colours(alloc, text.as_str())?;
+    let syntax = language_of(rt, job.assets, job.asked, file, bare.as_str())?;
+    match syntax.name.as_str() {
+        "Diff" | "Git Commit" => Ok(bare),
+        _ => Ok(text),
+    }
+}
+
+/// Shows a file, and answers whether it is shown in its language.
 fn show<'a>(
     rt: &(impl AllocGlobal + Print + Eprint + Input + Files),
     sink: &mut Sink,
     job: &Job<'_, '_, 'a>,
     file: &'a str,
-) -> Result<(), AssetsError> {
-    let text = text_of(rt, job.asked, file)?;
-    let (part, plain) = if job.form.has_document() {
-        document_part(rt, job, file, text)?
-    } else {
-        screen_part(rt, job, file, text)?
-    };
+) -> Result<bool, AssetsError> {
     let name = name_of(job.asked, file);
+    let text = text_of(rt, job.asked, file)?;
+    if text.as_str().contains('\0') && (job.to_terminal || job.form != Form::Plain) {
+        let told = format!(in rt.alloc(); "{name}: a binary file, which isn't shown")?;
+        return Err(AssetsError::NotRead(told));
+    }
+    let text = given(rt, job, file, text)?;
+    let text = front_of(rt.alloc(), job.asked, text)?;
+    let syntax = match job.form {
+        Form::Plain => None,
+        _ => Some(language_of(rt, job.assets, job.asked, file, text.as_str())?),
+    };
+    let ((part, plain), is_whole) = part_or_plain(rt, job, name, syntax, text.as_str())?;
     let heading = heading_of(rt.alloc(), job, sink.is_new(), name)?;
     sink.put(rt, heading.as_str())?;
     sink.put(rt, part.as_str())?;
     if let Some((line, limit)) = plain {
         eprintln!(rt; "vulsangi: {name}:{line}: shown plain: {limit}")?;
     }
-    Ok(())
+    Ok(is_whole)
 }
 
 /// Whether nobody reads any more what is written.
@@ -153,6 +209,22 @@ fn tell(rt: &impl Eprint, name: &str, e: &AssetsError) -> io::Result<()> {
     }
 }
 
+/// Shows a file. Into a pipe its bytes pass as they are, where nothing is asked for but the text.
+fn show_or_pass<'a>(
+    rt: &(impl AllocGlobal + Print + Eprint + Input + Files),
+    sink: &mut Sink,
+    job: &Job<'_, '_, 'a>,
+    file: &'a str,
+) -> Result<bool, AssetsError> {
+    let passes = job.form == Form::Plain && !job.to_terminal && !job.asked.strict;
+    if !passes || job.asked.chooses_lines() || sink.keeps() {
+        return show(rt, sink, job, file);
+    }
+    let bytes = bytes_of(rt, file)?;
+    sink.pass(rt, bytes.as_slice())?;
+    Ok(true)
+}
+
 /// Shows a file, or tells why not, and answers whether it was shown.
 fn show_or_tell<'a>(
     rt: &(impl AllocGlobal + Print + Eprint + Input + Files),
@@ -160,8 +232,8 @@ fn show_or_tell<'a>(
     job: &Job<'_, '_, 'a>,
     file: &'a str,
 ) -> Result<bool, AssetsError> {
-    let e = match show(rt, sink, job, file) {
-        Ok(()) => return Ok(true),
+    let e = match show_or_pass(rt, sink, job, file) {
+        Ok(is_whole) => return Ok(is_whole),
         Err(e) => e,
     };
     if is_closed(&e) {

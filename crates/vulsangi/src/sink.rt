@@ -25,6 +25,17 @@ impl Sink {
         self.is_new
     }
 
+    /// Whether what is put here is kept.
+    pub fn keeps(&self) -> bool {
+        self.kept.is_some()
+    }
+
+    /// Writes bytes to standard output as they are.
+    pub fn pass(&mut self, rt: &impl Print, bytes: &[u8]) -> io::Result<()> {
+        self.is_new &= bytes.is_empty();
+        rt.write_all(bytes)
+    }
+
     /// Puts a text after what was put before.
     pub fn put(&mut self, rt: &impl Print, text: &str) -> io::Result<()> {
         if text.is_empty() {

@@ -1,5 +1,5 @@
 //! What is wrong with grammars and themes, and where.
-use crate::{faults, keys, names, patterns, references, variables};
+use crate::{faults, keys, patterns, references, variables};
 use std::alloc::Global;
 use std::fs;
 use std::path::Path;
@@ -7,14 +7,15 @@ use std::rt::Files;
 use syntect_base::utils::files_below;
 use vulsangi_grammar::findings::{Findings, Lines};
 use vulsangi_grammar::grammar::{Grammar, items_of, yaml_of};
-use vulsangi_grammar::rules::{NO_THEME, NOT_READ};
+use vulsangi_grammar::names;
+use vulsangi_grammar::rules::{Grade, NO_THEME, NOT_READ, NOTHING_THERE};
 use vulsangi_grammar::syntect::LoadingError;
 use vulsangi_grammar::syntect::assets::AssetsError;
-use vulsangi_grammar::syntect::explain::why_not_loaded;
 use vulsangi_grammar::syntect::highlighting::ThemeSet;
 use vulsangi_grammar::syntect::parsing::{
     Limits, LoadWithinError, ParseSyntaxError, ScopeRepository, load_from_str_within,
 };
+use vulsangi_grammar::themes::check_theme;
 
 /// A grammar as it is read, and why it isn't loaded, if it isn't.
 type Read = (Grammar, Option<LoadWithinError>);
@@ -135,23 +136,6 @@ struct Gathered {
 }
 
 impl Gathered {
-    /// Adds that a file isn't read, or a theme not loaded.
-    fn add_loading(
-        &mut self,
-        rt: &(impl AllocGlobal + Files),
-        path: &str,
-        e: &LoadingError,
-    ) -> Result<(), AssetsError> {
-        let why = why_not_loaded(rt, rt.alloc(), Path::new(path), e)?;
-        let text = why.as_str();
-        let text = match text.strip_prefix(path) {
-            Some(rest) => rest.trim_start_matches([':', ' ']),
-            None => text,
-        };
-        let message = String::from_str(rt.alloc(), text)?;
-        Ok(self.findings.add_file(NO_THEME, path, message)?)
-    }
-
     /// Adds a grammar's file.
     fn add_grammar(
         &mut self,
@@ -177,14 +161,31 @@ impl Gathered {
         rt: &(impl AllocGlobal + Files),
         path: &str,
     ) -> Result<(), AssetsError> {
-        let (alloc, place) = (rt.alloc(), Path::new(path));
-        match ThemeSet::get_theme(rt, alloc, place, &mut self.repository) {
+        let alloc = rt.alloc();
+        let text = match fs::read_to_string(rt, path) {
+            Ok(text) => text,
+            Err(e) => {
+                let message = format!(in alloc; "{e}")?;
+                return Ok(self.findings.add_file(NOT_READ, path, message)?);
+            }
+        };
+        let before = self.findings.count(Grade::Fault);
+        check_theme(alloc, path, text.as_str(), &mut self.findings)?;
+        if self.findings.count(Grade::Fault) > before {
+            return Ok(());
+        }
+        let mut bytes = text.as_bytes();
+        match ThemeSet::load_from_reader(alloc, &mut bytes, &mut self.repository) {
             Ok(theme) => {
+                self.findings.themes = self.findings.themes.saturating_add(1);
                 names::add_known(&theme, &self.repository, &mut self.known)?;
                 Ok(())
             }
             Err(LoadingError::Memory) => Err(AssetsError::Memory),
-            Err(e) => self.add_loading(rt, path, &e),
+            Err(e) => {
+                let message = format!(in alloc; "{e:?}")?;
+                Ok(self.findings.add_file(NO_THEME, path, message)?)
+            }
         }
     }
 
@@ -218,7 +219,11 @@ impl Gathered {
         }
         let files = match files_below(rt, rt.alloc(), Path::new(path)) {
             Ok(files) => files,
-            Err(e) => return self.add_loading(rt, path, &e),
+            Err(LoadingError::Memory) => return Err(AssetsError::Memory),
+            Err(e) => {
+                let message = format!(in rt.alloc(); "{e}")?;
+                return Ok(self.findings.add_file(NOT_READ, path, message)?);
+            }
         };
         for file in files.as_slice() {
             self.add_file(rt, file.as_str(), false)?;
@@ -253,5 +258,13 @@ pub fn findings_of(
         known.as_slice(),
         &mut findings,
     )?;
+    if findings.grammars == 0 && findings.themes == 0 && findings.found.is_empty() {
+        let message = format!(in alloc; "here are no grammars and no themes")?;
+        findings.add_file(
+            NOTHING_THERE,
+            paths.first().copied().unwrap_or("."),
+            message,
+        )?;
+    }
     Ok(findings)
 }

@@ -2,6 +2,7 @@
 //!
 //! A refusal doesn't say where it comes from. So the parts of the grammar are loaded by themselves,
 //! each in a small grammar, and the first one that is refused is told.
+use crate::variables::{add_uses, variable};
 use std::alloc::{AllocError, Global};
 use vulsangi_grammar::findings::{Findings, Lines};
 use vulsangi_grammar::grammar::{Grammar, Item, steps_and};
@@ -134,6 +135,50 @@ fn add_pattern(
     Ok(())
 }
 
+/// The first variable of those that a text names which is no pattern by itself.
+fn faulty_variable<'y>(
+    alloc: Global,
+    grammar: &'y Grammar,
+    text: &'y str,
+) -> Result<Option<(&'y str, &'y str)>, AllocError> {
+    let mut names = Vec::new(alloc);
+    add_uses(text, &mut names)?;
+    for name in names.as_slice() {
+        let inner = variable(grammar, *name).unwrap_or("");
+        if !inner.contains("{{") && Regex::try_compile(alloc, inner).is_some() {
+            return Ok(Some((*name, inner)));
+        }
+    }
+    Ok(None)
+}
+
+/// Adds that a pattern is refused: at the variable that makes it so, where there is one.
+fn add_refused(
+    alloc: Global,
+    grammar: &Grammar,
+    lines: &Lines<'_>,
+    steps: &[Step<'_>],
+    text: &str,
+    findings: &mut Findings,
+) -> Result<(), AssetsError> {
+    let Some((name, inner)) = faulty_variable(alloc, grammar, text)? else {
+        return add_pattern(alloc, lines, steps, text, findings);
+    };
+    let steps = [Step::Key("variables"), Step::Key(name)];
+    let mut own = Findings::new(alloc);
+    add_pattern(alloc, lines, &steps, inner, &mut own)?;
+    for finding in own.found {
+        let is_told = match finding.place {
+            Some(place) => findings.tells(place),
+            None => false,
+        };
+        if !is_told {
+            findings.found.push(finding)?;
+        }
+    }
+    Ok(())
+}
+
 /// Adds the patterns of an item that are refused, and answers whether there are any.
 fn check_item(
     alloc: Global,
@@ -151,7 +196,7 @@ fn check_item(
         };
         if !text.is_empty() && is_refused(alloc, grammar, text)? {
             let steps = steps_and(alloc, item.steps.as_slice(), Step::Key(*key))?;
-            add_pattern(alloc, lines, steps.as_slice(), text, findings)?;
+            add_refused(alloc, grammar, lines, steps.as_slice(), text, findings)?;
             any = true;
         }
     }
@@ -213,6 +258,34 @@ fn add_limit(
     Ok(())
 }
 
+/// Adds that a text is no YAML at a place, where it may have a tab that can't be seen.
+fn add_yaml(
+    alloc: Global,
+    lines: &Lines<'_>,
+    place: Place,
+    message: String,
+    findings: &mut Findings,
+) -> Result<(), AssetsError> {
+    let line = match lines.lines.get(place.line.saturating_sub(1)) {
+        Some(line) => *line,
+        None => "",
+    };
+    let spaces = line
+        .len()
+        .saturating_sub(line.trim_start_matches(' ').len());
+    if !line.trim_start_matches(' ').starts_with('\t') {
+        findings.add_at(NOT_LOADED, lines, place, message)?;
+        return Ok(());
+    }
+    let place = Place {
+        line: place.line,
+        column: spaces.saturating_add(1),
+    };
+    let message = format!(in alloc; "a tab stands in the indentation, where YAML wants spaces")?;
+    findings.add_at(NOT_LOADED, lines, place, message)?;
+    Ok(())
+}
+
 /// Adds why a grammar isn't loaded, at the places that are at fault where they are known.
 pub fn check(
     alloc: Global,
@@ -234,8 +307,7 @@ pub fn check(
     }
     if let Some(place) = refused_at(alloc, grammar.text.as_str())? {
         let (line, column) = (place.line, place.column);
-        findings.add_at(NOT_LOADED, lines, Place { line, column }, message)?;
-        return Ok(());
+        return add_yaml(alloc, lines, Place { line, column }, message, findings);
     }
     if !check_items(alloc, grammar, lines, items, findings)? {
         findings.add_file(NOT_LOADED, lines.path, message)?;

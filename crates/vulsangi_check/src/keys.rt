@@ -2,6 +2,7 @@
 use std::alloc::{AllocError, Global};
 use vulsangi_grammar::findings::{Findings, Lines};
 use vulsangi_grammar::grammar::{Grammar, Item};
+use vulsangi_grammar::nearest::is_near;
 use vulsangi_grammar::place::Step;
 use vulsangi_grammar::rules::{NOT_HERE, OTHER_KIND, UNKNOWN_KEY};
 use vulsangi_grammar::syntect_yaml::value::{Scalar, Yaml};
@@ -17,6 +18,10 @@ enum Kind {
     Names,
     /// A number, or true.
     Amount,
+    /// True, or 1: what stands at `pop` is not looked at.
+    Leave,
+    /// A map from numbers to texts.
+    Groups,
     Any,
 }
 
@@ -30,7 +35,6 @@ const TOP: &[(&str, Kind)] = &[
     ("hidden", Kind::Truth),
     ("variables", Kind::Map),
     ("contexts", Kind::Map),
-    ("version", Kind::Any),
     ("comment", Kind::Any),
     ("comments", Kind::Any),
     ("uuid", Kind::Any),
@@ -42,14 +46,14 @@ const TOP: &[(&str, Kind)] = &[
 const ITEM: &[(&str, Kind)] = &[
     ("match", Kind::Text),
     ("scope", Kind::Text),
-    ("captures", Kind::Map),
+    ("captures", Kind::Groups),
     ("push", Kind::Names),
     ("set", Kind::Names),
-    ("pop", Kind::Amount),
+    ("pop", Kind::Leave),
     ("embed", Kind::Names),
     ("embed_scope", Kind::Text),
     ("escape", Kind::Text),
-    ("escape_captures", Kind::Map),
+    ("escape_captures", Kind::Groups),
     ("with_prototype", Kind::List),
     ("include", Kind::Names),
     ("meta_scope", Kind::Text),
@@ -62,6 +66,7 @@ const ITEM: &[(&str, Kind)] = &[
 
 /// Keys of Sublime Text that are passed over here.
 const ELSEWHERE: &[&str] = &[
+    "version",
     "extends",
     "branch",
     "branch_point",
@@ -70,6 +75,14 @@ const ELSEWHERE: &[&str] = &[
     "meta_append",
     "apply_prototype",
 ];
+
+/// Whether a value is a map all keys of which are numbers.
+fn has_numbers(value: &Yaml) -> bool {
+    match value.as_map() {
+        Some(entries) => entries.iter().all(|(key, _)| key.as_i64().is_some()),
+        None => false,
+    }
+}
 
 impl Kind {
     /// Whether a value is what is wanted.
@@ -81,6 +94,8 @@ impl Kind {
             Kind::Map => value.as_map().is_some(),
             Kind::Names => value.as_str().is_some() || value.as_list().is_some(),
             Kind::Amount => value.as_i64().is_some() || value.as_bool().is_some(),
+            Kind::Leave => value.as_bool() == Some(true) || value.as_i64() == Some(1),
+            Kind::Groups => has_numbers(value),
             Kind::Any => true,
         }
     }
@@ -94,28 +109,11 @@ impl Kind {
             Kind::Map => "a map",
             Kind::Names => "the name of a context, or a list",
             Kind::Amount => "a number, or true",
+            Kind::Leave => "true: one context is left, whatever stands there",
+            Kind::Groups => "a map from numbers of groups to scopes",
             Kind::Any => "a value",
         }
     }
-}
-
-/// How many characters of two texts are the same from their begin on.
-fn shared_front(a: &str, b: &str) -> usize {
-    let pairs = a.as_bytes().iter().zip(b.as_bytes().iter());
-    pairs.take_while(|(x, y)| **x == **y).count()
-}
-
-/// How many characters of two texts are the same from their end on.
-fn shared_back(a: &str, b: &str) -> usize {
-    let pairs = a.as_bytes().iter().rev().zip(b.as_bytes().iter().rev());
-    pairs.take_while(|(x, y)| **x == **y).count()
-}
-
-/// Whether a text may be another, misspelt: all but two characters are the same.
-pub fn is_near(a: &str, b: &str) -> bool {
-    let longer = a.len().max(b.len());
-    let shared = shared_front(a, b).saturating_add(shared_back(a, b));
-    longer >= 3 && shared.saturating_add(2) >= longer
 }
 
 /// What is wanted at a key.
@@ -129,7 +127,7 @@ fn wanted(keys: &[(&'static str, Kind)], key: &str) -> Option<Kind> {
 }
 
 /// The key that is meant by a misspelt one, perhaps.
-fn meant(keys: &[(&'static str, Kind)], key: &str) -> Option<&'static str> {
+fn meant(keys: &'static [(&'static str, Kind)], key: &str) -> Option<&'static str> {
     for (name, _) in keys {
         if is_near(*name, key) {
             return Some(*name);
@@ -141,7 +139,7 @@ fn meant(keys: &[(&'static str, Kind)], key: &str) -> Option<&'static str> {
 /// Adds what is wrong with a key, or with the value at it.
 fn check_entry(
     alloc: Global,
-    keys: &[(&'static str, Kind)],
+    keys: &'static [(&'static str, Kind)],
     lines: &Lines<'_>,
     steps: &[Step<'_>],
     entry: &(Scalar, Yaml),

@@ -4,7 +4,6 @@
 pub mod check;
 mod faults;
 mod keys;
-mod names;
 mod patterns;
 mod references;
 mod variables;

@@ -396,7 +396,9 @@ pub fn check<'y>(
         check_reference(alloc, grammar, grammars, lines, reference, findings)?;
     }
     let ways = ways_of(alloc, grammar, references.as_slice())?;
-    check_reached(alloc, grammar, foreign, lines, ways.as_slice(), findings)?;
+    if grammar.definition.is_some() {
+        check_reached(alloc, grammar, foreign, lines, ways.as_slice(), findings)?;
+    }
     check_size(alloc, grammar, lines, ways.as_slice(), findings)?;
     check_main(alloc, grammar, lines, items, findings)
 }

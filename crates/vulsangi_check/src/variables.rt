@@ -12,7 +12,7 @@ fn is_name(text: &str) -> bool {
 }
 
 /// Adds the variables that a pattern names.
-fn add_uses<'t>(text: &'t str, uses: &mut Vec<&'t str>) -> Result<(), AllocError> {
+pub fn add_uses<'t>(text: &'t str, uses: &mut Vec<&'t str>) -> Result<(), AllocError> {
     for part in text.split("{{").skip(1) {
         if let Some((name, _)) = part.split_once("}}") {
             if is_name(name) {
@@ -56,7 +56,7 @@ fn text_of<'y>(item: &Item<'y>, key: &str) -> &'y str {
 }
 
 /// The text of a variable.
-fn variable<'y>(grammar: &'y Grammar, name: &str) -> Option<&'y str> {
+pub fn variable<'y>(grammar: &'y Grammar, name: &str) -> Option<&'y str> {
     match grammar.get("variables") {
         Some(variables) => match variables.get(name) {
             Some(value) => Some(value.as_str().unwrap_or("")),

@@ -7,7 +7,9 @@ use std::rt::Files;
 use syntect::Error;
 use syntect::assets::{Assets, AssetsError};
 use syntect::highlighting::Theme;
-use syntect::parsing::SyntaxReference;
+use syntect::parsing::{
+    FindWithinError, GhostCount, SyntaxReference, find_syntax_by_first_line_within,
+};
 use syntect::util::LinesWithEndings;
 
 /// The text of a file.
@@ -58,10 +60,34 @@ fn run_test(
         "{}{path}: {looked} columns, {wrong} of them wrong",
         outcome.told
     )?;
-    Ok(wrong == 0)
+    if looked == 0 {
+        println!(rt; "{path}: no comment says which scopes a line has")?;
+    }
+    Ok(wrong == 0 && looked > 0)
 }
 
-/// Runs tests of grammars, and answers whether all pass.
+/// Runs the tests in a folder: the files whose names begin with `syntax_test`.
+fn run_folder(
+    rt: &(impl AllocGlobal + Files + Print),
+    assets: &mut Assets,
+    folder: &str,
+) -> Result<bool, AssetsError> {
+    let mut all = true;
+    for entry in fs::read_dir(&(rt, rt.alloc()), folder)? {
+        let entry = entry?;
+        if entry
+            .path()
+            .file_name()
+            .unwrap_or("")
+            .starts_with("syntax_test")
+        {
+            all &= run_test(rt, assets, entry.path().as_str())?;
+        }
+    }
+    Ok(all)
+}
+
+/// Runs tests of grammars, by their files or their folders, and answers whether all pass.
 pub fn run_tests(
     rt: &(impl AllocGlobal + Files + Print),
     assets: &mut Assets,
@@ -69,7 +95,12 @@ pub fn run_tests(
 ) -> Result<bool, AssetsError> {
     let mut all = true;
     for file in files {
-        all &= run_test(rt, assets, *file)?;
+        let is_folder = fs::metadata(rt, *file).is_ok_and(|about| about.is_dir());
+        all &= if is_folder {
+            run_folder(rt, assets, *file)?
+        } else {
+            run_test(rt, assets, *file)?
+        };
     }
     Ok(all)
 }
@@ -90,7 +121,7 @@ fn place_in(text: &str) -> (&str, Option<(u64, usize)>) {
     (path, Some((last, 1)))
 }
 
-/// Prints the stretches of each line of a text, by their columns in bytes, with their scopes.
+/// Prints the stretches of each line of a text with their scopes, by their first and last columns.
 fn print_all(
     rt: &(impl AllocGlobal + Print),
     assets: &Assets,
@@ -104,17 +135,42 @@ fn print_all(
         number = number.saturating_add(1);
         for run in reading.line(alloc, assets, line)?.as_slice() {
             let scopes = told(alloc, &run.scopes, &assets.repository)?;
-            let (from, to) = (run.from, run.to);
-            println!(rt; "{number}:{from}-{to} {scopes}")?;
+            let before = line.get(..run.from).unwrap_or("").chars().count();
+            let inside = line.get(run.from..run.to).unwrap_or("").chars().count();
+            let (first, last) = (before.saturating_add(1), before.saturating_add(inside));
+            println!(rt; "{number}:{first}-{last} {scopes}")?;
         }
     }
     Ok(())
 }
 
+/// The syntax of a file: by its name, or its first line, or else plain text.
+fn syntax_of_file<'a>(
+    rt: &impl AllocGlobal,
+    assets: &'a Assets,
+    path: &str,
+    text: &str,
+) -> Result<&'a SyntaxReference, AssetsError> {
+    if let Some(syntax) = assets.set.find_syntax_by_file_name(Path::new(path)) {
+        return Ok(syntax);
+    }
+    let (set, limits, mut count) = (&assets.set, &assets.limits, GhostCount::none());
+    let line = text.lines().next().unwrap_or("");
+    match find_syntax_by_first_line_within(rt.alloc(), set, line, limits, &mut count) {
+        Ok(Some(syntax)) => return Ok(syntax),
+        Err(FindWithinError::Refused(e)) => return Err(AssetsError::from(e)),
+        _ => {}
+    }
+    match set.find_syntax_plain_text() {
+        Some(syntax) => Ok(syntax),
+        None => Err(AssetsError::from(Error::NoSyntax)),
+    }
+}
+
 /// Prints the scopes of a text, or, of the place that is named as FILE:LINE:COLUMN, the scopes, the
 /// style and the rules of the theme that gave it. Answers whether there is such a place.
 pub fn print_scopes(
-    rt: &(impl AllocGlobal + Files + Print),
+    rt: &(impl AllocGlobal + Files + Print + Eprint),
     assets: &Assets,
     theme: &Theme,
     place: &str,
@@ -122,20 +178,14 @@ pub fn print_scopes(
     let alloc = rt.alloc();
     let (path, place) = place_in(place);
     let text = text_in(rt, path)?;
-    let by_name = assets.set.find_syntax_by_file_name(Path::new(path));
-    let syntax = match by_name {
-        Some(syntax) => syntax,
-        None => match assets.set.find_syntax_plain_text() {
-            Some(syntax) => syntax,
-            None => return Err(AssetsError::from(Error::NoSyntax)),
-        },
-    };
+    let syntax = syntax_of_file(rt, assets, path, text.as_str())?;
     let Some((line, column)) = place else {
         print_all(rt, assets, syntax, text.as_str())?;
         return Ok(true);
     };
-    let column = column.saturating_sub(1);
-    let Some(stack) = stack_at(alloc, assets, syntax, text.as_str(), line, column)? else {
+    let before = column.saturating_sub(1);
+    let Some(stack) = stack_at(alloc, assets, syntax, text.as_str(), line, before)? else {
+        eprintln!(rt; "vulsangi: {path}:{line}:{column}: nothing stands there")?;
         return Ok(false);
     };
     let mut out = String::new(alloc);

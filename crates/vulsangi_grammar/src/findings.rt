@@ -22,6 +22,8 @@ pub struct Findings {
     pub found: Vec<Finding>,
     /// How many grammars were loaded.
     pub grammars: usize,
+    /// How many themes were loaded.
+    pub themes: usize,
 }
 
 /// A file's text by its lines.
@@ -47,6 +49,7 @@ impl Findings {
         Findings {
             found: Vec::new(alloc),
             grammars: 0,
+            themes: 0,
         }
     }
 
@@ -113,6 +116,16 @@ impl Findings {
             line: String::new(alloc),
         })?;
         Ok(())
+    }
+
+    /// Whether something is found at a place already.
+    pub fn tells(&self, place: Place) -> bool {
+        for finding in self.found.as_slice() {
+            if finding.place == Some(place) {
+                return true;
+            }
+        }
+        false
     }
 
     /// How many findings are of a grade.

@@ -4,10 +4,13 @@
 
 pub mod findings;
 pub mod grammar;
+pub mod names;
+pub mod nearest;
 pub mod place;
 pub mod report;
 pub mod rules;
 pub mod scan;
+pub mod themes;
 
 pub use syntect;
 pub use syntect_yaml;

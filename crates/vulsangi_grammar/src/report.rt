@@ -42,7 +42,7 @@ fn push_json(out: &mut String, text: &str) -> Result<(), AllocError> {
 fn push_shown(out: &mut String, text: &str) -> Result<(), AllocError> {
     for c in text.chars() {
         let shown = match c {
-            '\t' => ' ',
+            '\t' => '\u{2192}',
             c if c.is_control() => '\u{fffd}',
             c => c,
         };
@@ -211,12 +211,12 @@ fn text_of(alloc: Global, findings: &Findings, in_colour: bool) -> Result<String
     for finding in findings.found.as_slice() {
         push_text(alloc, &mut out, finding, in_colour)?;
     }
-    let grammars = findings.grammars;
+    let (grammars, themes) = (findings.grammars, findings.themes);
     let faults = findings.count(Grade::Fault);
     let warnings = findings.count(Grade::Warning);
     let notes = findings.count(Grade::Note);
     let last = format!(in alloc;
-        "{grammars} grammars loaded; {faults} errors, {warnings} warnings, {notes} notes\n"
+        "loaded: grammars {grammars}, themes {themes}; found: errors {faults}, warnings {warnings}, notes {notes}\n"
     )?;
     out.push_str(last.as_str())?;
     Ok(out)

@@ -66,6 +66,13 @@ pub const NOT_READ: Rule = Rule {
     text: "The file is missing, may not be read, or isn't UTF-8. Save it as UTF-8.",
 };
 
+pub const NOTHING_THERE: Rule = Rule {
+    number: "V004",
+    grade: Grade::Fault,
+    title: "nothing to look through",
+    text: "No file is a grammar (`.sublime-syntax`) or a theme (`.tmTheme`, or `.json` in a folder `themes`).",
+};
+
 pub const UNKNOWN_KEY: Rule = Rule {
     number: "V101",
     grade: Grade::Warning,
@@ -82,7 +89,7 @@ pub const NOT_HERE: Rule = Rule {
     grade: Grade::Warning,
     title: "a key that this library doesn't know",
     text: "Sublime Text knows this key, and this library, which reads what syntect 5.3 reads, passes \
-over it: `extends`, `branch`, `branch_point`, `fail`, `meta_prepend`, `meta_append`, \
+over it: `version`, `extends`, `branch`, `branch_point`, `fail`, `meta_prepend`, `meta_append`, \
 `apply_prototype`. What depends on it is coloured otherwise than in the editor. There is no \
 remedy but to write the grammar without it.",
 };
@@ -94,7 +101,9 @@ pub const OTHER_KIND: Rule = Rule {
     text: "The value isn't what its key wants, and it is passed over without a word or refused.
 
     meta_include_prototype: 'no'     # wants true or false
-    file_extensions: note            # wants a list: [note]",
+    file_extensions: note            # wants a list: [note]
+    pop: 2                           # one context is left, whatever stands there
+    captures: {name: keyword.x}      # wants numbers of groups",
 };
 
 pub const NO_VARIABLE: Rule = Rule {
@@ -271,11 +280,49 @@ without a rule, and are not told. Name the folder of your themes together with t
     vulsangi check mine themes",
 };
 
+pub const THEME_KEY: Rule = Rule {
+    number: "V301",
+    grade: Grade::Warning,
+    title: "unknown key of a theme",
+    text: "The key has no meaning in a theme, in a rule or in what a rule sets, and what stands at it is \
+passed over. docs/THEMES.md lists the keys.
+
+    { \"scopes\": \"keyword\", ..      # scope",
+};
+
+pub const NOT_A_COLOUR: Rule = Rule {
+    number: "V302",
+    grade: Grade::Warning,
+    title: "no colour",
+    text: "A colour is `#` and six or eight hexadecimal digits, of which the last two say how much of it \
+covers what is below. Of three digits each is a whole part, from 0 to 15 of 255, so that `#fff` is \
+nearly black; and what is no colour at all is passed over.",
+};
+
+pub const NOT_A_FONT: Rule = Rule {
+    number: "V303",
+    grade: Grade::Warning,
+    title: "no font",
+    text: "The words of a font are bold, italic and underline; normal and regular stand for none of these. \
+Where one word is another, none of them counts.",
+};
+
+pub const SCOPE_LIST: Rule = Rule {
+    number: "V304",
+    grade: Grade::Warning,
+    title: "`scope` is no text",
+    text: "The selectors of a rule stand in one text, with commas between them. A list, as other editors \
+take it, is passed over, and the rule with it.
+
+    \"scope\": \"keyword, storage\"",
+};
+
 /// All of them, in the order of their numbers.
 pub const RULES: &[Rule] = &[
     NOT_LOADED,
     NO_THEME,
     NOT_READ,
+    NOTHING_THERE,
     UNKNOWN_KEY,
     NOT_HERE,
     OTHER_KIND,
@@ -296,6 +343,10 @@ pub const RULES: &[Rule] = &[
     LEAVES_MAIN,
     CLEARS,
     NO_COLOUR,
+    THEME_KEY,
+    NOT_A_COLOUR,
+    NOT_A_FONT,
+    SCOPE_LIST,
 ];
 
 /// The rule of a number; `v101` and `101` will do.

@@ -1,11 +1,12 @@
 //! What is found in grammars, and where.
-use crate::planted_rows::{ROWS, Told};
-use std::alloc::Global;
+use crate::planted_rows::{ROWS, THEMES, Told};
+use std::alloc::{AllocError, Global};
 use vulsangi_check::check::{check_grammars, read_grammar};
 use vulsangi_check::vulsangi_grammar::findings::{Finding, Findings};
 use vulsangi_check::vulsangi_grammar::rules::{RULES, rule_of};
 use vulsangi_check::vulsangi_grammar::syntect::assets::AssetsError;
 use vulsangi_check::vulsangi_grammar::syntect::parsing::ScopeRepository;
+use vulsangi_check::vulsangi_grammar::themes::check_theme;
 
 /// What is found in a grammar.
 fn found_in(alloc: Global, text: &str) -> Result<Findings, AssetsError> {
@@ -52,6 +53,23 @@ fn each_fault_is_found_at_its_place(rt: HostRuntime) {
         match found_in(rt.alloc(), *text) {
             Ok(findings) => assert!(rt; is_as_told(&findings, *told), "row {number}"),
             Err(_) => assert!(rt; false, "row {number}: out of memory"),
+        }
+    }
+}
+
+/// What is found in a theme.
+fn found_in_theme(alloc: Global, text: &str) -> Result<Findings, AllocError> {
+    let mut findings = Findings::new(alloc);
+    check_theme(alloc, "a.tmTheme", text, &mut findings)?;
+    Ok(findings)
+}
+
+#[test]
+fn each_fault_of_a_theme_is_found_at_its_place(rt: HostRuntime) {
+    for (number, (text, told)) in THEMES.iter().enumerate() {
+        match found_in_theme(rt.alloc(), *text) {
+            Ok(findings) => assert!(rt; is_as_told(&findings, *told), "theme {number}"),
+            Err(_) => assert!(rt; false, "theme {number}: out of memory"),
         }
     }
 }

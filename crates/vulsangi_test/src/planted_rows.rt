@@ -4,6 +4,45 @@
 /// What is to be found: a number, a line and a column.
 pub type Told = (&'static str, usize, usize);
 
+/// Themes, and what is to be found in them.
+pub const THEMES: &[(&str, &[Told])] = &[
+    (
+        "{\"name\": \"A\", \"settings\": [
+  {\"settings\": {\"background\": \"#ffffff\", \"caret\": \"#000000\"}},
+  {\"scope\": \"keyword, storage\", \"settings\": {\"fontStyle\": \"bold italic\"}}
+]}",
+        &[],
+    ),
+    // no JSON: a comma too many
+    (
+        "{\"name\": \"A\",
+  \"settings\": [],
+}",
+        &[("V002", 3, 1)],
+    ),
+    ("<?xml version=\"1.0\"?>", &[("V002", 0, 0)]),
+    (
+        "{\"setings\": [], \"settings\": [
+  {\"scopes\": \"a\", \"settings\": {}},
+  {\"scope\": \"b\", \"settings\": {\"foregroud\": \"#000000\"}}
+]}",
+        &[("V301", 1, 2), ("V301", 2, 4), ("V301", 3, 31)],
+    ),
+    (
+        "{\"settings\": [
+  {\"scope\": \"b\", \"settings\": {\"foreground\": \"blue\"}},
+  {\"scope\": \"c\", \"settings\": {\"background\": \"#abc\", \"fontStyle\": \"blod\"}},
+  {\"scope\": [\"d\", \"e\"], \"settings\": {}}
+]}",
+        &[
+            ("V302", 2, 45),
+            ("V302", 3, 45),
+            ("V303", 3, 66),
+            ("V304", 4, 14),
+        ],
+    ),
+];
+
 /// Grammars, and what is to be found in them.
 pub const ROWS: &[(&str, &[Told])] = &[
     // nothing
@@ -85,7 +124,7 @@ contexts:
   other:
     - match: a
 ",
-        &[("V001", 0, 0), ("V110", 4, 3)],
+        &[("V001", 0, 0)],
     ),
     // misspelt keys
     (
@@ -113,6 +152,47 @@ contexts:
       branch: [c, d]
 ",
         &[("V102", 6, 7), ("V102", 7, 7)],
+    ),
+    // what is passed over here: one context is left, and groups have numbers
+    (
+        "name: A
+scope: source.a
+version: 2
+contexts:
+  main:
+    - match: a
+      push:
+        - match: b
+          pop: 2
+        - match: (?<c>c)
+          captures: {c: keyword.c}
+          pop: true
+",
+        &[("V102", 3, 1), ("V103", 9, 11), ("V103", 11, 11)],
+    ),
+    // a tab
+    (
+        "name: A
+scope: source.a
+contexts:
+  main:
+    - match: a
+  \tscope: keyword.a
+",
+        &[("V001", 6, 3)],
+    ),
+    // a variable that is no pattern, told once
+    (
+        "name: A
+scope: source.a
+variables:
+  word: '[a-z'
+contexts:
+  main:
+    - match: '{{word}}'
+    - match: 'a{{word}}'
+",
+        &[("V001", 4, 14)],
     ),
     // values of another kind
     (

@@ -292,7 +292,7 @@ fn testing<'a>(alloc: Global) -> Result<Command<'a>, Error> {
     let files = Arg::new(alloc, "FILE")
         .num_args(1..)
         .required(true)
-        .help("The tests");
+        .help("The tests, or folders of files syntax_test*");
     Ok(
         Command::new(alloc, "test")
             .about(about)

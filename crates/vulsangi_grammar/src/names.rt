@@ -1,13 +1,13 @@
 //! Scopes outside the convention, and those that no theme knows.
-use crate::keys::is_near;
+use crate::findings::{Findings, Lines};
+use crate::grammar::Item;
+use crate::nearest::nearest;
+use crate::rules::{NO_COLOUR, ODD_SCOPE};
 use std::alloc::{AllocError, Global};
-use vulsangi_grammar::findings::{Findings, Lines};
-use vulsangi_grammar::grammar::Item;
-use vulsangi_grammar::rules::{NO_COLOUR, ODD_SCOPE};
-use vulsangi_grammar::syntect::Error;
-use vulsangi_grammar::syntect::highlighting::Theme;
-use vulsangi_grammar::syntect::parsing::ScopeRepository;
-use vulsangi_grammar::syntect_yaml::value::Yaml;
+use syntect::Error;
+use syntect::highlighting::Theme;
+use syntect::parsing::ScopeRepository;
+use syntect_yaml::value::Yaml;
 
 /// What scopes begin with, by the convention.
 const FRONTS: &[&str] = &[
@@ -64,16 +64,6 @@ fn is_known(known: &[String], scope: &str) -> bool {
     false
 }
 
-/// The word of the convention that is meant, perhaps.
-fn meant(front: &str) -> Option<&'static str> {
-    for word in FRONTS {
-        if is_near(*word, front) {
-            return Some(*word);
-        }
-    }
-    None
-}
-
 /// Adds the scopes of a text that are outside the convention.
 pub fn check_scopes(
     alloc: Global,
@@ -92,7 +82,7 @@ pub fn check_scopes(
             }
             continue;
         }
-        let message = match meant(front) {
+        let message = match nearest(FRONTS, front) {
             Some(word) => format!(in alloc; "themes don't know `{scope}`; is `{word}` meant?")?,
             None => format!(in alloc; "themes don't know `{scope}`")?,
         };
