@@ -66,7 +66,7 @@ fn check_keys(
     };
     for (key, _) in members.iter() {
         let key = key.as_str();
-        if keys.contains(&key) {
+        if (&*keys).contains(&key) {
             continue;
         }
         let message = match nearest(keys, key) {
