@@ -118,7 +118,7 @@ fn check_variables(
         let Some(name) = entry.0.as_str() else {
             continue;
         };
-        if !uses.contains(&name) {
+        if !(&*uses).contains(&name) {
             let message = format!(in alloc; "nothing uses the variable `{name}`")?;
             findings.add_key(UNUSED_VARIABLE, lines, steps, name, message)?;
         }
