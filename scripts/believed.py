@@ -66,6 +66,12 @@ ENTRIES = [
         ("", "classed_text"),
         ("", "sheet_for_light_and_dark"),
     ]),
+    ("The library for C", [
+        ("", "vls_set_new"),
+        ("", "vls_set_add_grammar"),
+        ("", "vls_set_page"),
+        ("", "vls_set_output"),
+    ]),
 ]
 
 

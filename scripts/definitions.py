@@ -319,7 +319,7 @@ def clauses_from(text, at):
 def functions(path):
     """The functions of a file that have contracts."""
     text, found = bare(path), []
-    for it in re.finditer(r"^( *)(pub(?:\([^)]*\))? )?(?:const |unsafe )*fn (\w+)", text, flags=re.M):
+    for it in re.finditer(r"^( *)(pub(?:\([^)]*\))? )?(?:const |unsafe |extern \S+ )*fn (\w+)", text, flags=re.M):
         around = [b for b in blocks(path) if b[2] < it.start() < b[3]]
         trait, owner, start, end = around[0] if around else ("", "", 0, 0)
         if len(it[1]) > (4 if around else 0):

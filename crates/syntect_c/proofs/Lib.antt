@@ -1,0 +1,5 @@
+pub mod AsBox
+pub mod CallLaws
+pub mod Held
+pub mod SetLaws
+pub mod TextLaws

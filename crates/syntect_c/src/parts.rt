@@ -1,0 +1,37 @@
+//! A `Box` with its fields in sight.
+ghost use Rattle.std.specs.Box.Ownership.{box_owns};
+ghost use Rattle.std.specs.Prelude.{◌≡◌};
+
+use std::alloc::Allocator;
+use std::marker::Model;
+
+/// A `Box` taken apart: where its value stands, and what frees it.
+pub struct Parts<T, A: Allocator> {
+    pub(crate) at: *mut T,
+    pub(crate) alloc: A,
+    pub ghost value: { T },
+}
+
+impl<T, A: Allocator> Model for Parts<T, A> {
+    ghost also_owns = { λ p. box_owns (A.dealloc_token p.alloc) T.row p.at p.value };
+}
+
+impl<T, A: Allocator> Parts<T, A> {
+    /// Takes a box apart.
+    pub fn of(b: Box<T, A>) -> Parts<T, A>
+    where
+        T: Drop,
+        ensures { result.value ≡ b.value }
+    {
+        let (at, alloc) = Box::into_raw_with_allocator(b);
+        Parts { at, alloc }
+    }
+
+    /// The box again.
+    pub fn into_box(self) -> Box<T, A>
+        ensures { result.value ≡ self.value }
+    {
+        let Parts { at, alloc } = self;
+        unsafe { Box::from_raw(alloc, at) }
+    }
+}
