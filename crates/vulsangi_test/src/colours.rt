@@ -44,7 +44,7 @@ fn told(alloc: Global, rules: &str, stack: &str) -> Result<String, Error> {
     let Ok(theme) = ThemeSet::load_from_reader(alloc, &mut bytes, &mut repository) else {
         return Ok(String::from_str(alloc, "no theme")?);
     };
-    let stack = match ScopeStack::from_str(alloc, stack, &mut repository) {
+    let stack = match ScopeStack::from_text(alloc, stack, &mut repository) {
         Ok(stack) => stack,
         Err(_) => return Ok(String::from_str(alloc, "no stack")?),
     };
