@@ -144,26 +144,29 @@ fn push_ground(out: &mut String, theme: &Theme) -> Result<(), AllocError> {
     writeln!(out, "color: rgb({r}, {g}, {b}); }}")
 }
 
-/// The rules that put the themes' grounds behind a whole page with classes.
-pub fn grounds_of(
+/// Appends the rules that put the grounds of two themes behind a page, on light and on dark screens.
+fn push_grounds(out: &mut String, light: &Theme, dark: &Theme) -> Result<(), AllocError> {
+    out.push_str(":root { color-scheme: light dark; }\n")?;
+    push_ground(out, light)?;
+    out.push_str("@media (prefers-color-scheme: dark) {\n ")?;
+    push_ground(out, dark)?;
+    out.push_str("}\n")
+}
+
+/// Appends the rules that put the themes' grounds behind a whole page with classes.
+pub fn push_grounds_of(
     rt: &(impl AllocGlobal + Files),
     assets: &mut Assets,
     asked: &Asked<'_, '_>,
     theme: &Theme,
-) -> Result<String, AssetsError> {
-    let mut out = String::new(rt.alloc());
+    out: &mut String,
+) -> Result<(), AssetsError> {
     if asked.light.is_none() && asked.dark.is_none() {
-        push_ground(&mut out, theme)?;
-        return Ok(out);
+        return Ok(push_ground(out, theme)?);
     }
     let light = theme_of(rt, assets, asked.light.unwrap_or("dawn"))?;
     let dark = theme_of(rt, assets, asked.dark.unwrap_or("dusk"))?;
-    out.push_str(":root { color-scheme: light dark; }\n")?;
-    push_ground(&mut out, &light)?;
-    out.push_str("@media (prefers-color-scheme: dark) {\n ")?;
-    push_ground(&mut out, &dark)?;
-    out.push_str("}\n")?;
-    Ok(out)
+    Ok(push_grounds(out, &light, &dark)?)
 }
 
 /// A document of these pages, with the sheet of their classes where they have classes.

@@ -126,6 +126,47 @@ fn show_job<'a>(
     Ok(all)
 }
 
+/// Writes the sheet that texts with classes are shown by.
+fn show_sheet(
+    rt: &(impl AllocGlobal + Print + Files),
+    assets: &mut Assets,
+    asked: &Asked<'_, '_>,
+    theme: &Theme,
+) -> Result<bool, AssetsError> {
+    let sheet = pages::sheet_of(rt, assets, asked, theme)?;
+    write_out(rt, asked.output, sheet.as_str())?;
+    Ok(true)
+}
+
+/// The sheet of a document with classes; none where no classes are made.
+fn classes_of(
+    rt: &(impl AllocGlobal + Files),
+    assets: &mut Assets,
+    asked: &Asked<'_, '_>,
+    theme: &Theme,
+    form: Form,
+) -> Result<Option<String>, AssetsError> {
+    if form != Form::Classes {
+        return Ok(None);
+    }
+    let mut sheet = pages::sheet_of(rt, assets, asked, theme)?;
+    pages::push_grounds_of(rt, assets, asked, theme, &mut sheet)?;
+    Ok(Some(sheet))
+}
+
+/// Refuses a language that there isn't, and an output that would be written over an input.
+fn look_ahead(
+    rt: &(impl AllocGlobal + Files),
+    assets: &Assets,
+    asked: &Asked<'_, '_>,
+    files: &[&str],
+) -> Result<(), AssetsError> {
+    if let Some(name) = asked.language {
+        assets.language(rt.alloc(), name)?;
+    }
+    keep_inputs(rt, asked, files)
+}
+
 /// Shows each file, or standard input where there is none, and answers whether all were shown.
 fn show_files<'a>(
     rt: &(impl AllocGlobal + Print + Eprint + Input + Files + Env),
@@ -136,23 +177,12 @@ fn show_files<'a>(
 ) -> Result<bool, AssetsError> {
     let theme = theme_for(rt, assets, asked, form)?;
     if form == Form::Sheet {
-        let sheet = pages::sheet_of(rt, assets, asked, &theme)?;
-        write_out(rt, asked.output, sheet.as_str())?;
-        return Ok(true);
+        return show_sheet(rt, assets, asked, &theme);
     }
-    if let Some(name) = asked.language {
-        assets.language(rt.alloc(), name)?;
-    }
-    let classes = if form == Form::Classes {
-        let mut sheet = pages::grounds_of(rt, assets, asked, &theme)?;
-        sheet.push_str(pages::sheet_of(rt, assets, asked, &theme)?.as_str())?;
-        Some(sheet)
-    } else {
-        None
-    };
     let none: &[&'a str] = &["-"];
     let files = asked.files.unwrap_or(none);
-    keep_inputs(rt, asked, files)?;
+    look_ahead(rt, assets, asked, files)?;
+    let classes = classes_of(rt, assets, asked, &theme, form)?;
     let job = Job {
         asked,
         assets,

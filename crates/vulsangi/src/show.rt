@@ -129,6 +129,12 @@ fn part_of(
     }
 }
 
+/// Tells that a text is shown plain, since a line of it is refused.
+fn tell_plain(rt: &impl Eprint, name: &str, e: &AssetsError) -> io::Result<()> {
+    tell(rt, name, e)?;
+    eprintln!(rt; "vulsangi: {name}: shown plain; vulsangi check tells what its grammar lacks")
+}
+
 /// What is shown of a text, and whether it is shown in its language. One of which a line is refused,
 /// since its grammar leads nowhere there, is told, and shown as plain text.
 fn part_or_plain(
@@ -145,11 +151,9 @@ fn part_or_plain(
     if !matches!(e, AssetsError::NotShown(_)) || is_closed(&e) {
         return Err(e);
     }
+    tell_plain(rt, name, &e)?;
     let plain = job.assets.set.find_syntax_plain_text();
-    let part = part_of(rt, job, plain, text)?;
-    tell(rt, name, &e)?;
-    eprintln!(rt; "vulsangi: {name}: shown plain; vulsangi check tells what its grammar lacks")?;
-    Ok((part, false))
+    Ok((part_of(rt, job, plain, text)?, false))
 }
 
 /// A text as it is to be shown: what comes in by a pipe as a diff has no colours of its own.
@@ -166,6 +170,59 @@ fn given(rt: &impl AllocGlobal, job: &Job<'_, '_, '_>, file: &str, text: String)
     }
 }
 
+/// A text, unless it is a binary file's and is to be shown in colour.
+fn no_binary(rt: &impl AllocGlobal, job: &Job<'_, '_, '_>, name: &str, text: String) -> Made {
+    if text.as_str().contains('\0') && (job.to_terminal || job.form != Form::Plain) {
+        let told = format!(in rt.alloc(); "{name}: a binary file, which isn't shown")?;
+        return Err(AssetsError::NotRead(told));
+    }
+    Ok(text)
+}
+
+/// The text of a file as it is to be shown.
+fn readable<'a>(
+    rt: &(impl AllocGlobal + Input + Files),
+    job: &Job<'_, '_, 'a>,
+    file: &'a str,
+) -> Made {
+    let text = text_of(rt, job.asked, file)?;
+    let text = no_binary(rt, job, name_of(job.asked, file), text)?;
+    let text = given(rt, job, file, text)?;
+    Ok(front_of(rt.alloc(), job.asked, text)?)
+}
+
+/// What is shown of the text of a file, and whether it is shown in its language.
+fn made_of<'a>(
+    rt: &(impl AllocGlobal + Eprint),
+    job: &Job<'_, '_, 'a>,
+    file: &'a str,
+    text: &str,
+) -> Result<(Part, bool), AssetsError> {
+    let syntax = match job.form {
+        Form::Plain => None,
+        _ => Some(language_of(rt, job.assets, job.asked, file, text)?),
+    };
+    part_or_plain(rt, job, name_of(job.asked, file), syntax, text)
+}
+
+/// Puts what is shown of a file after what was put before, with its heading, and tells of a line that
+/// is plain.
+fn put(
+    rt: &(impl AllocGlobal + Print + Eprint),
+    sink: &mut Sink,
+    job: &Job<'_, '_, '_>,
+    name: &str,
+    part: &Part,
+) -> Result<(), AssetsError> {
+    let heading = heading_of(rt.alloc(), job, sink.is_new(), name)?;
+    sink.put(rt, heading.as_str())?;
+    sink.put(rt, part.0.as_str())?;
+    if let Some((line, limit)) = &part.1 {
+        eprintln!(rt; "vulsangi: {name}:{line}: shown plain: {limit}")?;
+    }
+    Ok(())
+}
+
 /// Shows a file, and answers whether it is shown in its language.
 fn show<'a>(
     rt: &(impl AllocGlobal + Print + Eprint + Input + Files),
@@ -173,25 +230,9 @@ fn show<'a>(
     job: &Job<'_, '_, 'a>,
     file: &'a str,
 ) -> Result<bool, AssetsError> {
-    let name = name_of(job.asked, file);
-    let text = text_of(rt, job.asked, file)?;
-    if text.as_str().contains('\0') && (job.to_terminal || job.form != Form::Plain) {
-        let told = format!(in rt.alloc(); "{name}: a binary file, which isn't shown")?;
-        return Err(AssetsError::NotRead(told));
-    }
-    let text = given(rt, job, file, text)?;
-    let text = front_of(rt.alloc(), job.asked, text)?;
-    let syntax = match job.form {
-        Form::Plain => None,
-        _ => Some(language_of(rt, job.assets, job.asked, file, text.as_str())?),
-    };
-    let ((part, plain), is_whole) = part_or_plain(rt, job, name, syntax, text.as_str())?;
-    let heading = heading_of(rt.alloc(), job, sink.is_new(), name)?;
-    sink.put(rt, heading.as_str())?;
-    sink.put(rt, part.as_str())?;
-    if let Some((line, limit)) = plain {
-        eprintln!(rt; "vulsangi: {name}:{line}: shown plain: {limit}")?;
-    }
+    let text = readable(rt, job, file)?;
+    let (part, is_whole) = made_of(rt, job, file, text.as_str())?;
+    put(rt, sink, job, name_of(job.asked, file), &part)?;
     Ok(is_whole)
 }
 
