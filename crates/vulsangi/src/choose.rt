@@ -12,8 +12,7 @@ use syntect::parsing::{
 use syntect::values::Text;
 use vulsangi_words::words::Asked;
 
-/// The theme that is asked for: by its name, or else in a file, where the name has a slash or an
-/// extension.
+/// The theme of a name, or else of a file, where the name has a slash or an extension.
 pub fn theme_of(
     rt: &(impl AllocGlobal + Files),
     assets: &mut Assets,
@@ -136,8 +135,7 @@ fn language_of_line<'s>(
     }
 }
 
-/// The language of a text: the one that is asked for, or that of its name, or of its first line, or
-/// else plain text.
+/// The language that is asked for, or that of a text's name or first line, or else plain text.
 pub fn language_of<'s>(
     rt: &impl AllocGlobal,
     assets: &'s Assets,

@@ -94,8 +94,7 @@ fn document_part(
     Ok((out, plain))
 }
 
-/// The heading of a file, where files have headings: in each form but that of a pipe, which gets
-/// the texts alone, and in parts for another's document.
+/// The heading of a file, where files have headings: not in a pipe, nor in parts of documents.
 fn heading_of(
     alloc: Global,
     job: &Job<'_, '_, '_>,
@@ -135,8 +134,7 @@ fn tell_plain(rt: &impl Eprint, name: &str, e: &AssetsError) -> io::Result<()> {
     eprintln!(rt; "vulsangi: {name}: shown plain; vulsangi check tells what its grammar lacks")
 }
 
-/// What is shown of a text, and whether it is shown in its language. One of which a line is refused,
-/// since its grammar leads nowhere there, is told, and shown as plain text.
+/// A text in its language; or, where a line of it is refused, told, and shown as plain text.
 fn part_or_plain(
     rt: &(impl AllocGlobal + Eprint),
     job: &Job<'_, '_, '_>,
@@ -205,8 +203,7 @@ fn made_of<'a>(
     part_or_plain(rt, job, name_of(job.asked, file), syntax, text)
 }
 
-/// Puts what is shown of a file after what was put before, with its heading, and tells of a line that
-/// is plain.
+/// Puts what is shown of a file after what was before, with its heading, and tells a plain line.
 fn put(
     rt: &(impl AllocGlobal + Print + Eprint),
     sink: &mut Sink,
