@@ -2,7 +2,7 @@
 //!
 //! Each call takes what is held out of its handle, and puts it back: so whatever a handle is, it
 //! holds a whole set or nothing. A call answers 0, or the number of a `Kind`.
-ghost use Rattle.std.specs.Prelude.{◌≡◌, ◌++◌, length, take, drop, None, Some, IfOk, OnOk, box_value, pos};
+ghost use Rattle.std.specs.Prelude.{◌≡◌, ◌↔◌, ◌++◌, length, take, drop, None, Some, IfOk, IsSome, OnOk, box_value, pos};
 ghost use Rattle.syntect_c.specs.Calls.{AddsGrammarHeld, AddsThemeHeld, ShowsAs, ShowsSet, fault_in, format_numbered, output_in};
 ghost use Rattle.syntect_c.specs.Sets.{AddsGrammarTo, AddsThemeTo, HasLoadedAlone, HoldsLoadedAlone};
 
@@ -133,6 +133,7 @@ fn new_set(alloc: Global) -> Result<Box<SetContent>, AssetsError>
 #[unsafe(no_mangle)]
 pub extern "C" fn vls_set_new(set: &mut Slot, alloc: Global) -> i32
     ensures loaded { HasLoadedAlone set.new.handle.held }
+    ensures made { result ≡ pos 0 → IsSome set.new.handle.held }
 {
     drop(mem::replace(set, Slot::empty(alloc)).take());
     match new_set(alloc) {
@@ -163,6 +164,7 @@ pub extern "C" fn vls_set_add_grammar(
     ensures added { result ≡ pos 0
         → AddsGrammarHeld file.now text.now set.old.handle.held set.new.handle.held }
     ensures loaded { HasLoadedAlone set.old.handle.held → HasLoadedAlone set.new.handle.held }
+    ensures stays { IsSome set.new.handle.held ↔ IsSome set.old.handle.held }
 {
     match mem::replace(set, Slot::empty(alloc)).take() {
         None => Kind::Empty.number(),
@@ -180,6 +182,7 @@ pub extern "C" fn vls_set_add_theme(set: &mut Slot, alloc: Global, name: &[u8], 
     ensures added { result ≡ pos 0
         → AddsThemeHeld name.now bytes.now set.old.handle.held set.new.handle.held }
     ensures loaded { HasLoadedAlone set.old.handle.held → HasLoadedAlone set.new.handle.held }
+    ensures stays { IsSome set.new.handle.held ↔ IsSome set.old.handle.held }
 {
     match mem::replace(set, Slot::empty(alloc)).take() {
         None => Kind::Empty.number(),
@@ -195,6 +198,7 @@ pub extern "C" fn vls_set_add_theme(set: &mut Slot, alloc: Global, name: &[u8], 
 #[unsafe(no_mangle)]
 pub extern "C" fn vls_set_link(set: &mut Slot, alloc: Global) -> i32
     ensures loaded { HasLoadedAlone set.old.handle.held → HasLoadedAlone set.new.handle.held }
+    ensures stays { IsSome set.new.handle.held ↔ IsSome set.old.handle.held }
 {
     match mem::replace(set, Slot::empty(alloc)).take() {
         None => Kind::Empty.number(),
@@ -219,6 +223,7 @@ pub extern "C" fn vls_set_page(
     format: u32,
 ) -> i32
     ensures loaded { HasLoadedAlone set.old.handle.held → HasLoadedAlone set.new.handle.held }
+    ensures stays { IsSome set.new.handle.held ↔ IsSome set.old.handle.held }
     ensures shown { HasLoadedAlone set.old.handle.held → result ≡ pos 0
         → ShowsSet text.now language.now theme.now format set.new.handle.held }
 {
@@ -236,6 +241,7 @@ pub extern "C" fn vls_set_page(
 #[unsafe(no_mangle)]
 pub extern "C" fn vls_set_languages(set: &mut Slot, alloc: Global) -> i32
     ensures loaded { HasLoadedAlone set.old.handle.held → HasLoadedAlone set.new.handle.held }
+    ensures stays { IsSome set.new.handle.held ↔ IsSome set.old.handle.held }
 {
     match mem::replace(set, Slot::empty(alloc)).take() {
         None => Kind::Empty.number(),
